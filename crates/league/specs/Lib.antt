@@ -1,0 +1,21 @@
+-- Read in this order; each file needs only those above it.
+--
+-- What a league and a schedule are:
+pub mod Sets
+pub mod Counts
+pub mod Instance
+pub mod Meetings
+pub mod Venues
+pub mod Structure
+-- How far a schedule is from each class of constraints:
+pub mod Bounds
+pub mod Capacity
+pub mod Games
+pub mod Breaks
+pub mod Fairness
+pub mod Separation
+-- What it adds up to:
+pub mod Deviation
+pub mod Accepted
+-- Laws that the sets rest on:
+pub mod SetLaws

@@ -1,0 +1,79 @@
+//! What the three kinds of sets share: a list in ascending order without repeats.
+ghost use Rattle.std.specs.Prelude.{◌≡◌, ◌<◌, ◌↔◌, [], length, Contains, IsTrue, OnOk, OnErr, IfOk, Some, slice_get};
+ghost use Rattle.std.specs.Bool.{MatchBool};
+ghost use Rattle.std.specs.declared.cmp.Ordering.TheVariants.{Equal};
+ghost use Rattle.league.specs.Sets.{IsAscending, with_item};
+
+use std::alloc::{AllocError, Global};
+use std::marker::Model;
+
+/// What a set may hold: values that are the same where their order doesn't tell them apart.
+pub trait Item: Ord + Copy {
+    ghost same: { (a b : Self) → Self.cmp a b ≡ Equal → a ≡ b };
+}
+
+/// A set, seen as the ascending list of its items.
+#[derive(Drop)]
+pub struct Ascending<T: Item> {
+    items: Vec<T>,
+}
+
+impl<T: Item> Model for Ascending<T> {
+    ghost use Rattle.std.specs.Prelude.{List};
+    ghost use Rattle.league.specs.Sets.{IsAscending};
+
+    ghost Value = { List T };
+
+    ghost view = { λ s. s.items.items };
+
+    ghost invariant = { λ s. IsAscending T.cmp s.items.items };
+}
+
+impl<T: Item> Ascending<T> {
+    pub fn new(alloc: Global) -> Ascending<T>
+        ensures { result ≡ [] }
+    {
+        Ascending {
+            items: Vec::new(alloc),
+        }
+    }
+
+    pub fn insert(&mut self, item: T) -> Result<bool, AllocError>
+        ensures ok { OnOk result (self.new ≡ with_item T.cmp item self.old) }
+        ensures fresh { IfOk result (λ fresh. MatchBool fresh (Contains self.old item → ⊥) (Contains self.old item)) }
+        ensures err { OnErr result (self.new ≡ self.old) }
+    {
+        match self.items.binary_search(&item) {
+            Ok(_) => Ok(false),
+            Err(place) => {
+                self.items.insert(place, item)?;
+                Ok(true)
+            }
+        }
+    }
+
+    pub fn contains(&self, item: T) -> bool
+        ensures { IsTrue result ↔ Contains self.now item }
+    {
+        self.items.binary_search(&item).is_ok()
+    }
+
+    pub fn items(&self) -> &[T]
+        ensures items { result.now ≡ self.now }
+        ensures ascending { IsAscending T.cmp self.now }
+    {
+        &self.items
+    }
+}
+
+impl Item for u16 {
+    ghost use Rattle.league.specs.SetLaws.{same-nat_cmp};
+
+    ghost same = { same-nat_cmp };
+}
+
+impl Item for (u16, u16) {
+    ghost use Rattle.league.specs.SetLaws.{same-pair_cmp};
+
+    ghost same = { same-pair_cmp };
+}

@@ -1,0 +1,134 @@
+//! The nine classes of constraints of the International Timetabling Competition 2021, in the terms of RobinX.
+ghost use Rattle.std.specs.Prelude.{◌≡◌};
+ghost use Rattle.league.specs.Instance.{class_fits, are_teams, are_slots, are_meetings, is_one_side};
+
+use crate::pair_set::PairSet;
+use crate::slot_set::SlotSet;
+use crate::team_set::TeamSet;
+
+/// Where the games that a constraint counts are played: at home, away, or both.
+#[derive(Clone, Copy, Debug, PartialEq, Eq)]
+pub enum Side {
+    H,
+    A,
+    Both,
+}
+
+/// Whether CA4 bounds all its slots together or each by itself.
+#[derive(Clone, Copy, Debug, PartialEq, Eq)]
+pub enum Span {
+    Global,
+    Every,
+}
+
+/// A constraint's class, with what it speaks of. `specs/Deviation.antt` says what each demands.
+#[derive(Drop)]
+pub enum Class {
+    /// At most `max` games of each team on the side in the slots.
+    Ca1 {
+        teams: TeamSet,
+        max: u32,
+        side: Side,
+        slots: SlotSet,
+    },
+    /// At most `max` games of each of `teams1` against `teams2` in the slots.
+    Ca2 {
+        teams1: TeamSet,
+        teams2: TeamSet,
+        max: u32,
+        side: Side,
+        slots: SlotSet,
+    },
+    /// The same in each window of `intp` consecutive slots.
+    Ca3 {
+        teams1: TeamSet,
+        teams2: TeamSet,
+        max: u32,
+        intp: u32,
+        side: Side,
+    },
+    /// At most `max` games between `teams1` and `teams2` in the slots, together or each.
+    Ca4 {
+        teams1: TeamSet,
+        teams2: TeamSet,
+        max: u32,
+        side: Side,
+        span: Span,
+        slots: SlotSet,
+    },
+    /// From `min` to `max` games of the meetings in the slots.
+    Ga1 {
+        meetings: PairSet,
+        min: u32,
+        max: u32,
+        slots: SlotSet,
+    },
+    /// At most `intp` breaks of each team at the slots.
+    Br1 {
+        teams: TeamSet,
+        intp: u32,
+        side: Side,
+        slots: SlotSet,
+    },
+    /// At most `intp` breaks of all the teams at the slots.
+    Br2 {
+        teams: TeamSet,
+        intp: u32,
+        slots: SlotSet,
+    },
+    /// Home games of each two teams differ by at most `intp` after each of the slots.
+    Fa2 {
+        teams: TeamSet,
+        intp: u32,
+        slots: SlotSet,
+    },
+    /// At least `min` slots between the games of each two teams.
+    Se1 { teams: TeamSet, min: u32 },
+}
+
+/// A constraint of a league: hard or soft, with the penalty for each unit of its deviation.
+#[derive(Drop)]
+pub struct Constraint {
+    pub hard: bool,
+    pub penalty: u32,
+    pub class: Class,
+}
+
+impl Constraint {
+    /// Whether the constraint can stand in a league of n teams: exactly where every team is below n, every slot below
+    /// 2(n - 1), no meeting has one team twice, the side of a CA1 isn't `Both`, and the window of a CA3 has a slot.
+    pub fn fits(&self, n: u16) -> bool
+        ensures { result ≡ class_fits n self.now.class }
+    {
+        match &self.class {
+            Class::Ca1 {
+                teams, side, slots, ..
+            } => teams.are_below(n) && slots.are_in_season(n) && *side != Side::Both,
+            Class::Ca2 {
+                teams1,
+                teams2,
+                slots,
+                ..
+            } => teams1.are_below(n) && teams2.are_below(n) && slots.are_in_season(n),
+            Class::Ca3 {
+                teams1,
+                teams2,
+                intp,
+                ..
+            } => teams1.are_below(n) && teams2.are_below(n) && *intp > 0,
+            Class::Ca4 {
+                teams1,
+                teams2,
+                slots,
+                ..
+            } => teams1.are_below(n) && teams2.are_below(n) && slots.are_in_season(n),
+            Class::Ga1 {
+                meetings, slots, ..
+            } => meetings.are_meetings(n) && slots.are_in_season(n),
+            Class::Br1 { teams, slots, .. }
+            | Class::Br2 { teams, slots, .. }
+            | Class::Fa2 { teams, slots, .. } => teams.are_below(n) && slots.are_in_season(n),
+            Class::Se1 { teams, .. } => teams.are_below(n),
+        }
+    }
+}
