@@ -1,1 +1,13 @@
+-- Lemmas on the definitions:
+pub mod AcceptedLemmas
+pub mod SumLemmas
+pub mod RangeLemmas
+pub mod MeetingLemmas
+pub mod CountLemmas
+pub mod TableLemmas
+-- Worked examples, so that a wrong definition does not check:
+pub mod DoubleFour
+pub mod StructureFacts
+pub mod ClassFacts
+pub mod AcceptedFacts
 pub mod SetLemmas

@@ -1,9 +1,9 @@
 -- Sets as ascending lists: where an item stands, and the set with one item more.
-use Rattle.std.proofs.Common.{◌≡◌, ℕ, suc, ◌+◌, ◌<◌, ◌≤◌, List, [], ◌∷◌, ◌++◌, length, get_or, take, drop, refl, sym, ap, ◌∙◌, subst, arith, Contains, Bool, true, false, Result, Ok, Err, inl, inr, IsTrue, is_ok, ◌↔◌}
+use Rattle.std.proofs.Common.{◌≡◌, ℕ, zero, suc, ◌+◌, ◌<◌, ◌≤◌, List, [], ◌∷◌, ◌++◌, length, get_or, take, drop, refl, sym, ap, ◌∙◌, subst, arith, Contains, Bool, true, false, Result, Ok, Err, inl, inr, IsTrue, is_ok, ◌↔◌}
 use Rattle.std.specs.List.{All, AllPairs, AllWithin, HoldsAt, filter, insert}
 use Rattle.std.specs.List.Sorted.{IsBinarySearchResult, IsNonDecreasingBy, IsSearchInRange, IsPartitionPoint}
 use Rattle.std.specs.Cmp.{IsTotalOrder}
-use Rattle.std.specs.Ordering.{is_lt, ordering_index, ordering_reverse}
+use Rattle.std.specs.Ordering.{is_lt, nat_cmp, ordering_index, ordering_reverse}
 use Rattle.std.specs.declared.cmp.Ordering.{Ordering}
 use Rattle.std.specs.declared.cmp.Ordering.TheVariants.{Less, Equal, Greater}
 use Rattle.std.proofs.lemmas.List.{take-append-drop, get_or-take, get_or-drop, length-take-le, length-drop, append-nil}
@@ -12,6 +12,7 @@ use Rattle.std.proofs.lemmas.List.Kept.{AllPairs-cons, AllPairs-filter}
 use Rattle.std.proofs.Math.Seq.{drop-cons}
 use Rattle.std.proofs.Math.Nat.{eq-or-lt_of_le}
 use Rattle.std.proofs.lemmas.Bool.{cases_lt}
+use Rattle.std.proofs.lemmas.Bool.Decides.{nat_tests}
 use Rattle.league.specs.Sets.{IsAscending, with_item}
 
 -- a test that every element passes keeps the list
@@ -159,3 +160,17 @@ module _ {X : Type 0} (cmp : X → X → Ordering) (total : IsTotalOrder cmp) wh
     pub tells : (answer : Result ℕ ℕ) → IsSearchInRange answer (length xs) → IsBinarySearchResult (λ y. cmp y x) xs answer → IsTrue (is_ok answer) ↔ Contains xs x
     tells (Ok i) within found = (λ _. (i, within, same (get_or xs i x) x (found x)), λ _. refl)
     tells (Err i) within splits = let parts = splits ranks in (λ untrue. cc, λ there. absurd (absent i parts.0 parts.1 there))
+
+less_than : (a b : ℕ) → nat_cmp a b ≡ Less → a < b
+less_than a b h = grind (arith, nat_tests)
+
+-- in an ascending list the number at place i is at least i
+at_least_place : (xs : List ℕ) → IsAscending nat_cmp xs → (i : ℕ) → i < length xs → i ≤ get_or xs i 0
+at_least_place xs ascending zero within = omega arith
+at_least_place xs ascending (suc i) within =
+    omega (arith, at_least_place xs ascending i (omega arith), less_than (get_or xs i 0) (get_or xs (suc i) 0) (ascending i (suc i) 0 (omega arith) within))
+
+-- a set of numbers below k has at most k of them
+pub length-ascending : (xs : List ℕ) (k : ℕ) → IsAscending nat_cmp xs → All (λ x. x < k) xs → length xs ≤ k
+length-ascending xs k ascending below =
+    elim (cases_lt k (length xs)) [ inl more ↦ absurd (omega (arith, at_least_place xs ascending k more, below k 0 more)) | inr few ↦ few ]

@@ -19,3 +19,6 @@ pub mod Deviation
 pub mod Accepted
 -- Laws that the sets rest on:
 pub mod SetLaws
+-- Tables in which games are counted:
+pub mod Grid
+pub mod Tables

@@ -7,16 +7,20 @@
 mod ascending;
 mod class;
 mod game;
+mod grid;
 mod league;
 mod pair_set;
 mod schedule;
 mod slot_set;
 mod team_set;
+mod wrongs;
 
 pub use class::{Class, Constraint, Side, Span};
 pub use game::{Game, SlotId, TeamId};
+pub use grid::Grid;
 pub use league::League;
 pub use pair_set::PairSet;
 pub use schedule::Schedule;
 pub use slot_set::SlotSet;
 pub use team_set::TeamSet;
+pub use wrongs::{Wrongs, structure};

@@ -78,7 +78,8 @@ impl PairSet {
 
     /// The pairs' numbers in ascending order.
     pub fn numbers(&self) -> &[(u16, u16)]
-        ensures { result.now ≡ self.now }
+        ensures numbers { result.now ≡ self.now }
+        ensures ascending { IsAscending pair_cmp self.now }
     {
         self.numbers.items()
     }

@@ -78,7 +78,8 @@ impl SlotSet {
 
     /// The slots' numbers in ascending order.
     pub fn numbers(&self) -> &[u16]
-        ensures { result.now ≡ self.now }
+        ensures numbers { result.now ≡ self.now }
+        ensures ascending { IsAscending nat_cmp self.now }
     {
         self.numbers.items()
     }

@@ -1,0 +1,5 @@
+pub mod TextLemmas
+pub mod AnswerLemmas
+pub mod WeightLemmas
+pub mod AssessLemmas
+pub mod ReportLemmas

@@ -1,0 +1,76 @@
+-- The report of `validate`: what the league and the schedule are, how far the schedule is from a round robin and from
+-- each constraint, what that costs, and whether the schedule is accepted.
+use Rattle.std.specs.Prelude.{ℕ, ◌+◌, Bool, if◌then◌else◌, List, [], ◌∷◌, ◌++◌, length, map, sum, codes, decimal}
+use Rattle.std.specs.List.{flat_map}
+use Rattle.league.specs.Accepted.{infeasibility, objective}
+use Rattle.league.specs.Counts.{counts_of, slot_count}
+use Rattle.league.specs.Deviation.{vector_of}
+use Rattle.league.specs.Instance.{Instance}
+use Rattle.league.specs.Structure.{pairs_wrong, cells_wrong, phases_wrong}
+use Rattle.league.specs.declared.class.Class.{Class}
+use Rattle.league.specs.declared.class.Class.TheVariants.{Ca1, Ca2, Ca3, Ca4, Ga1, Br1, Br2, Fa2, Se1}
+use Rattle.league.specs.declared.class.Constraint.{Constraint}
+use Rattle.league.specs.declared.game.Game.{Game}
+use Rattle.league.specs.declared.wrongs.Wrongs.{Wrongs}
+
+abbrev pub mode_word : Bool → List ℕ
+mode_word phased = if phased then codes "P" else codes "NULL"
+
+abbrev pub type_word : Bool → List ℕ
+type_word hard = if hard then codes "HARD" else codes "SOFT"
+
+abbrev pub yes_or_no : Bool → List ℕ
+yes_or_no feasible = if feasible then codes "yes" else codes "no"
+
+abbrev pub class_word : Class → List ℕ
+class_word (Ca1 teams max side slots) = codes "CA1"
+class_word (Ca2 teams1 teams2 max side slots) = codes "CA2"
+class_word (Ca3 teams1 teams2 max intp side) = codes "CA3"
+class_word (Ca4 teams1 teams2 max side span slots) = codes "CA4"
+class_word (Ga1 meetings min max slots) = codes "GA1"
+class_word (Br1 teams intp side slots) = codes "BR1"
+class_word (Br2 teams intp slots) = codes "BR2"
+class_word (Fa2 teams intp slots) = codes "FA2"
+class_word (Se1 teams min) = codes "SE1"
+
+-- the four lines that say what was read
+abbrev pub head_text : ℕ → Bool → ℕ → List ℕ
+head_text n phased games = codes "teams " ++ (decimal n ++ (codes "\nslots " ++ (decimal (slot_count n) ++ (codes "\nmode " ++ (mode_word phased ++ (codes "\ngames " ++ (decimal games ++ codes "\n")))))))
+
+-- the line on the round robin
+abbrev pub structure_text : ℕ → ℕ → ℕ → List ℕ
+structure_text pairs cells phases = codes "structure pairs " ++ (decimal pairs ++ (codes " cells " ++ (decimal cells ++ (codes " phases " ++ (decimal phases ++ codes "\n")))))
+
+-- the line of a constraint: its number, what it is, its deviation, and the vector's entries
+abbrev pub entries_text : List ℕ → List ℕ
+entries_text entries = flat_map (λ entry. codes " " ++ decimal entry) entries
+
+abbrev pub constraint_front : ℕ → Constraint → ℕ → List ℕ
+constraint_front number c deviation = codes "constraint " ++ (decimal number ++ (codes " " ++ (class_word c.class ++ (codes " " ++ (type_word c.hard ++ (codes " penalty " ++ (decimal c.penalty ++ (codes " sum " ++ (decimal deviation ++ codes " entries")))))))))
+
+abbrev pub constraint_text : ℕ → Constraint → List ℕ → List ℕ
+constraint_text number c entries = constraint_front number c (sum entries) ++ (entries_text entries ++ codes "\n")
+
+-- the lines of constraints with their vectors, numbered from here on
+abbrev pub constraints_text : ℕ → List Constraint → List (List ℕ) → List ℕ
+constraints_text number (c ∷ constraints) (entries ∷ vectors) = constraint_text number c entries ++ constraints_text (number + 1) constraints vectors
+constraints_text number _ _ = []
+
+-- the last three lines
+abbrev pub verdict_text : ℕ → ℕ → Bool → List ℕ
+verdict_text infeasible objective feasible = codes "infeasibility " ++ (decimal infeasible ++ (codes "\nobjective " ++ (decimal objective ++ (codes "\nfeasible " ++ (yes_or_no feasible ++ codes "\n")))))
+
+-- the whole report, from what was counted
+abbrev pub lines_text : Instance → ℕ → Wrongs → List (List ℕ) → ℕ → ℕ → Bool → List ℕ
+lines_text league games wrongs vectors infeasible objective feasible =
+    head_text league.n league.phased games
+    ++ (structure_text wrongs.pairs_wrong wrongs.cells_wrong wrongs.phases_wrong
+    ++ (constraints_text 1 league.constraints vectors
+    ++ verdict_text infeasible objective feasible))
+
+-- the report on a schedule that is accepted, or isn't
+abbrev pub report_text : Instance → List Game → Bool → List ℕ
+report_text league games feasible =
+    let m = counts_of games in
+    let wrongs : Wrongs = record { pairs_wrong = pairs_wrong league.n m; cells_wrong = cells_wrong league.n m; phases_wrong = phases_wrong league.n league.phased m } in
+    lines_text league (length games) wrongs (map (λ c. vector_of league.n m c.class) league.constraints) (infeasibility league m) (objective league m) feasible

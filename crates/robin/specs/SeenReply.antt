@@ -1,0 +1,19 @@
+-- What a contract sees of the steps of a run.
+use Rattle.std.specs.Prelude.{string_bytes, Result, Ok, Err}
+use Rattle.robin.specs.Answer.{Answer, Outcome}
+use Rattle.robin.specs.declared.reply.Reply.{Reply}
+use Rattle.robin.specs.declared.reply.Stop.{Stop}
+use Rattle.robin.specs.declared.reply.Stop.TheVariants as stop
+
+abbrev pub answer_of : Reply → Answer
+answer_of reply = record { status = reply.status; text = string_bytes reply.text }
+
+-- what holds of what a step goes on with, and of the answer that it gives; nothing where memory ran out
+abbrev pub StepGives : {X : Type 0} → (X → Type 0) → (Answer → Type 0) → Result X Stop → Type 0
+StepGives Goes Ends (Ok x) = Goes x
+StepGives Goes Ends (Err (stop.Answered reply)) = Ends (answer_of reply)
+StepGives Goes Ends (Err stop.Memory) = Unit {0}
+
+-- every answer that a step gives is one of these
+abbrev pub Answers : Outcome → Result Reply Stop → Type 0
+Answers outcome result = StepGives (λ reply. outcome (answer_of reply)) outcome result

@@ -1,0 +1,279 @@
+//! Runs over a store and a sink in memory: the reports and the refusals of worked cases.
+use crate::run::run;
+use crate::status::Status;
+use robin_io::{MemShelf, MemSink};
+use std::alloc::Global;
+use std::process::Abort;
+use std::test::Fail;
+
+/// An instance of four teams in two phases, up to its constraints.
+const FOUR_PHASED: &str = r#"<?xml version="1.0" encoding="UTF-8"?>
+<Instance>
+<Structure>
+<Format leagueIds="0">
+<numberRoundRobin>2</numberRoundRobin>
+<compactness>C</compactness>
+<gameMode>P</gameMode>
+</Format>
+</Structure>
+<Resources>
+<Teams>
+<team id="0"/>
+<team id="1"/>
+<team id="2"/>
+<team id="3"/>
+</Teams>
+<Slots>
+<slot id="0"/>
+<slot id="1"/>
+<slot id="2"/>
+<slot id="3"/>
+<slot id="4"/>
+<slot id="5"/>
+</Slots>
+</Resources>
+<Constraints>
+"#;
+
+/// The same without phases.
+const FOUR: &str = r#"<?xml version="1.0" encoding="UTF-8"?>
+<Instance>
+<Structure>
+<Format leagueIds="0">
+<numberRoundRobin>2</numberRoundRobin>
+<compactness>C</compactness>
+<gameMode>NULL</gameMode>
+</Format>
+</Structure>
+<Resources>
+<Teams>
+<team id="0"/>
+<team id="1"/>
+<team id="2"/>
+<team id="3"/>
+</Teams>
+<Slots>
+<slot id="0"/>
+<slot id="1"/>
+<slot id="2"/>
+<slot id="3"/>
+<slot id="4"/>
+<slot id="5"/>
+</Slots>
+</Resources>
+<Constraints>
+"#;
+
+/// An instance of two teams in two phases, up to its constraints.
+const TWO_PHASED: &str = r#"<?xml version="1.0" encoding="UTF-8"?>
+<Instance>
+<Structure>
+<Format leagueIds="0">
+<numberRoundRobin>2</numberRoundRobin>
+<compactness>C</compactness>
+<gameMode>P</gameMode>
+</Format>
+</Structure>
+<Resources>
+<Teams>
+<team id="0"/>
+<team id="1"/>
+</Teams>
+<Slots>
+<slot id="0"/>
+<slot id="1"/>
+</Slots>
+</Resources>
+<Constraints>
+"#;
+
+/// The end of an instance without constraints.
+const NO_CONSTRAINTS: &str = "</Constraints>\n</Instance>\n";
+
+/// The start and the end of a solution.
+const GAMES: &str = "<?xml version=\"1.0\" encoding=\"UTF-8\"?>\n<Solution>\n<Games>\n";
+
+const NO_MORE_GAMES: &str = "</Games>\n</Solution>\n";
+
+/// The games of the canonical double round robin of four teams but for the last, and the last.
+const ELEVEN: &str = r#"<ScheduledMatch home="3" away="0" slot="0"/>
+<ScheduledMatch home="1" away="2" slot="0"/>
+<ScheduledMatch home="1" away="3" slot="1"/>
+<ScheduledMatch home="2" away="0" slot="1"/>
+<ScheduledMatch home="3" away="2" slot="2"/>
+<ScheduledMatch home="0" away="1" slot="2"/>
+<ScheduledMatch home="0" away="3" slot="3"/>
+<ScheduledMatch home="2" away="1" slot="3"/>
+<ScheduledMatch home="3" away="1" slot="4"/>
+<ScheduledMatch home="0" away="2" slot="4"/>
+<ScheduledMatch home="2" away="3" slot="5"/>
+"#;
+
+const LAST: &str = "<ScheduledMatch home=\"1\" away=\"0\" slot=\"5\"/>\n";
+
+/// The same games with slots 2 and 3 exchanged.
+const EXCHANGED: &str = r#"<ScheduledMatch home="3" away="0" slot="0"/>
+<ScheduledMatch home="1" away="2" slot="0"/>
+<ScheduledMatch home="1" away="3" slot="1"/>
+<ScheduledMatch home="2" away="0" slot="1"/>
+<ScheduledMatch home="3" away="2" slot="3"/>
+<ScheduledMatch home="0" away="1" slot="3"/>
+<ScheduledMatch home="0" away="3" slot="2"/>
+<ScheduledMatch home="2" away="1" slot="2"/>
+<ScheduledMatch home="3" away="1" slot="4"/>
+<ScheduledMatch home="0" away="2" slot="4"/>
+<ScheduledMatch home="2" away="3" slot="5"/>
+<ScheduledMatch home="1" away="0" slot="5"/>
+"#;
+
+/// The texts of parts, one after another.
+fn joined(alloc: Global, parts: &[&str]) -> Result<String, Fail> {
+    let mut text = String::new(alloc);
+    for part in parts {
+        text.push_str(part)?;
+    }
+    Ok(text)
+}
+
+/// The words of a command.
+fn words_of(alloc: Global, words: &[&str]) -> Result<Vec<String>, Fail> {
+    let mut list = Vec::new(alloc);
+    for word in words {
+        list.push(String::from_str(alloc, word)?)?;
+    }
+    Ok(list)
+}
+
+/// What `validate` answers to these files: the status, and the text.
+fn validated(alloc: Global, instance: &[u8], solution: &[u8]) -> Result<(Status, Vec<u8>), Fail> {
+    let mut shelf = MemShelf::new(alloc);
+    shelf.add("instance.xml", instance)?;
+    shelf.add("solution.xml", solution)?;
+    let words = words_of(alloc, &["validate", "instance.xml", "solution.xml"])?;
+    let mut out = MemSink::new(alloc, 4096, 16)?;
+    let status = run(alloc, &words, &mut shelf, &mut out);
+    let text = out.written().to_vec(alloc)?;
+    Ok((status, text))
+}
+
+/// A league with these constraints, and these games, are judged so.
+fn judged(
+    rt: &impl Abort,
+    alloc: Global,
+    instance: &[&str],
+    games: &[&str],
+    status: Status,
+    report: &str,
+) -> Result<(), Fail> {
+    let instance = joined(alloc, instance)?;
+    let solution = joined(alloc, games)?;
+    let (ended, text) = validated(alloc, instance.as_bytes(), solution.as_bytes())?;
+    assert_eq!(rt; ended, status);
+    assert!(rt; text.as_slice() == report.as_bytes(), "{report}");
+    Ok(())
+}
+
+#[test]
+fn two_teams(rt: HostRuntime) -> Result<(), Fail> {
+    let league = [TWO_PHASED, NO_CONSTRAINTS];
+    let there = "<ScheduledMatch home=\"1\" away=\"0\" slot=\"0\"/>\n";
+    let back = "<ScheduledMatch home=\"0\" away=\"1\" slot=\"1\"/>\n";
+    judged(
+        &rt,
+        rt.alloc(),
+        &league,
+        &[GAMES, there, back, NO_MORE_GAMES],
+        Status::Yes,
+        "teams 2\nslots 2\nmode P\ngames 2\nstructure pairs 0 cells 0 phases 0\ninfeasibility 0\nobjective 0\nfeasible yes\n",
+    )?;
+    judged(
+        &rt,
+        rt.alloc(),
+        &league,
+        &[GAMES, there, NO_MORE_GAMES],
+        Status::No,
+        "teams 2\nslots 2\nmode P\ngames 1\nstructure pairs 1 cells 2 phases 0\ninfeasibility 0\nobjective 0\nfeasible no\n",
+    )?;
+    judged(
+        &rt,
+        rt.alloc(),
+        &league,
+        &[GAMES, NO_MORE_GAMES],
+        Status::No,
+        "teams 2\nslots 2\nmode P\ngames 0\nstructure pairs 2 cells 4 phases 1\ninfeasibility 0\nobjective 0\nfeasible no\n",
+    )
+}
+
+#[test]
+fn a_game_missing_and_a_game_twice(rt: HostRuntime) -> Result<(), Fail> {
+    let league = [FOUR_PHASED, NO_CONSTRAINTS];
+    judged(
+        &rt,
+        rt.alloc(),
+        &league,
+        &[GAMES, ELEVEN, NO_MORE_GAMES],
+        Status::No,
+        "teams 4\nslots 6\nmode P\ngames 11\nstructure pairs 1 cells 2 phases 0\ninfeasibility 0\nobjective 0\nfeasible no\n",
+    )?;
+    judged(
+        &rt,
+        rt.alloc(),
+        &league,
+        &[GAMES, ELEVEN, LAST, LAST, NO_MORE_GAMES],
+        Status::No,
+        "teams 4\nslots 6\nmode P\ngames 13\nstructure pairs 1 cells 2 phases 0\ninfeasibility 0\nobjective 0\nfeasible no\n",
+    )
+}
+
+#[test]
+fn phases_count_where_the_league_has_them(rt: HostRuntime) -> Result<(), Fail> {
+    let games = [GAMES, EXCHANGED, NO_MORE_GAMES];
+    judged(
+        &rt,
+        rt.alloc(),
+        &[FOUR_PHASED, NO_CONSTRAINTS],
+        &games,
+        Status::No,
+        "teams 4\nslots 6\nmode P\ngames 12\nstructure pairs 0 cells 0 phases 4\ninfeasibility 0\nobjective 0\nfeasible no\n",
+    )?;
+    judged(
+        &rt,
+        rt.alloc(),
+        &[FOUR, NO_CONSTRAINTS],
+        &games,
+        Status::Yes,
+        "teams 4\nslots 6\nmode NULL\ngames 12\nstructure pairs 0 cells 0 phases 0\ninfeasibility 0\nobjective 0\nfeasible yes\n",
+    )
+}
+
+#[test]
+fn a_hard_capacity_is_short(rt: HostRuntime) -> Result<(), Fail> {
+    let hard =
+        "<CapacityConstraints>\n<CA1 teams=\"0\" min=\"0\" max=\"0\" mode=\"H\" slots=\"2;3\" type=\"HARD\" penalty=\"1\"/>\n</CapacityConstraints>\n";
+    judged(
+        &rt,
+        rt.alloc(),
+        &[FOUR_PHASED, hard, NO_CONSTRAINTS],
+        &[GAMES, ELEVEN, LAST, NO_MORE_GAMES],
+        Status::No,
+        "teams 4\nslots 6\nmode P\ngames 12\nstructure pairs 0 cells 0 phases 0\nconstraint 1 CA1 HARD penalty 1 sum 2 entries 2\ninfeasibility 2\nobjective 0\nfeasible no\n",
+    )
+}
+
+#[test]
+fn refusals(rt: HostRuntime) -> Result<(), Fail> {
+    let alloc = rt.alloc();
+    let league = joined(alloc, &[FOUR_PHASED, NO_CONSTRAINTS])?;
+    let season = joined(alloc, &[GAMES, ELEVEN, LAST, NO_MORE_GAMES])?;
+    let spaces = vec![in alloc; b' '; 16777217]?;
+    let (status, text) = validated(alloc, &spaces, season.as_bytes())?;
+    assert_eq!(rt; status, Status::File);
+    assert!(rt; text.as_slice() == b"refused instance TooLong limit 16777216\n".as_slice());
+    let (status, text) = validated(alloc, season.as_bytes(), season.as_bytes())?;
+    assert_eq!(rt; status, Status::File);
+    assert!(rt; text.as_slice() == b"refused instance NotPlain line 1\n".as_slice());
+    let (status, text) = validated(alloc, league.as_bytes(), league.as_bytes())?;
+    assert_eq!(rt; status, Status::File);
+    assert!(rt; text.as_slice() == b"refused solution NotPlain line 1\n".as_slice());
+    Ok(())
+}

@@ -1,0 +1,14 @@
+use Rattle.std.proofs.Common.{rules}
+use Rattle.std.proofs.Math.Seq.{take-add}
+use Rattle.std.proofs.lemmas.List.{take_rest}
+use Rattle.std.proofs.KnownBytes.{Appends-trans}
+use Rattle.robin_io.proofs.sink.put_all.Goals as goal
+
+pub loop-done-preserved : goal.loop-done-preserved
+loop-done-preserved g c =
+    let put = rw take_rest at c.in_ok-done.ensures.bytes in
+    record {
+      within = search rules;
+      written = rw take-add (Appends-trans _ _ _ _ _ c.loop-done.invariant.written put);
+      later = search rules;
+    }

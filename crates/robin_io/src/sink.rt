@@ -1,0 +1,38 @@
+// Places that take bytes in order, and the writing of a whole text.
+ghost use Rattle.std.specs.Prelude.{◌≡◌, ◌<◌, ◌≤◌, ℕ, List, Option, length, take, IfOk, OnOk, OnErr};
+ghost use Rattle.std.specs.Io.KnownBytes.{Appends};
+ghost use Rattle.robin_io.specs.Counts.{Rose, HasOneCause};
+ghost use Rattle.robin_io.specs.Written.{AppendsPrefix};
+
+use crate::Failed;
+
+/// A place that takes bytes in order.
+pub trait Sink {
+    /// The bytes so far, where the place tells them.
+    ghost written: { Self → Option (List ℕ) };
+
+    /// How often the place has failed, up to 2^64 - 1, its last value.
+    ghost faults: { Self → ℕ };
+
+    /// Takes bytes from the front of the piece, at least one where there is one, and says how many.
+    /// After `Failed` nothing was taken.
+    fn put(&mut self, piece: &[u8]) -> Result<usize, Failed>
+        ensures most { IfOk result (λ k. k ≤ length piece.now) }
+        ensures some { IfOk result (λ k. 0 < length piece.now → 0 < k) }
+        ensures bytes { IfOk result (λ k. Appends (written self.old) (written self.new) (take k piece.now)) }
+        ensures err { OnErr result (written self.new ≡ written self.old) }
+        ensures cause { HasOneCause (faults self.old) (faults self.new) result };
+}
+
+/// Writes all the bytes, and takes no memory. After `Failed` a prefix of them was written.
+pub fn put_all<K: Sink>(sink: &mut K, bytes: &[u8]) -> Result<(), Failed>
+    ensures ok { OnOk result (Appends (K.written sink.old) (K.written sink.new) bytes.now) }
+    ensures err { OnErr result (AppendsPrefix (K.written sink.old) (K.written sink.new) bytes.now) }
+    ensures cause { HasOneCause (K.faults sink.old) (K.faults sink.new) result }
+{
+    let mut done = 0;
+    while done < bytes.len() {
+        done += sink.put(&bytes[done..])?;
+    }
+    Ok(())
+}

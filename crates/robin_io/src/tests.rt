@@ -1,0 +1,84 @@
+// What no clause says: that calls succeed where memory is ample, and what the machine does.
+use crate::{
+    Failed, HostShelf, HostSink, MemShelf, MemSink, NumberFault, Shelf, Sink, TakeFault, decimal,
+    put_all, put_decimal, read_all,
+};
+use std::test::Fail;
+
+const TEXT: &[u8] = b"seven bytes, and a few more";
+
+#[test]
+fn a_file_is_read_up_to_the_limit(rt: HostRuntime) -> Result<(), Fail> {
+    let alloc = rt.alloc();
+    let mut shelf = MemShelf::new(alloc);
+    shelf.add("a", b"old")?;
+    shelf.add("b", b"")?;
+    shelf.add("a", TEXT)?;
+    let read = read_all(alloc, &mut shelf, "a", TEXT.len())?;
+    assert_eq!(rt; read.as_slice(), TEXT);
+    let too_long = read_all(alloc, &mut shelf, "a", TEXT.len() - 1);
+    assert_eq!(rt;
+        too_long.err(),
+        Some(TakeFault::TooLong {
+            limit: TEXT.len() - 1
+        })
+    );
+    assert_eq!(rt; read_all(alloc, &mut shelf, "b", 0)?.len(), 0);
+    let absent = read_all(alloc, &mut shelf, "c", 9);
+    assert_eq!(rt; absent.err(), Some(TakeFault::Failed));
+    Ok(())
+}
+
+#[test]
+fn a_small_room_keeps_a_prefix(rt: HostRuntime) -> Result<(), Fail> {
+    let alloc = rt.alloc();
+    let mut wide = MemSink::new(alloc, TEXT.len(), 5)?;
+    assert_eq!(rt; put_all(&mut wide, TEXT), Ok(()));
+    assert_eq!(rt; wide.written(), TEXT);
+    let mut small = MemSink::new(alloc, 7, 3)?;
+    assert_eq!(rt; put_all(&mut small, TEXT), Err(Failed));
+    assert_eq!(rt; small.written(), b"seven b".as_slice());
+    assert_eq!(rt; small.put(b""), Ok(0));
+    Ok(())
+}
+
+#[test]
+fn decimals_are_read(rt: HostRuntime) {
+    let cases: [(&[u8], Result<u64, NumberFault>); 8] = [
+        (b"0", Ok(0)),
+        (b"007", Ok(7)),
+        (b"18446744073709551615", Ok(u64::MAX)),
+        (b"18446744073709551616", Err(NumberFault::TooLarge)),
+        (b"99999999999999999999999", Err(NumberFault::TooLarge)),
+        (b"", Err(NumberFault::Bad)),
+        (b"1a", Err(NumberFault::Bad)),
+        (b"+1", Err(NumberFault::Bad)),
+    ];
+    for (text, want) in cases {
+        assert_eq!(rt; decimal(text), want, "at {text:?}");
+    }
+}
+
+#[test]
+fn decimals_are_written(rt: HostRuntime) -> Result<(), Fail> {
+    let mut out = Vec::new(rt.alloc());
+    put_decimal(&mut out, 0)?;
+    out.push(b' ')?;
+    put_decimal(&mut out, u128::MAX)?;
+    let want = b"0 340282366920938463463374607431768211455";
+    assert_eq!(rt; out.as_slice(), want.as_slice());
+    Ok(())
+}
+
+#[test]
+fn the_machine_has_files_and_writers(rt: HostRuntime) -> Result<(), Fail> {
+    let alloc = rt.alloc();
+    let mut shelf = HostShelf::new(&rt);
+    let absent = read_all(alloc, &mut shelf, "no such file", 9);
+    assert_eq!(rt; absent.err(), Some(TakeFault::Failed));
+    assert_eq!(rt; shelf.start("no such file"), Err(Failed));
+    let mut bytes = Vec::new(alloc);
+    let mut sink = HostSink::new(&mut bytes);
+    assert_eq!(rt; put_all(&mut sink, TEXT), Ok(()));
+    Ok(())
+}

@@ -1,0 +1,202 @@
+-- Whole files, line by line.
+use Prim.Native.String.{String}
+use Rattle.std.proofs.Common.{ℕ, List, [], ◌∷◌, ◌++◌}
+use Rattle.std.specs.Prelude.{codes}
+
+-- the lines, each with its end
+abbrev text : List String → List ℕ
+text [] = []
+text (line ∷ lines) = codes line ++ (codes "\n" ++ text lines)
+
+-- a phased league of four teams without constraints
+abbrev pub i4 : List ℕ
+i4 = text (
+    "<?xml version=\"1.0\" encoding=\"UTF-8\"?>"
+    ∷ "<Instance>"
+    ∷ "<Structure>"
+    ∷ "<Format leagueIds=\"0\">"
+    ∷ "<numberRoundRobin>2</numberRoundRobin>"
+    ∷ "<compactness>C</compactness>"
+    ∷ "<gameMode>P</gameMode>"
+    ∷ "</Format>"
+    ∷ "</Structure>"
+    ∷ "<Resources>"
+    ∷ "<Teams>"
+    ∷ "<team id=\"0\"/>"
+    ∷ "<team id=\"1\"/>"
+    ∷ "<team id=\"2\"/>"
+    ∷ "<team id=\"3\"/>"
+    ∷ "</Teams>"
+    ∷ "<Slots>"
+    ∷ "<slot id=\"0\"/>"
+    ∷ "<slot id=\"1\"/>"
+    ∷ "<slot id=\"2\"/>"
+    ∷ "<slot id=\"3\"/>"
+    ∷ "<slot id=\"4\"/>"
+    ∷ "<slot id=\"5\"/>"
+    ∷ "</Slots>"
+    ∷ "</Resources>"
+    ∷ "<Constraints>"
+    ∷ "</Constraints>"
+    ∷ "</Instance>"
+    ∷ [])
+
+-- the same with a CA1
+abbrev pub i4_ca1 : List ℕ
+i4_ca1 = text (
+    "<?xml version=\"1.0\" encoding=\"UTF-8\"?>"
+    ∷ "<Instance>"
+    ∷ "<Structure>"
+    ∷ "<Format leagueIds=\"0\">"
+    ∷ "<numberRoundRobin>2</numberRoundRobin>"
+    ∷ "<compactness>C</compactness>"
+    ∷ "<gameMode>P</gameMode>"
+    ∷ "</Format>"
+    ∷ "</Structure>"
+    ∷ "<Resources>"
+    ∷ "<Teams>"
+    ∷ "<team id=\"0\"/>"
+    ∷ "<team id=\"1\"/>"
+    ∷ "<team id=\"2\"/>"
+    ∷ "<team id=\"3\"/>"
+    ∷ "</Teams>"
+    ∷ "<Slots>"
+    ∷ "<slot id=\"0\"/>"
+    ∷ "<slot id=\"1\"/>"
+    ∷ "<slot id=\"2\"/>"
+    ∷ "<slot id=\"3\"/>"
+    ∷ "<slot id=\"4\"/>"
+    ∷ "<slot id=\"5\"/>"
+    ∷ "</Slots>"
+    ∷ "</Resources>"
+    ∷ "<Constraints>"
+    ∷ "<CapacityConstraints>"
+    ∷ "<CA1 teams=\"0\" min=\"0\" max=\"0\" mode=\"H\" slots=\"2;3\" type=\"HARD\" penalty=\"1\"/>"
+    ∷ "</CapacityConstraints>"
+    ∷ "</Constraints>"
+    ∷ "</Instance>"
+    ∷ [])
+
+-- all nine classes, in ten constraints
+abbrev pub nine : List ℕ
+nine = text (
+    "<?xml version=\"1.0\" encoding=\"UTF-8\"?>"
+    ∷ "<Instance>"
+    ∷ "<Structure>"
+    ∷ "<Format leagueIds=\"0\">"
+    ∷ "<numberRoundRobin>2</numberRoundRobin>"
+    ∷ "<compactness>C</compactness>"
+    ∷ "<gameMode>NULL</gameMode>"
+    ∷ "</Format>"
+    ∷ "</Structure>"
+    ∷ "<Resources>"
+    ∷ "<Teams>"
+    ∷ "<team id=\"0\"/>"
+    ∷ "<team id=\"1\"/>"
+    ∷ "<team id=\"2\"/>"
+    ∷ "<team id=\"3\"/>"
+    ∷ "</Teams>"
+    ∷ "<Slots>"
+    ∷ "<slot id=\"0\"/>"
+    ∷ "<slot id=\"1\"/>"
+    ∷ "<slot id=\"2\"/>"
+    ∷ "<slot id=\"3\"/>"
+    ∷ "<slot id=\"4\"/>"
+    ∷ "<slot id=\"5\"/>"
+    ∷ "</Slots>"
+    ∷ "</Resources>"
+    ∷ "<Constraints>"
+    ∷ "<CapacityConstraints>"
+    ∷ "<CA1 teams=\"0\" min=\"0\" max=\"0\" mode=\"H\" slots=\"2;3\" type=\"HARD\" penalty=\"1\"/>"
+    ∷ "<CA2 teams1=\"0\" teams2=\"1;2\" min=\"0\" max=\"1\" mode1=\"HA\" mode2=\"GLOBAL\" slots=\"0;1;2\" type=\"SOFT\" penalty=\"2\"/>"
+    ∷ "<CA3 teams1=\"0\" teams2=\"1;2;3\" min=\"0\" max=\"2\" mode1=\"H\" mode2=\"SLOTS\" intp=\"3\" type=\"SOFT\" penalty=\"5\"/>"
+    ∷ "<CA4 teams1=\"0;1\" teams2=\"0;1\" min=\"0\" max=\"0\" mode1=\"A\" mode2=\"EVERY\" slots=\"0;5\" type=\"HARD\" penalty=\"1\"/>"
+    ∷ "</CapacityConstraints>"
+    ∷ "<GameConstraints>"
+    ∷ "<GA1 meetings=\"0,1;3,2;\" min=\"1\" max=\"1\" slots=\"0\" type=\"HARD\" penalty=\"1\"/>"
+    ∷ "</GameConstraints>"
+    ∷ "<BreakConstraints>"
+    ∷ "<BR1 teams=\"0\" intp=\"1\" mode1=\"LEQ\" mode2=\"HA\" slots=\"0;1;2\" type=\"SOFT\" penalty=\"7\"/>"
+    ∷ "<BR2 teams=\"0;1;2;3\" intp=\"4\" homeMode=\"HA\" mode2=\"LEQ\" slots=\"\" type=\"HARD\" penalty=\"1\"/>"
+    ∷ "</BreakConstraints>"
+    ∷ "<FairnessConstraints>"
+    ∷ "<FA2 teams=\"0;1;2;3\" intp=\"2\" mode=\"H\" slots=\"0;1\" type=\"SOFT\" penalty=\"10\"/>"
+    ∷ "</FairnessConstraints>"
+    ∷ "<SeparationConstraints>"
+    ∷ "<SE1 teams=\"0;1\" min=\"2\" mode1=\"SLOTS\" type=\"HARD\" penalty=\"10\"/>"
+    ∷ "</SeparationConstraints>"
+    ∷ "<CapacityConstraints>"
+    ∷ "<CA1 teams=\"\" min=\"0\" max=\"4294967295\" mode=\"A\" slots=\"2\" type=\"HARD\" penalty=\"0\"/>"
+    ∷ "</CapacityConstraints>"
+    ∷ "</Constraints>"
+    ∷ "</Instance>"
+    ∷ [])
+
+-- the double circle schedule of four teams, in its own order
+abbrev pub c4 : List ℕ
+c4 = text (
+    "<?xml version=\"1.0\" encoding=\"UTF-8\"?>"
+    ∷ "<Solution>"
+    ∷ "<Games>"
+    ∷ "<ScheduledMatch home=\"3\" away=\"0\" slot=\"0\"/>"
+    ∷ "<ScheduledMatch home=\"1\" away=\"2\" slot=\"0\"/>"
+    ∷ "<ScheduledMatch home=\"1\" away=\"3\" slot=\"1\"/>"
+    ∷ "<ScheduledMatch home=\"2\" away=\"0\" slot=\"1\"/>"
+    ∷ "<ScheduledMatch home=\"3\" away=\"2\" slot=\"2\"/>"
+    ∷ "<ScheduledMatch home=\"0\" away=\"1\" slot=\"2\"/>"
+    ∷ "<ScheduledMatch home=\"0\" away=\"3\" slot=\"3\"/>"
+    ∷ "<ScheduledMatch home=\"2\" away=\"1\" slot=\"3\"/>"
+    ∷ "<ScheduledMatch home=\"3\" away=\"1\" slot=\"4\"/>"
+    ∷ "<ScheduledMatch home=\"0\" away=\"2\" slot=\"4\"/>"
+    ∷ "<ScheduledMatch home=\"2\" away=\"3\" slot=\"5\"/>"
+    ∷ "<ScheduledMatch home=\"1\" away=\"0\" slot=\"5\"/>"
+    ∷ "</Games>"
+    ∷ "</Solution>"
+    ∷ [])
+
+-- the same games in order of slot, home and away
+abbrev pub circle : List ℕ
+circle = text (
+    "<?xml version=\"1.0\" encoding=\"UTF-8\"?>"
+    ∷ "<Solution>"
+    ∷ "<Games>"
+    ∷ "<ScheduledMatch home=\"1\" away=\"2\" slot=\"0\"/>"
+    ∷ "<ScheduledMatch home=\"3\" away=\"0\" slot=\"0\"/>"
+    ∷ "<ScheduledMatch home=\"1\" away=\"3\" slot=\"1\"/>"
+    ∷ "<ScheduledMatch home=\"2\" away=\"0\" slot=\"1\"/>"
+    ∷ "<ScheduledMatch home=\"0\" away=\"1\" slot=\"2\"/>"
+    ∷ "<ScheduledMatch home=\"3\" away=\"2\" slot=\"2\"/>"
+    ∷ "<ScheduledMatch home=\"0\" away=\"3\" slot=\"3\"/>"
+    ∷ "<ScheduledMatch home=\"2\" away=\"1\" slot=\"3\"/>"
+    ∷ "<ScheduledMatch home=\"0\" away=\"2\" slot=\"4\"/>"
+    ∷ "<ScheduledMatch home=\"3\" away=\"1\" slot=\"4\"/>"
+    ∷ "<ScheduledMatch home=\"1\" away=\"0\" slot=\"5\"/>"
+    ∷ "<ScheduledMatch home=\"2\" away=\"3\" slot=\"5\"/>"
+    ∷ "</Games>"
+    ∷ "</Solution>"
+    ∷ [])
+
+-- the same with a score
+abbrev pub scored : List ℕ
+scored = text (
+    "<?xml version=\"1.0\" encoding=\"UTF-8\"?>"
+    ∷ "<Solution>"
+    ∷ "<MetaData>"
+    ∷ "<ObjectiveValue infeasibility=\"3\" objective=\"40\"/>"
+    ∷ "</MetaData>"
+    ∷ "<Games>"
+    ∷ "<ScheduledMatch home=\"1\" away=\"2\" slot=\"0\"/>"
+    ∷ "<ScheduledMatch home=\"3\" away=\"0\" slot=\"0\"/>"
+    ∷ "<ScheduledMatch home=\"1\" away=\"3\" slot=\"1\"/>"
+    ∷ "<ScheduledMatch home=\"2\" away=\"0\" slot=\"1\"/>"
+    ∷ "<ScheduledMatch home=\"0\" away=\"1\" slot=\"2\"/>"
+    ∷ "<ScheduledMatch home=\"3\" away=\"2\" slot=\"2\"/>"
+    ∷ "<ScheduledMatch home=\"0\" away=\"3\" slot=\"3\"/>"
+    ∷ "<ScheduledMatch home=\"2\" away=\"1\" slot=\"3\"/>"
+    ∷ "<ScheduledMatch home=\"0\" away=\"2\" slot=\"4\"/>"
+    ∷ "<ScheduledMatch home=\"3\" away=\"1\" slot=\"4\"/>"
+    ∷ "<ScheduledMatch home=\"1\" away=\"0\" slot=\"5\"/>"
+    ∷ "<ScheduledMatch home=\"2\" away=\"3\" slot=\"5\"/>"
+    ∷ "</Games>"
+    ∷ "</Solution>"
+    ∷ [])
