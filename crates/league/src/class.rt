@@ -83,7 +83,10 @@ pub enum Class {
         slots: SlotSet,
     },
     /// At least `min` slots between the games of each two teams.
-    Se1 { teams: TeamSet, min: u32 },
+    Se1 {
+        teams: TeamSet,
+        min: u32,
+    },
 }
 
 /// A constraint of a league: hard or soft, with the penalty for each unit of its deviation.
@@ -102,7 +105,10 @@ impl Constraint {
     {
         match &self.class {
             Class::Ca1 {
-                teams, side, slots, ..
+                teams,
+                side,
+                slots,
+                ..
             } => teams.are_below(n) && slots.are_in_season(n) && *side != Side::Both,
             Class::Ca2 {
                 teams1,
@@ -123,7 +129,9 @@ impl Constraint {
                 ..
             } => teams1.are_below(n) && teams2.are_below(n) && slots.are_in_season(n),
             Class::Ga1 {
-                meetings, slots, ..
+                meetings,
+                slots,
+                ..
             } => meetings.are_meetings(n) && slots.are_in_season(n),
             Class::Br1 { teams, slots, .. }
             | Class::Br2 { teams, slots, .. }

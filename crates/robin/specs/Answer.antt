@@ -61,6 +61,11 @@ IsUnread which told limit long failed answer =
     (long × IfSome told (λ file. limit < length file) × (answer ≡ too_long which limit))
     ⊎ (failed × (answer ≡ read_fault which))
 
+-- a file says this and nothing else
+pub record IsSaid {A : Type 0} (Says : A → Type 0) (x : A) : Type 0 where
+  pub says : Says x
+  pub only : (y : A) → Says y → y ≡ x
+
 -- a file says nothing of the form that is wanted
 pub record IsFormless {A : Type 0} (which : List ℕ) (Says : A → Type 0) (answer : Answer) : Type 0 where
   pub nothing : (x : A) → Says x → ⊥
@@ -87,7 +92,7 @@ reads which told limit long failed next answer = ((bytes : List ℕ) × IsFile t
 
 -- the step that takes what a file says
 abbrev pub says : {A : Type 0} → List ℕ → (A → Type 0) → (A → Outcome) → Outcome
-says {A} which Says next answer = ((x : A) × Says x × next x answer) ⊎ IsFormless which Says answer
+says {A} which Says next answer = ((x : A) × IsSaid Says x × next x answer) ⊎ IsFormless which Says answer
 
 -- `validate`, over the contents that the store tells, how many bytes it gave more than, and the files at which it failed
 abbrev pub validated : (List ℕ → Option (List ℕ)) → (ℕ → Type 0) → (List ℕ → Type 0) → List ℕ → List ℕ → Outcome
@@ -108,3 +113,23 @@ abbrev pub IsGiven : Answer → Status → Option (List ℕ) → Option (List �
 IsGiven answer status old new failed =
     ((status ≡ answer.status) × Appends old new answer.text)
     ⊎ ((status ≡ WriteFault) × failed × AppendsPrefix old new answer.text)
+
+-- two files within their limits whose bytes are told and at which the store didn't fail, which say a league and a schedule
+pub record IsPlainPair (told : List ℕ → Option (List ℕ)) (failed : List ℕ → Type 0) (instance solution : List ℕ) (league : Instance) (games : List Game) : Type 0 where
+  pub first : List ℕ
+  pub second : List ℕ
+  pub first_told : told instance ≡ Some first
+  pub second_told : told solution ≡ Some second
+  pub first_within : length first ≤ instance_limit
+  pub second_within : length second ≤ solution_limit
+  pub says_league : IsPlainInstance first league
+  pub says_games : IsPlainSolution league.n second games
+  pub first_works : failed instance → ⊥
+  pub second_works : failed solution → ⊥
+
+-- the judgement is given whole
+pub record GivesJudgement (league : Instance) (games : List Game) (ended : Status) (old new : Option (List ℕ)) : Type 0 where
+  pub answer : Answer
+  pub judgement : IsJudgement league games answer
+  pub status : ended ≡ answer.status
+  pub written : Appends old new answer.text

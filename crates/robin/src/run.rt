@@ -3,10 +3,13 @@ ghost use Rattle.std.specs.Prelude.{◌≡◌, ◌≢◌, ◌≤◌, ℕ, List, 
 ghost use Rattle.std.specs.Io.KnownBytes.{Keeps};
 ghost use Rattle.robin_io.specs.Counts.{raised, Rose, TookMore};
 ghost use Rattle.robinx_read.specs.Plain.{IsPlain, IsPlainInstance, IsPlainSolution};
-ghost use Rattle.robin.specs.Answer.{Answer, IsAnswer, IsFile, IsFormless, IsGiven, IsJudgement, IsUnread, says, validated};
+ghost use Rattle.robin.specs.Answer.{Answer, IsAnswer, IsFile, IsFormless, IsGiven, IsJudgement, IsPlainPair, IsSaid, IsUnread, GivesJudgement, says, validated};
 ghost use Rattle.robin.specs.SeenReply.{answer_of, Answers, StepGives};
 ghost use Rattle.robin.specs.SeenWords.{command_of, texts};
 ghost use Rattle.robin.specs.Words.{reading};
+ghost use Rattle.robin.specs.Words.Command.{Validate};
+ghost use Rattle.league.specs.Instance.{Instance};
+ghost use Rattle.league.specs.declared.game.Game.{Game};
 
 use crate::judge::judge;
 use crate::reply::{Reply, Stop, formless, past_limit, unreadable, words_refused};
@@ -52,7 +55,7 @@ fn file<S: Shelf>(
 /// The league that an instance file says.
 fn league_in(alloc: Global, bytes: &[u8]) -> Result<League, Stop>
     requires { length bytes.now ≤ 16777216 }
-    ensures { StepGives (IsPlainInstance bytes.now) (IsFormless (codes "instance") (IsPlainInstance bytes.now)) result }
+    ensures { StepGives (IsSaid (IsPlainInstance bytes.now)) (IsFormless (codes "instance") (IsPlainInstance bytes.now)) result }
 {
     match read_instance(alloc, bytes) {
         Ok(league) => Ok(league),
@@ -64,7 +67,7 @@ fn league_in(alloc: Global, bytes: &[u8]) -> Result<League, Stop>
 /// The schedule of the league that a solution file says.
 fn schedule_in(alloc: Global, bytes: &[u8], league: &League) -> Result<Schedule, Stop>
     requires { length bytes.now ≤ 1048576 }
-    ensures { StepGives (IsPlainSolution league.now.n bytes.now) (IsFormless (codes "solution") (IsPlainSolution league.now.n bytes.now)) result }
+    ensures { StepGives (IsSaid (IsPlainSolution league.now.n bytes.now)) (IsFormless (codes "solution") (IsPlainSolution league.now.n bytes.now)) result }
 {
     match read_solution(alloc, bytes, league) {
         Ok(schedule) => Ok(schedule),
@@ -165,6 +168,12 @@ pub fn run<S: Shelf, K: Sink>(alloc: Global, words: &[String], shelf: &mut S, ou
         (λ name. Rose (S.faults shelf.old name) (S.faults shelf.new name))
         answer
         × IsGiven answer result (K.written out.old) (K.written out.new) (Rose (K.faults out.old) (K.faults out.new)) }
+
+    // Two plain files, at which nothing fails, are judged, unless memory runs out.
+    ensures judged { (instance solution : List ℕ) (league : Instance) (games : List Game) → reading (texts words.now) ≡ Some (Validate instance solution)
+        → IsPlainPair (S.contents shelf.old) (λ name. Rose (S.faults shelf.old name) (S.faults shelf.new name)) instance solution league games
+        → (Rose (K.faults out.old) (K.faults out.new) → ⊥) → result ≢ Status.Memory
+        → GivesJudgement league games result (K.written out.old) (K.written out.new) }
 
     // Refused words leave the store as it was.
     ensures untouched { reading (texts words.now) ≡ None → shelf.new ≡ shelf.old }

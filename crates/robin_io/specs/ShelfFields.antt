@@ -11,6 +11,8 @@ shelf_view s = record {
   left = option_and_then (λ p. option_map (λ f. drop p.at f.bytes.items) (slice_get s.files.items p.file)) s.started;
   taken = s.taken;
   other_faults = s.other_faults;
+  plan = s.plan.failing.items;
+  calls = s.plan.calls;
 }
 
 -- the started place is one of a file

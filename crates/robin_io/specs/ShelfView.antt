@@ -16,6 +16,10 @@ pub record ShelfView : Type 0 where
   pub taken : ℕ
   -- the count of faults that all names without a file share
   pub other_faults : ℕ
+  -- the numbers of the calls of start and take that are planned to fail
+  pub plan : List ℕ
+  -- how many of these calls were counted
+  pub calls : ℕ
 
 -- the file of a name
 abbrev pub file_in : List FileView → List ℕ → Option FileView

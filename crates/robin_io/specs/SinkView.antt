@@ -9,3 +9,7 @@ pub record SinkView : Type 0 where
   -- how many bytes a put takes at most
   pub piece : ℕ
   pub faults : ℕ
+  -- the numbers of the puts that are planned to fail
+  pub plan : List ℕ
+  -- how many puts were counted
+  pub calls : ℕ

@@ -8,6 +8,7 @@ mod host;
 mod mem_shelf;
 mod mem_sink;
 mod numbers;
+mod plan;
 mod shelf;
 mod sink;
 

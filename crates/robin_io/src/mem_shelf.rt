@@ -1,10 +1,12 @@
 // A store of files in memory.
-ghost use Rattle.std.specs.Prelude.{◌≡◌, ◌≢◌, ◌-◌, ◌^◌, ◌<◌, ◌≤◌, ◌↔◌, List, [], ℕ, Some, None, length, take, drop, min, map, position, bytes_eq, string_bytes, slice_get, IfOk, OnOk, OnErr, IfSome, IsNone, IsErr, MatchResult};
+ghost use Rattle.std.specs.Prelude.{◌≡◌, ◌≢◌, ◌-◌, ◌^◌, ◌<◌, ◌≤◌, ◌↔◌, ◌⊎◌, List, [], ◌∷◌, ◌++◌, ℕ, Contains, Some, None, length, take, drop, min, map, position, bytes_eq, string_bytes, slice_get, IfOk, OnOk, OnErr, IfSome, IsSome, IsNone, IsErr};
 ghost use Rattle.std.specs.Io.KnownBytes.{Keeps, Consumes, IsAtEnd};
 ghost use Rattle.robin_io.specs.Counts.{raised, HasCause};
 ghost use Rattle.robin_io.specs.ShelfView.{contents_in, faults_in};
+ghost use Rattle.robin_io.specs.Faults.{CountsFault};
 ghost use Rattle.robin_io.specs.Files.{file_view, Puts};
 
+use crate::plan::Plan;
 use crate::{Failed, Shelf};
 use std::alloc::{AllocError, Global};
 use std::marker::Model;
@@ -26,12 +28,14 @@ struct Place {
 /// A store of files in memory, which tells its contents.
 ///
 /// Each file that was added has a count of faults, and all other names have one in common.
+/// A `start` or `take` fails where it was planned to, and a `start` of an absent name does.
 #[derive(Drop)]
 pub struct MemShelf {
     files: Vec<MemFile>,
     started: Option<Place>,
     taken: u64,
     other_faults: u64,
+    plan: Plan,
 }
 
 impl Model for MemShelf {
@@ -53,12 +57,15 @@ impl MemShelf {
         ensures started { result.started ≡ None }
         ensures taken { result.taken ≡ 0 }
         ensures faults { result.other_faults ≡ 0 }
+        ensures plan { result.plan ≡ [] }
+        ensures calls { result.calls ≡ 0 }
     {
         MemShelf {
             files: Vec::new(alloc),
             started: None,
             taken: 0,
             other_faults: 0,
+            plan: Plan::new(alloc),
         }
     }
 
@@ -69,12 +76,63 @@ impl MemShelf {
         ensures faults { (n : List ℕ) → faults_in self.new.files self.new.other_faults n ≡ faults_in self.old.files self.old.other_faults n }
         ensures other_faults { self.new.other_faults ≡ self.old.other_faults }
         ensures taken { self.new.taken ≡ self.old.taken }
+        ensures plan { self.new.plan ≡ self.old.plan }
+        ensures calls { self.new.calls ≡ self.old.calls }
         ensures started { OnOk result (self.new.started ≡ None) }
         ensures err { OnErr result (self.new ≡ self.old) }
     {
         put_file(&mut self.files, name, bytes, self.other_faults)?;
         self.started = None;
         Ok(())
+    }
+
+    /// Plans that the call of this number fails. All calls of `start` and `take` are counted together from 1,
+    /// the refused ones too, and the number stays at the greatest `u64`.
+    /// So 0 and the number of an earlier call plan nothing.
+    pub fn fail_at(&mut self, call: u64) -> Result<(), AllocError>
+        ensures ok { OnOk result (self.new ≡ record self.old { plan = self.old.plan ++ call ∷ [] }) }
+        ensures err { OnErr result (self.new ≡ self.old) }
+    {
+        self.plan.add(call)
+    }
+
+    // Counts a fault of this name, and gives it.
+    fn fail(&mut self, name: &str) -> Failed
+        ensures counted { CountsFault name.now self.old self.new }
+        ensures contents { (n : List ℕ) → contents_in self.new.files n ≡ contents_in self.old.files n }
+        ensures later { (n : List ℕ) → faults_in self.old.files self.old.other_faults n ≤ faults_in self.new.files self.new.other_faults n }
+        ensures rest { self.new ≡ record self.old { files = self.new.files; other_faults = self.new.other_faults } }
+    {
+        match place_of(&self.files, name) {
+            Some(place) => {
+                let file = &mut self.files[place];
+                file.faults = file.faults.saturating_add(1);
+            }
+            None => self.other_faults = self.other_faults.saturating_add(1),
+        }
+        Failed
+    }
+
+    // Takes the next bytes of the started file to the front of the room, as many as there are and fit.
+    fn take_next(&mut self, room: &mut [u8]) -> usize
+        requires { IsSome self.old.started }
+        ensures count { IfSome self.old.left (λ left. result ≡ min (length room.new) (length left)) }
+        ensures bytes { Consumes self.old.left self.new.left (take result room.new) }
+        ensures within { result ≤ length room.new }
+        ensures end { result ≡ 0 → 0 < length room.new → IsAtEnd self.new.left }
+        ensures taken { self.new.taken ≡ raised self.old.taken result }
+        ensures rest { self.new ≡ record self.old { left = self.new.left; taken = self.new.taken } }
+    {
+        let Some(place) = self.started else {
+            unreachable!()
+        };
+        let count = copy_from(&self.files[place.file].bytes, place.at, room);
+        self.started = Some(Place {
+            file: place.file,
+            at: place.at + count,
+        });
+        self.taken = self.taken.saturating_add(count as u64);
+        count
     }
 }
 
@@ -98,23 +156,26 @@ impl Shelf for MemShelf {
         ensures last { self.new.taken ≤ 2 ^ 64 - 1 }
         ensures cause { HasCause (faults_in self.old.files self.old.other_faults) (faults_in self.new.files self.new.other_faults) name.now result }
 
-        ensures absent { IsErr result ↔ IsNone (contents_in self.old.files name.now) }
+        ensures failed { IsErr result ↔ (Contains self.old.plan (raised self.old.calls 1) ⊎ IsNone (contents_in self.old.files name.now)) }
         ensures stopped { OnErr result (self.new.started ≡ None) }
-        ensures files { self.new.files ≡ self.old.files }
-        ensures other_faults { MatchResult result (λ _. self.new.other_faults ≡ self.old.other_faults) (λ _. self.new.other_faults ≡ raised self.old.other_faults 1) }
+        ensures fault { OnErr result (CountsFault name.now self.old self.new) }
+        ensures files { OnOk result (self.new.files ≡ self.old.files) }
+        ensures other_faults { OnOk result (self.new.other_faults ≡ self.old.other_faults) }
+        ensures plan { self.new.plan ≡ self.old.plan }
+        ensures calls { self.new.calls ≡ raised self.old.calls 1 }
     {
         // A field behind a `&mut` has its type's range only once it is read, and `last` needs it.
         let _taken = self.taken;
+        self.started = None;
+        if self.plan.next_fails() {
+            return Err(self.fail(name));
+        }
         match place_of(&self.files, name) {
             Some(file) => {
                 self.started = Some(Place { file, at: 0 });
                 Ok(())
             }
-            None => {
-                self.started = None;
-                self.other_faults = self.other_faults.saturating_add(1);
-                Err(Failed)
-            }
+            None => Err(self.fail(name)),
         }
     }
 
@@ -130,20 +191,17 @@ impl Shelf for MemShelf {
         ensures cause { HasCause (faults_in self.old.files self.old.other_faults) (faults_in self.new.files self.new.other_faults) name.now result }
 
         ensures exact { IfOk result (λ k. IfSome self.old.left (λ left. k ≡ min (length room.new) (length left))) }
-        ensures works { OnErr result ⊥ }
-        ensures files { self.new.files ≡ self.old.files }
+        ensures failed { IsErr result ↔ Contains self.old.plan (raised self.old.calls 1) }
+        ensures fault { OnErr result (CountsFault name.now self.old self.new) }
+        ensures files { OnOk result (self.new.files ≡ self.old.files) }
         ensures other_faults { self.new.other_faults ≡ self.old.other_faults }
+        ensures plan { self.new.plan ≡ self.old.plan }
+        ensures calls { self.new.calls ≡ raised self.old.calls 1 }
     {
-        let Some(place) = self.started else {
-            unreachable!()
-        };
-        let count = copy_from(&self.files[place.file].bytes, place.at, room);
-        self.started = Some(Place {
-            file: place.file,
-            at: place.at + count,
-        });
-        self.taken = self.taken.saturating_add(count as u64);
-        Ok(count)
+        if self.plan.next_fails() {
+            return Err(self.fail(name));
+        }
+        Ok(self.take_next(room))
     }
 }
 

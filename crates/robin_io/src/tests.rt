@@ -43,6 +43,38 @@ fn a_small_room_keeps_a_prefix(rt: HostRuntime) -> Result<(), Fail> {
 }
 
 #[test]
+fn the_third_put_fails(rt: HostRuntime) -> Result<(), Fail> {
+    let mut sink = MemSink::new(rt.alloc(), 4096, 5)?;
+    sink.fail_at(3)?;
+    assert_eq!(rt; put_all(&mut sink, TEXT), Err(Failed));
+    assert_eq!(rt; sink.written(), b"seven byte".as_slice());
+    assert_eq!(rt; put_all(&mut sink, b"s"), Ok(()));
+    assert_eq!(rt; sink.written(), b"seven bytes".as_slice());
+    Ok(())
+}
+
+// A start, a take of all the bytes, and a take that finds the end.
+#[test]
+fn each_planned_call_fails(rt: HostRuntime) -> Result<(), Fail> {
+    let alloc = rt.alloc();
+    for call in 1..=3 {
+        let mut shelf = MemShelf::new(alloc);
+        shelf.add("a", TEXT)?;
+        shelf.fail_at(call)?;
+        let failed = read_all(alloc, &mut shelf, "a", TEXT.len());
+        assert_eq!(rt; failed.err(), Some(TakeFault::Failed), "at {call}");
+        let read = read_all(alloc, &mut shelf, "a", TEXT.len())?;
+        assert_eq!(rt; read.as_slice(), TEXT, "at {call}");
+    }
+    let mut shelf = MemShelf::new(alloc);
+    shelf.add("a", TEXT)?;
+    shelf.fail_at(4)?;
+    let read = read_all(alloc, &mut shelf, "a", TEXT.len())?;
+    assert_eq!(rt; read.as_slice(), TEXT);
+    Ok(())
+}
+
+#[test]
 fn decimals_are_read(rt: HostRuntime) {
     let cases: [(&[u8], Result<u64, NumberFault>); 8] = [
         (b"0", Ok(0)),

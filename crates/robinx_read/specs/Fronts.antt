@@ -1,5 +1,5 @@
 -- What stands at the front of bytes that are read.
-use Rattle.std.specs.Prelude.{◌≡◌, ℕ, ◌<◌, ◌++◌, map, Bool, true, ◌==◌, if◌then◌else◌, false, List, [], ◌∷◌, codes, decimal, Result, Ok, Err}
+use Rattle.std.specs.Prelude.{◌≡◌, ℕ, ◌<◌, ◌==◌, Bool, true, false, if◌then◌else◌, List, [], ◌∷◌, ◌++◌, map, codes, decimal, Result, Ok, Err}
 use Rattle.std.specs.List.{join_with_byte}
 use Rattle.std.specs.Str.{byte}
 use Rattle.std.specs.Char.{is_ascii_digit}

@@ -15,10 +15,11 @@ pub record IsSize (n : ℕ) : Type 0 where
 abbrev pub id_line : List ℕ → ℕ → List ℕ
 id_line name id = tag_line name (count "id" id ∷ [])
 
--- what stands before the game mode, and between it and the teams
+-- what stands before the game mode
 abbrev pub head_start : List ℕ
 head_start = codes "<?xml version=\"1.0\" encoding=\"UTF-8\"?>\n<Instance>\n<Structure>\n<Format leagueIds=\"0\">\n<numberRoundRobin>2</numberRoundRobin>\n<compactness>C</compactness>\n<gameMode>"
 
+-- what stands between the game mode and the teams
 abbrev pub head_end : List ℕ
 head_end = codes "</gameMode>\n</Format>\n</Structure>\n<Resources>\n<Teams>\n"
 

@@ -12,6 +12,8 @@ mod pieces;
 mod season;
 mod solution;
 mod stop;
+#[cfg(test)]
+mod tests;
 
 pub use fault::{FormFault, FormKind, ReadFault};
 pub use instance::read_instance;
