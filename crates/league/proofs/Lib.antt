@@ -11,3 +11,4 @@ pub mod StructureFacts
 pub mod ClassFacts
 pub mod AcceptedFacts
 pub mod SetLemmas
+pub mod OrderLemmas

@@ -3,6 +3,7 @@
 -- What a league and a schedule are:
 pub mod Sets
 pub mod Counts
+pub mod Order
 pub mod Instance
 pub mod Meetings
 pub mod Venues

@@ -52,6 +52,14 @@ impl<T: Item> Ascending<T> {
         }
     }
 
+    pub fn copy(&self) -> Result<Ascending<T>, AllocError>
+        ensures { IfOk result (λ copy. copy ≡ self.now) }
+    {
+        Ok(Ascending {
+            items: Vec::from_slice(*self.items.allocator(), &self.items)?,
+        })
+    }
+
     pub fn contains(&self, item: T) -> bool
         ensures { IsTrue result ↔ Contains self.now item }
     {

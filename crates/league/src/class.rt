@@ -1,10 +1,11 @@
 //! The nine classes of constraints of the International Timetabling Competition 2021, in the terms of RobinX.
-ghost use Rattle.std.specs.Prelude.{◌≡◌};
+ghost use Rattle.std.specs.Prelude.{◌≡◌, IfOk};
 ghost use Rattle.league.specs.Instance.{class_fits, are_teams, are_slots, are_meetings, is_one_side};
 
 use crate::pair_set::PairSet;
 use crate::slot_set::SlotSet;
 use crate::team_set::TeamSet;
+use std::alloc::AllocError;
 
 /// Where the games that a constraint counts are played: at home, away, or both.
 #[derive(Clone, Copy, Debug, PartialEq, Eq)]
@@ -89,6 +90,104 @@ pub enum Class {
     },
 }
 
+impl Class {
+    /// An equal class.
+    fn copy(&self) -> Result<Class, AllocError>
+        ensures { IfOk result (λ copy. copy ≡ self.now) }
+    {
+        match self {
+            Class::Ca1 {
+                teams,
+                max,
+                side,
+                slots,
+            } => Ok(Class::Ca1 {
+                teams: teams.copy()?,
+                max: *max,
+                side: *side,
+                slots: slots.copy()?,
+            }),
+            Class::Ca2 {
+                teams1,
+                teams2,
+                max,
+                side,
+                slots,
+            } => Ok(Class::Ca2 {
+                teams1: teams1.copy()?,
+                teams2: teams2.copy()?,
+                max: *max,
+                side: *side,
+                slots: slots.copy()?,
+            }),
+            Class::Ca3 {
+                teams1,
+                teams2,
+                max,
+                intp,
+                side,
+            } => Ok(Class::Ca3 {
+                teams1: teams1.copy()?,
+                teams2: teams2.copy()?,
+                max: *max,
+                intp: *intp,
+                side: *side,
+            }),
+            Class::Ca4 {
+                teams1,
+                teams2,
+                max,
+                side,
+                span,
+                slots,
+            } => Ok(Class::Ca4 {
+                teams1: teams1.copy()?,
+                teams2: teams2.copy()?,
+                max: *max,
+                side: *side,
+                span: *span,
+                slots: slots.copy()?,
+            }),
+            Class::Ga1 {
+                meetings,
+                min,
+                max,
+                slots,
+            } => Ok(Class::Ga1 {
+                meetings: meetings.copy()?,
+                min: *min,
+                max: *max,
+                slots: slots.copy()?,
+            }),
+            Class::Br1 {
+                teams,
+                intp,
+                side,
+                slots,
+            } => Ok(Class::Br1 {
+                teams: teams.copy()?,
+                intp: *intp,
+                side: *side,
+                slots: slots.copy()?,
+            }),
+            Class::Br2 { teams, intp, slots } => Ok(Class::Br2 {
+                teams: teams.copy()?,
+                intp: *intp,
+                slots: slots.copy()?,
+            }),
+            Class::Fa2 { teams, intp, slots } => Ok(Class::Fa2 {
+                teams: teams.copy()?,
+                intp: *intp,
+                slots: slots.copy()?,
+            }),
+            Class::Se1 { teams, min } => Ok(Class::Se1 {
+                teams: teams.copy()?,
+                min: *min,
+            }),
+        }
+    }
+}
+
 /// A constraint of a league: hard or soft, with the penalty for each unit of its deviation.
 #[derive(Drop)]
 pub struct Constraint {
@@ -138,5 +237,19 @@ impl Constraint {
             | Class::Fa2 { teams, slots, .. } => teams.are_below(n) && slots.are_in_season(n),
             Class::Se1 { teams, .. } => teams.are_below(n),
         }
+    }
+
+    /// An equal constraint, with sets of its own. Their memory is from where this one's is.
+    ///
+    /// # Errors
+    /// Only where memory runs out.
+    pub fn copy(&self) -> Result<Constraint, AllocError>
+        ensures { IfOk result (λ copy. copy ≡ self.now) }
+    {
+        Ok(Constraint {
+            hard: self.hard,
+            penalty: self.penalty,
+            class: self.class.copy()?,
+        })
     }
 }

@@ -1,9 +1,10 @@
 //! A league: what an instance file says.
-ghost use Rattle.std.specs.Prelude.{◌≡◌, ◌≤◌, ◌%◌, length, IsTrue};
+ghost use Rattle.std.specs.Prelude.{◌≡◌, ◌≤◌, ◌%◌, length, IfOk, IsTrue};
 ghost use Rattle.std.specs.List.{All};
 ghost use Rattle.league.specs.Instance.{IsInstance, class_fits};
 
 use crate::class::Constraint;
+use std::alloc::AllocError;
 use std::marker::Model;
 
 /// A compact double round robin of n teams, perhaps phased, with constraints in file order.
@@ -61,5 +62,26 @@ impl League {
         ensures { result.now ≡ self.now.constraints }
     {
         &self.constraints
+    }
+
+    /// An equal league, with constraints of its own. Their memory is from where this one's is.
+    ///
+    /// # Errors
+    /// Only where memory runs out.
+    pub fn copy(&self) -> Result<League, AllocError>
+        ensures { IfOk result (λ copy. copy ≡ self.now) }
+    {
+        let mut constraints = Vec::with_capacity(
+            *self.constraints.allocator(),
+            self.constraints.len(),
+        )?;
+        for constraint in &self.constraints {
+            constraints.push(constraint.copy()?)?;
+        }
+        Ok(League {
+            n: self.n,
+            phased: self.phased,
+            constraints,
+        })
     }
 }

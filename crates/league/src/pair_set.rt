@@ -84,6 +84,15 @@ impl PairSet {
         self.numbers.items()
     }
 
+    /// An equal set.
+    pub(crate) fn copy(&self) -> Result<PairSet, AllocError>
+        ensures { IfOk result (λ copy. copy ≡ self.now) }
+    {
+        Ok(PairSet {
+            numbers: self.numbers.copy()?,
+        })
+    }
+
     /// Whether each is a meeting of two different teams of a league of n teams.
     pub(crate) fn are_meetings(&self, n: u16) -> bool
         ensures { result ≡ are_meetings n self.now }

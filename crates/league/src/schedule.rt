@@ -1,5 +1,7 @@
 //! A schedule: a list of games in any order, which may hold a game more than once.
 ghost use Rattle.std.specs.Prelude.{◌≡◌, ◌<◌, ◌++◌, ◌==◌, [], ◌∷◌, length, slice_get, Some, OnOk, OnErr};
+ghost use Rattle.std.specs.List.Sorted.{IsPermutation};
+ghost use Rattle.league.specs.Order.{IsInOrder};
 
 use crate::game::Game;
 use std::alloc::{AllocError, Global};
@@ -40,6 +42,16 @@ impl Schedule {
     {
         self.games.push(game)?;
         Ok(())
+    }
+
+    /// Sorts the games by slot, then by home team, then by away team. A game that is there twice stays there twice. It
+    /// takes no memory.
+    pub fn put_in_order(&mut self)
+        ensures permutation { IsPermutation self.old self.new }
+        ensures in_order { IsInOrder self.new }
+    {
+        self.games
+            .sort_unstable_by_key(|game| (game.slot.0, game.home.0, game.away.0));
     }
 
     /// The number of games.

@@ -84,6 +84,15 @@ impl SlotSet {
         self.numbers.items()
     }
 
+    /// An equal set.
+    pub(crate) fn copy(&self) -> Result<SlotSet, AllocError>
+        ensures { IfOk result (λ copy. copy ≡ self.now) }
+    {
+        Ok(SlotSet {
+            numbers: self.numbers.copy()?,
+        })
+    }
+
     /// Whether each is a slot of the season of n teams.
     pub(crate) fn are_in_season(&self, n: u16) -> bool
         ensures { result ≡ are_slots n self.now }

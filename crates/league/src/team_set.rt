@@ -84,6 +84,15 @@ impl TeamSet {
         self.numbers.items()
     }
 
+    /// An equal set.
+    pub(crate) fn copy(&self) -> Result<TeamSet, AllocError>
+        ensures { IfOk result (λ copy. copy ≡ self.now) }
+    {
+        Ok(TeamSet {
+            numbers: self.numbers.copy()?,
+        })
+    }
+
     /// Whether each is a team of a league of n teams.
     pub(crate) fn are_below(&self, n: u16) -> bool
         ensures { result ≡ are_teams n self.now }

@@ -1,0 +1,5 @@
+mod PieceFacts
+pub mod SearchLemmas
+pub mod AttributeLemmas
+pub mod TextLemmas
+pub mod PieceLemmas

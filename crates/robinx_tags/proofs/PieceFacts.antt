@@ -1,0 +1,194 @@
+-- Worked examples, so that a wrong definition of the pieces does not check.
+use Rattle.std.proofs.Common.{◌≡◌, ℕ, ◌+◌, ◌/◌, ◌%◌, Bool, true, false, List, [], ◌∷◌, ◌++◌, map, take, refl}
+use Rattle.std.specs.List.{flat_map, list_all, range_with_len}
+use Rattle.std.specs.Prelude.{codes, ◌==◌}
+use Rattle.robinx_tags.specs.Tags.{Attribute, attributes_at}
+use Rattle.robinx_tags.specs.Pieces.{Piece, Pieces, Last, none_but, onto, Ends, Faulty, pieces, pieces_from}
+use Rattle.robinx_tags.specs.declared.fault.FormKind.TheVariants.{BadTag, BadAttribute, RepeatedAttribute, TooManyAttributes, Truncated}
+use Rattle.robinx_tags.specs.declared.tag.TagKind.{TagKind}
+use Rattle.robinx_tags.specs.declared.tag.TagKind.TheVariants.{Start, End, Empty, Text}
+
+abbrev tag : TagKind → List ℕ → List Attribute → ℕ → Piece
+tag kind name attributes line = record { kind = kind; name = name; attributes = attributes; text = []; line = line }
+
+abbrev text : List ℕ → ℕ → Piece
+text bytes line = record { kind = Text; name = []; attributes = []; text = bytes; line = line }
+
+abbrev is_truncated : Last → ℕ → Bool
+is_truncated (Faulty Truncated line) at = line == at
+is_truncated last at = false
+
+abbrev is_cut : ℕ → Pieces → Bool
+is_cut at pieces = is_truncated pieces.last at
+
+abbrev attribute : List ℕ → List ℕ → Attribute
+attribute name value = record { name = name; value = value }
+
+pub pieces-empty : pieces [] ≡ none_but (Ends 1)
+unfolding attributes_at pieces_from
+pieces-empty = refl
+
+-- a byte order mark is passed over
+pub pieces-mark : pieces (239 ∷ 187 ∷ 191 ∷ codes "<a/>") ≡ onto (tag Empty (codes "a") [] 1) (none_but (Ends 1))
+unfolding attributes_at pieces_from
+pieces-mark = refl
+
+-- a comment ends at the first end that begins after its own four bytes
+pub pieces-comment : pieces (codes "<!-->-->x") ≡ onto (text (codes "x") 1) (none_but (Ends 1))
+unfolding attributes_at pieces_from
+pieces-comment = refl
+
+pub pieces-comment_open : pieces (codes "\n<!-->") ≡ onto (text (codes "\n") 1) (none_but (Faulty Truncated 2))
+unfolding attributes_at pieces_from
+pieces-comment_open = refl
+
+pub pieces-reserved : pieces (codes "<!-") ≡ none_but (Faulty BadTag 1)
+unfolding attributes_at pieces_from
+pieces-reserved = refl
+
+pub pieces-doctype : pieces (codes "<!DOCTYPE") ≡ none_but (Faulty BadTag 1)
+unfolding attributes_at pieces_from
+pieces-doctype = refl
+
+pub pieces-declaration : pieces (codes "<?a?><?>") ≡ none_but (Faulty Truncated 1)
+unfolding attributes_at pieces_from
+pieces-declaration = refl
+
+-- a tag over two lines counts on its first
+pub pieces-lines : pieces (codes "<a\n b = '1\n'></a\n>\n") ≡ onto (tag Start (codes "a") (attribute (codes "b") (codes "1\n") ∷ []) 1) (onto (tag End (codes "a") [] 3) (onto (text (codes "\n") 4) (none_but (Ends 5))))
+unfolding attributes_at pieces_from
+pieces-lines = refl
+
+-- an attribute wants white bytes before it
+pub pieces-no_white : pieces (codes "<a b=\"1\"c=\"2\">") ≡ none_but (Faulty BadTag 1)
+unfolding attributes_at pieces_from
+pieces-no_white = refl
+
+pub pieces-repeated : pieces (codes "<a b='1' b='2'") ≡ none_but (Faulty RepeatedAttribute 1)
+unfolding attributes_at pieces_from
+pieces-repeated = refl
+
+-- the quote has to close first
+pub pieces-repeated_open : pieces (codes "<a b='1' b='2") ≡ none_but (Faulty Truncated 1)
+unfolding attributes_at pieces_from
+pieces-repeated_open = refl
+
+pub pieces-less_in_value : pieces (codes "<a b='<'>") ≡ none_but (Faulty BadAttribute 1)
+unfolding attributes_at pieces_from
+pieces-less_in_value = refl
+
+pub pieces-no_equals : pieces (codes "<a b>") ≡ none_but (Faulty BadAttribute 1)
+unfolding attributes_at pieces_from
+pieces-no_equals = refl
+
+pub pieces-cut : pieces (codes "<a b") ≡ none_but (Faulty Truncated 1)
+unfolding attributes_at pieces_from
+pieces-cut = refl
+
+pub pieces-slash : pieces (codes "<a/ >") ≡ none_but (Faulty BadTag 1)
+unfolding attributes_at pieces_from
+pieces-slash = refl
+
+pub pieces-digit : pieces (codes "</1>") ≡ none_but (Faulty BadTag 1)
+unfolding attributes_at pieces_from
+pieces-digit = refl
+
+pub pieces-comment_closed : pieces (codes "<!-- -->") ≡ none_but (Ends 1)
+unfolding attributes_at pieces_from
+pieces-comment_closed = refl
+
+pub pieces-declaration_closed : pieces (codes "<?x?>") ≡ none_but (Ends 1)
+unfolding attributes_at pieces_from
+pieces-declaration_closed = refl
+
+pub pieces-reserved_end : pieces (codes "<!") ≡ none_but (Faulty BadTag 1)
+unfolding attributes_at pieces_from
+pieces-reserved_end = refl
+
+pub pieces-comment_cut : pieces (codes "<!--") ≡ none_but (Faulty Truncated 1)
+unfolding attributes_at pieces_from
+pieces-comment_cut = refl
+
+pub pieces-declaration_cut : pieces (codes "<?") ≡ none_but (Faulty Truncated 1)
+unfolding attributes_at pieces_from
+pieces-declaration_cut = refl
+
+pub pieces-less_end : pieces (codes "<") ≡ none_but (Faulty Truncated 1)
+unfolding attributes_at pieces_from
+pieces-less_end = refl
+
+-- white bytes may stand behind an end tag's name, not before it
+pub pieces-end_space : pieces (codes "</ a>") ≡ none_but (Faulty BadTag 1)
+unfolding attributes_at pieces_from
+pieces-end_space = refl
+
+pub pieces-end_attribute : pieces (codes "</a b>") ≡ none_but (Faulty BadTag 1)
+unfolding attributes_at pieces_from
+pieces-end_attribute = refl
+
+pub pieces-end : pieces (codes "</a\t >") ≡ onto (tag End (codes "a") [] 1) (none_but (Ends 1))
+unfolding attributes_at pieces_from
+pieces-end = refl
+
+pub pieces-quotes : pieces (codes "<a b = \"1\" c='2'/>") ≡ onto (tag Empty (codes "a") (attribute (codes "b") (codes "1") ∷ attribute (codes "c") (codes "2") ∷ []) 1) (none_but (Ends 1))
+unfolding attributes_at pieces_from
+pieces-quotes = refl
+
+pub pieces-no_quote : pieces (codes "<a b=1>") ≡ none_but (Faulty BadAttribute 1)
+unfolding attributes_at pieces_from
+pieces-no_quote = refl
+
+-- the other quote is a byte of the value
+pub pieces-other_quote : pieces (codes "<a b='\"'>") ≡ onto (tag Start (codes "a") (attribute (codes "b") (codes "\"") ∷ []) 1) (none_but (Ends 1))
+unfolding attributes_at pieces_from
+pieces-other_quote = refl
+
+-- an ampersand is a byte like others
+pub pieces-ampersand : pieces (codes "&amp;<a b='&'/>") ≡ onto (text (codes "&amp;") 1) (onto (tag Empty (codes "a") (attribute (codes "b") (codes "&") ∷ []) 1) (none_but (Ends 1)))
+unfolding attributes_at pieces_from
+pieces-ampersand = refl
+
+-- bytes from 128 up are name bytes and name starts
+pub pieces-high : pieces (60 ∷ 195 ∷ 164 ∷ codes "/>") ≡ onto (tag Empty (195 ∷ 164 ∷ []) [] 1) (none_but (Ends 1))
+unfolding attributes_at pieces_from
+pieces-high = refl
+
+-- a comment's lines count
+pub pieces-comment_lines : pieces (codes "<!--\n\n--><a/>") ≡ onto (tag Empty (codes "a") [] 3) (none_but (Ends 3))
+unfolding attributes_at pieces_from
+pieces-comment_lines = refl
+
+-- a fault stands on the line of the tag's first byte
+pub pieces-fault_line : pieces (codes "\n\n<a\n b\n/>") ≡ onto (text (codes "\n\n") 1) (none_but (Faulty BadAttribute 3))
+unfolding attributes_at pieces_from
+pieces-fault_line = refl
+
+-- a name of two letters for each number below 100
+abbrev name_of : ℕ → List ℕ
+name_of n = (97 + n / 10) ∷ (97 + n % 10) ∷ []
+
+-- `a` with so many attributes after it
+abbrev many : ℕ → List ℕ
+many n = codes "<a" ++ flat_map (λ k. codes " " ++ name_of k ++ codes "=\"\"") (range_with_len 0 n) ++ codes "/>"
+
+pub pieces-64 : pieces (many 64) ≡ onto (tag Empty (codes "a") (map (λ k. attribute (name_of k) []) (range_with_len 0 64)) 1) (none_but (Ends 1))
+unfolding attributes_at pieces_from
+pieces-64 = refl
+
+pub pieces-65 : pieces (many 65) ≡ none_but (Faulty TooManyAttributes 1)
+unfolding attributes_at pieces_from
+pieces-65 = refl
+
+-- the 65th begins before its own faults
+pub pieces-65_faulty : pieces (codes "<a" ++ flat_map (λ k. codes " " ++ name_of k ++ codes "=\"\"") (range_with_len 0 64) ++ codes " b>") ≡ none_but (Faulty TooManyAttributes 1)
+unfolding attributes_at pieces_from
+pieces-65_faulty = refl
+
+-- a tag that is cut at any byte is cut on the line of its first
+pub pieces-cut_anywhere : list_all (λ k. is_cut 2 (pieces (take k (codes "\n<a b = '1'\n c=\"\" />")))) (range_with_len 2 18) ≡ true
+unfolding attributes_at pieces_from
+pieces-cut_anywhere = refl
+
+pub pieces-comment_cut_anywhere : list_all (λ k. is_cut 1 (pieces (take k (codes "<!-- -->")))) (range_with_len 4 4) ≡ true
+unfolding attributes_at pieces_from
+pieces-comment_cut_anywhere = refl

@@ -1,0 +1,97 @@
+-- The pieces from a place on, piece by piece, and the line of their end.
+use Rattle.std.proofs.Common.{◌≡◌, ℕ, zero, suc, ◌+◌, ◌-◌, ◌<◌, ◌==◌, Bool, true, false, List, [], ◌∷◌, length, take, drop, count_by, cond, Option, Some, None, Ok, Err, add-zero, refl, sym, ap, ◌∙◌, arith}
+use Rattle.std.proofs.lemmas.List.Sums.{sum_by-cons}
+use Rattle.robinx_tags.specs.Bytes.{line_feed}
+use Rattle.robinx_tags.specs.Pieces.{Piece, Pieces, Found, Ends, Faulty, none_but, with_piece, go_on, line_after, piece_at, pieces_from}
+use Rattle.robinx_tags.specs.Seen.{Stops, attribute_count}
+use Rattle.robinx_tags.specs.Faults.{fault_on}
+use Rattle.robinx_tags.specs.Next.{MayWantMemory, Steps, MovesOn, GivesNext}
+use Rattle.robinx_tags.specs.Tags.{without_memory}
+use Rattle.std.specs.Prelude.{IfOk}
+use Rattle.robinx_tags.specs.declared.fault.FormKind.{FormKind}
+use Rattle.std.specs.Borrow.{Bor}
+use Rattle.robinx_tags.specs.declared.tag.Tag.{Tag}
+use Rattle.robinx_tags.specs.declared.fault.Stop.{Stop}
+use Rattle.robinx_tags.specs.declared.fault.Stop.TheVariants as stops
+
+-- how many lines end in these bytes
+abbrev pub line_ends : List ℕ → ℕ
+line_ends bytes = count_by (λ b. b == line_feed) bytes
+
+line_by_test : (ends_line : Bool) (line others : ℕ) → cond ends_line (line + 1) line + others ≡ line + (cond ends_line 1 0 + others)
+line_by_test true line others = omega arith
+line_by_test false line others = omega arith
+
+line_after-then : (line b : ℕ) (bytes : List ℕ) → line_after line b + line_ends bytes ≡ line + line_ends (b ∷ bytes)
+line_after-then line b bytes = line_by_test (b == line_feed) line (line_ends bytes) ∙ ap (λ n. line + n) (sym (sum_by-cons (λ x. cond (x == line_feed) 1 0) b bytes))
+
+-- the line is carried over the bytes that belong to what began before
+pub pieces_from-inside : (line inside : ℕ) (bytes : List ℕ) → pieces_from line inside bytes ≡ pieces_from (line + line_ends (take inside bytes)) 0 (drop inside bytes)
+unfolding pieces_from
+pieces_from-inside line zero [] = ap (λ at. pieces_from at 0 []) (sym (add-zero line))
+pieces_from-inside line zero (b ∷ bytes) = ap (λ at. pieces_from at 0 (b ∷ bytes)) (sym (add-zero line))
+pieces_from-inside line (suc inside) [] = ap (λ at. pieces_from at 0 []) (sym (add-zero line))
+pieces_from-inside line (suc inside) (b ∷ bytes) =
+    pieces_from-inside (line_after line b) inside bytes
+    ∙ ap (λ at. pieces_from at 0 (drop inside bytes)) (line_after-then line b (take inside bytes))
+
+pub pieces_from-end : (line : ℕ) (bytes : List ℕ) → length bytes ≡ 0 → pieces_from line 0 bytes ≡ none_but (Ends line)
+unfolding pieces_from
+pieces_from-end line [] none = refl
+pieces_from-end line (b ∷ bytes) none = absurd (omega arith)
+
+pub pieces_from-fault : (line : ℕ) (bytes : List ℕ) (kind : FormKind) → 0 < length bytes → piece_at line bytes ≡ Err kind → pieces_from line 0 bytes ≡ none_but (Faulty kind line)
+unfolding pieces_from
+pieces_from-fault line [] kind some is = absurd (omega arith)
+pieces_from-fault line (b ∷ bytes) kind some is = rw is refl
+
+pub pieces_from-found : (line : ℕ) (bytes rest : List ℕ) (found : Option Piece) (passed : ℕ) → 0 < length bytes → passed ≡ 1 + (length bytes - 1 - length rest) → piece_at line bytes ≡ Ok (found, rest)
+    → pieces_from line 0 bytes ≡ with_piece found (pieces_from (line + line_ends (take passed bytes)) 0 (drop passed bytes))
+unfolding pieces_from
+pieces_from-found line [] rest found passed some is e = absurd (omega arith)
+pieces_from-found line (b ∷ bytes) rest found passed some is e =
+    let inside : passed ≡ suc (length bytes - length rest) = omega arith in
+    let on = pieces_from-inside (line_after line b) (length bytes - length rest) bytes
+    ∙ ap (λ at. pieces_from at 0 (drop (length bytes - length rest) bytes)) (line_after-then line b (take (length bytes - length rest) bytes)) in
+    rw (e, inside) (ap (with_piece found) on)
+
+Ends-line : (line at : ℕ) → Ends line ≡ Ends at → at ≡ line
+Ends-line line at is = cc
+
+-- what follows at an end follows from the end of what is left
+go_on-last : (line at : ℕ) (read : Found) (others : List ℕ → Pieces) (P : Type 0) → ((rest : List ℕ) → (others rest).last ≡ Ends at → P) → (go_on line read others).last ≡ Ends at → P
+go_on-last line at (Err kind) others P further is = absurd cc
+go_on-last line at (Ok (None, rest)) others P further is = further rest is
+go_on-last line at (Ok (Some piece, rest)) others P further is = further rest is
+
+-- where the file ends, its line is behind all the bytes
+pub pieces_from-last : (line inside : ℕ) (bytes : List ℕ) (at : ℕ) → (pieces_from line inside bytes).last ≡ Ends at → at ≡ line + line_ends bytes
+unfolding pieces_from
+pieces_from-last line zero [] at is = Ends-line _ _ is ∙ sym (add-zero line)
+pieces_from-last line (suc inside) [] at is = Ends-line _ _ is ∙ sym (add-zero line)
+pieces_from-last line (suc inside) (b ∷ bytes) at is = pieces_from-last (line_after line b) inside bytes at is ∙ line_after-then line b bytes
+pieces_from-last line zero (b ∷ bytes) at is =
+    let further = λ (rest : List ℕ) (on : (pieces_from (line_after line b) (length bytes - length rest) bytes).last ≡ Ends at).
+    pieces_from-last (line_after line b) (length bytes - length rest) bytes at on ∙ line_after-then line b bytes in
+    go_on-last line at (piece_at line (b ∷ bytes)) (λ rest. pieces_from (line_after line b) (length bytes - length rest) bytes) (at ≡ line + line_ends (b ∷ bytes)) further is
+
+-- memory may be wanted where it is by what stands here
+wants : (others : List ℕ → Pieces) (line : ℕ) (read : Found) → IfOk read (λ found. without_memory < attribute_count found.0) → MayWantMemory (go_on line read others)
+wants others line (Err kind) h = tt
+wants others line (Ok (None, rest)) h = absurd (omega arith)
+wants others line (Ok (Some piece, rest)) h = h
+
+pub pieces_from-memory : (line : ℕ) (bytes : List ℕ) → 0 < length bytes → IfOk (piece_at line bytes) (λ found. without_memory < attribute_count found.0) → MayWantMemory (pieces_from line 0 bytes)
+unfolding pieces_from
+pieces_from-memory line [] some h = absurd (omega arith)
+pieces_from-memory line (b ∷ bytes) some h = wants (λ rest. pieces_from (line_after line b) (length bytes - length rest) bytes) line (piece_at line (b ∷ bytes)) h
+
+pub Steps-fault : (line : ℕ) (bytes : List ℕ) (stop : Stop) → 0 < length bytes → Stops (λ found. attribute_count found.0) stop (piece_at line bytes) → Steps (pieces_from line 0 bytes) (Err (fault_on line stop))
+Steps-fault line bytes (stops.Form kind) some is = pieces_from-fault line bytes kind some is
+Steps-fault line bytes stops.Mem some is = pieces_from-memory line bytes some is
+
+-- a way to the next piece is what the reader answers
+pub GivesNext-moved : (before left : Pieces) (tag : Option Tag) (line : ℕ) (rest : Bor (List ℕ)) → left ≡ before → MovesOn left (Ok (tag, line, rest)) → GivesNext before (Ok tag) (pieces_from line 0 rest.now)
+unfolding pieces_from
+GivesNext-moved before left (Some tag) line rest same moved = sym same ∙ moved
+GivesNext-moved before left None line rest same moved = rw moved.0 (sym moved.1 ∙ same, (line, sym same ∙ moved.1))

@@ -1,0 +1,87 @@
+// The bytes that tags are made of, and how far runs of them go.
+ghost use Rattle.std.specs.Prelude.{◌≡◌, ◌+◌, ◌==◌, ◌||◌, ◌<◌, ◌≤◌, ◌^◌, not, length, count_by};
+ghost use Rattle.std.specs.List.{position_or_len};
+ghost use Rattle.std.specs.Str.{byte};
+ghost use Rattle.robinx_tags.specs.Bytes as letters;
+ghost use Rattle.robinx_tags.specs.Fronts as fronts;
+
+use memchr::{memchr, memchr_iter, memchr2};
+
+fn is_white(byte: u8) -> bool
+    ensures { result ≡ letters.is_white byte }
+{
+    matches!(byte, b' ' | b'\t' | b'\r' | b'\n')
+}
+
+fn is_name_byte(byte: u8) -> bool
+    ensures { result ≡ letters.is_name_byte byte }
+{
+    byte.is_ascii_alphanumeric() || matches!(byte, b'_' | b'-' | b'.' | b':') || byte >= 128
+}
+
+pub(crate) fn is_name_start(byte: u8) -> bool
+    ensures { result ≡ letters.is_name_start byte }
+{
+    is_name_byte(byte) && !(byte.is_ascii_digit() || matches!(byte, b'-' | b'.' | b':'))
+}
+
+/// Whether the next byte is white.
+pub(crate) fn starts_white(bytes: &[u8]) -> bool
+    ensures { result ≡ fronts.starts_white bytes.now }
+{
+    match bytes {
+        [first, ..] => is_white(*first),
+        [] => false,
+    }
+}
+
+#[tactic(auto, using(std::proofs::lemmas::List::Sums::position_or_len_is))]
+pub(crate) fn white_len(bytes: &[u8]) -> usize
+    ensures value { result ≡ position_or_len (λ b. not (letters.is_white b)) bytes.now }
+    ensures within { result ≤ length bytes.now }
+{
+    let mut len = 0;
+    while len < bytes.len() && is_white(bytes[len]) {
+        len += 1;
+    }
+    len
+}
+
+#[tactic(auto, using(std::proofs::lemmas::List::Sums::position_or_len_is))]
+pub(crate) fn name_len(bytes: &[u8]) -> usize
+    ensures value { result ≡ position_or_len (λ b. not (letters.is_name_byte b)) bytes.now }
+    ensures within { result ≤ length bytes.now }
+{
+    let mut len = 0;
+    while len < bytes.len() && is_name_byte(bytes[len]) {
+        len += 1;
+    }
+    len
+}
+
+/// How many bytes stand before the quote or a `<`.
+#[tactic(auto, using(crate::proofs::SearchLemmas::first_or_len, crate::proofs::SearchLemmas::found_within))]
+pub(crate) fn value_len(quote: u8, bytes: &[u8]) -> usize
+    ensures value { result ≡ position_or_len (λ b. b == quote || b == byte "<") bytes.now }
+    ensures within { result ≤ length bytes.now }
+{
+    memchr2(quote, b'<', bytes).unwrap_or(bytes.len())
+}
+
+/// How many bytes stand before a `<`.
+#[tactic(auto, using(crate::proofs::SearchLemmas::first_or_len, crate::proofs::SearchLemmas::found_within))]
+pub(crate) fn text_len(bytes: &[u8]) -> usize
+    ensures value { result ≡ position_or_len (λ b. b == byte "<") bytes.now }
+    ensures within { result ≤ length bytes.now }
+{
+    memchr(b'<', bytes).unwrap_or(bytes.len())
+}
+
+/// The line behind these bytes, where they begin on this line.
+#[tactic(auto, using(crate::proofs::SearchLemmas::length_places))]
+pub(crate) fn line_past(line: u32, bytes: &[u8]) -> u32
+    requires { line + length bytes.now < 2 ^ 32 }
+    ensures { result ≡ line + count_by (λ b. b == letters.line_feed) bytes.now }
+{
+    line + memchr_iter(b'\n', bytes).count() as u32
+}

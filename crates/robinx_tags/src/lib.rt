@@ -1,0 +1,23 @@
+//! The pieces of a RobinX file: its tags and texts from front to back, each with its line, up to the first fault.
+//!
+//! A contract sees a reader by the pieces that it has left. `specs/Pieces.antt` defines the pieces of a file.
+#![tactic(auto)]
+
+mod attribute;
+mod fault;
+mod fronts;
+mod letters;
+mod opening;
+mod piece;
+mod reader;
+mod reading;
+mod tag;
+mod turn;
+
+pub use attribute::{Attr, Attrs};
+pub use fault::{FormKind, TagFault};
+pub use reader::TagReader;
+pub use tag::{Tag, TagKind};
+
+#[cfg(test)]
+mod tests;
