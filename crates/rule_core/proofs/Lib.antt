@@ -1,0 +1,4 @@
+pub mod GameLemmas
+pub mod PlaceLemmas
+pub mod RowLemmas
+pub mod TableLemmas

@@ -1,0 +1,9 @@
+-- Read in this order.
+--
+-- What contracts see:
+pub mod Rows
+pub mod Table
+pub mod Keys
+pub mod Places
+-- What the tables of the counts keep:
+pub mod Tables
