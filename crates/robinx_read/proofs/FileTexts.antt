@@ -1,7 +1,7 @@
 -- Whole files, line by line.
 use Prim.Native.String.{String}
-use Rattle.std.proofs.Common.{ℕ, List, [], ◌∷◌, ◌++◌}
-use Rattle.std.specs.Prelude.{codes}
+use Rattle.std.proofs.Common.{ℕ, List, [], ◌∷◌, ◌++◌, map, if◌then◌else◌}
+use Rattle.std.specs.Prelude.{codes, ◌==◌}
 
 -- the lines, each with its end
 abbrev text : List String → List ℕ
@@ -200,3 +200,261 @@ scored = text (
     ∷ "</Games>"
     ∷ "</Solution>"
     ∷ [])
+
+-- a league of four teams with constraints, and much that is passed over
+abbrev pub f4 : List ℕ
+f4 = text (
+    "<?xml version=\"1.0\" encoding=\"UTF-8\" standalone=\"no\" ?>"
+    ∷ "<!-- a league of four -->"
+    ∷ "<Instance>"
+    ∷ "<MetaData>"
+    ∷ "<InstanceName>Four &amp; more</InstanceName>"
+    ∷ "<Date day=\"15\" month=\"10\" year=\"2020\"/>"
+    ∷ "</MetaData>"
+    ∷ "<Structure>"
+    ∷ "<Format leagueIds=\"0\">"
+    ∷ "<numberRoundRobin>2</numberRoundRobin>"
+    ∷ "<compactness>C</compactness>"
+    ∷ "<gameMode>P</gameMode>"
+    ∷ "</Format>"
+    ∷ "<AdditionalGames/>"
+    ∷ "</Structure>"
+    ∷ "<ObjectiveFunction>"
+    ∷ "<Objective>SC</Objective>"
+    ∷ "</ObjectiveFunction>"
+    ∷ "<Data/>"
+    ∷ "<Resources>"
+    ∷ "<Teams>"
+    ∷ "<team id=\"0\" league=\"0\" name=\"North\"/>"
+    ∷ "<team id=\"1\" league=\"0\" name=\"East\"/>"
+    ∷ "<team id=\"2\" league=\"0\" name=\"South\"/>"
+    ∷ "<team id=\"3\" league=\"0\" name=\"West\"/>"
+    ∷ "</Teams>"
+    ∷ "<Slots>"
+    ∷ "<slot id=\"0\" name=\"Slot 0\"/>"
+    ∷ "<slot id=\"1\" name=\"Slot 1\"/>"
+    ∷ "<slot id=\"2\" name=\"Slot 2\"/>"
+    ∷ "<slot id=\"3\" name=\"Slot 3\"/>"
+    ∷ "<slot id=\"4\" name=\"Slot 4\"/>"
+    ∷ "<slot id=\"5\" name=\"Slot 5\"/>"
+    ∷ "</Slots>"
+    ∷ "</Resources>"
+    ∷ "<Constraints>"
+    ∷ "<BasicConstraints/>"
+    ∷ "<CapacityConstraints>"
+    ∷ "<CA1 max=\"0\" min=\"0\" mode=\"H\" penalty=\"10\" slots=\"2;3\" teams=\"0\" type=\"SOFT\"/>"
+    ∷ "</CapacityConstraints>"
+    ∷ "<GameConstraints/>"
+    ∷ "<BreakConstraints/>"
+    ∷ "<FairnessConstraints>"
+    ∷ "<FA2 intp=\"1\" mode=\"H\" penalty=\"10\" slots=\"0;1;2;3;4;5\" teams=\"0;1;2;3\" type=\"SOFT\"/>"
+    ∷ "</FairnessConstraints>"
+    ∷ "<SeparationConstraints>"
+    ∷ "<SE1 min=\"2\" mode1=\"SLOTS\" penalty=\"10\" teams=\"0;1;2;3\" type=\"HARD\"/>"
+    ∷ "</SeparationConstraints>"
+    ∷ "</Constraints>"
+    ∷ "</Instance>"
+    ∷ []
+)
+
+-- the phased league of four teams with the other quotes
+abbrev pub single_quotes : List ℕ
+single_quotes = map (λ b. if b == 34 then 39 else b) i4
+
+-- it cut within a tag
+abbrev pub cut_in_tag : List ℕ
+cut_in_tag = text (
+    "<?xml version=\"1.0\" encoding=\"UTF-8\"?>"
+    ∷ "<Instance>"
+    ∷ "<Structure>"
+    ∷ "<Format leagueIds=\"0\">"
+    ∷ "<numberRoundRobin>2</numberRoundRobin>"
+    ∷ "<compactness>C</compactness>"
+    ∷ "<gameMode>P</gameMode>"
+    ∷ "</Format>"
+    ∷ "</Structure>"
+    ∷ "<Resources>"
+    ∷ "<Teams>"
+    ∷ "<team id=\"0\"/>"
+    ∷ "<team id=\"1\"/>"
+    ∷ []
+) ++ codes "<team id=\"2"
+
+-- it cut behind a line
+abbrev pub cut_after_20 : List ℕ
+cut_after_20 = text (
+    "<?xml version=\"1.0\" encoding=\"UTF-8\"?>"
+    ∷ "<Instance>"
+    ∷ "<Structure>"
+    ∷ "<Format leagueIds=\"0\">"
+    ∷ "<numberRoundRobin>2</numberRoundRobin>"
+    ∷ "<compactness>C</compactness>"
+    ∷ "<gameMode>P</gameMode>"
+    ∷ "</Format>"
+    ∷ "</Structure>"
+    ∷ "<Resources>"
+    ∷ "<Teams>"
+    ∷ "<team id=\"0\"/>"
+    ∷ "<team id=\"1\"/>"
+    ∷ "<team id=\"2\"/>"
+    ∷ "<team id=\"3\"/>"
+    ∷ "</Teams>"
+    ∷ "<Slots>"
+    ∷ "<slot id=\"0\"/>"
+    ∷ "<slot id=\"1\"/>"
+    ∷ "<slot id=\"2\"/>"
+    ∷ []
+)
+
+-- it without a team
+abbrev pub three_teams : List ℕ
+three_teams = text (
+    "<?xml version=\"1.0\" encoding=\"UTF-8\"?>"
+    ∷ "<Instance>"
+    ∷ "<Structure>"
+    ∷ "<Format leagueIds=\"0\">"
+    ∷ "<numberRoundRobin>2</numberRoundRobin>"
+    ∷ "<compactness>C</compactness>"
+    ∷ "<gameMode>P</gameMode>"
+    ∷ "</Format>"
+    ∷ "</Structure>"
+    ∷ "<Resources>"
+    ∷ "<Teams>"
+    ∷ "<team id=\"0\"/>"
+    ∷ "<team id=\"1\"/>"
+    ∷ "<team id=\"2\"/>"
+    ∷ "</Teams>"
+    ∷ "<Slots>"
+    ∷ "<slot id=\"0\"/>"
+    ∷ "<slot id=\"1\"/>"
+    ∷ "<slot id=\"2\"/>"
+    ∷ "<slot id=\"3\"/>"
+    ∷ "<slot id=\"4\"/>"
+    ∷ "<slot id=\"5\"/>"
+    ∷ "</Slots>"
+    ∷ "</Resources>"
+    ∷ "<Constraints>"
+    ∷ "</Constraints>"
+    ∷ "</Instance>"
+    ∷ []
+)
+
+-- it with a class that is none of the nine
+abbrev pub other_class : List ℕ
+other_class = text (
+    "<?xml version=\"1.0\" encoding=\"UTF-8\"?>"
+    ∷ "<Instance>"
+    ∷ "<Structure>"
+    ∷ "<Format leagueIds=\"0\">"
+    ∷ "<numberRoundRobin>2</numberRoundRobin>"
+    ∷ "<compactness>C</compactness>"
+    ∷ "<gameMode>P</gameMode>"
+    ∷ "</Format>"
+    ∷ "</Structure>"
+    ∷ "<Resources>"
+    ∷ "<Teams>"
+    ∷ "<team id=\"0\"/>"
+    ∷ "<team id=\"1\"/>"
+    ∷ "<team id=\"2\"/>"
+    ∷ "<team id=\"3\"/>"
+    ∷ "</Teams>"
+    ∷ "<Slots>"
+    ∷ "<slot id=\"0\"/>"
+    ∷ "<slot id=\"1\"/>"
+    ∷ "<slot id=\"2\"/>"
+    ∷ "<slot id=\"3\"/>"
+    ∷ "<slot id=\"4\"/>"
+    ∷ "<slot id=\"5\"/>"
+    ∷ "</Slots>"
+    ∷ "</Resources>"
+    ∷ "<Constraints>"
+    ∷ "<BreakConstraints>"
+    ∷ "<BR3 intp=\"1\"/>"
+    ∷ "</BreakConstraints>"
+    ∷ "</Constraints>"
+    ∷ "</Instance>"
+    ∷ []
+)
+
+-- it with a lower bound on a capacity class
+abbrev pub min_one : List ℕ
+min_one = text (
+    "<?xml version=\"1.0\" encoding=\"UTF-8\"?>"
+    ∷ "<Instance>"
+    ∷ "<Structure>"
+    ∷ "<Format leagueIds=\"0\">"
+    ∷ "<numberRoundRobin>2</numberRoundRobin>"
+    ∷ "<compactness>C</compactness>"
+    ∷ "<gameMode>P</gameMode>"
+    ∷ "</Format>"
+    ∷ "</Structure>"
+    ∷ "<Resources>"
+    ∷ "<Teams>"
+    ∷ "<team id=\"0\"/>"
+    ∷ "<team id=\"1\"/>"
+    ∷ "<team id=\"2\"/>"
+    ∷ "<team id=\"3\"/>"
+    ∷ "</Teams>"
+    ∷ "<Slots>"
+    ∷ "<slot id=\"0\"/>"
+    ∷ "<slot id=\"1\"/>"
+    ∷ "<slot id=\"2\"/>"
+    ∷ "<slot id=\"3\"/>"
+    ∷ "<slot id=\"4\"/>"
+    ∷ "<slot id=\"5\"/>"
+    ∷ "</Slots>"
+    ∷ "</Resources>"
+    ∷ "<Constraints>"
+    ∷ "<CapacityConstraints>"
+    ∷ "<CA1 teams=\"0\" min=\"1\" max=\"1\" mode=\"H\" slots=\"2;3\" type=\"HARD\" penalty=\"1\"/>"
+    ∷ "</CapacityConstraints>"
+    ∷ "</Constraints>"
+    ∷ "</Instance>"
+    ∷ []
+)
+
+-- a solution with a slot that there isn't
+abbrev pub unknown_slot : List ℕ
+unknown_slot = text (
+    "<?xml version=\"1.0\" encoding=\"UTF-8\"?>"
+    ∷ "<Solution>"
+    ∷ "<Games>"
+    ∷ "<ScheduledMatch home=\"3\" away=\"0\" slot=\"6\"/>"
+    ∷ "<ScheduledMatch home=\"1\" away=\"2\" slot=\"0\"/>"
+    ∷ "<ScheduledMatch home=\"1\" away=\"3\" slot=\"1\"/>"
+    ∷ "<ScheduledMatch home=\"2\" away=\"0\" slot=\"1\"/>"
+    ∷ "<ScheduledMatch home=\"3\" away=\"2\" slot=\"2\"/>"
+    ∷ "<ScheduledMatch home=\"0\" away=\"1\" slot=\"2\"/>"
+    ∷ "<ScheduledMatch home=\"0\" away=\"3\" slot=\"3\"/>"
+    ∷ "<ScheduledMatch home=\"2\" away=\"1\" slot=\"3\"/>"
+    ∷ "<ScheduledMatch home=\"3\" away=\"1\" slot=\"4\"/>"
+    ∷ "<ScheduledMatch home=\"0\" away=\"2\" slot=\"4\"/>"
+    ∷ "<ScheduledMatch home=\"2\" away=\"3\" slot=\"5\"/>"
+    ∷ "<ScheduledMatch home=\"1\" away=\"0\" slot=\"5\"/>"
+    ∷ "</Games>"
+    ∷ "</Solution>"
+    ∷ []
+)
+
+-- a solution in which a team meets itself
+abbrev pub same_team : List ℕ
+same_team = text (
+    "<?xml version=\"1.0\" encoding=\"UTF-8\"?>"
+    ∷ "<Solution>"
+    ∷ "<Games>"
+    ∷ "<ScheduledMatch home=\"3\" away=\"3\" slot=\"0\"/>"
+    ∷ "<ScheduledMatch home=\"1\" away=\"2\" slot=\"0\"/>"
+    ∷ "<ScheduledMatch home=\"1\" away=\"3\" slot=\"1\"/>"
+    ∷ "<ScheduledMatch home=\"2\" away=\"0\" slot=\"1\"/>"
+    ∷ "<ScheduledMatch home=\"3\" away=\"2\" slot=\"2\"/>"
+    ∷ "<ScheduledMatch home=\"0\" away=\"1\" slot=\"2\"/>"
+    ∷ "<ScheduledMatch home=\"0\" away=\"3\" slot=\"3\"/>"
+    ∷ "<ScheduledMatch home=\"2\" away=\"1\" slot=\"3\"/>"
+    ∷ "<ScheduledMatch home=\"3\" away=\"1\" slot=\"4\"/>"
+    ∷ "<ScheduledMatch home=\"0\" away=\"2\" slot=\"4\"/>"
+    ∷ "<ScheduledMatch home=\"2\" away=\"3\" slot=\"5\"/>"
+    ∷ "<ScheduledMatch home=\"1\" away=\"0\" slot=\"5\"/>"
+    ∷ "</Games>"
+    ∷ "</Solution>"
+    ∷ []
+)

@@ -1,9 +1,16 @@
-pub mod PieceLemmas
-pub mod LineLemmas
-pub mod InstanceLemmas
-pub mod SeasonLemmas
-pub mod Ca1Lemmas
-pub mod IdLemmas
-pub mod GameLemmas
+-- Lemmas on values and lists:
+pub mod SearchLemmas
+pub mod PlaceLemmas
+pub mod ItemLemmas
+pub mod SetLemmas
+pub mod ValueLemmas
+pub mod KnownLemmas
+pub mod WalkLemmas
+pub mod DraftLemmas
+pub mod FileLemmas
+-- Worked examples, so that a wrong definition does not check:
 mod FileTexts
 mod TextFacts
+mod FileFacts
+mod PrefixFacts
+mod ValueFacts

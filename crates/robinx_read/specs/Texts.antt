@@ -103,11 +103,10 @@ abbrev pub mode_word : Bool → String
 mode_word true = "P"
 mode_word false = "NULL"
 
--- a team
+-- a team, and a slot
 abbrev pub team_line : ℕ → List ℕ
 team_line i = tag_line (codes "team") (count "id" i ∷ [])
 
--- a slot
 abbrev pub slot_line : ℕ → List ℕ
 slot_line s = tag_line (codes "slot") (count "id" s ∷ [])
 

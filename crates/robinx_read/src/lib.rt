@@ -1,20 +1,25 @@
-//! Plain instance and solution files of the International Timetabling Competition 2021, read into leagues and schedules.
+//! Instance and solution files of the International Timetabling Competition 2021 (RobinX), read into leagues and schedules.
 //!
-//! A contract sees a file as its bytes. `specs/Texts.antt` is the text of each instance and each solution, and
-//! `specs/Plain.antt` says which files are plain: exactly those texts, for leagues whose constraints are all CA1.
+//! A contract sees a file as its list of pieces. `specs/InstanceFile.antt` and `specs/SolutionFile.antt` define what
+//! these pieces say: a league or a list of games, or the first fault with its kind and its line. `specs/Texts.antt`
+//! defines the texts of files.
 #![tactic(auto)]
 
-mod ca1;
+mod classes;
+mod draft;
+mod element;
 mod fault;
-mod ids;
+mod games;
 mod instance;
-mod pieces;
-mod season;
-mod solution;
-mod stop;
+mod lists;
+mod place;
+mod reads;
+mod values;
+mod walk;
+
 #[cfg(test)]
 mod tests;
 
-pub use fault::{FormFault, FormKind, ReadFault};
-pub use instance::read_instance;
-pub use solution::read_solution;
+pub use fault::{FormFault, ReadFault};
+pub use instance::{read_instance, read_solution};
+pub use robinx_tags::FormKind;

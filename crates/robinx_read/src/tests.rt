@@ -1,112 +1,180 @@
 use super::*;
-use league::{Class, Side};
 use std::alloc::{AllocError, Global};
 use std::test::Fail;
 
-const HEAD: &[u8] =
-    b"<?xml version=\"1.0\" encoding=\"UTF-8\"?>\n<Instance>\n<Structure>\n<Format leagueIds=\"0\">\n<numberRoundRobin>2</numberRoundRobin>\n<compactness>C</compactness>\n<gameMode>P</gameMode>\n</Format>\n</Structure>\n<Resources>\n<Teams>\n";
+/// A phased league of four teams without constraints.
+const I4: &[u8] =
+    b"<?xml version=\"1.0\" encoding=\"UTF-8\"?>\n<Instance>\n<Structure>\n<Format leagueIds=\"0\">\n<numberRoundRobin>2</numberRoundRobin>\n<compactness>C</compactness>\n<gameMode>P</gameMode>\n</Format>\n</Structure>\n<Resources>\n<Teams>\n<team id=\"0\"/>\n<team id=\"1\"/>\n<team id=\"2\"/>\n<team id=\"3\"/>\n</Teams>\n<Slots>\n<slot id=\"0\"/>\n<slot id=\"1\"/>\n<slot id=\"2\"/>\n<slot id=\"3\"/>\n<slot id=\"4\"/>\n<slot id=\"5\"/>\n</Slots>\n</Resources>\n<Constraints>\n</Constraints>\n</Instance>\n";
 
-const FIRST_TEAM: &[u8] = b"<team id=\"0\"/>\n";
+/// The same with constraints, and with much that is passed over.
+const F4: &[u8] =
+    b"<?xml version=\"1.0\" encoding=\"UTF-8\" standalone=\"no\" ?>\n<!-- a league of four -->\n<Instance>\n<MetaData>\n<InstanceName>Four &amp; more</InstanceName>\n<Date day=\"15\" month=\"10\" year=\"2020\"/>\n</MetaData>\n<Structure>\n<Format leagueIds=\"0\">\n<numberRoundRobin>2</numberRoundRobin>\n<compactness>C</compactness>\n<gameMode>P</gameMode>\n</Format>\n<AdditionalGames/>\n</Structure>\n<ObjectiveFunction>\n<Objective>SC</Objective>\n</ObjectiveFunction>\n<Data/>\n<Resources>\n<Teams>\n<team id=\"0\" league=\"0\" name=\"North\"/>\n<team id=\"1\" league=\"0\" name=\"East\"/>\n<team id=\"2\" league=\"0\" name=\"South\"/>\n<team id=\"3\" league=\"0\" name=\"West\"/>\n</Teams>\n<Slots>\n<slot id=\"0\" name=\"Slot 0\"/>\n<slot id=\"1\" name=\"Slot 1\"/>\n<slot id=\"2\" name=\"Slot 2\"/>\n<slot id=\"3\" name=\"Slot 3\"/>\n<slot id=\"4\" name=\"Slot 4\"/>\n<slot id=\"5\" name=\"Slot 5\"/>\n</Slots>\n</Resources>\n<Constraints>\n<BasicConstraints/>\n<CapacityConstraints>\n<CA1 max=\"0\" min=\"0\" mode=\"H\" penalty=\"10\" slots=\"2;3\" teams=\"0\" type=\"SOFT\"/>\n</CapacityConstraints>\n<GameConstraints/>\n<BreakConstraints/>\n<FairnessConstraints>\n<FA2 intp=\"1\" mode=\"H\" penalty=\"10\" slots=\"0;1;2;3;4;5\" teams=\"0;1;2;3\" type=\"SOFT\"/>\n</FairnessConstraints>\n<SeparationConstraints>\n<SE1 min=\"2\" mode1=\"SLOTS\" penalty=\"10\" teams=\"0;1;2;3\" type=\"HARD\"/>\n</SeparationConstraints>\n</Constraints>\n</Instance>\n";
 
-const SEASON: &[u8] =
-    b"<team id=\"1\"/>\n<team id=\"2\"/>\n<team id=\"3\"/>\n</Teams>\n<Slots>\n<slot id=\"0\"/>\n<slot id=\"1\"/>\n<slot id=\"2\"/>\n<slot id=\"3\"/>\n<slot id=\"4\"/>\n<slot id=\"5\"/>\n</Slots>\n</Resources>\n<Constraints>\n";
+/// A schedule of four teams.
+const C4: &[u8] =
+    b"<?xml version=\"1.0\" encoding=\"UTF-8\"?>\n<Solution>\n<Games>\n<ScheduledMatch home=\"3\" away=\"0\" slot=\"0\"/>\n<ScheduledMatch home=\"1\" away=\"2\" slot=\"0\"/>\n<ScheduledMatch home=\"1\" away=\"3\" slot=\"1\"/>\n<ScheduledMatch home=\"2\" away=\"0\" slot=\"1\"/>\n<ScheduledMatch home=\"3\" away=\"2\" slot=\"2\"/>\n<ScheduledMatch home=\"0\" away=\"1\" slot=\"2\"/>\n<ScheduledMatch home=\"0\" away=\"3\" slot=\"3\"/>\n<ScheduledMatch home=\"2\" away=\"1\" slot=\"3\"/>\n<ScheduledMatch home=\"3\" away=\"1\" slot=\"4\"/>\n<ScheduledMatch home=\"0\" away=\"2\" slot=\"4\"/>\n<ScheduledMatch home=\"2\" away=\"3\" slot=\"5\"/>\n<ScheduledMatch home=\"1\" away=\"0\" slot=\"5\"/>\n</Games>\n</Solution>\n";
 
-const CAPACITY: &[u8] =
-    b"<CapacityConstraints>\n<CA1 teams=\"0\" min=\"0\" max=\"0\" mode=\"H\" slots=\"2;3\" type=\"HARD\" penalty=\"1\"/>\n</CapacityConstraints>\n";
+type Case = (usize, usize, &'static [u8], FormKind, u32);
 
-const END: &[u8] = b"</Constraints>\n</Instance>\n";
+/// From a line of an instance file on so many lines are others: the fault, and its line.
+const INSTANCES: [Case; 34] = [
+    (12, 1, b"<1/>\n", FormKind::BadTag, 12),
+    (4, 1, b"<!x>\n", FormKind::BadTag, 4),
+    (12, 1, b"<team id=0/>\n", FormKind::BadAttribute, 12),
+    (4, 1, b"<Format leagueIds>\n", FormKind::BadAttribute, 4),
+    (12, 1, b"<team id=\"0\" id=\"0\"/>\n", FormKind::RepeatedAttribute, 12),
+    (2, 1, b"<Instance a='1' a=''>\n", FormKind::RepeatedAttribute, 2),
+    (28, 1, b"", FormKind::Truncated, 28),
+    (27, 2, b"<!-- \n\n", FormKind::Truncated, 27),
+    (16, 1, b"</Slots>\n", FormKind::BadNesting, 16),
+    (28, 1, b"</Instance>\n<a/>\n", FormKind::BadNesting, 29),
+    (2, 1, b"<Solution>\n", FormKind::BadNesting, 2),
+    (12, 1, b"<team id=\"0\"><a/></team>\n", FormKind::BadNesting, 12),
+    (6, 1, b"", FormKind::MissingElement, 7),
+    (10, 16, b"", FormKind::MissingElement, 10),
+    (26, 2, b"", FormKind::MissingElement, 26),
+    (5, 1, b"<numberRoundRobin>2</numberRoundRobin>\n<numberRoundRobin/>\n", FormKind::RepeatedElement, 6),
+    (9, 1, b"</Structure><Structure/>\n", FormKind::RepeatedElement, 9),
+    (12, 1, b"<team/>\n", FormKind::MissingAttribute, 12),
+    (27, 1, b"<BasicConstraints>\n<SE1 penalty='1'/>\n", FormKind::MissingAttribute, 28),
+    (12, 1, b"<team id=\"\"/>\n", FormKind::BadNumber, 12),
+    (5, 1, b"<numberRoundRobin>x</numberRoundRobin>\n", FormKind::BadNumber, 5),
+    (27, 1, b"<BasicConstraints>\n<SE1 type='SOFT' teams=';' min='1'/>\n", FormKind::BadNumber, 28),
+    (12, 1, b"<team id=\"4294967296\"/>\n", FormKind::NumberTooLarge, 12),
+    (5, 1, b"<numberRoundRobin>4294967296</numberRoundRobin>\n", FormKind::NumberTooLarge, 5),
+    (27, 1, b"<BasicConstraints>\n<SE1 type='SOFT' teams='0;4' min='1'/>\n", FormKind::UnknownTeam, 28),
+    (27, 1, b"<BasicConstraints>\n<BR2 type='SOFT' teams='' intp='1' slots='6;x'/>\n", FormKind::UnknownSlot, 28),
+    (27, 1, b"<BasicConstraints>\n<GA1 type='SOFT' meetings='0,1;1,1' min='0' max='0' slots=''/>\n", FormKind::SameTeam, 28),
+    (6, 1, b"<compactness>R</compactness>\n", FormKind::BadChoice, 6),
+    (27, 1, b"<BasicConstraints>\n<CA1 teams='0' min='1' max='1' mode='H' slots='' type='HARD'/>\n", FormKind::BadChoice, 28),
+    (27, 1, b"<BasicConstraints>\n<CA3 type='SOFT' teams1='' teams2='' max='1' mode1='HA' intp='0'/>\n", FormKind::BadChoice, 28),
+    (27, 1, b"<BreakConstraints>\n<BR3 intp=\"1\"/>\n", FormKind::UnsupportedClass, 28),
+    (27, 1, b"<OtherConstraints>\n", FormKind::UnsupportedClass, 27),
+    (15, 1, b"", FormKind::WrongCounts, 24),
+    (5, 1, b"<numberRoundRobin>1</numberRoundRobin>\n", FormKind::WrongCounts, 5),
+];
 
-const GAMES: &[u8] =
-    b"<?xml version=\"1.0\" encoding=\"UTF-8\"?>\n<Solution>\n<Games>\n<ScheduledMatch home=\"3\" away=\"0\" slot=\"0\"/>\n";
+/// The same of a solution file.
+const SOLUTIONS: [Case; 8] = [
+    (4, 1, b"<ScheduledMatch home=\"4\" away=\"0\" slot=\"0\"/>\n", FormKind::UnknownTeam, 4),
+    (4, 1, b"<ScheduledMatch home=\"3\" away=\"0\" slot=\"6\"/>\n", FormKind::UnknownSlot, 4),
+    (4, 1, b"<ScheduledMatch home=\"3\" away=\"3\" slot=\"0\"/>\n", FormKind::SameTeam, 4),
+    (5, 1, b"<ScheduledMatch home=\"3\" slot=\"0\"/>\n", FormKind::MissingAttribute, 5),
+    (3, 14, b"", FormKind::MissingElement, 3),
+    (2, 1, b"<Instance>\n", FormKind::BadNesting, 2),
+    (16, 1, b"</Games><Games/>\n", FormKind::RepeatedElement, 16),
+    (17, 1, b"", FormKind::Truncated, 17),
+];
 
-const OTHERS: &[u8] =
-    b"<ScheduledMatch home=\"1\" away=\"2\" slot=\"0\"/>\n<ScheduledMatch home=\"1\" away=\"3\" slot=\"1\"/>\n<ScheduledMatch home=\"2\" away=\"0\" slot=\"1\"/>\n<ScheduledMatch home=\"3\" away=\"2\" slot=\"2\"/>\n<ScheduledMatch home=\"0\" away=\"1\" slot=\"2\"/>\n<ScheduledMatch home=\"0\" away=\"3\" slot=\"3\"/>\n<ScheduledMatch home=\"2\" away=\"1\" slot=\"3\"/>\n<ScheduledMatch home=\"3\" away=\"1\" slot=\"4\"/>\n<ScheduledMatch home=\"0\" away=\"2\" slot=\"4\"/>\n<ScheduledMatch home=\"2\" away=\"3\" slot=\"5\"/>\n<ScheduledMatch home=\"1\" away=\"0\" slot=\"5\"/>\n</Games>\n</Solution>\n";
-
-fn joined(alloc: Global, parts: &[&[u8]]) -> Result<Vec<u8>, AllocError> {
-    let mut text = Vec::new(alloc);
-    for part in parts {
-        text.extend_from_slice(part)?;
+/// The text, of which from this line on so many lines are others.
+fn edited(alloc: Global, text: &[u8], from: usize, lines: usize, others: &[u8]) -> Result<Vec<u8>, AllocError> {
+    let mut edited = Vec::new(alloc);
+    let mut line = 1usize;
+    let mut begins = true;
+    for byte in text {
+        if begins && line == from {
+            edited.extend_from_slice(others)?;
+        }
+        if line < from || line - from >= lines {
+            edited.push(*byte)?;
+        }
+        begins = *byte == b'\n';
+        if begins {
+            line = line.saturating_add(1);
+        }
     }
-    Ok(text)
+    Ok(edited)
 }
 
 #[test]
-fn reads_a_league(rt: HostRuntime) -> Result<(), Fail> {
-    let text = joined(rt.alloc(), &[HEAD, FIRST_TEAM, SEASON, END])?;
-    assert!(rt; text.len() < 1000);
-    let league = read_instance(rt.alloc(), &text)?;
+fn reads_a_league_and_a_schedule(rt: HostRuntime) -> Result<(), Fail> {
+    let league = read_instance(rt.alloc(), I4)?;
     assert_eq!(rt; league.n(), 4);
     assert!(rt; league.phased());
     assert_eq!(rt; league.constraints().len(), 0);
-    Ok(())
-}
-
-#[test]
-fn reads_a_capacity_constraint(rt: HostRuntime) -> Result<(), Fail> {
-    let text = joined(rt.alloc(), &[HEAD, FIRST_TEAM, SEASON, CAPACITY, END])?;
-    assert!(rt; text.len() < 1000);
-    let league = read_instance(rt.alloc(), &text)?;
-    assert_eq!(rt; league.constraints().len(), 1);
-    for constraint in league.constraints() {
-        assert!(rt; constraint.hard);
-        assert_eq!(rt; constraint.penalty, 1);
-        match &constraint.class {
-            Class::Ca1 {
-                teams,
-                max,
-                side,
-                slots,
-            } => {
-                assert_eq!(rt; teams.numbers(), [0].as_slice());
-                assert_eq!(rt; *max, 0);
-                assert_eq!(rt; *side, Side::H);
-                assert_eq!(rt; slots.numbers(), [2, 3].as_slice());
-            }
-            _ => assert!(rt; false),
-        }
-    }
-    Ok(())
-}
-
-#[test]
-fn refuses_a_space_in_a_tag(rt: HostRuntime) -> Result<(), Fail> {
-    let text = joined(rt.alloc(), &[HEAD, b"<team id=\"0\" />\n", SEASON, END])?;
-    assert!(rt; text.len() < 1000);
-    match read_instance(rt.alloc(), &text) {
-        Err(fault) => {
-            let told = format!(in rt.alloc(); "{fault}")?;
-            assert_eq!(rt; told.as_str(), "NotPlain in line 1");
-        }
-        Ok(_) => assert!(rt; false),
-    }
-    Ok(())
-}
-
-#[test]
-fn reads_a_schedule(rt: HostRuntime) -> Result<(), Fail> {
-    let instance = joined(rt.alloc(), &[HEAD, FIRST_TEAM, SEASON, END])?;
-    assert!(rt; instance.len() < 1000);
-    let league = read_instance(rt.alloc(), &instance)?;
-    let text = joined(rt.alloc(), &[GAMES, OTHERS])?;
-    assert!(rt; text.len() < 1000);
-    let schedule = read_solution(rt.alloc(), &text, &league)?;
+    let schedule = read_solution(rt.alloc(), C4, &league)?;
     assert_eq!(rt; schedule.len(), 12);
-    let first = schedule.get(0);
-    assert_eq!(rt; first.home.0, 3);
-    assert_eq!(rt; first.away.0, 0);
-    assert_eq!(rt; first.slot.0, 0);
     Ok(())
 }
 
 #[test]
-fn reads_a_game_that_is_played_twice(rt: HostRuntime) -> Result<(), Fail> {
-    let instance = joined(rt.alloc(), &[HEAD, FIRST_TEAM, SEASON, END])?;
-    assert!(rt; instance.len() < 1000);
-    let league = read_instance(rt.alloc(), &instance)?;
-    let again = b"<ScheduledMatch home=\"3\" away=\"0\" slot=\"0\"/>\n";
-    let text = joined(rt.alloc(), &[GAMES, again, OTHERS])?;
-    assert!(rt; text.len() < 1000);
-    let schedule = read_solution(rt.alloc(), &text, &league)?;
-    assert_eq!(rt; schedule.len(), 13);
+fn passes_over_what_is_not_read(rt: HostRuntime) -> Result<(), Fail> {
+    let league = read_instance(rt.alloc(), F4)?;
+    assert_eq!(rt; league.n(), 4);
+    assert_eq!(rt; league.constraints().len(), 3);
+    Ok(())
+}
+
+#[test]
+fn refuses_each_fault_of_an_instance(rt: HostRuntime) -> Result<(), Fail> {
+    for (from, lines, others, kind, at) in INSTANCES {
+        let text = edited(rt.alloc(), I4, from, lines, others)?;
+        assert!(rt; text.len() < 10_000);
+        match read_instance(rt.alloc(), &text) {
+            Err(ReadFault::Form(fault)) => {
+                assert_eq!(rt; fault.kind, kind);
+                assert_eq!(rt; fault.line, at);
+            }
+            _ => assert!(rt; false, "line {from}"),
+        }
+    }
+    Ok(())
+}
+
+#[test]
+fn refuses_each_fault_of_a_solution(rt: HostRuntime) -> Result<(), Fail> {
+    let league = read_instance(rt.alloc(), I4)?;
+    for (from, lines, others, kind, at) in SOLUTIONS {
+        let text = edited(rt.alloc(), C4, from, lines, others)?;
+        assert!(rt; text.len() < 10_000);
+        match read_solution(rt.alloc(), &text, &league) {
+            Err(ReadFault::Form(fault)) => {
+                assert_eq!(rt; fault.kind, kind);
+                assert_eq!(rt; fault.line, at);
+            }
+            _ => assert!(rt; false, "line {from}"),
+        }
+    }
+    Ok(())
+}
+
+/// So many times a line, between a text's first lines and its others.
+fn repeated(alloc: Global, text: &[u8], from: usize, line: &[u8], times: usize) -> Result<Vec<u8>, AllocError> {
+    let mut lines = Vec::new(alloc);
+    for _ in 0..times {
+        lines.extend_from_slice(line)?;
+    }
+    edited(alloc, text, from, 1, &lines)
+}
+
+#[test]
+fn refuses_what_is_too_many(rt: HostRuntime) -> Result<(), Fail> {
+    let league = read_instance(rt.alloc(), I4)?;
+    let game = b"<ScheduledMatch home=\"3\" away=\"0\" slot=\"0\"/>\n";
+    let games = repeated(rt.alloc(), C4, 4, game, 10_001)?;
+    assert!(rt; games.len() < 1_048_576);
+    match read_solution(rt.alloc(), &games, &league) {
+        Err(ReadFault::Form(fault)) => {
+            assert_eq!(rt; fault.kind, FormKind::TooMany);
+            assert_eq!(rt; fault.line, 10_004);
+        }
+        _ => assert!(rt; false),
+    }
+    Ok(())
+}
+
+#[test]
+fn refuses_too_many_constraints(rt: HostRuntime) -> Result<(), Fail> {
+    let class = b"<CA1 teams='' max='0' mode='H' slots='' type='HARD'/>\n";
+    let classes = repeated(rt.alloc(), I4, 27, class, 20_001)?;
+    let text = edited(rt.alloc(), &classes, 26, 1, b"<Constraints>\n<CapacityConstraints>\n")?;
+    assert!(rt; text.len() < 16_777_216);
+    match read_instance(rt.alloc(), &text) {
+        Err(ReadFault::Form(fault)) => {
+            assert_eq!(rt; fault.kind, FormKind::TooMany);
+            assert_eq!(rt; fault.line, 20_028);
+        }
+        _ => assert!(rt; false),
+    }
     Ok(())
 }

@@ -1,0 +1,361 @@
+// The elements that are read, and where they stand.
+ghost use Rattle.std.specs.Prelude.{◌≡◌, bytes_eq};
+ghost use Rattle.std.specs.List.{find};
+ghost use Rattle.robinx_read.specs.Elements as elements;
+ghost use Rattle.robinx_read.specs.Walk as walk;
+
+use robinx_tags::FormKind;
+
+/// The nine classes of constraints.
+#[derive(Clone, Copy)]
+pub(crate) enum ClassName {
+    Ca1,
+    Ca2,
+    Ca3,
+    Ca4,
+    Ga1,
+    Br1,
+    Br2,
+    Fa2,
+    Se1,
+}
+
+/// The six groups that classes stand in.
+#[derive(Clone, Copy)]
+pub(crate) enum GroupName {
+    Basic,
+    Capacity,
+    Game,
+    Break,
+    Fairness,
+    Separation,
+}
+
+/// An element that is read. The two kinds of files stand around their roots.
+#[derive(Clone, Copy)]
+pub(crate) enum Element {
+    InstanceFile,
+    SolutionFile,
+    Instance,
+    Structure,
+    Format,
+    NumberRoundRobin,
+    Compactness,
+    GameMode,
+    Resources,
+    Teams,
+    Team,
+    Slots,
+    Slot,
+    Constraints,
+    Group(GroupName),
+    Class(ClassName),
+    Solution,
+    Games,
+    ScheduledMatch,
+}
+
+/// How often an element may stand in another.
+#[derive(Clone, Copy)]
+pub(crate) enum Times {
+    Once,
+    AtMostOnce,
+    Any,
+}
+
+/// An element that may stand in another, and how often.
+#[derive(Clone, Copy)]
+pub(crate) struct Row {
+    pub element: Element,
+    pub times: Times,
+}
+
+const IN_INSTANCE: [Row; 3] = [
+    Row {
+        element: Element::Structure,
+        times: Times::Once,
+    },
+    Row {
+        element: Element::Resources,
+        times: Times::Once,
+    },
+    Row {
+        element: Element::Constraints,
+        times: Times::Once,
+    },
+];
+
+const IN_FORMAT: [Row; 3] = [
+    Row {
+        element: Element::NumberRoundRobin,
+        times: Times::Once,
+    },
+    Row {
+        element: Element::Compactness,
+        times: Times::Once,
+    },
+    Row {
+        element: Element::GameMode,
+        times: Times::AtMostOnce,
+    },
+];
+
+const IN_RESOURCES: [Row; 2] = [
+    Row {
+        element: Element::Teams,
+        times: Times::Once,
+    },
+    Row {
+        element: Element::Slots,
+        times: Times::Once,
+    },
+];
+
+const GROUPS: [Row; 6] = [
+    Row {
+        element: Element::Group(GroupName::Basic),
+        times: Times::Any,
+    },
+    Row {
+        element: Element::Group(GroupName::Capacity),
+        times: Times::Any,
+    },
+    Row {
+        element: Element::Group(GroupName::Game),
+        times: Times::Any,
+    },
+    Row {
+        element: Element::Group(GroupName::Break),
+        times: Times::Any,
+    },
+    Row {
+        element: Element::Group(GroupName::Fairness),
+        times: Times::Any,
+    },
+    Row {
+        element: Element::Group(GroupName::Separation),
+        times: Times::Any,
+    },
+];
+
+const CLASSES: [Row; 9] = [
+    Row {
+        element: Element::Class(ClassName::Ca1),
+        times: Times::Any,
+    },
+    Row {
+        element: Element::Class(ClassName::Ca2),
+        times: Times::Any,
+    },
+    Row {
+        element: Element::Class(ClassName::Ca3),
+        times: Times::Any,
+    },
+    Row {
+        element: Element::Class(ClassName::Ca4),
+        times: Times::Any,
+    },
+    Row {
+        element: Element::Class(ClassName::Ga1),
+        times: Times::Any,
+    },
+    Row {
+        element: Element::Class(ClassName::Br1),
+        times: Times::Any,
+    },
+    Row {
+        element: Element::Class(ClassName::Br2),
+        times: Times::Any,
+    },
+    Row {
+        element: Element::Class(ClassName::Fa2),
+        times: Times::Any,
+    },
+    Row {
+        element: Element::Class(ClassName::Se1),
+        times: Times::Any,
+    },
+];
+
+impl ClassName {
+    fn name(self) -> &'static [u8]
+        ensures { result.now ≡ elements.class_name self }
+    {
+        match self {
+            ClassName::Ca1 => b"CA1",
+            ClassName::Ca2 => b"CA2",
+            ClassName::Ca3 => b"CA3",
+            ClassName::Ca4 => b"CA4",
+            ClassName::Ga1 => b"GA1",
+            ClassName::Br1 => b"BR1",
+            ClassName::Br2 => b"BR2",
+            ClassName::Fa2 => b"FA2",
+            ClassName::Se1 => b"SE1",
+        }
+    }
+}
+
+impl GroupName {
+    fn name(self) -> &'static [u8]
+        ensures { result.now ≡ elements.group_name self }
+    {
+        match self {
+            GroupName::Basic => b"BasicConstraints",
+            GroupName::Capacity => b"CapacityConstraints",
+            GroupName::Game => b"GameConstraints",
+            GroupName::Break => b"BreakConstraints",
+            GroupName::Fairness => b"FairnessConstraints",
+            GroupName::Separation => b"SeparationConstraints",
+        }
+    }
+}
+
+impl Element {
+    /// The name in its tags. A file has none.
+    pub(crate) fn name(self) -> &'static [u8]
+        ensures { result.now ≡ elements.element_name self }
+    {
+        match self {
+            Element::InstanceFile | Element::SolutionFile => b"",
+            Element::Instance => b"Instance",
+            Element::Structure => b"Structure",
+            Element::Format => b"Format",
+            Element::NumberRoundRobin => b"numberRoundRobin",
+            Element::Compactness => b"compactness",
+            Element::GameMode => b"gameMode",
+            Element::Resources => b"Resources",
+            Element::Teams => b"Teams",
+            Element::Team => b"team",
+            Element::Slots => b"Slots",
+            Element::Slot => b"slot",
+            Element::Constraints => b"Constraints",
+            Element::Group(group) => group.name(),
+            Element::Class(class) => class.name(),
+            Element::Solution => b"Solution",
+            Element::Games => b"Games",
+            Element::ScheduledMatch => b"ScheduledMatch",
+        }
+    }
+
+    /// The elements that are read inside of it.
+    pub(crate) fn inside(self) -> &'static [Row]
+        ensures { result.now ≡ elements.inside self }
+    {
+        match self {
+            Element::InstanceFile => &[Row {
+                element: Element::Instance,
+                times: Times::Once,
+            }],
+            Element::SolutionFile => &[Row {
+                element: Element::Solution,
+                times: Times::Once,
+            }],
+            Element::Instance => &IN_INSTANCE,
+            Element::Structure => &[Row {
+                element: Element::Format,
+                times: Times::Once,
+            }],
+            Element::Format => &IN_FORMAT,
+            Element::Resources => &IN_RESOURCES,
+            Element::Teams => &[Row {
+                element: Element::Team,
+                times: Times::Any,
+            }],
+            Element::Slots => &[Row {
+                element: Element::Slot,
+                times: Times::Any,
+            }],
+            Element::Constraints => &GROUPS,
+            Element::Group(_) => &CLASSES,
+            Element::Solution => &[Row {
+                element: Element::Games,
+                times: Times::Once,
+            }],
+            Element::Games => &[Row {
+                element: Element::ScheduledMatch,
+                times: Times::Any,
+            }],
+            Element::NumberRoundRobin
+            | Element::Compactness
+            | Element::GameMode
+            | Element::Team
+            | Element::Slot
+            | Element::Class(_)
+            | Element::ScheduledMatch => &[],
+        }
+    }
+
+    /// What a tag in it is that isn't among the elements that are read there, or None where it is passed over.
+    pub(crate) fn unlisted(self) -> Option<FormKind>
+        ensures { result ≡ elements.unlisted self }
+    {
+        match self {
+            Element::InstanceFile
+            | Element::SolutionFile
+            | Element::NumberRoundRobin
+            | Element::Compactness
+            | Element::GameMode
+            | Element::Team
+            | Element::Slot
+            | Element::Class(_)
+            | Element::ScheduledMatch => Some(FormKind::BadNesting),
+            Element::Constraints | Element::Group(_) => Some(FormKind::UnsupportedClass),
+            Element::Instance
+            | Element::Structure
+            | Element::Format
+            | Element::Resources
+            | Element::Teams
+            | Element::Slots
+            | Element::Solution
+            | Element::Games => None,
+        }
+    }
+
+    /// What an element in it is that may stand once and comes again.
+    pub(crate) fn repeated(self) -> FormKind
+        ensures { result ≡ elements.repeated self }
+    {
+        match self {
+            Element::InstanceFile | Element::SolutionFile => FormKind::BadNesting,
+            _ => FormKind::RepeatedElement,
+        }
+    }
+
+    /// Whether its text is a value.
+    pub(crate) fn has_value(self) -> bool
+        ensures { result ≡ elements.has_value self }
+    {
+        matches!(
+            self,
+            Element::NumberRoundRobin | Element::Compactness | Element::GameMode
+        )
+    }
+
+    /// Its row for this name.
+    pub(crate) fn row_of(self, name: &[u8]) -> Option<Row>
+        ensures { result ≡ walk.row_of self name.now }
+    {
+        find_row(self.inside(), name)
+    }
+}
+
+impl Row {
+    fn has_name(&self, name: &[u8]) -> bool
+        ensures { result ≡ bytes_eq (elements.element_name self.now.element) name.now }
+    {
+        self.element.name() == name
+    }
+}
+
+fn find_row(rows: &[Row], name: &[u8]) -> Option<Row>
+    ensures { result ≡ find (λ row. bytes_eq (elements.element_name row.element) name.now) rows.now }
+{
+    let mut rest = rows;
+    'rows: while let [row, others @ ..] = rest {
+        if row.has_name(name) {
+            return Some(*row);
+        }
+        rest = others;
+    }
+    None
+}

@@ -1,0 +1,196 @@
+// Lists of ids and of meetings in attributes, read straight into their sets.
+ghost use Rattle.std.specs.Prelude.{◌≡◌, ◌≢◌, ◌<◌, ◌≤◌, ◌==◌, [], true, length, count_by, IfOk};
+ghost use Rattle.std.specs.List.{before_first, after_first, position_or_len};
+ghost use Rattle.std.specs.Str.{byte};
+ghost use Rattle.std.specs.Ordering.{nat_cmp};
+ghost use Rattle.league.specs.Sets.{pair_cmp};
+ghost use Rattle.league.specs.Instance.{are_teams, are_slots, are_meetings};
+ghost use Rattle.league.specs.Counts.{slot_count};
+ghost use Rattle.robinx_read.specs.Values as values;
+ghost use Rattle.robinx_read.specs.Gathered.{gathered};
+ghost use Rattle.robinx_read.specs.Answers.{Gives};
+
+use crate::fault::Stop;
+use crate::values::{id, required};
+use league::{PairSet, SlotId, SlotSet, TeamId, TeamSet};
+use memchr::memchr;
+use robinx_tags::{Attrs, FormKind};
+use std::alloc::Global;
+
+/// How many bytes stand before this one.
+#[tactic(auto, using(crate::proofs::SearchLemmas::first_or_len, crate::proofs::SearchLemmas::found_within))]
+fn len_before(byte: u8, text: &[u8]) -> usize
+    ensures value { result ≡ position_or_len (λ b. b == byte) text.now }
+    ensures within { result ≤ length text.now }
+{
+    memchr(byte, text).unwrap_or(text.len())
+}
+
+/// What stands before the first of these bytes, and what after it.
+fn split_at_byte(byte: u8, text: &[u8]) -> (&[u8], &[u8])
+    ensures before { result.0.now ≡ before_first (λ b. b == byte) text.now }
+    ensures after { result.1.now ≡ after_first (λ b. b == byte) text.now }
+    ensures shorter { 0 < length text.now → length result.1.now < length text.now }
+{
+    let len = len_before(byte, text);
+    let (front, rest) = text.split_at(len);
+    match rest {
+        [] => (front, rest),
+        [_, after @ ..] => (front, after),
+    }
+}
+
+fn team(n: u16, text: &[u8]) -> Result<u16, FormKind>
+    ensures value { result ≡ values.team n text.now }
+    ensures below { IfOk result (λ team. team < n) }
+{
+    id(FormKind::UnknownTeam, n, text)
+}
+
+fn slot(n: u16, text: &[u8]) -> Result<u16, FormKind>
+    requires { n ≤ 40 }
+    ensures value { result ≡ values.slot n text.now }
+    ensures below { IfOk result (λ slot. slot < slot_count n) }
+{
+    id(FormKind::UnknownSlot, 2 * n.saturating_sub(1), text)
+}
+
+/// A team that has to be there.
+pub(crate) fn team_in(attrs: &Attrs, name: &[u8], n: u16) -> Result<u16, FormKind>
+    ensures value { result ≡ values.required name.now (values.team n) attrs.now }
+    ensures below { IfOk result (λ team. team < n) }
+{
+    team(n, required(attrs, name)?)
+}
+
+/// A slot that has to be there.
+pub(crate) fn slot_in(attrs: &Attrs, name: &[u8], n: u16) -> Result<u16, FormKind>
+    requires { n ≤ 40 }
+    ensures value { result ≡ values.required name.now (values.slot n) attrs.now }
+    ensures below { IfOk result (λ slot. slot < slot_count n) }
+{
+    slot(n, required(attrs, name)?)
+}
+
+/// The teams of a list, as a set.
+fn gather_teams(alloc: Global, n: u16, text: &[u8]) -> Result<TeamSet, Stop>
+    ensures { Gives (gathered nat_cmp [] (values.each (values.team n) (values.items_of text.now))) result }
+{
+    let mut teams = TeamSet::new(alloc);
+    let mut rest = text;
+    'items: while !rest.is_empty() {
+        let (item, after) = split_at_byte(b';', rest);
+        let team = team(n, item)?;
+        teams.insert(TeamId(team))?;
+        rest = after;
+    }
+    Ok(teams)
+}
+
+/// The slots of a list, as a set.
+fn gather_slots(alloc: Global, n: u16, text: &[u8]) -> Result<SlotSet, Stop>
+    requires { n ≤ 40 }
+    ensures { Gives (gathered nat_cmp [] (values.each (values.slot n) (values.items_of text.now))) result }
+{
+    let mut slots = SlotSet::new(alloc);
+    let mut rest = text;
+    'items: while !rest.is_empty() {
+        let (item, after) = split_at_byte(b';', rest);
+        let slot = slot(n, item)?;
+        slots.insert(SlotId(slot))?;
+        rest = after;
+    }
+    Ok(slots)
+}
+
+fn has_one_comma(item: &[u8]) -> bool
+    ensures { result ≡ (count_by (λ b. b == byte ",") item.now == 1) }
+{
+    item.iter().filter(|b| **b == b',').count() == 1
+}
+
+/// A meeting: a home team, a comma, and another team.
+fn meeting(n: u16, item: &[u8]) -> Result<(u16, u16), FormKind>
+    ensures { result ≡ values.meeting n item.now }
+{
+    if !has_one_comma(item) {
+        return Err(FormKind::BadNumber);
+    }
+    let (before, after) = split_at_byte(b',', item);
+    let home = team(n, before)?;
+    let away = team(n, after)?;
+    distinct(home, away)
+}
+
+/// Two different teams.
+pub(crate) fn distinct(home: u16, away: u16) -> Result<(u16, u16), FormKind>
+    ensures value { result ≡ values.distinct home away }
+    ensures differ { IfOk result (λ pair. home ≢ away) }
+{
+    if home == away {
+        return Err(FormKind::SameTeam);
+    }
+    Ok((home, away))
+}
+
+/// The meetings of a list, as a set.
+fn gather_meetings(alloc: Global, n: u16, text: &[u8]) -> Result<PairSet, Stop>
+    ensures { Gives (gathered pair_cmp [] (values.each (values.meeting n) (values.items_of text.now))) result }
+{
+    let mut meetings = PairSet::new(alloc);
+    let mut rest = text;
+    'items: while !rest.is_empty() {
+        let (item, after) = split_at_byte(b';', rest);
+        let (home, away) = meeting(n, item)?;
+        meetings.insert((TeamId(home), TeamId(away)))?;
+        rest = after;
+    }
+    Ok(meetings)
+}
+
+fn teams(alloc: Global, n: u16, text: &[u8]) -> Result<TeamSet, Stop>
+    ensures value { Gives (values.teams n text.now) result }
+    ensures fit { IfOk result (λ teams. are_teams n teams ≡ true) }
+{
+    gather_teams(alloc, n, text)
+}
+
+fn slots(alloc: Global, n: u16, text: &[u8]) -> Result<SlotSet, Stop>
+    requires { n ≤ 40 }
+    ensures value { Gives (values.slots n text.now) result }
+    ensures fit { IfOk result (λ slots. are_slots n slots ≡ true) }
+{
+    gather_slots(alloc, n, text)
+}
+
+fn meetings(alloc: Global, n: u16, text: &[u8]) -> Result<PairSet, Stop>
+    ensures value { Gives (values.meetings n text.now) result }
+    ensures fit { IfOk result (λ meetings. are_meetings n meetings ≡ true) }
+{
+    gather_meetings(alloc, n, text)
+}
+
+/// The teams of an attribute that has to be there.
+pub(crate) fn teams_in(alloc: Global, attrs: &Attrs, name: &[u8], n: u16) -> Result<TeamSet, Stop>
+    ensures value { Gives (values.required name.now (values.teams n) attrs.now) result }
+    ensures fit { IfOk result (λ teams. are_teams n teams ≡ true) }
+{
+    teams(alloc, n, required(attrs, name)?)
+}
+
+/// The slots of an attribute that has to be there.
+pub(crate) fn slots_in(alloc: Global, attrs: &Attrs, name: &[u8], n: u16) -> Result<SlotSet, Stop>
+    requires { n ≤ 40 }
+    ensures value { Gives (values.required name.now (values.slots n) attrs.now) result }
+    ensures fit { IfOk result (λ slots. are_slots n slots ≡ true) }
+{
+    slots(alloc, n, required(attrs, name)?)
+}
+
+/// The meetings of an attribute that has to be there.
+pub(crate) fn meetings_in(alloc: Global, attrs: &Attrs, name: &[u8], n: u16) -> Result<PairSet, Stop>
+    ensures value { Gives (values.required name.now (values.meetings n) attrs.now) result }
+    ensures fit { IfOk result (λ meetings. are_meetings n meetings ≡ true) }
+{
+    meetings(alloc, n, required(attrs, name)?)
+}
