@@ -1,10 +1,11 @@
 -- An instance that is read to its end has its season: its constraints begin behind the End of its resources.
-use Rattle.std.proofs.Common.{◌≡◌, ◌≢◌, ℕ, zero, suc, ◌+◌, ◌-◌, ◌*◌, ◌%◌, ◌<◌, ◌≤◌, Bool, true, false, not, ◌&&◌, ◌||◌, cond, List, [], ◌∷◌, ◌++◌, length, Option, Some, None, Ok, Err, inl, inr, refl, sym, ap, ◌∙◌, subst, arith}
+use Rattle.std.proofs.Common.{◌≡◌, ◌≢◌, ℕ, zero, suc, ◌+◌, ◌-◌, ◌*◌, ◌%◌, ◌<◌, ◌≤◌, Bool, true, false, not, ◌&&◌, ◌||◌, cond, List, [], ◌∷◌, ◌++◌, length, get_or, Option, Some, None, Ok, Err, inl, inr, refl, sym, ap, ◌∙◌, subst, arith}
 use Rattle.std.specs.Prelude.{◌⊎◌, Result, nat_lt, nat_le, ◌==◌, codes, bytes_eq}
 use Rattle.std.specs.List.{All, list_any, list_all, find, range_with_len}
 use Rattle.std.proofs.lemmas.Bool.Decides.{nat_tests}
 use Rattle.std.proofs.lemmas.Slice.Eq.{bytes_eq-Decides}
 use Rattle.std.proofs.lemmas.List.Folds.{list_any-append}
+use Rattle.std.proofs.lemmas.List.FromFn.{length-range_with_len}
 use Rattle.robinx_tags.specs.Fronts.{◌>>=◌, check}
 use Rattle.robinx_tags.specs.Tags.{Attribute}
 use Rattle.robinx_tags.specs.Pieces.{Piece, Pieces, Last, Ends, Faulty}
@@ -19,7 +20,7 @@ use Rattle.league.specs.declared.class.Constraint.{Constraint}
 use Rattle.league.specs.declared.class.Class.TheVariants as class
 use Rattle.robinx_read.specs.Elements.{element_name, inside, unlisted, repeated, has_value}
 use Rattle.robinx_read.specs.Walk.{Open, Place, Fault, is_met, walk, reading, Meaning, is_seen, row_of, is_complete, begins, begins_by, with_seen, on_line, end_line, trimmed, may_come, started, closed, ended, passed_over, start_in, end_in, text_in, at_start, at_end, at_text, at_piece, at_file_end}
-use Rattle.robinx_read.specs.Values.{Reading, required, number, only}
+use Rattle.robinx_read.specs.Values.{Reading, required, number, only, contains}
 use Rattle.robinx_read.specs.Classes.{constraint_of, game_mode}
 use Rattle.robinx_read.specs.InstanceFile.{Draft, instance_meaning, starts, ends, with_constraint, with_season, double, is_season, are_ids, nothing}
 use Rattle.robinx_read.specs.declared.element.Times.{Times}
@@ -444,7 +445,7 @@ module _ (m n : ℕ) (le : m ≤ n) where
   class_fits_later (class.Se1 teams min) h = teams_later teams h
 
 pub all_fit_later : (m n : ℕ) → m ≤ n → (cs : List Constraint) → All (λ c. class_fits m c.class ≡ true) cs → All (λ c. class_fits n c.class ≡ true) cs
-all_fit_later m n le cs fit = λ k d h. class_fits_later m n le _ (fit k d h)
+all_fit_later m n le cs fit = λ k d h. class_fits_later m n le (get_or cs k d).class (fit k d h)
 
 -- ---- the season
 
@@ -485,3 +486,7 @@ fails_in_range p a (suc n) k low high fails = by_first (p a) refl (λ later. fai
   by_first true is others =
       let other : a ≢ k = λ same. absurd (bool_differ (p a) is (subst (λ (x : ℕ). p x ≡ false) (sym same) fails)) in
       others (omega arith)
+
+-- so many ids are those of a range
+pub are_ids-range : (ids : List ℕ) (count : ℕ) → are_ids ids (range_with_len 0 count) ≡ (length ids == count) && list_all (contains ids) (range_with_len 0 count)
+are_ids-range ids count = rw (length-range_with_len 0 count) refl
