@@ -71,7 +71,7 @@ starts-known GameMode tag d now h = same-known (Ok d) d now refl h
 starts-known Resources tag d now h = same-known (Ok d) d now refl h
 starts-known Teams tag d now h = same-known (Ok d) d now refl h
 starts-known Slots tag d now h = same-known (Ok d) d now refl h
-starts-known (Group name) tag d now h = same-known (Ok d) d now refl h
+starts-known (Group group) tag d now h = same-known (Ok d) d now refl h
 starts-known Solution tag d now h = same-known (Ok d) d now refl h
 starts-known Games tag d now h = same-known (Ok d) d now refl h
 starts-known ScheduledMatch tag d now h = same-known (Ok d) d now refl h
@@ -125,7 +125,7 @@ ends-known Team value d now h = same-known (Ok d) d now refl h
 ends-known Slots value d now h = same-known (Ok d) d now refl h
 ends-known Slot value d now h = same-known (Ok d) d now refl h
 ends-known Constraints value d now h = same-known (Ok d) d now refl h
-ends-known (Group name) value d now h = same-known (Ok d) d now refl h
+ends-known (Group group) value d now h = same-known (Ok d) d now refl h
 ends-known (ClassOf name) value d now h = same-known (Ok d) d now refl h
 ends-known Solution value d now h = same-known (Ok d) d now refl h
 ends-known Games value d now h = same-known (Ok d) d now refl h
@@ -195,7 +195,7 @@ and-false false b h = absurd cc
 incomplete : (o : Open) → o.element ≡ Instance → is_seen o constraints_name ≡ false → is_complete o ≡ true → ⊥
 incomplete o is unseen complete =
     let all : list_all (λ row. is_met row.times (is_seen o (element_name row.element))) (inside Instance) ≡ true =
-        subst (λ (x : Element). list_all (λ row. is_met row.times (is_seen o (element_name row.element))) (inside x) ≡ true) is complete in
+    subst (λ (x : Element). list_all (λ row. is_met row.times (is_seen o (element_name row.element))) (inside x) ≡ true) is complete in
     and-false (is_seen o (codes "Structure")) (is_seen o (codes "Resources")) (rw unseen at all)
 
 Early-end : (inner around : Open) (outer : List Open) → is_complete inner ≡ true → Early inner (around ∷ outer) → Early around outer
@@ -211,7 +211,7 @@ Early-text inner (p ∷ q ∷ others) text early = early
 empty_file : (o : Open) → o.element ≡ InstanceFile → o.seen ≡ [] → is_complete o ≡ true → ⊥
 empty_file o is none complete =
     let all : list_all (λ row. is_met row.times (is_seen o (element_name row.element))) (inside InstanceFile) ≡ true =
-        subst (λ (x : Element). list_all (λ row. is_met row.times (is_seen o (element_name row.element))) (inside x) ≡ true) is complete in
+    subst (λ (x : Element). list_all (λ row. is_met row.times (is_seen o (element_name row.element))) (inside x) ≡ true) is complete in
     let seen : (list_any (bytes_eq (codes "Instance")) [] && true) ≡ true = subst (λ (names : List (List ℕ)). (list_any (bytes_eq (codes "Instance")) names && true) ≡ true) none all in
     absurd cc
 
@@ -247,6 +247,7 @@ begun-fine row piece at now is h fine = by_read (starts row.element piece.attrib
     | inl known ↦ inl (starts-known row.element piece.attributes at.read d e known)
     | inr early ↦ Early-begin at.inner at.outer row piece.name piece.line piece.attributes at.read d is e early
   ]
+
   by_read : (r : Reading Draft) → starts row.element piece.attributes at.read ≡ r → (r >>= λ d. Ok (within row piece at d)) ≡ Ok now → Fine now
   by_read (Ok d) e k =
       let whole : within row piece at d ≡ now = cc in
@@ -258,9 +259,11 @@ begins-row around name row h = by_row (row_of around.element name) refl h where
   by_kind : (k : Option FormKind) → passed_over k ≡ Ok (Some row) → ⊥
   by_kind (Some kind) e = absurd cc
   by_kind None e = absurd cc
+
   by_check : (t : Bool) (found : Row) → (check t (repeated around.element) >>= λ new. Ok (Some found)) ≡ Ok (Some row) → Some found ≡ Some row
   by_check true found e = cc
   by_check false found e = absurd cc
+
   by_row : (r : Option Row) → row_of around.element name ≡ r → begins_by r around name ≡ Ok (Some row) → r ≡ Some row
   by_row None is e = absurd (by_kind (unlisted around.element) e)
   by_row (Some found) is e = by_check (may_come found.times (is_seen around name)) found e
@@ -271,6 +274,7 @@ start-fine piece at now h fine = by_passing at.passing h where
   by_row (Ok None) is e = same_place Fine (started instance_meaning None piece at) (record at { passing = Some piece.name }) now refl e fine
   by_row (Ok (Some row)) is e = begun-fine row piece at now (begins-row at.inner piece.name row is) e fine
   by_row (Err kind) is e = absurd cc
+
   by_passing : (p : Option (List ℕ)) → start_in p instance_meaning piece at ≡ Ok now → Fine now
   by_passing (Some name) e = same_place Fine (Ok at) at now refl e fine
   by_passing None e = by_row (begins at.inner piece.name) refl e
@@ -292,6 +296,7 @@ closed-ok inner piece read d h = by_own (bytes_eq (element_name inner.element) p
       → (is_complete inner ≡ true) × (ends inner.element (trimmed inner.text) read ≡ Ok d)
   by_complete true e k = (e, line-ok (end_line inner piece.line) (ends inner.element (trimmed inner.text) read) d k)
   by_complete false e k = absurd cc
+
   by_own : (t : Bool)
       → (on_line piece.line (check t BadNesting) >>= λ own. on_line piece.line (check (is_complete inner) MissingElement) >>= λ complete. on_line (end_line inner piece.line) (ends inner.element (trimmed inner.text) read)) ≡ Ok d
       → (is_complete inner ≡ true) × (ends inner.element (trimmed inner.text) read ≡ Ok d)
@@ -306,6 +311,7 @@ ended-fine (around ∷ outer) piece at now is h fine = by_closed (closed instanc
     | inl known ↦ inl (ends-known at.inner.element (trimmed at.inner.text) at.read d e known)
     | inr early ↦ inr (Early-end at.inner around outer complete (subst (λ (os : List Open). Early at.inner os) is early))
   ]
+
   by_closed : (r : Result Draft Fault) → closed instance_meaning at.inner piece at.read ≡ r → (r >>= λ d. Ok (behind around outer d)) ≡ Ok now → Fine now
   by_closed (Ok d) e k =
       let parts : (is_complete at.inner ≡ true) × (ends at.inner.element (trimmed at.inner.text) at.read ≡ Ok d) = closed-ok at.inner piece at.read d e in
@@ -318,6 +324,7 @@ end-fine piece at now h fine = by_passing at.passing h where
   by_name : (t : Bool) → Fine (cond t (record at { passing = None }) at)
   by_name true = fine
   by_name false = fine
+
   by_passing : (p : Option (List ℕ)) → end_in p instance_meaning piece at ≡ Ok now → Fine now
   by_passing (Some name) e = same_place_on Fine (Ok (cond (bytes_eq name piece.name) (record at { passing = None }) at)) (cond (bytes_eq name piece.name) (record at { passing = None }) at) now refl e (by_name (bytes_eq name piece.name))
   by_passing None e = ended-fine at.outer piece at now refl e fine
@@ -326,9 +333,11 @@ text-fine : (piece : Piece) (at : At) → Fine at → Fine (at_text piece at)
 text-fine piece at fine = by_passing at.passing where
   joined : Fine (record at { inner = record at.inner { text = at.inner.text ++ piece.text } })
   joined = elim fine [ inl known ↦ inl known | inr early ↦ inr (Early-text at.inner at.outer (at.inner.text ++ piece.text) early) ]
+
   by_value : (t : Bool) → Fine (cond t (record at { inner = record at.inner { text = at.inner.text ++ piece.text } }) at)
   by_value true = joined
   by_value false = fine
+
   by_passing : (p : Option (List ℕ)) → Fine (text_in p piece at)
   by_passing (Some name) = fine
   by_passing None = by_value (has_value at.inner.element)
@@ -354,8 +363,8 @@ file_end-known [] line at d is h fine = by_complete (is_complete at.inner) refl 
       elim fine [
         | inl known ↦ subst Known same known
         | inr early ↦
-          let file : Early at.inner [] = subst (λ (os : List Open). Early at.inner os) is early in
-          absurd (empty_file at.inner file.0 file.1 complete)
+            let file : Early at.inner [] = subst (λ (os : List Open). Early at.inner os) is early in
+            absurd (empty_file at.inner file.0 file.1 complete)
       ]
   by_complete false complete e = absurd cc
 
@@ -458,7 +467,7 @@ pub record IsSize (n : ℕ) : Type 0 where
 size_by : (n : ℕ) (ids slot_ids : Bool) → (n % 2 == 0) && nat_le 2 n && nat_le n 40 && ids && slot_ids ≡ true → IsSize n
 size_by n ids slot_ids h =
     let sizes : (n % 2 == 0) && nat_le 2 n && nat_le n 40 ≡ true =
-        and-left ((n % 2 == 0) && nat_le 2 n && nat_le n 40) ids (and-left ((n % 2 == 0) && nat_le 2 n && nat_le n 40 && ids) slot_ids h) in
+    and-left ((n % 2 == 0) && nat_le 2 n && nat_le n 40) ids (and-left ((n % 2 == 0) && nat_le 2 n && nat_le n 40 && ids) slot_ids h) in
     let most : nat_le n 40 ≡ true = and-right ((n % 2 == 0) && nat_le 2 n) (nat_le n 40) sizes in
     let some : (n % 2 == 0) && nat_le 2 n ≡ true = and-left ((n % 2 == 0) && nat_le 2 n) (nat_le n 40) sizes in
     let two : nat_le 2 n ≡ true = and-right (n % 2 == 0) (nat_le 2 n) some in
@@ -481,6 +490,7 @@ fails_in_range p a (suc n) k low high fails = by_first (p a) refl (λ later. fai
   bool_differ : (t : Bool) → t ≡ true → t ≡ false → ⊥
   bool_differ true x y = absurd cc
   bool_differ false x y = absurd cc
+
   by_first : (t : Bool) → p a ≡ t → (a + 1 ≤ k → list_all p (range_with_len (a + 1) n) ≡ false) → t && list_all p (range_with_len (a + 1) n) ≡ false
   by_first false is others = refl
   by_first true is others =
