@@ -1,9 +1,10 @@
 -- What a search answers, in the words of the definitions.
-use Rattle.std.proofs.Common.{◌≡◌, ℕ, ◌<◌, ◌≤◌, ◌-◌, Bool, true, false, not, List, length, get_or, Option, Some, None, unwrap_or, sym, arith, le_refl}
-use Rattle.std.specs.List.{position_or_len, suffix_len}
+use Rattle.std.proofs.Common.{◌≡◌, ℕ, ◌<◌, ◌≤◌, ◌+◌, ◌-◌, Bool, true, false, not, cond, List, length, get_or, drop, Option, Some, None, unwrap_or, sym, ap, ◌∙◌, arith, le_refl}
+use Rattle.std.specs.List.{position_or_len, suffix_len, find}
 use Rattle.std.proofs.lemmas.Bool.{not_from_true, cases_Bool}
 use Rattle.std.proofs.Common.{inl, inr}
 use Rattle.std.proofs.lemmas.List.Sums.{position_or_len_is, suffix_len_is}
+use Rattle.std.proofs.lemmas.List.{at_drop_more}
 use Rattle.memchr.specs.Find.{IsFirstByte}
 
 fails : (b : Bool) → (b ≡ true → ⊥) → b ≡ false
@@ -32,3 +33,8 @@ pub run_back : (test : ℕ → Bool) (bytes : List ℕ) (len : ℕ) → len ≤ 
 run_back test bytes len within passes stops =
     let run : suffix_len test bytes ≡ length bytes - len = suffix_len_is test bytes len 0 within passes stops in
     omega arith
+
+-- a search in a list goes on after what fails
+pub found_later : {X : Type 0} (test : X → Bool) (xs : List X) (i : ℕ) (d : X) → i < length xs → test (get_or xs i d) ≡ false → find test (drop i xs) ≡ find test (drop (i + 1) xs)
+found_later test xs i d below isnt =
+    at_drop_more (find test) xs i d below ∙ ap (λ (b : Bool). cond b (Some (get_or xs i d)) (find test (drop (i + 1) xs))) isnt

@@ -1,21 +1,26 @@
 -- The walk, piece by piece, as a loop takes it.
 use Rattle.std.proofs.Common.{◌≡◌, ℕ, ◌<◌, Bool, true, false, List, [], ◌∷◌, length, Option, Some, None, Ok, Err, refl, sym, ap, ◌∙◌, subst, arith}
 use Rattle.std.specs.Prelude.{Result}
-use Rattle.robinx_tags.specs.Fronts.{◌>>=◌, check}
+use Rattle.robinx_tags.specs.Fronts.{◌>>=◌}
 use Rattle.robinx_tags.specs.Pieces.{Piece, Pieces, Last, Ends, Faulty, none_but, onto}
 use Rattle.robinx_tags.specs.Next.{GivesNext}
-use Rattle.robinx_tags.specs.declared.fault.FormKind.TheVariants.{BadNesting, Truncated}
+use Rattle.robinx_tags.specs.SeenTag.{view_of}
+use Rattle.robinx_tags.specs.declared.fault.FormKind.TheVariants.{Truncated}
+use Rattle.robinx_tags.specs.declared.tag.Tag.{Tag}
 use Rattle.robinx_tags.specs.declared.fault.TagFault.{TagFault}
 use Rattle.robinx_tags.specs.declared.fault.TagFault.TheVariants as tags
-use Rattle.robinx_read.specs.Walk.{Meaning, Open, Place, Fault, walk, at_piece, at_file_end, is_complete, closed, ended}
+use Rattle.robinx_read.specs.Walk.{Meaning, Open, Place, Fault, walk, at_piece, at_file_end, is_complete}
 use Rattle.robinx_read.specs.Answers.{Moves}
 use Rattle.robinx_read.specs.Tagged.{of_tags}
 use Rattle.robinx_read.specs.declared.fault.ReadFault.{ReadFault}
 use Rattle.robinx_read.specs.declared.fault.ReadFault.TheVariants as faults
 
--- where an element has ended
-abbrev pub behind : {Read : Type 0} → Open → List Open → Read → Place Read
-behind around outer read = record { inner = around; outer = outer; passing = None; read = read }
+pub next_piece : (left now : Pieces) (found : Option Tag) (tag : Tag) → GivesNext left (Ok found) now → found ≡ Some tag → left ≡ onto (view_of tag) now
+next_piece left now found tag h is = subst (λ (f : Option Tag). GivesNext left (Ok f) now) is h
+
+-- where no piece comes next, none is left
+pub nothing_left : (left now : Pieces) (found : Option Tag) → GivesNext left (Ok found) now → found ≡ None → (now ≡ left) × ((line : ℕ) × (left ≡ none_but (Ends line)))
+nothing_left left now found h none = subst (λ (f : Option Tag). GivesNext left (Ok f) now) none h
 
 module _ {Read : Type 0} (meaning : Meaning Read) where
   opened : (left now : Pieces) (piece : Piece) (at : Place Read) → left ≡ onto piece now
@@ -47,26 +52,16 @@ module _ {Read : Type 0} (meaning : Meaning Read) where
   unfolding walk
   walk-end left at line is = ap (λ (l : Pieces). walk meaning l.items l.last at) is
 
-  pub file_end-whole : (line : ℕ) (at : Place Read) → is_complete at.inner ≡ true → at_file_end [] line at ≡ Ok at.read
-  file_end-whole line at complete = rw complete refl
+-- the file's end, by the elements around the place
+module _ {Read : Type 0} where
+  pub file_end-whole : (outer : List Open) (line : ℕ) (at : Place Read) → length outer ≡ 0 → is_complete at.inner ≡ true → at_file_end outer line at ≡ Ok at.read
+  file_end-whole [] line at none complete = rw complete refl
+  file_end-whole (around ∷ outer) line at none complete = absurd (omega arith)
 
-  pub file_end-incomplete : (line : ℕ) (at : Place Read) → is_complete at.inner ≡ false → at_file_end [] line at ≡ Err (Truncated, line)
-  file_end-incomplete line at incomplete = rw incomplete refl
+  pub file_end-open : (outer : List Open) (line : ℕ) (at : Place Read) → 0 < length outer → at_file_end outer line at ≡ Err (Truncated, line)
+  file_end-open [] line at some = absurd (omega arith)
+  file_end-open (around ∷ outer) line at some = refl
 
-  -- the End of an element, with those around it
-  pub ended-bottom : (outer : List Open) (piece : Piece) (at : Place Read) → length outer ≡ 0 → ended meaning outer piece at ≡ Err (BadNesting, piece.line)
-  ended-bottom [] piece at none = refl
-  ended-bottom (around ∷ outer) piece at none = absurd (omega arith)
-
-  pub ended-stop : (outer : List Open) (piece : Piece) (at next : Place Read) (now : Read) (fault : ReadFault) → 0 < length outer
-      → Moves (closed meaning at.inner piece at.read) (Err fault) now → Moves (ended meaning outer piece at) (Err fault) next
-  ended-stop [] piece at next now fault some step = absurd (omega arith)
-  ended-stop (around ∷ outer) piece at next now (faults.Form fault) some step =
-      ap (λ (r : Result Read Fault). r >>= λ read. Ok (behind around outer read)) step
-  ended-stop (around ∷ outer) piece at next now faults.Mem some step = tt
-
-  pub ended-ok : (outer : List Open) (piece : Piece) (at : Place Read) (around : Open) (others : List Open) (read : Read) → outer ≡ around ∷ others → closed meaning at.inner piece at.read ≡ Ok read
-      → ended meaning outer piece at ≡ Ok (behind around others read)
-  ended-ok outer piece at around others read is step =
-      let whole : ended meaning (around ∷ others) piece at ≡ Ok (behind around others read) = ap (λ (r : Result Read Fault). r >>= λ x. Ok (behind around others x)) step in
-      subst (λ (os : List Open). ended meaning os piece at ≡ Ok (behind around others read)) (sym is) whole
+  pub file_end-incomplete : (outer : List Open) (line : ℕ) (at : Place Read) → is_complete at.inner ≡ false → at_file_end outer line at ≡ Err (Truncated, line)
+  file_end-incomplete [] line at incomplete = rw incomplete refl
+  file_end-incomplete (around ∷ outer) line at incomplete = refl

@@ -350,12 +350,10 @@ impl Row {
 fn find_row(rows: &[Row], name: &[u8]) -> Option<Row>
     ensures { result ≡ find (λ row. bytes_eq (elements.element_name row.element) name.now) rows.now }
 {
-    let mut rest = rows;
-    'rows: while let [row, others @ ..] = rest {
+    for row in rows {
         if row.has_name(name) {
             return Some(*row);
         }
-        rest = others;
     }
     None
 }
