@@ -3,3 +3,4 @@ pub mod AnswerLemmas
 pub mod WeightLemmas
 pub mod AssessLemmas
 pub mod ReportLemmas
+pub mod BuiltLemmas

@@ -1,5 +1,7 @@
 -- what the contract of `run` rests on
 pub mod Words
+pub mod Built
+pub mod Refusals
 pub mod Report
 pub mod Answer
 -- what the assessment rests on

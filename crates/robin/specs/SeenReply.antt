@@ -1,6 +1,8 @@
 -- What a contract sees of the steps of a run.
-use Rattle.std.specs.Prelude.{string_bytes, Result, Ok, Err}
-use Rattle.robin.specs.Answer.{Answer, Outcome}
+use Rattle.std.specs.Prelude.{◌≡◌, ℕ, List, string_bytes, Result, Ok, Err}
+use Rattle.robinx_read.specs.Walk.{Fault}
+use Rattle.robin.specs.Answer.{Outcome}
+use Rattle.robin.specs.Refusals.{Answer, malformed}
 use Rattle.robin.specs.declared.reply.Reply.{Reply}
 use Rattle.robin.specs.declared.reply.Stop.{Stop}
 use Rattle.robin.specs.declared.reply.Stop.TheVariants as stop
@@ -17,3 +19,7 @@ StepGives Goes Ends (Err stop.Memory) = Unit {0}
 -- every answer that a step gives is one of these
 abbrev pub Answers : Outcome → Result Reply Stop → Type 0
 Answers outcome result = StepGives (λ reply. outcome (answer_of reply)) outcome result
+
+-- a file has a fault of form, and is refused by it
+abbrev pub IsMalformed : {X : Type 0} → List ℕ → Result X Fault → Answer → Type 0
+IsMalformed {X} which said answer = (fault : Fault) × (said ≡ Err fault) × (answer ≡ malformed which fault.0 fault.1)

@@ -5,7 +5,7 @@ ghost use Rattle.league.specs.Accepted.{infeasibility, objective, IsAccepted};
 ghost use Rattle.league.specs.Counts.{counts_of};
 ghost use Rattle.league.specs.Deviation.{vector_of};
 ghost use Rattle.league.specs.Instance.{IsGame};
-ghost use Rattle.robinx_read.specs.Plain.{IsPlain};
+ghost use Rattle.robin.specs.Built.{IsBuilt};
 ghost use Rattle.robin.specs.Assess.{IsStructureOf};
 
 use crate::venues::Venues;
@@ -65,7 +65,7 @@ pub struct Assessment {
 /// # Errors
 /// Only where memory runs out.
 pub fn assess(alloc: Global, league: &League, schedule: &Schedule) -> Result<Assessment, AllocError>
-    requires plain { IsPlain league.now }
+    requires built { IsBuilt league.now }
     requires few { length schedule.now ≤ 10000 }
     requires fit { All (IsGame league.now.n) schedule.now }
     ensures structure { IfOk result (λ assessed. IsStructureOf league.now (counts_of schedule.now) assessed.structure) }

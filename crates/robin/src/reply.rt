@@ -1,10 +1,11 @@
 //! What a run answers, and the answers that refuse.
 ghost use Rattle.std.specs.Prelude.{◌≡◌, IfOk};
-ghost use Rattle.robin.specs.Answer.{refused_words, read_fault, too_long, not_plain};
+ghost use Rattle.robin.specs.Refusals as refusals;
 ghost use Rattle.robin.specs.SeenReply.{answer_of};
 ghost use Rattle.robin.specs.declared.reply.Stop.TheVariants as stop;
 
 use crate::status::Status;
+use robinx_read::{FormFault, FormKind};
 use std::alloc::{AllocError, Global};
 
 /// An answer: how the run ends, and the text that it writes.
@@ -31,7 +32,7 @@ impl From<AllocError> for Stop {
 
 /// The words are no command.
 pub fn words_refused(alloc: Global) -> Result<Reply, AllocError>
-    ensures { IfOk result (λ reply. answer_of reply ≡ refused_words) }
+    ensures { IfOk result (λ reply. answer_of reply ≡ refusals.refused_words) }
 {
     let text = format!(in alloc; "refused words\n")?;
     Ok(Reply {
@@ -42,7 +43,7 @@ pub fn words_refused(alloc: Global) -> Result<Reply, AllocError>
 
 /// The store failed at a file.
 pub fn unreadable(alloc: Global, which: &str) -> Result<Reply, AllocError>
-    ensures { IfOk result (λ reply. answer_of reply ≡ read_fault which.now) }
+    ensures { IfOk result (λ reply. answer_of reply ≡ refusals.read_fault which.now) }
 {
     let text = format!(in alloc; "read fault {which}\n")?;
     Ok(Reply {
@@ -53,7 +54,7 @@ pub fn unreadable(alloc: Global, which: &str) -> Result<Reply, AllocError>
 
 /// A file has more bytes than its limit.
 pub fn past_limit(alloc: Global, which: &str, limit: usize) -> Result<Reply, AllocError>
-    ensures { IfOk result (λ reply. answer_of reply ≡ too_long which.now limit) }
+    ensures { IfOk result (λ reply. answer_of reply ≡ refusals.too_long which.now limit) }
 {
     let text = format!(in alloc; "refused {which} TooLong limit {limit}\n")?;
     Ok(Reply {
@@ -62,11 +63,50 @@ pub fn past_limit(alloc: Global, which: &str, limit: usize) -> Result<Reply, All
     })
 }
 
-/// A file says no league or no schedule.
-pub fn formless(alloc: Global, which: &str) -> Result<Reply, AllocError>
-    ensures { IfOk result (λ reply. answer_of reply ≡ not_plain which.now) }
+/// The name of a fault of form.
+fn kind_word(kind: FormKind) -> &'static str
+    ensures { result.now ≡ refusals.kind_word kind }
 {
-    let text = format!(in alloc; "refused {which} NotPlain line 1\n")?;
+    match kind {
+        FormKind::BadTag => "BadTag",
+        FormKind::BadAttribute => "BadAttribute",
+        FormKind::RepeatedAttribute => "RepeatedAttribute",
+        FormKind::TooManyAttributes => "TooManyAttributes",
+        FormKind::Truncated => "Truncated",
+        FormKind::BadNesting => "BadNesting",
+        FormKind::MissingElement => "MissingElement",
+        FormKind::RepeatedElement => "RepeatedElement",
+        FormKind::MissingAttribute => "MissingAttribute",
+        FormKind::BadNumber => "BadNumber",
+        FormKind::NumberTooLarge => "NumberTooLarge",
+        FormKind::UnknownTeam => "UnknownTeam",
+        FormKind::UnknownSlot => "UnknownSlot",
+        FormKind::SameTeam => "SameTeam",
+        FormKind::BadChoice => "BadChoice",
+        FormKind::UnsupportedClass => "UnsupportedClass",
+        FormKind::WrongCounts => "WrongCounts",
+        FormKind::TooMany => "TooMany",
+    }
+}
+
+/// A file has a fault of form.
+pub fn malformed(alloc: Global, which: &str, fault: FormFault) -> Result<Reply, AllocError>
+    ensures { IfOk result (λ reply. answer_of reply ≡ refusals.malformed which.now fault.kind fault.line) }
+{
+    let kind = kind_word(fault.kind);
+    let line = fault.line;
+    let text = format!(in alloc; "refused {which} {kind} line {line}\n")?;
+    Ok(Reply {
+        status: Status::File,
+        text,
+    })
+}
+
+/// The constraint of this number, counted from 1, is of a class that isn't judged yet.
+pub fn unbuilt(alloc: Global, number: usize) -> Result<Reply, AllocError>
+    ensures { IfOk result (λ reply. answer_of reply ≡ refusals.unbuilt number) }
+{
+    let text = format!(in alloc; "refused constraint {number} Unbuilt\n")?;
     Ok(Reply {
         status: Status::File,
         text,

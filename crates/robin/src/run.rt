@@ -1,18 +1,22 @@
 //! The call that the program makes: the steps of a run in their order.
-ghost use Rattle.std.specs.Prelude.{◌≡◌, ◌≢◌, ◌≤◌, ℕ, List, None, IfOk, codes, length, vec_len};
+ghost use Rattle.std.specs.Prelude.{◌≡◌, ◌≢◌, ◌≤◌, ℕ, List, None, Ok, IfOk, codes, length, vec_len};
 ghost use Rattle.std.specs.Io.KnownBytes.{Keeps};
 ghost use Rattle.robin_io.specs.Counts.{raised, Rose, TookMore};
-ghost use Rattle.robinx_read.specs.Plain.{IsPlain, IsPlainInstance, IsPlainSolution};
-ghost use Rattle.robin.specs.Answer.{Answer, IsAnswer, IsFile, IsFormless, IsGiven, IsJudgement, IsPlainPair, IsSaid, IsUnread, GivesJudgement, says, validated};
-ghost use Rattle.robin.specs.SeenReply.{answer_of, Answers, StepGives};
+ghost use Rattle.robinx_tags.specs.Pieces.{pieces};
+ghost use Rattle.robinx_read.specs.InstanceFile.{instance_of};
+ghost use Rattle.robinx_read.specs.SolutionFile.{solution_of};
+ghost use Rattle.robin.specs.Answer.{IsAnswer, IsFile, IsGiven, IsUnread, IsWellFormedPair, GivesJudgement, judges, says, validated};
+ghost use Rattle.robin.specs.Refusals.{Answer};
+ghost use Rattle.robin.specs.SeenReply.{answer_of, Answers, IsMalformed, StepGives};
 ghost use Rattle.robin.specs.SeenWords.{command_of, texts};
 ghost use Rattle.robin.specs.Words.{reading};
 ghost use Rattle.robin.specs.Words.Command.{Validate};
-ghost use Rattle.league.specs.Instance.{Instance};
+ghost use Rattle.league.specs.Instance.{Instance, IsGame};
+ghost use Rattle.std.specs.List.{All};
 ghost use Rattle.league.specs.declared.game.Game.{Game};
 
 use crate::judge::judge;
-use crate::reply::{Reply, Stop, formless, past_limit, unreadable, words_refused};
+use crate::reply::{Reply, Stop, malformed, past_limit, unreadable, words_refused};
 use crate::status::Status;
 use crate::words::{Words, read_words};
 use league::{League, Schedule};
@@ -55,11 +59,11 @@ fn file<S: Shelf>(
 /// The league that an instance file says.
 fn league_in(alloc: Global, bytes: &[u8]) -> Result<League, Stop>
     requires { length bytes.now ≤ 16777216 }
-    ensures { StepGives (IsSaid (IsPlainInstance bytes.now)) (IsFormless (codes "instance") (IsPlainInstance bytes.now)) result }
+    ensures { StepGives (λ league. instance_of (pieces bytes.now) ≡ Ok league) (IsMalformed (codes "instance") (instance_of (pieces bytes.now))) result }
 {
     match read_instance(alloc, bytes) {
         Ok(league) => Ok(league),
-        Err(ReadFault::Form(_)) => Err(Stop::Answered(formless(alloc, "instance")?)),
+        Err(ReadFault::Form(fault)) => Err(Stop::Answered(malformed(alloc, "instance", fault)?)),
         Err(ReadFault::Mem) => Err(Stop::Memory),
     }
 }
@@ -67,20 +71,21 @@ fn league_in(alloc: Global, bytes: &[u8]) -> Result<League, Stop>
 /// The schedule of the league that a solution file says.
 fn schedule_in(alloc: Global, bytes: &[u8], league: &League) -> Result<Schedule, Stop>
     requires { length bytes.now ≤ 1048576 }
-    ensures { StepGives (IsSaid (IsPlainSolution league.now.n bytes.now)) (IsFormless (codes "solution") (IsPlainSolution league.now.n bytes.now)) result }
+    ensures says { StepGives (λ games. solution_of league.now.n (pieces bytes.now) ≡ Ok games) (IsMalformed (codes "solution") (solution_of league.now.n (pieces bytes.now))) result }
+    ensures few { IfOk result (λ games. length games ≤ 10000) }
+    ensures fit { IfOk result (All (IsGame league.now.n)) }
 {
     match read_solution(alloc, bytes, league) {
         Ok(schedule) => Ok(schedule),
-        Err(ReadFault::Form(_)) => Err(Stop::Answered(formless(alloc, "solution")?)),
+        Err(ReadFault::Form(fault)) => Err(Stop::Answered(malformed(alloc, "solution", fault)?)),
         Err(ReadFault::Mem) => Err(Stop::Memory),
     }
 }
 
 /// Judges what a solution file says by the league.
 fn judge_file(alloc: Global, bytes: &[u8], league: &League) -> Result<Reply, Stop>
-    requires plain { IsPlain league.now }
-    requires within { length bytes.now ≤ 1048576 }
-    ensures { Answers (says (codes "solution") (IsPlainSolution league.now.n bytes.now) (IsJudgement league.now)) result }
+    requires { length bytes.now ≤ 1048576 }
+    ensures { Answers (says (codes "solution") (solution_of league.now.n (pieces bytes.now)) (judges league.now)) result }
 {
     let schedule = schedule_in(alloc, bytes, league)?;
     Ok(judge(alloc, league, &schedule)?)
@@ -169,9 +174,9 @@ pub fn run<S: Shelf, K: Sink>(alloc: Global, words: &[String], shelf: &mut S, ou
         answer
         × IsGiven answer result (K.written out.old) (K.written out.new) (Rose (K.faults out.old) (K.faults out.new)) }
 
-    // Two plain files, at which nothing fails, are judged, unless memory runs out.
+    // Two well-formed files, at which nothing fails, are judged, unless memory runs out.
     ensures judged { (instance solution : List ℕ) (league : Instance) (games : List Game) → reading (texts words.now) ≡ Some (Validate instance solution)
-        → IsPlainPair (S.contents shelf.old) (λ name. Rose (S.faults shelf.old name) (S.faults shelf.new name)) instance solution league games
+        → IsWellFormedPair (S.contents shelf.old) (λ name. Rose (S.faults shelf.old name) (S.faults shelf.new name)) instance solution league games
         → (Rose (K.faults out.old) (K.faults out.new) → ⊥) → result ≢ Status.Memory
         → GivesJudgement league games result (K.written out.old) (K.written out.new) }
 

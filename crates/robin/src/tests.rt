@@ -261,7 +261,7 @@ fn a_hard_capacity_is_short(rt: HostRuntime) -> Result<(), Fail> {
 }
 
 #[test]
-fn refusals(rt: HostRuntime) -> Result<(), Fail> {
+fn files_beyond_their_limits(rt: HostRuntime) -> Result<(), Fail> {
     let alloc = rt.alloc();
     let league = joined(alloc, &[FOUR_PHASED, NO_CONSTRAINTS])?;
     let season = joined(alloc, &[GAMES, ELEVEN, LAST, NO_MORE_GAMES])?;
@@ -269,12 +269,143 @@ fn refusals(rt: HostRuntime) -> Result<(), Fail> {
     let (status, text) = validated(alloc, &spaces, season.as_bytes())?;
     assert_eq!(rt; status, Status::File);
     assert!(rt; text.as_slice() == b"refused instance TooLong limit 16777216\n".as_slice());
-    let (status, text) = validated(alloc, season.as_bytes(), season.as_bytes())?;
+    let (status, text) = validated(alloc, league.as_bytes(), &spaces[..1048577])?;
     assert_eq!(rt; status, Status::File);
-    assert!(rt; text.as_slice() == b"refused instance NotPlain line 1\n".as_slice());
-    let (status, text) = validated(alloc, league.as_bytes(), league.as_bytes())?;
+    assert!(rt; text.as_slice() == b"refused solution TooLong limit 1048576\n".as_slice());
+    Ok(())
+}
+
+#[test]
+fn faults_of_form(rt: HostRuntime) -> Result<(), Fail> {
+    let games = [GAMES, ELEVEN, LAST, NO_MORE_GAMES];
+    let league = [FOUR_PHASED, NO_CONSTRAINTS];
+    let alloc = rt.alloc();
+    judged(
+        &rt,
+        alloc,
+        &games,
+        &games,
+        Status::File,
+        "refused instance BadNesting line 2\n",
+    )?;
+    judged(
+        &rt,
+        alloc,
+        &league,
+        &league,
+        Status::File,
+        "refused solution BadNesting line 2\n",
+    )?;
+    let unsupported = "<BreakConstraints>\n<BR3 intp=\"1\"/>\n";
+    judged(
+        &rt,
+        alloc,
+        &[FOUR_PHASED, unsupported, NO_CONSTRAINTS],
+        &games,
+        Status::File,
+        "refused instance UnsupportedClass line 28\n",
+    )?;
+    let unknown = "<ScheduledMatch home=\"3\" away=\"0\" slot=\"6\"/>\n";
+    judged(
+        &rt,
+        alloc,
+        &league,
+        &[GAMES, unknown],
+        Status::File,
+        "refused solution UnknownSlot line 4\n",
+    )
+}
+
+#[test]
+fn every_front_of_a_file_is_truncated(rt: HostRuntime) -> Result<(), Fail> {
+    let alloc = rt.alloc();
+    let league = joined(alloc, &[FOUR_PHASED, NO_CONSTRAINTS])?;
+    let season = joined(alloc, &[GAMES, ELEVEN, LAST, NO_MORE_GAMES])?;
+    let bytes = league.as_bytes();
+    let mut line = 1usize;
+    for (len, byte) in bytes.iter().enumerate() {
+        if len + 1 == bytes.len() {
+            break;
+        }
+        let (status, text) = validated(alloc, &bytes[..len], season.as_bytes())?;
+        let expected = format!(in alloc; "refused instance Truncated line {line}\n")?;
+        assert_eq!(rt; status, Status::File);
+        assert!(rt; text.as_slice() == expected.as_bytes(), "{len}");
+        if *byte == b'\n' {
+            line = line.saturating_add(1);
+        }
+    }
+    assert_eq!(rt; line, 28);
+    // Without its last line feed the file says the same.
+    let (status, _) = validated(
+        alloc,
+        &bytes[..bytes.len().saturating_sub(1)],
+        season.as_bytes(),
+    )?;
+    assert_eq!(rt; status, Status::Yes);
+    Ok(())
+}
+
+#[test]
+fn a_byte_order_mark_and_other_quotes(rt: HostRuntime) -> Result<(), Fail> {
+    let alloc = rt.alloc();
+    let league = joined(alloc, &[FOUR_PHASED, NO_CONSTRAINTS])?;
+    let season = joined(alloc, &[GAMES, ELEVEN, LAST, NO_MORE_GAMES])?;
+    let mut other = Vec::from_slice(alloc, &[0xEF, 0xBB, 0xBF])?;
+    for byte in league.as_bytes() {
+        other.push(if *byte == b'"' { b'\'' } else { *byte })?;
+    }
+    let (status, _) = validated(alloc, &other, season.as_bytes())?;
+    assert_eq!(rt; status, Status::Yes);
+    Ok(())
+}
+
+#[test]
+fn a_class_that_is_not_judged_yet(rt: HostRuntime) -> Result<(), Fail> {
+    let soft =
+        "<BasicConstraints/>\n<CapacityConstraints>\n<CA1 max=\"0\" min=\"0\" mode=\"H\" penalty=\"10\" slots=\"2;3\" teams=\"0\" type=\"SOFT\"/>\n</CapacityConstraints>\n";
+    let others =
+        "<FairnessConstraints>\n<FA2 intp=\"1\" mode=\"H\" penalty=\"10\" slots=\"0;1;2;3;4;5\" teams=\"0;1;2;3\" type=\"SOFT\"/>\n</FairnessConstraints>\n<SeparationConstraints>\n<SE1 min=\"2\" mode1=\"SLOTS\" penalty=\"10\" teams=\"0;1;2;3\" type=\"HARD\"/>\n</SeparationConstraints>\n";
+    let league = [FOUR_PHASED, soft, others, NO_CONSTRAINTS];
+    let alloc = rt.alloc();
+    judged(
+        &rt,
+        alloc,
+        &league,
+        &[GAMES, ELEVEN, LAST, NO_MORE_GAMES],
+        Status::File,
+        "refused constraint 2 Unbuilt\n",
+    )?;
+    // The solution's form is looked at first.
+    judged(
+        &rt,
+        alloc,
+        &league,
+        &[GAMES],
+        Status::File,
+        "refused solution Truncated line 4\n",
+    )
+}
+
+#[test]
+fn ten_thousand_games(rt: HostRuntime) -> Result<(), Fail> {
+    let alloc = rt.alloc();
+    let league = joined(alloc, &[FOUR_PHASED, NO_CONSTRAINTS])?;
+    let mut season = String::from_str(alloc, GAMES)?;
+    for _ in 0..10000 {
+        season.push_str("<ScheduledMatch home=\"3\" away=\"0\" slot=\"0\"/>\n")?;
+    }
+    let mut one_more = String::from_str(alloc, season.as_str())?;
+    season.push_str(NO_MORE_GAMES)?;
+    let (status, text) = validated(alloc, league.as_bytes(), season.as_bytes())?;
+    assert_eq!(rt; status, Status::No);
+    let report =
+        "teams 4\nslots 6\nmode P\ngames 10000\nstructure pairs 12 cells 24 phases 6\ninfeasibility 0\nobjective 0\nfeasible no\n";
+    assert!(rt; text.as_slice() == report.as_bytes());
+    one_more.push_str("<ScheduledMatch/>")?;
+    let (status, text) = validated(alloc, league.as_bytes(), one_more.as_bytes())?;
     assert_eq!(rt; status, Status::File);
-    assert!(rt; text.as_slice() == b"refused solution NotPlain line 1\n".as_slice());
+    assert!(rt; text.as_slice() == b"refused solution TooMany line 10004\n".as_slice());
     Ok(())
 }
 
@@ -317,26 +448,6 @@ fn words_that_are_no_command(rt: HostRuntime) -> Result<(), Fail> {
         assert!(rt; out.written() == b"refused words\n".as_slice());
     }
     Ok(())
-}
-
-#[test]
-fn a_file_that_is_almost_plain(rt: HostRuntime) -> Result<(), Fail> {
-    let alloc = rt.alloc();
-    let league = joined(alloc, &[FOUR_PHASED, NO_CONSTRAINTS])?;
-    let season = joined(alloc, &[GAMES, ELEVEN, LAST, NO_MORE_GAMES])?;
-    let longer = joined(alloc, &[league.as_str(), "\n"])?;
-    let (status, text) = validated(alloc, longer.as_bytes(), season.as_bytes())?;
-    assert_eq!(rt; status, Status::File);
-    assert!(rt; text.as_slice() == b"refused instance NotPlain line 1\n".as_slice());
-    let first = "<ScheduledMatch home=\"3\" away=\"0\" slot=\"0\"/>\n";
-    judged(
-        &rt,
-        alloc,
-        &[league.as_str()],
-        &[GAMES, first, ELEVEN, LAST, NO_MORE_GAMES],
-        Status::No,
-        "teams 4\nslots 6\nmode P\ngames 13\nstructure pairs 1 cells 2 phases 1\ninfeasibility 0\nobjective 0\nfeasible no\n",
-    )
 }
 
 #[test]

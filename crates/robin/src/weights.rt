@@ -6,7 +6,7 @@ ghost use Rattle.league.specs.Deviation.{vector_of};
 ghost use Rattle.league.specs.Instance.{Instance, are_slots, are_teams, class_fits};
 ghost use Rattle.league.specs.declared.class.Constraint.{Constraint};
 ghost use Rattle.league.specs.declared.game.Game.{Game};
-ghost use Rattle.robinx_read.specs.Plain.{is_ca1, IsPlain};
+ghost use Rattle.robin.specs.Built.{is_built, IsBuilt};
 ghost use Rattle.robin.specs.Assess.{AreAtMost, AreWeightsOf};
 ghost use Rattle.robin.specs.Venues.{AreVenuesOf};
 ghost use Rattle.league.specs.Capacity.{ca1_entry};
@@ -64,7 +64,7 @@ impl Weights {
 
     /// The weights of a league's constraints, which are all CA1, on the schedule of these venues.
     pub fn of(alloc: Global, league: &League, venues: &Venues) -> Result<Weights, AllocError>
-        requires { IsPlain league.now }
+        requires { IsBuilt league.now }
         ensures { IfOk result (λ weights. (games : List Game) → AreVenuesOf league.now.n games venues.now → AreWeightsOf league.now.n (counts_of games) league.now.constraints weights) }
     {
         let n = league.n();
@@ -80,7 +80,7 @@ impl Weights {
 /// The deviation vector of a CA1 constraint.
 fn vector(alloc: Global, n: u16, venues: &Venues, class: &Class) -> Result<Vec<u64>, AllocError>
     requires n { n ≤ 40 }
-    requires plain { IsTrue (is_ca1 class.now) }
+    requires built { IsTrue (is_built class.now) }
     requires fits { IsTrue (class_fits n class.now) }
     ensures exact { IfOk result (λ entries. (games : List Game) → AreVenuesOf n games venues.now → entries.items ≡ vector_of n (counts_of games) class.now) }
     ensures small { IfOk result (λ entries. sum entries.items ≤ 2 ^ 30) }

@@ -1,0 +1,64 @@
+-- Answers, and those that refuse.
+use Rattle.std.specs.Prelude.{ℕ, List, ◌++◌, codes, decimal}
+use Rattle.robinx_tags.specs.declared.fault.FormKind.{FormKind}
+use Rattle.robinx_tags.specs.declared.fault.FormKind.TheVariants.{BadTag, BadAttribute, RepeatedAttribute, TooManyAttributes, Truncated, BadNesting, MissingElement, RepeatedElement, MissingAttribute, BadNumber, NumberTooLarge, UnknownTeam, UnknownSlot, SameTeam, BadChoice, UnsupportedClass, WrongCounts, TooMany}
+use Rattle.robin.specs.declared.status.Status.{Status}
+use Rattle.robin.specs.declared.status.Status.TheVariants.{Yes, No, Words, File, Refuted, Spent, ReadFault, WriteFault, Memory}
+
+-- the exit status
+abbrev pub status_code : Status → ℕ
+status_code Yes = 0
+status_code No = 1
+status_code Words = 2
+status_code File = 3
+status_code Refuted = 4
+status_code Spent = 5
+status_code ReadFault = 6
+status_code WriteFault = 7
+status_code Memory = 8
+
+-- how a run ends, and the text that it writes
+pub record Answer : Type 0 where
+  pub status : Status
+  pub text : List ℕ
+
+-- the words are no command
+abbrev pub refused_words : Answer
+refused_words = record { status = Words; text = codes "refused words\n" }
+
+-- the store failed at a file, which is called `instance` or `solution`
+abbrev pub read_fault : List ℕ → Answer
+read_fault which = record { status = ReadFault; text = codes "read fault " ++ (which ++ codes "\n") }
+
+-- a file has more bytes than its limit
+abbrev pub too_long : List ℕ → ℕ → Answer
+too_long which limit = record { status = File; text = codes "refused " ++ (which ++ (codes " TooLong limit " ++ (decimal limit ++ codes "\n"))) }
+
+-- the name of a fault of form
+abbrev pub kind_word : FormKind → List ℕ
+kind_word BadTag = codes "BadTag"
+kind_word BadAttribute = codes "BadAttribute"
+kind_word RepeatedAttribute = codes "RepeatedAttribute"
+kind_word TooManyAttributes = codes "TooManyAttributes"
+kind_word Truncated = codes "Truncated"
+kind_word BadNesting = codes "BadNesting"
+kind_word MissingElement = codes "MissingElement"
+kind_word RepeatedElement = codes "RepeatedElement"
+kind_word MissingAttribute = codes "MissingAttribute"
+kind_word BadNumber = codes "BadNumber"
+kind_word NumberTooLarge = codes "NumberTooLarge"
+kind_word UnknownTeam = codes "UnknownTeam"
+kind_word UnknownSlot = codes "UnknownSlot"
+kind_word SameTeam = codes "SameTeam"
+kind_word BadChoice = codes "BadChoice"
+kind_word UnsupportedClass = codes "UnsupportedClass"
+kind_word WrongCounts = codes "WrongCounts"
+kind_word TooMany = codes "TooMany"
+
+-- a file has this fault of form on this line, and none before it
+abbrev pub malformed : List ℕ → FormKind → ℕ → Answer
+malformed which kind line = record { status = File; text = codes "refused " ++ (which ++ (codes " " ++ (kind_word kind ++ (codes " line " ++ (decimal line ++ codes "\n"))))) }
+
+-- the constraint of this number, from 1, is of a class that isn't judged yet
+abbrev pub unbuilt : ℕ → Answer
+unbuilt number = record { status = File; text = codes "refused constraint " ++ (decimal number ++ codes " Unbuilt\n") }
