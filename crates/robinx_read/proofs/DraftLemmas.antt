@@ -1,10 +1,11 @@
 -- An instance that is read to its end has its season: its constraints begin behind the End of its resources.
-use Rattle.std.proofs.Common.{◌≡◌, ◌≢◌, ℕ, zero, suc, ◌+◌, ◌-◌, ◌*◌, ◌%◌, ◌<◌, ◌≤◌, Bool, true, false, not, ◌&&◌, ◌||◌, cond, List, [], ◌∷◌, ◌++◌, length, Option, Some, None, Ok, Err, inl, inr, refl, sym, ap, ◌∙◌, subst, arith}
+use Rattle.std.proofs.Common.{◌≡◌, ◌≢◌, ℕ, zero, suc, ◌+◌, ◌-◌, ◌*◌, ◌%◌, ◌<◌, ◌≤◌, Bool, true, false, not, ◌&&◌, ◌||◌, cond, List, [], ◌∷◌, ◌++◌, length, get_or, Option, Some, None, Ok, Err, inl, inr, refl, sym, ap, ◌∙◌, subst, arith}
 use Rattle.std.specs.Prelude.{◌⊎◌, Result, nat_lt, nat_le, ◌==◌, codes, bytes_eq}
 use Rattle.std.specs.List.{All, list_any, list_all, find, range_with_len}
 use Rattle.std.proofs.lemmas.Bool.Decides.{nat_tests}
 use Rattle.std.proofs.lemmas.Slice.Eq.{bytes_eq-Decides}
 use Rattle.std.proofs.lemmas.List.Folds.{list_any-append}
+use Rattle.std.proofs.lemmas.List.FromFn.{length-range_with_len}
 use Rattle.robinx_tags.specs.Fronts.{◌>>=◌, check}
 use Rattle.robinx_tags.specs.Tags.{Attribute}
 use Rattle.robinx_tags.specs.Pieces.{Piece, Pieces, Last, Ends, Faulty}
@@ -19,7 +20,7 @@ use Rattle.league.specs.declared.class.Constraint.{Constraint}
 use Rattle.league.specs.declared.class.Class.TheVariants as class
 use Rattle.robinx_read.specs.Elements.{element_name, inside, unlisted, repeated, has_value}
 use Rattle.robinx_read.specs.Walk.{Open, Place, Fault, is_met, walk, reading, Meaning, is_seen, row_of, is_complete, begins, begins_by, with_seen, on_line, end_line, trimmed, may_come, started, closed, ended, passed_over, start_in, end_in, text_in, at_start, at_end, at_text, at_piece, at_file_end}
-use Rattle.robinx_read.specs.Values.{Reading, required, number, only}
+use Rattle.robinx_read.specs.Values.{Reading, required, number, only, contains}
 use Rattle.robinx_read.specs.Classes.{constraint_of, game_mode}
 use Rattle.robinx_read.specs.InstanceFile.{Draft, instance_meaning, starts, ends, with_constraint, with_season, double, is_season, are_ids, nothing}
 use Rattle.robinx_read.specs.declared.element.Times.{Times}
@@ -70,7 +71,7 @@ starts-known GameMode tag d now h = same-known (Ok d) d now refl h
 starts-known Resources tag d now h = same-known (Ok d) d now refl h
 starts-known Teams tag d now h = same-known (Ok d) d now refl h
 starts-known Slots tag d now h = same-known (Ok d) d now refl h
-starts-known (Group name) tag d now h = same-known (Ok d) d now refl h
+starts-known (Group group) tag d now h = same-known (Ok d) d now refl h
 starts-known Solution tag d now h = same-known (Ok d) d now refl h
 starts-known Games tag d now h = same-known (Ok d) d now refl h
 starts-known ScheduledMatch tag d now h = same-known (Ok d) d now refl h
@@ -124,7 +125,7 @@ ends-known Team value d now h = same-known (Ok d) d now refl h
 ends-known Slots value d now h = same-known (Ok d) d now refl h
 ends-known Slot value d now h = same-known (Ok d) d now refl h
 ends-known Constraints value d now h = same-known (Ok d) d now refl h
-ends-known (Group name) value d now h = same-known (Ok d) d now refl h
+ends-known (Group group) value d now h = same-known (Ok d) d now refl h
 ends-known (ClassOf name) value d now h = same-known (Ok d) d now refl h
 ends-known Solution value d now h = same-known (Ok d) d now refl h
 ends-known Games value d now h = same-known (Ok d) d now refl h
@@ -194,7 +195,7 @@ and-false false b h = absurd cc
 incomplete : (o : Open) → o.element ≡ Instance → is_seen o constraints_name ≡ false → is_complete o ≡ true → ⊥
 incomplete o is unseen complete =
     let all : list_all (λ row. is_met row.times (is_seen o (element_name row.element))) (inside Instance) ≡ true =
-        subst (λ (x : Element). list_all (λ row. is_met row.times (is_seen o (element_name row.element))) (inside x) ≡ true) is complete in
+    subst (λ (x : Element). list_all (λ row. is_met row.times (is_seen o (element_name row.element))) (inside x) ≡ true) is complete in
     and-false (is_seen o (codes "Structure")) (is_seen o (codes "Resources")) (rw unseen at all)
 
 Early-end : (inner around : Open) (outer : List Open) → is_complete inner ≡ true → Early inner (around ∷ outer) → Early around outer
@@ -210,7 +211,7 @@ Early-text inner (p ∷ q ∷ others) text early = early
 empty_file : (o : Open) → o.element ≡ InstanceFile → o.seen ≡ [] → is_complete o ≡ true → ⊥
 empty_file o is none complete =
     let all : list_all (λ row. is_met row.times (is_seen o (element_name row.element))) (inside InstanceFile) ≡ true =
-        subst (λ (x : Element). list_all (λ row. is_met row.times (is_seen o (element_name row.element))) (inside x) ≡ true) is complete in
+    subst (λ (x : Element). list_all (λ row. is_met row.times (is_seen o (element_name row.element))) (inside x) ≡ true) is complete in
     let seen : (list_any (bytes_eq (codes "Instance")) [] && true) ≡ true = subst (λ (names : List (List ℕ)). (list_any (bytes_eq (codes "Instance")) names && true) ≡ true) none all in
     absurd cc
 
@@ -246,6 +247,7 @@ begun-fine row piece at now is h fine = by_read (starts row.element piece.attrib
     | inl known ↦ inl (starts-known row.element piece.attributes at.read d e known)
     | inr early ↦ Early-begin at.inner at.outer row piece.name piece.line piece.attributes at.read d is e early
   ]
+
   by_read : (r : Reading Draft) → starts row.element piece.attributes at.read ≡ r → (r >>= λ d. Ok (within row piece at d)) ≡ Ok now → Fine now
   by_read (Ok d) e k =
       let whole : within row piece at d ≡ now = cc in
@@ -257,9 +259,11 @@ begins-row around name row h = by_row (row_of around.element name) refl h where
   by_kind : (k : Option FormKind) → passed_over k ≡ Ok (Some row) → ⊥
   by_kind (Some kind) e = absurd cc
   by_kind None e = absurd cc
+
   by_check : (t : Bool) (found : Row) → (check t (repeated around.element) >>= λ new. Ok (Some found)) ≡ Ok (Some row) → Some found ≡ Some row
   by_check true found e = cc
   by_check false found e = absurd cc
+
   by_row : (r : Option Row) → row_of around.element name ≡ r → begins_by r around name ≡ Ok (Some row) → r ≡ Some row
   by_row None is e = absurd (by_kind (unlisted around.element) e)
   by_row (Some found) is e = by_check (may_come found.times (is_seen around name)) found e
@@ -270,6 +274,7 @@ start-fine piece at now h fine = by_passing at.passing h where
   by_row (Ok None) is e = same_place Fine (started instance_meaning None piece at) (record at { passing = Some piece.name }) now refl e fine
   by_row (Ok (Some row)) is e = begun-fine row piece at now (begins-row at.inner piece.name row is) e fine
   by_row (Err kind) is e = absurd cc
+
   by_passing : (p : Option (List ℕ)) → start_in p instance_meaning piece at ≡ Ok now → Fine now
   by_passing (Some name) e = same_place Fine (Ok at) at now refl e fine
   by_passing None e = by_row (begins at.inner piece.name) refl e
@@ -291,6 +296,7 @@ closed-ok inner piece read d h = by_own (bytes_eq (element_name inner.element) p
       → (is_complete inner ≡ true) × (ends inner.element (trimmed inner.text) read ≡ Ok d)
   by_complete true e k = (e, line-ok (end_line inner piece.line) (ends inner.element (trimmed inner.text) read) d k)
   by_complete false e k = absurd cc
+
   by_own : (t : Bool)
       → (on_line piece.line (check t BadNesting) >>= λ own. on_line piece.line (check (is_complete inner) MissingElement) >>= λ complete. on_line (end_line inner piece.line) (ends inner.element (trimmed inner.text) read)) ≡ Ok d
       → (is_complete inner ≡ true) × (ends inner.element (trimmed inner.text) read ≡ Ok d)
@@ -305,6 +311,7 @@ ended-fine (around ∷ outer) piece at now is h fine = by_closed (closed instanc
     | inl known ↦ inl (ends-known at.inner.element (trimmed at.inner.text) at.read d e known)
     | inr early ↦ inr (Early-end at.inner around outer complete (subst (λ (os : List Open). Early at.inner os) is early))
   ]
+
   by_closed : (r : Result Draft Fault) → closed instance_meaning at.inner piece at.read ≡ r → (r >>= λ d. Ok (behind around outer d)) ≡ Ok now → Fine now
   by_closed (Ok d) e k =
       let parts : (is_complete at.inner ≡ true) × (ends at.inner.element (trimmed at.inner.text) at.read ≡ Ok d) = closed-ok at.inner piece at.read d e in
@@ -317,6 +324,7 @@ end-fine piece at now h fine = by_passing at.passing h where
   by_name : (t : Bool) → Fine (cond t (record at { passing = None }) at)
   by_name true = fine
   by_name false = fine
+
   by_passing : (p : Option (List ℕ)) → end_in p instance_meaning piece at ≡ Ok now → Fine now
   by_passing (Some name) e = same_place_on Fine (Ok (cond (bytes_eq name piece.name) (record at { passing = None }) at)) (cond (bytes_eq name piece.name) (record at { passing = None }) at) now refl e (by_name (bytes_eq name piece.name))
   by_passing None e = ended-fine at.outer piece at now refl e fine
@@ -325,9 +333,11 @@ text-fine : (piece : Piece) (at : At) → Fine at → Fine (at_text piece at)
 text-fine piece at fine = by_passing at.passing where
   joined : Fine (record at { inner = record at.inner { text = at.inner.text ++ piece.text } })
   joined = elim fine [ inl known ↦ inl known | inr early ↦ inr (Early-text at.inner at.outer (at.inner.text ++ piece.text) early) ]
+
   by_value : (t : Bool) → Fine (cond t (record at { inner = record at.inner { text = at.inner.text ++ piece.text } }) at)
   by_value true = joined
   by_value false = fine
+
   by_passing : (p : Option (List ℕ)) → Fine (text_in p piece at)
   by_passing (Some name) = fine
   by_passing None = by_value (has_value at.inner.element)
@@ -353,8 +363,8 @@ file_end-known [] line at d is h fine = by_complete (is_complete at.inner) refl 
       elim fine [
         | inl known ↦ subst Known same known
         | inr early ↦
-          let file : Early at.inner [] = subst (λ (os : List Open). Early at.inner os) is early in
-          absurd (empty_file at.inner file.0 file.1 complete)
+            let file : Early at.inner [] = subst (λ (os : List Open). Early at.inner os) is early in
+            absurd (empty_file at.inner file.0 file.1 complete)
       ]
   by_complete false complete e = absurd cc
 
@@ -444,7 +454,7 @@ module _ (m n : ℕ) (le : m ≤ n) where
   class_fits_later (class.Se1 teams min) h = teams_later teams h
 
 pub all_fit_later : (m n : ℕ) → m ≤ n → (cs : List Constraint) → All (λ c. class_fits m c.class ≡ true) cs → All (λ c. class_fits n c.class ≡ true) cs
-all_fit_later m n le cs fit = λ k d h. class_fits_later m n le _ (fit k d h)
+all_fit_later m n le cs fit = λ k d h. class_fits_later m n le (get_or cs k d).class (fit k d h)
 
 -- ---- the season
 
@@ -457,7 +467,7 @@ pub record IsSize (n : ℕ) : Type 0 where
 size_by : (n : ℕ) (ids slot_ids : Bool) → (n % 2 == 0) && nat_le 2 n && nat_le n 40 && ids && slot_ids ≡ true → IsSize n
 size_by n ids slot_ids h =
     let sizes : (n % 2 == 0) && nat_le 2 n && nat_le n 40 ≡ true =
-        and-left ((n % 2 == 0) && nat_le 2 n && nat_le n 40) ids (and-left ((n % 2 == 0) && nat_le 2 n && nat_le n 40 && ids) slot_ids h) in
+    and-left ((n % 2 == 0) && nat_le 2 n && nat_le n 40) ids (and-left ((n % 2 == 0) && nat_le 2 n && nat_le n 40 && ids) slot_ids h) in
     let most : nat_le n 40 ≡ true = and-right ((n % 2 == 0) && nat_le 2 n) (nat_le n 40) sizes in
     let some : (n % 2 == 0) && nat_le 2 n ≡ true = and-left ((n % 2 == 0) && nat_le 2 n) (nat_le n 40) sizes in
     let two : nat_le 2 n ≡ true = and-right (n % 2 == 0) (nat_le 2 n) some in
@@ -480,8 +490,13 @@ fails_in_range p a (suc n) k low high fails = by_first (p a) refl (λ later. fai
   bool_differ : (t : Bool) → t ≡ true → t ≡ false → ⊥
   bool_differ true x y = absurd cc
   bool_differ false x y = absurd cc
+
   by_first : (t : Bool) → p a ≡ t → (a + 1 ≤ k → list_all p (range_with_len (a + 1) n) ≡ false) → t && list_all p (range_with_len (a + 1) n) ≡ false
   by_first false is others = refl
   by_first true is others =
       let other : a ≢ k = λ same. absurd (bool_differ (p a) is (subst (λ (x : ℕ). p x ≡ false) (sym same) fails)) in
       others (omega arith)
+
+-- so many ids are those of a range
+pub are_ids-range : (ids : List ℕ) (count : ℕ) → are_ids ids (range_with_len 0 count) ≡ (length ids == count) && list_all (contains ids) (range_with_len 0 count)
+are_ids-range ids count = rw (length-range_with_len 0 count) refl

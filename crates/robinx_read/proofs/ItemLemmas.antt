@@ -56,7 +56,7 @@ module _ {X : Type 0} (cmp : X → X → Ordering) (read : List ℕ → Reading 
       → gathered cmp (with_item cmp x set) (each read (items_of (after_first ends_item text))) ≡ gathered cmp set (each read (items_of text))
   gathered_more set text x some is =
       let whole : gathered cmp set (each read (before_first ends_item text ∷ items_of (after_first ends_item text))) ≡ gathered cmp (with_item cmp x set) (each read (items_of (after_first ends_item text))) =
-          rw is (push_item set x (each read (items_of (after_first ends_item text)))) in
+      rw is (push_item set x (each read (items_of (after_first ends_item text)))) in
       rw (items_of-first text some, whole) refl
 
   pub gathered_fault : (set : List X) (text : List ℕ) (kind : FormKind) → 0 < length text → read (before_first ends_item text) ≡ Err kind

@@ -121,10 +121,10 @@ module _ {X : Type 0} (cmp : X → X → Ordering) (same : X → X → Bool) (or
   with_item-filter p [] x rises there = absurd there
   with_item-filter p (y ∷ ys) x rises (inl here) =
       let others : filter p ys ≡ filter (λ z. p z || same y z) ys =
-          filter-same p (λ z. p z || same y z) ys (Every-map (λ z. is_lt (cmp y z) ≡ true) (λ z. p z ≡ p z || same y z) (λ z less. sym (or_false (p z) (same y z) (order.differ y z less))) ys rises.0) in
+      filter-same p (λ z. p z || same y z) ys (Every-map (λ z. is_lt (cmp y z) ≡ true) (λ z. p z ≡ p z || same y z) (λ z less. sym (or_false (p z) (same y z) (order.differ y z less))) ys rises.0) in
       let first : p y || same y y ≡ true = or_true (p y) (same y y) (order.same_itself y) in
       let there : with_item cmp y (filter p (y ∷ ys)) ≡ filter (λ z. p z || same y z) (y ∷ ys) =
-          at_first p y ys (p y) refl rises.0 ∙ ap (λ (zs : List X). y ∷ zs) others ∙ sym (ap (λ (b : Bool). cond b (y ∷ filter (λ z. p z || same y z) ys) (filter (λ z. p z || same y z) ys)) first) in
+      at_first p y ys (p y) refl rises.0 ∙ ap (λ (zs : List X). y ∷ zs) others ∙ sym (ap (λ (b : Bool). cond b (y ∷ filter (λ z. p z || same y z) ys) (filter (λ z. p z || same y z) ys)) first) in
       subst (λ (z : X). with_item cmp z (filter p (y ∷ ys)) ≡ filter (λ w. p w || same z w) (y ∷ ys)) (sym here) there
   with_item-filter p (y ∷ ys) x rises (inr later) =
       let less : is_lt (cmp y x) ≡ true = Every-at (λ z. is_lt (cmp y z) ≡ true) x ys rises.0 later in

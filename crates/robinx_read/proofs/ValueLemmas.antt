@@ -71,10 +71,12 @@ meeting-is n item pair h = by_comma (count_by (λ b. b == 44) item == 1) h where
   by_distinct home away below_home below_away h =
       let both : ((home, away) ≡ pair) × (home ≢ away) = distinct_by home away pair (home == away) refl h in
       subst (IsMeeting n) both.0 (record { home = below_home; away = below_away; differ = both.1 })
+
   by_teams : (r s : Reading ℕ) → ((x : ℕ) → r ≡ Ok x → x < n) → ((x : ℕ) → s ≡ Ok x → x < n) → (r >>= λ home. s >>= λ away. distinct home away) ≡ Ok pair → IsMeeting n pair
   by_teams (Ok home) (Ok away) below_home below_away h = by_distinct home away (below_home home refl) (below_away away refl) h
   by_teams (Ok home) (Err kind) below_home below_away h = absurd cc
   by_teams (Err kind) s below_home below_away h = absurd cc
+
   by_comma : (t : Bool) → (check t BadNumber >>= λ one. team n (before_first (λ b. b == 44) item) >>= λ home. team n (after_first (λ b. b == 44) item) >>= λ away. distinct home away) ≡ Ok pair → IsMeeting n pair
   by_comma true h = by_teams (team n (before_first (λ b. b == 44) item)) (team n (after_first (λ b. b == 44) item)) (λ x e. id_below UnknownTeam n (before_first (λ b. b == 44) item) x e) (λ x e. id_below UnknownTeam n (after_first (λ b. b == 44) item) x e) h
   by_comma false h = absurd cc

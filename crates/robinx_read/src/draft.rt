@@ -143,7 +143,6 @@ impl Draft {
     }
 
     /// The End of `Resources`.
-    #[tactic(auto, using(crate::proofs::DraftLemmas::season_size, crate::proofs::DraftLemmas::all_fit_later))]
     fn take_season(&mut self) -> Result<(), Stop>
         ensures { Steps (instance.with_season self.old) result self.new }
     {

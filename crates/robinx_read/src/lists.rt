@@ -188,7 +188,12 @@ pub(crate) fn slots_in(alloc: Global, attrs: &Attrs, name: &[u8], n: u16) -> Res
 }
 
 /// The meetings of an attribute that has to be there.
-pub(crate) fn meetings_in(alloc: Global, attrs: &Attrs, name: &[u8], n: u16) -> Result<PairSet, Stop>
+pub(crate) fn meetings_in(
+    alloc: Global,
+    attrs: &Attrs,
+    name: &[u8],
+    n: u16,
+) -> Result<PairSet, Stop>
     ensures value { Gives (values.required name.now (values.meetings n) attrs.now) result }
     ensures fit { IfOk result (λ meetings. are_meetings n meetings ≡ true) }
 {

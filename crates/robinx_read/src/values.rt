@@ -174,12 +174,14 @@ pub(crate) fn home_or_away_in(attrs: &Attrs, name: &[u8]) -> Result<Side, FormKi
     home_or_away(required(attrs, name)?)
 }
 
+/// A side, which may be both.
 pub(crate) fn side_in(attrs: &Attrs, name: &[u8]) -> Result<Side, FormKind>
     ensures { result ≡ values.required name.now classes.side attrs.now }
 {
     side(required(attrs, name)?)
 }
 
+/// Whether slots are bounded together or each by itself.
 pub(crate) fn span_in(attrs: &Attrs, name: &[u8]) -> Result<Span, FormKind>
     ensures { result ≡ values.required name.now classes.span attrs.now }
 {
