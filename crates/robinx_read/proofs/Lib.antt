@@ -7,6 +7,9 @@ pub mod ValueLemmas
 pub mod KnownLemmas
 pub mod WalkLemmas
 pub mod DraftLemmas
+pub mod KeptLemmas
+pub mod SeasonLemmas
+pub mod GamesLemmas
 pub mod FileLemmas
 -- Worked examples, so that a wrong definition does not check:
 mod FileTexts
