@@ -1,6 +1,6 @@
 -- The games that were read are those of the league that they were read for.
-use Rattle.std.proofs.Common.{◌≡◌, ℕ, List, [], ◌∷◌, ◌++◌, length, Option, Some, None, Ok, Err, refl, sym, ap, ◌∙◌, subst}
-use Rattle.std.specs.Prelude.{Result, nat_lt}
+use Rattle.std.proofs.Common.{◌≡◌, ℕ, List, [], ◌∷◌, ◌++◌, length, Option, Some, None, Ok, refl, sym, ap, ◌∙◌}
+use Rattle.std.specs.Prelude.{nat_lt}
 use Rattle.robinx_tags.specs.Fronts.{◌>>=◌, check}
 use Rattle.robinx_tags.specs.Tags.{Attribute}
 use Rattle.robinx_tags.specs.Pieces.{Piece, Pieces}

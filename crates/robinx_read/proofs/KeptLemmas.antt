@@ -8,7 +8,7 @@ use Rattle.robinx_tags.specs.declared.tag.TagKind.TheVariants.{Start, End, Empty
 use Rattle.robinx_tags.specs.declared.fault.FormKind.{FormKind}
 use Rattle.robinx_tags.specs.declared.fault.FormKind.TheVariants.{BadNesting, MissingElement}
 use Rattle.robinx_read.specs.Elements.{element_name, has_value}
-use Rattle.robinx_read.specs.Walk.{Meaning, Open, Place, Fault, is_complete, trimmed, on_line, end_line, closed, begun, start_in, ended, end_in, text_in, at_start, at_end, at_piece, at_file_end, walk}
+use Rattle.robinx_read.specs.Walk.{Meaning, Open, Place, is_complete, trimmed, on_line, end_line, closed, begun, start_in, ended, end_in, text_in, at_start, at_end, at_piece, at_file_end, walk}
 
 -- a value that was read, where faults are such
 abbrev pub as_read : {A : Type 0} → (F : Type 0) → A → Result A F

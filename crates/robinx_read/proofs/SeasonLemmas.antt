@@ -1,7 +1,7 @@
 -- A league that was read has teams: `Constraints` is read only behind `Resources`, whose End counts them.
-use Rattle.std.proofs.Common.{◌≡◌, ℕ, ◌<◌, Bool, true, false, ◌&&◌, ◌||◌, cond, List, [], ◌∷◌, ◌++◌, length, Option, Some, None, Ok, Err, refl, sym, ap, ◌∙◌, subst, arith, inl, inr}
-use Rattle.std.specs.Prelude.{Result, ◌⊎◌, nat_lt, bytes_eq, codes}
-use Rattle.std.specs.List.{list_any, list_all, find}
+use Rattle.std.proofs.Common.{◌≡◌, ℕ, ◌<◌, Bool, true, false, ◌&&◌, cond, List, [], ◌∷◌, ◌++◌, length, Option, Some, None, Ok, refl, sym, ap, subst, arith, inl, inr}
+use Rattle.std.specs.Prelude.{◌⊎◌, nat_lt, bytes_eq, codes}
+use Rattle.std.specs.List.{list_any, list_all}
 use Rattle.std.proofs.lemmas.Bool.Decides.{nat_tests}
 use Rattle.std.proofs.lemmas.List.Folds.{list_any-append}
 use Rattle.std.proofs.lemmas.Slice.Eq.{bytes_eq-Decides}
@@ -15,7 +15,7 @@ use Rattle.robinx_read.specs.Walk as walk
 use Rattle.robinx_read.specs.Walk.{Open, Place, is_met, is_complete, row_of, begins_by, passed_over, with_seen}
 use Rattle.robinx_read.specs.Classes.{constraint_of, game_mode}
 use Rattle.robinx_read.specs.Values.{required, number, only}
-use Rattle.robinx_read.specs.InstanceFile.{Draft, starts, ends, instance_meaning, nothing, with_team, with_slot, with_season_known, with_constraint, double, with_game_mode, with_season, is_season}
+use Rattle.robinx_read.specs.InstanceFile.{Draft, starts, ends, instance_meaning, nothing, double, is_season}
 use Rattle.robinx_read.specs.declared.element.Element.{Element}
 use Rattle.robinx_read.specs.declared.element.Element.TheVariants.{InstanceFile, Instance, NumberRoundRobin, Compactness, GameMode, Resources, Team, Slot, Constraints, Class}
 use Rattle.robinx_read.specs.declared.element.Times.{Times}

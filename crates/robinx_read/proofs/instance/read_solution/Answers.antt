@@ -1,4 +1,4 @@
-use Rattle.std.proofs.Common.{◌≡◌, [], Ok, sym, ap, ◌∙◌, subst}
+use Rattle.std.proofs.Common.{◌≡◌, [], Ok, sym, ◌∙◌, subst}
 use Rattle.std.specs.List.{All}
 use Rattle.league.specs.Instance.{IsGame}
 use Rattle.robinx_read.specs.Walk.{reading}
