@@ -11,6 +11,7 @@ use Rattle.league.specs.declared.class.Constraint.{Constraint}
 use Rattle.league.specs.declared.class.Class.TheVariants as class
 use Rattle.robinx_read.specs.Values.{contains}
 use Rattle.robinx_read.specs.InstanceFile.{is_season, are_ids}
+
 and-left : (a b : Bool) → a && b ≡ true → a ≡ true
 and-left true b h = refl
 and-left false b h = absurd cc

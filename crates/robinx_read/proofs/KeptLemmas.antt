@@ -42,9 +42,10 @@ closed_is meaning inner piece before now h =
     let value = meaning.ended inner.element (trimmed inner.text) before in
     let whole = on_line piece.line (check (is_complete inner) MissingElement) in
     let own = both_read (on_line piece.line (check (bytes_eq (element_name inner.element) piece.name) BadNesting)) (λ own. whole >>= λ complete. on_line (end_line inner piece.line) value) now h in
-    let complete = both_read whole (λ complete. on_line (end_line inner piece.line) value) now own.1.1 in
-    (checked (is_complete inner) MissingElement complete.0 (read_on_line piece.line (check (is_complete inner) MissingElement) complete.0 complete.1.0),
-      read_on_line (end_line inner piece.line) value now complete.1.1)
+    let complete = both_read whole (λ complete. on_line (end_line inner piece.line) value) now own.1.1 in (
+      checked (is_complete inner) MissingElement complete.0 (read_on_line piece.line (check (is_complete inner) MissingElement) complete.0 complete.1.0),
+      read_on_line (end_line inner piece.line) value now complete.1.1,
+    )
 
 -- a fact of places that no step breaks: it doesn't speak of what is passed over or of texts
 module _ {Read : Type 0} (meaning : Meaning Read) (Fits : Place Read → Type 0)
