@@ -255,7 +255,7 @@ f4 = text (
     ∷ "</Constraints>"
     ∷ "</Instance>"
     ∷ []
-)
+    )
 
 -- the phased league of four teams with the other quotes
 abbrev pub single_quotes : List ℕ
@@ -278,7 +278,7 @@ cut_in_tag = text (
     ∷ "<team id=\"0\"/>"
     ∷ "<team id=\"1\"/>"
     ∷ []
-) ++ codes "<team id=\"2"
+    ) ++ codes "<team id=\"2"
 
 -- it cut behind a line
 abbrev pub cut_after_20 : List ℕ
@@ -304,7 +304,7 @@ cut_after_20 = text (
     ∷ "<slot id=\"1\"/>"
     ∷ "<slot id=\"2\"/>"
     ∷ []
-)
+    )
 
 -- it without a team
 abbrev pub three_teams : List ℕ
@@ -337,7 +337,7 @@ three_teams = text (
     ∷ "</Constraints>"
     ∷ "</Instance>"
     ∷ []
-)
+    )
 
 -- it with a class that is none of the nine
 abbrev pub other_class : List ℕ
@@ -374,7 +374,7 @@ other_class = text (
     ∷ "</Constraints>"
     ∷ "</Instance>"
     ∷ []
-)
+    )
 
 -- it with a lower bound on a capacity class
 abbrev pub min_one : List ℕ
@@ -411,7 +411,7 @@ min_one = text (
     ∷ "</Constraints>"
     ∷ "</Instance>"
     ∷ []
-)
+    )
 
 -- a solution with a slot that there isn't
 abbrev pub unknown_slot : List ℕ
@@ -434,7 +434,7 @@ unknown_slot = text (
     ∷ "</Games>"
     ∷ "</Solution>"
     ∷ []
-)
+    )
 
 -- a solution in which a team meets itself
 abbrev pub same_team : List ℕ
@@ -457,4 +457,4 @@ same_team = text (
     ∷ "</Games>"
     ∷ "</Solution>"
     ∷ []
-)
+    )

@@ -1,6 +1,6 @@
 -- The games that were read are those of the league that they were read for.
-use Rattle.std.proofs.Common.{◌≡◌, ℕ, List, [], ◌∷◌, ◌++◌, length, Option, Some, None, Ok, Err, refl, sym, ap, ◌∙◌, subst}
-use Rattle.std.specs.Prelude.{Result, nat_lt}
+use Rattle.std.proofs.Common.{◌≡◌, ℕ, List, [], ◌∷◌, ◌++◌, length, Option, Some, None, Ok, refl, sym, ap, ◌∙◌}
+use Rattle.std.specs.Prelude.{nat_lt}
 use Rattle.robinx_tags.specs.Fronts.{◌>>=◌, check}
 use Rattle.robinx_tags.specs.Tags.{Attribute}
 use Rattle.robinx_tags.specs.Pieces.{Piece, Pieces}
@@ -26,11 +26,11 @@ started_same : (row : Option Row) (piece : Piece) (at next : Place Games) → wa
 started_same None piece at next h = ap (λ (p : Place Games). p.read.n) (sym (ok_is _ next h))
 started_same (Some row) piece at next h =
     let inside_of : Games → Place Games = λ read. record {
-          inner = record { element = row.element; line = piece.line; seen = []; text = [] };
-          outer = record at.inner { seen = with_seen row.times piece.name at.inner.seen } ∷ at.outer;
-          passing = None;
-          read = read;
-        } in
+      inner = record { element = row.element; line = piece.line; seen = []; text = [] };
+      outer = record at.inner { seen = with_seen row.times piece.name at.inner.seen } ∷ at.outer;
+      passing = None;
+      read = read;
+    } in
     let read = both_read (starts row.element piece.attributes at.read) (λ read. Ok (inside_of read)) next h in
     ap (λ (p : Place Games). p.read.n) (sym (ok_is (inside_of read.0) next read.1.1)) ∙ starts_same row.element piece.attributes at.read read.0 read.1.0
 
@@ -57,6 +57,6 @@ pub games_same : (n : ℕ) (found : Pieces) (read : Games) → walk.reading solu
 games_same n found read h =
     let start : Place Games = record { inner = record { element = SolutionFile; line = 0; seen = []; text = [] }; outer = []; passing = None; read = record { n = n; games = [] } } in
     let end = walk_kept solution_meaning (λ at. at.read.n ≡ n) (λ at name same. same) (λ at text same. same)
-          (λ piece at next same step. begun_same piece at next step ∙ same) (λ piece at next same step. ended_same at.outer piece at next step ∙ same)
-          found.items found.last start read refl h in
+    (λ piece at next same step. begun_same piece at next step ∙ same) (λ piece at next same step. ended_same at.outer piece at next step ∙ same)
+    found.items found.last start read refl h in
     end_same end.1.0.outer end.0 end.1.0 read end.1.1.1 ∙ end.1.1.0

@@ -1,13 +1,12 @@
 -- Lists of items as a loop reads them: the item before the first `;`, then those after it.
-use Rattle.std.proofs.Common.{◌≡◌, ℕ, suc, ◌+◌, ◌<◌, Bool, true, false, not, List, [], ◌∷◌, length, take, drop, cond, eqb, Ok, Err, refl, ap, ◌∙◌, arith}
-use Rattle.std.specs.List.{fold, before_first, after_first, prefix_len, position_or_len}
+use Rattle.std.proofs.Common.{◌≡◌, ℕ, suc, ◌+◌, ◌<◌, Bool, true, false, List, [], ◌∷◌, length, take, drop, eqb, Ok, Err, refl, ap, arith}
+use Rattle.std.specs.List.{before_first, after_first, position_or_len}
 use Rattle.std.specs.declared.cmp.Ordering.{Ordering}
-use Rattle.std.specs.Prelude.{Result}
 use Rattle.robinx_tags.specs.Fronts.{◌>>=◌}
 use Rattle.robinx_tags.specs.declared.fault.FormKind.{FormKind}
 use Rattle.league.specs.Sets.{with_item}
 use Rattle.robinx_read.specs.Values.{Reading, onto_item, items_of, each}
-use Rattle.robinx_read.specs.Gathered.{with_items, gathered}
+use Rattle.robinx_read.specs.Gathered.{gathered}
 
 abbrev ends_item : ℕ → Bool
 ends_item b = eqb b 59

@@ -8,7 +8,7 @@ use Rattle.robinx_tags.specs.declared.tag.TagKind.TheVariants.{Start, End, Empty
 use Rattle.robinx_tags.specs.declared.fault.FormKind.{FormKind}
 use Rattle.robinx_tags.specs.declared.fault.FormKind.TheVariants.{BadNesting, MissingElement}
 use Rattle.robinx_read.specs.Elements.{element_name, has_value}
-use Rattle.robinx_read.specs.Walk.{Meaning, Open, Place, Fault, is_complete, trimmed, on_line, end_line, closed, begun, start_in, ended, end_in, text_in, at_start, at_end, at_piece, at_file_end, walk}
+use Rattle.robinx_read.specs.Walk.{Meaning, Open, Place, is_complete, trimmed, on_line, end_line, closed, begun, start_in, ended, end_in, text_in, at_start, at_end, at_piece, at_file_end, walk}
 
 -- a value that was read, where faults are such
 abbrev pub as_read : {A : Type 0} → (F : Type 0) → A → Result A F
@@ -42,9 +42,10 @@ closed_is meaning inner piece before now h =
     let value = meaning.ended inner.element (trimmed inner.text) before in
     let whole = on_line piece.line (check (is_complete inner) MissingElement) in
     let own = both_read (on_line piece.line (check (bytes_eq (element_name inner.element) piece.name) BadNesting)) (λ own. whole >>= λ complete. on_line (end_line inner piece.line) value) now h in
-    let complete = both_read whole (λ complete. on_line (end_line inner piece.line) value) now own.1.1 in
-    (checked (is_complete inner) MissingElement complete.0 (read_on_line piece.line (check (is_complete inner) MissingElement) complete.0 complete.1.0),
-      read_on_line (end_line inner piece.line) value now complete.1.1)
+    let complete = both_read whole (λ complete. on_line (end_line inner piece.line) value) now own.1.1 in (
+      checked (is_complete inner) MissingElement complete.0 (read_on_line piece.line (check (is_complete inner) MissingElement) complete.0 complete.1.0),
+      read_on_line (end_line inner piece.line) value now complete.1.1,
+    )
 
 -- a fact of places that no step breaks: it doesn't speak of what is passed over or of texts
 module _ {Read : Type 0} (meaning : Meaning Read) (Fits : Place Read → Type 0)

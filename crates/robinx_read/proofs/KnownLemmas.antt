@@ -1,19 +1,18 @@
 -- The teams, the slots and the meetings of a league in order, and the sets that lists of them are read into.
-use Rattle.std.proofs.Common.{◌≡◌, ◌≢◌, ℕ, zero, suc, ◌+◌, ◌<◌, ◌≤◌, Bool, true, false, not, ◌&&◌, cond, List, [], ◌∷◌, ◌++◌, map, Ok, Err, inl, inr, refl, sym, ap, ◌∙◌, subst, arith}
+use Rattle.std.proofs.Common.{◌≡◌, ◌≢◌, ℕ, zero, suc, ◌+◌, ◌<◌, ◌≤◌, Bool, true, false, not, ◌&&◌, cond, List, [], ◌∷◌, ◌++◌, map, Ok, Err, inl, inr, refl, sym, ap, subst, arith}
 use Rattle.std.specs.Prelude.{Result, nat_lt, ◌==◌, IfOk}
 use Rattle.std.specs.List.{filter, flat_map, list_any, list_all, range_with_len}
-use Rattle.std.specs.Ordering.{is_lt, nat_cmp, ordering_then}
-use Rattle.std.specs.declared.cmp.Ordering.{Ordering}
+use Rattle.std.specs.Ordering.{is_lt, nat_cmp}
 use Rattle.std.proofs.Math.Nat.{eq-or-lt_of_le}
 use Rattle.std.proofs.lemmas.Bool.Decides.{nat_tests}
 use Rattle.league.specs.Sets.{pair_cmp}
-use Rattle.league.specs.Counts.{teams_of, slots_of, slot_count}
+use Rattle.league.specs.Counts.{teams_of, slot_count}
 use Rattle.league.specs.Meetings.{others, meetings_of}
 use Rattle.league.specs.Instance.{are_teams, are_slots, are_meetings}
 use Rattle.robinx_tags.specs.Fronts.{◌>>=◌}
 use Rattle.robinx_tags.specs.declared.fault.FormKind.TheVariants.{UnknownTeam, UnknownSlot}
 use Rattle.robinx_read.specs.Values.{Reading, team, slot, meeting, teams, slots, meetings, contains, each, items_of}
-use Rattle.robinx_read.specs.Gathered.{with_items, gathered}
+use Rattle.robinx_read.specs.Gathered.{gathered}
 use Rattle.robinx_read.specs.Answers.{Gives}
 use Rattle.robinx_read.specs.declared.fault.Stop.{Stop}
 use Rattle.robinx_read.proofs.SetLemmas.{Every, Among, Every-map, Every-append, Every-filter, IsOrder, Rises, Rises-append, with_items-all}

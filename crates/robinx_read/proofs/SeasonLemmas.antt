@@ -1,7 +1,7 @@
 -- A league that was read has teams: `Constraints` is read only behind `Resources`, whose End counts them.
-use Rattle.std.proofs.Common.{◌≡◌, ℕ, ◌<◌, Bool, true, false, ◌&&◌, ◌||◌, cond, List, [], ◌∷◌, ◌++◌, length, Option, Some, None, Ok, Err, refl, sym, ap, ◌∙◌, subst, arith, inl, inr}
-use Rattle.std.specs.Prelude.{Result, ◌⊎◌, nat_lt, bytes_eq, codes}
-use Rattle.std.specs.List.{list_any, list_all, find}
+use Rattle.std.proofs.Common.{◌≡◌, ℕ, ◌<◌, Bool, true, false, ◌&&◌, cond, List, [], ◌∷◌, ◌++◌, length, Option, Some, None, Ok, refl, sym, ap, subst, arith, inl, inr}
+use Rattle.std.specs.Prelude.{◌⊎◌, nat_lt, bytes_eq, codes}
+use Rattle.std.specs.List.{list_any, list_all}
 use Rattle.std.proofs.lemmas.Bool.Decides.{nat_tests}
 use Rattle.std.proofs.lemmas.List.Folds.{list_any-append}
 use Rattle.std.proofs.lemmas.Slice.Eq.{bytes_eq-Decides}
@@ -15,7 +15,7 @@ use Rattle.robinx_read.specs.Walk as walk
 use Rattle.robinx_read.specs.Walk.{Open, Place, is_met, is_complete, row_of, begins_by, passed_over, with_seen}
 use Rattle.robinx_read.specs.Classes.{constraint_of, game_mode}
 use Rattle.robinx_read.specs.Values.{required, number, only}
-use Rattle.robinx_read.specs.InstanceFile.{Draft, starts, ends, instance_meaning, nothing, with_team, with_slot, with_season_known, with_constraint, double, with_game_mode, with_season, is_season}
+use Rattle.robinx_read.specs.InstanceFile.{Draft, starts, ends, instance_meaning, nothing, double, is_season}
 use Rattle.robinx_read.specs.declared.element.Element.{Element}
 use Rattle.robinx_read.specs.declared.element.Element.TheVariants.{InstanceFile, Instance, NumberRoundRobin, Compactness, GameMode, Resources, Team, Slot, Constraints, Class}
 use Rattle.robinx_read.specs.declared.element.Times.{Times}
@@ -141,22 +141,22 @@ started_fits : (row : Option Row) (piece : Piece) (at next : Place Draft) → Ha
 started_fits None piece at next fits begins h = subst HasTeams (ok_is _ next h) fits
 started_fits (Some row) piece at next fits begins h =
     let inside_of : Draft → Place Draft = λ read. record {
-          inner = record { element = row.element; line = piece.line; seen = []; text = [] };
-          outer = record at.inner { seen = with_seen row.times piece.name at.inner.seen } ∷ at.outer;
-          passing = None;
-          read = read;
-        } in
+      inner = record { element = row.element; line = piece.line; seen = []; text = [] };
+      outer = record at.inner { seen = with_seen row.times piece.name at.inner.seen } ∷ at.outer;
+      passing = None;
+      read = read;
+    } in
     let read = both_read (starts row.element piece.attributes at.read) (λ read. Ok (inside_of read)) next h in
     let keeps : 0 < at.read.n → 0 < read.0.n = starts_some row.element piece.attributes at.read read.0 read.1.0 in
     let is = begun_row (row_of at.inner.element piece.name) at.inner piece.name row begins in
     subst HasTeams (ok_is (inside_of read.0) next read.1.1)
-      (elim fits [
+    (elim fits [
+      | inl some ↦ inl (keeps some)
+      | inr early ↦ elim (begun_early at.outer at.inner row piece at.read read.0 is read.1.0 early) [
         | inl some ↦ inl (keeps some)
-        | inr early ↦ elim (begun_early at.outer at.inner row piece at.read read.0 is read.1.0 early) [
-          | inl some ↦ inl (keeps some)
-          | inr early_within ↦ inr early_within
-        ]
-      ])
+        | inr early_within ↦ inr early_within
+      ]
+    ])
 
 begun_fits : (piece : Piece) (at next : Place Draft) → HasTeams at → walk.begun instance_meaning piece at ≡ Ok next → HasTeams next
 begun_fits piece at next fits h =
@@ -201,10 +201,10 @@ ended_fits (around ∷ outer) piece at next fits h =
     let read = both_read (walk.closed instance_meaning at.inner piece at.read) (λ read. Ok (behind read)) next h in
     let closed = closed_is instance_meaning at.inner piece at.read read.0 read.1.0 in
     subst HasTeams (ok_is (behind read.0) next read.1.1)
-      (elim fits [
-        | inl some ↦ inl (ends_some at.inner.element (walk.trimmed at.inner.text) at.read read.0 closed.1 some)
-        | inr early ↦ inr (ended_early around outer at.inner closed.0 early)
-      ])
+    (elim fits [
+      | inl some ↦ inl (ends_some at.inner.element (walk.trimmed at.inner.text) at.read read.0 closed.1 some)
+      | inr early ↦ inr (ended_early around outer at.inner closed.0 early)
+    ])
 
 -- ---- the file's end
 
@@ -223,5 +223,5 @@ pub teams_read : (found : Pieces) (read : Draft) → walk.reading instance_meani
 teams_read found read h =
     let start : Place Draft = record { inner = record { element = InstanceFile; line = 0; seen = []; text = [] }; outer = []; passing = None; read = nothing } in
     let end = walk_kept instance_meaning HasTeams (λ at name fits. fits) (λ at text fits. fits) begun_fits (λ piece at next fits. ended_fits at.outer piece at next fits)
-          found.items found.last start read (inr (refl, refl)) h in
+    found.items found.last start read (inr (refl, refl)) h in
     end_some end.1.0.outer end.0 end.1.0 read end.1.1.0 end.1.1.1

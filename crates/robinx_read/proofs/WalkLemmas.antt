@@ -1,8 +1,8 @@
 -- The walk, piece by piece, as a loop takes it.
-use Rattle.std.proofs.Common.{◌≡◌, ℕ, ◌<◌, Bool, true, false, List, [], ◌∷◌, length, Option, Some, None, Ok, Err, refl, sym, ap, ◌∙◌, subst, arith}
+use Rattle.std.proofs.Common.{◌≡◌, ℕ, ◌<◌, true, false, List, [], ◌∷◌, length, Option, Some, None, Ok, Err, refl, sym, ap, ◌∙◌, subst, arith}
 use Rattle.std.specs.Prelude.{Result}
 use Rattle.robinx_tags.specs.Fronts.{◌>>=◌}
-use Rattle.robinx_tags.specs.Pieces.{Piece, Pieces, Last, Ends, Faulty, none_but, onto}
+use Rattle.robinx_tags.specs.Pieces.{Piece, Pieces, Ends, none_but, onto}
 use Rattle.robinx_tags.specs.Next.{GivesNext}
 use Rattle.robinx_tags.specs.SeenTag.{view_of}
 use Rattle.robinx_tags.specs.declared.fault.FormKind.TheVariants.{Truncated}

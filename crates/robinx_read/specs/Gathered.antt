@@ -1,5 +1,5 @@
 -- Sets of the items that are read one by one.
-use Rattle.std.specs.Prelude.{List, Result, Ok}
+use Rattle.std.specs.Prelude.{List, Ok}
 use Rattle.std.specs.List.{fold}
 use Rattle.std.specs.declared.cmp.Ordering.{Ordering}
 use Rattle.robinx_tags.specs.Fronts.{◌>>=◌}

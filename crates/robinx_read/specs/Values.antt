@@ -1,5 +1,5 @@
 -- How the values of attributes and elements are read: a value, or the kind of the first fault.
-use Rattle.std.specs.Prelude.{ℕ, Bool, not, ◌&&◌, ◌==◌, ◌^◌, nat_lt, if◌then◌else◌, List, [], ◌∷◌, Option, Some, None, Result, Ok, Err, codes, bytes_eq}
+use Rattle.std.specs.Prelude.{ℕ, Bool, not, ◌&&◌, ◌==◌, ◌^◌, nat_lt, if◌then◌else◌, List, [], ◌∷◌, Some, None, Result, Ok, Err, codes, bytes_eq}
 use Rattle.std.specs.List.{find, list_any, count_by, before_first, after_first, filter}
 use Prim.Native.String.{String}
 use Rattle.std.specs.Str.{byte}

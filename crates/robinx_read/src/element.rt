@@ -1,4 +1,4 @@
-// The elements that are read, and where they stand.
+// The elements that are read, and where they stand (RobinX; which of them the competition of 2021 uses).
 ghost use Rattle.std.specs.Prelude.{◌≡◌, bytes_eq};
 ghost use Rattle.std.specs.List.{find};
 ghost use Rattle.robinx_read.specs.Elements as elements;
@@ -6,7 +6,7 @@ ghost use Rattle.robinx_read.specs.Walk as walk;
 
 use robinx_tags::FormKind;
 
-/// The nine classes of constraints.
+/// The nine classes of constraints of the International Timetabling Competition 2021.
 #[derive(Clone, Copy)]
 pub(crate) enum ClassName {
     Ca1,
@@ -20,7 +20,7 @@ pub(crate) enum ClassName {
     Se1,
 }
 
-/// The six groups that classes stand in.
+/// The six groups that classes stand in. Which class stands in which isn't looked at.
 #[derive(Clone, Copy)]
 pub(crate) enum GroupName {
     Basic,
@@ -211,7 +211,7 @@ impl GroupName {
 }
 
 impl Element {
-    /// The name in its tags. A file has none.
+    /// The name in its tags, as RobinX spells it. A file has none: its name is empty, and no tag's is.
     pub(crate) fn name(self) -> &'static [u8]
         ensures { result.now ≡ elements.element_name self }
     {
@@ -237,7 +237,7 @@ impl Element {
         }
     }
 
-    /// The elements that are read inside of it.
+    /// The elements that are read inside of it, in no order, each at most once.
     pub(crate) fn inside(self) -> &'static [Row]
         ensures { result.now ≡ elements.inside self }
     {
@@ -285,7 +285,8 @@ impl Element {
         }
     }
 
-    /// What a tag in it is that isn't among the elements that are read there, or None where it is passed over.
+    /// What a tag in it is that isn't among the elements that are read there, or None where it is passed over: among
+    /// the constraints an unsupported class, in a file or in an element without parts a bad nesting.
     pub(crate) fn unlisted(self) -> Option<FormKind>
         ensures { result ≡ elements.unlisted self }
     {
@@ -311,7 +312,7 @@ impl Element {
         }
     }
 
-    /// What an element in it is that may stand once and comes again.
+    /// What an element in it is that may stand once and comes again. A file has one root, and no tag beside it.
     pub(crate) fn repeated(self) -> FormKind
         ensures { result ≡ elements.repeated self }
     {
@@ -321,7 +322,7 @@ impl Element {
         }
     }
 
-    /// Whether its text is a value.
+    /// Whether its text is a value. Other texts are passed over.
     pub(crate) fn has_value(self) -> bool
         ensures { result ≡ elements.has_value self }
     {
@@ -331,7 +332,7 @@ impl Element {
         )
     }
 
-    /// Its row for this name.
+    /// Its row for this name, or None where no element of the name is read in it.
     pub(crate) fn row_of(self, name: &[u8]) -> Option<Row>
         ensures { result ≡ walk.row_of self name.now }
     {

@@ -6,7 +6,8 @@ use robinx_tags::{FormKind, TagFault};
 use std::alloc::{AllocError, AllocFailed};
 use thiserror::Error;
 
-/// A fault of form and its line, counted from 1.
+/// A fault of form and its line, counted from 1: for a piece that of its first byte, for an element that isn't whole
+/// that of its End, for a value that of its Start, for a file that ends too early that of its end.
 #[derive(Clone, Copy, Debug, Drop, PartialEq, Eq)]
 pub struct FormFault {
     pub kind: FormKind,
@@ -32,7 +33,7 @@ pub(crate) enum Stop {
 }
 
 impl Stop {
-    /// The fault on this line.
+    /// The fault on this line. Want of memory has none.
     pub(crate) fn on_line(self, line: u32) -> ReadFault
         ensures { result ≡ fault_on line self }
     {

@@ -16,7 +16,9 @@ use league::{League, Schedule};
 use robinx_tags::TagReader;
 use std::alloc::Global;
 
-/// The league that an instance file of at most 16,777,216 bytes says.
+/// The league that an instance file of at most 16,777,216 bytes says (RobinX, as the International Timetabling
+/// Competition 2021 uses it): n even and from 2 to 40 teams in a double round robin, phased or not, with at most
+/// 20,000 constraints of its nine classes.
 ///
 /// # Errors
 /// `Form` exactly where the file has a fault: its first one, with its line. `Mem` where memory runs out.
@@ -25,25 +27,32 @@ pub fn read_instance(alloc: Global, bytes: &[u8]) -> Result<League, ReadFault>
     ensures { Says (instance_of (pieces bytes.now)) result }
 {
     let mut draft = Draft::new(alloc);
-    read_file(alloc, TagReader::new(bytes), Element::InstanceFile, &mut draft)?;
+    read_file(
+        alloc,
+        TagReader::new(bytes),
+        Element::InstanceFile,
+        &mut draft,
+    )?;
     Ok(draft.into_league())
 }
 
-/// The schedule that a solution file of at most 1,048,576 bytes says, for this league.
+/// The schedule that a solution file (RobinX) of at most 1,048,576 bytes says, for this league: at most 10,000 games
+/// of two of its teams in one of its slots, in file order.
 ///
 /// # Errors
 /// `Form` exactly where the file has a fault: its first one, with its line. `Mem` where memory runs out.
-pub fn read_solution(
-    alloc: Global,
-    bytes: &[u8],
-    league: &League,
-) -> Result<Schedule, ReadFault>
+pub fn read_solution(alloc: Global, bytes: &[u8], league: &League) -> Result<Schedule, ReadFault>
     requires { length bytes.now ≤ 1048576 }
     ensures value { Says (solution_of league.now.n (pieces bytes.now)) result }
     ensures few { IfOk result (λ games. length games ≤ 10000) }
     ensures fit { IfOk result (All (IsGame league.now.n)) }
 {
     let mut games = Games::new(alloc, league.n());
-    read_file(alloc, TagReader::new(bytes), Element::SolutionFile, &mut games)?;
+    read_file(
+        alloc,
+        TagReader::new(bytes),
+        Element::SolutionFile,
+        &mut games,
+    )?;
     Ok(games.into_schedule())
 }

@@ -14,11 +14,10 @@ mod instance;
 mod lists;
 mod place;
 mod reads;
-mod values;
-mod walk;
-
 #[cfg(test)]
 mod tests;
+mod values;
+mod walk;
 
 pub use fault::{FormFault, ReadFault};
 pub use instance::{read_instance, read_solution};

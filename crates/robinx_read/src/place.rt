@@ -1,4 +1,4 @@
-// Where a walk is: the elements that are open there.
+// Where a walk over a file is: the elements that are open there.
 ghost use Rattle.std.specs.Prelude.{◌≡◌, ◌≤◌, ◌-◌, ◌++◌, [], length, not, bytes_eq, Ok};
 ghost use Rattle.std.specs.List.{list_any, position_or_len, suffix_len};
 ghost use Rattle.robinx_tags.specs.Bytes as letters;
@@ -103,7 +103,7 @@ fn has_name(names: &[&[u8]], name: &[u8]) -> bool
 }
 
 impl<'a> Open<'a> {
-    /// An element that begins on this line.
+    /// An element that begins on this line. Nothing was read in it. No memory is taken.
     pub(crate) fn new(alloc: Global, element: Element, line: u32) -> Self
         ensures { result ≡ record { element = element; line = line; seen = []; text = [] } }
     {
@@ -115,20 +115,21 @@ impl<'a> Open<'a> {
         }
     }
 
+    /// Which element it is.
     pub(crate) fn element(&self) -> Element
         ensures { result ≡ self.now.element }
     {
         self.element
     }
 
-    /// The line of its Start.
+    /// The line of its Start, from 1. A file's is 0.
     pub(crate) fn line(&self) -> u32
         ensures { result ≡ self.now.line }
     {
         self.line
     }
 
-    /// Its text, freed of white bytes at both ends.
+    /// Its text, all pieces of it joined, freed of white bytes (space, tab, CR, LF) at both ends.
     pub(crate) fn value(&self) -> &[u8]
         ensures { result.now ≡ walk.trimmed self.now.text }
     {
@@ -144,6 +145,10 @@ impl<'a> Open<'a> {
     }
 
     /// What begins in it by a Start of this name: an element that is read, or None where it is passed over.
+    ///
+    /// # Errors
+    /// `BadNesting` or `UnsupportedClass` where no such element may stand in it (`Element::unlisted`), and
+    /// `RepeatedElement`, in a file `BadNesting`, where it may stand once and was read before.
     pub(crate) fn begins(&self, name: &[u8]) -> Result<Option<Row>, FormKind>
         ensures { result ≡ walk.begins self.now name.now }
     {
@@ -157,7 +162,7 @@ impl<'a> Open<'a> {
         }
     }
 
-    /// Whether all that has to stand in it was read.
+    /// Whether all that has to stand in it was read: each row of `Times::Once` was noted.
     pub(crate) fn is_complete(&self) -> bool
         ensures { result ≡ walk.is_complete self.now }
     {
@@ -167,7 +172,10 @@ impl<'a> Open<'a> {
             .all(|row| is_met(row.times, self.is_seen(row.element.name())))
     }
 
-    /// Remembers that an element of this name was read in it.
+    /// Remembers that an element of this name was read in it, where it may not come again.
+    ///
+    /// # Errors
+    /// `Mem` where memory runs out.
     pub(crate) fn note(&mut self, times: Times, name: &'a [u8]) -> Result<(), Stop>
         ensures { Steps (Ok (record self.old { seen = walk.with_seen times name.now self.old.seen })) result self.new }
     {
@@ -178,7 +186,10 @@ impl<'a> Open<'a> {
         Ok(())
     }
 
-    /// Joins a text to its value.
+    /// Joins a text to those before it.
+    ///
+    /// # Errors
+    /// `Mem` where memory runs out.
     pub(crate) fn add_text(&mut self, text: &[u8]) -> Result<(), Stop>
         ensures { Steps (Ok (record self.old { text = self.old.text ++ text.now })) result self.new }
     {

@@ -89,11 +89,7 @@ fn leave(place: &mut Place)
 }
 
 /// The End of an element that is read.
-fn ended<'a, R: Reads>(
-    place: &mut Place<'a>,
-    read: &mut R,
-    tag: &Tag<'a>,
-) -> Result<(), ReadFault>
+fn ended<'a, R: Reads>(place: &mut Place<'a>, read: &mut R, tag: &Tag<'a>) -> Result<(), ReadFault>
     requires { place.old.passing ≡ None }
     ensures { Moves (walk.ended (record { started = R.begun; ended = R.closed }) place.old.outer.items (view_of tag.now) (place_of place.old read.old)) result (place_of place.new read.new) }
 {
@@ -117,11 +113,7 @@ fn end_line(element: &Open, line: u32) -> u32
 }
 
 /// An End: the first of its own name ends an element that is passed over.
-fn at_end<'a, R: Reads>(
-    place: &mut Place<'a>,
-    read: &mut R,
-    tag: &Tag<'a>,
-) -> Result<(), ReadFault>
+fn at_end<'a, R: Reads>(place: &mut Place<'a>, read: &mut R, tag: &Tag<'a>) -> Result<(), ReadFault>
     ensures { Moves (walk.at_end (record { started = R.begun; ended = R.closed }) (view_of tag.now) (place_of place.old read.old)) result (place_of place.new read.new) }
 {
     match place.passing {
@@ -170,7 +162,11 @@ fn on_line(done: Result<(), Stop>, line: u32) -> Result<(), ReadFault>
     }
 }
 
-/// A whole file of this kind.
+/// Reads a whole file of this kind, `InstanceFile` or `SolutionFile`, piece by piece into `read`.
+///
+/// # Errors
+/// `Form` exactly where the file has a fault: its first one, of a piece or of the reading, with its line. `Mem` where
+/// memory runs out. What `read` then holds isn't said.
 pub(crate) fn read_file<'a, R: Reads>(
     alloc: Global,
     tags: TagReader<'a>,

@@ -1,5 +1,4 @@
-use Rattle.std.proofs.Common.{◌≡◌, ℕ, ◌<◌, Bool, true, false, not, List, length, Ok, Err, sym, ap, ◌∙◌, subst, arith}
-use Rattle.std.specs.Prelude.{Result}
+use Rattle.std.proofs.Common.{◌≡◌, length, Err, sym, ap, ◌∙◌, subst, arith}
 use Rattle.std.proofs.lemmas.Result.{err_from_is_err_and}
 use Rattle.std.proofs.lemmas.Bool.Decides.{nat_tests}
 use Rattle.robinx_tags.specs.SeenTag.{view_of}
@@ -16,27 +15,27 @@ pub returns-in_err-tag : goal.returns-in_err-tag
 returns-in_err-tag g c =
     let p = err_from_is_err_and c.from_residual.result c.from_residual.ensures.1 in
     rw (p.1, p.2) (subst (λ said. Moves said (Err (of_tags c.in_err-tag.field-0.0)) c.pieces.read) c.pieces.invariant
-        (walk-fault (record { started = g.R.Reads.begun; ended = g.R.Reads.closed }) c.pieces.tags c.next.new.self (place_of c.pieces.place c.pieces.read) c.pieces.read c.in_err-tag.field-0.0 c.in_err-tag.ensures))
+    (walk-fault (record { started = g.R.Reads.begun; ended = g.R.Reads.closed }) c.pieces.tags c.next.new.self (place_of c.pieces.place c.pieces.read) c.pieces.read c.in_err-tag.field-0.0 c.in_err-tag.ensures))
 
 pub returns-in_err-at_piece : goal.returns-in_err-at_piece
 returns-in_err-at_piece g c =
     let p = err_from_is_err_and c.from_residual-in_err-at_piece.result c.from_residual-in_err-at_piece.ensures.1 in
     let is = next_piece c.pieces.tags c.next.new.self c.in_ok-tag.field-0 c.in-Some.tag c.in_ok-tag.ensures c.in-Some.is in
     rw (p.1, p.2) (subst (λ said. Moves said (Err c.in_err-at_piece.field-0.0) c.at_piece.new.read) c.pieces.invariant
-        (walk-stop (record { started = g.R.Reads.begun; ended = g.R.Reads.closed }) c.pieces.tags c.next.new.self (view_of c.in-Some.tag) (place_of c.pieces.place c.pieces.read) (place_of c.at_piece.new.place c.at_piece.new.read) c.at_piece.new.read c.in_err-at_piece.field-0.0 is c.in_err-at_piece.ensures))
+    (walk-stop (record { started = g.R.Reads.begun; ended = g.R.Reads.closed }) c.pieces.tags c.next.new.self (view_of c.in-Some.tag) (place_of c.pieces.place c.pieces.read) (place_of c.at_piece.new.place c.at_piece.new.read) c.at_piece.new.read c.in_err-at_piece.field-0.0 is c.in_err-at_piece.ensures))
 
 pub pieces-preserved-in_ok-at_piece : goal.pieces-preserved-in_ok-at_piece
 pieces-preserved-in_ok-at_piece g c =
     let is = next_piece c.pieces.tags c.next.new.self c.in_ok-tag.field-0 c.in-Some.tag c.in_ok-tag.ensures c.in-Some.is in
     walk-piece (record { started = g.R.Reads.begun; ended = g.R.Reads.closed }) c.pieces.tags c.next.new.self (view_of c.in-Some.tag) (place_of c.pieces.place c.pieces.read) (place_of c.at_piece.new.place c.at_piece.new.read)
-        is c.in_ok-at_piece.ensures
+    is c.in_ok-at_piece.ensures
     ∙ c.pieces.invariant
 
 pub pieces-preserved : goal.pieces-preserved
 pieces-preserved g c =
     let is = next_piece c.pieces.tags c.next.new.self c.in_ok-tag.field-0 c.in-Some.tag c.in_ok-tag.ensures c.in-Some.is in
     walk-piece (record { started = g.R.Reads.begun; ended = g.R.Reads.closed }) c.pieces.tags c.next.new.self (view_of c.in-Some.tag) (place_of c.pieces.place c.pieces.read) (place_of c.at_piece.new.place c.at_piece.new.read)
-        is c.in_ok-at_piece.ensures
+    is c.in_ok-at_piece.ensures
     ∙ c.pieces.invariant
 
 pub returns-then-not-is_empty : goal.returns-then-not-is_empty
@@ -46,10 +45,10 @@ returns-then-not-is_empty g c =
     let line_is : c.end_line.result ≡ end.1.0 = c.end_line.ensures end.1.0 (ap (λ l. l.last) end.0 ∙ ap (λ l. l.last) end.1.1) in
     let said = sym c.pieces.invariant ∙ walk-end (record { started = g.R.Reads.begun; ended = g.R.Reads.closed }) c.pieces.tags at end.1.0 end.1.1 in
     let refused : at_file_end at.outer end.1.0 at ≡ Err (Truncated, end.1.0) =
-        elim c.then-not-is_empty.branch [
-          | then-not-is_empty-via-then-not-is_empty w ↦ file_end-open at.outer end.1.0 at (grind (arith, nat_tests, c.is_empty.ensures, w.if-not-is_empty.true))
-          | then-not-is_empty-via-else-not-is_empty+then-not-is_complete w ↦ file_end-incomplete at.outer end.1.0 at (sym w.is_complete.ensures ∙ w.if-not-is_complete.true)
-        ] in
+    elim c.then-not-is_empty.branch [
+      | then-not-is_empty-via-then-not-is_empty w ↦ file_end-open at.outer end.1.0 at (grind (arith, nat_tests, c.is_empty.ensures, w.if-not-is_empty.true))
+      | then-not-is_empty-via-else-not-is_empty+then-not-is_complete w ↦ file_end-incomplete at.outer end.1.0 at (sym w.is_complete.ensures ∙ w.if-not-is_complete.true)
+    ] in
     rw c.fault.ensures (said ∙ refused ∙ ap (λ line. Err (Truncated, line)) (sym line_is))
 
 pub returns : goal.returns
