@@ -3,6 +3,7 @@ use Rattle.std.proofs.Common.{◌≡◌, ◌≢◌, ℕ, ◌+◌, ◌*◌, ◌-�
 use Rattle.std.proofs.lemmas.Bool.{cases_Bool, cases_eq}
 use Rattle.std.proofs.lemmas.Bool.Decides.{nat_tests}
 use Rattle.std.proofs.lemmas.List.{get_or_default}
+use Rattle.std.proofs.lemmas.List.Elements.{All-append, All-filter, All-map}
 use Rattle.std.proofs.lemmas.List.Folds.{list_any-from_Any, list_any_none}
 use Rattle.std.proofs.lemmas.List.Sums.{sum_by-le}
 use Rattle.std.specs.List.{All, filter, list_any, sum_by}
@@ -10,6 +11,7 @@ use Rattle.league.specs.Capacity.{is_in, meetings_with}
 use Rattle.league.specs.Counts.{Counts, is_game, one_more}
 use Rattle.league.specs.Meetings.{games_of, others}
 use Rattle.league.specs.declared.game.Game.{Game}
+use Rattle.league.specs.declared.class.Side.TheVariants.{H, A, Both}
 use Rattle.league.proofs.RangeLemmas.{one_if}
 use Rattle.league.proofs.SumLemmas.{sum_by-same}
 use Rattle.rule_core.specs.Places.{ArePlaces, stands}
@@ -94,3 +96,26 @@ stands-is_in xs places t are =
     ] where
   above_0 : (x : ℕ) → nat_lt 0 x ≡ true → 0 < x
   above_0 x h = grind (arith, nat_tests)
+
+-- a team's meetings at home, and away, where the game's home team or away team isn't theirs
+home_meetings-apart : (i : ℕ) (teams : List ℕ) (h a : ℕ) → ((i ≢ h) ⊎ All (λ t. t ≢ a) teams) → All {X = ℕ × ℕ} (λ p. p ≢ (h, a)) (map (λ j. (i, j)) (others i teams))
+home_meetings-apart i teams h a (inl differ) = All-map (λ p. p ≢ (h, a)) (λ j. (i, j)) (others i teams) (λ k d lt same. differ (ap (λ (p : ℕ × ℕ). p.0) same))
+home_meetings-apart i teams h a (inr apart) =
+    All-map (λ p. p ≢ (h, a)) (λ j. (i, j)) (others i teams) (λ k d lt same. All-filter (λ j. not (j == i)) (λ t. t ≢ a) teams apart k d lt (ap (λ (p : ℕ × ℕ). p.1) same))
+
+away_meetings-apart : (i : ℕ) (teams : List ℕ) (h a : ℕ) → ((i ≢ a) ⊎ All (λ t. t ≢ h) teams) → All {X = ℕ × ℕ} (λ p. p ≢ (h, a)) (map (λ j. (j, i)) (others i teams))
+away_meetings-apart i teams h a (inl differ) = All-map (λ p. p ≢ (h, a)) (λ j. (j, i)) (others i teams) (λ k d lt same. differ (ap (λ (p : ℕ × ℕ). p.1) same))
+away_meetings-apart i teams h a (inr apart) =
+    All-map (λ p. p ≢ (h, a)) (λ j. (j, i)) (others i teams) (λ k d lt same. All-filter (λ j. not (j == i)) (λ t. t ≢ h) teams apart k d lt (ap (λ (p : ℕ × ℕ). p.0) same))
+
+-- a team's games with some teams on a side, and a game that it doesn't play on that side, or not with one of these
+pub meetings_with-home : (m : Counts) (g : Game) (i : ℕ) (teams slots : List ℕ) → ((i ≢ g.home.0) ⊎ All (λ t. t ≢ g.away.0) teams) → games_of (one_more m g) (meetings_with H i teams) slots ≡ games_of m (meetings_with H i teams) slots
+meetings_with-home m g i teams slots apart = games_of-other_meeting m g (meetings_with H i teams) slots (home_meetings-apart i teams g.home.0 g.away.0 apart)
+
+pub meetings_with-away : (m : Counts) (g : Game) (i : ℕ) (teams slots : List ℕ) → ((i ≢ g.away.0) ⊎ All (λ t. t ≢ g.home.0) teams) → games_of (one_more m g) (meetings_with A i teams) slots ≡ games_of m (meetings_with A i teams) slots
+meetings_with-away m g i teams slots apart = games_of-other_meeting m g (meetings_with A i teams) slots (away_meetings-apart i teams g.home.0 g.away.0 apart)
+
+pub meetings_with-both : (m : Counts) (g : Game) (i : ℕ) (teams slots : List ℕ) → ((i ≢ g.home.0) ⊎ All (λ t. t ≢ g.away.0) teams) → ((i ≢ g.away.0) ⊎ All (λ t. t ≢ g.home.0) teams) → games_of (one_more m g) (meetings_with Both i teams) slots ≡ games_of m (meetings_with Both i teams) slots
+meetings_with-both m g i teams slots apart_at_home apart_away =
+    games_of-other_meeting m g (meetings_with Both i teams) slots
+    (All-append (λ p. p ≢ (g.home.0, g.away.0)) (map (λ j. (i, j)) (others i teams)) (map (λ j. (j, i)) (others i teams)) (home_meetings-apart i teams g.home.0 g.away.0 apart_at_home) (away_meetings-apart i teams g.home.0 g.away.0 apart_away))
