@@ -1,4 +1,5 @@
 pub mod GameLemmas
+pub mod ListedLemmas
 pub mod MeetingLemmas
 pub mod PlaceLemmas
 pub mod RowLemmas

@@ -1,14 +1,14 @@
 -- What one game more adds to the games of some meetings in some slots, and how many these can be.
-use Rattle.std.proofs.Common.{◌≡◌, ◌≢◌, ℕ, ◌+◌, ◌*◌, ◌-◌, ◌<◌, ◌≤◌, suc, Bool, true, false, not, ◌&&◌, ◌||◌, ◌==◌, nat_lt, List, [], ◌∷◌, ◌++◌, length, get_or, map, refl, arith, ap, sym, ◌∙◌, subst, Contains, inl, inr, ◌⊎◌}
+use Rattle.std.proofs.Common.{◌≡◌, ◌≢◌, ℕ, ◌*◌, ◌-◌, ◌<◌, ◌≤◌, Bool, true, false, not, ◌&&◌, ◌==◌, nat_lt, List, length, get_or, map, arith, ap, sym, ◌∙◌, Contains, inl, inr, ◌⊎◌}
 use Rattle.std.proofs.lemmas.Bool.{cases_Bool, cases_eq}
 use Rattle.std.proofs.lemmas.Bool.Decides.{nat_tests}
 use Rattle.std.proofs.lemmas.List.{get_or_default}
 use Rattle.std.proofs.lemmas.List.Elements.{All-append, All-filter, All-map}
 use Rattle.std.proofs.lemmas.List.Folds.{list_any-from_Any, list_any_none}
 use Rattle.std.proofs.lemmas.List.Sums.{sum_by-le}
-use Rattle.std.specs.List.{All, filter, list_any, sum_by}
+use Rattle.std.specs.List.{All, sum_by}
 use Rattle.league.specs.Capacity.{is_in, meetings_with}
-use Rattle.league.specs.Counts.{Counts, is_game, one_more}
+use Rattle.league.specs.Counts.{Counts, one_more}
 use Rattle.league.specs.Meetings.{games_of, others}
 use Rattle.league.specs.declared.game.Game.{Game}
 use Rattle.league.specs.declared.class.Side.TheVariants.{H, A, Both}
