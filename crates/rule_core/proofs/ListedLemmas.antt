@@ -1,13 +1,20 @@
 -- The table of some meetings: how it is made.
-use Rattle.std.proofs.Common.{◌≡◌, ◌≢◌, ℕ, ◌+◌, ◌*◌, ◌<◌, Bool, true, false, not, ◌&&◌, ◌||◌, ◌==◌, nat_lt, List, [], ◌∷◌, length, get_or, take, set, arith, ap, sym, subst, ◌∙◌, inl, inr, IsTrue}
+use Rattle.std.proofs.Common.{◌≡◌, ◌≢◌, ℕ, ◌+◌, ◌*◌, ◌<◌, ◌≤◌, Bool, true, false, not, ◌&&◌, ◌||◌, ◌==◌, nat_lt, List, [], ◌∷◌, length, get_or, map, take, set, refl, arith, ap, sym, subst, ◌∙◌, inl, inr, ◌⊎◌, IsTrue}
 use Rattle.std.proofs.lemmas.Bool.{cases_eq}
 use Rattle.std.proofs.lemmas.Bool.Decides.{nat_tests}
-use Rattle.std.proofs.lemmas.List.{get_or-set_other, get_or-set_same, length-set, take_more}
+use Rattle.std.proofs.lemmas.List.{get_or-map, get_or-set_other, get_or-set_same, length-map, length-set, take_more}
 use Rattle.std.proofs.lemmas.List.Folds.{list_any-append}
 use Rattle.std.proofs.lemmas.List.Sums.{AllPass-from_list_all}
-use Rattle.std.proofs.lemmas.Nat.{mul-add-lt, same_from_place}
+use Rattle.std.proofs.lemmas.Nat.{mul-add-lt, mul-le, same_from_place}
+use Rattle.std.proofs.Math.Nat.{mul_comm}
 use Rattle.std.specs.List.{All}
 use Rattle.league.specs.Instance.{are_meetings}
+use Rattle.std.specs.Ordering.{nat_cmp, ordering_then}
+use Rattle.std.specs.declared.cmp.Ordering.{Ordering}
+use Rattle.std.specs.declared.cmp.Ordering.TheVariants.{Less, Equal, Greater}
+use Rattle.league.proofs.SetLemmas.{length-ascending}
+use Rattle.league.specs.SetLaws.{same-nat_cmp}
+use Rattle.league.specs.Sets.{IsAscending, pair_cmp}
 use Rattle.rule_core.specs.Meetings.{IsTableOf, is_listed}
 
 -- whether a pair of numbers is another
@@ -83,3 +90,40 @@ pub teams_at : (n known : ℕ) (xs copied : List (ℕ × ℕ)) (k : ℕ) → kno
 teams_at n known xs copied k same is are lt =
     subst (λ (ys : List (ℕ × ℕ)). k < length ys → ((get_or ys k (0, 0)).0 < known) × ((get_or ys k (0, 0)).1 < known)) (sym is)
     (subst (λ (b : ℕ). k < length xs → ((get_or xs k (0, 0)).0 < b) × ((get_or xs k (0, 0)).1 < b)) (sym same) (λ within. are k (0, 0) within)) lt
+
+-- an earlier pair has an earlier place in the table
+earlier : (o p : Ordering) → ordering_then o p ≡ Less → (o ≡ Less) ⊎ ((o ≡ Equal) × (p ≡ Less))
+earlier Less p h = inl refl
+earlier Equal p h = inr (refl, h)
+earlier Greater p h = absurd (cc)
+
+less : (a b : ℕ) → a < b → nat_cmp a b ≡ Less
+less a b h = grind (arith, nat_tests)
+
+less_than : (a b : ℕ) → nat_cmp a b ≡ Less → a < b
+less_than a b h = grind (arith, nat_tests)
+
+earlier_place : (n : ℕ) (p q : ℕ × ℕ) → p.1 < n → pair_cmp p q ≡ Less → nat_cmp (p.0 * n + p.1) (q.0 * n + q.1) ≡ Less
+earlier_place n p q in_away before =
+    elim (earlier (nat_cmp p.0 q.0) (nat_cmp p.1 q.1) before) [
+      | inl home ↦ less (p.0 * n + p.1) (q.0 * n + q.1) (omega (arith, mul-add-lt p.0 n p.1 q.0 (less_than p.0 q.0 home) in_away, mul_comm n q.0))
+      | inr away ↦ less (p.0 * n + p.1) (q.0 * n + q.1) (omega (arith, ap (λ (i : ℕ). i * n) (same-nat_cmp p.0 q.0 away.0), less_than p.1 q.1 away.1))
+    ]
+
+-- a set of meetings of at most 40 teams has at most 1600
+pub length-meetings : (n : ℕ) (xs : List (ℕ × ℕ)) → n ≤ 40 → IsAscending pair_cmp xs → All (λ p. (p.0 < n) × (p.1 < n)) xs → length xs ≤ 1600
+length-meetings n xs at_most ascending teams =
+    let place : ℕ × ℕ → ℕ = λ p. p.0 * n + p.1 in
+    let at : (k : ℕ) (d : ℕ) → k < length xs → get_or (map place xs) k d ≡ place (get_or xs k (0, 0)) = λ k d lt. get_or-map place xs k (0, 0) d lt in
+    let long : length (map place xs) ≡ length xs = length-map xs place in
+    let below : All (λ x. x < n * n) (map place xs) = λ k d lt.
+        let within : k < length xs = omega arith in
+        let in_league = teams k (0, 0) within in
+        omega (arith, at k d within, mul-add-lt (get_or xs k (0, 0)).0 n (get_or xs k (0, 0)).1 n in_league.0 in_league.1) in
+    let rising : IsAscending nat_cmp (map place xs) = λ i j d before lt.
+        let last : j < length xs = omega arith in
+        let first : i < length xs = omega arith in
+        ap (λ (a : ℕ). nat_cmp a (get_or (map place xs) j d)) (at i d first)
+        ∙ ap (λ (b : ℕ). nat_cmp (place (get_or xs i (0, 0))) b) (at j d last)
+        ∙ earlier_place n (get_or xs i (0, 0)) (get_or xs j (0, 0)) (teams i (0, 0) first).1 (ascending i j (0, 0) before last) in
+    omega (arith, length-ascending (map place xs) (n * n) rising below, mul-le n n 40 40 at_most at_most)

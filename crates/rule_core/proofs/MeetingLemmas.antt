@@ -1,5 +1,5 @@
 -- What one game more adds to the games of some meetings in some slots, and how many these can be.
-use Rattle.std.proofs.Common.{◌≡◌, ◌≢◌, ℕ, ◌*◌, ◌-◌, ◌<◌, ◌≤◌, Bool, true, false, not, ◌&&◌, ◌==◌, nat_lt, List, length, get_or, map, arith, ap, sym, ◌∙◌, Contains, inl, inr, ◌⊎◌}
+use Rattle.std.proofs.Common.{◌≡◌, ◌≢◌, ℕ, ◌*◌, ◌-◌, ◌<◌, ◌≤◌, Bool, true, false, not, ◌&&◌, ◌==◌, nat_lt, List, length, get_or, map, refl, arith, ap, sym, ◌∙◌, Contains, inl, inr, ◌⊎◌}
 use Rattle.std.proofs.lemmas.Bool.{cases_Bool, cases_eq}
 use Rattle.std.proofs.lemmas.Bool.Decides.{nat_tests}
 use Rattle.std.proofs.lemmas.List.{get_or_default}
@@ -14,6 +14,7 @@ use Rattle.league.specs.declared.game.Game.{Game}
 use Rattle.league.specs.declared.class.Side.TheVariants.{H, A, Both}
 use Rattle.league.proofs.RangeLemmas.{one_if}
 use Rattle.league.proofs.SumLemmas.{sum_by-same}
+use Rattle.rule_core.specs.Meetings.{is_listed}
 use Rattle.rule_core.specs.Places.{ArePlaces, stands}
 use Rattle.rule_core.proofs.GameLemmas.{sum_by-same_in}
 use Rattle.rule_core.proofs.PlaceLemmas.{stands-no}
@@ -83,6 +84,31 @@ pub is_in-yes : (i : ℕ) (teams : List ℕ) (k : ℕ) → k < length teams → 
 is_in-yes i teams k within is = list_any-from_Any (λ t. t == i) teams (k, i, within, get_or_default teams k i 0 within ∙ is, itself i) where
   itself : (a : ℕ) → (a == a) ≡ true
   itself a = grind (arith, nat_tests)
+
+-- and one that fails the test is none of them
+pub is_in-lacks : (i : ℕ) (teams : List ℕ) → is_in i teams ≡ false → All (λ t. t ≢ i) teams
+is_in-lacks i teams out k d lt same =
+    let at : is_in i teams ≡ true = is_in-yes i teams k lt (get_or_default teams k 0 d lt ∙ same) in
+    absurd (cc)
+
+-- a meeting that isn't listed is none of these
+pub is_listed-lacks : (meetings : List (ℕ × ℕ)) (p : ℕ × ℕ) → is_listed meetings p.0 p.1 ≡ false → All (λ q. q ≢ p) meetings
+is_listed-lacks meetings p out k d lt same =
+    let at : is_listed meetings p.0 p.1 ≡ true = list_any-from_Any (λ q. (q.0 == p.0) && (q.1 == p.1)) meetings (k, p, lt, get_or_default meetings k p d lt ∙ same, itself p.0 p.1) in
+    absurd (cc) where
+  itself : (a b : ℕ) → ((a == a) && (b == b)) ≡ true
+  itself a b = grind (arith, nat_tests)
+
+-- a game that isn't both of one of the meetings and in one of the slots
+pub games_of-unlisted : (m : Counts) (g : Game) (meetings : List (ℕ × ℕ)) (slots : List ℕ) → (is_listed meetings g.home.0 g.away.0 && is_in g.slot.0 slots) ≡ false → games_of (one_more m g) meetings slots ≡ games_of m meetings slots
+games_of-unlisted m g meetings slots out =
+    elim (one_fails (is_listed meetings g.home.0 g.away.0) (is_in g.slot.0 slots) out) [
+      | inl unlisted ↦ games_of-other_meeting m g meetings slots (is_listed-lacks meetings (g.home.0, g.away.0) unlisted)
+      | inr elsewhere ↦ games_of-elsewhere m g meetings slots (is_in-lacks g.slot.0 slots elsewhere)
+    ] where
+  one_fails : (a b : Bool) → (a && b) ≡ false → (a ≡ false) ⊎ (b ≡ false)
+  one_fails true b h = inr h
+  one_fails false b h = inl refl
 
 -- a number has a place exactly where it is one of these
 pub stands-is_in : (xs places : List ℕ) (t : ℕ) → ArePlaces (length xs) xs places → stands places t ≡ is_in t xs
