@@ -1,1 +1,2 @@
 pub mod TermLemmas
+pub mod OpponentSums

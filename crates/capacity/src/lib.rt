@@ -5,6 +5,9 @@
 #![tactic(auto)]
 
 mod ca1;
+mod ca2;
+mod opponents;
 mod sums;
 
 pub use ca1::Ca1;
+pub use ca2::Ca2;
