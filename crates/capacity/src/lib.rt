@@ -1,0 +1,13 @@
+//! The capacity constraints: at most so many games of some teams in some slots.
+//!
+//! Each class is made from a constraint, and is then a `Rule` for every ledger. Its entries are those of the constraint's
+//! deviation vector, as `league` defines it.
+#![tactic(auto)]
+
+mod ca1;
+mod ca2;
+mod opponents;
+mod sums;
+
+pub use ca1::Ca1;
+pub use ca2::Ca2;

@@ -1,0 +1,93 @@
+-- Vectors by their entries, and counts by their games.
+use Rattle.std.proofs.Common.{◌≡◌, ℕ, ◌+◌, ◌*◌, ◌^◌, ◌<◌, ◌≤◌, zero, suc, Bool, nat_lt, List, [], ◌∷◌, ◌++◌, length, map, get_or, take, sum, IsTrue, Result, Ok, Err, IfOk, refl, ap, sym, ◌∙◌, arith}
+use borrow.Author.Tests.{ltb-true}
+use Rattle.std.proofs.lemmas.List.{length-append, length-map, take_more}
+use Rattle.std.proofs.lemmas.List.Sums.{AllPass-from_list_all, sum_by-cons, sum_by_push}
+use Rattle.std.specs.Ordering.{nat_cmp}
+use Rattle.std.proofs.lemmas.List.Sums.{fold-append}
+use Rattle.std.specs.List.{range_with_len}
+use Rattle.league.specs.Counts.{Counts, counts_of, one_more, is_game}
+use Rattle.league.specs.Counts.{slot_count}
+use Rattle.league.specs.Deviation.{entry_of, vector_of}
+use Rattle.league.specs.Instance.{are_slots, are_teams}
+use Rattle.league.specs.Meetings.{pairs_of}
+use Rattle.league.specs.Sets.{IsAscending}
+use Rattle.league.proofs.SetLemmas.{length-ascending}
+use Rattle.league.proofs.RangeLemmas.{one_if}
+use Rattle.rule_core.proofs.TableLemmas.{same_counts}
+use Rattle.league.specs.declared.class.Class.{Class}
+use Rattle.league.specs.declared.game.Game.{Game}
+
+-- a sum with one number more
+pub sum-push : (xs : List ℕ) (x : ℕ) → sum (xs ++ x ∷ []) ≡ sum xs + x
+sum-push xs x = fold-append (λ a y. a + y) 0 xs (x ∷ [])
+
+-- the elements of a list, each by its place
+shifted : (f g : ℕ → ℕ) (a k : ℕ) → ((i : ℕ) → f (i + 1) ≡ g i) → map f (range_with_len (a + 1) k) ≡ map g (range_with_len a k)
+shifted f g a zero same = refl
+shifted f g a (suc k) same = ap (λ (y : ℕ). y ∷ map f (range_with_len (a + 1 + 1) k)) (same a) ∙ ap (λ (l : List ℕ). g a ∷ l) (shifted f g (a + 1) k same)
+
+behind : (x : ℕ) (xs : List ℕ) (i : ℕ) → get_or (x ∷ xs) (i + 1) 0 ≡ get_or xs i 0
+behind x xs i = let next : i + 1 ≡ suc i = omega arith in ap (λ (k : ℕ). get_or (x ∷ xs) k 0) next
+
+pub listed : (xs : List ℕ) → map (λ k. get_or xs k 0) (range_with_len 0 (length xs)) ≡ xs
+listed [] = refl
+listed (x ∷ xs) = ap (λ (l : List ℕ). x ∷ l) (shifted (λ k. get_or (x ∷ xs) k 0) (λ k. get_or xs k 0) 0 (length xs) (behind x xs) ∙ listed xs)
+
+map-same : (f g : ℕ → ℕ) → ((x : ℕ) → f x ≡ g x) → (xs : List ℕ) → map f xs ≡ map g xs
+map-same f g same [] = refl
+map-same f g same (x ∷ xs) = ap (λ (y : ℕ). y ∷ map f xs) (same x) ∙ ap (λ (l : List ℕ). g x ∷ l) (map-same f g same xs)
+
+-- a rule's entries, where each is the constraint's and there are as many, are the vector
+pub vector-by_entries : (n : ℕ) (m : Counts) (class : Class) (count : ℕ) (entry : ℕ → ℕ) (entries : List ℕ) → count ≡ length (vector_of n m class) → ((k : ℕ) → entry k ≡ entry_of n m class k) → entries ≡ map entry (range_with_len 0 count) → entries ≡ vector_of n m class
+vector-by_entries n m class count entry entries many each are =
+    are
+    ∙ ap (λ (k : ℕ). map entry (range_with_len 0 k)) many
+    ∙ map-same entry (λ k. entry_of n m class k) each (range_with_len 0 (length (vector_of n m class)))
+    ∙ listed (vector_of n m class)
+
+-- the slots of a league of at most 40 teams are at most 78
+pub few_slots : (n : ℕ) (slots : List ℕ) → n ≤ 40 → IsTrue (are_slots n slots) → IsAscending nat_cmp slots → length slots ≤ 78
+few_slots n slots small fit ascending =
+    length-ascending slots 78 ascending (λ k d within. omega (arith, ltb-true (get_or slots k d) (slot_count n) (AllPass-from_list_all (λ s. nat_lt s (slot_count n)) slots fit k d within)))
+
+-- and its teams are at most 40
+pub few_teams : (n : ℕ) (teams : List ℕ) → n ≤ 40 → IsTrue (are_teams n teams) → IsAscending nat_cmp teams → length teams ≤ 40
+few_teams n teams small fit ascending =
+    length-ascending teams 40 ascending (λ k d within. omega (arith, ltb-true (get_or teams k d) n (AllPass-from_list_all (λ t. nat_lt t n) teams fit k d within)))
+
+-- what holds of a value holds of it in another form
+pub IfOk-map : {T E : Type 0} {P Q : T → Type 0} (r : Result T E) → ((x : T) → P x → Q x) → IfOk r P → IfOk r Q
+IfOk-map (Ok x) weaker p = weaker x p
+IfOk-map (Err e) weaker p = p
+
+square : (k : ℕ) → k + k * k ≤ suc k * suc k
+square k = grind arith
+
+-- teams have at most as many pairs as their number's square
+pub few_pairs : (teams : List ℕ) → length (pairs_of teams) ≤ length teams * length teams
+few_pairs [] = omega arith
+few_pairs (i ∷ teams) =
+    omega (arith, length-append (map (λ j. (i, j)) teams) (pairs_of teams), length-map {B = ℕ × ℕ} teams (λ j. (i, j)), few_pairs teams, square (length teams))
+
+-- what an index past the end of a list of games would read
+abbrev no_game : Game
+no_game = record { home = record { 0 = 0 }; away = record { 0 = 0 }; slot = record { 0 = 0 } }
+
+-- counts with a schedule's next game
+pub counts-next : (games : List Game) (i : ℕ) (before after : Counts) → i < length games → before ≡ counts_of (take i games) → after ≡ one_more before (get_or games i no_game) → after ≡ counts_of (take (i + 1) games)
+counts-next games i before after within so_far more =
+    let g : Game = get_or games i no_game in
+    more
+    ∙ ap (λ (m : Counts). one_more m g) so_far
+    ∙ same_counts (one_more (counts_of (take i games)) g) (counts_of (take i games ++ g ∷ [])) (λ h a s. sym (sum_by_push (λ x. one_if (is_game h a s x)) (take i games) g))
+    ∙ ap (λ (gs : List Game). counts_of gs) (sym (take_more games i no_game within))
+
+-- a sum of numbers below a bound
+pub sum-le : (bound : ℕ) (xs : List ℕ) → ((i : ℕ) → get_or xs i 0 < bound) → sum xs ≤ bound * length xs
+sum-le bound [] small = omega arith
+sum-le bound (x ∷ xs) small = omega (arith, sum_by-cons (λ y. y) x xs, small 0, sum-le bound xs (λ i. small (suc i)))
+
+-- a value of each element makes as many
+pub length_mapped : {A B : Type 0} (f : A → B) (xs : List A) → length (map f xs) ≡ length xs
+length_mapped f xs = length-map xs f

@@ -1,0 +1,3 @@
+-- What is assessed:
+pub mod Reach
+pub mod Assess

@@ -1,0 +1,30 @@
+//! The counts of a schedule.
+ghost use Rattle.std.specs.Prelude.{◌≡◌, ◌≤◌, ◌%◌, length, IfOk};
+ghost use Rattle.std.specs.List.{All};
+ghost use Rattle.league.specs.Counts.{counts_of};
+ghost use Rattle.league.specs.Instance.{IsGame};
+ghost use Rattle.rule_core.specs.Table.{table_counts};
+
+use league::Game;
+use rule_core::Cells;
+use std::alloc::{AllocError, Global};
+
+/// The counts of at most 10,000 games of a league of n teams.
+///
+/// # Errors
+/// Only where memory runs out.
+pub(crate) fn counted(alloc: Global, n: u16, games: &[Game]) -> Result<Cells, AllocError>
+    requires even { n % 2 ≡ 0 }
+    requires at_least { 2 ≤ n }
+    requires at_most { n ≤ 40 }
+    requires few { length games.now ≤ 10000 }
+    requires fit { All (IsGame n) games.now }
+    ensures n { IfOk result (λ cells. cells.n ≡ n) }
+    ensures counts { IfOk result (λ cells. table_counts cells ≡ counts_of games.now) }
+{
+    let mut cells = Cells::new(alloc, n)?;
+    for game in games {
+        cells.add(*game);
+    }
+    Ok(cells)
+}
