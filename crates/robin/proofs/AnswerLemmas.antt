@@ -5,7 +5,7 @@ use Rattle.robinx_tags.specs.Pieces.{pieces}
 use Rattle.robinx_read.specs.InstanceFile.{instance_of}
 use Rattle.robinx_read.specs.SolutionFile.{solution_of}
 use Rattle.robinx_read.specs.Walk.{Fault}
-use Rattle.robin.specs.Answer.{Outcome, IsFile, IsUnread, instance_limit, solution_limit, judges, reads, says, validated}
+use Rattle.robin.specs.Answer.{Outcome, IsFile, IsUnread, instance_limit, solution_limit, IsJudgement, reads, says, validated}
 use Rattle.robin.specs.Refusals.{Answer}
 use Rattle.robin.specs.SeenReply.{Answers}
 use Rattle.robin.specs.declared.reply.Reply.{Reply}
@@ -24,9 +24,9 @@ says-value which said x next answer is after = subst (λ r. says which r next an
 
 -- the first file is read and says a league: what is answered at the second is the answer
 after-first : (told : List ℕ → Option (List ℕ)) (took_more : ℕ → Type 0) (failed : List ℕ → Type 0) (instance solution first : List ℕ) (league : Instance) → IsFile (told instance) instance_limit first → instance_of (pieces first) ≡ Ok league
-    → (answer : Answer) → reads (codes "solution") (told solution) solution_limit (took_more (length first + solution_limit)) (failed solution) (λ bytes. says (codes "solution") (solution_of league.n (pieces bytes)) (judges league)) answer → validated told took_more failed instance solution answer
+    → (answer : Answer) → reads (codes "solution") (told solution) solution_limit (took_more (length first + solution_limit)) (failed solution) (λ bytes. says (codes "solution") (solution_of league.n (pieces bytes)) (IsJudgement league)) answer → validated told took_more failed instance solution answer
 after-first told took_more failed instance solution first league is_first says_league answer rest =
-    inl (first, is_first, says-value (codes "instance") (instance_of (pieces first)) league (λ l. reads (codes "solution") (told solution) solution_limit (took_more (length first + solution_limit)) (failed solution) (λ bytes. says (codes "solution") (solution_of l.n (pieces bytes)) (judges l))) answer says_league rest)
+    inl (first, is_first, says-value (codes "instance") (instance_of (pieces first)) league (λ l. reads (codes "solution") (told solution) solution_limit (took_more (length first + solution_limit)) (failed solution) (λ bytes. says (codes "solution") (solution_of l.n (pieces bytes)) (IsJudgement l))) answer says_league rest)
 
 -- the second file isn't read
 pub validated-unread : (told : List ℕ → Option (List ℕ)) (took_more : ℕ → Type 0) (failed : List ℕ → Type 0) (instance solution first : List ℕ) (league : Instance) → IsFile (told instance) instance_limit first → instance_of (pieces first) ≡ Ok league
@@ -35,6 +35,6 @@ validated-unread told took_more failed instance solution first league is_first s
 
 -- both files are read, and the first says a league: the rest is the answer to the second
 pub validated-last : (told : List ℕ → Option (List ℕ)) (took_more : ℕ → Type 0) (failed : List ℕ → Type 0) (instance solution first second : List ℕ) (league : Instance) → IsFile (told instance) instance_limit first → instance_of (pieces first) ≡ Ok league → IsFile (told solution) solution_limit second
-    → (answer : Answer) → says (codes "solution") (solution_of league.n (pieces second)) (judges league) answer → validated told took_more failed instance solution answer
+    → (answer : Answer) → says (codes "solution") (solution_of league.n (pieces second)) (IsJudgement league) answer → validated told took_more failed instance solution answer
 validated-last told took_more failed instance solution first second league is_first says_league is_second answer last =
     after-first told took_more failed instance solution first league is_first says_league answer (inl (second, is_second, last))

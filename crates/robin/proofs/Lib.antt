@@ -1,6 +1,3 @@
 pub mod TextLemmas
 pub mod AnswerLemmas
-pub mod WeightLemmas
-pub mod AssessLemmas
 pub mod ReportLemmas
-pub mod BuiltLemmas

@@ -10,8 +10,7 @@ use Rattle.league.specs.declared.game.Game.{Game}
 use Rattle.robinx_read.specs.Walk.{Fault}
 use Rattle.robinx_read.specs.InstanceFile.{instance_of}
 use Rattle.robinx_read.specs.SolutionFile.{solution_of}
-use Rattle.robin.specs.Built.{first_unbuilt}
-use Rattle.robin.specs.Refusals.{Answer, refused_words, read_fault, too_long, malformed, unbuilt}
+use Rattle.robin.specs.Refusals.{Answer, refused_words, read_fault, too_long, malformed}
 use Rattle.robin.specs.Report.{report_text}
 use Rattle.robin.specs.Words.{Command}
 use Rattle.robin.specs.Words.Command.{Validate}
@@ -47,14 +46,6 @@ pub record IsJudgement (league : Instance) (games : List Game) (answer : Answer)
   pub status : answer.status ≡ (if feasible then Yes else No)
   pub text : answer.text ≡ report_text league games feasible
 
--- a league that has a constraint of a class that isn't judged is refused, by the first such constraint; any other judges the schedule
-abbrev pub judges_by : Option ℕ → Instance → List Game → Outcome
-judges_by (Some place) league games answer = answer ≡ unbuilt (place + 1)
-judges_by None league games answer = IsJudgement league games answer
-
-abbrev pub judges : Instance → List Game → Outcome
-judges league games = judges_by (first_unbuilt league.constraints) league games
-
 -- a step before an answer
 infixl 10 ◌>>=◌
 abbrev pub ◌>>=◌ : {A : Type 0} → ((A → Outcome) → Outcome) → (A → Outcome) → Outcome
@@ -76,7 +67,7 @@ validated told took_more failed instance solution = do
   league ← says (codes "instance") (instance_of (pieces first))
   second ← reads (codes "solution") (told solution) solution_limit (took_more (length first + solution_limit)) (failed solution)
   games ← says (codes "solution") (solution_of league.n (pieces second))
-  judges league games
+  IsJudgement league games
 
 -- the answer to the words
 abbrev pub IsAnswer : Option Command → (List ℕ → Option (List ℕ)) → (ℕ → Type 0) → (List ℕ → Type 0) → Outcome
@@ -102,9 +93,9 @@ pub record IsWellFormedPair (told : List ℕ → Option (List ℕ)) (failed : Li
   pub first_works : failed instance → ⊥
   pub second_works : failed solution → ⊥
 
--- this answer is given whole
+-- the judgement is given whole
 pub record GivesJudgement (league : Instance) (games : List Game) (ended : Status) (old new : Option (List ℕ)) : Type 0 where
   pub answer : Answer
-  pub judgement : judges league games answer
+  pub judgement : IsJudgement league games answer
   pub status : ended ≡ answer.status
   pub written : Appends old new answer.text

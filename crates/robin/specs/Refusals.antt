@@ -58,7 +58,3 @@ kind_word TooMany = codes "TooMany"
 -- a file has this fault of form on this line, and none before it
 abbrev pub malformed : List ℕ → FormKind → ℕ → Answer
 malformed which kind line = record { status = File; text = codes "refused " ++ (which ++ (codes " " ++ (kind_word kind ++ (codes " line " ++ (decimal line ++ codes "\n"))))) }
-
--- the constraint of this number, from 1, is of a class that isn't judged yet
-abbrev pub unbuilt : ℕ → Answer
-unbuilt number = record { status = File; text = codes "refused constraint " ++ (decimal number ++ codes " Unbuilt\n") }

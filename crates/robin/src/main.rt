@@ -1,7 +1,6 @@
 //! robin judges schedules of sports leagues: the program, and the call `run` that it makes.
 #![tactic(auto)]
 
-mod assess;
 mod judge;
 mod reply;
 mod report;
@@ -9,8 +8,6 @@ mod run;
 mod status;
 #[cfg(test)]
 mod tests;
-mod venues;
-mod weights;
 mod words;
 
 use robin_io::{HostShelf, HostSink};

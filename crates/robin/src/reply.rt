@@ -101,14 +101,3 @@ pub fn malformed(alloc: Global, which: &str, fault: FormFault) -> Result<Reply, 
         text,
     })
 }
-
-/// The constraint of this number, counted from 1, is of a class that isn't judged yet.
-pub fn unbuilt(alloc: Global, number: usize) -> Result<Reply, AllocError>
-    ensures { IfOk result (λ reply. answer_of reply ≡ refusals.unbuilt number) }
-{
-    let text = format!(in alloc; "refused constraint {number} Unbuilt\n")?;
-    Ok(Reply {
-        status: Status::File,
-        text,
-    })
-}

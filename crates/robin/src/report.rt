@@ -2,7 +2,7 @@
 ghost use Rattle.std.specs.Prelude.{◌≡◌, ◌++◌, length, IfOk, OnOk, string_bytes, sum};
 ghost use Rattle.robin.specs.Report.{head_text, structure_text, verdict_text, entries_text, constraint_front, constraint_text, constraints_text, lines_text, class_word, type_word};
 
-use crate::assess::{Assessment, Vectors};
+use deviation::{Assessment, Vectors, total};
 use league::{Class, Constraint, League, Wrongs};
 use std::alloc::{AllocError, Global};
 
@@ -61,13 +61,6 @@ fn type_name(hard: bool) -> &'static str
     ensures { result.now ≡ type_word hard }
 {
     if hard { "HARD" } else { "SOFT" }
-}
-
-/// The sum of a vector's entries. It fits, as no list in memory has 2^64 of them.
-pub fn total(entries: &[u64]) -> u128
-    ensures { result ≡ sum entries.now }
-{
-    entries.iter().map(|entry| u128::from(*entry)).sum()
 }
 
 /// Adds the entries, each after a space.

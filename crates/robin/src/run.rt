@@ -5,7 +5,7 @@ ghost use Rattle.robin_io.specs.Counts.{raised, Rose, TookMore};
 ghost use Rattle.robinx_tags.specs.Pieces.{pieces};
 ghost use Rattle.robinx_read.specs.InstanceFile.{instance_of};
 ghost use Rattle.robinx_read.specs.SolutionFile.{solution_of};
-ghost use Rattle.robin.specs.Answer.{IsAnswer, IsFile, IsGiven, IsUnread, IsWellFormedPair, GivesJudgement, judges, says, validated};
+ghost use Rattle.robin.specs.Answer.{IsAnswer, IsFile, IsGiven, IsUnread, IsWellFormedPair, GivesJudgement, IsJudgement, says, validated};
 ghost use Rattle.robin.specs.Refusals.{Answer};
 ghost use Rattle.robin.specs.SeenReply.{answer_of, Answers, IsMalformed, StepGives};
 ghost use Rattle.robin.specs.SeenWords.{command_of, texts};
@@ -85,7 +85,7 @@ fn schedule_in(alloc: Global, bytes: &[u8], league: &League) -> Result<Schedule,
 /// Judges what a solution file says by the league.
 fn judge_file(alloc: Global, bytes: &[u8], league: &League) -> Result<Reply, Stop>
     requires { length bytes.now ≤ 1048576 }
-    ensures { Answers (says (codes "solution") (solution_of league.now.n (pieces bytes.now)) (judges league.now)) result }
+    ensures { Answers (says (codes "solution") (solution_of league.now.n (pieces bytes.now)) (IsJudgement league.now)) result }
 {
     let schedule = schedule_in(alloc, bytes, league)?;
     Ok(judge(alloc, league, &schedule)?)
