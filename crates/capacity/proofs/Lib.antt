@@ -1,2 +1,3 @@
 pub mod TermLemmas
 pub mod OpponentSums
+pub mod BeforeLemmas

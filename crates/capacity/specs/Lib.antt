@@ -10,3 +10,4 @@ pub mod Ca2
 pub mod Ca1Laws
 pub mod OpponentLaws
 pub mod Ca2Laws
+pub mod Ca3Laws

@@ -19,6 +19,7 @@ module _ (P : List ℕ → Type 0) (places1 : List ℕ) (g : Game) (none : P [])
   under b ks ls first second = cond_both b ks ls P (λ e. first) (λ e. second)
 
   touches_between-holds : (side : Side) (places2 : List ℕ) → P (touches_between side places1 places2 g)
+  unfolding touches_between
   touches_between-holds H places2 = under (stands places2 g.away.0) _ _ (one g.home.0) none
   touches_between-holds A places2 = under (stands places2 g.home.0) _ _ (one g.away.0) none
   touches_between-holds Both places2 = under (stands places2 g.away.0) _ _ (under (stands places2 g.home.0) _ _ two (one g.home.0)) (under (stands places2 g.home.0) _ _ (one g.away.0) none)
@@ -62,6 +63,7 @@ module _ (teams2 places2 : List ℕ) (placed2 : ArePlaces (length teams2) teams2
 
 -- so a team whose key the game doesn't touch has as many games with each of the others
 pub touches_between-frame : (n : ℕ) (teams1 teams2 places1 places2 : List ℕ) → AreOpponents n teams1 teams2 places1 places2 → (side : Side) (g : Game) (m : Counts) (k s : ℕ) → k < length teams1 → (Contains (touches_between side places1 places2 g) k → ⊥) → All (λ j. between (one_more m g) side (get_or teams1 k 0) s j ≡ between m side (get_or teams1 k 0) s j) teams2
+unfolding touches_between
 touches_between-frame n teams1 teams2 places1 places2 are H g m k s inside lacks =
     home_same teams2 places2 are.placed2 m g (get_or teams1 k 0) s (one_part teams1 places1 are.placed1 k inside g.home.0 (stands places2 g.away.0) lacks)
 touches_between-frame n teams1 teams2 places1 places2 are A g m k s inside lacks =

@@ -16,7 +16,7 @@ pub record AreOpponents (n : ℕ) (teams1 teams2 places1 places2 : List ℕ) : T
   pub placed2 : ArePlaces (length teams2) teams2 places2
 
 -- the keys of the teams of a game that play on the side against one of the others
-abbrev pub touches_between : Side → List ℕ → List ℕ → Game → List ℕ
+unfoldable pub touches_between : Side → List ℕ → List ℕ → Game → List ℕ
 touches_between H places1 places2 g = if stands places2 g.away.0 then key_of places1 g.home.0 else []
 touches_between A places1 places2 g = if stands places2 g.home.0 then key_of places1 g.away.0 else []
 touches_between Both places1 places2 g = if stands places2 g.away.0 then (if stands places2 g.home.0 then keys_of places1 g.home.0 g.away.0 else key_of places1 g.home.0) else (if stands places2 g.home.0 then key_of places1 g.away.0 else [])

@@ -127,3 +127,6 @@ impl<L> Rule<L> for Ca2 {
         self.opponents.games_in(key, cells, &self.slots).saturating_sub(self.max as u64)
     }
 }
+
+#[cfg(test)]
+mod tests;

@@ -6,8 +6,13 @@
 
 mod ca1;
 mod ca2;
+mod ca3;
 mod opponents;
 mod sums;
 
 pub use ca1::Ca1;
 pub use ca2::Ca2;
+pub use ca3::Ca3;
+
+#[cfg(test)]
+mod tests;

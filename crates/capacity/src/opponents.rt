@@ -1,6 +1,6 @@
 //! The games of some teams against others, which CA2 and CA3 bound.
 ghost use Rattle.std.specs.Prelude.{◌≡◌, ℕ, ◌<◌, ◌≤◌, ◌+◌, ◌++◌, [], ◌∷◌, length, slice_index, IfOk};
-ghost use Rattle.std.specs.List.{All};
+ghost use Rattle.std.specs.List.{All, range_with_len};
 ghost use Rattle.std.specs.Ordering.{nat_cmp};
 ghost use Rattle.league.specs.Capacity.{meetings_with};
 ghost use Rattle.league.specs.Counts.{slot_count};
@@ -100,8 +100,24 @@ impl Opponents {
         games
     }
 
+    /// The games of the team of a key against the others, itself left out, before each slot of the season and before its end.
+    /// Each slot is counted once.
+    pub(crate) fn games_before(&self, key: usize, cells: &Cells) -> [u64; 79]
+        requires key { key < length self.now.teams1.items }
+        requires teams { cells.now.n ≡ self.now.n }
+        ensures games { (t : ℕ) → t ≤ slot_count self.now.n → slice_index result t ≡ games_of (table_counts cells.now) (meetings_with self.now.side (slice_index self.now.teams1.items key) self.now.teams2.items) (range_with_len 0 t) }
+        ensures at_most { (t : ℕ) → slice_index result t ≤ 62400000 }
+    {
+        let mut before = [0; 79];
+        for slot in 0..season(cells) {
+            let next = slot as usize + 1;
+            before[next] = before[slot as usize] + self.games_at(key, cells, SlotId(slot));
+        }
+        before
+    }
+
     /// The games of the team of a key against the others, itself left out, in a slot.
-    pub(crate) fn games_at(&self, key: usize, cells: &Cells, slot: SlotId) -> u64
+    fn games_at(&self, key: usize, cells: &Cells, slot: SlotId) -> u64
         requires key { key < length self.now.teams1.items }
         requires teams { cells.now.n ≡ self.now.n }
         requires slot { slot.0 < slot_count self.now.n }
@@ -143,4 +159,12 @@ fn games_between(cells: &Cells, side: Side, team: TeamId, opponent: TeamId, slot
         Side::A => cells.at(opponent, team, slot),
         Side::Both => cells.at(team, opponent, slot) + cells.at(opponent, team, slot),
     }
+}
+
+/// The number of slots of the season.
+pub(crate) fn season(cells: &Cells) -> u16
+    ensures slots { result ≡ slot_count cells.now.n }
+    ensures at_most { result ≤ 78 }
+{
+    2 * (cells.n() - 1)
 }

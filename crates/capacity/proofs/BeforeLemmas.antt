@@ -1,0 +1,78 @@
+-- The games of some meetings before each slot: how the list is made, and what it says of windows.
+use Rattle.std.proofs.Common.{◌≡◌, ◌≢◌, ℕ, ◌+◌, ◌-◌, ◌*◌, ◌<◌, ◌≤◌, zero, suc, List, [], ◌∷◌, length, get_or, replicate, set, refl, arith, ap, sym, ◌∙◌, inl, inr}
+use Rattle.std.proofs.lemmas.Bool.{cases_eq}
+use Rattle.std.proofs.lemmas.List.{get_or-set_other, get_or-set_same, length-replicate, length-set}
+use Rattle.std.proofs.lemmas.List.FromFn.{get_or-range_with_len, length-range_with_len}
+use Rattle.std.specs.List.{range_with_len, sum_by}
+use Rattle.league.specs.Capacity.{ca2_entry, meetings_with}
+use Rattle.league.specs.Counts.{Counts, slot_count}
+use Rattle.league.specs.Deviation.{entry_of}
+use Rattle.league.specs.Meetings.{games_of}
+use Rattle.league.specs.declared.class.Side.{Side}
+use Rattle.league.proofs.SumLemmas.{sum_by-map}
+use Rattle.rule_core.proofs.GameLemmas.{sum_by-same_in}
+use Rattle.rule_core.proofs.OpponentLemmas.{games_of-window}
+use Rattle.capacity.specs.Ca3Laws.{ca3-by_team}
+use Rattle.capacity.specs.Classes.{class_of_ca3}
+
+-- the games before each slot up to one
+pub record AreBefore (m : Counts) (meetings : List (ℕ × ℕ)) (slot : ℕ) (before : List ℕ) : Type 0 where
+  pub size : length before ≡ 79
+  pub games : (t : ℕ) → t ≤ slot → get_or before t 0 ≡ games_of m meetings (range_with_len 0 t)
+  pub at_most : (t : ℕ) → get_or before t 0 ≤ 800000 * slot
+
+-- a list of zeros reads 0 everywhere
+zeros : (size i : ℕ) → get_or {A = ℕ} (replicate size 0) i 0 ≡ 0
+zeros zero i = refl
+zeros (suc size) zero = refl
+zeros (suc size) (suc i) = zeros size i
+
+-- a sum over no slots
+none_before : (m : Counts) (meetings : List (ℕ × ℕ)) → games_of m meetings [] ≡ 0
+none_before m [] = refl
+none_before m (p ∷ ps) = omega (arith, none_before m ps)
+
+-- before slot 0
+pub AreBefore-none : (m : Counts) (meetings : List (ℕ × ℕ)) → AreBefore m meetings 0 (replicate 79 0)
+AreBefore-none m meetings = record {
+  size = length-replicate {A = ℕ} 79 0;
+  games = λ t le. let is : t ≡ 0 = omega arith in zeros 79 t ∙ sym (ap (λ (k : ℕ). games_of m meetings (range_with_len 0 k)) is ∙ none_before m meetings);
+  at_most = λ t. omega (arith, zeros 79 t);
+}
+
+-- with one slot more
+pub AreBefore-more : (m : Counts) (meetings : List (ℕ × ℕ)) (slot next total games : ℕ) (before : List ℕ) → slot < 78 → next ≡ slot + 1 → total ≡ get_or before slot 0 + games → games ≡ games_of m meetings (slot ∷ []) → games ≤ 800000 → AreBefore m meetings slot before → AreBefore m meetings (slot + 1) (set before next total)
+AreBefore-more m meetings slot next total games before small one is counted few are =
+    let inside : next < length before = omega (arith, are.size) in
+    record {
+      size = length-set before next total ∙ are.size;
+      games = λ t le. elim (cases_eq t next) [
+        | inl same ↦
+            let longer : t ≡ slot + 1 = omega arith in
+            ap (λ (u : ℕ). get_or (set before next total) u 0) same
+            ∙ get_or-set_same before next total 0 inside
+            ∙ omega (arith, are.games slot (omega arith), games_of-window m meetings slot 1)
+            ∙ ap (λ (u : ℕ). games_of m meetings (range_with_len 0 u)) (sym longer)
+        | inr differ ↦ get_or-set_other before next t total 0 differ ∙ are.games t (omega arith)
+      ];
+      at_most = λ t. elim (cases_eq t next) [
+        | inl same ↦ omega (arith, ap (λ (u : ℕ). get_or (set before next total) u 0) same, get_or-set_same before next total 0 inside, are.at_most slot)
+        | inr differ ↦ omega (arith, get_or-set_other before next t total 0 differ, are.at_most t)
+      ];
+    }
+
+-- the entry of a CA3, by the games before each slot
+pub ca3_term : (n : ℕ) (m : Counts) (teams1 teams2 : List ℕ) (max intp : ℕ) (side : Side) (key : ℕ) (before : List ℕ) (slots result : ℕ) → key < length teams1 → slots ≡ slot_count n → ((t : ℕ) → t ≤ slot_count n → get_or before t 0 ≡ games_of m (meetings_with side (get_or teams1 key 0) teams2) (range_with_len 0 t)) → result ≡ sum_by (λ first. get_or before (first + intp) 0 - (get_or before first 0 + max)) (range_with_len 0 (slots + 1 - intp)) → result ≡ entry_of n m (class_of_ca3 teams1 teams2 max intp side) key
+ca3_term n m teams1 teams2 max intp side key before slots result inside are_slots games summed =
+    let i : ℕ = get_or teams1 key 0 in
+    let count : ℕ = slot_count n + 1 - intp in
+    let read : ℕ → ℕ = λ first. get_or before (first + intp) 0 - (get_or before first 0 + max) in
+    let wanted : ℕ → ℕ = λ first. ca2_entry m teams2 max side (range_with_len first intp) i in
+    summed
+    ∙ ap (λ (k : ℕ). sum_by read (range_with_len 0 (k + 1 - intp))) are_slots
+    ∙ sum_by-same_in read wanted (range_with_len 0 count) (λ p d lt. window n m (meetings_with side i teams2) max intp before games p d (get_or (range_with_len 0 count) p d) (omega (arith, length-range_with_len 0 count)) (get_or-range_with_len 0 count p d (omega (arith, length-range_with_len 0 count))))
+    ∙ sym (sum_by-map (λ (window : List ℕ). ca2_entry m teams2 max side window i) (λ (first : ℕ). range_with_len first intp) (range_with_len 0 count))
+    ∙ sym (ca3-by_team n m teams1 teams2 max intp side key inside)
+  where
+  window : (n : ℕ) (m : Counts) (meetings : List (ℕ × ℕ)) (max intp : ℕ) (before : List ℕ) → ((t : ℕ) → t ≤ slot_count n → get_or before t 0 ≡ games_of m meetings (range_with_len 0 t)) → (p d first : ℕ) → p < slot_count n + 1 - intp → first ≡ 0 + p → get_or before (first + intp) 0 - (get_or before first 0 + max) ≡ games_of m meetings (range_with_len first intp) - max
+  window n m meetings max intp before games p d first small is = omega (arith, games (first + intp) (omega arith), games first (omega arith), games_of-window m meetings first intp)
