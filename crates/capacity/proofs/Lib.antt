@@ -1,1 +1,3 @@
+pub mod BetweenLemmas
+pub mod Ca4Lemmas
 pub mod TermLemmas

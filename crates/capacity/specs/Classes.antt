@@ -1,7 +1,7 @@
 -- The classes of capacity constraints.
 use Rattle.std.specs.Prelude.{ℕ, Bool, true, false, List}
 use Rattle.league.specs.declared.class.Class.{Class}
-use Rattle.league.specs.declared.class.Class.TheVariants.{Ca1}
+use Rattle.league.specs.declared.class.Class.TheVariants.{Ca1, Ca4}
 use Rattle.league.specs.declared.class.Side.{Side}
 
 -- whether a constraint is a CA1
@@ -12,3 +12,8 @@ is_ca1 other = false
 -- the CA1 of these teams and slots
 abbrev pub class_of_ca1 : List ℕ → ℕ → Side → List ℕ → Class
 class_of_ca1 teams max side slots = Ca1 teams max side slots
+
+-- whether a constraint is a CA4
+abbrev pub is_ca4 : Class → Bool
+is_ca4 (Ca4 teams1 teams2 max side span slots) = true
+is_ca4 other = false

@@ -4,5 +4,9 @@
 pub mod Classes
 -- What each class keeps, and which keys a game touches:
 pub mod Ca1
+pub mod Ca4
+-- The meetings of some teams with others:
+pub mod Between
 -- The laws of each class:
 pub mod Ca1Laws
+pub mod Ca4Laws

@@ -4,7 +4,10 @@
 //! deviation vector, as `league` defines it.
 #![tactic(auto)]
 
+mod between;
 mod ca1;
+mod ca4;
 mod sums;
 
 pub use ca1::Ca1;
+pub use ca4::Ca4;
