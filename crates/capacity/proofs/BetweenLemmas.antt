@@ -1,14 +1,14 @@
 -- The meetings of some teams with others: one more at a time, and what they are.
-use Rattle.std.proofs.Common.{◌≡◌, ◌≢◌, ℕ, ◌+◌, ◌*◌, ◌<◌, ◌≤◌, zero, suc, Bool, true, false, not, cond, ◌&&◌, ◌||◌, ◌==◌, nat_lt, List, [], ◌∷◌, ◌++◌, length, get_or, map, refl, arith, ap, sym, ◌∙◌, subst, IsTrue}
+use Rattle.std.proofs.Common.{◌≡◌, ◌≢◌, ℕ, ◌+◌, ◌*◌, ◌<◌, ◌≤◌, Bool, true, false, not, cond, ◌&&◌, ◌||◌, ◌==◌, nat_lt, List, [], ◌∷◌, ◌++◌, length, get_or, map, refl, arith, ap, sym, ◌∙◌, subst, IsTrue}
 use Rattle.std.proofs.lemmas.Bool.Decides.{nat_tests}
 use Rattle.std.proofs.lemmas.Grind.{flat_map-append}
-use Rattle.std.proofs.lemmas.List.{append-nil, append_assoc, get_or-map, length-map, map-append}
+use Rattle.std.proofs.lemmas.List.{append-nil, append_assoc, length-map, map-append}
 use Rattle.std.proofs.lemmas.List.Concat.{length-flat_map}
 use Rattle.std.proofs.lemmas.List.Elements.{All-append, All-filter, All-map, All-tail, filter-append, filter_agree, filter_passes}
 use Rattle.std.proofs.lemmas.List.FromFn.{get_or-range_with_len, length-range_with_len}
 use Rattle.std.proofs.lemmas.List.Sums.{length-filter, list_all-from_AllPass, sum_by-le}
 use Rattle.std.proofs.lemmas.Nat.{mul-le}
-use Rattle.std.specs.List.{All, filter, flat_map, range_with_len, sum_by}
+use Rattle.std.specs.List.{All, filter, flat_map, range_with_len}
 use Rattle.league.specs.Capacity.{is_between, is_in}
 use Rattle.league.specs.Counts.{teams_of}
 use Rattle.league.specs.Instance.{are_meetings}
@@ -144,3 +144,17 @@ meetings-fit n p =
     list_all-from_AllPass test (filter p (meetings_of n))
     (All-filter p (λ q. test q ≡ true) (meetings_of n)
     (All-flat_map (λ q. test q ≡ true) (meetings_at_home n) (teams_of n) (λ k d lt. row_passes n (get_or (teams_of n) k d) (teams-below n k d lt))))
+
+-- a pair of one team twice, and one that fails the test, aren't added
+pub same_team : (a b : ℕ) (c : Bool) → a ≡ b → (not (a == b) && c) ≡ false
+same_team a b c same = grind (arith, nat_tests)
+
+pub test_fails : (a b : ℕ) (c : Bool) → c ≡ false → (not (a == b) && c) ≡ false
+test_fails a b c fails = grind (arith, nat_tests)
+
+-- the meetings that were made are few, and meetings of the league
+pub made-fit : (n : ℕ) (p : ℕ × ℕ → Bool) (made : List (ℕ × ℕ)) → made ≡ filter p (meetings_of n) → IsTrue (are_meetings n made)
+made-fit n p made is = subst (λ (ps : List (ℕ × ℕ)). IsTrue (are_meetings n ps)) (sym is) (meetings-fit n p)
+
+pub made-few : (n : ℕ) (p : ℕ × ℕ → Bool) (made : List (ℕ × ℕ)) → n ≤ 40 → made ≡ filter p (meetings_of n) → length made ≤ 1600
+made-few n p made at_most is = omega (arith, ap length is, meetings-few n p at_most)

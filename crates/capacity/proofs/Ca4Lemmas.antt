@@ -1,6 +1,7 @@
 -- What a CA4 keeps, and what the evaluation of a term adds up to.
-use Rattle.std.proofs.Common.{◌≡◌, ℕ, ◌-◌, ◌<◌, ◌≤◌, List, [], ◌∷◌, length, get_or, ap, sym, ◌∙◌, subst, zero, suc, arith}
+use Rattle.std.proofs.Common.{◌≡◌, ℕ, ◌+◌, ◌-◌, ◌<◌, ◌≤◌, List, [], ◌∷◌, length, get_or, take, drop, ap, sym, ◌∙◌, subst, zero, suc, arith}
 use Rattle.std.proofs.lemmas.List.{get_or-map, length-map}
+use Rattle.std.proofs.Math.Seq.{drop-cons}
 use Rattle.std.specs.List.{All}
 use Rattle.league.specs.Counts.{Counts}
 use Rattle.league.specs.Deviation.{spans}
@@ -41,3 +42,16 @@ spans-few Every slots k inside few =
 pub ca4_term : (m : Counts) (meetings : List (ℕ × ℕ)) (max : ℕ) (span : Span) (slots read : List ℕ) (key games result : ℕ) → key < length (spans span slots) → read ≡ get_or (spans span slots) key [] → games ≡ games_of m meetings read → result ≡ games - max → result ≡ get_or (beyond_max m meetings max span slots) key 0
 ca4_term m meetings max span slots read key games result inside is counted less =
     less ∙ ap (λ (g : ℕ). g - max) (counted ∙ ap (λ (xs : List ℕ). games_of m meetings xs) is) ∙ sym (entry-by_slots m meetings max span slots key inside)
+
+-- the one slot of a key, cut from the slots
+pub cut-one : (span : Span) (slots read : List ℕ) (k : ℕ) → span ≡ Every → k < length (spans span slots) → read ≡ slots → take (k + 1 - k) (drop k read) ≡ get_or (spans span slots) k []
+cut-one span slots read k every inside same =
+    subst (λ (s : Span). k < length (spans s slots) → take (k + 1 - k) (drop k read) ≡ get_or (spans s slots) k []) (sym every)
+    (λ within.
+    let here : k < length slots = omega (arith, length-map slots (λ s. s ∷ [])) in
+    let one : k + 1 - k ≡ 1 = omega arith in
+    ap (λ (xs : List ℕ). take (k + 1 - k) (drop k xs)) same
+    ∙ ap (λ (count : ℕ). take count (drop k slots)) one
+    ∙ ap (λ (xs : List ℕ). take 1 xs) (drop-cons slots k 0 here)
+    ∙ sym (one_slot slots k here))
+    inside
