@@ -166,3 +166,6 @@ impl<L> Rule<L> for Ca4 {
         self.meetings.games(cells, self.slots_at(key)).saturating_sub(self.max as u64)
     }
 }
+
+#[cfg(test)]
+mod tests;

@@ -11,3 +11,6 @@ mod sums;
 
 pub use ca1::Ca1;
 pub use ca4::Ca4;
+
+#[cfg(test)]
+mod tests;
