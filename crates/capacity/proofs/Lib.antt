@@ -1,3 +1,5 @@
+pub mod BetweenLemmas
+pub mod Ca4Lemmas
 pub mod TermLemmas
 pub mod OpponentSums
 pub mod BeforeLemmas

@@ -1,7 +1,7 @@
 -- The classes of capacity constraints.
 use Rattle.std.specs.Prelude.{ℕ, Bool, true, false, List}
 use Rattle.league.specs.declared.class.Class.{Class}
-use Rattle.league.specs.declared.class.Class.TheVariants.{Ca1, Ca2, Ca3}
+use Rattle.league.specs.declared.class.Class.TheVariants.{Ca1, Ca2, Ca3, Ca4}
 use Rattle.league.specs.declared.class.Side.{Side}
 
 -- whether a constraint is a CA1
@@ -30,3 +30,8 @@ is_ca3 other = false
 -- the CA3 of these teams against the others, in windows of so many slots
 abbrev pub class_of_ca3 : List ℕ → List ℕ → ℕ → ℕ → Side → Class
 class_of_ca3 teams1 teams2 max intp side = Ca3 teams1 teams2 max intp side
+
+-- whether a constraint is a CA4
+abbrev pub is_ca4 : Class → Bool
+is_ca4 (Ca4 teams1 teams2 max side span slots) = true
+is_ca4 other = false

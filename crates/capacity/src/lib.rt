@@ -4,15 +4,18 @@
 //! deviation vector, as `league` defines it.
 #![tactic(auto)]
 
+mod between;
 mod ca1;
 mod ca2;
 mod ca3;
+mod ca4;
 mod opponents;
 mod sums;
 
 pub use ca1::Ca1;
 pub use ca2::Ca2;
 pub use ca3::Ca3;
+pub use ca4::Ca4;
 
 #[cfg(test)]
 mod tests;

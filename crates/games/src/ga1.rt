@@ -155,3 +155,6 @@ fn outside(min: u32, max: u32, games: u64) -> u64
     let beyond = games.saturating_sub(u64::from(max));
     lacking.max(beyond)
 }
+
+#[cfg(test)]
+mod tests;

@@ -1,0 +1,33 @@
+-- What a CA4 keeps, and which keys a game touches.
+use Rattle.std.specs.Prelude.{◌≡◌, ℕ, ◌<◌, ◌≤◌, if◌then◌else◌, List, [], ◌∷◌, length, map}
+use Rattle.std.specs.List.{All}
+use Rattle.league.specs.Bounds.{excess}
+use Rattle.league.specs.Counts.{Counts, slot_count}
+use Rattle.league.specs.Deviation.{spans}
+use Rattle.league.specs.Meetings.{games_of}
+use Rattle.league.specs.declared.class.Span.{Span}
+use Rattle.league.specs.declared.class.Span.TheVariants.{Global, Every}
+use Rattle.league.specs.declared.game.Game.{Game}
+use Rattle.rule_core.specs.Meetings.{MeetingList, is_listed}
+use Rattle.rule_core.specs.Places.{ArePlaces, key_of, stands}
+
+-- meetings and slots of a league, with where each slot stands among them
+pub record IsReady (n : ℕ) (meetings : MeetingList) (slots slot_places : List ℕ) : Type 0 where
+  pub at_most : n ≤ 40
+  pub same_league : meetings.n ≡ n
+  pub slots_below : All (λ s. s < slot_count n) slots
+  pub slots_few : length slots ≤ 78
+  pub slots_placed : ArePlaces (length slots) slots slot_places
+
+-- the games of these meetings beyond max, in all the slots together or in each
+abbrev pub beyond_max : Counts → List (ℕ × ℕ) → ℕ → Span → List ℕ → List ℕ
+beyond_max m meetings max span slots = map (λ some. excess (games_of m meetings some) max) (spans span slots)
+
+-- the key of a slot: the one of all the slots together, or its own
+abbrev pub slot_keys : Span → List ℕ → ℕ → List ℕ
+slot_keys Global places s = if stands places s then 0 ∷ [] else []
+slot_keys Every places s = key_of places s
+
+-- that of the game's slot, where its meeting is one of these
+abbrev pub touches_of : List (ℕ × ℕ) → Span → List ℕ → Game → List ℕ
+touches_of meetings span slot_places g = if is_listed meetings g.home.0 g.away.0 then slot_keys span slot_places g.slot.0 else []
