@@ -129,6 +129,6 @@ impl<L> Rule<L> for Br1 {
     fn term(&self, key: usize, cells: &Cells, steps: &mut Steps<L>) -> u64 {
         steps.tick();
         let breaks = team_breaks(cells, self.side, self.scope.teams[key], &self.scope.slots);
-        breaks.saturating_sub(u64::from(self.intp))
+        breaks.saturating_sub(self.intp as u64)
     }
 }

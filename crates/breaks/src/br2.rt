@@ -115,6 +115,6 @@ impl<L> Rule<L> for Br2 {
         let _one_entry = key;
         steps.tick();
         let breaks = all_breaks(cells, &self.scope.teams, &self.scope.slots);
-        breaks.saturating_sub(u64::from(self.intp))
+        breaks.saturating_sub(self.intp as u64)
     }
 }
