@@ -43,13 +43,7 @@ impl Br2 {
     }
 
     /// The rule of these teams and slots.
-    fn of(
-        alloc: Global,
-        n: u16,
-        teams: &[u16],
-        intp: u32,
-        slots: &[u16],
-    ) -> Result<Br2, AllocError>
+    fn of(alloc: Global, n: u16, teams: &[u16], intp: u32, slots: &[u16]) -> Result<Br2, AllocError>
         requires at_most { n ≤ 40 }
         requires teams_ascending { IsAscending nat_cmp teams.now }
         requires teams_below { All (λ t. t < n) teams.now }
@@ -118,3 +112,6 @@ impl<L> Rule<L> for Br2 {
         breaks.saturating_sub(self.intp as u64)
     }
 }
+
+#[cfg(test)]
+mod tests;
