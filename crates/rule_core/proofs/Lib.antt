@@ -1,3 +1,4 @@
+pub mod BreakLemmas
 pub mod GameLemmas
 pub mod ListedLemmas
 pub mod MeetingLemmas
