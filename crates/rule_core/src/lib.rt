@@ -7,12 +7,14 @@
 mod cells;
 mod counters;
 mod keys;
+mod pairs;
 mod places;
 mod rule;
 mod steps;
 
 pub use cells::Cells;
 pub use keys::Keys;
+pub use pairs::Pairs;
 pub use places::Places;
 pub use rule::{Entries, Rule};
 pub use steps::{Plain, Steps};
