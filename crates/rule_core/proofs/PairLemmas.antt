@@ -3,6 +3,8 @@ use Rattle.std.proofs.Common.{◌≡◌, ◌≢◌, ℕ, ◌+◌, ◌-◌, ◌*�
 use Rattle.std.proofs.lemmas.Bool.{cases_Bool, cases_eq, cases_lt}
 use Rattle.std.proofs.lemmas.Bool.Decides.{nat_tests}
 use Rattle.std.proofs.lemmas.List.{append_assoc, append-nil, drop_more, get_or-drop, get_or_default, length-append, length-drop, length-map}
+use Rattle.std.proofs.lemmas.Option.{get_or_from_slice_get}
+use Rattle.std.specs.Prelude.{slice_get, Some}
 use Rattle.std.proofs.lemmas.List.Elements.{All-append, All-cons, All-head, All-map, All-nil, All-tail}
 use Rattle.std.proofs.lemmas.List.FromFn.{length-range_with_len}
 use Rattle.std.specs.List.{All, range_with_len}
@@ -472,3 +474,12 @@ one_more_key keys key more new is pushed = pushed ∙ ap (λ (ks : List ℕ). re
 pub keys_are : (keys : KeyList) (list : List ℕ) (room : ℕ) → keys.list ≡ list → keys.room ≡ room → keys ≡ record { list = list; room = room }
 keys_are keys list room same_list same_room =
     ap (λ (ks : List ℕ). record { list = ks; room = keys.room }) same_list ∙ ap (λ (k : ℕ). record { list = list; room = k }) same_room
+
+-- the pair of a key
+pub pair_read : (teams : List ℕ) (k x y : ℕ) → slice_get (pairs_of teams) k ≡ Some (x, y) → get_or (pairs_of teams) k (0, 0) ≡ (x, y)
+pair_read teams k x y is = get_or_from_slice_get (pairs_of teams) k (x, y) (0, 0) is
+
+-- is of two teams of the league
+pub pair_below : (n : ℕ) (teams : List ℕ) (k x y : ℕ) → All (λ t. t < n) teams → k < length (pairs_of teams) → slice_get (pairs_of teams) k ≡ Some (x, y) → (x < n) × (y < n)
+pair_below n teams k x y below inside is =
+    subst (λ (p : ℕ × ℕ). (p.0 < n) × (p.1 < n)) (pair_read teams k x y is) (pairs_of-below n teams below k (0, 0) inside)

@@ -1,7 +1,7 @@
 -- What neighbouring games lack, over the slots one at a time.
 use Rattle.std.proofs.Common.{◌≡◌, ℕ, ◌+◌, ◌-◌, ◌*◌, ◌<◌, ◌≤◌, zero, suc, List, [], ◌∷◌, ◌++◌, length, get_or, replicate, refl, arith, ap, sym, ◌∙◌, subst, Option, Some, None, zero-add, add-zero}
 use Rattle.std.proofs.lemmas.List.{append-nil, append_assoc}
-use Rattle.std.specs.Option.{option_to_list}
+use Rattle.std.specs.Option.{IfSome, option_to_list}
 use Rattle.std.specs.List.{flat_map, range_with_len}
 use Rattle.league.specs.Bounds.{excess}
 use Rattle.league.specs.Counts.{Counts}
@@ -51,3 +51,34 @@ lacking_at-none min s zero some = absurd (omega arith)
 lacking_at-none min s (suc count) some =
     let less : suc count - 1 ≡ count = omega arith in
     omega (arith, lacking-replicate min s count, ap (λ (c : ℕ). c * min) less)
+
+-- over the slots from one on, where count s games are in slot s
+module _ (min : ℕ) (count : ℕ → ℕ) where
+  abbrev pub from_slot : ℕ → ℕ → List ℕ
+  from_slot s slots = flat_map (λ t. replicate (count t) t) (range_with_len s slots)
+
+  one_slot : (s slots : ℕ) → s < slots → from_slot s (slots - s) ≡ replicate (count s) s ++ from_slot (s + 1) (slots - (s + 1))
+  one_slot s slots inside =
+      let size : slots - s ≡ suc (slots - (s + 1)) = omega arith in
+      ap (λ (k : ℕ). from_slot s k) size
+
+  -- with games in the slot, the last game is here
+  pub slot_played : (s slots games total more whole : ℕ) (last here : Option ℕ) → s < slots → 0 < games → games ≡ count s → more ≡ lacking min (option_to_list last ++ replicate games s) → total + lacking min (option_to_list last ++ from_slot s (slots - s)) ≡ whole → here ≡ Some s → total + more + lacking min (option_to_list here ++ from_slot (s + 1) (slots - (s + 1))) ≡ whole
+  slot_played s slots games total more whole last here inside some counted is so_far now =
+      let rest : List ℕ = from_slot (s + 1) (slots - (s + 1)) in
+      let split : option_to_list last ++ from_slot s (slots - s) ≡ option_to_list last ++ (replicate games s ++ rest) =
+      ap (λ (xs : List ℕ). option_to_list last ++ xs) (one_slot s slots inside ∙ ap (λ (c : ℕ). replicate c s ++ rest) (sym counted)) in
+      omega (arith, ap (lacking min) split, lacking-slot min (option_to_list last) s games rest some, ap (λ (o : Option ℕ). lacking min (option_to_list o ++ rest)) now)
+
+  -- without, it is where it was
+  pub slot_free : (s slots games total whole : ℕ) (last : Option ℕ) → s < slots → games ≤ 0 → games ≡ count s → total + lacking min (option_to_list last ++ from_slot s (slots - s)) ≡ whole → total + lacking min (option_to_list last ++ from_slot (s + 1) (slots - (s + 1))) ≡ whole
+  slot_free s slots games total whole last inside none counted so_far =
+      let empty : count s ≡ 0 = omega arith in
+      let same : from_slot s (slots - s) ≡ from_slot (s + 1) (slots - (s + 1)) =
+      one_slot s slots inside ∙ ap (λ (c : ℕ). replicate c s ++ from_slot (s + 1) (slots - (s + 1))) empty in
+      omega (arith, ap (λ (xs : List ℕ). lacking min (option_to_list last ++ xs)) same)
+
+-- a game before a slot is before the next one
+pub before_next : (last : Option ℕ) (s : ℕ) → IfSome last (λ before. before < s) → IfSome last (λ before. before < s + 1)
+before_next (Some before) s h = omega arith
+before_next None s h = h
