@@ -32,7 +32,7 @@ lower x y h = grind (arith, nat_tests)
 upper : (x y : ℕ) → nat_lt x y ≡ false → y ≤ x
 upper x y h = grind (arith, nat_tests)
 
-less_than : (a b : ℕ) → nat_cmp a b ≡ Less → a < b
+pub less_than : (a b : ℕ) → nat_cmp a b ≡ Less → a < b
 less_than a b h = grind (arith, nat_tests)
 
 -- an earlier number of an ascending list is another

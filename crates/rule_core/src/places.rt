@@ -1,5 +1,5 @@
 //! Where each number stands in a list: one look-up in place of a search.
-ghost use Rattle.std.specs.Prelude.{◌≡◌, ◌<◌, ◌≤◌, ◌≢◌, ◌+◌, ◌++◌, length};
+ghost use Rattle.std.specs.Prelude.{◌≡◌, ◌<◌, ◌≤◌, ◌≢◌, ◌+◌, ◌++◌, length, slice_index};
 ghost use Rattle.std.specs.List.{All};
 ghost use Rattle.std.specs.Ordering.{nat_cmp};
 ghost use Rattle.league.specs.Sets.{IsAscending};
@@ -45,6 +45,14 @@ impl Places {
         ensures { result ≡ stands self.now number }
     {
         self.places[number as usize] > 0
+    }
+
+    /// The place of a number, counted from 1, or 0 where it doesn't stand in the list.
+    pub(crate) fn place(&self, number: u16) -> usize
+        requires { number < 78 }
+        ensures { result ≡ slice_index self.now number }
+    {
+        self.places[number as usize] as usize
     }
 
     /// Adds the place of a number, counted from 0, to the keys, where it stands in the list.

@@ -1,0 +1,8 @@
+-- Read in this order.
+--
+-- Which constraints the class is made from:
+pub mod Classes
+-- What the class keeps:
+pub mod Se1
+-- The laws of the class:
+pub mod Se1Laws
