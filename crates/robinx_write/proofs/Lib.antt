@@ -1,0 +1,8 @@
+-- Tags at the front of bytes, and the pieces and the walk from there on:
+pub mod TagLemmas
+pub mod StepLemmas
+-- Texts of values:
+pub mod NumberTexts
+pub mod TextLemmas
+-- Texts of files:
+pub mod SolutionLemmas

@@ -1,0 +1,2 @@
+-- Attributes as functions inside are given them:
+pub mod SeenAttribute

@@ -1,0 +1,10 @@
+//! The texts of instance and solution files, written.
+//!
+//! A contract says that what is written is the text that `robinx_read` defines, and that it reads back as what it was
+//! written for.
+#![tactic(auto)]
+
+mod solution;
+mod tag;
+
+pub use solution::solution_text;
