@@ -6,3 +6,6 @@ pub mod InstanceFile
 pub mod SolutionFile
 pub mod Attributes
 pub mod Texts
+pub mod Answers
+pub mod Gathered
+pub mod Tagged

@@ -2,3 +2,6 @@
 #![tactic(auto)]
 
 mod element;
+mod fault;
+
+pub use fault::{FormFault, ReadFault};

@@ -4,5 +4,8 @@ pub mod StepLemmas
 -- Texts of values:
 pub mod NumberTexts
 pub mod TextLemmas
+pub mod ListTexts
+pub mod ClassLemmas
+pub mod GroupLemmas
 -- Texts of files:
 pub mod SolutionLemmas

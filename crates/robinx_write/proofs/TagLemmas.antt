@@ -18,7 +18,7 @@ and_parts false b h = absurd (false≢true h)
 
 -- ---- up to the first byte that passes
 
-position-stop : (test : ℕ → Bool) (xs : List ℕ) (c : ℕ) (tail : List ℕ) → list_all (λ b. not (test b)) xs ≡ true → test c ≡ true → position_or_len test (xs ++ c ∷ tail) ≡ length xs
+pub position-stop : (test : ℕ → Bool) (xs : List ℕ) (c : ℕ) (tail : List ℕ) → list_all (λ b. not (test b)) xs ≡ true → test c ≡ true → position_or_len test (xs ++ c ∷ tail) ≡ length xs
 position-stop test [] c tail fail is = rw is refl
 position-stop test (x ∷ xs) c tail fail is =
     let both = and_parts (not (test x)) (list_all (λ b. not (test b)) xs) fail in

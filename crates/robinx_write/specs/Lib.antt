@@ -1,2 +1,3 @@
--- Attributes as functions inside are given them:
+-- Attributes and constraints as functions inside are given them:
 pub mod SeenAttribute
+pub mod Held

@@ -7,4 +7,7 @@
 mod solution;
 mod tag;
 
+#[cfg(test)]
+mod tests;
+
 pub use solution::solution_text;
