@@ -67,6 +67,15 @@ group-plain Break = refl
 group-plain Fairness = refl
 group-plain Separation = refl
 
+-- what holds of each constraint of a league of n teams
+pub record CanStand (n : ℕ) (c : Constraint) : Type 0 where
+  pub held : IsHeld c
+  pub fits : class_fits n c.class ≡ true
+
+pub constraints-begin : (constraints : List Constraint) (end : List ℕ) → BeginsTag end → BeginsTag (constraints_after None constraints ++ end)
+constraints-begin [] end begins = begins
+constraints-begin (c ∷ constraints) end begins = (_, refl)
+
 module _ (line : ℕ) (outer : List Open) where
   -- among the groups, and in a group
   abbrev pub among : Draft → Place Draft
@@ -124,15 +133,10 @@ module _ (line : ℕ) (outer : List Open) where
     abbrev pub drafted : List Constraint → Draft
     drafted constraints = record { phased = phased; teams = team_ids; slots = slot_ids; n = n; constraints = constraints }
 
-    -- what holds of each constraint
-    pub record CanStand (c : Constraint) : Type 0 where
-      pub held : IsHeld c
-      pub fits : class_fits n c.class ≡ true
-
     room : (len : ℕ) → len < 20000 → nat_lt len 20000 ≡ true
     room len h = grind (arith, nat_tests)
 
-    one_more : (so_far : List Constraint) (c : Constraint) → length so_far < 20000 → CanStand c
+    one_more : (so_far : List Constraint) (c : Constraint) → length so_far < 20000 → CanStand n c
         → with_constraint (name_of c.class) (map seen (line_attributes c)) (drafted so_far) ≡ Ok (drafted (so_far ++ c ∷ []))
     one_more so_far c few stands =
         let space : nat_lt (length so_far) 20000 ≡ true = room (length so_far) few in
@@ -140,7 +144,7 @@ module _ (line : ℕ) (outer : List Open) where
         rw (space, read) refl
 
     -- a line, and then the others
-    one_line : (c : Constraint) (so_far : List Constraint) (g : GroupName) (start : ℕ) (rest : List ℕ) (x : Draft) → length so_far < 20000 → CanStand c → BeginsTag rest
+    one_line : (c : Constraint) (so_far : List Constraint) (g : GroupName) (start : ℕ) (rest : List ℕ) (x : Draft) → length so_far < 20000 → CanStand n c → BeginsTag rest
         → Reads instance_meaning rest (within start g (drafted (so_far ++ c ∷ []))) x → Reads instance_meaning (constraint_line c ++ rest) (within start g (drafted so_far)) x
     one_line c so_far g start rest x few stands begins on =
         Reads-tag_line instance_meaning (codes (class_name c.class)) (line_attributes c) rest (within start g (drafted so_far)) x (λ at. within start g (drafted (so_far ++ c ∷ [])))
@@ -171,13 +175,13 @@ module _ (line : ℕ) (outer : List Open) where
 
     -- the line of a constraint in a group that has the name of its own, and then the others
     line_in : (c : Constraint) (constraints so_far : List Constraint) (k : GroupName) (from : ℕ) (end : List ℕ) (x : Draft) → codes (texts.group_name c.class) ≡ elements.group_name k → ReadsAfter c constraints so_far end x
-        → CanStand c → length so_far < 20000 → Reads instance_meaning (constraint_line c ++ (constraints_after (Some (codes (texts.group_name c.class))) constraints ++ end)) (within from k (drafted so_far)) x
+        → CanStand n c → length so_far < 20000 → Reads instance_meaning (constraint_line c ++ (constraints_after (Some (codes (texts.group_name c.class))) constraints ++ end)) (within from k (drafted so_far)) x
     line_in c constraints so_far k from end x own later stands few =
         rw own (one_line c so_far k from (constraints_after (Some (elements.group_name k)) constraints ++ end) x few stands (after-begins k constraints end) (later k from))
 
     -- where the next constraint is of a group of the same name, or of another
     by_name : (c : Constraint) (constraints so_far : List Constraint) (g h : GroupName) (start : ℕ) (end : List ℕ) (x : Draft) (t : Bool) → bytes_eq (elements.group_name g) (elements.group_name h) ≡ t
-        → codes (texts.group_name c.class) ≡ elements.group_name h → ReadsAfter c constraints so_far end x → CanStand c → length so_far < 20000
+        → codes (texts.group_name c.class) ≡ elements.group_name h → ReadsAfter c constraints so_far end x → CanStand n c → length so_far < 20000
         → Reads instance_meaning (constraints_after (Some (elements.group_name g)) (c ∷ constraints) ++ end) (within start g (drafted so_far)) x
     by_name c constraints so_far g h start end x true is same later stands few =
         let a : List ℕ = elements.group_name g in
@@ -207,7 +211,7 @@ module _ (line : ℕ) (outer : List Open) where
         (group-opened h (line ++ (after ++ end)) (drafted so_far) x (line-begins c (after ++ end)) (λ from. line_in c constraints so_far h from end x same later stands few)))
 
     -- constraints that can stand are read one by one, in whatever group the walk is
-    in_group : (constraints so_far : List Constraint) (g : GroupName) (start : ℕ) (end : List ℕ) (x : Draft) → length so_far + length constraints ≤ 20000 → All CanStand constraints → BeginsTag end
+    in_group : (constraints so_far : List Constraint) (g : GroupName) (start : ℕ) (end : List ℕ) (x : Draft) → length so_far + length constraints ≤ 20000 → All (CanStand n) constraints → BeginsTag end
         → Reads instance_meaning end (among (drafted (so_far ++ constraints))) x
         → Reads instance_meaning (constraints_after (Some (elements.group_name g)) constraints ++ end) (within start g (drafted so_far)) x
     in_group [] so_far g start end x few stand begins on =
@@ -217,11 +221,11 @@ module _ (line : ℕ) (outer : List Open) where
     in_group (c ∷ constraints) so_far g start end x few stand begins on =
         let more : so_far ++ c ∷ constraints ≡ (so_far ++ c ∷ []) ++ constraints = sym (append_assoc so_far (c ∷ []) constraints) in
         let room_left : length (so_far ++ c ∷ []) + length constraints ≤ 20000 = omega (arith, length-append so_far (c ∷ [])) in
-        let later : ReadsAfter c constraints so_far end x = λ k from. in_group constraints (so_far ++ c ∷ []) k from end x room_left (All-tail CanStand c constraints stand) begins (rw more at on) in
-        by_name c constraints so_far g (group_of c.class) start end x (bytes_eq (elements.group_name g) (elements.group_name (group_of c.class))) refl (group-named c.class) later (All-head CanStand c constraints stand) (omega arith)
+        let later : ReadsAfter c constraints so_far end x = λ k from. in_group constraints (so_far ++ c ∷ []) k from end x room_left (All-tail (CanStand n) c constraints stand) begins (rw more at on) in
+        by_name c constraints so_far g (group_of c.class) start end x (bytes_eq (elements.group_name g) (elements.group_name (group_of c.class))) refl (group-named c.class) later (All-head (CanStand n) c constraints stand) (omega arith)
 
     -- all constraints
-    pub constraints-read : (constraints : List Constraint) (end : List ℕ) (x : Draft) → length constraints ≤ 20000 → All CanStand constraints → BeginsTag end
+    pub constraints-read : (constraints : List Constraint) (end : List ℕ) (x : Draft) → length constraints ≤ 20000 → All (CanStand n) constraints → BeginsTag end
         → Reads instance_meaning end (among (drafted constraints)) x → Reads instance_meaning (constraints_after None constraints ++ end) (among (drafted [])) x
     constraints-read [] end x few stand begins on = on
     constraints-read (c ∷ constraints) end x few stand begins on =
@@ -233,6 +237,6 @@ module _ (line : ℕ) (outer : List Open) where
             append_assoc (opens (Some own)) (line ++ after) end
             ∙ ap (λ (l : List ℕ). opens (Some own) ++ l) (append_assoc line after end)
             ∙ ap (λ (o : List ℕ). opens (Some o) ++ (line ++ (after ++ end))) (group-named c.class) in
-        let later : ReadsAfter c constraints [] end x = λ k from. in_group constraints (c ∷ []) k from end x (omega arith) (All-tail CanStand c constraints stand) begins on in
+        let later : ReadsAfter c constraints [] end x = λ k from. in_group constraints (c ∷ []) k from end x (omega arith) (All-tail (CanStand n) c constraints stand) begins on in
         subst (λ (l : List ℕ). Reads instance_meaning l (among (drafted [])) x) (sym text)
-        (group-opened h (line ++ (after ++ end)) (drafted []) x (line-begins c (after ++ end)) (λ from. line_in c constraints [] h from end x (group-named c.class) later (All-head CanStand c constraints stand) (omega arith)))
+        (group-opened h (line ++ (after ++ end)) (drafted []) x (line-begins c (after ++ end)) (λ from. line_in c constraints [] h from end x (group-named c.class) later (All-head (CanStand n) c constraints stand) (omega arith)))

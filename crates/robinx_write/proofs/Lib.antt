@@ -9,3 +9,4 @@ pub mod ClassLemmas
 pub mod GroupLemmas
 -- Texts of files:
 pub mod SolutionLemmas
+pub mod InstanceLemmas

@@ -21,6 +21,10 @@ use Rattle.robinx_write.proofs.TagLemmas.{is_plain_name, are_new, are_plain_valu
 abbrev pub tag : TagKind → List ℕ → List tags.Attribute → ℕ → Piece
 tag kind name attributes line = record { kind = kind; name = name; attributes = attributes; text = []; line = line }
 
+-- a text as a piece
+abbrev pub value_piece : List ℕ → ℕ → Piece
+value_piece text line = record { kind = Text; name = []; attributes = []; text = text; line = line }
+
 -- ---- what stands at a place
 
 -- a Start or an Empty piece
@@ -147,3 +151,20 @@ module _ {Read : Type 0} (meaning : Meaning Read) where
       let flat : front ++ 10 ∷ tail ≡ 60 ∷ 47 ∷ (name ++ (62 ∷ 10 ∷ tail)) = simp append_assoc in
       rw (← flat) (tag_end front tail at x (tag End name []) next (omega arith) begins
       (λ line. ap (piece_at line) flat ∙ piece_at-end line name (10 ∷ tail) named) step plain on)
+
+  -- a Start tag, a value and an End tag on a line
+  pub Reads-value_line : (name : List ℕ) (b : ℕ) (text tail : List ℕ) (at next : Place Read) (x : Read) (began held : ℕ → Place Read) → is_plain_name name ≡ true → (60 == b) ≡ false
+      → list_all (λ c. not (c == 60)) (b ∷ text) ≡ true → BeginsTag tail → has_value next.inner.element ≡ false
+      → ((line : ℕ) → at_piece meaning Start (tag Start name [] line) at ≡ Ok (began line)) → ((line other : ℕ) → at_piece meaning Text (value_piece (b ∷ text) other) (began line) ≡ Ok (held line))
+      → ((line other : ℕ) → at_piece meaning End (tag End name [] other) (held line) ≡ Ok next) → Reads tail next x
+      → Reads (60 ∷ (name ++ (62 ∷ ((b ∷ text) ++ (60 ∷ 47 ∷ (name ++ (62 ∷ 10 ∷ tail))))))) at x
+  Reads-value_line name b text tail at next x began held named other plain begins none starts stands ends on =
+      let end : List ℕ = 47 ∷ (name ++ (62 ∷ 10 ∷ tail)) in
+      let rest : List ℕ = (b ∷ text) ++ 60 ∷ end in
+      let front : List ℕ = 60 ∷ (name ++ (62 ∷ [])) in
+      let flat : front ++ rest ≡ 60 ∷ (name ++ (62 ∷ rest)) = simp append_assoc in
+      rw (← flat) (Reads-piece front rest at x (tag Start name []) began (omega arith)
+      (λ line. ap (piece_at line) flat ∙ piece_at-tag line name [] 62 rest rest Start named (omega arith) refl refl refl refl) starts
+      (λ line. Reads-piece (b ∷ text) (60 ∷ end) (began line) x (value_piece (b ∷ text)) (λ at. held line) (omega arith)
+      (λ at. piece_at-text at b text end other plain) (stands line)
+      (λ at. Reads-end_line name tail (held line) x (λ at. next) named begins (ends line) (λ at. none) (λ at. on))))
