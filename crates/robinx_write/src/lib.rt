@@ -4,10 +4,11 @@
 //! written for.
 #![tactic(auto)]
 
+mod class;
+mod constraints;
+mod instance;
 mod solution;
 mod tag;
 
-#[cfg(test)]
-mod tests;
-
+pub use instance::instance_text;
 pub use solution::solution_text;
