@@ -10,3 +10,4 @@ pub mod GroupLemmas
 -- Texts of files:
 pub mod SolutionLemmas
 pub mod InstanceLemmas
+pub mod PartLemmas

@@ -45,7 +45,7 @@ All-cons : {X : Type 0} (P : X → Type 0) (x : X) (xs : List X) → P x → All
 All-cons P x xs here later zero d lt = here
 All-cons P x xs here later (suc k) d lt = later k d (omega arith)
 
-All-push : {X : Type 0} (P : X → Type 0) (xs : List X) (x : X) → All P xs → P x → All P (xs ++ x ∷ [])
+pub All-push : {X : Type 0} (P : X → Type 0) (xs : List X) (x : X) → All P xs → P x → All P (xs ++ x ∷ [])
 All-push P [] x all last = All-cons P x [] last all
 All-push P (y ∷ xs) x all last = All-cons P y (xs ++ x ∷ []) (All-head P y xs all) (All-push P xs x (All-tail P y xs all) last)
 

@@ -17,6 +17,9 @@ two_pieces old first new one two a b = b ∙ ap (λ (l : List ℕ). l ++ two) a 
 pub three_pieces : (old first second new one two three : List ℕ) → first ≡ old ++ one → second ≡ first ++ two → new ≡ second ++ three → new ≡ old ++ (one ++ (two ++ three))
 three_pieces old first second new one two three a b c = two_pieces old first new one (two ++ three) a (two_pieces first second new two three b c)
 
+pub four_pieces : (old first second third new one two three four : List ℕ) → first ≡ old ++ one → second ≡ first ++ two → third ≡ second ++ three → new ≡ third ++ four → new ≡ old ++ (one ++ (two ++ (three ++ four)))
+four_pieces old first second third new one two three four a b c d = two_pieces old first new one (two ++ (three ++ four)) a (three_pieces first second third new two three four b c d)
+
 pub five_pieces : (old first second third fourth new one two three four five : List ℕ) → first ≡ old ++ one → second ≡ first ++ two → third ≡ second ++ three → fourth ≡ third ++ four → new ≡ fourth ++ five
     → new ≡ old ++ (one ++ (two ++ (three ++ (four ++ five))))
 five_pieces old first second third fourth new one two three four five a b c d e =

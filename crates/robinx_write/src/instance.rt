@@ -3,6 +3,7 @@ ghost use Rattle.std.specs.Prelude.{◌≡◌, ◌<◌, ◌≤◌, ◌++◌, IfO
 ghost use Rattle.std.specs.List.{flat_map, range_with_len};
 ghost use Rattle.robinx_tags.specs.Pieces.{pieces};
 ghost use Rattle.robinx_form.specs.InstanceFile.{instance_of};
+ghost use Rattle.robinx_form.specs.Texts as texts;
 ghost use Rattle.robinx_form.specs.Texts.{instance_text as text_of};
 ghost use Rattle.robinx_write.specs.Parts.{id_line, head_text, season_text};
 
@@ -14,13 +15,21 @@ use std::alloc::{AllocError, Global};
 const FRONT: &[u8] =
     b"<?xml version=\"1.0\" encoding=\"UTF-8\"?>\n<Instance>\n<Structure>\n<Format leagueIds=\"0\">\n<numberRoundRobin>2</numberRoundRobin>\n<compactness>C</compactness>\n<gameMode>";
 
+/// How a file says whether a league is phased.
+fn mode_word(phased: bool) -> &'static str
+    ensures { result.now ≡ codes (texts.mode_word phased) }
+{
+    if phased { "P" } else { "NULL" }
+}
+
 /// Adds what stands before the teams.
 fn put_head(text: &mut Vec<u8>, phased: bool) -> Result<(), AllocError>
     ensures { OnOk result (text.new.items ≡ text.old.items ++ head_text phased) }
 {
     text.extend_from_slice(FRONT)?;
-    text.extend_from_slice(if phased { b"P" } else { b"NULL" })?;
-    text.extend_from_slice(b"</gameMode>\n</Format>\n</Structure>\n<Resources>\n<Teams>\n")
+    text.extend_from_slice(mode_word(phased).as_bytes())?;
+    text.extend_from_slice(b"</gameMode>\n</Format>\n</Structure>\n<Resources>\n<Teams>\n")?;
+    Ok(())
 }
 
 /// Adds the lines of this many teams or slots.
@@ -43,7 +52,8 @@ fn put_season(text: &mut Vec<u8>, n: u16) -> Result<(), AllocError>
     put_ids(text, "team", n)?;
     text.extend_from_slice(b"</Teams>\n<Slots>\n")?;
     put_ids(text, "slot", 2 * (n - 1))?;
-    text.extend_from_slice(b"</Slots>\n</Resources>\n<Constraints>\n")
+    text.extend_from_slice(b"</Slots>\n</Resources>\n<Constraints>\n")?;
+    Ok(())
 }
 
 /// The text of an instance file that says this league.
