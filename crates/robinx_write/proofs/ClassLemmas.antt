@@ -1,9 +1,7 @@
 -- The line of each class of constraints, and what it is read as.
-use Rattle.std.proofs.Common.{◌≡◌, ℕ, ◌<◌, ◌≤◌, ◌^◌, Bool, true, false, ◌&&◌, List, [], ◌∷◌, ◌++◌, length, map, decimal, Ok, refl, ap, ◌∙◌, arith, lit<}
+use Rattle.std.proofs.Common.{◌≡◌, ℕ, ◌≤◌, Bool, true, false, ◌&&◌, List, [], ◌∷◌, ◌++◌, length, map, decimal, Ok, refl, arith, lit<}
 use Rattle.std.specs.Prelude.{codes, nat_lt}
-use Rattle.std.proofs.lemmas.Bool.{false≢true, ltb-true}
-use Rattle.std.proofs.lemmas.Bool.Decides.{nat_tests}
-use Rattle.league.specs.Counts.{slot_count}
+use Rattle.std.proofs.lemmas.Bool.{false≢true}
 use Rattle.league.specs.Instance.{class_fits, is_one_side, are_teams, are_slots, are_meetings}
 use Rattle.league.specs.declared.class.Class.{Class}
 use Rattle.league.specs.declared.class.Class.TheVariants.{Ca1, Ca2, Ca3, Ca4, Ga1, Br1, Br2, Fa2, Se1}
@@ -12,10 +10,9 @@ use Rattle.league.specs.declared.class.Side.{Side}
 use Rattle.league.specs.declared.class.Side.TheVariants.{H, A, Both}
 use Rattle.league.specs.declared.class.Span.{Span}
 use Rattle.league.specs.declared.class.Span.TheVariants.{Global, Every}
-use Rattle.robinx_tags.specs.Fronts.{◌>>=◌}
 use Rattle.robinx_form.specs.Attributes.{Attribute, word, count}
 use Rattle.robinx_form.specs.Texts.{side_word, span_word, type_word, class_name, class_attributes}
-use Rattle.robinx_form.specs.Values.{number, teams, slots, meetings}
+use Rattle.robinx_form.specs.Values.{number}
 use Rattle.robinx_form.specs.Classes as classes
 use Rattle.robinx_form.specs.Classes.{constraint_of, hardness, home_or_away, zero_only, above_zero}
 use Rattle.robinx_form.specs.declared.element.ClassName.{ClassName}
@@ -23,7 +20,7 @@ use Rattle.robinx_form.specs.declared.element.ClassName.TheVariants as names
 use Rattle.robinx_write.specs.Held.{IsHeld}
 use Rattle.robinx_write.proofs.TagLemmas.{seen, and_parts, is_plain_name, is_plain_value, are_new, are_plain_values}
 use Rattle.robinx_write.proofs.NumberTexts.{number-decimal, decimal-plain}
-use Rattle.robinx_write.proofs.ListTexts.{joined, teams-joined, slots-joined, meetings-pairs, joined-plain, pairs-plain}
+use Rattle.robinx_write.proofs.ListTexts.{teams-joined, slots-joined, meetings-pairs, joined-plain, pairs-plain}
 
 abbrev pub made : Bool → ℕ → Class → Constraint
 made hard penalty class = record { hard = hard; penalty = penalty; class = class }

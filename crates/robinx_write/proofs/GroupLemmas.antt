@@ -1,17 +1,15 @@
 -- Constraints in their groups, and what they are read as.
-use Rattle.std.proofs.Common.{◌≡◌, ℕ, ◌+◌, ◌<◌, ◌≤◌, Bool, true, false, cond, List, [], ◌∷◌, ◌++◌, length, length-append, map, Option, Some, None, Ok, refl, sym, ap, ◌∙◌, subst, append_assoc, arith}
-use Rattle.std.specs.Prelude.{codes, nat_lt, bytes_eq, IsTrue}
+use Rattle.std.proofs.Common.{◌≡◌, ℕ, ◌+◌, ◌<◌, ◌≤◌, Bool, true, false, cond, List, [], ◌∷◌, ◌++◌, length, length-append, map, Some, None, Ok, refl, sym, ap, ◌∙◌, subst, append_assoc, arith}
+use Rattle.std.specs.Prelude.{codes, nat_lt, bytes_eq}
 use Rattle.std.specs.List.{All}
 use Rattle.std.proofs.lemmas.Bool.Decides.{nat_tests}
 use Rattle.std.proofs.lemmas.List.{append-nil}
 use Rattle.std.proofs.lemmas.List.Elements.{All-tail, All-head}
 use Rattle.std.proofs.lemmas.Slice.Eq.{bytes_eq-Decides}
-use Rattle.league.specs.Counts.{teams_of, slots_of}
 use Rattle.league.specs.Instance.{class_fits}
 use Rattle.league.specs.declared.class.Class.{Class}
 use Rattle.league.specs.declared.class.Class.TheVariants.{Ca1, Ca2, Ca3, Ca4, Ga1, Br1, Br2, Fa2, Se1}
 use Rattle.league.specs.declared.class.Constraint.{Constraint}
-use Rattle.robinx_tags.specs.Fronts.{◌>>=◌}
 use Rattle.robinx_tags.specs.Tags as tags
 use Rattle.robinx_tags.specs.declared.tag.TagKind.TheVariants.{Start, End, Empty}
 use Rattle.robinx_form.specs.Texts as texts
@@ -166,7 +164,7 @@ module _ (line : ℕ) (outer : List Open) where
         let rest : List ℕ = constraint_line c ++ constraints_after (Some own) constraints in
         let whole : between (Some (elements.group_name g)) (Some own) ++ (rest ++ end) ≡ (between (Some (elements.group_name g)) (Some own) ++ rest) ++ end = sym (append_assoc (between (Some (elements.group_name g)) (Some own)) rest end) in
         let begins : BeginsTag (between (Some (elements.group_name g)) (Some own) ++ (rest ++ end)) =
-            begins_by (bytes_eq (elements.group_name g) own) (closes (Some (elements.group_name g))) (opens (Some own)) (rest ++ end) (_, refl) (_, refl) in
+        begins_by (bytes_eq (elements.group_name g) own) (closes (Some (elements.group_name g))) (opens (Some own)) (rest ++ end) (_, refl) (_, refl) in
         subst BeginsTag whole begins
 
     -- the constraints after this one in a group of this name, from wherever the group begins
@@ -189,7 +187,7 @@ module _ (line : ℕ) (outer : List Open) where
         let line : List ℕ = constraint_line c in
         let after : List ℕ = constraints_after (Some own) constraints in
         let gap : between (Some a) (Some own) ≡ [] =
-            ap (λ (o : List ℕ). cond (bytes_eq a o) [] (closes (Some a) ++ opens (Some o))) same ∙ ap (λ (t : Bool). cond t [] (closes (Some a) ++ opens (Some (elements.group_name h)))) is in
+        ap (λ (o : List ℕ). cond (bytes_eq a o) [] (closes (Some a) ++ opens (Some o))) same ∙ ap (λ (t : Bool). cond t [] (closes (Some a) ++ opens (Some (elements.group_name h)))) is in
         let text : (between (Some a) (Some own) ++ (line ++ after)) ++ end ≡ line ++ (after ++ end) = ap (λ (l : List ℕ). (l ++ (line ++ after)) ++ end) gap ∙ append_assoc line after end in
         let equal : a ≡ elements.group_name h = (bytes_eq-Decides a (elements.group_name h)).0 is in
         subst (λ (l : List ℕ). Reads instance_meaning l (within start g (drafted so_far)) x) (sym text) (line_in c constraints so_far g start end x (same ∙ sym equal) later stands few)
@@ -200,12 +198,12 @@ module _ (line : ℕ) (outer : List Open) where
         let line : List ℕ = constraint_line c in
         let after : List ℕ = constraints_after (Some own) constraints in
         let gap : between (Some a) (Some own) ≡ closes (Some a) ++ opens (Some b) =
-            ap (λ (o : List ℕ). cond (bytes_eq a o) [] (closes (Some a) ++ opens (Some o))) same ∙ ap (λ (t : Bool). cond t [] (closes (Some a) ++ opens (Some b))) is in
+        ap (λ (o : List ℕ). cond (bytes_eq a o) [] (closes (Some a) ++ opens (Some o))) same ∙ ap (λ (t : Bool). cond t [] (closes (Some a) ++ opens (Some b))) is in
         let text : (between (Some a) (Some own) ++ (line ++ after)) ++ end ≡ closes (Some a) ++ (opens (Some b) ++ (line ++ (after ++ end))) =
-            ap (λ (l : List ℕ). (l ++ (line ++ after)) ++ end) gap
-            ∙ append_assoc (closes (Some a) ++ opens (Some b)) (line ++ after) end
-            ∙ append_assoc (closes (Some a)) (opens (Some b)) ((line ++ after) ++ end)
-            ∙ ap (λ (l : List ℕ). closes (Some a) ++ (opens (Some b) ++ l)) (append_assoc line after end) in
+        ap (λ (l : List ℕ). (l ++ (line ++ after)) ++ end) gap
+        ∙ append_assoc (closes (Some a) ++ opens (Some b)) (line ++ after) end
+        ∙ append_assoc (closes (Some a)) (opens (Some b)) ((line ++ after) ++ end)
+        ∙ ap (λ (l : List ℕ). closes (Some a) ++ (opens (Some b) ++ l)) (append_assoc line after end) in
         subst (λ (l : List ℕ). Reads instance_meaning l (within start g (drafted so_far)) x) (sym text)
         (group-closed g start (opens (Some b) ++ (line ++ (after ++ end))) (drafted so_far) x (_, refl)
         (group-opened h (line ++ (after ++ end)) (drafted so_far) x (line-begins c (after ++ end)) (λ from. line_in c constraints so_far h from end x same later stands few)))
@@ -234,9 +232,9 @@ module _ (line : ℕ) (outer : List Open) where
         let line : List ℕ = constraint_line c in
         let after : List ℕ = constraints_after (Some own) constraints in
         let text : (opens (Some own) ++ (line ++ after)) ++ end ≡ opens (Some (elements.group_name h)) ++ (line ++ (after ++ end)) =
-            append_assoc (opens (Some own)) (line ++ after) end
-            ∙ ap (λ (l : List ℕ). opens (Some own) ++ l) (append_assoc line after end)
-            ∙ ap (λ (o : List ℕ). opens (Some o) ++ (line ++ (after ++ end))) (group-named c.class) in
+        append_assoc (opens (Some own)) (line ++ after) end
+        ∙ ap (λ (l : List ℕ). opens (Some own) ++ l) (append_assoc line after end)
+        ∙ ap (λ (o : List ℕ). opens (Some o) ++ (line ++ (after ++ end))) (group-named c.class) in
         let later : ReadsAfter c constraints [] end x = λ k from. in_group constraints (c ∷ []) k from end x (omega arith) (All-tail (CanStand n) c constraints stand) begins on in
         subst (λ (l : List ℕ). Reads instance_meaning l (among (drafted [])) x) (sym text)
         (group-opened h (line ++ (after ++ end)) (drafted []) x (line-begins c (after ++ end)) (λ from. line_in c constraints [] h from end x (group-named c.class) later (All-head (CanStand n) c constraints stand) (omega arith)))

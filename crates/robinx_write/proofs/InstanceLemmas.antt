@@ -1,18 +1,17 @@
 -- What the text of an instance says.
-use Rattle.std.proofs.Common.{◌≡◌, ℕ, zero, suc, ◌+◌, ◌-◌, ◌*◌, ◌%◌, ◌<◌, ◌≤◌, ◌^◌, Bool, true, false, not, ◌&&◌, ◌||◌, ◌==◌, cond, List, [], ◌∷◌, ◌++◌, length, length-append, map, Option, Some, None, Ok, decimal, refl, sym, ap, ◌∙◌, subst, append_assoc, arith}
-use Rattle.std.specs.Prelude.{codes, nat_lt, nat_le, Result, IsTrue}
+use Rattle.std.proofs.Common.{◌≡◌, ℕ, zero, suc, ◌+◌, ◌%◌, ◌<◌, ◌≤◌, ◌^◌, Bool, true, false, ◌&&◌, ◌||◌, ◌==◌, List, [], ◌∷◌, ◌++◌, length, map, None, Ok, decimal, refl, sym, ap, ◌∙◌, append_assoc, arith}
+use Rattle.std.specs.Prelude.{codes, nat_lt, nat_le, Result}
 use Rattle.std.specs.List.{All, flat_map, list_all, list_any, range_with_len}
 use Rattle.std.proofs.lemmas.Bool.Decides.{nat_tests}
 use Rattle.std.proofs.lemmas.List.{append-nil}
 use Rattle.league.specs.Counts.{teams_of, slots_of, slot_count}
-use Rattle.league.specs.Instance.{Instance, IsInstance, class_fits}
+use Rattle.league.specs.Instance.{Instance, IsInstance}
 use Rattle.league.specs.declared.class.Constraint.{Constraint}
 use Rattle.robinx_tags.specs.Fronts.{◌>>=◌}
-use Rattle.robinx_tags.specs.Tags as tags
 use Rattle.robinx_tags.specs.Tags.{attributes_at}
 use Rattle.robinx_tags.specs.Pieces.{pieces, pieces_from}
-use Rattle.robinx_tags.specs.declared.tag.TagKind.TheVariants.{Start, End, Empty}
-use Rattle.robinx_form.specs.Attributes.{Attribute, count, word, tag_line}
+use Rattle.robinx_tags.specs.declared.tag.TagKind.TheVariants.{Empty}
+use Rattle.robinx_form.specs.Attributes.{Attribute, count, word}
 use Rattle.robinx_form.specs.Texts.{mode_word, team_line, slot_line, constraints_after, instance_text}
 use Rattle.robinx_form.specs.Values.{number, contains}
 use Rattle.robinx_form.specs.Walk.{Open, Place, Fault, walk, at_piece}

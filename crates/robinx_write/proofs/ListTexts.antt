@@ -1,6 +1,6 @@
 -- The texts of lists of teams, slots and meetings, and what they are read as.
-use Rattle.std.proofs.Common.{◌≡◌, ◌≢◌, ℕ, zero, suc, ◌+◌, ◌<◌, ◌≤◌, ◌^◌, Bool, true, false, not, ◌&&◌, ◌||◌, ◌==◌, cond, ltb, List, [], ◌∷◌, ◌++◌, length, length-append, get_or, take, drop, map, decimal, Ok, Err, refl, sym, ap, ◌∙◌, append_assoc, arith}
-use Rattle.std.specs.Prelude.{nat_lt, codes, Result}
+use Rattle.std.proofs.Common.{◌≡◌, ℕ, zero, suc, ◌+◌, ◌<◌, ◌≤◌, ◌^◌, Bool, true, false, not, ◌&&◌, ◌||◌, ◌==◌, cond, List, [], ◌∷◌, ◌++◌, length, length-append, get_or, take, drop, map, decimal, Ok, refl, sym, ap, ◌∙◌, append_assoc, arith}
+use Rattle.std.specs.Prelude.{nat_lt}
 use Rattle.std.specs.List.{All, AllPairs, filter, flat_map, list_all, join_with_byte, count_by, before_first, after_first, position_or_len}
 use Rattle.std.specs.Ordering.{nat_cmp, is_lt}
 use Rattle.std.specs.declared.cmp.Ordering.{Ordering}
@@ -14,15 +14,13 @@ use Rattle.std.proofs.lemmas.List.Sums.{AllPass-from_list_all, sum_by-cons, sum_
 use Rattle.league.specs.Sets.{IsAscending, with_item, pair_cmp}
 use Rattle.league.specs.Counts.{slot_count}
 use Rattle.league.specs.Instance.{are_teams, are_slots, are_meetings}
-use Rattle.robinx_tags.specs.Fronts.{◌>>=◌}
 use Rattle.robinx_tags.specs.declared.fault.FormKind.TheVariants.{UnknownTeam, UnknownSlot}
 use Rattle.robinx_form.specs.Gathered.{with_items, gathered}
-use Rattle.robinx_form.specs.Values.{Reading, items_of, onto_item, each, team, slot, teams, slots, meeting, meetings, distinct}
+use Rattle.robinx_form.specs.Values.{Reading, items_of, onto_item, each, team, slot, teams, slots, meeting, meetings}
 use Rattle.robinx_form.proofs.KnownLemmas.{gathered_teams, gathered_slots, gathered_meetings}
-use Rattle.robinx_write.specs.SeenAttribute.{further_text, pair_text}
+use Rattle.robinx_write.specs.SeenAttribute.{pair_text}
 use Rattle.robinx_write.proofs.TagLemmas.{is_plain_value, and_parts, position-stop}
 use Rattle.robinx_write.proofs.NumberTexts.{decimal-all, decimal-plain, id-decimal}
-use Rattle.robinx_write.proofs.TextLemmas.{joined-cons}
 
 -- ---- sets that are read in order
 

@@ -1,16 +1,15 @@
 -- The texts of numbers, and what they are read as.
-use Rattle.std.proofs.Common.{◌≡◌, ℕ, zero, suc, ◌+◌, ◌<◌, ◌≤◌, ◌^◌, ◌/◌, ◌%◌, Bool, true, false, not, ◌&&◌, ◌||◌, ◌==◌, cond, List, [], ◌∷◌, ◌++◌, decimal, Ok, Err, refl, sym, ap, ◌∙◌, arith}
+use Rattle.std.proofs.Common.{◌≡◌, ℕ, zero, suc, ◌+◌, ◌<◌, ◌≤◌, ◌^◌, ◌/◌, ◌%◌, Bool, true, false, not, ◌&&◌, ◌||◌, ◌==◌, cond, List, [], ◌∷◌, decimal, Ok, refl, ap, ◌∙◌, arith}
 use Rattle.std.specs.Prelude.{nat_lt}
 use Rattle.std.specs.List.{list_all}
 use Rattle.std.specs.Fmt.{digits, digits_onto, digit_glyph}
 use Rattle.std.specs.Str.Parse.{digits_value}
-use Rattle.std.proofs.lemmas.Fmt.{decimal_by_steps_wide}
 use Rattle.std.proofs.lemmas.Bool.Decides.{nat_tests}
 use Rattle.robin_io.specs.Numbers.{is_number}
 use Rattle.robin_io.proofs.NumberLemmas.{is_number-decimal, reads-decimal}
 use Rattle.robinx_tags.specs.declared.fault.FormKind.{FormKind}
 use Rattle.robinx_form.specs.Values.{number, id}
-use Rattle.robinx_write.proofs.TagLemmas.{is_plain_value, and_parts}
+use Rattle.robinx_write.proofs.TagLemmas.{is_plain_value}
 
 glyph_is : (d : ℕ) → d < 10 → digit_glyph false d ≡ 48 + d
 glyph_is d less = grind (arith, nat_tests)

@@ -1,5 +1,5 @@
 -- The text of an instance, part by part.
-use Rattle.std.proofs.Common.{◌≡◌, ℕ, zero, suc, ◌+◌, ◌<◌, ◌≤◌, List, [], ◌∷◌, ◌++◌, length, get_or, take, drop, Option, Some, None, refl, sym, ap, ◌∙◌, subst, append_assoc, add-one, arith}
+use Rattle.std.proofs.Common.{◌≡◌, ℕ, zero, suc, ◌+◌, ◌<◌, ◌≤◌, List, [], ◌∷◌, ◌++◌, length, get_or, take, drop, Option, Some, None, sym, ap, ◌∙◌, append_assoc, add-one, arith}
 use Rattle.std.specs.Prelude.{codes}
 use Rattle.std.specs.List.{All, flat_map, range_with_len}
 use Rattle.std.proofs.Math.Seq.{drop-cons}
@@ -40,7 +40,7 @@ constraint_added constraints k c group next old middle new whole within is named
     let rest : List ℕ = constraints_after (Some next) (drop (suc k) constraints) in
     let first : drop k constraints ≡ c ∷ drop (suc k) constraints = drop-cons constraints k c within ∙ ap (λ (x : Constraint). x ∷ drop (suc k) constraints) is in
     let text : constraints_after group (c ∷ drop (suc k) constraints) ≡ between group (Some next) ++ (constraint_line c ++ rest) =
-        ap (λ (own : List ℕ). between group (Some own) ++ (constraint_line c ++ constraints_after (Some own) (drop (suc k) constraints))) (sym named) in
+    ap (λ (own : List ℕ). between group (Some own) ++ (constraint_line c ++ constraints_after (Some own) (drop (suc k) constraints))) (sym named) in
     ap (λ (j : ℕ). new ++ constraints_after (Some next) (drop j constraints)) (add-one k)
     ∙ ap (λ (l : List ℕ). l ++ rest) (added ∙ ap (λ (l : List ℕ). l ++ constraint_line c) opened)
     ∙ append_assoc (old ++ between group (Some next)) (constraint_line c) rest

@@ -1,5 +1,5 @@
 -- What the text of a solution says.
-use Rattle.std.proofs.Common.{◌≡◌, ◌≢◌, ℕ, ◌+◌, ◌-◌, ◌*◌, ◌<◌, ◌≤◌, ◌^◌, Bool, true, false, not, ◌&&◌, ◌==◌, List, [], ◌∷◌, ◌++◌, length, length-append, map, Option, Some, None, Ok, Err, decimal, refl, sym, ap, ◌∙◌, append_assoc, arith}
+use Rattle.std.proofs.Common.{◌≡◌, ◌≢◌, ℕ, ◌+◌, ◌<◌, ◌≤◌, true, not, ◌==◌, List, [], ◌∷◌, ◌++◌, length, length-append, map, Option, Some, None, Ok, decimal, refl, sym, ap, append_assoc, arith}
 use Rattle.std.specs.Prelude.{codes, nat_lt, Result}
 use Rattle.std.specs.List.{All, flat_map}
 use Rattle.std.proofs.lemmas.Bool.Decides.{nat_tests}
@@ -9,19 +9,18 @@ use Rattle.league.specs.Counts.{slot_count}
 use Rattle.league.specs.Instance.{IsGame}
 use Rattle.league.specs.declared.game.Game.{Game}
 use Rattle.robinx_tags.specs.Fronts.{◌>>=◌}
-use Rattle.robinx_tags.specs.Tags as tags
 use Rattle.robinx_tags.specs.Tags.{attributes_at}
 use Rattle.robinx_tags.specs.Pieces.{pieces, pieces_from}
-use Rattle.robinx_tags.specs.declared.tag.TagKind.TheVariants.{Start, End, Empty}
+use Rattle.robinx_tags.specs.declared.tag.TagKind.TheVariants.{Empty}
 use Rattle.robinx_tags.specs.declared.fault.FormKind.TheVariants.{UnknownTeam, UnknownSlot}
 use Rattle.robinx_form.specs.Attributes.{Attribute, count, tag_line}
 use Rattle.robinx_form.specs.Texts.{game_line, score_text, solution_text}
-use Rattle.robinx_form.specs.Values.{team, slot, distinct}
+use Rattle.robinx_form.specs.Values.{team, slot}
 use Rattle.robinx_form.specs.Walk.{Open, Place, Fault, walk, at_piece}
 use Rattle.robinx_form.specs.SolutionFile.{Games, solution_meaning, solution_of, game_of}
 use Rattle.robinx_form.specs.declared.element.Element.TheVariants as element
 use Rattle.robinx_write.proofs.TagLemmas.{seen, are_plain_values}
-use Rattle.robinx_write.proofs.StepLemmas.{tag, BeginsTag, Reads, walk_on, Reads-passed, Reads-newline, Reads-tag_line, Reads-start_line, Reads-end_line}
+use Rattle.robinx_write.proofs.StepLemmas.{tag, BeginsTag, Reads, Reads-passed, Reads-newline, Reads-tag_line, Reads-start_line, Reads-end_line}
 use Rattle.robinx_write.proofs.NumberTexts.{id-decimal, decimal-plain}
 
 -- ---- a game
@@ -76,7 +75,7 @@ module _ (n : ℕ) (size : n ≤ 40) where
       let rest : List ℕ = flat_map game_line games ++ end in
       let more : so_far ++ g ∷ games ≡ (so_far ++ g ∷ []) ++ games = sym (append_assoc so_far (g ∷ []) games) in
       let after : Reads solution_meaning rest (among line outer (so_far ++ g ∷ [])) x =
-          games-read games (so_far ++ g ∷ []) line outer end x (omega (arith, length-append so_far (g ∷ []))) (All-tail (IsGame n) g games fit) begins (rw more at on) in
+      games-read games (so_far ++ g ∷ []) line outer end x (omega (arith, length-append so_far (g ∷ []))) (All-tail (IsGame n) g games fit) begins (rw more at on) in
       rw (append_assoc (game_line g) (flat_map game_line games) end)
       (Reads-tag_line solution_meaning (codes "ScheduledMatch") (game_attributes g) rest (among line outer so_far) x (λ at. among line outer (so_far ++ g ∷ [])) refl (omega arith) refl (game-plain g) (BeginsTag-games games end begins)
       (λ at. one_game line at outer so_far g (omega arith) g_fits) (λ at. refl) (λ at. after))

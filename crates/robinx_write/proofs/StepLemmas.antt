@@ -1,6 +1,6 @@
 -- The pieces of a text that is known from its front on, and the walk over them.
-use Rattle.std.proofs.Common.{◌≡◌, ℕ, zero, suc, ◌+◌, ◌-◌, ◌<◌, ◌≤◌, Bool, true, false, not, ◌==◌, cond, List, [], ◌∷◌, ◌++◌, length, length-append, take, drop, map, Option, Some, None, Ok, Err, refl, sym, ap, ◌∙◌, append_assoc, arith}
-use Rattle.std.specs.Prelude.{codes, Result}
+use Rattle.std.proofs.Common.{◌≡◌, ℕ, ◌+◌, ◌<◌, ◌≤◌, true, false, not, ◌==◌, List, [], ◌∷◌, ◌++◌, length, length-append, drop, map, Option, Some, None, Ok, refl, ap, ◌∙◌, append_assoc, arith}
+use Rattle.std.specs.Prelude.{Result}
 use Rattle.std.specs.List.{list_all, flat_map}
 use Rattle.std.proofs.lemmas.Bool.{false≢true}
 use Rattle.std.proofs.lemmas.List.{take_at, drop_at}
@@ -14,7 +14,7 @@ use Rattle.robinx_tags.specs.declared.tag.TagKind.TheVariants.{Start, End, Empty
 use Rattle.robinx_tags.proofs.PieceLemmas.{line_ends, pieces_from-found}
 use Rattle.robinx_form.specs.Attributes.{Attribute, attribute_text, tag_line}
 use Rattle.robinx_form.specs.Elements.{has_value}
-use Rattle.robinx_form.specs.Walk.{Meaning, Place, Fault, walk, at_piece, at_text, text_in}
+use Rattle.robinx_form.specs.Walk.{Meaning, Place, Fault, walk, at_piece, text_in}
 use Rattle.robinx_write.proofs.TagLemmas.{is_plain_name, are_new, are_plain_values, seen, plain_start, name_at-plain, start_tag-plain, until-stop}
 
 -- a tag as a piece

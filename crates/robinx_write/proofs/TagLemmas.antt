@@ -1,6 +1,5 @@
 -- Tags at the front of bytes, as they are read.
-use Rattle.std.proofs.Common.{◌≡◌, ℕ, zero, suc, ◌+◌, ◌-◌, ◌<◌, ◌≤◌, Bool, true, false, not, ◌&&◌, ◌||◌, ◌==◌, cond, List, [], ◌∷◌, ◌++◌, length, take, drop, map, Option, Some, None, Ok, Err, refl, sym, ap, ◌∙◌, append_assoc, arith}
-use Rattle.std.specs.Prelude.{codes}
+use Rattle.std.proofs.Common.{◌≡◌, ℕ, zero, suc, ◌≤◌, Bool, true, false, not, ◌&&◌, ◌||◌, ◌==◌, List, [], ◌∷◌, ◌++◌, length, map, Some, None, Ok, refl, sym, ap, ◌∙◌, append_assoc, arith}
 use Rattle.std.specs.List.{list_all, list_any, position_or_len, flat_map}
 use Rattle.std.proofs.lemmas.Bool.{false≢true}
 use Rattle.std.proofs.lemmas.List.{take_at, drop_at, append-nil}
@@ -9,8 +8,7 @@ use Rattle.robinx_tags.specs.Fronts.{until}
 use Rattle.robinx_tags.specs.Tags as tags
 use Rattle.robinx_tags.specs.Tags.{name_at, value_to, has_name, attribute_at, end_at, attributes_at, start_tag}
 use Rattle.robinx_tags.specs.declared.tag.TagKind.{TagKind}
-use Rattle.robinx_tags.specs.declared.tag.TagKind.TheVariants.{Start, Empty}
-use Rattle.robinx_form.specs.Attributes.{Attribute, attribute_text, tag_line}
+use Rattle.robinx_form.specs.Attributes.{Attribute, attribute_text}
 
 pub and_parts : (a b : Bool) → (a && b) ≡ true → (a ≡ true) × (b ≡ true)
 and_parts true b h = (refl, h)
@@ -171,9 +169,11 @@ attributes_at-plain (suc left) earlier (a ∷ attributes) end tail kind few new 
 name_ends-attribute : (attributes : List Attribute) (end : List ℕ) → (c : ℕ) (tail : List ℕ) → end ≡ c ∷ tail → is_name_byte c ≡ false
     → (d : ℕ) × (rest : List ℕ) × ((flat_map attribute_text attributes ++ end ≡ d ∷ rest) × (is_name_byte d ≡ false))
 name_ends-attribute [] end c tail is ends = (c, tail, (is, ends))
-name_ends-attribute (a ∷ attributes) end c tail is ends =
-    (32, a.name ++ (61 ∷ 34 ∷ (a.value ++ (34 ∷ (flat_map attribute_text attributes ++ end)))),
-     (append_assoc (attribute_text a) (flat_map attribute_text attributes) end ∙ attribute_parts a (flat_map attribute_text attributes ++ end), refl))
+name_ends-attribute (a ∷ attributes) end c tail is ends = (
+  32,
+  a.name ++ (61 ∷ 34 ∷ (a.value ++ (34 ∷ (flat_map attribute_text attributes ++ end)))),
+  (append_assoc (attribute_text a) (flat_map attribute_text attributes) end ∙ attribute_parts a (flat_map attribute_text attributes ++ end), refl),
+)
 
 pub start_tag-plain : (name : List ℕ) (attributes : List Attribute) (c : ℕ) (end tail : List ℕ) (kind : TagKind) → is_plain_name name ≡ true → length attributes ≤ 64
     → are_new [] attributes ≡ true → are_plain_values attributes ≡ true → is_name_byte c ≡ false → end_at (c ∷ end) ≡ Ok (Some kind, tail)
@@ -181,6 +181,6 @@ pub start_tag-plain : (name : List ℕ) (attributes : List Attribute) (c : ℕ) 
 start_tag-plain name attributes c end tail kind plain few new values stops ends =
     let next = name_ends-attribute attributes (c ∷ end) c end refl stops in
     let named : name_at (name ++ (flat_map attribute_text attributes ++ c ∷ end)) ≡ Ok (name, flat_map attribute_text attributes ++ c ∷ end) =
-        ap (λ (l : List ℕ). name_at (name ++ l)) next.2.0 ∙ name_at-plain name next.0 next.1 plain next.2.1 ∙ ap (λ (l : List ℕ). Ok (name, l)) (sym next.2.0) in
+    ap (λ (l : List ℕ). name_at (name ++ l)) next.2.0 ∙ name_at-plain name next.0 next.1 plain next.2.1 ∙ ap (λ (l : List ℕ). Ok (name, l)) (sym next.2.0) in
     let all = attributes_at-plain 64 [] attributes (c ∷ end) tail kind few new values ends in
     rw (named, all) refl

@@ -1,5 +1,5 @@
 -- What is known of a constraint that is held in memory.
-use Rattle.std.specs.Prelude.{ℕ, ◌<◌, ◌^◌}
+use Rattle.std.specs.Prelude.{◌<◌, ◌^◌}
 use Rattle.std.specs.Ordering.{nat_cmp}
 use Rattle.league.specs.Sets.{IsAscending, pair_cmp}
 use Rattle.league.specs.declared.class.Class.{Class}

@@ -238,11 +238,7 @@ fn put_fa2<'a>(
 }
 
 /// Adds the attributes of a SE1.
-fn put_se1(
-    text: &mut Vec<u8>,
-    teams: &TeamSet,
-    min: u32,
-) -> Result<(), AllocError>
+fn put_se1(text: &mut Vec<u8>, teams: &TeamSet, min: u32) -> Result<(), AllocError>
     ensures written { OnOk result (text.new.items ≡ text.old.items ++ flat_map attribute_text (class_attributes (Class.Se1 teams.now min))) }
     ensures held { IsHeldClass (Class.Se1 teams.now min) }
 {

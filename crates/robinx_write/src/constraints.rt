@@ -68,7 +68,10 @@ fn put_between(text: &mut Vec<u8>, group: Option<&str>, next: &str) -> Result<()
 }
 
 /// Adds constraints in their order, consecutive ones of one group in one element.
-pub(crate) fn put_constraints(text: &mut Vec<u8>, constraints: &[Constraint]) -> Result<(), AllocError>
+pub(crate) fn put_constraints(
+    text: &mut Vec<u8>,
+    constraints: &[Constraint],
+) -> Result<(), AllocError>
     ensures written { OnOk result (text.new.items ≡ text.old.items ++ constraints_after None constraints.now) }
     ensures held { OnOk result (All IsHeld constraints.now) }
 {

@@ -84,7 +84,11 @@ pub(crate) fn put_attributes(text: &mut Vec<u8>, attributes: &[Attribute]) -> Re
 }
 
 /// Adds a line with one Empty tag.
-pub(crate) fn put_tag(text: &mut Vec<u8>, name: &str, attributes: &[Attribute]) -> Result<(), AllocError>
+pub(crate) fn put_tag(
+    text: &mut Vec<u8>,
+    name: &str,
+    attributes: &[Attribute],
+) -> Result<(), AllocError>
     ensures { OnOk result (text.new.items ≡ text.old.items ++ tag_line name.now (attributes_of attributes.now)) }
 {
     text.extend_from_slice(b"<")?;

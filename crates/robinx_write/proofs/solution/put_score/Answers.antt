@@ -1,6 +1,3 @@
-use Rattle.std.proofs.Common.{◌++◌}
-use Rattle.std.specs.Prelude.{codes}
-use Rattle.robinx_form.specs.Attributes.{count, tag_line}
 use Rattle.robinx_write.proofs.TextLemmas.{three_pieces}
 use Rattle.robinx_write.proofs.solution.put_score.Goals as goal
 

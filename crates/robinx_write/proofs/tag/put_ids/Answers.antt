@@ -1,6 +1,5 @@
-use Rattle.std.proofs.Common.{◌≡◌, ◌++◌, decimal, ap, ◌∙◌, sym}
-use Rattle.std.specs.List.{join_with_byte}
-use Rattle.std.specs.Prelude.{ℕ, List, map}
+use Rattle.std.proofs.Common.{◌++◌, decimal, ap, ◌∙◌}
+use Rattle.std.specs.Prelude.{ℕ}
 use Rattle.robinx_write.proofs.TextLemmas.{joined-cons, two_pieces}
 use Rattle.robinx_write.proofs.tag.put_ids.Goals as goal
 
