@@ -1,0 +1,11 @@
+pub mod Elements
+pub mod Walk
+pub mod Values
+pub mod Classes
+pub mod InstanceFile
+pub mod SolutionFile
+pub mod Attributes
+pub mod Texts
+pub mod Answers
+pub mod Gathered
+pub mod Tagged

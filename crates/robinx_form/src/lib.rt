@@ -1,0 +1,7 @@
+//! Scratch.
+#![tactic(auto)]
+
+mod element;
+mod fault;
+
+pub use fault::{FormFault, ReadFault};

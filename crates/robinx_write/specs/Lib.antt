@@ -1,0 +1,4 @@
+-- Attributes and constraints as functions inside are given them:
+pub mod SeenAttribute
+pub mod Held
+pub mod Parts

@@ -1,0 +1,89 @@
+//! Constraints in their groups.
+ghost use Rattle.std.specs.Prelude.{◌≡◌, ◌++◌, Bool, None, Some, IsTrue, OnOk, codes};
+ghost use Rattle.std.specs.List.{All};
+ghost use Rattle.std.specs.Option.{option_copied};
+ghost use Rattle.robinx_form.specs.Texts as texts;
+ghost use Rattle.robinx_form.specs.Texts.{opens, closes, between, constraint_line, constraints_after};
+ghost use Rattle.robinx_write.specs.Held.{IsHeld};
+
+use crate::class::{class_name, group_name, put_class};
+use crate::tag::{Attribute, Value, put_attributes};
+use league::Constraint;
+use std::alloc::AllocError;
+
+/// How a file says whether a constraint is hard.
+fn type_word(hard: bool) -> &'static str
+    ensures { result.now ≡ codes (texts.type_word hard) }
+{
+    if hard { "HARD" } else { "SOFT" }
+}
+
+/// Adds the line of a constraint.
+fn put_constraint(text: &mut Vec<u8>, constraint: &Constraint) -> Result<(), AllocError>
+    ensures written { OnOk result (text.new.items ≡ text.old.items ++ constraint_line constraint.now) }
+    ensures held { OnOk result (IsHeld constraint.now) }
+{
+    text.extend_from_slice(b"<")?;
+    text.extend_from_slice(class_name(&constraint.class).as_bytes())?;
+    put_class(text, &constraint.class)?;
+    let penalty = constraint.penalty;
+    let attributes = [
+        Attribute("type", Value::Word(type_word(constraint.hard))),
+        Attribute("penalty", Value::Count(u128::from(penalty))),
+    ];
+    put_attributes(text, &attributes)?;
+    text.extend_from_slice(b"/>\n")?;
+    Ok(())
+}
+
+/// Adds the line that begins a group.
+fn put_start(text: &mut Vec<u8>, group: &str) -> Result<(), AllocError>
+    ensures { OnOk result (text.new.items ≡ text.old.items ++ opens (Some group.now)) }
+{
+    text.extend_from_slice(b"<")?;
+    text.extend_from_slice(group.as_bytes())?;
+    text.extend_from_slice(b">\n")
+}
+
+/// Adds the line that ends a group.
+fn put_end(text: &mut Vec<u8>, group: &str) -> Result<(), AllocError>
+    ensures { OnOk result (text.new.items ≡ text.old.items ++ closes (Some group.now)) }
+{
+    text.extend_from_slice(b"</")?;
+    text.extend_from_slice(group.as_bytes())?;
+    text.extend_from_slice(b">\n")
+}
+
+/// Adds what stands between constraints of one group, or the front, and of another.
+fn put_between(text: &mut Vec<u8>, group: Option<&str>, next: &str) -> Result<(), AllocError>
+    ensures { OnOk result (text.new.items ≡ text.old.items ++ between (option_copied group.entry) (Some next.now)) }
+{
+    if let Some(name) = group {
+        if name == next {
+            return Ok(());
+        }
+        put_end(text, name)?;
+    }
+    put_start(text, next)
+}
+
+/// Adds constraints in their order, consecutive ones of one group in one element.
+pub(crate) fn put_constraints(
+    text: &mut Vec<u8>,
+    constraints: &[Constraint],
+) -> Result<(), AllocError>
+    ensures written { OnOk result (text.new.items ≡ text.old.items ++ constraints_after None constraints.now) }
+    ensures held { OnOk result (All IsHeld constraints.now) }
+{
+    let mut group: Option<&str> = None;
+    for constraint in constraints {
+        let next = group_name(&constraint.class);
+        put_between(text, group, next)?;
+        put_constraint(text, constraint)?;
+        group = Some(next);
+    }
+    if let Some(name) = group {
+        put_end(text, name)?;
+    }
+    Ok(())
+}

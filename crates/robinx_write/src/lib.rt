@@ -1,0 +1,16 @@
+//! The texts of instance and solution files, written.
+//!
+//! A contract says that what is written is the text that `robinx_read` defines, and that it reads back as what it was
+//! written for.
+#![tactic(auto)]
+
+mod class;
+mod constraints;
+mod instance;
+mod solution;
+mod tag;
+#[cfg(test)]
+mod tests;
+
+pub use instance::instance_text;
+pub use solution::solution_text;
