@@ -10,13 +10,13 @@ use Rattle.league.specs.declared.class.Side.{Side}
 use Rattle.league.specs.declared.class.Side.TheVariants.{H, A, Both}
 use Rattle.league.specs.declared.class.Span.{Span}
 use Rattle.league.specs.declared.class.Span.TheVariants.{Global, Every}
-use Rattle.robinx_form.specs.Attributes.{Attribute, word, count}
-use Rattle.robinx_form.specs.Texts.{side_word, span_word, type_word, class_name, class_attributes}
-use Rattle.robinx_form.specs.Values.{number}
-use Rattle.robinx_form.specs.Classes as classes
-use Rattle.robinx_form.specs.Classes.{constraint_of, hardness, home_or_away, zero_only, above_zero}
-use Rattle.robinx_form.specs.declared.element.ClassName.{ClassName}
-use Rattle.robinx_form.specs.declared.element.ClassName.TheVariants as names
+use Rattle.robinx_read.specs.Attributes.{Attribute, word, count}
+use Rattle.robinx_read.specs.Texts.{side_word, span_word, type_word, class_name, class_attributes}
+use Rattle.robinx_read.specs.Values.{number}
+use Rattle.robinx_read.specs.Classes as classes
+use Rattle.robinx_read.specs.Classes.{constraint_of, hardness, home_or_away, zero_only, above_zero}
+use Rattle.robinx_read.specs.declared.element.ClassName.{ClassName}
+use Rattle.robinx_read.specs.declared.element.ClassName.TheVariants as names
 use Rattle.robinx_write.specs.Held.{IsHeld}
 use Rattle.robinx_write.proofs.TagLemmas.{seen, and_parts, is_plain_name, is_plain_value, are_new, are_plain_values}
 use Rattle.robinx_write.proofs.NumberTexts.{number-decimal, decimal-plain}

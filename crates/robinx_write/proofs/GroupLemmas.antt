@@ -12,16 +12,16 @@ use Rattle.league.specs.declared.class.Class.TheVariants.{Ca1, Ca2, Ca3, Ca4, Ga
 use Rattle.league.specs.declared.class.Constraint.{Constraint}
 use Rattle.robinx_tags.specs.Tags as tags
 use Rattle.robinx_tags.specs.declared.tag.TagKind.TheVariants.{Start, End, Empty}
-use Rattle.robinx_form.specs.Texts as texts
-use Rattle.robinx_form.specs.Texts.{class_name, constraint_line, constraints_after, opens, closes, between}
-use Rattle.robinx_form.specs.Elements as elements
-use Rattle.robinx_form.specs.Walk.{Open, Place, at_piece}
-use Rattle.robinx_form.specs.Classes.{constraint_of}
-use Rattle.robinx_form.specs.InstanceFile.{Draft, instance_meaning, with_constraint}
-use Rattle.robinx_form.specs.declared.element.Element.{Element}
-use Rattle.robinx_form.specs.declared.element.Element.TheVariants as element
-use Rattle.robinx_form.specs.declared.element.GroupName.{GroupName}
-use Rattle.robinx_form.specs.declared.element.GroupName.TheVariants.{Basic, Capacity, Game, Break, Fairness, Separation}
+use Rattle.robinx_read.specs.Texts as texts
+use Rattle.robinx_read.specs.Texts.{class_name, constraint_line, constraints_after, opens, closes, between}
+use Rattle.robinx_read.specs.Elements as elements
+use Rattle.robinx_read.specs.Walk.{Open, Place, at_piece}
+use Rattle.robinx_read.specs.Classes.{constraint_of}
+use Rattle.robinx_read.specs.InstanceFile.{Draft, instance_meaning, with_constraint}
+use Rattle.robinx_read.specs.declared.element.Element.{Element}
+use Rattle.robinx_read.specs.declared.element.Element.TheVariants as element
+use Rattle.robinx_read.specs.declared.element.GroupName.{GroupName}
+use Rattle.robinx_read.specs.declared.element.GroupName.TheVariants.{Basic, Capacity, Game, Break, Fairness, Separation}
 use Rattle.robinx_write.specs.Held.{IsHeld}
 use Rattle.robinx_write.proofs.TagLemmas.{seen, is_plain_name}
 use Rattle.robinx_write.proofs.StepLemmas.{tag, BeginsTag, Reads, Reads-tag_line, Reads-start_line, Reads-end_line}

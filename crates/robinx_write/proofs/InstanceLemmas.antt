@@ -11,13 +11,13 @@ use Rattle.robinx_tags.specs.Fronts.{◌>>=◌}
 use Rattle.robinx_tags.specs.Tags.{attributes_at}
 use Rattle.robinx_tags.specs.Pieces.{pieces, pieces_from}
 use Rattle.robinx_tags.specs.declared.tag.TagKind.TheVariants.{Empty}
-use Rattle.robinx_form.specs.Attributes.{Attribute, count, word}
-use Rattle.robinx_form.specs.Texts.{mode_word, team_line, slot_line, constraints_after, instance_text}
-use Rattle.robinx_form.specs.Values.{number, contains}
-use Rattle.robinx_form.specs.Walk.{Open, Place, Fault, walk, at_piece}
-use Rattle.robinx_form.specs.InstanceFile.{Draft, instance_meaning, instance_of, nothing, league_of, are_ids, is_season}
-use Rattle.robinx_form.specs.declared.element.Element.{Element}
-use Rattle.robinx_form.specs.declared.element.Element.TheVariants as element
+use Rattle.robinx_read.specs.Attributes.{Attribute, count, word}
+use Rattle.robinx_read.specs.Texts.{mode_word, team_line, slot_line, constraints_after, instance_text}
+use Rattle.robinx_read.specs.Values.{number, contains}
+use Rattle.robinx_read.specs.Walk.{Open, Place, Fault, walk, at_piece}
+use Rattle.robinx_read.specs.InstanceFile.{Draft, instance_meaning, instance_of, nothing, league_of, are_ids, is_season}
+use Rattle.robinx_read.specs.declared.element.Element.{Element}
+use Rattle.robinx_read.specs.declared.element.Element.TheVariants as element
 use Rattle.robinx_write.specs.Held.{IsHeld}
 use Rattle.robinx_write.proofs.TagLemmas.{seen, are_plain_values}
 use Rattle.robinx_write.proofs.StepLemmas.{tag, BeginsTag, Reads, Reads-passed, Reads-newline, Reads-tag_line, Reads-start_line, Reads-end_line, Reads-value_line}

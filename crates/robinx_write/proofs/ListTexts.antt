@@ -15,9 +15,9 @@ use Rattle.league.specs.Sets.{IsAscending, with_item, pair_cmp}
 use Rattle.league.specs.Counts.{slot_count}
 use Rattle.league.specs.Instance.{are_teams, are_slots, are_meetings}
 use Rattle.robinx_tags.specs.declared.fault.FormKind.TheVariants.{UnknownTeam, UnknownSlot}
-use Rattle.robinx_form.specs.Gathered.{with_items, gathered}
-use Rattle.robinx_form.specs.Values.{Reading, items_of, onto_item, each, team, slot, teams, slots, meeting, meetings}
-use Rattle.robinx_form.proofs.KnownLemmas.{gathered_teams, gathered_slots, gathered_meetings}
+use Rattle.robinx_read.specs.Gathered.{with_items, gathered}
+use Rattle.robinx_read.specs.Values.{Reading, items_of, onto_item, each, team, slot, teams, slots, meeting, meetings}
+use Rattle.robinx_read.proofs.KnownLemmas.{gathered_teams, gathered_slots, gathered_meetings}
 use Rattle.robinx_write.specs.SeenAttribute.{pair_text}
 use Rattle.robinx_write.proofs.TagLemmas.{is_plain_value, and_parts, position-stop}
 use Rattle.robinx_write.proofs.NumberTexts.{decimal-all, decimal-plain, id-decimal}

@@ -7,8 +7,8 @@ use Rattle.std.proofs.lemmas.List.{append-nil, take_more, take_all}
 use Rattle.std.proofs.lemmas.List.Concat.{flat_map-append}
 use Rattle.league.specs.Instance.{Instance}
 use Rattle.league.specs.declared.class.Constraint.{Constraint}
-use Rattle.robinx_form.specs.Texts as texts
-use Rattle.robinx_form.specs.Texts.{between, constraint_line, constraints_after, instance_text}
+use Rattle.robinx_read.specs.Texts as texts
+use Rattle.robinx_read.specs.Texts.{between, constraint_line, constraints_after, instance_text}
 use Rattle.robinx_write.specs.Parts.{head_text, season_text}
 use Rattle.robinx_write.proofs.ListTexts.{All-push}
 

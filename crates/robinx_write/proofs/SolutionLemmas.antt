@@ -13,12 +13,12 @@ use Rattle.robinx_tags.specs.Tags.{attributes_at}
 use Rattle.robinx_tags.specs.Pieces.{pieces, pieces_from}
 use Rattle.robinx_tags.specs.declared.tag.TagKind.TheVariants.{Empty}
 use Rattle.robinx_tags.specs.declared.fault.FormKind.TheVariants.{UnknownTeam, UnknownSlot}
-use Rattle.robinx_form.specs.Attributes.{Attribute, count, tag_line}
-use Rattle.robinx_form.specs.Texts.{game_line, score_text, solution_text}
-use Rattle.robinx_form.specs.Values.{team, slot}
-use Rattle.robinx_form.specs.Walk.{Open, Place, Fault, walk, at_piece}
-use Rattle.robinx_form.specs.SolutionFile.{Games, solution_meaning, solution_of, game_of}
-use Rattle.robinx_form.specs.declared.element.Element.TheVariants as element
+use Rattle.robinx_read.specs.Attributes.{Attribute, count, tag_line}
+use Rattle.robinx_read.specs.Texts.{game_line, score_text, solution_text}
+use Rattle.robinx_read.specs.Values.{team, slot}
+use Rattle.robinx_read.specs.Walk.{Open, Place, Fault, walk, at_piece}
+use Rattle.robinx_read.specs.SolutionFile.{Games, solution_meaning, solution_of, game_of}
+use Rattle.robinx_read.specs.declared.element.Element.TheVariants as element
 use Rattle.robinx_write.proofs.TagLemmas.{seen, are_plain_values}
 use Rattle.robinx_write.proofs.StepLemmas.{tag, BeginsTag, Reads, Reads-passed, Reads-newline, Reads-tag_line, Reads-start_line, Reads-end_line}
 use Rattle.robinx_write.proofs.NumberTexts.{id-decimal, decimal-plain}

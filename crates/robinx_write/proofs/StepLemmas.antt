@@ -12,9 +12,9 @@ use Rattle.robinx_tags.specs.Pieces.{Piece, Pieces, Found, with_piece, onto, pie
 use Rattle.robinx_tags.specs.declared.tag.TagKind.{TagKind}
 use Rattle.robinx_tags.specs.declared.tag.TagKind.TheVariants.{Start, End, Empty, Text}
 use Rattle.robinx_tags.proofs.PieceLemmas.{line_ends, pieces_from-found}
-use Rattle.robinx_form.specs.Attributes.{Attribute, attribute_text, tag_line}
-use Rattle.robinx_form.specs.Elements.{has_value}
-use Rattle.robinx_form.specs.Walk.{Meaning, Place, Fault, walk, at_piece, text_in}
+use Rattle.robinx_read.specs.Attributes.{Attribute, attribute_text, tag_line}
+use Rattle.robinx_read.specs.Elements.{has_value}
+use Rattle.robinx_read.specs.Walk.{Meaning, Place, Fault, walk, at_piece, text_in}
 use Rattle.robinx_write.proofs.TagLemmas.{is_plain_name, are_new, are_plain_values, seen, plain_start, name_at-plain, start_tag-plain, until-stop}
 
 -- a tag as a piece

@@ -8,7 +8,7 @@ use Rattle.robinx_tags.specs.Fronts.{until}
 use Rattle.robinx_tags.specs.Tags as tags
 use Rattle.robinx_tags.specs.Tags.{name_at, value_to, has_name, attribute_at, end_at, attributes_at, start_tag}
 use Rattle.robinx_tags.specs.declared.tag.TagKind.{TagKind}
-use Rattle.robinx_form.specs.Attributes.{Attribute, attribute_text}
+use Rattle.robinx_read.specs.Attributes.{Attribute, attribute_text}
 
 pub and_parts : (a b : Bool) → (a && b) ≡ true → (a ≡ true) × (b ≡ true)
 and_parts true b h = (refl, h)

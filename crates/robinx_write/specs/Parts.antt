@@ -2,8 +2,8 @@
 use Rattle.std.specs.Prelude.{ℕ, Bool, List, [], ◌∷◌, ◌++◌, codes}
 use Rattle.std.specs.List.{flat_map}
 use Rattle.league.specs.Counts.{teams_of, slots_of}
-use Rattle.robinx_form.specs.Attributes.{count, tag_line}
-use Rattle.robinx_form.specs.Texts.{mode_word, team_line, slot_line}
+use Rattle.robinx_read.specs.Attributes.{count, tag_line}
+use Rattle.robinx_read.specs.Texts.{mode_word, team_line, slot_line}
 
 -- the line of a team or of a slot
 abbrev pub id_line : List ℕ → ℕ → List ℕ

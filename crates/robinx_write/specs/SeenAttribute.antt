@@ -2,7 +2,7 @@
 use Rattle.std.specs.Prelude.{ℕ, List, ◌++◌, map, codes, decimal}
 use Rattle.std.specs.List.{flat_map, join_with_byte}
 use Rattle.std.specs.Str.{byte}
-use Rattle.robinx_form.specs.Attributes as text
+use Rattle.robinx_read.specs.Attributes as text
 use Rattle.robinx_write.specs.declared.tag.Value.{Value}
 use Rattle.robinx_write.specs.declared.tag.Value.TheVariants.{Word, Count, Ids, Pairs}
 use Rattle.robinx_write.specs.declared.tag.Attribute.{Attribute}

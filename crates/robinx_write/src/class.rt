@@ -1,9 +1,9 @@
 //! The attributes of the nine classes, each in the order of the format.
 ghost use Rattle.std.specs.Prelude.{◌≡◌, ◌++◌, OnOk, codes};
 ghost use Rattle.std.specs.List.{flat_map};
-ghost use Rattle.robinx_form.specs.Attributes.{attribute_text};
-ghost use Rattle.robinx_form.specs.Texts as texts;
-ghost use Rattle.robinx_form.specs.Texts.{class_attributes};
+ghost use Rattle.robinx_read.specs.Attributes.{attribute_text};
+ghost use Rattle.robinx_read.specs.Texts as texts;
+ghost use Rattle.robinx_read.specs.Texts.{class_attributes};
 ghost use Rattle.robinx_write.specs.Held.{IsHeldClass};
 
 use crate::tag::{Attribute, Value, put_attributes};

@@ -2,8 +2,8 @@
 ghost use Rattle.std.specs.Prelude.{◌≡◌, ◌++◌, Bool, None, Some, IsTrue, OnOk, codes};
 ghost use Rattle.std.specs.List.{All};
 ghost use Rattle.std.specs.Option.{option_copied};
-ghost use Rattle.robinx_form.specs.Texts as texts;
-ghost use Rattle.robinx_form.specs.Texts.{opens, closes, between, constraint_line, constraints_after};
+ghost use Rattle.robinx_read.specs.Texts as texts;
+ghost use Rattle.robinx_read.specs.Texts.{opens, closes, between, constraint_line, constraints_after};
 ghost use Rattle.robinx_write.specs.Held.{IsHeld};
 
 use crate::class::{class_name, group_name, put_class};

@@ -2,9 +2,9 @@
 ghost use Rattle.std.specs.Prelude.{◌≡◌, ◌<◌, ◌≤◌, ◌++◌, IfOk, OnOk, Ok, codes};
 ghost use Rattle.std.specs.List.{flat_map, range_with_len};
 ghost use Rattle.robinx_tags.specs.Pieces.{pieces};
-ghost use Rattle.robinx_form.specs.InstanceFile.{instance_of};
-ghost use Rattle.robinx_form.specs.Texts as texts;
-ghost use Rattle.robinx_form.specs.Texts.{instance_text as text_of};
+ghost use Rattle.robinx_read.specs.InstanceFile.{instance_of};
+ghost use Rattle.robinx_read.specs.Texts as texts;
+ghost use Rattle.robinx_read.specs.Texts.{instance_text as text_of};
 ghost use Rattle.robinx_write.specs.Parts.{id_line, head_text, season_text};
 
 use crate::constraints::put_constraints;

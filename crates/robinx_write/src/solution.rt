@@ -3,8 +3,8 @@ ghost use Rattle.std.specs.Prelude.{◌≡◌, ◌≤◌, ◌++◌, ℕ, length,
 ghost use Rattle.std.specs.List.{All, flat_map};
 ghost use Rattle.league.specs.Instance.{IsGame};
 ghost use Rattle.robinx_tags.specs.Pieces.{pieces};
-ghost use Rattle.robinx_form.specs.SolutionFile.{solution_of};
-ghost use Rattle.robinx_form.specs.Texts.{game_line, score_text, solution_text as text_of};
+ghost use Rattle.robinx_read.specs.SolutionFile.{solution_of};
+ghost use Rattle.robinx_read.specs.Texts.{game_line, score_text, solution_text as text_of};
 
 use crate::tag::{Attribute, Value, put_tag};
 use league::{Game, Schedule};

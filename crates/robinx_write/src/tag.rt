@@ -2,7 +2,7 @@
 ghost use Rattle.std.specs.Prelude.{◌≡◌, ◌++◌, OnOk, map, codes, decimal as decimal_text};
 ghost use Rattle.std.specs.List.{flat_map, join_with_byte};
 ghost use Rattle.std.specs.Str.{byte};
-ghost use Rattle.robinx_form.specs.Attributes.{attribute_text, tag_line};
+ghost use Rattle.robinx_read.specs.Attributes.{attribute_text, tag_line};
 ghost use Rattle.robinx_write.specs.SeenAttribute.{attributes_of, value_of, pair_text, further_text};
 
 use robin_io::put_decimal;

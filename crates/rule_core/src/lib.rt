@@ -7,22 +7,16 @@
 mod cells;
 mod counters;
 mod keys;
-<<<<<<< HEAD
 mod meetings;
-=======
 mod pairs;
->>>>>>> 51be2a4773f8106787c2c60e06edef0b82b4e564
 mod places;
 mod rule;
 mod steps;
 
 pub use cells::Cells;
 pub use keys::Keys;
-<<<<<<< HEAD
 pub use meetings::Meetings;
-=======
 pub use pairs::Pairs;
->>>>>>> 51be2a4773f8106787c2c60e06edef0b82b4e564
 pub use places::Places;
 pub use rule::{Entries, Rule};
 pub use steps::{Plain, Steps};

@@ -2,7 +2,7 @@ use Rattle.std.proofs.Common.{◌≡◌, ◌++◌, [], List, ℕ, Bool, ap, ◌�
 use Rattle.std.specs.Prelude.{codes, None}
 use Rattle.std.specs.List.{All}
 use Rattle.league.specs.declared.class.Constraint.{Constraint}
-use Rattle.robinx_form.specs.Texts.{constraints_after, instance_text as text_of}
+use Rattle.robinx_read.specs.Texts.{constraints_after, instance_text as text_of}
 use Rattle.robinx_write.specs.Held.{IsHeld}
 use Rattle.robinx_write.specs.Parts.{head_text, season_text}
 use Rattle.robinx_write.proofs.TextLemmas.{four_pieces}

@@ -1,3 +1,0 @@
-pub mod SetLemmas
-pub mod ValueLemmas
-pub mod KnownLemmas

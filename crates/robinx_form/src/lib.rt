@@ -1,7 +1,0 @@
-//! Scratch.
-#![tactic(auto)]
-
-mod element;
-mod fault;
-
-pub use fault::{FormFault, ReadFault};
