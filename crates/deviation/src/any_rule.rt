@@ -5,18 +5,27 @@ ghost use Rattle.league.specs.Deviation.{entry_of, vector_of};
 ghost use Rattle.league.specs.Instance.{class_fits};
 ghost use Rattle.deviation.specs.Reach.{class_reach};
 
-use capacity::{Ca1, Ca2};
+use breaks::{Br1, Br2};
+use capacity::{Ca1, Ca2, Ca3, Ca4};
+use fairness::Fa2;
 use games::Ga1;
 use league::{Class, Constraint, Game};
 use rule_core::{Cells, Entries, Keys, Rule, Steps};
+use separation::Se1;
 use std::alloc::{AllocError, Global};
 
-/// A constraint of any of the nine classes, ready for evaluation.
+/// A constraint of any of the nine classes of the competition (RobinX, ITC 2021), ready for evaluation.
 #[derive(Drop)]
 pub enum AnyRule {
     Ca1(Ca1),
     Ca2(Ca2),
+    Ca3(Ca3),
+    Ca4(Ca4),
     Ga1(Ga1),
+    Br1(Br1),
+    Br2(Br2),
+    Fa2(Fa2),
+    Se1(Se1),
 }
 
 impl AnyRule {
@@ -35,41 +44,58 @@ impl AnyRule {
         Ok(match &constraint.class {
             Class::Ca1 { .. } => AnyRule::Ca1(Ca1::new(alloc, n, constraint)?),
             Class::Ca2 { .. } => AnyRule::Ca2(Ca2::new(alloc, n, constraint)?),
+            Class::Ca3 { .. } => AnyRule::Ca3(Ca3::new(alloc, n, constraint)?),
+            Class::Ca4 { .. } => AnyRule::Ca4(Ca4::new(alloc, n, constraint)?),
             Class::Ga1 { .. } => AnyRule::Ga1(Ga1::new(alloc, n, constraint)?),
-            _ => return Err(AllocError),
+            Class::Br1 { .. } => AnyRule::Br1(Br1::new(alloc, n, constraint)?),
+            Class::Br2 { .. } => AnyRule::Br2(Br2::new(alloc, n, constraint)?),
+            Class::Fa2 { .. } => AnyRule::Fa2(Fa2::new(alloc, n, constraint)?),
+            Class::Se1 { .. } => AnyRule::Se1(Se1::new(alloc, n, constraint)?),
         })
     }
 }
 
 impl Entries for AnyRule {
-    ghost use Rattle.deviation.specs.declared.any_rule.AnyRule.TheVariants.{Ca1, Ca2, Ga1};
+    ghost use Rattle.deviation.specs.declared.any_rule.AnyRule.TheVariants.{Ca1, Ca2, Ca3, Ca4, Ga1, Br1, Br2, Fa2, Se1};
     ghost use Rattle.capacity.specs.contracts.ca1.Ca1Entries.TheImpl.Laws as ca1_laws;
     ghost use Rattle.capacity.specs.contracts.ca2.Ca2Entries.TheImpl.Laws as ca2_laws;
+    ghost use Rattle.capacity.specs.contracts.ca3.Ca3Entries.TheImpl.Laws as ca3_laws;
+    ghost use Rattle.capacity.specs.contracts.ca4.Ca4Entries.TheImpl.Laws as ca4_laws;
     ghost use Rattle.games.specs.contracts.ga1.Ga1Entries.TheImpl.Laws as ga1_laws;
+    ghost use Rattle.breaks.specs.contracts.br1.Br1Entries.TheImpl.Laws as br1_laws;
+    ghost use Rattle.breaks.specs.contracts.br2.Br2Entries.TheImpl.Laws as br2_laws;
+    ghost use Rattle.fairness.specs.contracts.fa2.Fa2Entries.TheImpl.Laws as fa2_laws;
+    ghost use Rattle.separation.specs.contracts.se1.Se1Entries.TheImpl.Laws as se1_laws;
 
-    ghost team_count = { elim [ Ca1 r ↦ ⟦<Ca1 as Entries>⟧.team_count r | Ca2 r ↦ ⟦<Ca2 as Entries>⟧.team_count r | Ga1 r ↦ ⟦<Ga1 as Entries>⟧.team_count r ] };
+    ghost team_count = { elim [ Ca1 r ↦ ⟦<Ca1 as Entries>⟧.team_count r | Ca2 r ↦ ⟦<Ca2 as Entries>⟧.team_count r | Ca3 r ↦ ⟦<Ca3 as Entries>⟧.team_count r | Ca4 r ↦ ⟦<Ca4 as Entries>⟧.team_count r | Ga1 r ↦ ⟦<Ga1 as Entries>⟧.team_count r | Br1 r ↦ ⟦<Br1 as Entries>⟧.team_count r | Br2 r ↦ ⟦<Br2 as Entries>⟧.team_count r | Fa2 r ↦ ⟦<Fa2 as Entries>⟧.team_count r | Se1 r ↦ ⟦<Se1 as Entries>⟧.team_count r ] };
 
-    ghost term_count = { elim [ Ca1 r ↦ ⟦<Ca1 as Entries>⟧.term_count r | Ca2 r ↦ ⟦<Ca2 as Entries>⟧.term_count r | Ga1 r ↦ ⟦<Ga1 as Entries>⟧.term_count r ] };
+    ghost term_count = { elim [ Ca1 r ↦ ⟦<Ca1 as Entries>⟧.term_count r | Ca2 r ↦ ⟦<Ca2 as Entries>⟧.term_count r | Ca3 r ↦ ⟦<Ca3 as Entries>⟧.term_count r | Ca4 r ↦ ⟦<Ca4 as Entries>⟧.term_count r | Ga1 r ↦ ⟦<Ga1 as Entries>⟧.term_count r | Br1 r ↦ ⟦<Br1 as Entries>⟧.term_count r | Br2 r ↦ ⟦<Br2 as Entries>⟧.term_count r | Fa2 r ↦ ⟦<Fa2 as Entries>⟧.term_count r | Se1 r ↦ ⟦<Se1 as Entries>⟧.term_count r ] };
 
-    ghost reach_of = { elim [ Ca1 r ↦ ⟦<Ca1 as Entries>⟧.reach_of r | Ca2 r ↦ ⟦<Ca2 as Entries>⟧.reach_of r | Ga1 r ↦ ⟦<Ga1 as Entries>⟧.reach_of r ] };
+    ghost reach_of = { elim [ Ca1 r ↦ ⟦<Ca1 as Entries>⟧.reach_of r | Ca2 r ↦ ⟦<Ca2 as Entries>⟧.reach_of r | Ca3 r ↦ ⟦<Ca3 as Entries>⟧.reach_of r | Ca4 r ↦ ⟦<Ca4 as Entries>⟧.reach_of r | Ga1 r ↦ ⟦<Ga1 as Entries>⟧.reach_of r | Br1 r ↦ ⟦<Br1 as Entries>⟧.reach_of r | Br2 r ↦ ⟦<Br2 as Entries>⟧.reach_of r | Fa2 r ↦ ⟦<Fa2 as Entries>⟧.reach_of r | Se1 r ↦ ⟦<Se1 as Entries>⟧.reach_of r ] };
 
-    ghost entry = { elim [ Ca1 r ↦ ⟦<Ca1 as Entries>⟧.entry r | Ca2 r ↦ ⟦<Ca2 as Entries>⟧.entry r | Ga1 r ↦ ⟦<Ga1 as Entries>⟧.entry r ] };
+    ghost entry = { elim [ Ca1 r ↦ ⟦<Ca1 as Entries>⟧.entry r | Ca2 r ↦ ⟦<Ca2 as Entries>⟧.entry r | Ca3 r ↦ ⟦<Ca3 as Entries>⟧.entry r | Ca4 r ↦ ⟦<Ca4 as Entries>⟧.entry r | Ga1 r ↦ ⟦<Ga1 as Entries>⟧.entry r | Br1 r ↦ ⟦<Br1 as Entries>⟧.entry r | Br2 r ↦ ⟦<Br2 as Entries>⟧.entry r | Fa2 r ↦ ⟦<Fa2 as Entries>⟧.entry r | Se1 r ↦ ⟦<Se1 as Entries>⟧.entry r ] };
 
-    ghost touches = { elim [ Ca1 r ↦ ⟦<Ca1 as Entries>⟧.touches r | Ca2 r ↦ ⟦<Ca2 as Entries>⟧.touches r | Ga1 r ↦ ⟦<Ga1 as Entries>⟧.touches r ] };
+    ghost touches = { elim [ Ca1 r ↦ ⟦<Ca1 as Entries>⟧.touches r | Ca2 r ↦ ⟦<Ca2 as Entries>⟧.touches r | Ca3 r ↦ ⟦<Ca3 as Entries>⟧.touches r | Ca4 r ↦ ⟦<Ca4 as Entries>⟧.touches r | Ga1 r ↦ ⟦<Ga1 as Entries>⟧.touches r | Br1 r ↦ ⟦<Br1 as Entries>⟧.touches r | Br2 r ↦ ⟦<Br2 as Entries>⟧.touches r | Fa2 r ↦ ⟦<Fa2 as Entries>⟧.touches r | Se1 r ↦ ⟦<Se1 as Entries>⟧.touches r ] };
 
-    ghost few = { elim [ Ca1 r ↦ ca1_laws.few-law r | Ca2 r ↦ ca2_laws.few-law r | Ga1 r ↦ ga1_laws.few-law r ] };
+    ghost few = { elim [ Ca1 r ↦ ca1_laws.few-law r | Ca2 r ↦ ca2_laws.few-law r | Ca3 r ↦ ca3_laws.few-law r | Ca4 r ↦ ca4_laws.few-law r | Ga1 r ↦ ga1_laws.few-law r | Br1 r ↦ br1_laws.few-law r | Br2 r ↦ br2_laws.few-law r | Fa2 r ↦ fa2_laws.few-law r | Se1 r ↦ se1_laws.few-law r ] };
 
-    ghost below = { elim [ Ca1 r ↦ ca1_laws.below-law r | Ca2 r ↦ ca2_laws.below-law r | Ga1 r ↦ ga1_laws.below-law r ] };
+    ghost below = { elim [ Ca1 r ↦ ca1_laws.below-law r | Ca2 r ↦ ca2_laws.below-law r | Ca3 r ↦ ca3_laws.below-law r | Ca4 r ↦ ca4_laws.below-law r | Ga1 r ↦ ga1_laws.below-law r | Br1 r ↦ br1_laws.below-law r | Br2 r ↦ br2_laws.below-law r | Fa2 r ↦ fa2_laws.below-law r | Se1 r ↦ se1_laws.below-law r ] };
 
-    ghost ascending = { elim [ Ca1 r ↦ ca1_laws.ascending-law r | Ca2 r ↦ ca2_laws.ascending-law r | Ga1 r ↦ ga1_laws.ascending-law r ] };
+    ghost ascending = { elim [ Ca1 r ↦ ca1_laws.ascending-law r | Ca2 r ↦ ca2_laws.ascending-law r | Ca3 r ↦ ca3_laws.ascending-law r | Ca4 r ↦ ca4_laws.ascending-law r | Ga1 r ↦ ga1_laws.ascending-law r | Br1 r ↦ br1_laws.ascending-law r | Br2 r ↦ br2_laws.ascending-law r | Fa2 r ↦ fa2_laws.ascending-law r | Se1 r ↦ se1_laws.ascending-law r ] };
 
-    ghost frame = { elim [ Ca1 r ↦ ca1_laws.frame-law r | Ca2 r ↦ ca2_laws.frame-law r | Ga1 r ↦ ga1_laws.frame-law r ] };
+    ghost frame = { elim [ Ca1 r ↦ ca1_laws.frame-law r | Ca2 r ↦ ca2_laws.frame-law r | Ca3 r ↦ ca3_laws.frame-law r | Ca4 r ↦ ca4_laws.frame-law r | Ga1 r ↦ ga1_laws.frame-law r | Br1 r ↦ br1_laws.frame-law r | Br2 r ↦ br2_laws.frame-law r | Fa2 r ↦ fa2_laws.frame-law r | Se1 r ↦ se1_laws.frame-law r ] };
 
     fn teams(&self) -> u16 {
         match self {
             AnyRule::Ca1(rule) => rule.teams(),
             AnyRule::Ca2(rule) => rule.teams(),
+            AnyRule::Ca3(rule) => rule.teams(),
+            AnyRule::Ca4(rule) => rule.teams(),
             AnyRule::Ga1(rule) => rule.teams(),
+            AnyRule::Br1(rule) => rule.teams(),
+            AnyRule::Br2(rule) => rule.teams(),
+            AnyRule::Fa2(rule) => rule.teams(),
+            AnyRule::Se1(rule) => rule.teams(),
         }
     }
 
@@ -77,7 +103,13 @@ impl Entries for AnyRule {
         match self {
             AnyRule::Ca1(rule) => rule.terms(),
             AnyRule::Ca2(rule) => rule.terms(),
+            AnyRule::Ca3(rule) => rule.terms(),
+            AnyRule::Ca4(rule) => rule.terms(),
             AnyRule::Ga1(rule) => rule.terms(),
+            AnyRule::Br1(rule) => rule.terms(),
+            AnyRule::Br2(rule) => rule.terms(),
+            AnyRule::Fa2(rule) => rule.terms(),
+            AnyRule::Se1(rule) => rule.terms(),
         }
     }
 
@@ -85,7 +117,13 @@ impl Entries for AnyRule {
         match self {
             AnyRule::Ca1(rule) => rule.reach(),
             AnyRule::Ca2(rule) => rule.reach(),
+            AnyRule::Ca3(rule) => rule.reach(),
+            AnyRule::Ca4(rule) => rule.reach(),
             AnyRule::Ga1(rule) => rule.reach(),
+            AnyRule::Br1(rule) => rule.reach(),
+            AnyRule::Br2(rule) => rule.reach(),
+            AnyRule::Fa2(rule) => rule.reach(),
+            AnyRule::Se1(rule) => rule.reach(),
         }
     }
 
@@ -93,7 +131,13 @@ impl Entries for AnyRule {
         match self {
             AnyRule::Ca1(rule) => rule.touched(game, keys),
             AnyRule::Ca2(rule) => rule.touched(game, keys),
+            AnyRule::Ca3(rule) => rule.touched(game, keys),
+            AnyRule::Ca4(rule) => rule.touched(game, keys),
             AnyRule::Ga1(rule) => rule.touched(game, keys),
+            AnyRule::Br1(rule) => rule.touched(game, keys),
+            AnyRule::Br2(rule) => rule.touched(game, keys),
+            AnyRule::Fa2(rule) => rule.touched(game, keys),
+            AnyRule::Se1(rule) => rule.touched(game, keys),
         }
     }
 }
@@ -103,7 +147,13 @@ impl<L> Rule<L> for AnyRule {
         match self {
             AnyRule::Ca1(rule) => rule.term(key, cells, steps),
             AnyRule::Ca2(rule) => rule.term(key, cells, steps),
+            AnyRule::Ca3(rule) => rule.term(key, cells, steps),
+            AnyRule::Ca4(rule) => rule.term(key, cells, steps),
             AnyRule::Ga1(rule) => rule.term(key, cells, steps),
+            AnyRule::Br1(rule) => rule.term(key, cells, steps),
+            AnyRule::Br2(rule) => rule.term(key, cells, steps),
+            AnyRule::Fa2(rule) => rule.term(key, cells, steps),
+            AnyRule::Se1(rule) => rule.term(key, cells, steps),
         }
     }
 }
