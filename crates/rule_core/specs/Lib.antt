@@ -5,5 +5,6 @@ pub mod Rows
 pub mod Table
 pub mod Keys
 pub mod Places
+pub mod Meetings
 -- What the tables of the counts keep:
 pub mod Tables

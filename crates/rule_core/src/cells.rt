@@ -141,7 +141,7 @@ impl Cells {
 }
 
 /// The row of the counts of a home team's games with an away team.
-fn row_of(n: u16, home: TeamId, away: TeamId) -> usize
+pub(crate) fn row_of(n: u16, home: TeamId, away: TeamId) -> usize
     ensures { result ≡ home.0 * n + away.0 }
 {
     home.0 as usize * n as usize + away.0 as usize

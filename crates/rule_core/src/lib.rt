@@ -7,12 +7,14 @@
 mod cells;
 mod counters;
 mod keys;
+mod meetings;
 mod places;
 mod rule;
 mod steps;
 
 pub use cells::Cells;
 pub use keys::Keys;
+pub use meetings::Meetings;
 pub use places::Places;
 pub use rule::{Entries, Rule};
 pub use steps::{Plain, Steps};
