@@ -362,29 +362,32 @@ fn a_byte_order_mark_and_other_quotes(rt: HostRuntime) -> Result<(), Fail> {
 }
 
 #[test]
-fn a_class_that_is_not_judged_yet(rt: HostRuntime) -> Result<(), Fail> {
+fn constraints_of_three_classes(rt: HostRuntime) -> Result<(), Fail> {
     let soft =
         "<BasicConstraints/>\n<CapacityConstraints>\n<CA1 max=\"0\" min=\"0\" mode=\"H\" penalty=\"10\" slots=\"2;3\" teams=\"0\" type=\"SOFT\"/>\n</CapacityConstraints>\n";
     let others =
         "<FairnessConstraints>\n<FA2 intp=\"1\" mode=\"H\" penalty=\"10\" slots=\"0;1;2;3;4;5\" teams=\"0;1;2;3\" type=\"SOFT\"/>\n</FairnessConstraints>\n<SeparationConstraints>\n<SE1 min=\"2\" mode1=\"SLOTS\" penalty=\"10\" teams=\"0;1;2;3\" type=\"HARD\"/>\n</SeparationConstraints>\n";
-    let league = [FOUR_PHASED, soft, others, NO_CONSTRAINTS];
-    let alloc = rt.alloc();
     judged(
         &rt,
-        alloc,
-        &league,
+        rt.alloc(),
+        &[FOUR_PHASED, soft, others, NO_CONSTRAINTS],
         &[GAMES, ELEVEN, LAST, NO_MORE_GAMES],
-        Status::File,
-        "refused constraint 2 Unbuilt\n",
-    )?;
-    // The solution's form is looked at first.
+        Status::Yes,
+        "teams 4\nslots 6\nmode P\ngames 12\nstructure pairs 0 cells 0 phases 0\nconstraint 1 CA1 SOFT penalty 10 sum 2 entries 2\nconstraint 2 FA2 SOFT penalty 10 sum 1 entries 1 0 0 0 0 0\nconstraint 3 SE1 HARD penalty 10 sum 0 entries 0 0 0 0 0 0\ninfeasibility 0\nobjective 30\nfeasible yes\n",
+    )
+}
+
+#[test]
+fn a_hard_constraint_of_penalty_0(rt: HostRuntime) -> Result<(), Fail> {
+    let hard =
+        "<GameConstraints>\n<GA1 meetings=\"0,1;\" min=\"1\" max=\"1\" slots=\"0\" type=\"HARD\" penalty=\"0\"/>\n</GameConstraints>\n";
     judged(
         &rt,
-        alloc,
-        &league,
-        &[GAMES],
-        Status::File,
-        "refused solution Truncated line 4\n",
+        rt.alloc(),
+        &[FOUR_PHASED, hard, NO_CONSTRAINTS],
+        &[GAMES, ELEVEN, LAST, NO_MORE_GAMES],
+        Status::No,
+        "teams 4\nslots 6\nmode P\ngames 12\nstructure pairs 0 cells 0 phases 0\nconstraint 1 GA1 HARD penalty 0 sum 1 entries 1\ninfeasibility 0\nobjective 0\nfeasible no\n",
     )
 }
 
