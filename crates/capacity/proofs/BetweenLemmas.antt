@@ -50,8 +50,8 @@ grown-with q i k old now next so_far differ passes is =
     ∙ ap (λ (ps : List (ℕ × ℕ)). ps ++ (i, k) ∷ []) so_far
     ∙ append_assoc old (meetings_before q i k) ((i, k) ∷ [])
     ∙ ap (λ (ps : List (ℕ × ℕ)). old ++ ps) (ap (λ (b : Bool). meetings_before q i k ++ cond b ((i, k) ∷ []) []) (sym (both k i (q (i, k)) differ passes)) ∙ sym (meetings_before-more q i k)) where
-  both : (a b : ℕ) (c : Bool) → a ≢ b → c ≡ true → (not (a == b) && c) ≡ true
-  both a b c differ passes = grind (arith, nat_tests)
+      both : (a b : ℕ) (c : Bool) → a ≢ b → c ≡ true → (not (a == b) && c) ≡ true
+      both a b c differ passes = grind (arith, nat_tests)
 
 -- and without it
 pub grown-without : (q : ℕ × ℕ → Bool) (i k : ℕ) (old now : List (ℕ × ℕ)) → now ≡ old ++ meetings_before q i k → (not (k == i) && q (i, k)) ≡ false → now ≡ old ++ meetings_before q i (k + 1)

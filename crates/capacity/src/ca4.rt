@@ -163,7 +163,9 @@ impl Entries for Ca4 {
 impl<L> Rule<L> for Ca4 {
     fn term(&self, key: usize, cells: &Cells, steps: &mut Steps<L>) -> u64 {
         steps.tick();
-        self.meetings.games(cells, self.slots_at(key)).saturating_sub(self.max as u64)
+        self.meetings
+            .games(cells, self.slots_at(key))
+            .saturating_sub(self.max as u64)
     }
 }
 

@@ -117,13 +117,13 @@ length-meetings n xs at_most ascending teams =
     let at : (k : ℕ) (d : ℕ) → k < length xs → get_or (map place xs) k d ≡ place (get_or xs k (0, 0)) = λ k d lt. get_or-map place xs k (0, 0) d lt in
     let long : length (map place xs) ≡ length xs = length-map xs place in
     let below : All (λ x. x < n * n) (map place xs) = λ k d lt.
-        let within : k < length xs = omega arith in
-        let in_league = teams k (0, 0) within in
-        omega (arith, at k d within, mul-add-lt (get_or xs k (0, 0)).0 n (get_or xs k (0, 0)).1 n in_league.0 in_league.1) in
+    let within : k < length xs = omega arith in
+    let in_league = teams k (0, 0) within in
+    omega (arith, at k d within, mul-add-lt (get_or xs k (0, 0)).0 n (get_or xs k (0, 0)).1 n in_league.0 in_league.1) in
     let rising : IsAscending nat_cmp (map place xs) = λ i j d before lt.
-        let last : j < length xs = omega arith in
-        let first : i < length xs = omega arith in
-        ap (λ (a : ℕ). nat_cmp a (get_or (map place xs) j d)) (at i d first)
-        ∙ ap (λ (b : ℕ). nat_cmp (place (get_or xs i (0, 0))) b) (at j d last)
-        ∙ earlier_place n (get_or xs i (0, 0)) (get_or xs j (0, 0)) (teams i (0, 0) first).1 (ascending i j (0, 0) before last) in
+    let last : j < length xs = omega arith in
+    let first : i < length xs = omega arith in
+    ap (λ (a : ℕ). nat_cmp a (get_or (map place xs) j d)) (at i d first)
+    ∙ ap (λ (b : ℕ). nat_cmp (place (get_or xs i (0, 0))) b) (at j d last)
+    ∙ earlier_place n (get_or xs i (0, 0)) (get_or xs j (0, 0)) (teams i (0, 0) first).1 (ascending i j (0, 0) before last) in
     omega (arith, length-ascending (map place xs) (n * n) rising below, mul-le n n 40 40 at_most at_most)

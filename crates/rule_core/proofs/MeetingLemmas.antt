@@ -96,8 +96,8 @@ pub is_listed-lacks : (meetings : List (ℕ × ℕ)) (p : ℕ × ℕ) → is_lis
 is_listed-lacks meetings p out k d lt same =
     let at : is_listed meetings p.0 p.1 ≡ true = list_any-from_Any (λ q. (q.0 == p.0) && (q.1 == p.1)) meetings (k, p, lt, get_or_default meetings k p d lt ∙ same, itself p.0 p.1) in
     absurd (cc) where
-  itself : (a b : ℕ) → ((a == a) && (b == b)) ≡ true
-  itself a b = grind (arith, nat_tests)
+      itself : (a b : ℕ) → ((a == a) && (b == b)) ≡ true
+      itself a b = grind (arith, nat_tests)
 
 -- a game that isn't both of one of the meetings and in one of the slots
 pub games_of-unlisted : (m : Counts) (g : Game) (meetings : List (ℕ × ℕ)) (slots : List ℕ) → (is_listed meetings g.home.0 g.away.0 && is_in g.slot.0 slots) ≡ false → games_of (one_more m g) meetings slots ≡ games_of m meetings slots
@@ -106,9 +106,9 @@ games_of-unlisted m g meetings slots out =
       | inl unlisted ↦ games_of-other_meeting m g meetings slots (is_listed-lacks meetings (g.home.0, g.away.0) unlisted)
       | inr elsewhere ↦ games_of-elsewhere m g meetings slots (is_in-lacks g.slot.0 slots elsewhere)
     ] where
-  one_fails : (a b : Bool) → (a && b) ≡ false → (a ≡ false) ⊎ (b ≡ false)
-  one_fails true b h = inr h
-  one_fails false b h = inl refl
+      one_fails : (a b : Bool) → (a && b) ≡ false → (a ≡ false) ⊎ (b ≡ false)
+      one_fails true b h = inr h
+      one_fails false b h = inl refl
 
 -- a number has a place exactly where it is one of these
 pub stands-is_in : (xs places : List ℕ) (t : ℕ) → ArePlaces (length xs) xs places → stands places t ≡ is_in t xs
@@ -120,8 +120,8 @@ stands-is_in xs places t are =
           at ∙ sym (is_in-yes t xs (get_or places t 0 - 1) (omega arith) (are.here t more))
       | inr out ↦ out ∙ sym (is_in-no t xs (stands-no xs places t are out))
     ] where
-  above_0 : (x : ℕ) → nat_lt 0 x ≡ true → 0 < x
-  above_0 x h = grind (arith, nat_tests)
+      above_0 : (x : ℕ) → nat_lt 0 x ≡ true → 0 < x
+      above_0 x h = grind (arith, nat_tests)
 
 -- a team's meetings at home, and away, where the game's home team or away team isn't theirs
 home_meetings-apart : (i : ℕ) (teams : List ℕ) (h a : ℕ) → ((i ≢ h) ⊎ All (λ t. t ≢ a) teams) → All {X = ℕ × ℕ} (λ p. p ≢ (h, a)) (map (λ j. (i, j)) (others i teams))

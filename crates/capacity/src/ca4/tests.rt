@@ -40,7 +40,15 @@ fn rule_of(
 fn two_games_together(rt: HostRuntime) -> Result<(), Fail> {
     let alloc = rt.alloc();
     let both: (&[u16], &[u16]) = (&[0, 1], &[0, 1]);
-    let rule = rule_of(&rt, alloc, both, 1, Side::Both, Span::Global, &[0, 1, 2, 3, 4, 5])?;
+    let rule = rule_of(
+        &rt,
+        alloc,
+        both,
+        1,
+        Side::Both,
+        Span::Global,
+        &[0, 1, 2, 3, 4, 5],
+    )?;
     assert_eq!(rt; rule.terms(), 1);
     let cells = four(&rt, alloc)?;
     assert_eq!(rt; rule.term(0, &cells, &mut Steps::<Plain>::start()), 1);
@@ -51,7 +59,15 @@ fn two_games_together(rt: HostRuntime) -> Result<(), Fail> {
 fn one_game_in_each_of_two_slots(rt: HostRuntime) -> Result<(), Fail> {
     let alloc = rt.alloc();
     let both: (&[u16], &[u16]) = (&[0, 1], &[0, 1]);
-    let rule = rule_of(&rt, alloc, both, 0, Side::Both, Span::Every, &[0, 1, 2, 3, 4, 5])?;
+    let rule = rule_of(
+        &rt,
+        alloc,
+        both,
+        0,
+        Side::Both,
+        Span::Every,
+        &[0, 1, 2, 3, 4, 5],
+    )?;
     assert_eq!(rt; rule.terms(), 6);
     let cells = four(&rt, alloc)?;
     let mut steps = Steps::<Plain>::start();
