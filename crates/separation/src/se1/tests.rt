@@ -9,7 +9,6 @@ use std::process::Abort;
 use std::test::Fail;
 
 /// The rule of these teams in a league of four.
-#[tactic(none)]
 fn rule_of(rt: &impl Abort, alloc: Global, numbers: &[u16], min: u32) -> Result<Se1, Fail>
     ensures teams { IfOk result (λ rule. ⟦<Se1 as Entries>⟧.team_count rule ≡ 4) }
     ensures reach { IfOk result (λ rule. ⟦<Se1 as Entries>⟧.reach_of rule ≡ 1) }
