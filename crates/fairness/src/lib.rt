@@ -1,13 +1,10 @@
-// A library with one function.
+//! The fairness constraint: at no time have two teams played very different numbers of home games.
+//!
+//! The class is made from a constraint, and is then a `Rule` for every ledger. Its entries are those of the constraint's
+//! deviation vector, as `league` defines it.
 #![tactic(auto)]
 
-ghost use Rattle.std.specs.Prelude.{◌≡◌};
-ghost use Rattle.fairness.specs.Echo.{echo_of};
+mod fa2;
+mod leads;
 
-// The `ensures` clause is the contract: what `echo` returns is `echo_of` of its argument, a definition
-// in `specs/Echo.antt`, which a caller's clause can cite too.
-pub fn echo(x: usize) -> usize
-    ensures { result ≡ echo_of x }
-{
-    x
-}
+pub use fa2::Fa2;

@@ -8,3 +8,6 @@ mod gaps;
 mod se1;
 
 pub use se1::Se1;
+
+#[cfg(test)]
+mod tests;

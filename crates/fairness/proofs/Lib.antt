@@ -1,0 +1,2 @@
+pub mod LeadLemmas
+pub mod TermLemmas
