@@ -10,7 +10,6 @@ pub mod DraftLemmas
 pub mod KeptLemmas
 pub mod SeasonLemmas
 pub mod GamesLemmas
-pub mod FileLemmas
 -- Worked examples, so that a wrong definition does not check:
 mod FileTexts
 mod TextFacts
