@@ -1,5 +1,5 @@
 -- The laws of BR1: its keys, and which entries a game leaves as they are.
-use Rattle.std.proofs.Common.{◌≡◌, ◌≢◌, ℕ, ◌<◌, ◌≤◌, if◌then◌else◌, List, [], length, get_or, arith, sym, ◌∙◌, Contains}
+use Rattle.std.proofs.Common.{◌≡◌, ◌≢◌, ℕ, ◌<◌, ◌≤◌, List, [], length, get_or, arith, sym, ◌∙◌, Contains}
 use Rattle.std.proofs.lemmas.Bool.{cond_both}
 use Rattle.std.proofs.lemmas.List.{get_or-map}
 use Rattle.std.specs.List.{All}
@@ -11,7 +11,7 @@ use Rattle.league.specs.Instance.{IsGame}
 use Rattle.league.specs.declared.game.Game.{Game}
 use Rattle.league.specs.declared.class.Side.{Side}
 use Rattle.league.specs.declared.class.Side.TheVariants.{H, A, Both}
-use Rattle.rule_core.specs.Places.{ArePlaces, stands}
+use Rattle.rule_core.specs.Places.{ArePlaces}
 use Rattle.rule_core.proofs.BreakLemmas.{br1_entry-same, breaks_at-not_at_home, breaks_at-not_away, breaks_at-not_there}
 use Rattle.rule_core.proofs.PlaceLemmas.{ascending-few, key_of-ascending, key_of-below, key_of-few, key_of-lacks, keys_of-ascending, keys_of-below, keys_of-few, keys_of-lacks}
 use Rattle.breaks.specs.Classes.{class_of_br1}

@@ -1,5 +1,5 @@
 -- The laws of BR2: its one key, and which games leave its entry as it is.
-use Rattle.std.proofs.Common.{◌≡◌, ◌≢◌, ℕ, ◌<◌, ◌≤◌, zero, suc, Bool, true, false, ◌&&◌, ◌||◌, if◌then◌else◌, List, [], ◌∷◌, length, get_or, refl, arith, sym, ◌∙◌, inl, inr, Contains}
+use Rattle.std.proofs.Common.{◌≡◌, ℕ, ◌<◌, ◌≤◌, zero, suc, Bool, false, ◌&&◌, ◌||◌, List, [], ◌∷◌, length, get_or, refl, arith, sym, ◌∙◌, inl, inr, Contains}
 use Rattle.std.proofs.lemmas.Bool.{and_cases, cond_both, or_parts}
 use Rattle.std.specs.List.{All}
 use Rattle.std.specs.List.Sorted.{IsStrictlyIncreasing}

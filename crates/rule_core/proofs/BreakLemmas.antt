@@ -1,11 +1,11 @@
 -- What one game more changes of the breaks that a definition counts.
-use Rattle.std.proofs.Common.{◌≡◌, ◌≢◌, ℕ, ◌+◌, ◌-◌, ◌<◌, ◌≤◌, Bool, true, false, ◌&&◌, nat_lt, if◌then◌else◌, List, get_or, refl, arith, ap, ◌∙◌}
+use Rattle.std.proofs.Common.{◌≡◌, ◌≢◌, ℕ, ◌+◌, ◌-◌, ◌≤◌, Bool, ◌&&◌, nat_lt, List, get_or, arith, ap, ◌∙◌}
 use Rattle.std.specs.List.{All, sum_by}
 use Rattle.league.specs.Bounds.{excess}
 use Rattle.league.specs.Breaks.{br1_entry, br2_entry, breaks_at, is_away_break, is_home_break, twice_in_a_row}
 use Rattle.league.specs.Counts.{Counts, one_more}
 use Rattle.league.specs.Instance.{IsGame}
-use Rattle.league.specs.Venues.{away_games, home_games, on_side}
+use Rattle.league.specs.Venues.{away_games, home_games}
 use Rattle.league.specs.declared.game.Game.{Game}
 use Rattle.league.specs.declared.class.Side.{Side}
 use Rattle.league.specs.declared.class.Side.TheVariants.{H, A, Both}
