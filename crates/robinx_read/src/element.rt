@@ -8,7 +8,7 @@ use robinx_tags::FormKind;
 
 /// The nine classes of constraints of the International Timetabling Competition 2021.
 #[derive(Clone, Copy)]
-pub(crate) enum ClassName {
+pub enum ClassName {
     Ca1,
     Ca2,
     Ca3,
@@ -22,7 +22,7 @@ pub(crate) enum ClassName {
 
 /// The six groups that classes stand in. Which class stands in which isn't looked at.
 #[derive(Clone, Copy)]
-pub(crate) enum GroupName {
+pub enum GroupName {
     Basic,
     Capacity,
     Game,
@@ -33,7 +33,7 @@ pub(crate) enum GroupName {
 
 /// An element that is read. The two kinds of files stand around their roots.
 #[derive(Clone, Copy)]
-pub(crate) enum Element {
+pub enum Element {
     InstanceFile,
     SolutionFile,
     Instance,
@@ -57,7 +57,7 @@ pub(crate) enum Element {
 
 /// How often an element may stand in another.
 #[derive(Clone, Copy)]
-pub(crate) enum Times {
+pub enum Times {
     Once,
     AtMostOnce,
     Any,
@@ -65,7 +65,7 @@ pub(crate) enum Times {
 
 /// An element that may stand in another, and how often.
 #[derive(Clone, Copy)]
-pub(crate) struct Row {
+pub struct Row {
     pub element: Element,
     pub times: Times,
 }
