@@ -139,3 +139,6 @@ fn has_from(slots: &[u16], slot: u16) -> bool
     }
 }
 
+
+#[cfg(test)]
+mod tests;

@@ -8,3 +8,6 @@ mod fa2;
 mod leads;
 
 pub use fa2::Fa2;
+
+#[cfg(test)]
+mod tests;
