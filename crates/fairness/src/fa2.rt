@@ -49,13 +49,7 @@ impl Fa2 {
     }
 
     /// The rule of these teams and slots.
-    fn of(
-        alloc: Global,
-        n: u16,
-        teams: &[u16],
-        intp: u32,
-        slots: &[u16],
-    ) -> Result<Fa2, AllocError>
+    fn of(alloc: Global, n: u16, teams: &[u16], intp: u32, slots: &[u16]) -> Result<Fa2, AllocError>
         requires at_most { n ≤ 40 }
         requires teams_ascending { IsAscending nat_cmp teams.now }
         requires teams_below { All (λ t. t < n) teams.now }
@@ -138,7 +132,6 @@ fn has_from(slots: &[u16], slot: u16) -> bool
         None => false,
     }
 }
-
 
 #[cfg(test)]
 mod tests;

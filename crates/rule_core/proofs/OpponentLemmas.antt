@@ -109,10 +109,11 @@ between-elsewhere m Both g i s j differ = omega (arith, one_more-other_slot m g 
 sum_by-range_append : (f : ℕ → ℕ) (a k l : ℕ) → sum_by f (range_with_len a (k + l)) ≡ sum_by f (range_with_len a k) + sum_by f (range_with_len (a + k) l)
 sum_by-range_append f a zero l = omega (arith, ap (λ (x : ℕ). sum_by f (range_with_len a x)) (zero_left l), ap (λ (x : ℕ). sum_by f (range_with_len x l)) (right_zero a))
   where
-  zero_left : (x : ℕ) → 0 + x ≡ x
-  zero_left x = omega arith
-  right_zero : (x : ℕ) → x + 0 ≡ x
-  right_zero x = omega arith
+    zero_left : (x : ℕ) → 0 + x ≡ x
+    zero_left x = omega arith
+
+    right_zero : (x : ℕ) → x + 0 ≡ x
+    right_zero x = omega arith
 sum_by-range_append f a (suc k) l =
     let longer : suc k + l ≡ suc (k + l) = omega arith in
     let further : a + 1 + k ≡ a + suc k = omega arith in
@@ -137,5 +138,5 @@ games_of-window m meetings first intp =
       ap (λ (x : ℕ). sum_by f (range_with_len x intp)) (from_zero first),
     )
   where
-  from_zero : (x : ℕ) → 0 + x ≡ x
-  from_zero x = omega arith
+    from_zero : (x : ℕ) → 0 + x ≡ x
+    from_zero x = omega arith

@@ -176,9 +176,9 @@ found t (v ∷ teams) =
     elim (cases_eq v t) [
       | inl same ↦ inl (0, omega arith, same)
       | inr differ ↦ elim (found t teams) [
-          | inl at ↦ inl (suc at.0, omega (arith, at.1), at.2)
-          | inr none ↦ inr (All-cons (λ x. x ≢ t) v teams differ none)
-        ]
+        | inl at ↦ inl (suc at.0, omega (arith, at.1), at.2)
+        | inr none ↦ inr (All-cons (λ x. x ≢ t) v teams differ none)
+      ]
     ]
 
 -- what holds of any two of the teams holds of the pairs
@@ -255,9 +255,9 @@ few_with start t (v ∷ teams) ascending =
           subst (λ (u : ℕ). places_from start (is_in u) (pairs_of (v ∷ teams)) ≡ range_with_len start (length teams)) same (with_later start v teams ascending) in
           omega (arith, ap (λ (ks : List ℕ). length ks) is, length-range_with_len start (length teams))
       | inr differ ↦ elim (found t teams) [
-          | inl at ↦ omega (arith, ap (λ (ks : List ℕ). length ks) (with_earlier start t v at.0 teams ascending differ at.1 at.2), few_with (start + length teams) t teams (ascending-tail v teams ascending), at.1)
-          | inr none ↦ omega (arith, ap (λ (ks : List ℕ). length ks) (without start t (v ∷ teams) (All-cons (λ x. x ≢ t) v teams differ none)))
-        ]
+        | inl at ↦ omega (arith, ap (λ (ks : List ℕ). length ks) (with_earlier start t v at.0 teams ascending differ at.1 at.2), few_with (start + length teams) t teams (ascending-tail v teams ascending), at.1)
+        | inr none ↦ omega (arith, ap (λ (ks : List ℕ). length ks) (without start t (v ∷ teams) (All-cons (λ x. x ≢ t) v teams differ none)))
+      ]
     ]
 
 pub keys_with-few : (teams : List ℕ) (t : ℕ) → IsAscending nat_cmp teams → length (keys_with teams t) ≤ length teams - 1
@@ -273,7 +273,7 @@ module _ (test : ℕ × ℕ → Bool) (a b : ℕ) (passes : test (a, b) ≡ true
       let test_here : (x : ℕ) → test (t, x) ≡ test (a, x) = λ x. ap (λ (u : ℕ). test (u, x)) is_first in
       let rest : places_from (start + length teams) test (pairs_of teams) ≡ [] =
       places_from-none (start + length teams) test (pairs_of teams)
-          (pairs_of-all (λ x. x ≢ t) (λ p. test p ≡ false) (λ x y first second. no_first x y (λ same. first (same ∙ sym is_first)) (λ same. second (same ∙ sym is_first))) teams (later_differ t teams ascending)) in
+      (pairs_of-all (λ x. x ≢ t) (λ p. test p ≡ false) (λ x y first second. no_first x y (λ same. first (same ∙ sym is_first)) (λ same. second (same ∙ sym is_first))) teams (later_differ t teams ascending)) in
       let place : start + j ≡ start + key_at (t ∷ teams) 0 (suc j) = omega arith in
       split start test t teams
       ∙ ap (λ (ks : List ℕ). places_from start (λ x. test (t, x)) teams ++ ks) rest
@@ -338,15 +338,15 @@ key_between-few teams t u ascending apart =
     elim (found t teams) [
       | inr none ↦ omega (arith, ap (λ (ks : List ℕ). length ks) (key_between-no_first teams t u none))
       | inl at ↦ elim (found u teams) [
-          | inr none ↦ omega (arith, ap (λ (ks : List ℕ). length ks) (key_between-no_second teams t u none))
-          | inl other ↦ elim (cases_lt at.0 other.0) [
-              | inl before ↦ omega (arith, ap (λ (ks : List ℕ). length ks) (key_between-before teams t u at.0 other.0 ascending apart before other.1 at.2 other.2))
-              | inr after ↦ elim (cases_eq at.0 other.0) [
-                  | inl same ↦ absurd (apart (sym at.2 ∙ ap (λ (k : ℕ). get_or teams k 0) same ∙ other.2))
-                  | inr differ ↦ omega (arith, ap (λ (ks : List ℕ). length ks) (key_between-after teams t u at.0 other.0 ascending apart (omega arith) at.1 at.2 other.2))
-                ]
-            ]
+        | inr none ↦ omega (arith, ap (λ (ks : List ℕ). length ks) (key_between-no_second teams t u none))
+        | inl other ↦ elim (cases_lt at.0 other.0) [
+          | inl before ↦ omega (arith, ap (λ (ks : List ℕ). length ks) (key_between-before teams t u at.0 other.0 ascending apart before other.1 at.2 other.2))
+          | inr after ↦ elim (cases_eq at.0 other.0) [
+            | inl same ↦ absurd (apart (sym at.2 ∙ ap (λ (k : ℕ). get_or teams k 0) same ∙ other.2))
+            | inr differ ↦ omega (arith, ap (λ (ks : List ℕ). length ks) (key_between-after teams t u at.0 other.0 ascending apart (omega arith) at.1 at.2 other.2))
+          ]
         ]
+      ]
     ]
 
 -- ---- the loops over the teams

@@ -9,16 +9,16 @@ pub returns-clause-lacking : goal.returns-clause-lacking
 returns-clause-lacking c =
     elim c.match-last.branch [
       | in-Some w ↦ omega (
-          arith,
-          w.before-is,
-          w.saturating_sub-before.ensures,
-          lacking_at-some c.args.min w.in-Some.before c.args.slot c.args.games c.requires.some,
-          ap (λ (o : Option ℕ). lacking c.args.min (option_to_list o ++ replicate c.args.games c.args.slot)) w.in-Some.is,
-        )
+        arith,
+        w.before-is,
+        w.saturating_sub-before.ensures,
+        lacking_at-some c.args.min w.in-Some.before c.args.slot c.args.games c.requires.some,
+        ap (λ (o : Option ℕ). lacking c.args.min (option_to_list o ++ replicate c.args.games c.args.slot)) w.in-Some.is,
+      )
       | in-None w ↦ omega (
-          arith,
-          w.before-is,
-          lacking_at-none c.args.min c.args.slot c.args.games c.requires.some,
-          ap (λ (o : Option ℕ). lacking c.args.min (option_to_list o ++ replicate c.args.games c.args.slot)) w.in-None.is,
-        )
+        arith,
+        w.before-is,
+        lacking_at-none c.args.min c.args.slot c.args.games c.requires.some,
+        ap (λ (o : Option ℕ). lacking c.args.min (option_to_list o ++ replicate c.args.games c.args.slot)) w.in-None.is,
+      )
     ]
