@@ -1,5 +1,5 @@
 //! FA2 on the schedule of four teams.
-ghost use Rattle.std.specs.Prelude.{IfOk};
+ghost use Rattle.std.specs.Prelude.{◌≡◌, IfOk};
 
 use super::*;
 use crate::tests::{four, slots, teams};
