@@ -1,16 +1,15 @@
 -- What a team's games against some others add up to, slot by slot and opponent by opponent, and which games don't change them.
-use Rattle.std.proofs.Common.{◌≡◌, ◌≢◌, ℕ, ◌+◌, ◌-◌, ◌<◌, ◌≤◌, zero, suc, Bool, true, false, not, ◌&&◌, ◌==◌, if◌then◌else◌, List, [], ◌∷◌, ◌++◌, map, get_or, cond, refl, arith, ap, sym, ◌∙◌}
+use Rattle.std.proofs.Common.{◌≡◌, ◌≢◌, ℕ, ◌+◌, zero, suc, Bool, true, false, not, ◌==◌, if◌then◌else◌, List, [], ◌∷◌, map, get_or, cond, refl, arith, ap, sym, ◌∙◌, zero-add}
 use Rattle.std.proofs.lemmas.Bool.Decides.{nat_tests}
 use Rattle.std.proofs.lemmas.List.Sums.{sum_by-append, sum_by-cons}
 use Rattle.std.specs.List.{All, range_with_len, sum_by}
 use Rattle.league.specs.Capacity.{meetings_with}
-use Rattle.league.specs.Counts.{Counts, is_game, one_more}
+use Rattle.league.specs.Counts.{Counts, one_more}
 use Rattle.league.specs.Meetings.{games_of, others}
 use Rattle.league.specs.Venues.{on_side}
 use Rattle.league.specs.declared.game.Game.{Game}
 use Rattle.league.specs.declared.class.Side.{Side}
 use Rattle.league.specs.declared.class.Side.TheVariants.{H, A, Both}
-use Rattle.league.proofs.RangeLemmas.{one_if}
 use Rattle.league.proofs.SumLemmas.{sum_by-add, sum_by-filter, sum_by-map, sum_by-same}
 use Rattle.rule_core.proofs.GameLemmas.{sum_by-same_in}
 
@@ -105,15 +104,11 @@ between-elsewhere m H g i s j differ = one_more-other_slot m g i j s differ
 between-elsewhere m A g i s j differ = one_more-other_slot m g j i s differ
 between-elsewhere m Both g i s j differ = omega (arith, one_more-other_slot m g i j s differ, one_more-other_slot m g j i s differ)
 
--- the games in a window are those up to its end, less those before it
+-- a sum over a range, cut in two
 sum_by-range_append : (f : ℕ → ℕ) (a k l : ℕ) → sum_by f (range_with_len a (k + l)) ≡ sum_by f (range_with_len a k) + sum_by f (range_with_len (a + k) l)
-sum_by-range_append f a zero l = omega (arith, ap (λ (x : ℕ). sum_by f (range_with_len a x)) (zero_left l), ap (λ (x : ℕ). sum_by f (range_with_len x l)) (right_zero a))
-  where
-    zero_left : (x : ℕ) → 0 + x ≡ x
-    zero_left x = omega arith
-
-    right_zero : (x : ℕ) → x + 0 ≡ x
-    right_zero x = omega arith
+sum_by-range_append f a zero l =
+    let from_a : a + 0 ≡ a = omega arith in
+    omega (arith, ap (λ (x : ℕ). sum_by f (range_with_len a x)) (zero-add l), ap (λ (x : ℕ). sum_by f (range_with_len x l)) from_a)
 sum_by-range_append f a (suc k) l =
     let longer : suc k + l ≡ suc (k + l) = omega arith in
     let further : a + 1 + k ≡ a + suc k = omega arith in
@@ -126,6 +121,7 @@ sum_by-range_append f a (suc k) l =
       ap (λ (x : ℕ). sum_by f (range_with_len x l)) further,
     )
 
+-- the games before a window's end are those before its first slot and those in it
 pub games_of-window : (m : Counts) (meetings : List (ℕ × ℕ)) (first intp : ℕ) → games_of m meetings (range_with_len 0 (first + intp)) ≡ games_of m meetings (range_with_len 0 first) + games_of m meetings (range_with_len first intp)
 games_of-window m meetings first intp =
     let f : ℕ → ℕ = λ s. games_of m meetings (s ∷ []) in
@@ -135,8 +131,5 @@ games_of-window m meetings first intp =
       games_of-by_slot m meetings (range_with_len 0 first),
       games_of-by_slot m meetings (range_with_len first intp),
       sum_by-range_append f 0 first intp,
-      ap (λ (x : ℕ). sum_by f (range_with_len x intp)) (from_zero first),
+      ap (λ (x : ℕ). sum_by f (range_with_len x intp)) (zero-add first),
     )
-  where
-    from_zero : (x : ℕ) → 0 + x ≡ x
-    from_zero x = omega arith
