@@ -2,6 +2,7 @@
 ghost use Rattle.std.specs.Prelude.{◌≡◌, ◌<◌, ◌≤◌, ◌-◌, ◌*◌};
 ghost use Rattle.std.specs.List.{All, range_with_len, sum_by};
 ghost use Rattle.std.specs.Ordering.{nat_cmp};
+ghost use Rattle.league.specs.Bounds.{difference, excess};
 ghost use Rattle.league.specs.Counts.{slot_count};
 ghost use Rattle.league.specs.Fairness.{fa2_entry};
 ghost use Rattle.league.specs.Sets.{IsAscending};
@@ -36,10 +37,16 @@ pub(crate) fn largest_lead(
         first_played += homes_in(cells, first, next, end);
         second_played += homes_in(cells, second, next, end);
         next = end;
-        let lead = first_played.abs_diff(second_played);
-        most = most.max(lead.saturating_sub(intp as u64));
+        most = most.max(lead(first_played, second_played, intp));
     }
     most
+}
+
+/// The difference of two numbers of games, whichever is larger, beyond a bound.
+fn lead(first: u64, second: u64, intp: u32) -> u64
+    ensures { result ≡ excess (difference first second) intp }
+{
+    first.abs_diff(second).saturating_sub(intp as u64)
 }
 
 /// The home games of a team from a slot on, up to another, which isn't counted.

@@ -24,10 +24,9 @@ loop-slot-preserved c =
     let y : ℕ = c.loop-slot.second_played + c.homes_in-second_played.result in
     let first : x ≡ home_played n m c.args.first.0 slot = played_more (λ s. home_games n m c.args.first.0 s) next (slot + 1) c.loop-slot.first_played c.homes_in-first_played.result le c.loop-slot.invariant.first c.homes_in-first_played.ensures.games in
     let second : y ≡ home_played n m c.args.second.0 slot = played_more (λ s. home_games n m c.args.second.0 s) next (slot + 1) c.loop-slot.second_played c.homes_in-second_played.result le c.loop-slot.invariant.second c.homes_in-second_played.ensures.games in
-    let lead : ℕ → ℕ = λ s. excess (difference (home_played n m c.args.first.0 s) (home_played n m c.args.second.0 s)) c.args.intp in
-    let value : c.saturating_sub.result ≡ lead slot =
-    c.saturating_sub.ensures
-    ∙ ap (λ (d : ℕ). d - c.args.intp) c.abs_diff-lead.ensures
+    let beyond : ℕ → ℕ = λ s. excess (difference (home_played n m c.args.first.0 s) (home_played n m c.args.second.0 s)) c.args.intp in
+    let value : c.lead.result ≡ beyond slot =
+    c.lead.ensures
     ∙ ap (λ (a : ℕ). excess (difference a y) c.args.intp) first
     ∙ ap (λ (b : ℕ). excess (difference (home_played n m c.args.first.0 slot) b) c.args.intp) second in
     record {
@@ -37,5 +36,5 @@ loop-slot-preserved c =
       first_few = omega (arith, c.loop-slot.invariant.first_few, c.homes_in-first_played.ensures.at_most);
       second = second;
       second_few = omega (arith, c.loop-slot.invariant.second_few, c.homes_in-second_played.ensures.at_most);
-      largest_so_far = largest_more lead slots i c.loop-slot.most c.saturating_sub.result c.max-most.result inside c.loop-slot.invariant.largest_so_far value c.max-most.ensures;
+      largest_so_far = largest_more beyond slots i c.loop-slot.most c.lead.result c.max-most.result inside c.loop-slot.invariant.largest_so_far value c.max-most.ensures;
     }
