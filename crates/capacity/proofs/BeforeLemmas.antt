@@ -1,5 +1,5 @@
 -- The games of some meetings before each slot: how the list is made, and what it says of windows.
-use Rattle.std.proofs.Common.{◌≡◌, ◌≢◌, ℕ, ◌+◌, ◌-◌, ◌*◌, ◌<◌, ◌≤◌, zero, suc, List, [], ◌∷◌, length, get_or, replicate, set, refl, arith, ap, sym, ◌∙◌, inl, inr}
+use Rattle.std.proofs.Common.{◌≡◌, ℕ, ◌+◌, ◌-◌, ◌*◌, ◌<◌, ◌≤◌, zero, suc, List, [], ◌∷◌, length, get_or, replicate, set, refl, arith, ap, sym, ◌∙◌, inl, inr}
 use Rattle.std.proofs.lemmas.Bool.{cases_eq}
 use Rattle.std.proofs.lemmas.List.{get_or-set_other, get_or-set_same, length-replicate, length-set}
 use Rattle.std.proofs.lemmas.List.FromFn.{get_or-range_with_len, length-range_with_len}
@@ -74,5 +74,5 @@ ca3_term n m teams1 teams2 max intp side key before slots result inside are_slot
     ∙ sym (sum_by-map (λ (window : List ℕ). ca2_entry m teams2 max side window i) (λ (first : ℕ). range_with_len first intp) (range_with_len 0 count))
     ∙ sym (ca3-by_team n m teams1 teams2 max intp side key inside)
   where
-  window : (n : ℕ) (m : Counts) (meetings : List (ℕ × ℕ)) (max intp : ℕ) (before : List ℕ) → ((t : ℕ) → t ≤ slot_count n → get_or before t 0 ≡ games_of m meetings (range_with_len 0 t)) → (p d first : ℕ) → p < slot_count n + 1 - intp → first ≡ 0 + p → get_or before (first + intp) 0 - (get_or before first 0 + max) ≡ games_of m meetings (range_with_len first intp) - max
-  window n m meetings max intp before games p d first small is = omega (arith, games (first + intp) (omega arith), games first (omega arith), games_of-window m meetings first intp)
+    window : (n : ℕ) (m : Counts) (meetings : List (ℕ × ℕ)) (max intp : ℕ) (before : List ℕ) → ((t : ℕ) → t ≤ slot_count n → get_or before t 0 ≡ games_of m meetings (range_with_len 0 t)) → (p d first : ℕ) → p < slot_count n + 1 - intp → first ≡ 0 + p → get_or before (first + intp) 0 - (get_or before first 0 + max) ≡ games_of m meetings (range_with_len first intp) - max
+    window n m meetings max intp before games p d first small is = omega (arith, games (first + intp) (omega arith), games first (omega arith), games_of-window m meetings first intp)

@@ -1,5 +1,5 @@
 -- The laws of CA2: its keys, and which entries a game leaves as they are.
-use Rattle.std.proofs.Common.{◌≡◌, ◌≢◌, ℕ, ◌-◌, ◌<◌, ◌≤◌, if◌then◌else◌, List, [], length, get_or, arith, ap, sym, ◌∙◌, Contains}
+use Rattle.std.proofs.Common.{◌≡◌, ◌≢◌, ℕ, ◌-◌, ◌<◌, ◌≤◌, List, [], length, get_or, arith, ap, sym, ◌∙◌, Contains}
 use Rattle.std.proofs.lemmas.Bool.{cond_both}
 use Rattle.std.proofs.lemmas.List.{get_or-map}
 use Rattle.std.specs.List.{All}
@@ -7,7 +7,6 @@ use Rattle.std.specs.List.Sorted.{IsStrictlyIncreasing}
 use Rattle.league.specs.Capacity.{ca2_entry}
 use Rattle.league.specs.Counts.{Counts, one_more}
 use Rattle.league.specs.Deviation.{entry_of}
-use Rattle.league.specs.Instance.{IsGame}
 use Rattle.league.specs.declared.game.Game.{Game}
 use Rattle.league.specs.declared.class.Side.{Side}
 use Rattle.rule_core.specs.Places.{stands}
@@ -40,9 +39,9 @@ touches_in-frame n teams1 teams2 places1 places2 are slots slot_places in_season
     let i : ℕ = get_or teams1 k 0 in
     let Same : Type 0 = All (λ s. All (λ j. between (one_more m g) side i s j ≡ between m side i s j) teams2) slots in
     let same : Same = cond_both (stands slot_places g.slot.0) (touches_between side places1 places2 g) [] (λ ks. (Contains ks k → ⊥) → Same)
-        (λ e. λ misses. λ p d lt. touches_between-frame n teams1 teams2 places1 places2 are side g m k (get_or slots p d) inside misses)
-        (λ e. λ misses. λ p d lt. λ q c le. between-elsewhere m side g i (get_or slots p d) (get_or teams2 q c) (stands-no slots slot_places g.slot.0 in_season.placed e p d lt))
-        lacks in
+    (λ e. λ misses. λ p d lt. touches_between-frame n teams1 teams2 places1 places2 are side g m k (get_or slots p d) inside misses)
+    (λ e. λ misses. λ p d lt. λ q c le. between-elsewhere m side g i (get_or slots p d) (get_or teams2 q c) (stands-no slots slot_places g.slot.0 in_season.placed e p d lt))
+    lacks in
     ca2-by_team n (one_more m g) teams1 teams2 max side slots k inside
     ∙ ap (λ (c : ℕ). c - max) (games_of-same (one_more m g) m side i teams2 slots same)
     ∙ sym (ca2-by_team n m teams1 teams2 max side slots k inside)

@@ -55,12 +55,7 @@ impl Ca2 {
     }
 
     /// The rule of these teams, in these slots.
-    fn of(
-        alloc: Global,
-        opponents: Opponents,
-        max: u32,
-        slots: &[u16],
-    ) -> Result<Ca2, AllocError>
+    fn of(alloc: Global, opponents: Opponents, max: u32, slots: &[u16]) -> Result<Ca2, AllocError>
         requires slots_ascending { IsAscending nat_cmp slots.now }
         requires slots_below { All (λ s. s < slot_count opponents.n) slots.now }
         ensures teams { IfOk result (λ rule. ⟦<Ca2 as Entries>⟧.team_count rule ≡ opponents.n) }
@@ -124,7 +119,9 @@ impl Entries for Ca2 {
 impl<L> Rule<L> for Ca2 {
     fn term(&self, key: usize, cells: &Cells, steps: &mut Steps<L>) -> u64 {
         steps.tick();
-        self.opponents.games_in(key, cells, &self.slots).saturating_sub(self.max as u64)
+        self.opponents
+            .games_in(key, cells, &self.slots)
+            .saturating_sub(self.max as u64)
     }
 }
 

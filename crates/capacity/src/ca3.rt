@@ -2,7 +2,7 @@
 ghost use Rattle.std.specs.Prelude.{◌≡◌, ℕ, ◌<◌, ◌≤◌, ◌+◌, ◌-◌, length, slice_index, IfOk, IsTrue};
 ghost use Rattle.std.specs.List.{All, range_with_len, sum_by};
 
-use crate::opponents::{season, Opponents};
+use crate::opponents::{Opponents, season};
 use league::{Class, Constraint, Game};
 use rule_core::{Cells, Entries, Keys, Rule, Steps};
 use std::alloc::{AllocError, Global};
@@ -101,7 +101,12 @@ impl<L> Rule<L> for Ca3 {
     fn term(&self, key: usize, cells: &Cells, steps: &mut Steps<L>) -> u64 {
         steps.tick();
         let before = self.opponents.games_before(key, cells);
-        excess_in_windows(&before, season(cells) as usize, self.intp as usize, self.max as u64)
+        excess_in_windows(
+            &before,
+            season(cells) as usize,
+            self.intp as usize,
+            self.max as u64,
+        )
     }
 }
 

@@ -69,7 +69,11 @@ fn away_in_three_slots(rt: HostRuntime) -> Result<(), Fail> {
 #[test]
 fn both_teams_touched(rt: HostRuntime) -> Result<(), Fail> {
     let alloc = rt.alloc();
-    let rule = rule(&rt, alloc, &games_of(alloc, &[0, 1, 2], &[0, 1, 2], 1, Side::Both)?)?;
+    let rule = rule(
+        &rt,
+        alloc,
+        &games_of(alloc, &[0, 1, 2], &[0, 1, 2], 1, Side::Both)?,
+    )?;
     let keys = touched(&rt, alloc, &rule, (2, 0, 2))?;
     assert_eq!(rt; keys.len(), 2);
     assert_eq!(rt; (keys.get(0), keys.get(1)), (0, 2));
