@@ -1,5 +1,5 @@
 -- What a CA1 keeps, and which keys a game touches.
-use Rattle.std.specs.Prelude.{◌≡◌, ℕ, ◌<◌, ◌≤◌, if◌then◌else◌, List, [], length, IsTrue}
+use Rattle.std.specs.Prelude.{ℕ, ◌<◌, ◌≤◌, if◌then◌else◌, List, [], length, IsTrue}
 use Rattle.std.specs.List.{All}
 use Rattle.league.specs.Counts.{slot_count}
 use Rattle.league.specs.Instance.{is_one_side}

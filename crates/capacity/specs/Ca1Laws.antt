@@ -1,8 +1,8 @@
 -- The laws of CA1: its keys, and which entries a game leaves as they are.
-use Rattle.std.proofs.Common.{◌≡◌, ◌≢◌, ℕ, ◌+◌, ◌<◌, ◌≤◌, Bool, true, false, if◌then◌else◌, List, [], ◌∷◌, length, get_or, map, refl, arith, ap, sym, ◌∙◌, Contains, IsTrue}
-use Rattle.std.proofs.lemmas.Bool.{cond_both, cases_Bool}
+use Rattle.std.proofs.Common.{◌≡◌, ◌≢◌, ℕ, ◌<◌, ◌≤◌, List, [], length, get_or, arith, ap, sym, ◌∙◌, Contains, IsTrue}
+use Rattle.std.proofs.lemmas.Bool.{cond_both}
 use Rattle.std.proofs.lemmas.List.{get_or-map}
-use Rattle.std.specs.List.{All, sum_by}
+use Rattle.std.specs.List.{All}
 use Rattle.std.specs.List.Sorted.{IsStrictlyIncreasing}
 use Rattle.league.specs.Bounds.{excess}
 use Rattle.league.specs.Capacity.{ca1_entry}
@@ -13,9 +13,9 @@ use Rattle.league.specs.Venues.{games_on}
 use Rattle.league.specs.declared.game.Game.{Game}
 use Rattle.league.specs.declared.class.Side.{Side}
 use Rattle.league.specs.declared.class.Side.TheVariants.{H, A, Both}
-use Rattle.rule_core.specs.Places.{ArePlaces, key_of, stands}
+use Rattle.rule_core.specs.Places.{key_of, stands}
 use Rattle.rule_core.proofs.GameLemmas.{games_on-elsewhere, games_on-not_at_home, games_on-not_away, sum_by-same_in}
-use Rattle.rule_core.proofs.PlaceLemmas.{ascending-few, key_of-ascending, key_of-below, key_of-few, key_of-lacks, stands-no}
+use Rattle.rule_core.proofs.PlaceLemmas.{ascending-few, key_of-below, key_of-few, key_of-lacks, stands-no}
 use Rattle.capacity.specs.Ca1.{IsReady, team_on, touches_of}
 use Rattle.capacity.specs.Classes.{class_of_ca1}
 

@@ -1,4 +1,4 @@
-use Rattle.std.proofs.Common.{◌≡◌, ℕ, ◌+◌, ◌-◌, ◌≤◌, get_or, arith}
+use Rattle.std.proofs.Common.{ℕ, ◌+◌, ◌-◌, ◌≤◌, get_or, arith}
 use Rattle.league.proofs.RangeLemmas.{summed}
 use Rattle.capacity.proofs.ca3.excess_in_windows.Goals as goal
 

@@ -1,4 +1,4 @@
-use Rattle.std.proofs.Common.{◌≡◌, ◌<◌, get_or, arith, ◌∙◌, ap}
+use Rattle.std.proofs.Common.{arith}
 use Rattle.std.proofs.lemmas.List.Sums.{sum_by_more}
 use Rattle.league.specs.Venues.{games_on}
 use Rattle.rule_core.specs.Table.{table_counts}

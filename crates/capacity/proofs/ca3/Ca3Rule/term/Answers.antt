@@ -1,4 +1,4 @@
-use Rattle.std.proofs.Common.{◌≡◌, ap, ◌∙◌}
+use Rattle.std.proofs.Common.{ap, ◌∙◌}
 use Rattle.league.specs.Counts.{slot_count}
 use Rattle.rule_core.specs.Table.{table_counts}
 use Rattle.capacity.proofs.BeforeLemmas.{ca3_term}

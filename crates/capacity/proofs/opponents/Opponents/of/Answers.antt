@@ -1,5 +1,4 @@
-use Rattle.std.proofs.Common.{◌<◌, ◌≤◌, length, arith}
-use Rattle.std.specs.List.{All}
+use Rattle.std.proofs.Common.{◌≤◌, length, arith}
 use Rattle.league.proofs.SetLemmas.{length-ascending}
 use Rattle.capacity.proofs.OpponentSums.{AreOpponents-copied}
 use Rattle.capacity.proofs.opponents.Opponents.of.Goals as goal
