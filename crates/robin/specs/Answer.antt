@@ -1,19 +1,23 @@
 -- What a run may answer: its steps in their order, each of which goes on or gives the answer.
 use Rattle.std.specs.Prelude.{◌≡◌, ℕ, ◌+◌, ◌<◌, ◌≤◌, ◌↔◌, Bool, if◌then◌else◌, List, length, Option, Some, None, IfSome, Result, Ok, Err, IsTrue, codes, ◌⊎◌}
 use Rattle.std.specs.Io.KnownBytes.{Appends}
+use Rattle.std.specs.List.Sorted.{IsPermutation}
+use Rattle.circle_method.specs.Circle.{double_games}
 use Rattle.robin_io.specs.Written.{AppendsPrefix}
 use Rattle.robinx_tags.specs.Pieces.{pieces}
 use Rattle.league.specs.Accepted.{IsAccepted}
 use Rattle.league.specs.Counts.{counts_of}
 use Rattle.league.specs.Instance.{Instance}
+use Rattle.league.specs.Order.{IsInOrder}
 use Rattle.league.specs.declared.game.Game.{Game}
 use Rattle.robinx_read.specs.Walk.{Fault}
 use Rattle.robinx_read.specs.InstanceFile.{instance_of}
 use Rattle.robinx_read.specs.SolutionFile.{solution_of}
+use Rattle.robinx_read.specs.Texts.{solution_text}
 use Rattle.robin.specs.Refusals.{Answer, refused_words, read_fault, too_long, malformed}
 use Rattle.robin.specs.Report.{report_text}
 use Rattle.robin.specs.Words.{Command}
-use Rattle.robin.specs.Words.Command.{Validate}
+use Rattle.robin.specs.Words.Command.{Validate, Circle}
 use Rattle.robin.specs.declared.status.Status.{Status}
 use Rattle.robin.specs.declared.status.Status.TheVariants.{Yes, No, WriteFault}
 
@@ -69,10 +73,19 @@ validated told took_more failed instance solution = do
   games ← says (codes "solution") (solution_of league.n (pieces second))
   IsJudgement league games
 
+-- `circle`: the games of the double circle schedule, in order, as a solution file without a score
+pub record IsCircle (n : ℕ) (answer : Answer) : Type 0 where
+  pub games : List Game
+  pub same : IsPermutation (double_games n) games
+  pub in_order : IsInOrder games
+  pub status : answer.status ≡ Yes
+  pub text : answer.text ≡ solution_text games None
+
 -- the answer to the words
 abbrev pub IsAnswer : Option Command → (List ℕ → Option (List ℕ)) → (ℕ → Type 0) → (List ℕ → Type 0) → Outcome
 IsAnswer None told took_more failed answer = answer ≡ refused_words
 IsAnswer (Some (Validate instance solution)) told took_more failed answer = validated told took_more failed instance solution answer
+IsAnswer (Some (Circle n)) told took_more failed answer = IsCircle n answer
 
 -- the answer is given: it is written whole, or a fault of the sink cuts its text short
 abbrev pub IsGiven : Answer → Status → Option (List ℕ) → Option (List ℕ) → Type 0 → Type 0

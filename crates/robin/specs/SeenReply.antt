@@ -1,5 +1,5 @@
 -- What a contract sees of the steps of a run.
-use Rattle.std.specs.Prelude.{◌≡◌, ℕ, List, string_bytes, Result, Ok, Err}
+use Rattle.std.specs.Prelude.{◌≡◌, ℕ, List, Result, Ok, Err}
 use Rattle.robinx_read.specs.Walk.{Fault}
 use Rattle.robin.specs.Answer.{Outcome}
 use Rattle.robin.specs.Refusals.{Answer, malformed}
@@ -8,7 +8,7 @@ use Rattle.robin.specs.declared.reply.Stop.{Stop}
 use Rattle.robin.specs.declared.reply.Stop.TheVariants as stop
 
 abbrev pub answer_of : Reply → Answer
-answer_of reply = record { status = reply.status; text = string_bytes reply.text }
+answer_of reply = record { status = reply.status; text = reply.text.items }
 
 -- what holds of what a step goes on with, and of the answer that it gives; nothing where memory ran out
 abbrev pub StepGives : {X : Type 0} → (X → Type 0) → (Answer → Type 0) → Result X Stop → Type 0

@@ -1,17 +1,49 @@
 -- What the words of the command line, without the program's name, ask for.
-use Rattle.std.specs.Prelude.{ℕ, Bool, true, not, ◌&&◌, ◌==◌, if◌then◌else◌, List, [], ◌∷◌, Option, Some, None, codes, bytes_eq}
+use Rattle.std.specs.Prelude.{◌≡◌, ℕ, ◌%◌, ◌^◌, ◌≤◌, Bool, true, not, ◌&&◌, ◌==◌, nat_le, nat_lt, if◌then◌else◌, List, [], ◌∷◌, Option, Some, None, option_and_then, option_map, codes, bytes_eq}
 use Rattle.std.specs.Str.{byte}
+use Rattle.std.specs.Str.Parse.{digits_value}
+use Rattle.robin_io.specs.Numbers.{is_number}
 
 -- a command with its arguments
 pub data Command : Type 0 where
   Validate : (instance solution : List ℕ) → Command
+  Circle : (n : ℕ) → Command
 
 -- whether a word names a file: any word that doesn't begin with `-`
 abbrev pub is_file_name : List ℕ → Bool
 is_file_name [] = true
 is_file_name (first ∷ rest) = not (first == byte "-")
 
+-- whether a number has no leading zero: only the number 0 begins with `0`
+abbrev pub is_shortest : List ℕ → Bool
+is_shortest (first ∷ second ∷ rest) = not (first == byte "0")
+is_shortest _ = true
+
+-- the number that a word writes: decimal digits without a leading zero, at most 18446744073709551615
+abbrev pub number_in : List ℕ → Option ℕ
+number_in word = if is_number word && (is_shortest word && nat_lt (digits_value 10 word) (2 ^ 64)) then Some (digits_value 10 word) else None
+
+-- whether a league can have so many teams
+abbrev pub is_team_count : ℕ → Bool
+is_team_count n = (n % 2 == 0) && (nat_le 2 n && nat_le n 40)
+
+-- the number of teams that a word writes: even, and from 2 to 40
+abbrev pub team_count_in : List ℕ → Option ℕ
+team_count_in word = option_and_then (λ n. if is_team_count n then Some n else None) (number_in word)
+
 -- the one reading of the words, or none
 abbrev pub reading : List (List ℕ) → Option Command
 reading (command ∷ instance ∷ solution ∷ []) = if bytes_eq command (codes "validate") && (is_file_name instance && is_file_name solution) then Some (Validate instance solution) else None
+reading (command ∷ teams ∷ []) = if bytes_eq command (codes "circle") then option_map Circle (team_count_in teams) else None
 reading _ = None
+
+-- the teams of a command, where it names a number of them: even, and from 2 to 40
+abbrev pub HasTeams : Command → Type 0
+HasTeams (Validate instance solution) = Unit {0}
+HasTeams (Circle n) = (n % 2 ≡ 0) × (2 ≤ n) × (n ≤ 40)
+
+-- whether the words need no file: they are refused, or ask for a schedule that is made
+abbrev pub NeedsNoFile : Option Command → Type 0
+NeedsNoFile None = Unit {0}
+NeedsNoFile (Some (Circle n)) = Unit {0}
+NeedsNoFile (Some (Validate instance solution)) = ⊥

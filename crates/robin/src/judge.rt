@@ -22,7 +22,7 @@ pub fn judge(alloc: Global, league: &League, schedule: &Schedule) -> Result<Repl
     let text = report(alloc, league, schedule.len(), &assessed)?;
     Ok(Reply {
         status: status_of(assessed.feasible),
-        text,
+        text: text.into_bytes(),
     })
 }
 

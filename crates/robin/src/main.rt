@@ -1,6 +1,7 @@
-//! robin judges schedules of sports leagues: the program, and the call `run` that it makes.
+//! robin judges and makes schedules of sports leagues: the program, and the call `run` that it makes.
 #![tactic(auto)]
 
+mod circle;
 mod judge;
 mod reply;
 mod report;

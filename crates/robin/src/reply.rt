@@ -12,7 +12,7 @@ use std::alloc::{AllocError, Global};
 #[derive(Drop)]
 pub struct Reply {
     pub status: Status,
-    pub text: String,
+    pub text: Vec<u8>,
 }
 
 /// Why no later step is taken: this is the answer, or memory ran out.
@@ -37,7 +37,7 @@ pub fn words_refused(alloc: Global) -> Result<Reply, AllocError>
     let text = format!(in alloc; "refused words\n")?;
     Ok(Reply {
         status: Status::Words,
-        text,
+        text: text.into_bytes(),
     })
 }
 
@@ -48,7 +48,7 @@ pub fn unreadable(alloc: Global, which: &str) -> Result<Reply, AllocError>
     let text = format!(in alloc; "read fault {which}\n")?;
     Ok(Reply {
         status: Status::ReadFault,
-        text,
+        text: text.into_bytes(),
     })
 }
 
@@ -59,7 +59,7 @@ pub fn past_limit(alloc: Global, which: &str, limit: usize) -> Result<Reply, All
     let text = format!(in alloc; "refused {which} TooLong limit {limit}\n")?;
     Ok(Reply {
         status: Status::File,
-        text,
+        text: text.into_bytes(),
     })
 }
 
@@ -98,6 +98,6 @@ pub fn malformed(alloc: Global, which: &str, fault: FormFault) -> Result<Reply, 
     let text = format!(in alloc; "refused {which} {kind} line {line}\n")?;
     Ok(Reply {
         status: Status::File,
-        text,
+        text: text.into_bytes(),
     })
 }

@@ -9,12 +9,13 @@ ghost use Rattle.robin.specs.Answer.{IsAnswer, IsFile, IsGiven, IsUnread, IsWell
 ghost use Rattle.robin.specs.Refusals.{Answer};
 ghost use Rattle.robin.specs.SeenReply.{answer_of, Answers, IsMalformed, StepGives};
 ghost use Rattle.robin.specs.SeenWords.{command_of, texts};
-ghost use Rattle.robin.specs.Words.{reading};
+ghost use Rattle.robin.specs.Words.{reading, HasTeams, NeedsNoFile};
 ghost use Rattle.robin.specs.Words.Command.{Validate};
 ghost use Rattle.league.specs.Instance.{Instance, IsGame};
 ghost use Rattle.std.specs.List.{All};
 ghost use Rattle.league.specs.declared.game.Game.{Game};
 
+use crate::circle::circle;
 use crate::judge::judge;
 use crate::reply::{Reply, Stop, malformed, past_limit, unreadable, words_refused};
 use crate::status::Status;
@@ -130,13 +131,17 @@ fn validate<S: Shelf>(
 
 /// Follows a command.
 fn follow<S: Shelf>(alloc: Global, command: Words, shelf: &mut S) -> Result<Reply, AllocError>
-    ensures { IfOk result (λ reply. IsAnswer (Some (command_of command.entry)) (S.contents shelf.old)
+    requires { HasTeams (command_of command) }
+    ensures answer { IfOk result (λ reply. IsAnswer (Some (command_of command.entry)) (S.contents shelf.old)
         (λ limit. TookMore limit (S.taken shelf.old) (S.taken shelf.new))
         (λ name. Rose (S.faults shelf.old name) (S.faults shelf.new name))
         (answer_of reply)) }
+    ensures untouched { NeedsNoFile (Some (command_of command.entry)) → shelf.new ≡ shelf.old }
 {
-    let (instance, solution) = command.files();
-    validate(alloc, shelf, instance, solution)
+    match command {
+        Words::Validate { instance, solution } => validate(alloc, shelf, instance, solution),
+        Words::Circle { n } => circle(alloc, n),
+    }
 }
 
 /// The answer to the words, or want of memory.
@@ -145,7 +150,7 @@ fn answer<S: Shelf>(alloc: Global, words: &[String], shelf: &mut S) -> Result<Re
         (λ limit. TookMore limit (S.taken shelf.old) (S.taken shelf.new))
         (λ name. Rose (S.faults shelf.old name) (S.faults shelf.new name))
         (answer_of reply)) }
-    ensures untouched { reading (texts words.now) ≡ None → shelf.new ≡ shelf.old }
+    ensures untouched { NeedsNoFile (reading (texts words.now)) → shelf.new ≡ shelf.old }
 {
     match read_words(words) {
         None => words_refused(alloc),
@@ -157,7 +162,7 @@ fn answer<S: Shelf>(alloc: Global, words: &[String], shelf: &mut S) -> Result<Re
 fn give<K: Sink>(out: &mut K, reply: &Reply) -> Status
     ensures { IsGiven (answer_of reply.now) result (K.written out.old) (K.written out.new) (Rose (K.faults out.old) (K.faults out.new)) }
 {
-    match put_all(out, reply.text.as_bytes()) {
+    match put_all(out, &reply.text) {
         Ok(()) => reply.status,
         Err(_) => Status::WriteFault,
     }
@@ -180,8 +185,8 @@ pub fn run<S: Shelf, K: Sink>(alloc: Global, words: &[String], shelf: &mut S, ou
         → (Rose (K.faults out.old) (K.faults out.new) → ⊥) → result ≢ Status.Memory
         → GivesJudgement league games result (K.written out.old) (K.written out.new) }
 
-    // Refused words leave the store as it was.
-    ensures untouched { reading (texts words.now) ≡ None → shelf.new ≡ shelf.old }
+    // Refused words, and `circle`, leave the store as it was.
+    ensures untouched { NeedsNoFile (reading (texts words.now)) → shelf.new ≡ shelf.old }
 
     // Where memory ran out, nothing is written.
     ensures memory { result ≡ Status.Memory → Keeps (K.written out.old) (K.written out.new) }

@@ -1,0 +1,12 @@
+//! The canonical schedules, by the circle method: a single and a double round robin of any even number of teams up to 40.
+//!
+//! A contract sees a schedule as its list of games. `specs/Circle.antt` lists the games by a formula, and `specs/Breaks.antt`
+//! counts breaks.
+#![tactic(auto)]
+
+mod circle;
+
+pub use circle::{double, single};
+
+#[cfg(test)]
+mod tests;

@@ -1,0 +1,79 @@
+-- The patterns of the double round robin of four teams, and of its first half, a single round robin.
+use Rattle.std.specs.Prelude.{◌≡◌, ◌≢◌, ℕ, ◌-◌, ◌<◌, zero, suc, List, [], ◌∷◌, refl}
+use Rattle.std.proofs.Common.{arith}
+use Rattle.std.proofs.lemmas.List.Elements.{All-cons, All-nil}
+use Rattle.league.specs.Counts.{counts_of}
+use Rattle.league.specs.Meetings.{games_of}
+use Rattle.league.specs.Structure.{first_half}
+use Rattle.league.specs.Venues.{games_on}
+use Rattle.league.specs.declared.game.Game.{Game}
+use Rattle.league.specs.declared.class.Side.TheVariants.{H, A, Both}
+use Rattle.league.proofs.DoubleFour.{four, game}
+use Rattle.circle_method.specs.SingleRoundRobin.{IsSingleGame, IsSingleRoundRobin}
+use Rattle.patterns.specs.FewestBreaks.{single_breaks}
+use Rattle.patterns.specs.Patterns.{breaks_in, canonical_patterns, pattern_of, patterns_of}
+
+-- they are AAHHHA, HHAAAH, AHAHAH and HAHAHA
+pub patterns_of-four : patterns_of 4 four ≡ (A ∷ A ∷ H ∷ H ∷ H ∷ A ∷ []) ∷ (H ∷ H ∷ A ∷ A ∷ A ∷ H ∷ []) ∷ (A ∷ H ∷ A ∷ H ∷ A ∷ H ∷ []) ∷ (H ∷ A ∷ H ∷ A ∷ H ∷ A ∷ []) ∷ []
+patterns_of-four = refl
+
+-- with 3, 3, 0 and 0 breaks
+pub breaks_in-four : (breaks_in (pattern_of 4 four 0) ≡ 3) × (breaks_in (pattern_of 4 four 1) ≡ 3) × (breaks_in (pattern_of 4 four 2) ≡ 0) × (breaks_in (pattern_of 4 four 3) ≡ 0)
+breaks_in-four = (refl, refl, refl, refl)
+
+-- a pattern of no slot, or of one, has no break
+pub breaks_in-short : (breaks_in [] ≡ 0) × (breaks_in (H ∷ []) ≡ 0)
+breaks_in-short = (refl, refl)
+
+-- the first half
+abbrev pub half : List Game
+half = game 3 0 0 ∷ game 1 2 0 ∷ game 1 3 1 ∷ game 2 0 1 ∷ game 3 2 2 ∷ game 0 1 2 ∷ []
+
+-- it has 2 breaks, the fewest
+pub single_breaks-half : single_breaks 4 (counts_of half) ≡ 2
+single_breaks-half = refl
+
+half_pairs : (i j : ℕ) → i < j → j < 4 → games_of (counts_of half) ((i, j) ∷ (j, i) ∷ []) (first_half 4) ≡ 1
+half_pairs zero (suc zero) h l = refl
+half_pairs zero (suc (suc zero)) h l = refl
+half_pairs zero (suc (suc (suc zero))) h l = refl
+half_pairs (suc zero) (suc (suc zero)) h l = refl
+half_pairs (suc zero) (suc (suc (suc zero))) h l = refl
+half_pairs (suc (suc zero)) (suc (suc (suc zero))) h l = refl
+half_pairs i j h l = absurd (omega arith)
+
+half_cells : (i s : ℕ) → i < 4 → s < 4 - 1 → games_on 4 (counts_of half) Both i s ≡ 1
+half_cells zero zero h l = refl
+half_cells zero (suc zero) h l = refl
+half_cells zero (suc (suc zero)) h l = refl
+half_cells (suc zero) zero h l = refl
+half_cells (suc zero) (suc zero) h l = refl
+half_cells (suc zero) (suc (suc zero)) h l = refl
+half_cells (suc (suc zero)) zero h l = refl
+half_cells (suc (suc zero)) (suc zero) h l = refl
+half_cells (suc (suc zero)) (suc (suc zero)) h l = refl
+half_cells (suc (suc (suc zero))) zero h l = refl
+half_cells (suc (suc (suc zero))) (suc zero) h l = refl
+half_cells (suc (suc (suc zero))) (suc (suc zero)) h l = refl
+half_cells i s h l = absurd (omega arith)
+
+half_fits : (i j s : ℕ) → i < 4 → j < 4 → i ≢ j → s < 4 - 1 → IsSingleGame 4 (game i j s)
+half_fits i j s here there differ slot = record { home = here; away = there; differ = differ; slot = slot }
+
+-- it is a single round robin: the law isn't about nothing
+pub half-is_single : IsSingleRoundRobin 4 half
+half-is_single = record {
+  fit =
+      All-cons (IsSingleGame 4) (game 3 0 0) (game 1 2 0 ∷ game 1 3 1 ∷ game 2 0 1 ∷ game 3 2 2 ∷ game 0 1 2 ∷ []) (half_fits 3 0 0 (omega arith) (omega arith) (omega arith) (omega arith))
+      (All-cons (IsSingleGame 4) (game 1 2 0) (game 1 3 1 ∷ game 2 0 1 ∷ game 3 2 2 ∷ game 0 1 2 ∷ []) (half_fits 1 2 0 (omega arith) (omega arith) (omega arith) (omega arith))
+      (All-cons (IsSingleGame 4) (game 1 3 1) (game 2 0 1 ∷ game 3 2 2 ∷ game 0 1 2 ∷ []) (half_fits 1 3 1 (omega arith) (omega arith) (omega arith) (omega arith))
+      (All-cons (IsSingleGame 4) (game 2 0 1) (game 3 2 2 ∷ game 0 1 2 ∷ []) (half_fits 2 0 1 (omega arith) (omega arith) (omega arith) (omega arith))
+      (All-cons (IsSingleGame 4) (game 3 2 2) (game 0 1 2 ∷ []) (half_fits 3 2 2 (omega arith) (omega arith) (omega arith) (omega arith))
+      (All-cons (IsSingleGame 4) (game 0 1 2) [] (half_fits 0 1 2 (omega arith) (omega arith) (omega arith) (omega arith)) (All-nil (IsSingleGame 4)))))));
+  pairs = half_pairs;
+  cells = half_cells;
+}
+
+-- the canonical patterns of four teams: the first halves of those above
+pub canonical_patterns-four : canonical_patterns 4 ≡ (A ∷ A ∷ H ∷ []) ∷ (H ∷ H ∷ A ∷ []) ∷ (A ∷ H ∷ A ∷ []) ∷ (H ∷ A ∷ H ∷ []) ∷ []
+canonical_patterns-four = refl
