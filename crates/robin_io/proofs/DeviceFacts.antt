@@ -1,5 +1,5 @@
 -- Worked examples, so that a wrong count, look-up or number does not check.
-use Rattle.std.proofs.Common.{◌≡◌, ◌≤◌, ◌^◌, ◌-◌, ℕ, Bool, true, false, List, [], ◌∷◌, Option, Some, None, refl, arith, decimal}
+use Rattle.std.proofs.Common.{◌≡◌, ◌^◌, ◌-◌, true, false, List, [], ◌∷◌, Some, None, refl, arith, decimal}
 use Rattle.std.specs.Prelude.{codes}
 use Rattle.std.specs.Fmt.{digits}
 use Rattle.std.specs.Str.Parse.{digits_value}

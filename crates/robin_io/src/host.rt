@@ -1,5 +1,5 @@
 // The machine's files and its standard output: the trusted edge. What they give and keep is outside any proof.
-ghost use Rattle.std.specs.Prelude.{◌≡◌, ◌-◌, ◌^◌, ◌<◌, ◌≤◌, ℕ, List, Option, IsSome, None, length, take, IfOk, OnOk, OnErr, MatchResult};
+ghost use Rattle.std.specs.Prelude.{◌≡◌, ◌-◌, ◌^◌, ◌<◌, ◌≤◌, ℕ, List, IsSome, IsNone, None, length, take, IfOk, OnOk, OnErr, MatchResult};
 ghost use Rattle.std.specs.Option.{option_and_then};
 ghost use Rattle.std.specs.Io.KnownBytes.{Keeps, Appends, Consumes, IsAtEnd};
 ghost use Rattle.robin_io.specs.Counts.{raised, HasCause, HasOneCause};
@@ -44,7 +44,7 @@ impl<R: Files> Shelf for HostShelf<R> {
 
     ghost faults = { λ s name. s.faults };
 
-    // The clauses of the trait, and then how faults are counted.
+    // The clauses of the trait, and then how faults are counted: a file that can't be opened drops the one before.
     fn start(&mut self, name: &str) -> Result<(), Failed>
         ensures started { OnOk result (IsSome self.new.file) }
         ensures taken { self.new.taken ≡ self.old.taken }
@@ -52,6 +52,7 @@ impl<R: Files> Shelf for HostShelf<R> {
         ensures cause { HasCause (λ _. self.old.faults) (λ _. self.new.faults) name.now result }
 
         ensures faults { MatchResult result (λ _. self.new.faults ≡ self.old.faults) (λ _. self.new.faults ≡ raised self.old.faults 1) }
+        ensures stopped { OnErr result (IsNone self.new.file) }
     {
         // A field behind a `&mut` has its type's range only once it is read, and `last` needs it.
         let _taken = self.taken;

@@ -1,4 +1,4 @@
-use Rattle.std.proofs.Common.{◌≡◌, ◌<◌, rules, length, drop, length-drop, arith, ap, refl}
+use Rattle.std.proofs.Common.{rules, length, length-drop, arith, ap, refl}
 use Rattle.std.proofs.Math.Seq.{take-add}
 use Rattle.std.proofs.lemmas.List.{take_rest}
 use Rattle.std.proofs.KnownBytes.{Appends-trans}
