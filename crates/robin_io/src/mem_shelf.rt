@@ -1,5 +1,5 @@
 // A store of files in memory.
-ghost use Rattle.std.specs.Prelude.{◌≡◌, ◌≢◌, ◌-◌, ◌^◌, ◌<◌, ◌≤◌, ◌↔◌, ◌⊎◌, List, [], ◌∷◌, ◌++◌, ℕ, Contains, Some, None, length, take, drop, min, map, position, bytes_eq, string_bytes, slice_get, IfOk, OnOk, OnErr, IfSome, IsSome, IsNone, IsErr};
+ghost use Rattle.std.specs.Prelude.{◌≡◌, ◌≢◌, ◌-◌, ◌^◌, ◌<◌, ◌≤◌, ◌↔◌, ◌⊎◌, List, [], ◌∷◌, ◌++◌, ℕ, Contains, Some, None, length, take, drop, min, map, position, bytes_eq, string_bytes, slice_get, IfOk, OnOk, OnErr, IfSome, IsSome, IsSomeAnd, IsNone, IsErr};
 ghost use Rattle.std.specs.Io.KnownBytes.{Keeps, Consumes, IsAtEnd};
 ghost use Rattle.robin_io.specs.Counts.{raised, HasCause};
 ghost use Rattle.robin_io.specs.ShelfView.{contents_in, faults_in};
@@ -55,6 +55,7 @@ impl MemShelf {
     pub fn new(alloc: Global) -> MemShelf
         ensures files { result.files ≡ [] }
         ensures started { result.started ≡ None }
+        ensures left { result.left ≡ None }
         ensures taken { result.taken ≡ 0 }
         ensures faults { result.other_faults ≡ 0 }
         ensures plan { result.plan ≡ [] }
@@ -79,6 +80,7 @@ impl MemShelf {
         ensures plan { self.new.plan ≡ self.old.plan }
         ensures calls { self.new.calls ≡ self.old.calls }
         ensures started { OnOk result (self.new.started ≡ None) }
+        ensures left { OnOk result (self.new.left ≡ None) }
         ensures err { OnErr result (self.new ≡ self.old) }
     {
         put_file(&mut self.files, name, bytes, self.other_faults)?;
@@ -116,7 +118,7 @@ impl MemShelf {
     // Takes the next bytes of the started file to the front of the room, as many as there are and fit.
     fn take_next(&mut self, room: &mut [u8]) -> usize
         requires { IsSome self.old.started }
-        ensures count { IfSome self.old.left (λ left. result ≡ min (length room.new) (length left)) }
+        ensures count { IsSomeAnd self.old.left (λ left. result ≡ min (length room.new) (length left)) }
         ensures bytes { Consumes self.old.left self.new.left (take result room.new) }
         ensures within { result ≤ length room.new }
         ensures end { result ≡ 0 → 0 < length room.new → IsAtEnd self.new.left }
@@ -158,6 +160,7 @@ impl Shelf for MemShelf {
 
         ensures failed { IsErr result ↔ (Contains self.old.plan (raised self.old.calls 1) ⊎ IsNone (contents_in self.old.files name.now)) }
         ensures stopped { OnErr result (self.new.started ≡ None) }
+        ensures nothing_left { OnErr result (self.new.left ≡ None) }
         ensures fault { OnErr result (CountsFault name.now self.old self.new) }
         ensures files { OnOk result (self.new.files ≡ self.old.files) }
         ensures other_faults { OnOk result (self.new.other_faults ≡ self.old.other_faults) }
@@ -190,7 +193,7 @@ impl Shelf for MemShelf {
         ensures err { OnErr result ((self.new.left ≡ self.old.left) × (self.new.taken ≡ self.old.taken)) }
         ensures cause { HasCause (faults_in self.old.files self.old.other_faults) (faults_in self.new.files self.new.other_faults) name.now result }
 
-        ensures exact { IfOk result (λ k. IfSome self.old.left (λ left. k ≡ min (length room.new) (length left))) }
+        ensures exact { IfOk result (λ k. IsSomeAnd self.old.left (λ left. k ≡ min (length room.new) (length left))) }
         ensures failed { IsErr result ↔ Contains self.old.plan (raised self.old.calls 1) }
         ensures fault { OnErr result (CountsFault name.now self.old self.new) }
         ensures files { OnOk result (self.new.files ≡ self.old.files) }

@@ -94,6 +94,8 @@ pub fn read_all<S: Shelf>(
     ensures found { IfOk result (λ bytes. IfSome (S.contents shelf.old name.now) (λ file. bytes.items ≡ file)) }
     ensures within { IfOk result (λ bytes. vec_len bytes ≤ limit) }
     ensures count { IfOk result (λ bytes. S.taken shelf.new ≡ raised (S.taken shelf.old) (vec_len bytes)) }
+    ensures end { OnOk result (IsAtEnd (S.left shelf.new)) }
+    ensures started { OnOk result (S.started shelf.new name.now) }
 
     // Each refusal's cause. A file is too long exactly where more than `limit` bytes were taken.
     ensures failed { IsErrOf result TakeFault.Failed → Rose (S.faults shelf.old name.now) (S.faults shelf.new name.now) }
@@ -104,6 +106,7 @@ pub fn read_all<S: Shelf>(
     // What holds whatever the answer is.
     ensures risen { S.taken shelf.old ≤ S.taken shelf.new }
     ensures most { S.taken shelf.new ≤ S.taken shelf.old + (limit + 1) }
+    ensures last { S.taken shelf.new ≤ 2 ^ 64 - 1 }
     ensures contents { (n : List ℕ) → S.contents shelf.new n ≡ S.contents shelf.old n }
     ensures later { (n : List ℕ) → S.faults shelf.old n ≤ S.faults shelf.new n }
 {

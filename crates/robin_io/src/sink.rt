@@ -1,5 +1,5 @@
 // Places that take bytes in order, and the writing of a whole text.
-ghost use Rattle.std.specs.Prelude.{◌≡◌, ◌<◌, ◌≤◌, ℕ, List, Option, length, take, IfOk, OnOk, OnErr};
+ghost use Rattle.std.specs.Prelude.{◌≡◌, ◌<◌, ◌≤◌, ℕ, List, [], Option, length, take, IfOk, IsOk, OnOk, OnErr};
 ghost use Rattle.std.specs.Io.KnownBytes.{Appends};
 ghost use Rattle.robin_io.specs.Counts.{Rose, HasOneCause};
 ghost use Rattle.robin_io.specs.Written.{AppendsPrefix};
@@ -29,6 +29,9 @@ pub fn put_all<K: Sink>(sink: &mut K, bytes: &[u8]) -> Result<(), Failed>
     ensures ok { OnOk result (Appends (K.written sink.old) (K.written sink.new) bytes.now) }
     ensures err { OnErr result (AppendsPrefix (K.written sink.old) (K.written sink.new) bytes.now) }
     ensures cause { HasOneCause (K.faults sink.old) (K.faults sink.new) result }
+
+    // Where there is nothing to write, nothing is put.
+    ensures nothing { bytes.now ≡ [] → IsOk result × (sink.new ≡ sink.old) }
 {
     let mut done = 0;
     while done < bytes.len() {

@@ -3,6 +3,7 @@ use crate::{
     Failed, HostShelf, HostSink, MemShelf, MemSink, NumberFault, Shelf, Sink, TakeFault, decimal,
     put_all, put_decimal, read_all,
 };
+use std::fs;
 use std::test::Fail;
 
 const TEXT: &[u8] = b"seven bytes, and a few more";
@@ -50,6 +51,17 @@ fn the_third_put_fails(rt: HostRuntime) -> Result<(), Fail> {
     assert_eq!(rt; sink.written(), b"seven byte".as_slice());
     assert_eq!(rt; put_all(&mut sink, b"s"), Ok(()));
     assert_eq!(rt; sink.written(), b"seven bytes".as_slice());
+    Ok(())
+}
+
+// One put for each byte where a put takes one, and none after the last.
+#[test]
+fn puts_are_as_many_as_bytes(rt: HostRuntime) -> Result<(), Fail> {
+    let mut sink = MemSink::new(rt.alloc(), 4096, 1)?;
+    sink.fail_at(TEXT.len() as u64 + 1)?;
+    assert_eq!(rt; put_all(&mut sink, TEXT), Ok(()));
+    assert_eq!(rt; put_all(&mut sink, b"s"), Err(Failed));
+    assert_eq!(rt; sink.written(), TEXT);
     Ok(())
 }
 
@@ -102,15 +114,29 @@ fn decimals_are_written(rt: HostRuntime) -> Result<(), Fail> {
     Ok(())
 }
 
+// What is written to the machine's disk is read back. A folder can be opened and not read, and `/dev/zero` has no end.
 #[test]
 fn the_machine_has_files_and_writers(rt: HostRuntime) -> Result<(), Fail> {
     let alloc = rt.alloc();
     let mut shelf = HostShelf::new(&rt);
-    let absent = read_all(alloc, &mut shelf, "no such file", 9);
-    assert_eq!(rt; absent.err(), Some(TakeFault::Failed));
-    assert_eq!(rt; shelf.start("no such file"), Err(Failed));
+    fs::write(&rt, "text", TEXT)?;
+    let read = read_all(alloc, &mut shelf, "text", TEXT.len())?;
+    fs::remove_file(&rt, "text")?;
+    assert_eq!(rt; read.as_slice(), TEXT);
+    assert_eq!(rt; read_all(alloc, &mut shelf, "/dev/null", 0)?.len(), 0);
+    let endless = read_all(alloc, &mut shelf, "/dev/zero", 20_000);
+    assert_eq!(rt; endless.err(), Some(TakeFault::TooLong { limit: 20_000 }));
+    for name in ["no such file", "/"] {
+        let unread = read_all(alloc, &mut shelf, name, 9);
+        assert_eq!(rt; unread.err(), Some(TakeFault::Failed), "at {name}");
+    }
     let mut bytes = Vec::new(alloc);
     let mut sink = HostSink::new(&mut bytes);
     assert_eq!(rt; put_all(&mut sink, TEXT), Ok(()));
+    assert_eq!(rt; bytes.as_slice(), TEXT);
+    let mut room = [0u8; 7];
+    let mut full = HostSink::new(room.as_mut_slice());
+    assert_eq!(rt; put_all(&mut full, TEXT), Err(Failed));
+    assert_eq!(rt; room.as_slice(), &TEXT[..7]);
     Ok(())
 }

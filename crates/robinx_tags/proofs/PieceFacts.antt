@@ -1,8 +1,8 @@
 -- Worked examples, so that a wrong definition of the pieces does not check.
-use Rattle.std.proofs.Common.{◌≡◌, ℕ, ◌+◌, ◌/◌, ◌%◌, Bool, true, false, List, [], ◌∷◌, ◌++◌, map, take, refl}
+use Rattle.std.proofs.Common.{◌≡◌, ℕ, ◌+◌, ◌/◌, ◌%◌, Bool, true, false, List, [], ◌∷◌, ◌++◌, Some, None, map, take, refl}
 use Rattle.std.specs.List.{flat_map, list_all, range_with_len}
 use Rattle.std.specs.Prelude.{codes, ◌==◌}
-use Rattle.robinx_tags.specs.Tags.{Attribute, attributes_at}
+use Rattle.robinx_tags.specs.Tags.{Attribute, attributes_at, value_of}
 use Rattle.robinx_tags.specs.Pieces.{Piece, Pieces, Last, none_but, onto, Ends, Faulty, pieces, pieces_from}
 use Rattle.robinx_tags.specs.declared.fault.FormKind.TheVariants.{BadTag, BadAttribute, RepeatedAttribute, TooManyAttributes, Truncated}
 use Rattle.robinx_tags.specs.declared.tag.TagKind.{TagKind}
@@ -192,3 +192,126 @@ pieces-cut_anywhere = refl
 pub pieces-comment_cut_anywhere : list_all (λ k. is_cut 1 (pieces (take k (codes "<!-- -->")))) (range_with_len 4 4) ≡ true
 unfolding attributes_at pieces_from
 pieces-comment_cut_anywhere = refl
+
+-- only one byte order mark is passed over: a second is text
+pub pieces-two_marks : pieces (239 ∷ 187 ∷ 191 ∷ 239 ∷ 187 ∷ 191 ∷ codes "<a/>") ≡ onto (text (239 ∷ 187 ∷ 191 ∷ []) 1) (onto (tag Empty (codes "a") [] 1) (none_but (Ends 1)))
+unfolding attributes_at pieces_from
+pieces-two_marks = refl
+
+-- two of its three bytes are no mark
+pub pieces-half_mark : pieces (239 ∷ 187 ∷ codes "<a/>") ≡ onto (text (239 ∷ 187 ∷ []) 1) (onto (tag Empty (codes "a") [] 1) (none_but (Ends 1)))
+unfolding attributes_at pieces_from
+pieces-half_mark = refl
+
+-- the end may begin right behind the comment's own four bytes
+pub pieces-comment_empty : pieces (codes "<!---->x") ≡ onto (text (codes "x") 1) (none_but (Ends 1))
+unfolding attributes_at pieces_from
+pieces-comment_empty = refl
+
+-- three hyphens: the third and the `>` are no end, since `-->` has two hyphens of its own
+pub pieces-comment_three : pieces (codes "<!--->x-->y") ≡ onto (text (codes "y") 1) (none_but (Ends 1))
+unfolding attributes_at pieces_from
+pieces-comment_three = refl
+
+-- tags within a comment are passed over with it, and its first end counts
+pub pieces-comment_tags : pieces (codes "<!--<1>--><a/>-->") ≡ onto (tag Empty (codes "a") [] 1) (onto (text (codes "-->") 1) (none_but (Ends 1)))
+unfolding attributes_at pieces_from
+pieces-comment_tags = refl
+
+-- behind `<?` the next two bytes `?>` end it; a `>` alone does not
+pub pieces-declaration_empty : pieces (codes "<??>x") ≡ onto (text (codes "x") 1) (none_but (Ends 1))
+unfolding attributes_at pieces_from
+pieces-declaration_empty = refl
+
+pub pieces-declaration_greater : pieces (codes "<?>x?>y") ≡ onto (text (codes "y") 1) (none_but (Ends 1))
+unfolding attributes_at pieces_from
+pieces-declaration_greater = refl
+
+-- an open comment counts on the line of its `<`, whatever lines it has
+pub pieces-comment_line : pieces (codes "a\n<!--\n\n") ≡ onto (text (codes "a\n") 1) (none_but (Faulty Truncated 2))
+unfolding attributes_at pieces_from
+pieces-comment_line = refl
+
+pub pieces-cdata : pieces (codes "<![CDATA[x]]>") ≡ none_but (Faulty BadTag 1)
+unfolding attributes_at pieces_from
+pieces-cdata = refl
+
+-- LF alone ends a line: two CR end none, CR and LF one
+pub pieces-returns : pieces (13 ∷ 13 ∷ codes "<a/>") ≡ onto (text (13 ∷ 13 ∷ []) 1) (onto (tag Empty (codes "a") [] 1) (none_but (Ends 1)))
+unfolding attributes_at pieces_from
+pieces-returns = refl
+
+pub pieces-return_and_feed : pieces (13 ∷ 10 ∷ codes "<a/>") ≡ onto (text (13 ∷ 10 ∷ []) 1) (onto (tag Empty (codes "a") [] 2) (none_but (Ends 2)))
+unfolding attributes_at pieces_from
+pieces-return_and_feed = refl
+
+-- the bytes 11 and 12 lie between LF and CR, and aren't white
+pub pieces-tab_down : pieces (codes "<a" ++ 11 ∷ codes "/>") ≡ none_but (Faulty BadTag 1)
+unfolding attributes_at pieces_from
+pieces-tab_down = refl
+
+-- 127 is no name byte, 128 is one and may begin a name
+pub pieces-127 : pieces (codes "<a" ++ 127 ∷ codes "/>") ≡ none_but (Faulty BadTag 1)
+unfolding attributes_at pieces_from
+pieces-127 = refl
+
+pub pieces-128 : pieces (60 ∷ 128 ∷ codes "/>") ≡ onto (tag Empty (128 ∷ []) [] 1) (none_but (Ends 1))
+unfolding attributes_at pieces_from
+pieces-128 = refl
+
+-- a colon may stand in a name, not before it; an underscore may
+pub pieces-colon : pieces (codes "<_:/><:a/>") ≡ onto (tag Empty (codes "_:") [] 1) (none_but (Faulty BadTag 1))
+unfolding attributes_at pieces_from
+pieces-colon = refl
+
+-- names are compared byte by byte: `b` and `B`, `b` and `bb` differ
+pub pieces-other_names : pieces (codes "<a b='1' B='2' bb='3'>") ≡ onto (tag Start (codes "a") (attribute (codes "b") (codes "1") ∷ attribute (codes "B") (codes "2") ∷ attribute (codes "bb") (codes "3") ∷ []) 1) (none_but (Ends 1))
+unfolding attributes_at pieces_from
+pieces-other_names = refl
+
+-- `>` and `/` are bytes of a value like others, and a value may be empty
+pub pieces-in_value : pieces (codes "<a b='/>' c=\"\"/>") ≡ onto (tag Empty (codes "a") (attribute (codes "b") (codes "/>") ∷ attribute (codes "c") [] ∷ []) 1) (none_but (Ends 1))
+unfolding attributes_at pieces_from
+pieces-in_value = refl
+
+-- from left to right: `c` without white bytes before it is a fault before the file's end is one, and a `<` before a name that was had
+pub pieces-no_white_cut : pieces (codes "<a b='1'c") ≡ none_but (Faulty BadTag 1)
+unfolding attributes_at pieces_from
+pieces-no_white_cut = refl
+
+pub pieces-repeated_less : pieces (codes "<a b='1' b='<") ≡ none_but (Faulty BadAttribute 1)
+unfolding attributes_at pieces_from
+pieces-repeated_less = refl
+
+-- a `/` behind the 64th attribute begins no 65th
+pub pieces-64_slash : pieces (codes "<a" ++ flat_map (λ k. codes " " ++ name_of k ++ codes "=\"\"") (range_with_len 0 64) ++ codes " / >") ≡ none_but (Faulty BadTag 1)
+unfolding attributes_at pieces_from
+pieces-64_slash = refl
+
+-- the first fault ends the pieces: what stands behind it isn't looked at
+pub pieces-first_fault : pieces (codes "<a/>\n<1>\n<2>") ≡ onto (tag Empty (codes "a") [] 1) (onto (text (codes "\n") 1) (none_but (Faulty BadTag 2)))
+unfolding attributes_at pieces_from
+pieces-first_fault = refl
+
+-- a tag wants a name, and `</` too
+pub pieces-no_name : pieces (codes "<>") ≡ none_but (Faulty BadTag 1)
+unfolding attributes_at pieces_from
+pieces-no_name = refl
+
+pub pieces-end_no_name : pieces (codes "</>") ≡ none_but (Faulty BadTag 1)
+unfolding attributes_at pieces_from
+pieces-end_no_name = refl
+
+pub pieces-end_cut : pieces (codes "</") ≡ none_but (Faulty Truncated 1)
+unfolding attributes_at pieces_from
+pieces-end_cut = refl
+
+-- of two attributes of one name, which no piece has, the first would count; a name that isn't there has no value
+pub value_of-first : value_of (codes "b") (attribute (codes "a") (codes "1") ∷ attribute (codes "b") (codes "2") ∷ attribute (codes "b") (codes "3") ∷ []) ≡ Some (codes "2")
+value_of-first = refl
+
+pub value_of-empty : value_of (codes "a") (attribute (codes "a") [] ∷ []) ≡ Some []
+value_of-empty = refl
+
+pub value_of-none : value_of (codes "A") (attribute (codes "a") (codes "1") ∷ []) ≡ None
+value_of-none = refl

@@ -11,7 +11,9 @@ use std::marker::Model;
 /// An attribute, as raw bytes of the file. The value stands without its quotes.
 #[derive(Clone, Copy, Debug, Default, PartialEq, Eq)]
 pub struct Attr<'a> {
+    /// The name, which no other attribute of the tag has.
     pub name: &'a [u8],
+    /// The bytes between the quotes. An ampersand is a byte like others.
     pub value: &'a [u8],
 }
 
@@ -48,6 +50,7 @@ impl<'a> Attrs<'a> {
         }
     }
 
+    /// Puts an attribute behind the others. Only from the ninth on this takes memory; where there is none, nothing changes.
     pub(crate) fn push(&mut self, attr: Attr<'a>) -> Result<(), AllocFailed<Attr<'a>>>
         ensures ok { OnOk result (self.new ≡ self.old ++ attribute_of attr.entry ∷ []) }
         ensures err { OnErr result (self.new ≡ self.old) }
@@ -79,12 +82,14 @@ impl<'a> Attrs<'a> {
     }
 }
 
+/// Whether one of these has the name.
 fn has_name_in(attrs: &[Attr], name: &[u8]) -> bool
     ensures { result ≡ list_any (λ a. bytes_eq a.name.now name.now) attrs.now }
 {
     attrs.iter().any(|attr| attr.name == name)
 }
 
+/// The value of the first of these that has the name.
 fn value_in<'a>(attrs: &[Attr<'a>], name: &[u8]) -> Option<&'a [u8]>
     ensures { option_map (λ value. value.now) result
         ≡ option_map (λ a. a.value.now) (find (λ a. bytes_eq a.name.now name.now) attrs.now) }

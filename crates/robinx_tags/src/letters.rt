@@ -7,18 +7,21 @@ ghost use Rattle.robinx_tags.specs.Fronts as fronts;
 
 use memchr::{memchr, memchr_iter, memchr2};
 
+/// Whether this byte is a space, a tab, a CR or an LF.
 fn is_white(byte: u8) -> bool
     ensures { result ≡ letters.is_white byte }
 {
     matches!(byte, b' ' | b'\t' | b'\r' | b'\n')
 }
 
+/// Whether this byte may stand in a name: an ASCII letter or digit, `_`, `-`, `.`, `:`, or any byte from 128 up.
 fn is_name_byte(byte: u8) -> bool
     ensures { result ≡ letters.is_name_byte byte }
 {
     byte.is_ascii_alphanumeric() || matches!(byte, b'_' | b'-' | b'.' | b':') || byte >= 128
 }
 
+/// Whether a name may begin with this byte: a name byte other than a digit, `-`, `.` and `:`.
 pub(crate) fn is_name_start(byte: u8) -> bool
     ensures { result ≡ letters.is_name_start byte }
 {
@@ -35,6 +38,7 @@ pub(crate) fn starts_white(bytes: &[u8]) -> bool
     }
 }
 
+/// How many white bytes these begin with.
 #[tactic(auto, using(std::proofs::lemmas::List::Sums::position_or_len_is))]
 pub(crate) fn white_len(bytes: &[u8]) -> usize
     ensures value { result ≡ position_or_len (λ b. not (letters.is_white b)) bytes.now }
@@ -47,6 +51,7 @@ pub(crate) fn white_len(bytes: &[u8]) -> usize
     len
 }
 
+/// How many name bytes these begin with.
 #[tactic(auto, using(std::proofs::lemmas::List::Sums::position_or_len_is))]
 pub(crate) fn name_len(bytes: &[u8]) -> usize
     ensures value { result ≡ position_or_len (λ b. not (letters.is_name_byte b)) bytes.now }

@@ -23,6 +23,7 @@ fn passed_to<'a>(text: &[u8], bytes: &'a [u8]) -> Result<(Option<Tag<'a>>, &'a [
     }
 }
 
+/// An end tag on this line, from behind its `</` on, and the bytes after it.
 fn end_piece<'a>(
     alloc: Global,
     line: u32,
@@ -41,6 +42,7 @@ fn end_piece<'a>(
     Ok((Some(tag), rest))
 }
 
+/// A start tag or an empty tag on this line, from behind its `<` on, and the bytes after it.
 fn start_piece<'a>(
     alloc: Global,
     line: u32,
@@ -59,6 +61,7 @@ fn start_piece<'a>(
     Ok((Some(tag), rest))
 }
 
+/// A text on this line, up to the next `<`, and the bytes from there on.
 fn text_piece<'a>(alloc: Global, line: u32, bytes: &'a [u8]) -> (Tag<'a>, &'a [u8])
     ensures { pieces.text_piece line bytes.now ≡ Ok (Some (view_of result.0), result.1.now) }
 {

@@ -47,6 +47,7 @@ fn value_to(quote: u8, bytes: &[u8]) -> Result<(&[u8], &[u8]), FormKind>
     Ok((value, rest))
 }
 
+/// A fault where an earlier attribute has this name.
 fn check_new(name: &[u8], earlier: &Attrs) -> Result<(), FormKind>
     ensures { Finds (λ _. tt) result (fronts.check (not (list_any (tags.has_name name.now) earlier.now)) kinds.RepeatedAttribute) }
 {
@@ -68,6 +69,7 @@ fn attribute_at<'a>(earlier: &Attrs, bytes: &'a [u8]) -> Result<(Attr<'a>, &'a [
     Ok((Attr { name, value }, rest))
 }
 
+/// What this byte does, white bytes standing before it or not.
 fn turn_of(white: bool, byte: u8) -> Turn
     ensures { result ≡ tags.turn_of white byte }
 {
