@@ -10,5 +10,10 @@ pub mod DoubleFour
 pub mod StructureFacts
 pub mod ClassFacts
 pub mod AcceptedFacts
+pub mod Crowded
+pub mod CrowdedFacts
+pub mod TwoTeamsFacts
+pub mod InstanceFacts
+pub mod SetFacts
 pub mod SetLemmas
 pub mod OrderLemmas
