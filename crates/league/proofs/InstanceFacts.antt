@@ -1,6 +1,6 @@
 -- What fits into a league of four teams, whose slots are 0 to 5, and what doesn't: each condition at its edge.
 use Rattle.std.proofs.Common.{◌≡◌, ℕ, ◌<◌, ◌≤◌, [], ◌∷◌, true, false, arith, refl}
-use Rattle.league.specs.Instance.{IsGame, IsInstance, Instance, class_fits}
+use Rattle.league.specs.Instance.{IsGame, IsInstance, class_fits}
 use Rattle.league.specs.declared.class.Class.TheVariants.{Ca1, Ca2, Ca3, Ca4, Ga1, Br1, Br2, Fa2, Se1}
 use Rattle.league.specs.declared.class.Side.TheVariants.{A, Both, H}
 use Rattle.league.specs.declared.class.Span.TheVariants.{Every, Global}

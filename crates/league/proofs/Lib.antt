@@ -5,6 +5,7 @@ pub mod RangeLemmas
 pub mod MeetingLemmas
 pub mod CountLemmas
 pub mod TableLemmas
+pub mod RoundRobinLemmas
 -- Worked examples, so that a wrong definition does not check:
 pub mod DoubleFour
 pub mod StructureFacts

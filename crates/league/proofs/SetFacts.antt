@@ -1,5 +1,5 @@
 -- Sets with an item more, orders, and places in a table.
-use Rattle.std.proofs.Common.{◌≡◌, List, [], ◌∷◌, arith, refl}
+use Rattle.std.proofs.Common.{◌≡◌, [], ◌∷◌, arith, refl}
 use Rattle.std.specs.List.{range_with_len}
 use Rattle.std.specs.Ordering.{nat_cmp}
 use Rattle.std.specs.declared.cmp.Ordering.TheVariants.{Less, Equal, Greater}

@@ -1,7 +1,7 @@
 -- Which sets a class has, so that it can be copied by kind.
 use Rattle.std.specs.Prelude.{Bool, true, false}
 use Rattle.league.specs.declared.class.Class.{Class}
-use Rattle.league.specs.declared.class.Class.TheVariants.{Ca1, Ca2, Ca3, Ca4, Ga1, Br1, Br2, Fa2, Se1}
+use Rattle.league.specs.declared.class.Class.TheVariants.{Ca1, Ca2, Ca3, Ca4, Br1, Br2, Fa2, Se1}
 
 -- whether it sets teams against teams
 abbrev pub has_opponents : Class → Bool
