@@ -5,10 +5,16 @@ pub mod RangeLemmas
 pub mod MeetingLemmas
 pub mod CountLemmas
 pub mod TableLemmas
+pub mod RoundRobinLemmas
 -- Worked examples, so that a wrong definition does not check:
 pub mod DoubleFour
 pub mod StructureFacts
 pub mod ClassFacts
 pub mod AcceptedFacts
+pub mod Crowded
+pub mod CrowdedFacts
+pub mod TwoTeamsFacts
+pub mod InstanceFacts
+pub mod SetFacts
 pub mod SetLemmas
 pub mod OrderLemmas

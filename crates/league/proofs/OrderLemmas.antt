@@ -1,5 +1,5 @@
 -- Games that are sorted are in order.
-use Rattle.std.proofs.Common.{◌≡◌, ℕ, List, true, false, get_or, refl, subst, arith, IsTrue}
+use Rattle.std.proofs.Common.{◌≡◌, ℕ, List, false, get_or, refl, subst, arith, IsTrue}
 use Rattle.std.specs.Cmp.{IsTotalOrder}
 use Rattle.std.specs.Fn.{Called, ComputesKey, Mut}
 use Rattle.std.specs.List.Sorted.{IsSorted, IsSortedByKey}

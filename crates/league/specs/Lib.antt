@@ -20,6 +20,8 @@ pub mod Deviation
 pub mod Accepted
 -- Laws that the sets rest on:
 pub mod SetLaws
+-- Which sets a class has, for copies:
+pub mod Shapes
 -- Tables in which games are counted:
 pub mod Grid
 pub mod Tables

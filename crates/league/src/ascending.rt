@@ -30,6 +30,7 @@ impl<T: Item> Model for Ascending<T> {
 }
 
 impl<T: Item> Ascending<T> {
+    /// The empty set. It takes no memory.
     pub fn new(alloc: Global) -> Ascending<T>
         ensures { result ≡ [] }
     {
@@ -38,6 +39,10 @@ impl<T: Item> Ascending<T> {
         }
     }
 
+    /// Adds an item at its place, and answers whether it is new: false exactly where it was there.
+    ///
+    /// # Errors
+    /// Only where memory runs out; the set is as before.
     pub fn insert(&mut self, item: T) -> Result<bool, AllocError>
         ensures ok { OnOk result (self.new ≡ with_item T.cmp item self.old) }
         ensures fresh { IfOk result (λ fresh. MatchBool fresh (Contains self.old item → ⊥) (Contains self.old item)) }
@@ -52,6 +57,10 @@ impl<T: Item> Ascending<T> {
         }
     }
 
+    /// An equal set. Its memory is from where this one's is.
+    ///
+    /// # Errors
+    /// Only where memory runs out.
     pub fn copy(&self) -> Result<Ascending<T>, AllocError>
         ensures { IfOk result (λ copy. copy ≡ self.now) }
     {
@@ -60,12 +69,14 @@ impl<T: Item> Ascending<T> {
         })
     }
 
+    /// Whether the item is in the set.
     pub fn contains(&self, item: T) -> bool
         ensures { IsTrue result ↔ Contains self.now item }
     {
         self.items.binary_search(&item).is_ok()
     }
 
+    /// The items in ascending order.
     pub fn items(&self) -> &[T]
         ensures items { result.now ≡ self.now }
         ensures ascending { IsAscending T.cmp self.now }

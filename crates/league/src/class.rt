@@ -1,6 +1,7 @@
 //! The nine classes of constraints of the International Timetabling Competition 2021, in the terms of RobinX.
-ghost use Rattle.std.specs.Prelude.{◌≡◌, IfOk};
+ghost use Rattle.std.specs.Prelude.{◌≡◌, IfOk, IsTrue};
 ghost use Rattle.league.specs.Instance.{class_fits, are_teams, are_slots, are_meetings, is_one_side};
+ghost use Rattle.league.specs.Shapes.{has_one_set, has_opponents};
 
 use crate::pair_set::PairSet;
 use crate::slot_set::SlotSet;
@@ -96,17 +97,28 @@ impl Class {
         ensures { IfOk result (λ copy. copy ≡ self.now) }
     {
         match self {
-            Class::Ca1 {
-                teams,
+            Class::Ca2 { .. } | Class::Ca3 { .. } | Class::Ca4 { .. } => self.copy_of_opponents(),
+            Class::Ga1 {
+                meetings,
+                min,
                 max,
-                side,
                 slots,
-            } => Ok(Class::Ca1 {
-                teams: teams.copy()?,
+            } => Ok(Class::Ga1 {
+                meetings: meetings.copy()?,
+                min: *min,
                 max: *max,
-                side: *side,
                 slots: slots.copy()?,
             }),
+            _ => self.copy_of_one_set(),
+        }
+    }
+
+    /// An equal class, of one that sets teams against teams.
+    fn copy_of_opponents(&self) -> Result<Class, AllocError>
+        requires { IsTrue (has_opponents self.now) }
+        ensures { IfOk result (λ copy. copy ≡ self.now) }
+    {
+        match self {
             Class::Ca2 {
                 teams1,
                 teams2,
@@ -148,15 +160,25 @@ impl Class {
                 span: *span,
                 slots: slots.copy()?,
             }),
-            Class::Ga1 {
-                meetings,
-                min,
+            _ => unreachable!(),
+        }
+    }
+
+    /// An equal class, of one that speaks of one set of teams.
+    fn copy_of_one_set(&self) -> Result<Class, AllocError>
+        requires { IsTrue (has_one_set self.now) }
+        ensures { IfOk result (λ copy. copy ≡ self.now) }
+    {
+        match self {
+            Class::Ca1 {
+                teams,
                 max,
+                side,
                 slots,
-            } => Ok(Class::Ga1 {
-                meetings: meetings.copy()?,
-                min: *min,
+            } => Ok(Class::Ca1 {
+                teams: teams.copy()?,
                 max: *max,
+                side: *side,
                 slots: slots.copy()?,
             }),
             Class::Br1 {
@@ -184,6 +206,7 @@ impl Class {
                 teams: teams.copy()?,
                 min: *min,
             }),
+            _ => unreachable!(),
         }
     }
 }
@@ -214,6 +237,12 @@ impl Constraint {
                 teams2,
                 slots,
                 ..
+            }
+            | Class::Ca4 {
+                teams1,
+                teams2,
+                slots,
+                ..
             } => teams1.are_below(n) && teams2.are_below(n) && slots.are_in_season(n),
             Class::Ca3 {
                 teams1,
@@ -221,12 +250,6 @@ impl Constraint {
                 intp,
                 ..
             } => teams1.are_below(n) && teams2.are_below(n) && *intp > 0,
-            Class::Ca4 {
-                teams1,
-                teams2,
-                slots,
-                ..
-            } => teams1.are_below(n) && teams2.are_below(n) && slots.are_in_season(n),
             Class::Ga1 {
                 meetings,
                 slots,

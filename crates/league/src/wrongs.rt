@@ -1,10 +1,10 @@
 //! Whether a schedule is a double round robin: how many of its pairs, cells and phases are wrong.
-ghost use Rattle.std.specs.Prelude.{◌≡◌, ℕ, ◌+◌, ◌*◌, ◌-◌, ◌<◌, ◌≤◌, ◌++◌, ◌&&◌, ◌==◌, not, if◌then◌else◌, List, [], ◌∷◌, length};
+ghost use Rattle.std.specs.Prelude.{◌≡◌, ◌↔◌, ℕ, ◌+◌, ◌*◌, ◌-◌, ◌<◌, ◌≤◌, ◌++◌, ◌&&◌, ◌==◌, not, if◌then◌else◌, List, [], ◌∷◌, length};
 ghost use Rattle.std.specs.List.{All, count_by, range_with_len, sum_by};
 ghost use Rattle.league.specs.Counts.{counts_of, teams_of, slots_of};
 ghost use Rattle.league.specs.Instance.{IsGame};
 ghost use Rattle.league.specs.Meetings.{meetings_of, pairs_of};
-ghost use Rattle.league.specs.Structure.{isnt_one, pairs_wrong, cells_wrong, phases_wrong};
+ghost use Rattle.league.specs.Structure.{IsPlayedOnce, isnt_one, pairs_wrong, cells_wrong, phases_wrong};
 ghost use Rattle.league.specs.Grid.{entry};
 ghost use Rattle.league.specs.Tables.{AreAtMost, AreTablesOf};
 ghost use Rattle.league.specs.declared.game.Game.{Game};
@@ -25,13 +25,16 @@ pub struct Wrongs {
     pub phases_wrong: u32,
 }
 
-/// What a schedule of at most 10,000 games, all of this league, has wrong. It takes no memory.
+/// What a schedule of at most 10,000 games, all of this league, has wrong: nothing exactly where each two teams meet once at each
+/// of their venues, each team plays once in each slot, and, in a phased league, each two teams meet once in the first half. It
+/// takes no memory.
 pub fn structure(league: &League, schedule: &Schedule) -> Wrongs
     requires few { length schedule.now ≤ 10000 }
     requires fit { All (IsGame league.now.n) schedule.now }
     ensures pairs { result.pairs_wrong ≡ pairs_wrong league.now.n (counts_of schedule.now) }
     ensures cells { result.cells_wrong ≡ cells_wrong league.now.n (counts_of schedule.now) }
     ensures phases { result.phases_wrong ≡ phases_wrong league.now.n league.now.phased (counts_of schedule.now) }
+    ensures played_once { ((result.pairs_wrong ≡ 0) × (result.cells_wrong ≡ 0) × (result.phases_wrong ≡ 0)) ↔ IsPlayedOnce league.now.n league.now.phased (counts_of schedule.now) }
 {
     let n = league.n();
     let tables = Tables::of(n, schedule.games());
