@@ -1,1 +1,2 @@
+pub mod Ga1Facts
 pub mod TermLemmas

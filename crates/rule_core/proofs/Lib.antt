@@ -6,4 +6,5 @@ pub mod OpponentLemmas
 pub mod PairLemmas
 pub mod PlaceLemmas
 pub mod RowLemmas
+pub mod RuleFacts
 pub mod TableLemmas

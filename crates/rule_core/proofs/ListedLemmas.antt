@@ -85,12 +85,6 @@ pub are_meetings-teams : (n : ℕ) (xs : List (ℕ × ℕ)) → IsTrue (are_meet
 are_meetings-teams n xs are k d lt =
     teams_pass n (get_or xs k d) (AllPass-from_list_all (λ p. nat_lt p.0 n && nat_lt p.1 n && not (p.0 == p.1)) xs are k d lt)
 
--- the teams of a meeting that was read from a copy of the list
-pub teams_at : (n known : ℕ) (xs copied : List (ℕ × ℕ)) (k : ℕ) → known ≡ n → copied ≡ xs → All (λ p. (p.0 < n) × (p.1 < n)) xs → k < length copied → ((get_or copied k (0, 0)).0 < known) × ((get_or copied k (0, 0)).1 < known)
-teams_at n known xs copied k same is are lt =
-    subst (λ (ys : List (ℕ × ℕ)). k < length ys → ((get_or ys k (0, 0)).0 < known) × ((get_or ys k (0, 0)).1 < known)) (sym is)
-    (subst (λ (b : ℕ). k < length xs → ((get_or xs k (0, 0)).0 < b) × ((get_or xs k (0, 0)).1 < b)) (sym same) (λ within. are k (0, 0) within)) lt
-
 -- an earlier pair has an earlier place in the table
 earlier : (o p : Ordering) → ordering_then o p ≡ Less → (o ≡ Less) ⊎ ((o ≡ Equal) × (p ≡ Less))
 earlier Less p h = inl refl

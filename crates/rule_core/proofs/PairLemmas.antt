@@ -351,13 +351,6 @@ key_between-few teams t u ascending apart =
 
 -- ---- the loops over the teams
 
--- pairs so far, with those of the next team, and what is left
-pub pairs_more : (teams : List ℕ) (i : ℕ) (before whole : List (ℕ × ℕ)) → i < length teams → before ++ pairs_of (drop i teams) ≡ whole → (before ++ map (λ (j : ℕ). (get_or teams i 0, j)) (drop (i + 1) teams)) ++ pairs_of (drop (i + 1) teams) ≡ whole
-pairs_more teams i before whole inside so_far =
-    append_assoc before (map (λ (j : ℕ). (get_or teams i 0, j)) (drop (i + 1) teams)) (pairs_of (drop (i + 1) teams))
-    ∙ ap (λ (xs : List ℕ). before ++ pairs_of xs) (sym (drop_more teams i 0 inside))
-    ∙ so_far
-
 -- keys so far, with that of an earlier team
 pub earlier_more : (teams : List ℕ) (place i : ℕ) (before whole : List ℕ) → IsAscending nat_cmp teams → place < length teams → i < place → before ++ places_from (first_key teams i) (is_in (get_or teams place 0)) (pairs_of (drop i teams)) ≡ whole → (before ++ key_at teams i place ∷ []) ++ places_from (first_key teams (i + 1)) (is_in (get_or teams place 0)) (pairs_of (drop (i + 1) teams)) ≡ whole
 earlier_more teams place i before whole ascending inside earlier so_far =
@@ -453,10 +446,6 @@ module _ (teams : List ℕ) (pairs : List (ℕ × ℕ)) (places now : List ℕ) 
         | inl same ↦ absurd (apart (sym first.1 ∙ ap (λ (k : ℕ). get_or now (k - 1) 0) (sym same) ∙ second.1))
         | inr differ ↦ key_between-after now t u (p - 1) (q - 1) seen_pairs.ascending apart (omega arith) first.0 first.1 second.1
       ]
-
-  -- the keys of a team by its place
-  pub keys_placed : (t p : ℕ) → p ≡ get_or places t 0 → 0 < p → keys_with now (get_or now (p - 1) 0) ≡ keys_with now t
-  keys_placed t p is more = ap (λ (u : ℕ). keys_with now u) ((place_there t p is more).1)
 
   -- a copy of the teams with the pairs as they are listed
   pub copied_pairs : (copy : List ℕ) → copy ≡ teams → ArePairs copy pairs places

@@ -1,10 +1,9 @@
 -- What neighbouring games lack, over the slots one at a time.
-use Rattle.std.proofs.Common.{◌≡◌, ℕ, ◌+◌, ◌-◌, ◌*◌, ◌<◌, ◌≤◌, zero, suc, List, [], ◌∷◌, ◌++◌, length, get_or, replicate, refl, arith, ap, sym, ◌∙◌, subst, Option, Some, None, zero-add, add-zero}
+use Rattle.std.proofs.Common.{◌≡◌, ℕ, ◌+◌, ◌-◌, ◌*◌, ◌<◌, ◌≤◌, zero, suc, List, [], ◌∷◌, ◌++◌, replicate, refl, arith, ap, sym, ◌∙◌, Option, Some, None, zero-add}
 use Rattle.std.proofs.lemmas.List.{append-nil, append_assoc}
 use Rattle.std.specs.Option.{IfSome, option_to_list}
 use Rattle.std.specs.List.{flat_map, range_with_len}
 use Rattle.league.specs.Bounds.{excess}
-use Rattle.league.specs.Counts.{Counts}
 use Rattle.league.specs.Separation.{lacking, slots_between}
 
 -- nothing lies between games in one slot

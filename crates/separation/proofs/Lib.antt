@@ -1,2 +1,3 @@
 pub mod GapLemmas
+pub mod Se1Facts
 pub mod TermLemmas

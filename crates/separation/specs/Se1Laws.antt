@@ -1,10 +1,10 @@
 -- The laws of SE1: its keys, and which entries a game leaves as they are.
-use Rattle.std.proofs.Common.{◌≡◌, ℕ, ◌+◌, ◌<◌, ◌≤◌, Bool, false, ◌&&◌, ◌==◌, List, [], ◌∷◌, ◌++◌, length, get_or, map, replicate, refl, arith, ap, sym, ◌∙◌, Contains, zero-add}
+use Rattle.std.proofs.Common.{◌≡◌, ℕ, ◌+◌, ◌<◌, ◌≤◌, Bool, false, ◌&&◌, ◌==◌, List, [], ◌∷◌, ◌++◌, length, get_or, replicate, refl, arith, ap, sym, ◌∙◌, Contains}
 use Rattle.std.proofs.lemmas.Bool.Decides.{nat_tests}
 use Rattle.std.proofs.lemmas.List.{get_or-map}
 use Rattle.std.specs.List.{All, flat_map}
 use Rattle.std.specs.List.Sorted.{IsStrictlyIncreasing}
-use Rattle.league.specs.Counts.{Counts, is_game, one_more, slots_of}
+use Rattle.league.specs.Counts.{Counts, one_more, slots_of}
 use Rattle.league.specs.Deviation.{entry_of}
 use Rattle.league.specs.Instance.{IsGame}
 use Rattle.league.specs.Meetings.{pairs_of}

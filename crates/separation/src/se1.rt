@@ -22,9 +22,11 @@ impl Se1 {
     ghost use Rattle.league.specs.Instance.{class_fits};
     ghost use Rattle.league.specs.Meetings.{pairs_of};
     ghost use Rattle.league.specs.Sets.{IsAscending};
+    ghost use Rattle.league.specs.declared.game.Game.{Game};
     ghost use Rattle.std.specs.List.{All};
     ghost use Rattle.std.specs.Ordering.{nat_cmp};
     ghost use Rattle.separation.specs.Classes.{class_of_se1, is_se1};
+    ghost use Rattle.separation.specs.Se1.{touches_of};
 
     /// The rule of an SE1 that fits a league of n teams.
     ///
@@ -38,6 +40,7 @@ impl Se1 {
         ensures reach { IfOk result (λ rule. ⟦<Se1 as Entries>⟧.reach_of rule ≡ 1) }
         ensures terms { IfOk result (λ rule. (m : Counts) → ⟦<Se1 as Entries>⟧.term_count rule ≡ length (vector_of n m constraint.now.class)) }
         ensures entries { IfOk result (λ rule. (k : ℕ) (m : Counts) → ⟦<Se1 as Entries>⟧.entry rule k m ≡ entry_of n m constraint.now.class k) }
+        ensures touches { IfOk result (λ rule. (g : Game) → ⟦<Se1 as Entries>⟧.touches rule g ≡ touches_of constraint.now.class g) }
     {
         let Class::Se1 { teams, min } = &constraint.class else {
             unreachable!()
@@ -54,6 +57,7 @@ impl Se1 {
         ensures reach { IfOk result (λ rule. ⟦<Se1 as Entries>⟧.reach_of rule ≡ 1) }
         ensures terms { IfOk result (λ rule. ⟦<Se1 as Entries>⟧.term_count rule ≡ length (pairs_of teams.now)) }
         ensures entries { IfOk result (λ rule. (k : ℕ) (m : Counts) → ⟦<Se1 as Entries>⟧.entry rule k m ≡ entry_of n m (class_of_se1 teams.now min) k) }
+        ensures touches { IfOk result (λ rule. (g : Game) → ⟦<Se1 as Entries>⟧.touches rule g ≡ touches_of (class_of_se1 teams.now min) g) }
     {
         Ok(Se1 {
             n,

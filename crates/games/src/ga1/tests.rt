@@ -1,6 +1,5 @@
 //! GA1 on the double round robin of four teams.
-ghost use Rattle.std.specs.Prelude.{◌≡◌, IfOk, IsTrue};
-ghost use Rattle.games.specs.Classes.{is_ga1};
+ghost use Rattle.league.specs.Instance.{IsGame};
 
 use super::*;
 use league::{PairSet, SlotId, SlotSet, TeamId};
@@ -24,43 +23,50 @@ const FOUR: [(u16, u16, u16); 12] = [
     (1, 0, 5),
 ];
 
-/// The counts of that schedule.
-fn counts_of_four(rt: &impl Abort, alloc: Global) -> Result<Cells, Fail>
-    ensures { IfOk result (λ cells. cells.n ≡ 4) }
+/// The game of two of four teams.
+fn game(rt: &impl Abort, played: (u16, u16, u16)) -> Game
+    ensures { IsGame 4 result }
 {
-    let mut cells = Cells::new(alloc, 4)?;
-    for (home, away, slot) in FOUR {
-        add(rt, &mut cells, home, away, slot);
-    }
-    Ok(cells)
-}
-
-/// Adds a game of four teams.
-fn add(rt: &impl Abort, cells: &mut Cells, home: u16, away: u16, slot: u16)
-    requires { cells.old.n ≡ 4 }
-    ensures { cells.new.n ≡ 4 }
-{
-    assert!(rt; home < 4);
-    assert!(rt; away < 4);
-    assert!(rt; home != away);
-    assert!(rt; slot < 6);
-    assert!(rt; cells.games() < 10000);
-    cells.add(Game {
+    let (home, away, slot) = played;
+    assert!(rt; home < 4 && away < 4 && home != away && slot < 6);
+    Game {
         home: TeamId(home),
         away: TeamId(away),
         slot: SlotId(slot),
-    });
+    }
+}
+
+/// The one entry of a rule on that schedule.
+fn entry<R: Rule<Plain>>(rt: &impl Abort, alloc: Global, rule: &R) -> Result<u64, Fail> {
+    let mut cells = Cells::new(alloc, 4)?;
+    for played in FOUR {
+        assert!(rt; cells.n() == 4 && cells.games() < 10000);
+        cells.add(game(rt, played));
+    }
+    assert!(rt; cells.n() == 4 && rule.teams() == 4 && rule.terms() == 1);
+    Ok(rule.term(0, &cells, &mut Steps::<Plain>::start()))
+}
+
+/// How many keys a game touches.
+fn touched<R: Entries>(
+    rt: &impl Abort,
+    alloc: Global,
+    rule: &R,
+    played: (u16, u16, u16),
+) -> Result<usize, Fail> {
+    assert!(rt; rule.teams() == 4);
+    let mut keys = Keys::new(alloc, rule.reach())?;
+    rule.touched(game(rt, played), &mut keys);
+    Ok(keys.len())
 }
 
 /// From `min` to `max` home games of team 0 against team 1 in one slot.
-fn meeting_in(alloc: Global, slot: u16, min: u32, max: u32) -> Result<Constraint, Fail>
-    ensures { IfOk result (λ constraint. IsTrue (is_ga1 constraint.class)) }
-{
+fn meeting_in(rt: &impl Abort, alloc: Global, slot: u16, min: u32, max: u32) -> Result<Ga1, Fail> {
     let mut meetings = PairSet::new(alloc);
     meetings.insert((TeamId(0), TeamId(1)))?;
     let mut slots = SlotSet::new(alloc);
     slots.insert(SlotId(slot))?;
-    Ok(Constraint {
+    let constraint = Constraint {
         hard: true,
         penalty: 1,
         class: Class::Ga1 {
@@ -69,50 +75,31 @@ fn meeting_in(alloc: Global, slot: u16, min: u32, max: u32) -> Result<Constraint
             max,
             slots,
         },
-    })
+    };
+    assert!(rt; constraint.fits(4));
+    Ok(Ga1::new(alloc, 4, &constraint)?)
 }
 
+// Team 0 is at home to team 1 in slot 2 alone: in slot 0 the one game lacks; in slot 2, one is too few where two are asked
+// for, and one too many where none may be.
 #[test]
-fn lacks_the_one_game(rt: HostRuntime) -> Result<(), Fail> {
+fn entries_of_four(rt: HostRuntime) -> Result<(), Fail> {
     let alloc = rt.alloc();
-    let constraint = meeting_in(alloc, 0, 1, 1)?;
-    assert!(rt; constraint.fits(4));
-    let rule = Ga1::new(alloc, 4, &constraint)?;
-    assert!(rt; rule.terms() == 1);
-    let cells = counts_of_four(&rt, alloc)?;
-    let mut steps = Steps::<Plain>::start();
-    assert_eq!(rt; rule.term(0, &cells, &mut steps), 1);
-    Ok(())
-}
-
-#[test]
-fn min_above_max(rt: HostRuntime) -> Result<(), Fail> {
-    let alloc = rt.alloc();
-    let constraint = meeting_in(alloc, 2, 2, 0)?;
-    assert!(rt; constraint.fits(4));
-    let rule = Ga1::new(alloc, 4, &constraint)?;
-    assert!(rt; rule.terms() == 1);
-    let cells = counts_of_four(&rt, alloc)?;
-    let mut steps = Steps::<Plain>::start();
-    assert_eq!(rt; rule.term(0, &cells, &mut steps), 1);
+    let lacking = meeting_in(&rt, alloc, 0, 1, 1)?;
+    assert_eq!(rt; entry(&rt, alloc, &lacking)?, 1);
+    let played = meeting_in(&rt, alloc, 2, 1, 1)?;
+    assert_eq!(rt; entry(&rt, alloc, &played)?, 0);
+    let min_above_max = meeting_in(&rt, alloc, 2, 2, 0)?;
+    assert_eq!(rt; entry(&rt, alloc, &min_above_max)?, 1);
     Ok(())
 }
 
 #[test]
 fn touched_by_its_one_game(rt: HostRuntime) -> Result<(), Fail> {
     let alloc = rt.alloc();
-    let constraint = meeting_in(alloc, 2, 1, 1)?;
-    assert!(rt; constraint.fits(4));
-    let rule = Ga1::new(alloc, 4, &constraint)?;
-    let mut keys = Keys::new(alloc, 1)?;
-    rule.touched(
-        Game {
-            home: TeamId(0),
-            away: TeamId(1),
-            slot: SlotId(2),
-        },
-        &mut keys,
-    );
-    assert_eq!(rt; keys.len(), 1);
+    let rule = meeting_in(&rt, alloc, 2, 1, 1)?;
+    assert_eq!(rt; touched(&rt, alloc, &rule, (0, 1, 2))?, 1);
+    assert_eq!(rt; touched(&rt, alloc, &rule, (1, 0, 2))?, 0);
+    assert_eq!(rt; touched(&rt, alloc, &rule, (0, 1, 3))?, 0);
     Ok(())
 }

@@ -1,4 +1,4 @@
-use Rattle.std.proofs.Common.{◌≡◌, ℕ, ◌+◌, ◌<◌, Option, Some, arith, ◌++◌, ◌-◌, ap, sym, ◌∙◌, subst}
+use Rattle.std.proofs.Common.{ℕ, ◌+◌, ◌<◌, Option, arith, ◌++◌, ◌-◌, ap, sym, ◌∙◌, subst}
 use Rattle.std.specs.Option.{IfSome, option_to_list}
 use Rattle.league.specs.Counts.{slot_count}
 use Rattle.league.specs.Separation.{lacking, se1_entry}

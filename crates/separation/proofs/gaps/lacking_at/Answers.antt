@@ -1,4 +1,4 @@
-use Rattle.std.proofs.Common.{◌≡◌, ◌-◌, ◌*◌, ◌+◌, ℕ, List, Option, replicate, arith, ap, sym, ◌∙◌, ◌++◌}
+use Rattle.std.proofs.Common.{ℕ, Option, replicate, arith, ap, ◌++◌}
 use Rattle.std.specs.Option.{option_to_list}
 use Rattle.league.specs.Separation.{lacking}
 use Rattle.separation.proofs.GapLemmas.{lacking_at-none, lacking_at-some}

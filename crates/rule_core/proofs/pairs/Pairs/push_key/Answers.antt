@@ -1,5 +1,4 @@
-use Rattle.std.proofs.Common.{◌≡◌, [], ◌∷◌, arith, ◌∙◌, sym, ap, ℕ}
-use Rattle.rule_core.specs.KeptPairs.{key_at}
+use Rattle.std.proofs.Common.{◌≡◌, [], ◌∷◌, ◌∙◌, sym, ap, ℕ}
 use Rattle.rule_core.specs.Pairs.{key_between}
 use Rattle.rule_core.proofs.PairLemmas.{key_between-no_first, key_between-no_second, key_placed_after, key_placed_before, no_more, one_more_key, place_gone}
 use Rattle.rule_core.proofs.pairs.Pairs.push_key.Goals as goal
