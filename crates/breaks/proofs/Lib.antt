@@ -1,1 +1,2 @@
 pub mod TermLemmas
+mod TouchFacts

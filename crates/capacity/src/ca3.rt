@@ -22,8 +22,8 @@ impl Ca3 {
     ghost use Rattle.league.specs.Instance.{class_fits};
     ghost use Rattle.capacity.specs.Classes.{is_ca3};
 
-    /// The rule of a CA3 that fits a league of n teams. A window that is longer than the season is in none of its slots, so the
-    /// entries are then 0.
+    /// The rule of a CA3 that fits a league of n teams. A season has no window that is longer than itself, so the entries are
+    /// then 0.
     ///
     /// # Errors
     /// Only where memory runs out.

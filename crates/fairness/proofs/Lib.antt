@@ -1,2 +1,3 @@
 pub mod LeadLemmas
 pub mod TermLemmas
+mod TouchFacts
