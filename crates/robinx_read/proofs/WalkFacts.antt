@@ -66,13 +66,15 @@ pub root_first :
 unfolding attributes_at pieces_from walk
 root_first = (refl, refl)
 
--- the last of the 28 lines ends the root: behind it a second root, another element and an End are on line 29
+-- the last of the 28 lines ends the root, and the last of 17 that of a season: behind it a second root, another element and an End
+-- are on line 29, and on line 18
 pub root_last :
     (says 29 0 ("<Instance/>" ∷ []) ≡ Err (BadNesting, 29))
     × (says 29 0 ("<a/>" ∷ []) ≡ Err (BadNesting, 29))
     × (says 29 0 ("</Instance>" ∷ []) ≡ Err (BadNesting, 29))
+    × (solution_of 4 (pieces (c4 ++ codes "<Solution/>")) ≡ Err (BadNesting, 18))
 unfolding attributes_at pieces_from walk
-root_last = (refl, refl, refl)
+root_last = (refl, refl, refl, refl)
 
 -- text and comments may stand around the root, but the whole file is read: a fault of a piece behind the root counts
 pub root_alone :
@@ -231,11 +233,12 @@ value_apart = refl
 
 -- any other tag in it, and any other End, is told at its own line
 pub value_without_tags :
-    (says 6 1 ("<compactness>C" ∷ "<a/></compactness>" ∷ []) ≡ Err (BadNesting, 7))
+    (says 5 1 ("<numberRoundRobin>2" ∷ "<a/></numberRoundRobin>" ∷ []) ≡ Err (BadNesting, 6))
+    × (says 6 1 ("<compactness>C" ∷ "<a/></compactness>" ∷ []) ≡ Err (BadNesting, 7))
     × (says 6 1 ("<compactness>C" ∷ "</Format>" ∷ []) ≡ Err (BadNesting, 7))
     × (says 7 1 ("<gameMode>" ∷ "<gameMode/>" ∷ []) ≡ Err (BadNesting, 8))
 unfolding attributes_at pieces_from walk
-value_without_tags = (refl, refl, refl)
+value_without_tags = (refl, refl, refl, refl)
 
 -- its fault is on the line of its Start: two rounds alone, `C` alone, and a number's faults before its value
 pub value_fault :
