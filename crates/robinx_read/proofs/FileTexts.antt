@@ -1,16 +1,20 @@
 -- Whole files, line by line.
 use Prim.Native.String.{String}
-use Rattle.std.proofs.Common.{ℕ, List, [], ◌∷◌, ◌++◌, map, if◌then◌else◌}
+use Rattle.std.proofs.Common.{ℕ, ◌+◌, ◌-◌, List, [], ◌∷◌, ◌++◌, map, take, drop, if◌then◌else◌}
 use Rattle.std.specs.Prelude.{codes, ◌==◌}
 
 -- the lines, each with its end
-abbrev text : List String → List ℕ
+abbrev pub text : List String → List ℕ
 text [] = []
 text (line ∷ lines) = codes line ++ (codes "\n" ++ text lines)
 
+-- the lines, of which from this one on so many are others; the first is line 1
+abbrev pub replaced : List String → ℕ → ℕ → List String → List String
+replaced lines from count others = take (from - 1) lines ++ (others ++ drop (from - 1 + count) lines)
+
 -- a phased league of four teams without constraints
-abbrev pub i4 : List ℕ
-i4 = text (
+abbrev pub league_lines : List String
+league_lines =
     "<?xml version=\"1.0\" encoding=\"UTF-8\"?>"
     ∷ "<Instance>"
     ∷ "<Structure>"
@@ -39,74 +43,24 @@ i4 = text (
     ∷ "<Constraints>"
     ∷ "</Constraints>"
     ∷ "</Instance>"
-    ∷ [])
+    ∷ []
+
+abbrev pub i4 : List ℕ
+i4 = text league_lines
 
 -- the same with a CA1
 abbrev pub i4_ca1 : List ℕ
-i4_ca1 = text (
-    "<?xml version=\"1.0\" encoding=\"UTF-8\"?>"
-    ∷ "<Instance>"
-    ∷ "<Structure>"
-    ∷ "<Format leagueIds=\"0\">"
-    ∷ "<numberRoundRobin>2</numberRoundRobin>"
-    ∷ "<compactness>C</compactness>"
-    ∷ "<gameMode>P</gameMode>"
-    ∷ "</Format>"
-    ∷ "</Structure>"
-    ∷ "<Resources>"
-    ∷ "<Teams>"
-    ∷ "<team id=\"0\"/>"
-    ∷ "<team id=\"1\"/>"
-    ∷ "<team id=\"2\"/>"
-    ∷ "<team id=\"3\"/>"
-    ∷ "</Teams>"
-    ∷ "<Slots>"
-    ∷ "<slot id=\"0\"/>"
-    ∷ "<slot id=\"1\"/>"
-    ∷ "<slot id=\"2\"/>"
-    ∷ "<slot id=\"3\"/>"
-    ∷ "<slot id=\"4\"/>"
-    ∷ "<slot id=\"5\"/>"
-    ∷ "</Slots>"
-    ∷ "</Resources>"
-    ∷ "<Constraints>"
-    ∷ "<CapacityConstraints>"
+i4_ca1 = text (replaced league_lines 27 0 (
+    "<CapacityConstraints>"
     ∷ "<CA1 teams=\"0\" min=\"0\" max=\"0\" mode=\"H\" slots=\"2;3\" type=\"HARD\" penalty=\"1\"/>"
     ∷ "</CapacityConstraints>"
-    ∷ "</Constraints>"
-    ∷ "</Instance>"
-    ∷ [])
+    ∷ []
+    ))
 
--- all nine classes, in ten constraints
+-- the same teams in a league that isn't phased, with all nine classes in ten constraints
 abbrev pub nine : List ℕ
-nine = text (
-    "<?xml version=\"1.0\" encoding=\"UTF-8\"?>"
-    ∷ "<Instance>"
-    ∷ "<Structure>"
-    ∷ "<Format leagueIds=\"0\">"
-    ∷ "<numberRoundRobin>2</numberRoundRobin>"
-    ∷ "<compactness>C</compactness>"
-    ∷ "<gameMode>NULL</gameMode>"
-    ∷ "</Format>"
-    ∷ "</Structure>"
-    ∷ "<Resources>"
-    ∷ "<Teams>"
-    ∷ "<team id=\"0\"/>"
-    ∷ "<team id=\"1\"/>"
-    ∷ "<team id=\"2\"/>"
-    ∷ "<team id=\"3\"/>"
-    ∷ "</Teams>"
-    ∷ "<Slots>"
-    ∷ "<slot id=\"0\"/>"
-    ∷ "<slot id=\"1\"/>"
-    ∷ "<slot id=\"2\"/>"
-    ∷ "<slot id=\"3\"/>"
-    ∷ "<slot id=\"4\"/>"
-    ∷ "<slot id=\"5\"/>"
-    ∷ "</Slots>"
-    ∷ "</Resources>"
-    ∷ "<Constraints>"
-    ∷ "<CapacityConstraints>"
+nine = text (replaced (replaced league_lines 7 1 ("<gameMode>NULL</gameMode>" ∷ [])) 27 0 (
+    "<CapacityConstraints>"
     ∷ "<CA1 teams=\"0\" min=\"0\" max=\"0\" mode=\"H\" slots=\"2;3\" type=\"HARD\" penalty=\"1\"/>"
     ∷ "<CA2 teams1=\"0\" teams2=\"1;2\" min=\"0\" max=\"1\" mode1=\"HA\" mode2=\"GLOBAL\" slots=\"0;1;2\" type=\"SOFT\" penalty=\"2\"/>"
     ∷ "<CA3 teams1=\"0\" teams2=\"1;2;3\" min=\"0\" max=\"2\" mode1=\"H\" mode2=\"SLOTS\" intp=\"3\" type=\"SOFT\" penalty=\"5\"/>"
@@ -128,13 +82,12 @@ nine = text (
     ∷ "<CapacityConstraints>"
     ∷ "<CA1 teams=\"\" min=\"0\" max=\"4294967295\" mode=\"A\" slots=\"2\" type=\"HARD\" penalty=\"0\"/>"
     ∷ "</CapacityConstraints>"
-    ∷ "</Constraints>"
-    ∷ "</Instance>"
-    ∷ [])
+    ∷ []
+    ))
 
 -- the double circle schedule of four teams, in its own order
-abbrev pub c4 : List ℕ
-c4 = text (
+abbrev pub season_lines : List String
+season_lines =
     "<?xml version=\"1.0\" encoding=\"UTF-8\"?>"
     ∷ "<Solution>"
     ∷ "<Games>"
@@ -152,11 +105,14 @@ c4 = text (
     ∷ "<ScheduledMatch home=\"1\" away=\"0\" slot=\"5\"/>"
     ∷ "</Games>"
     ∷ "</Solution>"
-    ∷ [])
+    ∷ []
+
+abbrev pub c4 : List ℕ
+c4 = text season_lines
 
 -- the same games in order of slot, home and away
-abbrev pub circle : List ℕ
-circle = text (
+abbrev pub circle_lines : List String
+circle_lines =
     "<?xml version=\"1.0\" encoding=\"UTF-8\"?>"
     ∷ "<Solution>"
     ∷ "<Games>"
@@ -174,32 +130,19 @@ circle = text (
     ∷ "<ScheduledMatch home=\"2\" away=\"3\" slot=\"5\"/>"
     ∷ "</Games>"
     ∷ "</Solution>"
-    ∷ [])
+    ∷ []
+
+abbrev pub circle : List ℕ
+circle = text circle_lines
 
 -- the same with a score
 abbrev pub scored : List ℕ
-scored = text (
-    "<?xml version=\"1.0\" encoding=\"UTF-8\"?>"
-    ∷ "<Solution>"
-    ∷ "<MetaData>"
+scored = text (replaced circle_lines 3 0 (
+    "<MetaData>"
     ∷ "<ObjectiveValue infeasibility=\"3\" objective=\"40\"/>"
     ∷ "</MetaData>"
-    ∷ "<Games>"
-    ∷ "<ScheduledMatch home=\"1\" away=\"2\" slot=\"0\"/>"
-    ∷ "<ScheduledMatch home=\"3\" away=\"0\" slot=\"0\"/>"
-    ∷ "<ScheduledMatch home=\"1\" away=\"3\" slot=\"1\"/>"
-    ∷ "<ScheduledMatch home=\"2\" away=\"0\" slot=\"1\"/>"
-    ∷ "<ScheduledMatch home=\"0\" away=\"1\" slot=\"2\"/>"
-    ∷ "<ScheduledMatch home=\"3\" away=\"2\" slot=\"2\"/>"
-    ∷ "<ScheduledMatch home=\"0\" away=\"3\" slot=\"3\"/>"
-    ∷ "<ScheduledMatch home=\"2\" away=\"1\" slot=\"3\"/>"
-    ∷ "<ScheduledMatch home=\"0\" away=\"2\" slot=\"4\"/>"
-    ∷ "<ScheduledMatch home=\"3\" away=\"1\" slot=\"4\"/>"
-    ∷ "<ScheduledMatch home=\"1\" away=\"0\" slot=\"5\"/>"
-    ∷ "<ScheduledMatch home=\"2\" away=\"3\" slot=\"5\"/>"
-    ∷ "</Games>"
-    ∷ "</Solution>"
-    ∷ [])
+    ∷ []
+    ))
 
 -- a league of four teams with constraints, and much that is passed over
 abbrev pub f4 : List ℕ
@@ -260,201 +203,3 @@ f4 = text (
 -- the phased league of four teams with the other quotes
 abbrev pub single_quotes : List ℕ
 single_quotes = map (λ b. if b == 34 then 39 else b) i4
-
--- it cut within a tag
-abbrev pub cut_in_tag : List ℕ
-cut_in_tag = text (
-    "<?xml version=\"1.0\" encoding=\"UTF-8\"?>"
-    ∷ "<Instance>"
-    ∷ "<Structure>"
-    ∷ "<Format leagueIds=\"0\">"
-    ∷ "<numberRoundRobin>2</numberRoundRobin>"
-    ∷ "<compactness>C</compactness>"
-    ∷ "<gameMode>P</gameMode>"
-    ∷ "</Format>"
-    ∷ "</Structure>"
-    ∷ "<Resources>"
-    ∷ "<Teams>"
-    ∷ "<team id=\"0\"/>"
-    ∷ "<team id=\"1\"/>"
-    ∷ []
-    ) ++ codes "<team id=\"2"
-
--- it cut behind a line
-abbrev pub cut_after_20 : List ℕ
-cut_after_20 = text (
-    "<?xml version=\"1.0\" encoding=\"UTF-8\"?>"
-    ∷ "<Instance>"
-    ∷ "<Structure>"
-    ∷ "<Format leagueIds=\"0\">"
-    ∷ "<numberRoundRobin>2</numberRoundRobin>"
-    ∷ "<compactness>C</compactness>"
-    ∷ "<gameMode>P</gameMode>"
-    ∷ "</Format>"
-    ∷ "</Structure>"
-    ∷ "<Resources>"
-    ∷ "<Teams>"
-    ∷ "<team id=\"0\"/>"
-    ∷ "<team id=\"1\"/>"
-    ∷ "<team id=\"2\"/>"
-    ∷ "<team id=\"3\"/>"
-    ∷ "</Teams>"
-    ∷ "<Slots>"
-    ∷ "<slot id=\"0\"/>"
-    ∷ "<slot id=\"1\"/>"
-    ∷ "<slot id=\"2\"/>"
-    ∷ []
-    )
-
--- it without a team
-abbrev pub three_teams : List ℕ
-three_teams = text (
-    "<?xml version=\"1.0\" encoding=\"UTF-8\"?>"
-    ∷ "<Instance>"
-    ∷ "<Structure>"
-    ∷ "<Format leagueIds=\"0\">"
-    ∷ "<numberRoundRobin>2</numberRoundRobin>"
-    ∷ "<compactness>C</compactness>"
-    ∷ "<gameMode>P</gameMode>"
-    ∷ "</Format>"
-    ∷ "</Structure>"
-    ∷ "<Resources>"
-    ∷ "<Teams>"
-    ∷ "<team id=\"0\"/>"
-    ∷ "<team id=\"1\"/>"
-    ∷ "<team id=\"2\"/>"
-    ∷ "</Teams>"
-    ∷ "<Slots>"
-    ∷ "<slot id=\"0\"/>"
-    ∷ "<slot id=\"1\"/>"
-    ∷ "<slot id=\"2\"/>"
-    ∷ "<slot id=\"3\"/>"
-    ∷ "<slot id=\"4\"/>"
-    ∷ "<slot id=\"5\"/>"
-    ∷ "</Slots>"
-    ∷ "</Resources>"
-    ∷ "<Constraints>"
-    ∷ "</Constraints>"
-    ∷ "</Instance>"
-    ∷ []
-    )
-
--- it with a class that is none of the nine
-abbrev pub other_class : List ℕ
-other_class = text (
-    "<?xml version=\"1.0\" encoding=\"UTF-8\"?>"
-    ∷ "<Instance>"
-    ∷ "<Structure>"
-    ∷ "<Format leagueIds=\"0\">"
-    ∷ "<numberRoundRobin>2</numberRoundRobin>"
-    ∷ "<compactness>C</compactness>"
-    ∷ "<gameMode>P</gameMode>"
-    ∷ "</Format>"
-    ∷ "</Structure>"
-    ∷ "<Resources>"
-    ∷ "<Teams>"
-    ∷ "<team id=\"0\"/>"
-    ∷ "<team id=\"1\"/>"
-    ∷ "<team id=\"2\"/>"
-    ∷ "<team id=\"3\"/>"
-    ∷ "</Teams>"
-    ∷ "<Slots>"
-    ∷ "<slot id=\"0\"/>"
-    ∷ "<slot id=\"1\"/>"
-    ∷ "<slot id=\"2\"/>"
-    ∷ "<slot id=\"3\"/>"
-    ∷ "<slot id=\"4\"/>"
-    ∷ "<slot id=\"5\"/>"
-    ∷ "</Slots>"
-    ∷ "</Resources>"
-    ∷ "<Constraints>"
-    ∷ "<BreakConstraints>"
-    ∷ "<BR3 intp=\"1\"/>"
-    ∷ "</BreakConstraints>"
-    ∷ "</Constraints>"
-    ∷ "</Instance>"
-    ∷ []
-    )
-
--- it with a lower bound on a capacity class
-abbrev pub min_one : List ℕ
-min_one = text (
-    "<?xml version=\"1.0\" encoding=\"UTF-8\"?>"
-    ∷ "<Instance>"
-    ∷ "<Structure>"
-    ∷ "<Format leagueIds=\"0\">"
-    ∷ "<numberRoundRobin>2</numberRoundRobin>"
-    ∷ "<compactness>C</compactness>"
-    ∷ "<gameMode>P</gameMode>"
-    ∷ "</Format>"
-    ∷ "</Structure>"
-    ∷ "<Resources>"
-    ∷ "<Teams>"
-    ∷ "<team id=\"0\"/>"
-    ∷ "<team id=\"1\"/>"
-    ∷ "<team id=\"2\"/>"
-    ∷ "<team id=\"3\"/>"
-    ∷ "</Teams>"
-    ∷ "<Slots>"
-    ∷ "<slot id=\"0\"/>"
-    ∷ "<slot id=\"1\"/>"
-    ∷ "<slot id=\"2\"/>"
-    ∷ "<slot id=\"3\"/>"
-    ∷ "<slot id=\"4\"/>"
-    ∷ "<slot id=\"5\"/>"
-    ∷ "</Slots>"
-    ∷ "</Resources>"
-    ∷ "<Constraints>"
-    ∷ "<CapacityConstraints>"
-    ∷ "<CA1 teams=\"0\" min=\"1\" max=\"1\" mode=\"H\" slots=\"2;3\" type=\"HARD\" penalty=\"1\"/>"
-    ∷ "</CapacityConstraints>"
-    ∷ "</Constraints>"
-    ∷ "</Instance>"
-    ∷ []
-    )
-
--- a solution with a slot that there isn't
-abbrev pub unknown_slot : List ℕ
-unknown_slot = text (
-    "<?xml version=\"1.0\" encoding=\"UTF-8\"?>"
-    ∷ "<Solution>"
-    ∷ "<Games>"
-    ∷ "<ScheduledMatch home=\"3\" away=\"0\" slot=\"6\"/>"
-    ∷ "<ScheduledMatch home=\"1\" away=\"2\" slot=\"0\"/>"
-    ∷ "<ScheduledMatch home=\"1\" away=\"3\" slot=\"1\"/>"
-    ∷ "<ScheduledMatch home=\"2\" away=\"0\" slot=\"1\"/>"
-    ∷ "<ScheduledMatch home=\"3\" away=\"2\" slot=\"2\"/>"
-    ∷ "<ScheduledMatch home=\"0\" away=\"1\" slot=\"2\"/>"
-    ∷ "<ScheduledMatch home=\"0\" away=\"3\" slot=\"3\"/>"
-    ∷ "<ScheduledMatch home=\"2\" away=\"1\" slot=\"3\"/>"
-    ∷ "<ScheduledMatch home=\"3\" away=\"1\" slot=\"4\"/>"
-    ∷ "<ScheduledMatch home=\"0\" away=\"2\" slot=\"4\"/>"
-    ∷ "<ScheduledMatch home=\"2\" away=\"3\" slot=\"5\"/>"
-    ∷ "<ScheduledMatch home=\"1\" away=\"0\" slot=\"5\"/>"
-    ∷ "</Games>"
-    ∷ "</Solution>"
-    ∷ []
-    )
-
--- a solution in which a team meets itself
-abbrev pub same_team : List ℕ
-same_team = text (
-    "<?xml version=\"1.0\" encoding=\"UTF-8\"?>"
-    ∷ "<Solution>"
-    ∷ "<Games>"
-    ∷ "<ScheduledMatch home=\"3\" away=\"3\" slot=\"0\"/>"
-    ∷ "<ScheduledMatch home=\"1\" away=\"2\" slot=\"0\"/>"
-    ∷ "<ScheduledMatch home=\"1\" away=\"3\" slot=\"1\"/>"
-    ∷ "<ScheduledMatch home=\"2\" away=\"0\" slot=\"1\"/>"
-    ∷ "<ScheduledMatch home=\"3\" away=\"2\" slot=\"2\"/>"
-    ∷ "<ScheduledMatch home=\"0\" away=\"1\" slot=\"2\"/>"
-    ∷ "<ScheduledMatch home=\"0\" away=\"3\" slot=\"3\"/>"
-    ∷ "<ScheduledMatch home=\"2\" away=\"1\" slot=\"3\"/>"
-    ∷ "<ScheduledMatch home=\"3\" away=\"1\" slot=\"4\"/>"
-    ∷ "<ScheduledMatch home=\"0\" away=\"2\" slot=\"4\"/>"
-    ∷ "<ScheduledMatch home=\"2\" away=\"3\" slot=\"5\"/>"
-    ∷ "<ScheduledMatch home=\"1\" away=\"0\" slot=\"5\"/>"
-    ∷ "</Games>"
-    ∷ "</Solution>"
-    ∷ []
-    )

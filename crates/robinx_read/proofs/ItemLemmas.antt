@@ -17,9 +17,6 @@ take_one_more n x xs = let e : 1 + n ≡ suc n = omega arith in rw e refl
 drop_one_more : (n x : ℕ) (xs : List ℕ) → drop (1 + n + 1) (x ∷ xs) ≡ drop (n + 1) xs
 drop_one_more n x xs = let e : 1 + n + 1 ≡ suc (n + 1) = omega arith in rw e refl
 
-drop_first : (x : ℕ) (xs : List ℕ) → drop (0 + 1) (x ∷ xs) ≡ xs
-drop_first x xs = refl
-
 -- at `;` an empty item
 items_of-end : (b : ℕ) (text : List ℕ) → ends_item b ≡ true → items_of (b ∷ text) ≡ before_first ends_item (b ∷ text) ∷ items_of (after_first ends_item (b ∷ text))
 items_of-end b text is = rw is refl
@@ -61,7 +58,3 @@ module _ {X : Type 0} (cmp : X → X → Ordering) (read : List ℕ → Reading 
   pub gathered_fault : (set : List X) (text : List ℕ) (kind : FormKind) → 0 < length text → read (before_first ends_item text) ≡ Err kind
       → gathered cmp set (each read (items_of text)) ≡ Err kind
   gathered_fault set text kind some is = rw (items_of-first text some, is) refl
-
-  pub gathered_end : (set : List X) (text : List ℕ) → length text ≡ 0 → gathered cmp set (each read (items_of text)) ≡ Ok set
-  gathered_end set [] none = refl
-  gathered_end set (b ∷ text) none = absurd (omega arith)

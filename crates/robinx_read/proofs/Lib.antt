@@ -14,5 +14,8 @@ pub mod GamesLemmas
 mod FileTexts
 mod TextFacts
 mod FileFacts
+mod WalkFacts
+mod ClassFacts
+mod LimitFacts
 mod PrefixFacts
 mod ValueFacts

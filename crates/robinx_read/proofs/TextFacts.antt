@@ -1,12 +1,16 @@
--- Texts of leagues and schedules, worked out by hand.
+-- Texts of leagues and schedules, worked out by hand, and one of them read.
 use Rattle.std.proofs.Common.{◌≡◌, ℕ, true, false, List, [], ◌∷◌, refl}
-use Rattle.std.specs.Prelude.{Some, None}
+use Rattle.std.specs.Prelude.{Some, None, Ok}
 use Rattle.std.specs.Fmt.{digits}
+use Rattle.robinx_tags.specs.Tags.{attributes_at}
+use Rattle.robinx_tags.specs.Pieces.{pieces, pieces_from}
 use Rattle.league.specs.Instance.{Instance}
 use Rattle.league.specs.declared.game.Game.{Game}
 use Rattle.league.specs.declared.class.Class.TheVariants.{Ca1, Ca2, Ca3, Ca4, Ga1, Br1, Br2, Fa2, Se1}
 use Rattle.league.specs.declared.class.Side.TheVariants.{H, A, Both}
 use Rattle.league.specs.declared.class.Span.TheVariants.{Every}
+use Rattle.robinx_read.specs.Walk.{walk}
+use Rattle.robinx_read.specs.InstanceFile.{instance_of}
 use Rattle.robinx_read.specs.Texts.{instance_text, solution_text}
 use Rattle.robinx_read.proofs.FileTexts.{i4, i4_ca1, nine, c4, circle, scored}
 
@@ -39,6 +43,11 @@ nine_classes = record {
 pub instance_text-nine : instance_text nine_classes ≡ nine
 unfolding digits
 instance_text-nine = refl
+
+-- the names of all classes, each in its group
+pub instance_of-nine : instance_of (pieces nine) ≡ Ok nine_classes
+unfolding attributes_at pieces_from walk
+instance_of-nine = refl
 
 abbrev game : ℕ → ℕ → ℕ → Game
 game i j s = record { home = record { 0 = i }; away = record { 0 = j }; slot = record { 0 = s } }

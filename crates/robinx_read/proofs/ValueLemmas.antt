@@ -1,30 +1,13 @@
 -- What the readers of values answer.
-use Rattle.std.proofs.Common.{◌≡◌, ◌≢◌, ℕ, ◌<◌, ◌≤◌, ◌^◌, Bool, true, false, not, List, [], ◌∷◌, Ok, Err, refl, subst, arith}
+use Rattle.std.proofs.Common.{◌≡◌, ◌≢◌, ℕ, ◌<◌, Bool, true, false, not, List, [], ◌∷◌, Ok, Err, refl, subst, arith}
 use Rattle.std.specs.Prelude.{nat_lt, ◌==◌}
 use Rattle.std.specs.List.{count_by, before_first, after_first}
-use Rattle.std.specs.Str.Parse.{digits_value}
 use Rattle.std.proofs.lemmas.Bool.Decides.{nat_tests}
-use Rattle.robin_io.specs.Numbers.{is_number}
 use Rattle.robinx_tags.specs.Fronts.{◌>>=◌, check}
 use Rattle.robinx_tags.specs.declared.fault.FormKind.{FormKind}
-use Rattle.robinx_tags.specs.declared.fault.FormKind.TheVariants.{BadNumber, NumberTooLarge, UnknownTeam, SameTeam}
+use Rattle.robinx_tags.specs.declared.fault.FormKind.TheVariants.{BadNumber, UnknownTeam, SameTeam}
 use Rattle.robinx_read.specs.Values.{Reading, number, id, each, distinct, meeting, team}
 use Rattle.robinx_read.proofs.SetLemmas.{Every}
-
-small : (n : ℕ) → n < 2 ^ 32 → nat_lt n (2 ^ 32) ≡ true
-small n h = grind (arith, nat_tests)
-
-large : (n : ℕ) → 2 ^ 32 ≤ n → nat_lt n (2 ^ 32) ≡ false
-large n h = grind (arith, nat_tests)
-
-pub number-ok : (text : List ℕ) → is_number text ≡ true → digits_value 10 text < 2 ^ 32 → number text ≡ Ok (digits_value 10 text)
-number-ok text is h = rw (is, small (digits_value 10 text) h) refl
-
-pub number-large : (text : List ℕ) → is_number text ≡ true → 2 ^ 32 ≤ digits_value 10 text → number text ≡ Err NumberTooLarge
-number-large text is h = rw (is, large (digits_value 10 text) h) refl
-
-pub number-bad : (text : List ℕ) → is_number text ≡ false → number text ≡ Err BadNumber
-number-bad text isnt = rw isnt refl
 
 -- what a number below a limit is
 below_by : (unknown : FormKind) (limit n x : ℕ) (t : Bool) → nat_lt n limit ≡ t → (check t unknown >>= λ known. Ok n) ≡ Ok x → x < limit

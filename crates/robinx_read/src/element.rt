@@ -70,6 +70,16 @@ pub struct Row {
     pub times: Times,
 }
 
+const IN_INSTANCE_FILE: [Row; 1] = [Row {
+    element: Element::Instance,
+    times: Times::Once,
+}];
+
+const IN_SOLUTION_FILE: [Row; 1] = [Row {
+    element: Element::Solution,
+    times: Times::Once,
+}];
+
 const IN_INSTANCE: [Row; 3] = [
     Row {
         element: Element::Structure,
@@ -84,6 +94,11 @@ const IN_INSTANCE: [Row; 3] = [
         times: Times::Once,
     },
 ];
+
+const IN_STRUCTURE: [Row; 1] = [Row {
+    element: Element::Format,
+    times: Times::Once,
+}];
 
 const IN_FORMAT: [Row; 3] = [
     Row {
@@ -111,7 +126,17 @@ const IN_RESOURCES: [Row; 2] = [
     },
 ];
 
-const GROUPS: [Row; 6] = [
+const IN_TEAMS: [Row; 1] = [Row {
+    element: Element::Team,
+    times: Times::Any,
+}];
+
+const IN_SLOTS: [Row; 1] = [Row {
+    element: Element::Slot,
+    times: Times::Any,
+}];
+
+const IN_CONSTRAINTS: [Row; 6] = [
     Row {
         element: Element::Group(GroupName::Basic),
         times: Times::Any,
@@ -138,7 +163,7 @@ const GROUPS: [Row; 6] = [
     },
 ];
 
-const CLASSES: [Row; 9] = [
+const IN_GROUP: [Row; 9] = [
     Row {
         element: Element::Class(ClassName::Ca1),
         times: Times::Any,
@@ -176,6 +201,16 @@ const CLASSES: [Row; 9] = [
         times: Times::Any,
     },
 ];
+
+const IN_SOLUTION: [Row; 1] = [Row {
+    element: Element::Games,
+    times: Times::Once,
+}];
+
+const IN_GAMES: [Row; 1] = [Row {
+    element: Element::ScheduledMatch,
+    times: Times::Any,
+}];
 
 impl ClassName {
     fn name(self) -> &'static [u8]
@@ -242,39 +277,18 @@ impl Element {
         ensures { result.now ≡ elements.inside self }
     {
         match self {
-            Element::InstanceFile => &[Row {
-                element: Element::Instance,
-                times: Times::Once,
-            }],
-            Element::SolutionFile => &[Row {
-                element: Element::Solution,
-                times: Times::Once,
-            }],
+            Element::InstanceFile => &IN_INSTANCE_FILE,
+            Element::SolutionFile => &IN_SOLUTION_FILE,
             Element::Instance => &IN_INSTANCE,
-            Element::Structure => &[Row {
-                element: Element::Format,
-                times: Times::Once,
-            }],
+            Element::Structure => &IN_STRUCTURE,
             Element::Format => &IN_FORMAT,
             Element::Resources => &IN_RESOURCES,
-            Element::Teams => &[Row {
-                element: Element::Team,
-                times: Times::Any,
-            }],
-            Element::Slots => &[Row {
-                element: Element::Slot,
-                times: Times::Any,
-            }],
-            Element::Constraints => &GROUPS,
-            Element::Group(_) => &CLASSES,
-            Element::Solution => &[Row {
-                element: Element::Games,
-                times: Times::Once,
-            }],
-            Element::Games => &[Row {
-                element: Element::ScheduledMatch,
-                times: Times::Any,
-            }],
+            Element::Teams => &IN_TEAMS,
+            Element::Slots => &IN_SLOTS,
+            Element::Constraints => &IN_CONSTRAINTS,
+            Element::Group(_) => &IN_GROUP,
+            Element::Solution => &IN_SOLUTION,
+            Element::Games => &IN_GAMES,
             Element::NumberRoundRobin
             | Element::Compactness
             | Element::GameMode
