@@ -1,7 +1,7 @@
-use Rattle.std.proofs.Common.{◌≡◌, ◌<◌, ◌≤◌, ℕ, List, String, [], ◌∷◌, length, None, refl, arith, rules}
+use Rattle.std.proofs.Common.{◌≡◌, ◌<◌, ◌≤◌, List, String, [], ◌∷◌, length, None, refl, arith}
 use Rattle.std.proofs.lemmas.Bool.Decides.{nat_tests}
 use Rattle.robin.specs.SeenWords.{texts}
-use Rattle.robin.specs.Words.{Command, reading}
+use Rattle.robin.specs.Words.{reading}
 use Rattle.robin.proofs.words.read_words.Goals as goal
 use Rattle.robin.proofs.words.read_words.Goals.{in_default-via-then-words-lt2, in_default-via-else-words-lt2+else-words-lt3+else-words-lt4}
 
