@@ -1,5 +1,5 @@
 -- The patterns of the double round robin of four teams, and of its first half, a single round robin.
-use Rattle.std.specs.Prelude.{◌≡◌, ◌≢◌, ℕ, ◌-◌, ◌<◌, zero, suc, List, [], ◌∷◌, refl}
+use Rattle.std.specs.Prelude.{◌≡◌, ◌≢◌, ℕ, ◌-◌, ◌<◌, zero, suc, List, [], ◌∷◌, map, refl}
 use Rattle.std.proofs.Common.{arith}
 use Rattle.std.proofs.lemmas.List.Elements.{All-cons, All-nil}
 use Rattle.league.specs.Counts.{counts_of}
@@ -77,3 +77,19 @@ half-is_single = record {
 -- the canonical patterns of four teams: the first halves of those above
 pub canonical_patterns-four : canonical_patterns 4 ≡ (A ∷ A ∷ H ∷ []) ∷ (H ∷ H ∷ A ∷ []) ∷ (A ∷ H ∷ A ∷ []) ∷ (H ∷ A ∷ H ∷ []) ∷ []
 canonical_patterns-four = refl
+
+-- of six teams, from the games of the single circle schedule: slot 0 has 5-0, 1-4, 3-2; slot 1 has 1-5, 2-0, 4-3; slot 2 has 5-2, 3-1, 0-4;
+-- slot 3 has 3-5, 4-2, 1-0; slot 4 has 5-4, 0-3, 2-1. Teams 4 and 5 have no break, the others one each
+pub canonical_patterns-six : canonical_patterns 6 ≡ (A ∷ A ∷ H ∷ A ∷ H ∷ []) ∷ (H ∷ H ∷ A ∷ H ∷ A ∷ []) ∷ (A ∷ H ∷ A ∷ A ∷ H ∷ []) ∷ (H ∷ A ∷ H ∷ H ∷ A ∷ []) ∷ (A ∷ H ∷ A ∷ H ∷ A ∷ []) ∷ (H ∷ A ∷ H ∷ A ∷ H ∷ []) ∷ []
+canonical_patterns-six = refl
+
+pub breaks_in-six : map breaks_in (canonical_patterns 6) ≡ 1 ∷ 1 ∷ 1 ∷ 1 ∷ 0 ∷ 0 ∷ []
+breaks_in-six = refl
+
+-- breaks on both sides: HHAAAH repeats at places 1, 3 and 4
+pub breaks_in-both_sides : breaks_in (H ∷ H ∷ A ∷ A ∷ A ∷ H ∷ []) ≡ 3
+breaks_in-both_sides = refl
+
+-- two teams: one game, in the one slot
+pub canonical_patterns-two : canonical_patterns 2 ≡ (A ∷ []) ∷ (H ∷ []) ∷ []
+canonical_patterns-two = refl

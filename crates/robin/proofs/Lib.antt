@@ -1,3 +1,4 @@
 pub mod TextLemmas
 pub mod AnswerLemmas
 pub mod ReportLemmas
+pub mod AnswerFacts
