@@ -8,3 +8,4 @@ pub mod PlaceLemmas
 pub mod RowLemmas
 pub mod RuleFacts
 pub mod TableLemmas
+pub mod TouchLemmas

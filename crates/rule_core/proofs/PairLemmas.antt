@@ -14,7 +14,8 @@ use Rattle.league.specs.Meetings.{pairs_of}
 use Rattle.league.specs.Sets.{IsAscending}
 use Rattle.rule_core.specs.KeptPairs.{ArePairs, first_key, key_at}
 use Rattle.rule_core.specs.Keys.{KeyList}
-use Rattle.rule_core.specs.Pairs.{is_in, key_between, keys_with, places_from}
+use Rattle.rule_core.specs.Pairs.{is_in, key_between, keys_with}
+use Rattle.rule_core.specs.Places.{places_from}
 use Rattle.rule_core.proofs.PlaceLemmas.{less_than}
 
 -- ---- how many pairs there are
@@ -55,10 +56,10 @@ first_key-more (t ∷ teams) (suc i) h =
 
 -- ---- places of what passes a test
 
-taken : (b : Bool) (start : ℕ) (ks : List ℕ) → b ≡ true → cond b (start ∷ ks) ks ≡ start ∷ ks
+pub taken : (b : Bool) (start : ℕ) (ks : List ℕ) → b ≡ true → cond b (start ∷ ks) ks ≡ start ∷ ks
 taken b start ks e = ap (λ (c : Bool). cond c (start ∷ ks) ks) e
 
-skipped : (b : Bool) (start : ℕ) (ks : List ℕ) → b ≡ false → cond b (start ∷ ks) ks ≡ ks
+pub skipped : (b : Bool) (start : ℕ) (ks : List ℕ) → b ≡ false → cond b (start ∷ ks) ks ≡ ks
 skipped b start ks e = ap (λ (c : Bool). cond c (start ∷ ks) ks) e
 
 joined : (b : Bool) (start : ℕ) (all ks rest : List ℕ) → all ≡ ks ++ rest → cond b (start ∷ all) all ≡ cond b (start ∷ ks) ks ++ rest

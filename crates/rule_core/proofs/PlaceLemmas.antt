@@ -26,10 +26,10 @@ ArePlaces-none xs = record {
   within = λ t. omega (arith, zeros 78 t);
 }
 
-lower : (x y : ℕ) → nat_lt x y ≡ true → x < y
+pub lower : (x y : ℕ) → nat_lt x y ≡ true → x < y
 lower x y h = grind (arith, nat_tests)
 
-upper : (x y : ℕ) → nat_lt x y ≡ false → y ≤ x
+pub upper : (x y : ℕ) → nat_lt x y ≡ false → y ≤ x
 upper x y h = grind (arith, nat_tests)
 
 pub less_than : (a b : ℕ) → nat_cmp a b ≡ Less → a < b
@@ -67,7 +67,7 @@ ArePlaces-more xs places i number next ascending within is small one are =
 none_or : (x : ℕ) → nat_lt 0 x ≡ false → x ≡ 0
 none_or x h = grind (arith, nat_tests)
 
-some : (x : ℕ) → nat_lt 0 x ≡ true → 0 < x
+pub some : (x : ℕ) → nat_lt 0 x ≡ true → 0 < x
 some x h = grind (arith, nat_tests)
 
 -- a list of one
@@ -117,7 +117,7 @@ joined false true x y h = ascending-few (y ∷ []) (omega arith)
 joined false false x y h = ascending-few [] (omega arith)
 
 -- two numbers with one place are one
-same_place : (count : ℕ) (xs places : List ℕ) (t u : ℕ) → ArePlaces count xs places → 0 < get_or places t 0 → get_or places t 0 ≡ get_or places u 0 → t ≡ u
+pub same_place : (count : ℕ) (xs places : List ℕ) (t u : ℕ) → ArePlaces count xs places → 0 < get_or places t 0 → get_or places t 0 ≡ get_or places u 0 → t ≡ u
 same_place count xs places t u are more same =
     let other : 0 < get_or places u 0 = omega arith in
     sym (are.here t more) ∙ ap (λ (k : ℕ). get_or xs (k - 1) 0) same ∙ are.here u other

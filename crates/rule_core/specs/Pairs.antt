@@ -1,11 +1,7 @@
 -- The keys of pairs of teams: their places in the list of all pairs, counted from 0.
-use Rattle.std.specs.Prelude.{ℕ, ◌+◌, Bool, ◌&&◌, ◌||◌, ◌==◌, if◌then◌else◌, List, [], ◌∷◌}
+use Rattle.std.specs.Prelude.{ℕ, Bool, ◌&&◌, ◌||◌, ◌==◌, List}
 use Rattle.league.specs.Meetings.{pairs_of}
-
--- the places of the elements that pass a test, counted from start on
-abbrev pub places_from : {X : Type 0} → ℕ → (X → Bool) → List X → List ℕ
-places_from start test [] = []
-places_from start test (x ∷ xs) = if test x then start ∷ places_from (start + 1) test xs else places_from (start + 1) test xs
+use Rattle.rule_core.specs.Places.{places_from}
 
 -- whether a team is one of a pair
 abbrev pub is_in : ℕ → ℕ × ℕ → Bool

@@ -19,3 +19,8 @@ key_of places t = if stands places t then (slice_index places t - 1) ∷ [] else
 -- the places of two numbers, the smaller first
 abbrev pub keys_of : List ℕ → ℕ → ℕ → List ℕ
 keys_of places t u = if nat_lt (slice_index places t) (slice_index places u) then key_of places t ++ key_of places u else key_of places u ++ key_of places t
+
+-- the places of the elements that pass a test, counted from start on
+abbrev pub places_from : {X : Type 0} → ℕ → (X → Bool) → List X → List ℕ
+places_from start test [] = []
+places_from start test (x ∷ xs) = if test x then start ∷ places_from (start + 1) test xs else places_from (start + 1) test xs

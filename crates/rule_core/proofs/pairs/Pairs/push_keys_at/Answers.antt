@@ -4,7 +4,8 @@ use Rattle.std.proofs.lemmas.List.{length_push}
 use Rattle.league.specs.Meetings.{pairs_of}
 use Rattle.rule_core.specs.Keys.{KeyList}
 use Rattle.rule_core.specs.KeptPairs.{first_key, key_at}
-use Rattle.rule_core.specs.Pairs.{is_in, keys_with, places_from}
+use Rattle.rule_core.specs.Pairs.{is_in, keys_with}
+use Rattle.rule_core.specs.Places.{places_from}
 use Rattle.rule_core.proofs.PairLemmas.{earlier_more, keys_are, later_done, later_left, later_more, seen_pairs}
 use Rattle.rule_core.proofs.pairs.Pairs.push_keys_at.Goals as goal
 

@@ -2,7 +2,8 @@ use Rattle.std.proofs.Common.{◌≡◌, ◌+◌, ◌-◌, ◌++◌, length, dro
 use Rattle.std.specs.List.{range_with_len}
 use Rattle.league.specs.Meetings.{pairs_of}
 use Rattle.rule_core.specs.KeptPairs.{first_key, key_at}
-use Rattle.rule_core.specs.Pairs.{is_in, keys_with, places_from}
+use Rattle.rule_core.specs.Pairs.{is_in, keys_with}
+use Rattle.rule_core.specs.Places.{places_from}
 use Rattle.rule_core.proofs.pairs.Pairs.push_keys_at.Given as goal
 
 abbrev pub invariant-loop-first : goal.invariant-loop-first
