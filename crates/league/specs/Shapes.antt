@@ -1,14 +1,13 @@
 -- Which sets a class has, so that it can be copied by kind.
 use Rattle.std.specs.Prelude.{Bool, true, false}
 use Rattle.league.specs.declared.class.Class.{Class}
-use Rattle.league.specs.declared.class.Class.TheVariants.{Ca1, Ca2, Ca3, Ca4, Br1, Br2, Fa2, Se1}
+use Rattle.league.specs.declared.class.Class.TheVariants.{Ca1, Ca2, Ca4, Br1, Br2, Fa2, Se1}
 
--- whether it sets teams against teams
-abbrev pub has_opponents : Class → Bool
-has_opponents (Ca2 teams1 teams2 max side slots) = true
-has_opponents (Ca3 teams1 teams2 max intp side) = true
-has_opponents (Ca4 teams1 teams2 max side span slots) = true
-has_opponents _ = false
+-- whether it sets teams against teams in some slots
+abbrev pub has_opponents_in_slots : Class → Bool
+has_opponents_in_slots (Ca2 teams1 teams2 max side slots) = true
+has_opponents_in_slots (Ca4 teams1 teams2 max side span slots) = true
+has_opponents_in_slots _ = false
 
 -- whether it speaks of one set of teams
 abbrev pub has_one_set : Class → Bool

@@ -1,7 +1,7 @@
 //! The nine classes of constraints of the International Timetabling Competition 2021, in the terms of RobinX.
 ghost use Rattle.std.specs.Prelude.{◌≡◌, IfOk, IsTrue};
 ghost use Rattle.league.specs.Instance.{class_fits, are_teams, are_slots, are_meetings, is_one_side};
-ghost use Rattle.league.specs.Shapes.{has_one_set, has_opponents};
+ghost use Rattle.league.specs.Shapes.{has_one_set, has_opponents_in_slots};
 
 use crate::pair_set::PairSet;
 use crate::slot_set::SlotSet;
@@ -97,7 +97,20 @@ impl Class {
         ensures { IfOk result (λ copy. copy ≡ self.now) }
     {
         match self {
-            Class::Ca2 { .. } | Class::Ca3 { .. } | Class::Ca4 { .. } => self.copy_of_opponents(),
+            Class::Ca2 { .. } | Class::Ca4 { .. } => self.copy_of_opponents(),
+            Class::Ca3 {
+                teams1,
+                teams2,
+                max,
+                intp,
+                side,
+            } => Ok(Class::Ca3 {
+                teams1: teams1.copy()?,
+                teams2: teams2.copy()?,
+                max: *max,
+                intp: *intp,
+                side: *side,
+            }),
             Class::Ga1 {
                 meetings,
                 min,
@@ -113,9 +126,9 @@ impl Class {
         }
     }
 
-    /// An equal class, of one that sets teams against teams.
+    /// An equal class, of one that sets teams against teams in some slots.
     fn copy_of_opponents(&self) -> Result<Class, AllocError>
-        requires { IsTrue (has_opponents self.now) }
+        requires { IsTrue (has_opponents_in_slots self.now) }
         ensures { IfOk result (λ copy. copy ≡ self.now) }
     {
         match self {
@@ -131,19 +144,6 @@ impl Class {
                 max: *max,
                 side: *side,
                 slots: slots.copy()?,
-            }),
-            Class::Ca3 {
-                teams1,
-                teams2,
-                max,
-                intp,
-                side,
-            } => Ok(Class::Ca3 {
-                teams1: teams1.copy()?,
-                teams2: teams2.copy()?,
-                max: *max,
-                intp: *intp,
-                side: *side,
             }),
             Class::Ca4 {
                 teams1,
