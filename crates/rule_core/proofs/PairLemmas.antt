@@ -1,5 +1,6 @@
 -- The pairs of teams: how many there are, and the keys of those with a team, or with two.
 use Rattle.std.proofs.Common.{◌≡◌, ◌≢◌, ℕ, ◌+◌, ◌-◌, ◌*◌, ◌/◌, ◌<◌, ◌≤◌, zero, suc, Bool, true, false, ◌&&◌, cond, List, [], ◌∷◌, ◌++◌, length, get_or, map, drop, refl, arith, ap, sym, ◌∙◌, subst, ◌⊎◌, inl, inr, Contains, add-zero, zero-add}
+use Rattle.std.proofs.Math.Nat.{mul-le-mul}
 use Rattle.std.proofs.lemmas.Bool.{cases_Bool, cases_eq, cases_lt}
 use Rattle.std.proofs.lemmas.Bool.Decides.{nat_tests}
 use Rattle.std.proofs.lemmas.List.{append_assoc, append-nil, drop_more, get_or-drop, get_or_default, length-append, length-drop, length-map}
@@ -10,8 +11,10 @@ use Rattle.std.proofs.lemmas.List.FromFn.{length-range_with_len}
 use Rattle.std.specs.List.{All, range_with_len}
 use Rattle.std.specs.List.Sorted.{IsStrictlyIncreasing}
 use Rattle.std.specs.Ordering.{nat_cmp}
+use Rattle.league.specs.Counts.{slot_count}
 use Rattle.league.specs.Meetings.{pairs_of}
 use Rattle.league.specs.Sets.{IsAscending}
+use Rattle.league.proofs.SetLemmas.{length-ascending}
 use Rattle.rule_core.specs.KeptPairs.{ArePairs, first_key, key_at}
 use Rattle.rule_core.specs.Keys.{KeyList}
 use Rattle.rule_core.specs.Pairs.{is_in, key_between, keys_with}
@@ -24,6 +27,18 @@ use Rattle.rule_core.proofs.PlaceLemmas.{less_than}
 pub pair_count : (teams : List ℕ) → length (pairs_of teams) * 2 + length teams ≡ length teams * length teams
 pair_count [] = refl
 pair_count (t ∷ teams) = omega (arith, length-append (map (λ (j : ℕ). (t, j)) teams) (pairs_of teams), length-map {B = ℕ × ℕ} teams (λ (j : ℕ). (t, j)), pair_count teams)
+
+-- a league of at most 40 teams has at most 40 of them in a set, fewer than 1,600 pairs of them, and at most 78 slots
+pub teams-few : (n : ℕ) (teams : List ℕ) → n ≤ 40 → IsAscending nat_cmp teams → All (λ t. t < n) teams → length teams ≤ 40
+teams-few n teams small ascending below = length-ascending teams 40 ascending (λ k d within. omega (arith, below k d within))
+
+pub pairs_of-few : (n : ℕ) (teams : List ℕ) → n ≤ 40 → IsAscending nat_cmp teams → All (λ t. t < n) teams → length (pairs_of teams) ≤ 1600
+pairs_of-few n teams small ascending below =
+    let few : length teams ≤ 40 = teams-few n teams small ascending below in
+    omega (arith, pair_count teams, mul-le-mul few few)
+
+pub slots-few : (n : ℕ) (slots : List ℕ) → n ≤ 40 → IsAscending nat_cmp slots → All (λ s. s < slot_count n) slots → length slots ≤ 78
+slots-few n slots small ascending below = length-ascending slots 78 ascending (λ k d within. omega (arith, below k d within))
 
 -- the pairs before those of a team, and those from it on
 pub first_key-rest : (teams : List ℕ) (i : ℕ) → i ≤ length teams → first_key teams i + length (pairs_of (drop i teams)) ≡ length (pairs_of teams)

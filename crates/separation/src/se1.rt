@@ -39,6 +39,7 @@ impl Se1 {
         ensures teams { IfOk result (λ rule. ⟦<Se1 as Entries>⟧.team_count rule ≡ n) }
         ensures reach { IfOk result (λ rule. ⟦<Se1 as Entries>⟧.reach_of rule ≡ 1) }
         ensures terms { IfOk result (λ rule. (m : Counts) → ⟦<Se1 as Entries>⟧.term_count rule ≡ length (vector_of n m constraint.now.class)) }
+        ensures short { IfOk result (λ rule. ⟦<Se1 as Entries>⟧.term_count rule ≤ 1600) }
         ensures entries { IfOk result (λ rule. (k : ℕ) (m : Counts) → ⟦<Se1 as Entries>⟧.entry rule k m ≡ entry_of n m constraint.now.class k) }
         ensures touches { IfOk result (λ rule. (g : Game) → ⟦<Se1 as Entries>⟧.touches rule g ≡ touches_of constraint.now.class g) }
     {
@@ -56,6 +57,7 @@ impl Se1 {
         ensures teams { IfOk result (λ rule. ⟦<Se1 as Entries>⟧.team_count rule ≡ n) }
         ensures reach { IfOk result (λ rule. ⟦<Se1 as Entries>⟧.reach_of rule ≡ 1) }
         ensures terms { IfOk result (λ rule. ⟦<Se1 as Entries>⟧.term_count rule ≡ length (pairs_of teams.now)) }
+        ensures short { IfOk result (λ rule. ⟦<Se1 as Entries>⟧.term_count rule ≤ 1600) }
         ensures entries { IfOk result (λ rule. (k : ℕ) (m : Counts) → ⟦<Se1 as Entries>⟧.entry rule k m ≡ entry_of n m (class_of_se1 teams.now min) k) }
         ensures touches { IfOk result (λ rule. (g : Game) → ⟦<Se1 as Entries>⟧.touches rule g ≡ touches_of (class_of_se1 teams.now min) g) }
     {
