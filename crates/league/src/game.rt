@@ -9,7 +9,7 @@ pub struct TeamId(pub u16);
 pub struct SlotId(pub u16);
 
 /// A game of two teams in a slot, at the home team's venue.
-#[derive(Clone, Copy, Debug, PartialEq, Eq, PartialOrd, Ord)]
+#[derive(Clone, Copy, Debug, PartialEq, Eq)]
 pub struct Game {
     pub home: TeamId,
     pub away: TeamId,
