@@ -1,14 +1,14 @@
 -- The laws of FA2: its keys, and which entries a game leaves as they are.
-use Rattle.std.proofs.Common.{◌≡◌, ◌≢◌, ℕ, ◌+◌, ◌-◌, ◌<◌, ◌≤◌, Bool, true, false, max, List, [], ◌∷◌, suc, inl, inr, length, get_or, map, refl, arith, ap, sym, ◌∙◌, Contains}
+use Rattle.std.proofs.Common.{◌≡◌, ◌≢◌, ℕ, ◌+◌, ◌-◌, ◌<◌, ◌≤◌, true, false, max, List, [], ◌∷◌, suc, inl, inr, length, get_or, refl, arith, ap, sym, ◌∙◌, Contains}
 use Rattle.std.specs.Prelude.{nat_le}
-use Rattle.std.proofs.lemmas.Bool.{cases_Bool, cases_lt, cond_both}
+use Rattle.std.proofs.lemmas.Bool.{cases_lt, cond_both}
 use Rattle.std.proofs.lemmas.Bool.Decides.{nat_tests}
 use Rattle.std.proofs.lemmas.List.{get_or-map}
 use Rattle.std.proofs.lemmas.List.Folds.{list_any_at}
 use Rattle.std.proofs.lemmas.List.FromFn.{get_or-range_with_len, length-range_with_len}
-use Rattle.std.specs.List.{All, fold, list_any, range_with_len, sum_by}
+use Rattle.std.specs.List.{All, fold, list_any, range_with_len}
 use Rattle.std.specs.List.Sorted.{IsStrictlyIncreasing}
-use Rattle.league.specs.Bounds.{difference, excess, largest}
+use Rattle.league.specs.Bounds.{difference, excess}
 use Rattle.league.specs.Counts.{Counts, one_more}
 use Rattle.league.specs.Deviation.{entry_of}
 use Rattle.league.specs.Fairness.{fa2_entry, home_played}
@@ -21,22 +21,22 @@ use Rattle.rule_core.specs.Pairs.{is_in, keys_with}
 use Rattle.rule_core.proofs.GameLemmas.{games_on-elsewhere, games_on-not_at_home, sum_by-same_in}
 use Rattle.rule_core.proofs.PairLemmas.{keys_with-few, places_from-ascending, places_from-below, places_from-lacks}
 use Rattle.fairness.specs.Classes.{class_of_fa2}
-use Rattle.fairness.specs.Fa2.{IsReady, touches_of}
+use Rattle.fairness.specs.Fa2.{IsReady, home_keys}
 
 -- one key with each other team at most
-pub touches_of-few : (n : ℕ) (teams slots : List ℕ) → IsReady n teams slots → (g : Game) → length (touches_of teams slots g) ≤ length teams - 1
-touches_of-few n teams slots ready g =
+pub home_keys-few : (n : ℕ) (teams slots : List ℕ) → IsReady n teams slots → (g : Game) → length (home_keys teams slots g) ≤ length teams - 1
+home_keys-few n teams slots ready g =
     cond_both (list_any (λ s. nat_le g.slot.0 s) slots) (keys_with teams g.home.0) [] (λ ks. length ks ≤ length teams - 1) (λ e. keys_with-few teams g.home.0 ready.teams_ascending) (λ e. omega arith)
 
 -- those of pairs
-pub touches_of-below : (teams slots : List ℕ) (g : Game) → All (λ k. k < length (pairs_of teams)) (touches_of teams slots g)
-touches_of-below teams slots g =
+pub home_keys-below : (teams slots : List ℕ) (g : Game) → All (λ k. k < length (pairs_of teams)) (home_keys teams slots g)
+home_keys-below teams slots g =
     cond_both (list_any (λ s. nat_le g.slot.0 s) slots) (keys_with teams g.home.0) [] (λ ks. All (λ k. k < length (pairs_of teams)) ks)
     (λ e. λ k d lt. omega (arith, places_from-below 0 (is_in g.home.0) (pairs_of teams) k d lt))
     (λ e. λ k d lt. absurd (omega arith))
 
-pub touches_of-ascending : (teams slots : List ℕ) (g : Game) → IsStrictlyIncreasing (touches_of teams slots g)
-touches_of-ascending teams slots g =
+pub home_keys-ascending : (teams slots : List ℕ) (g : Game) → IsStrictlyIncreasing (home_keys teams slots g)
+home_keys-ascending teams slots g =
     cond_both (list_any (λ s. nat_le g.slot.0 s) slots) (keys_with teams g.home.0) [] (λ ks. IsStrictlyIncreasing ks)
     (λ e. places_from-ascending 0 (is_in g.home.0) (pairs_of teams))
     (λ e. λ k lt. absurd (omega arith))
@@ -92,8 +92,8 @@ pub entry-by_pair : (n : ℕ) (m : Counts) (teams : List ℕ) (intp : ℕ) (slot
 entry-by_pair n m teams intp slots k inside = get_or-map (fa2_entry n m intp slots) (pairs_of teams) k (0, 0) 0 inside
 
 -- a key that the game doesn't touch keeps its entry
-pub touches_of-frame : (n : ℕ) (teams : List ℕ) (intp : ℕ) (slots : List ℕ) (g : Game) (m : Counts) (k : ℕ) → IsGame n g → k < length (pairs_of teams) → (Contains (touches_of teams slots g) k → ⊥) → entry_of n (one_more m g) (class_of_fa2 teams intp slots) k ≡ entry_of n m (class_of_fa2 teams intp slots) k
-touches_of-frame n teams intp slots g m k fits inside =
+pub home_keys-frame : (n : ℕ) (teams : List ℕ) (intp : ℕ) (slots : List ℕ) (g : Game) (m : Counts) (k : ℕ) → IsGame n g → k < length (pairs_of teams) → (Contains (home_keys teams slots g) k → ⊥) → entry_of n (one_more m g) (class_of_fa2 teams intp slots) k ≡ entry_of n m (class_of_fa2 teams intp slots) k
+home_keys-frame n teams intp slots g m k fits inside =
     let p : ℕ × ℕ = get_or (pairs_of teams) k (0, 0) in
     cond_both (list_any (λ s. nat_le g.slot.0 s) slots) (keys_with teams g.home.0) [] (λ ks. (Contains ks k → ⊥) → entry_of n (one_more m g) (class_of_fa2 teams intp slots) k ≡ entry_of n m (class_of_fa2 teams intp slots) k)
     (λ e. λ lacks.

@@ -24,10 +24,12 @@ pub struct Fa2 {
 impl Fa2 {
     ghost use Rattle.league.specs.Counts.{Counts, slot_count};
     ghost use Rattle.league.specs.Deviation.{entry_of, vector_of};
-    ghost use Rattle.league.specs.Instance.{class_fits};
+    ghost use Rattle.league.specs.Instance.{IsGame, class_fits};
     ghost use Rattle.league.specs.Meetings.{pairs_of};
+    ghost use Rattle.league.specs.declared.game.Game.{Game};
     ghost use Rattle.std.specs.List.{All};
     ghost use Rattle.fairness.specs.Classes.{class_of_fa2, is_fa2, teams_of_fa2};
+    ghost use Rattle.fairness.specs.Fa2.{touches_of};
 
     /// The rule of an FA2 that fits a league of n teams.
     ///
@@ -41,6 +43,7 @@ impl Fa2 {
         ensures reach { IfOk result (λ rule. ⟦<Fa2 as Entries>⟧.reach_of rule ≡ length (teams_of_fa2 constraint.now.class) - 1) }
         ensures terms { IfOk result (λ rule. (m : Counts) → ⟦<Fa2 as Entries>⟧.term_count rule ≡ length (vector_of n m constraint.now.class)) }
         ensures entries { IfOk result (λ rule. (k : ℕ) (m : Counts) → ⟦<Fa2 as Entries>⟧.entry rule k m ≡ entry_of n m constraint.now.class k) }
+        ensures touches { IfOk result (λ rule. (g : Game) → IsGame n g → ⟦<Fa2 as Entries>⟧.touches rule g ≡ touches_of constraint.now.class g) }
     {
         let Class::Fa2 { teams, intp, slots } = &constraint.class else {
             unreachable!()
@@ -59,6 +62,7 @@ impl Fa2 {
         ensures reach { IfOk result (λ rule. ⟦<Fa2 as Entries>⟧.reach_of rule ≡ length teams.now - 1) }
         ensures terms { IfOk result (λ rule. ⟦<Fa2 as Entries>⟧.term_count rule ≡ length (pairs_of teams.now)) }
         ensures entries { IfOk result (λ rule. (k : ℕ) (m : Counts) → ⟦<Fa2 as Entries>⟧.entry rule k m ≡ entry_of n m (class_of_fa2 teams.now intp slots.now) k) }
+        ensures touches { IfOk result (λ rule. (g : Game) → IsGame n g → ⟦<Fa2 as Entries>⟧.touches rule g ≡ touches_of (class_of_fa2 teams.now intp slots.now) g) }
     {
         Ok(Fa2 {
             n,
@@ -74,8 +78,8 @@ impl Entries for Fa2 {
     ghost use Rattle.league.specs.Deviation.{entry_of};
     ghost use Rattle.league.specs.Meetings.{pairs_of};
     ghost use Rattle.fairness.specs.Classes.{class_of_fa2};
-    ghost use Rattle.fairness.specs.Fa2.{touches_of};
-    ghost use Rattle.fairness.specs.Fa2Laws.{touches_of-ascending, touches_of-below, touches_of-few, touches_of-frame};
+    ghost use Rattle.fairness.specs.Fa2.{home_keys};
+    ghost use Rattle.fairness.specs.Fa2Laws.{home_keys-ascending, home_keys-below, home_keys-few, home_keys-frame};
 
     ghost team_count = { λ r. r.n };
 
@@ -85,15 +89,15 @@ impl Entries for Fa2 {
 
     ghost entry = { λ r k m. entry_of r.n m (class_of_fa2 r.pairs r.intp r.slots.items) k };
 
-    ghost touches = { λ r g. touches_of r.pairs r.slots.items g };
+    ghost touches = { λ r g. home_keys r.pairs r.slots.items g };
 
-    ghost few = { λ r g fits. touches_of-few r.n r.pairs r.slots.items r.ready g };
+    ghost few = { λ r g fits. home_keys-few r.n r.pairs r.slots.items r.ready g };
 
-    ghost below = { λ r g fits. touches_of-below r.pairs r.slots.items g };
+    ghost below = { λ r g fits. home_keys-below r.pairs r.slots.items g };
 
-    ghost ascending = { λ r g fits. touches_of-ascending r.pairs r.slots.items g };
+    ghost ascending = { λ r g fits. home_keys-ascending r.pairs r.slots.items g };
 
-    ghost frame = { λ r g m k fits inside lacks. touches_of-frame r.n r.pairs r.intp r.slots.items g m k fits inside lacks };
+    ghost frame = { λ r g m k fits inside lacks. home_keys-frame r.n r.pairs r.intp r.slots.items g m k fits inside lacks };
 
     fn teams(&self) -> u16 {
         self.n

@@ -1,5 +1,4 @@
-use Rattle.std.proofs.Common.{◌≡◌, ℕ, ◌+◌, ◌-◌, ◌<◌, ◌≤◌, get_or, length, arith, ap, ◌∙◌}
-use Rattle.std.specs.List.{range_with_len, sum_by}
+use Rattle.std.proofs.Common.{◌≡◌, ℕ, ◌+◌, ◌<◌, ◌≤◌, get_or, arith, ap, ◌∙◌}
 use Rattle.league.specs.Bounds.{difference, excess}
 use Rattle.league.specs.Counts.{slot_count}
 use Rattle.league.specs.Fairness.{home_played}

@@ -1,4 +1,4 @@
-use Rattle.std.proofs.Common.{◌≡◌, ℕ, ◌*◌, ◌<◌, ◌≤◌, length, get_or, take}
+use Rattle.std.proofs.Common.{◌≡◌, ◌*◌, ◌<◌, ◌≤◌, length, get_or, take}
 use Rattle.std.specs.List.{range_with_len, sum_by}
 use Rattle.league.specs.Bounds.{difference, excess, largest}
 use Rattle.league.specs.Counts.{slot_count}
