@@ -16,20 +16,20 @@ use Rattle.league.specs.declared.class.Side.TheVariants.{H, A, Both}
 use Rattle.rule_core.specs.Places.{key_of, stands}
 use Rattle.rule_core.proofs.GameLemmas.{games_on-elsewhere, games_on-not_at_home, games_on-not_away, sum_by-same_in}
 use Rattle.rule_core.proofs.PlaceLemmas.{ascending-few, key_of-below, key_of-few, key_of-lacks, stands-no}
-use Rattle.capacity.specs.Ca1.{IsReady, team_on, touches_of}
+use Rattle.capacity.specs.Ca1.{IsReady, team_on, touches_at}
 use Rattle.capacity.specs.Classes.{class_of_ca1}
 
 -- at most one key
-pub touches_of-few : (side : Side) (team_places slot_places : List ℕ) (g : Game) → length (touches_of side team_places slot_places g) ≤ 1
-touches_of-few side team_places slot_places g =
+pub touches_at-few : (side : Side) (team_places slot_places : List ℕ) (g : Game) → length (touches_at side team_places slot_places g) ≤ 1
+touches_at-few side team_places slot_places g =
     cond_both (stands slot_places g.slot.0) (key_of team_places (team_on side g)) [] (λ ks. length ks ≤ 1) (λ e. key_of-few team_places (team_on side g)) (λ e. omega arith)
 
-pub touches_of-ascending : (side : Side) (team_places slot_places : List ℕ) (g : Game) → IsStrictlyIncreasing (touches_of side team_places slot_places g)
-touches_of-ascending side team_places slot_places g = ascending-few (touches_of side team_places slot_places g) (touches_of-few side team_places slot_places g)
+pub touches_at-ascending : (side : Side) (team_places slot_places : List ℕ) (g : Game) → IsStrictlyIncreasing (touches_at side team_places slot_places g)
+touches_at-ascending side team_places slot_places g = ascending-few (touches_at side team_places slot_places g) (touches_at-few side team_places slot_places g)
 
 -- that of a team
-pub touches_of-below : (n : ℕ) (teams : List ℕ) (side : Side) (slots team_places slot_places : List ℕ) → IsReady n teams side slots team_places slot_places → (g : Game) → All (λ k. k < length teams) (touches_of side team_places slot_places g)
-touches_of-below n teams side slots team_places slot_places ready g =
+pub touches_at-below : (n : ℕ) (teams : List ℕ) (side : Side) (slots team_places slot_places : List ℕ) → IsReady n teams side slots team_places slot_places → (g : Game) → All (λ k. k < length teams) (touches_at side team_places slot_places g)
+touches_at-below n teams side slots team_places slot_places ready g =
     cond_both (stands slot_places g.slot.0) (key_of team_places (team_on side g)) [] (λ ks. All (λ k. k < length teams) ks)
     (λ e. key_of-below (length teams) teams team_places (team_on side g) ready.teams_placed)
     (λ e. λ k d lt. absurd (omega arith))
@@ -50,8 +50,8 @@ pub entry-by_team : (n : ℕ) (m : Counts) (teams : List ℕ) (max : ℕ) (side 
 entry-by_team n m teams max side slots k inside = get_or-map (ca1_entry n m max side slots) teams k 0 0 inside
 
 -- a key that the game doesn't touch keeps its entry
-pub touches_of-frame : (n : ℕ) (teams : List ℕ) (max : ℕ) (side : Side) (slots team_places slot_places : List ℕ) → IsReady n teams side slots team_places slot_places → (g : Game) (m : Counts) (k : ℕ) → IsGame n g → k < length teams → (Contains (touches_of side team_places slot_places g) k → ⊥) → entry_of n (one_more m g) (class_of_ca1 teams max side slots) k ≡ entry_of n m (class_of_ca1 teams max side slots) k
-touches_of-frame n teams max side slots team_places slot_places ready g m k fits inside =
+pub touches_at-frame : (n : ℕ) (teams : List ℕ) (max : ℕ) (side : Side) (slots team_places slot_places : List ℕ) → IsReady n teams side slots team_places slot_places → (g : Game) (m : Counts) (k : ℕ) → IsGame n g → k < length teams → (Contains (touches_at side team_places slot_places g) k → ⊥) → entry_of n (one_more m g) (class_of_ca1 teams max side slots) k ≡ entry_of n m (class_of_ca1 teams max side slots) k
+touches_at-frame n teams max side slots team_places slot_places ready g m k fits inside =
     let i : ℕ = get_or teams k 0 in
     cond_both (stands slot_places g.slot.0) (key_of team_places (team_on side g)) [] (λ ks. (Contains ks k → ⊥) → entry_of n (one_more m g) (class_of_ca1 teams max side slots) k ≡ entry_of n m (class_of_ca1 teams max side slots) k)
     (λ e. λ lacks.

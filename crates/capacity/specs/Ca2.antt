@@ -1,11 +1,14 @@
 -- What a CA2 keeps of its slots, and which keys a game touches.
 use Rattle.std.specs.Prelude.{ℕ, ◌<◌, ◌≤◌, if◌then◌else◌, List, [], length}
 use Rattle.std.specs.List.{All}
+use Rattle.league.specs.Capacity.{is_in}
 use Rattle.league.specs.Counts.{slot_count}
 use Rattle.league.specs.declared.game.Game.{Game}
+use Rattle.league.specs.declared.class.Class.{Class}
+use Rattle.league.specs.declared.class.Class.TheVariants.{Ca2}
 use Rattle.league.specs.declared.class.Side.{Side}
-use Rattle.rule_core.specs.Places.{ArePlaces, stands}
-use Rattle.capacity.specs.Opponents.{touches_between}
+use Rattle.rule_core.specs.Places.{ArePlaces, places_from, stands}
+use Rattle.capacity.specs.Opponents.{plays_against, touches_between}
 
 -- slots of a season, with where each stands among them
 pub record AreSlots (n : ℕ) (slots places : List ℕ) : Type 0 where
@@ -13,6 +16,11 @@ pub record AreSlots (n : ℕ) (slots places : List ℕ) : Type 0 where
   pub few : length slots ≤ 78
   pub placed : ArePlaces (length slots) slots places
 
--- the keys of the teams of a game that play on the side against one of the others, where the slot is one of these
-abbrev pub touches_in : Side → List ℕ → List ℕ → List ℕ → Game → List ℕ
-touches_in side places1 places2 slot_places g = if stands slot_places g.slot.0 then touches_between side places1 places2 g else []
+-- the keys of the first teams that play on the side against one of the second, exactly where the game's slot is one of these
+abbrev pub touches_of : Class → Game → List ℕ
+touches_of (Ca2 teams1 teams2 max side slots) g = if is_in g.slot.0 slots then places_from 0 (plays_against side teams2 g) teams1 else []
+touches_of other g = []
+
+-- the same, by where each team and each slot stands
+abbrev pub touches_at : Side → List ℕ → List ℕ → List ℕ → Game → List ℕ
+touches_at side places1 places2 slot_places g = if stands slot_places g.slot.0 then touches_between side places1 places2 g else []

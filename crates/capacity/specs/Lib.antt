@@ -6,6 +6,7 @@ pub mod Classes
 pub mod Ca1
 pub mod Opponents
 pub mod Ca2
+pub mod Ca3
 pub mod Ca4
 -- The meetings of some teams with others:
 pub mod Between

@@ -23,10 +23,12 @@ pub struct Ca1 {
 impl Ca1 {
     ghost use Rattle.league.specs.Counts.{Counts, slot_count};
     ghost use Rattle.league.specs.Deviation.{entry_of, vector_of};
-    ghost use Rattle.league.specs.Instance.{class_fits, is_one_side};
+    ghost use Rattle.league.specs.Instance.{IsGame, class_fits, is_one_side};
     ghost use Rattle.league.specs.Sets.{IsAscending};
+    ghost use Rattle.league.specs.declared.game.Game.{Game};
     ghost use Rattle.std.specs.List.{All};
     ghost use Rattle.std.specs.Ordering.{nat_cmp};
+    ghost use Rattle.capacity.specs.Ca1.{touches_of};
     ghost use Rattle.capacity.specs.Classes.{class_of_ca1, is_ca1};
 
     /// The rule of a CA1 that fits a league of n teams.
@@ -41,6 +43,7 @@ impl Ca1 {
         ensures reach { IfOk result (λ rule. ⟦<Ca1 as Entries>⟧.reach_of rule ≡ 1) }
         ensures terms { IfOk result (λ rule. (m : Counts) → ⟦<Ca1 as Entries>⟧.term_count rule ≡ length (vector_of n m constraint.now.class)) }
         ensures entries { IfOk result (λ rule. (k : ℕ) (m : Counts) → ⟦<Ca1 as Entries>⟧.entry rule k m ≡ entry_of n m constraint.now.class k) }
+        ensures touches { IfOk result (λ rule. (g : Game) → IsGame n g → ⟦<Ca1 as Entries>⟧.touches rule g ≡ touches_of constraint.now.class g) }
     {
         let Class::Ca1 {
             teams,
@@ -73,6 +76,7 @@ impl Ca1 {
         ensures reach { IfOk result (λ rule. ⟦<Ca1 as Entries>⟧.reach_of rule ≡ 1) }
         ensures terms { IfOk result (λ rule. ⟦<Ca1 as Entries>⟧.term_count rule ≡ length teams.now) }
         ensures entries { IfOk result (λ rule. (k : ℕ) (m : Counts) → ⟦<Ca1 as Entries>⟧.entry rule k m ≡ entry_of n m (class_of_ca1 teams.now max side slots.now) k) }
+        ensures touches { IfOk result (λ rule. (g : Game) → IsGame n g → ⟦<Ca1 as Entries>⟧.touches rule g ≡ touches_of (class_of_ca1 teams.now max side slots.now) g) }
     {
         Ok(Ca1 {
             n,
@@ -90,8 +94,8 @@ impl Entries for Ca1 {
     ghost use Rattle.std.specs.Prelude.{length};
     ghost use Rattle.league.specs.Deviation.{entry_of};
     ghost use Rattle.capacity.specs.Classes.{class_of_ca1};
-    ghost use Rattle.capacity.specs.Ca1.{touches_of};
-    ghost use Rattle.capacity.specs.Ca1Laws.{touches_of-ascending, touches_of-below, touches_of-few, touches_of-frame};
+    ghost use Rattle.capacity.specs.Ca1.{touches_at};
+    ghost use Rattle.capacity.specs.Ca1Laws.{touches_at-ascending, touches_at-below, touches_at-few, touches_at-frame};
 
     ghost team_count = { λ r. r.n };
 
@@ -101,15 +105,15 @@ impl Entries for Ca1 {
 
     ghost entry = { λ r k m. entry_of r.n m (class_of_ca1 r.teams.items r.max r.side r.slots.items) k };
 
-    ghost touches = { λ r g. touches_of r.side r.team_places r.slot_places g };
+    ghost touches = { λ r g. touches_at r.side r.team_places r.slot_places g };
 
-    ghost few = { λ r g fits. touches_of-few r.side r.team_places r.slot_places g };
+    ghost few = { λ r g fits. touches_at-few r.side r.team_places r.slot_places g };
 
-    ghost below = { λ r g fits. touches_of-below r.n r.teams.items r.side r.slots.items r.team_places r.slot_places r.ready g };
+    ghost below = { λ r g fits. touches_at-below r.n r.teams.items r.side r.slots.items r.team_places r.slot_places r.ready g };
 
-    ghost ascending = { λ r g fits. touches_of-ascending r.side r.team_places r.slot_places g };
+    ghost ascending = { λ r g fits. touches_at-ascending r.side r.team_places r.slot_places g };
 
-    ghost frame = { λ r g m k fits inside lacks. touches_of-frame r.n r.teams.items r.max r.side r.slots.items r.team_places r.slot_places r.ready g m k fits inside lacks };
+    ghost frame = { λ r g m k fits inside lacks. touches_at-frame r.n r.teams.items r.max r.side r.slots.items r.team_places r.slot_places r.ready g m k fits inside lacks };
 
     fn teams(&self) -> u16 {
         self.n

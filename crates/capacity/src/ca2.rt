@@ -21,10 +21,12 @@ pub struct Ca2 {
 impl Ca2 {
     ghost use Rattle.league.specs.Counts.{Counts, slot_count};
     ghost use Rattle.league.specs.Deviation.{entry_of, vector_of};
-    ghost use Rattle.league.specs.Instance.{class_fits};
+    ghost use Rattle.league.specs.Instance.{IsGame, class_fits};
     ghost use Rattle.league.specs.Sets.{IsAscending};
+    ghost use Rattle.league.specs.declared.game.Game.{Game};
     ghost use Rattle.std.specs.List.{All};
     ghost use Rattle.std.specs.Ordering.{nat_cmp};
+    ghost use Rattle.capacity.specs.Ca2.{touches_of};
     ghost use Rattle.capacity.specs.Classes.{class_of_ca2, is_ca2};
 
     /// The rule of a CA2 that fits a league of n teams.
@@ -39,6 +41,7 @@ impl Ca2 {
         ensures reach { IfOk result (λ rule. ⟦<Ca2 as Entries>⟧.reach_of rule ≡ 2) }
         ensures terms { IfOk result (λ rule. (m : Counts) → ⟦<Ca2 as Entries>⟧.term_count rule ≡ length (vector_of n m constraint.now.class)) }
         ensures entries { IfOk result (λ rule. (k : ℕ) (m : Counts) → ⟦<Ca2 as Entries>⟧.entry rule k m ≡ entry_of n m constraint.now.class k) }
+        ensures touches { IfOk result (λ rule. (g : Game) → IsGame n g → ⟦<Ca2 as Entries>⟧.touches rule g ≡ touches_of constraint.now.class g) }
     {
         let Class::Ca2 {
             teams1,
@@ -62,6 +65,7 @@ impl Ca2 {
         ensures reach { IfOk result (λ rule. ⟦<Ca2 as Entries>⟧.reach_of rule ≡ 2) }
         ensures terms { IfOk result (λ rule. ⟦<Ca2 as Entries>⟧.term_count rule ≡ length opponents.teams1.items) }
         ensures entries { IfOk result (λ rule. (k : ℕ) (m : Counts) → ⟦<Ca2 as Entries>⟧.entry rule k m ≡ entry_of opponents.n m (class_of_ca2 opponents.teams1.items opponents.teams2.items max opponents.side slots.now) k) }
+        ensures touches { IfOk result (λ rule. (g : Game) → IsGame opponents.n g → ⟦<Ca2 as Entries>⟧.touches rule g ≡ touches_of (class_of_ca2 opponents.teams1.items opponents.teams2.items max opponents.side slots.now) g) }
     {
         Ok(Ca2 {
             opponents,
@@ -76,8 +80,8 @@ impl Entries for Ca2 {
     ghost use Rattle.std.specs.Prelude.{length};
     ghost use Rattle.league.specs.Deviation.{entry_of};
     ghost use Rattle.capacity.specs.Classes.{class_of_ca2};
-    ghost use Rattle.capacity.specs.Ca2.{touches_in};
-    ghost use Rattle.capacity.specs.Ca2Laws.{touches_in-ascending, touches_in-below, touches_in-few, touches_in-frame};
+    ghost use Rattle.capacity.specs.Ca2.{touches_at};
+    ghost use Rattle.capacity.specs.Ca2Laws.{touches_at-ascending, touches_at-below, touches_at-few, touches_at-frame};
 
     ghost team_count = { λ r. r.opponents.n };
 
@@ -87,15 +91,15 @@ impl Entries for Ca2 {
 
     ghost entry = { λ r k m. entry_of r.opponents.n m (class_of_ca2 r.opponents.teams1.items r.opponents.teams2.items r.max r.opponents.side r.slots.items) k };
 
-    ghost touches = { λ r g. touches_in r.opponents.side r.opponents.places1 r.opponents.places2 r.slot_places g };
+    ghost touches = { λ r g. touches_at r.opponents.side r.opponents.places1 r.opponents.places2 r.slot_places g };
 
-    ghost few = { λ r g fits. touches_in-few r.opponents.side r.opponents.places1 r.opponents.places2 r.slot_places g };
+    ghost few = { λ r g fits. touches_at-few r.opponents.side r.opponents.places1 r.opponents.places2 r.slot_places g };
 
-    ghost below = { λ r g fits. touches_in-below r.opponents.n r.opponents.teams1.items r.opponents.teams2.items r.opponents.places1 r.opponents.places2 r.opponents.ready r.opponents.side r.slot_places g };
+    ghost below = { λ r g fits. touches_at-below r.opponents.n r.opponents.teams1.items r.opponents.teams2.items r.opponents.places1 r.opponents.places2 r.opponents.ready r.opponents.side r.slot_places g };
 
-    ghost ascending = { λ r g fits. touches_in-ascending r.opponents.n r.opponents.teams1.items r.opponents.teams2.items r.opponents.places1 r.opponents.places2 r.opponents.ready r.opponents.side r.slot_places g fits.differ };
+    ghost ascending = { λ r g fits. touches_at-ascending r.opponents.n r.opponents.teams1.items r.opponents.teams2.items r.opponents.places1 r.opponents.places2 r.opponents.ready r.opponents.side r.slot_places g fits.differ };
 
-    ghost frame = { λ r g m k fits inside lacks. touches_in-frame r.opponents.n r.opponents.teams1.items r.opponents.teams2.items r.opponents.places1 r.opponents.places2 r.opponents.ready r.slots.items r.slot_places r.in_season r.max r.opponents.side g m k inside lacks };
+    ghost frame = { λ r g m k fits inside lacks. touches_at-frame r.opponents.n r.opponents.teams1.items r.opponents.teams2.items r.opponents.places1 r.opponents.places2 r.opponents.ready r.slots.items r.slot_places r.in_season r.max r.opponents.side g m k inside lacks };
 
     fn teams(&self) -> u16 {
         self.opponents.n

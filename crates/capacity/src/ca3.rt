@@ -19,7 +19,9 @@ pub struct Ca3 {
 impl Ca3 {
     ghost use Rattle.league.specs.Counts.{Counts};
     ghost use Rattle.league.specs.Deviation.{entry_of, vector_of};
-    ghost use Rattle.league.specs.Instance.{class_fits};
+    ghost use Rattle.league.specs.Instance.{IsGame, class_fits};
+    ghost use Rattle.league.specs.declared.game.Game.{Game};
+    ghost use Rattle.capacity.specs.Ca3.{touches_of};
     ghost use Rattle.capacity.specs.Classes.{is_ca3};
 
     /// The rule of a CA3 that fits a league of n teams. A season has no window that is longer than itself, so the entries are
@@ -35,6 +37,7 @@ impl Ca3 {
         ensures reach { IfOk result (λ rule. ⟦<Ca3 as Entries>⟧.reach_of rule ≡ 2) }
         ensures terms { IfOk result (λ rule. (m : Counts) → ⟦<Ca3 as Entries>⟧.term_count rule ≡ length (vector_of n m constraint.now.class)) }
         ensures entries { IfOk result (λ rule. (k : ℕ) (m : Counts) → ⟦<Ca3 as Entries>⟧.entry rule k m ≡ entry_of n m constraint.now.class k) }
+        ensures touches { IfOk result (λ rule. (g : Game) → IsGame n g → ⟦<Ca3 as Entries>⟧.touches rule g ≡ touches_of constraint.now.class g) }
     {
         let Class::Ca3 {
             teams1,

@@ -24,12 +24,13 @@ pub struct Ca4 {
 impl Ca4 {
     ghost use Rattle.league.specs.Counts.{Counts, slot_count};
     ghost use Rattle.league.specs.Deviation.{entry_of, spans, vector_of};
-    ghost use Rattle.league.specs.Instance.{are_meetings, class_fits};
+    ghost use Rattle.league.specs.Instance.{IsGame, are_meetings, class_fits};
     ghost use Rattle.league.specs.Sets.{IsAscending};
+    ghost use Rattle.league.specs.declared.game.Game.{Game};
     ghost use Rattle.std.specs.Prelude.{[], ◌++◌, ◌+◌, slice_index, slice_index_or};
     ghost use Rattle.std.specs.List.{All};
     ghost use Rattle.std.specs.Ordering.{nat_cmp};
-    ghost use Rattle.capacity.specs.Ca4.{beyond_max, slot_keys};
+    ghost use Rattle.capacity.specs.Ca4.{beyond_max, slot_keys_at, touches_among, touches_of};
     ghost use Rattle.capacity.specs.Classes.{is_ca4};
 
     /// The rule of a CA4 that fits a league of n teams.
@@ -44,6 +45,7 @@ impl Ca4 {
         ensures reach { IfOk result (λ rule. ⟦<Ca4 as Entries>⟧.reach_of rule ≡ 1) }
         ensures terms { IfOk result (λ rule. (m : Counts) → ⟦<Ca4 as Entries>⟧.term_count rule ≡ length (vector_of n m constraint.now.class)) }
         ensures entries { IfOk result (λ rule. (k : ℕ) (m : Counts) → ⟦<Ca4 as Entries>⟧.entry rule k m ≡ entry_of n m constraint.now.class k) }
+        ensures touches { IfOk result (λ rule. (g : Game) → IsGame n g → ⟦<Ca4 as Entries>⟧.touches rule g ≡ touches_of constraint.now.class g) }
     {
         let Class::Ca4 {
             teams1,
@@ -78,6 +80,7 @@ impl Ca4 {
         ensures reach { IfOk result (λ rule. ⟦<Ca4 as Entries>⟧.reach_of rule ≡ 1) }
         ensures terms { IfOk result (λ rule. ⟦<Ca4 as Entries>⟧.term_count rule ≡ length (spans span slots.now)) }
         ensures entries { IfOk result (λ rule. (k : ℕ) (m : Counts) → ⟦<Ca4 as Entries>⟧.entry rule k m ≡ slice_index (beyond_max m meetings.now max span slots.now) k) }
+        ensures touches { IfOk result (λ rule. (g : Game) → ⟦<Ca4 as Entries>⟧.touches rule g ≡ touches_among meetings.now span slots.now g) }
     {
         Ok(Ca4 {
             n,
@@ -93,7 +96,7 @@ impl Ca4 {
     fn push_slot(&self, slot: u16, keys: &mut Keys)
         requires slot { slot < 78 }
         requires spare { length keys.old.list + 1 ≤ keys.old.room }
-        ensures { keys.new ≡ record { list = keys.old.list ++ slot_keys self.now.span self.now.slot_places slot; room = keys.old.room } }
+        ensures { keys.new ≡ record { list = keys.old.list ++ slot_keys_at self.now.span self.now.slot_places slot; room = keys.old.room } }
     {
         match self.span {
             Span::Global if self.slot_places.has(slot) => keys.push(0),
@@ -117,8 +120,8 @@ impl Ca4 {
 impl Entries for Ca4 {
     ghost use Rattle.std.specs.Prelude.{length, slice_index};
     ghost use Rattle.league.specs.Deviation.{spans};
-    ghost use Rattle.capacity.specs.Ca4.{beyond_max, touches_of};
-    ghost use Rattle.capacity.specs.Ca4Laws.{touches_of-ascending, touches_of-below, touches_of-few, touches_of-frame};
+    ghost use Rattle.capacity.specs.Ca4.{beyond_max, touches_at};
+    ghost use Rattle.capacity.specs.Ca4Laws.{touches_at-ascending, touches_at-below, touches_at-few, touches_at-frame};
 
     ghost team_count = { λ r. r.n };
 
@@ -128,15 +131,15 @@ impl Entries for Ca4 {
 
     ghost entry = { λ r k m. slice_index (beyond_max m r.meetings.list r.max r.span r.slots.items) k };
 
-    ghost touches = { λ r g. touches_of r.meetings.list r.span r.slot_places g };
+    ghost touches = { λ r g. touches_at r.meetings.list r.span r.slot_places g };
 
-    ghost few = { λ r g fits. touches_of-few r.meetings.list r.span r.slot_places g };
+    ghost few = { λ r g fits. touches_at-few r.meetings.list r.span r.slot_places g };
 
-    ghost below = { λ r g fits. touches_of-below r.meetings.list r.span r.slots.items r.slot_places r.ready.slots_placed g };
+    ghost below = { λ r g fits. touches_at-below r.meetings.list r.span r.slots.items r.slot_places r.ready.slots_placed g };
 
-    ghost ascending = { λ r g fits. touches_of-ascending r.meetings.list r.span r.slot_places g };
+    ghost ascending = { λ r g fits. touches_at-ascending r.meetings.list r.span r.slot_places g };
 
-    ghost frame = { λ r g m k fits inside lacks. touches_of-frame r.meetings.list r.max r.span r.slots.items r.slot_places r.ready.slots_placed g m k inside lacks };
+    ghost frame = { λ r g m k fits inside lacks. touches_at-frame r.meetings.list r.max r.span r.slots.items r.slot_places r.ready.slots_placed g m k inside lacks };
 
     fn teams(&self) -> u16 {
         self.n

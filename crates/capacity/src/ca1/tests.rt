@@ -1,47 +1,31 @@
 //! CA1 on the schedule of four teams.
 use super::*;
-use crate::tests::{four, slots, teams, touched};
-use rule_core::Plain;
+use crate::tests::{entry, slots, teams, touches};
+use std::process::Abort;
 use std::test::Fail;
 
-#[test]
-fn home_in_two_slots(rt: HostRuntime) -> Result<(), Fail> {
-    let alloc = rt.alloc();
+/// The rule of no home game of the teams 0 and 1 in the slots 2 and 3.
+fn none_at_home(rt: &impl Abort, alloc: Global) -> Result<Ca1, Fail> {
     let constraint = Constraint {
         hard: true,
         penalty: 1,
         class: Class::Ca1 {
-            teams: teams(alloc, &[0])?,
+            teams: teams(alloc, &[0, 1])?,
             max: 0,
             side: Side::H,
             slots: slots(alloc, &[2, 3])?,
         },
     };
     assert!(rt; constraint.fits(4));
-    let rule = Ca1::new(alloc, 4, &constraint)?;
-    assert_eq!(rt; rule.terms(), 1);
-    let cells = four(&rt, alloc)?;
-    assert_eq!(rt; rule.term(0, &cells, &mut Steps::<Plain>::start()), 2);
-    Ok(())
+    Ok(Ca1::new(alloc, 4, &constraint)?)
 }
 
+// Team 0 is at home in both slots. A home game of team 1 against it touches the second key alone.
 #[test]
-fn home_team_touched(rt: HostRuntime) -> Result<(), Fail> {
+fn home_in_two_slots(rt: HostRuntime) -> Result<(), Fail> {
     let alloc = rt.alloc();
-    let constraint = Constraint {
-        hard: false,
-        penalty: 1,
-        class: Class::Ca1 {
-            teams: teams(alloc, &[1, 3])?,
-            max: 0,
-            side: Side::H,
-            slots: slots(alloc, &[2])?,
-        },
-    };
-    assert!(rt; constraint.fits(4));
-    let rule = Ca1::new(alloc, 4, &constraint)?;
-    let keys = touched(&rt, alloc, &rule, (3, 1, 2))?;
-    assert_eq!(rt; keys.len(), 1);
-    assert_eq!(rt; keys.get(0), 1);
+    let rule = none_at_home(&rt, alloc)?;
+    assert_eq!(rt; entry(&rt, alloc, &rule, 0)?, 2);
+    assert!(rt; touches(&rt, alloc, &rule, (1, 0, 2), &[1])?);
     Ok(())
 }

@@ -2,6 +2,7 @@ use Rattle.std.proofs.Common.{◌<◌, arith}
 use Rattle.std.specs.List.{All}
 use Rattle.league.proofs.SetLemmas.{length-ascending}
 use Rattle.capacity.proofs.TermLemmas.{IsReady-copied}
+use Rattle.capacity.proofs.KeyLemmas.{ca1-touches}
 use Rattle.capacity.proofs.ca1.Ca1.of.Goals as goal
 
 pub invariant_of-result : goal.invariant_of-result
@@ -19,3 +20,7 @@ invariant_of-result c =
             slots_placed = c.of-2.ensures;
           });
     }
+
+pub returns-clause-touches : goal.returns-clause-touches
+returns-clause-touches c =
+    λ g fits. ca1-touches c.args.teams.now c.args.slots.now c.of.result c.of-2.result c.of.ensures c.of-2.ensures c.args.max c.args.side g

@@ -2,6 +2,7 @@ use Rattle.std.proofs.Common.{◌<◌, arith}
 use Rattle.std.specs.List.{All}
 use Rattle.league.proofs.SetLemmas.{length-ascending}
 use Rattle.capacity.proofs.OpponentSums.{AreSlots-copied}
+use Rattle.capacity.proofs.KeyLemmas.{ca2-touches}
 use Rattle.capacity.proofs.ca2.Ca2.of.Goals as goal
 
 pub invariant_of-result : goal.invariant_of-result
@@ -15,3 +16,8 @@ invariant_of-result c =
             placed = c.of.ensures;
           });
     }
+
+pub returns-clause-touches : goal.returns-clause-touches
+returns-clause-touches c =
+    let opponents = c.args.opponents in
+    λ g fits. ca2-touches opponents.n opponents.teams1.items opponents.teams2.items opponents.places1 opponents.places2 opponents.ready c.args.slots.now c.of.result c.of.ensures c.args.max opponents.side g fits.differ

@@ -1,8 +1,10 @@
-use Rattle.std.proofs.Common.{◌<◌, arith, ap}
+use Rattle.std.proofs.Common.{◌<◌, ◌∙◌, arith, ap}
 use Rattle.std.specs.List.{All}
 use Rattle.league.proofs.SetLemmas.{length-ascending}
 use Rattle.rule_core.specs.Meetings.{MeetingList}
 use Rattle.capacity.proofs.Ca4Lemmas.{IsReady-same_slots}
+use Rattle.capacity.specs.Ca4.{touches_at}
+use Rattle.capacity.proofs.KeyLemmas.{ca4-touches}
 use Rattle.capacity.proofs.ca4.Ca4.of.Goals as goal
 
 pub invariant_of-result : goal.invariant_of-result
@@ -18,3 +20,9 @@ invariant_of-result c =
             slots_placed = c.of-2.ensures;
           });
     }
+
+pub returns-clause-touches : goal.returns-clause-touches
+returns-clause-touches c =
+    λ g.
+    ap (λ (made : MeetingList). touches_at made.list c.args.span c.of-2.result g) c.in_ok-of.ensures
+    ∙ ca4-touches c.args.meetings.now c.args.span c.args.slots.now c.of-2.result c.of-2.ensures g
