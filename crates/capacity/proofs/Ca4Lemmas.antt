@@ -55,3 +55,8 @@ cut-one span slots read k every inside same =
     ∙ ap (λ (xs : List ℕ). take 1 xs) (drop-cons slots k 0 here)
     ∙ sym (one_slot slots k here))
     inside
+
+-- an entry for all the slots, or one for each
+pub length-spans : (span : Span) (slots : List ℕ) → length slots ≤ 78 → length (spans span slots) ≤ 1600
+length-spans Global slots few = omega arith
+length-spans Every slots few = omega (arith, length-map slots (λ s. s ∷ []))

@@ -12,6 +12,7 @@ pub record AreOpponents (n : ℕ) (teams1 teams2 places1 places2 : List ℕ) : T
   pub at_most : n ≤ 40
   pub below1 : All (λ t. t < n) teams1
   pub below2 : All (λ t. t < n) teams2
+  pub few1 : length teams1 ≤ 40
   pub few2 : length teams2 ≤ 40
   pub placed1 : ArePlaces (length teams1) teams1 places1
   pub placed2 : ArePlaces (length teams2) teams2 places2

@@ -42,6 +42,7 @@ impl Ca1 {
         ensures teams { IfOk result (λ rule. ⟦<Ca1 as Entries>⟧.team_count rule ≡ n) }
         ensures reach { IfOk result (λ rule. ⟦<Ca1 as Entries>⟧.reach_of rule ≡ 1) }
         ensures terms { IfOk result (λ rule. (m : Counts) → ⟦<Ca1 as Entries>⟧.term_count rule ≡ length (vector_of n m constraint.now.class)) }
+        ensures short { IfOk result (λ rule. ⟦<Ca1 as Entries>⟧.term_count rule ≤ 1600) }
         ensures entries { IfOk result (λ rule. (k : ℕ) (m : Counts) → ⟦<Ca1 as Entries>⟧.entry rule k m ≡ entry_of n m constraint.now.class k) }
         ensures touches { IfOk result (λ rule. (g : Game) → IsGame n g → ⟦<Ca1 as Entries>⟧.touches rule g ≡ touches_of constraint.now.class g) }
     {
@@ -75,6 +76,7 @@ impl Ca1 {
         ensures teams { IfOk result (λ rule. ⟦<Ca1 as Entries>⟧.team_count rule ≡ n) }
         ensures reach { IfOk result (λ rule. ⟦<Ca1 as Entries>⟧.reach_of rule ≡ 1) }
         ensures terms { IfOk result (λ rule. ⟦<Ca1 as Entries>⟧.term_count rule ≡ length teams.now) }
+        ensures short { IfOk result (λ rule. ⟦<Ca1 as Entries>⟧.term_count rule ≤ 1600) }
         ensures entries { IfOk result (λ rule. (k : ℕ) (m : Counts) → ⟦<Ca1 as Entries>⟧.entry rule k m ≡ entry_of n m (class_of_ca1 teams.now max side slots.now) k) }
         ensures touches { IfOk result (λ rule. (g : Game) → IsGame n g → ⟦<Ca1 as Entries>⟧.touches rule g ≡ touches_of (class_of_ca1 teams.now max side slots.now) g) }
     {

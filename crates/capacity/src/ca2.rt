@@ -40,6 +40,7 @@ impl Ca2 {
         ensures teams { IfOk result (λ rule. ⟦<Ca2 as Entries>⟧.team_count rule ≡ n) }
         ensures reach { IfOk result (λ rule. ⟦<Ca2 as Entries>⟧.reach_of rule ≡ 2) }
         ensures terms { IfOk result (λ rule. (m : Counts) → ⟦<Ca2 as Entries>⟧.term_count rule ≡ length (vector_of n m constraint.now.class)) }
+        ensures short { IfOk result (λ rule. ⟦<Ca2 as Entries>⟧.term_count rule ≤ 1600) }
         ensures entries { IfOk result (λ rule. (k : ℕ) (m : Counts) → ⟦<Ca2 as Entries>⟧.entry rule k m ≡ entry_of n m constraint.now.class k) }
         ensures touches { IfOk result (λ rule. (g : Game) → IsGame n g → ⟦<Ca2 as Entries>⟧.touches rule g ≡ touches_of constraint.now.class g) }
     {
@@ -64,6 +65,7 @@ impl Ca2 {
         ensures teams { IfOk result (λ rule. ⟦<Ca2 as Entries>⟧.team_count rule ≡ opponents.n) }
         ensures reach { IfOk result (λ rule. ⟦<Ca2 as Entries>⟧.reach_of rule ≡ 2) }
         ensures terms { IfOk result (λ rule. ⟦<Ca2 as Entries>⟧.term_count rule ≡ length opponents.teams1.items) }
+        ensures short { IfOk result (λ rule. ⟦<Ca2 as Entries>⟧.term_count rule ≤ 1600) }
         ensures entries { IfOk result (λ rule. (k : ℕ) (m : Counts) → ⟦<Ca2 as Entries>⟧.entry rule k m ≡ entry_of opponents.n m (class_of_ca2 opponents.teams1.items opponents.teams2.items max opponents.side slots.now) k) }
         ensures touches { IfOk result (λ rule. (g : Game) → IsGame opponents.n g → ⟦<Ca2 as Entries>⟧.touches rule g ≡ touches_of (class_of_ca2 opponents.teams1.items opponents.teams2.items max opponents.side slots.now) g) }
     {

@@ -36,6 +36,7 @@ impl Ca3 {
         ensures teams { IfOk result (λ rule. ⟦<Ca3 as Entries>⟧.team_count rule ≡ n) }
         ensures reach { IfOk result (λ rule. ⟦<Ca3 as Entries>⟧.reach_of rule ≡ 2) }
         ensures terms { IfOk result (λ rule. (m : Counts) → ⟦<Ca3 as Entries>⟧.term_count rule ≡ length (vector_of n m constraint.now.class)) }
+        ensures short { IfOk result (λ rule. ⟦<Ca3 as Entries>⟧.term_count rule ≤ 1600) }
         ensures entries { IfOk result (λ rule. (k : ℕ) (m : Counts) → ⟦<Ca3 as Entries>⟧.entry rule k m ≡ entry_of n m constraint.now.class k) }
         ensures touches { IfOk result (λ rule. (g : Game) → IsGame n g → ⟦<Ca3 as Entries>⟧.touches rule g ≡ touches_of constraint.now.class g) }
     {

@@ -44,6 +44,7 @@ impl Ca4 {
         ensures teams { IfOk result (λ rule. ⟦<Ca4 as Entries>⟧.team_count rule ≡ n) }
         ensures reach { IfOk result (λ rule. ⟦<Ca4 as Entries>⟧.reach_of rule ≡ 1) }
         ensures terms { IfOk result (λ rule. (m : Counts) → ⟦<Ca4 as Entries>⟧.term_count rule ≡ length (vector_of n m constraint.now.class)) }
+        ensures short { IfOk result (λ rule. ⟦<Ca4 as Entries>⟧.term_count rule ≤ 1600) }
         ensures entries { IfOk result (λ rule. (k : ℕ) (m : Counts) → ⟦<Ca4 as Entries>⟧.entry rule k m ≡ entry_of n m constraint.now.class k) }
         ensures touches { IfOk result (λ rule. (g : Game) → IsGame n g → ⟦<Ca4 as Entries>⟧.touches rule g ≡ touches_of constraint.now.class g) }
     {
@@ -79,6 +80,7 @@ impl Ca4 {
         ensures teams { IfOk result (λ rule. ⟦<Ca4 as Entries>⟧.team_count rule ≡ n) }
         ensures reach { IfOk result (λ rule. ⟦<Ca4 as Entries>⟧.reach_of rule ≡ 1) }
         ensures terms { IfOk result (λ rule. ⟦<Ca4 as Entries>⟧.term_count rule ≡ length (spans span slots.now)) }
+        ensures short { IfOk result (λ rule. ⟦<Ca4 as Entries>⟧.term_count rule ≤ 1600) }
         ensures entries { IfOk result (λ rule. (k : ℕ) (m : Counts) → ⟦<Ca4 as Entries>⟧.entry rule k m ≡ slice_index (beyond_max m meetings.now max span slots.now) k) }
         ensures touches { IfOk result (λ rule. (g : Game) → ⟦<Ca4 as Entries>⟧.touches rule g ≡ touches_among meetings.now span slots.now g) }
     {

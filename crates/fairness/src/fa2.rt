@@ -42,6 +42,7 @@ impl Fa2 {
         ensures teams { IfOk result (λ rule. ⟦<Fa2 as Entries>⟧.team_count rule ≡ n) }
         ensures reach { IfOk result (λ rule. ⟦<Fa2 as Entries>⟧.reach_of rule ≡ length (teams_of_fa2 constraint.now.class) - 1) }
         ensures terms { IfOk result (λ rule. (m : Counts) → ⟦<Fa2 as Entries>⟧.term_count rule ≡ length (vector_of n m constraint.now.class)) }
+        ensures short { IfOk result (λ rule. ⟦<Fa2 as Entries>⟧.term_count rule ≤ 1600) }
         ensures entries { IfOk result (λ rule. (k : ℕ) (m : Counts) → ⟦<Fa2 as Entries>⟧.entry rule k m ≡ entry_of n m constraint.now.class k) }
         ensures touches { IfOk result (λ rule. (g : Game) → IsGame n g → ⟦<Fa2 as Entries>⟧.touches rule g ≡ touches_of constraint.now.class g) }
     {
@@ -61,6 +62,7 @@ impl Fa2 {
         ensures teams { IfOk result (λ rule. ⟦<Fa2 as Entries>⟧.team_count rule ≡ n) }
         ensures reach { IfOk result (λ rule. ⟦<Fa2 as Entries>⟧.reach_of rule ≡ length teams.now - 1) }
         ensures terms { IfOk result (λ rule. ⟦<Fa2 as Entries>⟧.term_count rule ≡ length (pairs_of teams.now)) }
+        ensures short { IfOk result (λ rule. ⟦<Fa2 as Entries>⟧.term_count rule ≤ 1600) }
         ensures entries { IfOk result (λ rule. (k : ℕ) (m : Counts) → ⟦<Fa2 as Entries>⟧.entry rule k m ≡ entry_of n m (class_of_fa2 teams.now intp slots.now) k) }
         ensures touches { IfOk result (λ rule. (g : Game) → IsGame n g → ⟦<Fa2 as Entries>⟧.touches rule g ≡ touches_of (class_of_fa2 teams.now intp slots.now) g) }
     {

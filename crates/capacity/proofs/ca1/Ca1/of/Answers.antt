@@ -1,13 +1,11 @@
-use Rattle.std.proofs.Common.{◌<◌, arith}
-use Rattle.std.specs.List.{All}
-use Rattle.league.proofs.SetLemmas.{length-ascending}
+use Rattle.std.proofs.Common.{◌≤◌, ℕ, List, length, subst, sym, arith}
+use Rattle.rule_core.proofs.PairLemmas.{slots-few, teams-few}
 use Rattle.capacity.proofs.TermLemmas.{IsReady-copied}
 use Rattle.capacity.proofs.KeyLemmas.{ca1-touches}
 use Rattle.capacity.proofs.ca1.Ca1.of.Goals as goal
 
 pub invariant_of-result : goal.invariant_of-result
 invariant_of-result c =
-    let small : All (λ s. s < 78) c.args.slots.now = λ k d lt. omega (arith, c.requires.slots_below k d lt, c.requires.at_most) in
     record {
       ready = IsReady-copied c.args.n c.args.teams.now c.in_ok-from_slice.field-0.items c.args.side c.args.slots.now c.in_ok-from_slice-2.field-0.items c.of.result c.of-2.result c.in_ok-from_slice.ensures.items c.in_ok-from_slice-2.ensures.items
           (record {
@@ -15,7 +13,7 @@ invariant_of-result c =
             one_side = c.requires.one_side;
             teams_below = c.requires.teams_below;
             slots_below = c.requires.slots_below;
-            slots_few = length-ascending c.args.slots.now 78 c.requires.slots_ascending small;
+            slots_few = slots-few c.args.n c.args.slots.now c.requires.at_most c.requires.slots_ascending c.requires.slots_below;
             teams_placed = c.of.ensures;
             slots_placed = c.of-2.ensures;
           });
@@ -24,3 +22,8 @@ invariant_of-result c =
 pub returns-clause-touches : goal.returns-clause-touches
 returns-clause-touches c =
     λ g fits. ca1-touches c.args.teams.now c.args.slots.now c.of.result c.of-2.result c.of.ensures c.of-2.ensures c.args.max c.args.side g
+
+pub returns-clause-short : goal.returns-clause-short
+returns-clause-short c =
+    let few : length c.args.teams.now ≤ 40 = teams-few c.args.n c.args.teams.now c.requires.at_most c.requires.teams_ascending c.requires.teams_below in
+    subst (λ (teams : List ℕ). length teams ≤ 1600) (sym c.in_ok-from_slice.ensures.items) (omega arith)
