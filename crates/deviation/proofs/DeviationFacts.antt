@@ -1,6 +1,6 @@
 -- Worked examples of all classes on a schedule that is no round robin, so that a wrong definition does not check. The reasoning
 -- stands beside each: it was done by hand from the table in docs/DEFINITIONS.md.
-use Rattle.std.proofs.Common.{◌≡◌, ℕ, true, false, List, [], ◌∷◌, refl, arith}
+use Rattle.std.proofs.Common.{◌≡◌, ℕ, true, false, List, [], ◌∷◌, map, refl, arith}
 use Rattle.league.specs.Accepted.{infeasibility, objective, IsAccepted}
 use Rattle.league.specs.Counts.{Counts, counts_of}
 use Rattle.league.specs.Deviation.{vector_of}
@@ -12,7 +12,7 @@ use Rattle.league.specs.declared.class.Side.TheVariants.{H, A, Both}
 use Rattle.league.specs.declared.class.Span.TheVariants.{Global, Every}
 use Rattle.league.proofs.AcceptedLemmas.{sum-from_MeetsHard}
 use Rattle.league.proofs.DoubleFour.{all_slots, all_teams, four, game}
-use Rattle.deviation.specs.Reach.{class_reach}
+use Rattle.deviation.specs.Reach.{class_reach, class_touches}
 
 -- Four teams; team 0 is in every game: twice at home to 1 in slot 0, where it also plays away, and twice in slots 1 and 5.
 -- By slot it has 2 1 0 1 0 1 home games and 1 1 1 0 0 1 away games; team 1 is at home in slot 2 alone, team 3 in slots 0 and 5.
@@ -134,3 +134,18 @@ reach-of_three_teams = (refl, refl, refl)
 
 pub reach-no_team : class_reach (Fa2 [] 1 all_slots) ≡ 0
 reach-no_team = refl
+
+-- what the game of 0 at home to 1 in slot 2 touches: 0 at home; 0 and 1, who meet; 1, away to 0; the second slot; the meeting; 1, whose
+-- break at slot 3 it can make; nothing, since 3 doesn't play; the pairs 0 1 and 0 2; the pair 0 1
+pub touches-by_class : map (λ class. class_touches class (game 0 1 2))
+  (Ca1 (0 ∷ 1 ∷ []) 0 H (2 ∷ [])
+  ∷ Ca2 (0 ∷ 1 ∷ []) (0 ∷ 1 ∷ []) 0 Both (2 ∷ [])
+  ∷ Ca3 (1 ∷ 2 ∷ []) (0 ∷ []) 0 3 A
+  ∷ Ca4 (0 ∷ []) (1 ∷ []) 0 H Every (1 ∷ 2 ∷ [])
+  ∷ Ga1 ((0, 1) ∷ []) 1 1 (2 ∷ [])
+  ∷ Br1 (1 ∷ 3 ∷ []) 0 Both (3 ∷ [])
+  ∷ Br2 (3 ∷ []) 0 (2 ∷ [])
+  ∷ Fa2 (0 ∷ 1 ∷ 2 ∷ []) 0 (2 ∷ [])
+  ∷ Se1 (0 ∷ 1 ∷ 2 ∷ []) 1
+  ∷ []) ≡ (0 ∷ []) ∷ (0 ∷ 1 ∷ []) ∷ (0 ∷ []) ∷ (1 ∷ []) ∷ (0 ∷ []) ∷ (0 ∷ []) ∷ [] ∷ (0 ∷ 1 ∷ []) ∷ (0 ∷ []) ∷ []
+touches-by_class = refl

@@ -46,29 +46,10 @@ vector-by_entries n m class count entry entries many each are =
     ∙ map-same entry (λ k. entry_of n m class k) each (range_with_len 0 (length (vector_of n m class)))
     ∙ listed (vector_of n m class)
 
--- the slots of a league of at most 40 teams are at most 78
-pub few_slots : (n : ℕ) (slots : List ℕ) → n ≤ 40 → IsTrue (are_slots n slots) → IsAscending nat_cmp slots → length slots ≤ 78
-few_slots n slots small fit ascending =
-    length-ascending slots 78 ascending (λ k d within. omega (arith, ltb-true (get_or slots k d) (slot_count n) (AllPass-from_list_all (λ s. nat_lt s (slot_count n)) slots fit k d within)))
-
--- and its teams are at most 40
-pub few_teams : (n : ℕ) (teams : List ℕ) → n ≤ 40 → IsTrue (are_teams n teams) → IsAscending nat_cmp teams → length teams ≤ 40
-few_teams n teams small fit ascending =
-    length-ascending teams 40 ascending (λ k d within. omega (arith, ltb-true (get_or teams k d) n (AllPass-from_list_all (λ t. nat_lt t n) teams fit k d within)))
-
 -- what holds of a value holds of it in another form
 pub IfOk-map : {T E : Type 0} {P Q : T → Type 0} (r : Result T E) → ((x : T) → P x → Q x) → IfOk r P → IfOk r Q
 IfOk-map (Ok x) weaker p = weaker x p
 IfOk-map (Err e) weaker p = p
-
-square : (k : ℕ) → k + k * k ≤ suc k * suc k
-square k = grind arith
-
--- teams have at most as many pairs as their number's square
-pub few_pairs : (teams : List ℕ) → length (pairs_of teams) ≤ length teams * length teams
-few_pairs [] = omega arith
-few_pairs (i ∷ teams) =
-    omega (arith, length-append (map (λ j. (i, j)) teams) (pairs_of teams), length-map {B = ℕ × ℕ} teams (λ j. (i, j)), few_pairs teams, square (length teams))
 
 -- what an index past the end of a list of games would read
 abbrev no_game : Game
@@ -87,7 +68,3 @@ counts-next games i before after within so_far more =
 pub sum-le : (bound : ℕ) (xs : List ℕ) → ((i : ℕ) → get_or xs i 0 < bound) → sum xs ≤ bound * length xs
 sum-le bound [] small = omega arith
 sum-le bound (x ∷ xs) small = omega (arith, sum_by-cons (λ y. y) x xs, small 0, sum-le bound xs (λ i. small (suc i)))
-
--- a value of each element makes as many
-pub length_mapped : {A B : Type 0} (f : A → B) (xs : List A) → length (map f xs) ≡ length xs
-length_mapped f xs = length-map xs f

@@ -3,8 +3,7 @@ ghost use Rattle.std.specs.Prelude.{◌≡◌, ℕ, ◌+◌, ◌*◌, ◌≤◌,
 ghost use Rattle.std.specs.List.{All};
 ghost use Rattle.league.specs.Counts.{Counts, counts_of};
 ghost use Rattle.league.specs.Deviation.{vector_of};
-ghost use Rattle.league.specs.Instance.{Instance, are_slots, are_teams, class_fits};
-ghost use Rattle.league.specs.Meetings.{pairs_of};
+ghost use Rattle.league.specs.Instance.{Instance, class_fits};
 ghost use Rattle.league.specs.declared.class.Constraint.{Constraint};
 ghost use Rattle.league.specs.declared.game.Game.{Game};
 ghost use Rattle.rule_core.specs.Table.{table_counts};
@@ -12,7 +11,7 @@ ghost use Rattle.deviation.specs.Assess.{AreAtMost, AreWeightsOf};
 
 use crate::any_rule::AnyRule;
 use crate::entries::entries_of;
-use league::{Class, Constraint, League, SlotSet, TeamSet};
+use league::{Constraint, League};
 use rule_core::{Cells, Plain, Steps};
 use std::alloc::{AllocError, Global};
 
@@ -92,56 +91,8 @@ fn vector<L>(
     ensures exact { IfOk result (λ entries. entries.items ≡ vector_of n (table_counts cells.now) constraint.now.class) }
     ensures few { IfOk result (λ entries. length entries.items ≤ 1600) }
 {
-    let _most = most_entries(n, &constraint.class);
     let rule = AnyRule::new(alloc, n, constraint)?;
     entries_of(alloc, &rule, cells, steps)
-}
-
-/// A bound on the number of a constraint's entries: 40 teams have fewer than 1,600 pairs.
-#[tactic(auto, using(crate::proofs::EntryLemmas::length_mapped))]
-fn most_entries(n: u16, class: &Class) -> usize
-    requires n { n ≤ 40 }
-    requires fits { IsTrue (class_fits n class.now) }
-    ensures most { (m : Counts) → length (vector_of n m class.now) ≤ result }
-    ensures few { result ≤ 1600 }
-{
-    match class {
-        Class::Ca1 { teams, .. } | Class::Br1 { teams, .. } => team_count(n, teams),
-        Class::Ca2 { teams1, .. } | Class::Ca3 { teams1, .. } => team_count(n, teams1),
-        Class::Ca4 { slots, .. } => 1 + slot_count(n, slots),
-        Class::Ga1 { .. } | Class::Br2 { .. } => 1,
-        Class::Fa2 { teams, .. } | Class::Se1 { teams, .. } => most_pairs(n, teams),
-    }
-}
-
-fn team_count(n: u16, teams: &TeamSet) -> usize
-    requires n { n ≤ 40 }
-    requires fits { IsTrue (are_teams n teams.now) }
-    ensures len { result ≡ length teams.now }
-    ensures few { result ≤ 40 }
-{
-    teams.numbers().len()
-}
-
-/// A bound on the number of pairs of teams.
-#[tactic(auto, using(crate::proofs::EntryLemmas::few_pairs))]
-fn most_pairs(n: u16, teams: &TeamSet) -> usize
-    requires n { n ≤ 40 }
-    requires fits { IsTrue (are_teams n teams.now) }
-    ensures most { length (pairs_of teams.now) ≤ result }
-    ensures few { result ≤ 1600 }
-{
-    let count = team_count(n, teams);
-    count * count
-}
-
-fn slot_count(n: u16, slots: &SlotSet) -> usize
-    requires n { n ≤ 40 }
-    requires fits { IsTrue (are_slots n slots.now) }
-    ensures len { result ≡ length slots.now }
-    ensures few { result ≤ 78 }
-{
-    slots.numbers().len()
 }
 
 /// The deviation of a constraint: the sum of its vector. It fits, as no list in memory has 2^64 entries.

@@ -11,4 +11,4 @@ returns-clause-exact g c =
 pub returns-clause-few : goal.returns-clause-few
 returns-clause-few g c =
     let m = table_counts c.args.cells.now in
-    IfOk-map c.entries_of.result (λ entries is. omega (arith, ap length (vector-by_entries c.args.n m c.args.constraint.now.class _ _ entries.items (c.in_ok-rule.ensures.terms m) (λ k. c.in_ok-rule.ensures.entries k m) is), c.most_entries-most.ensures.most m, c.most_entries-most.ensures.few)) c.entries_of.ensures.entries
+    IfOk-map c.entries_of.result (λ entries is. omega (arith, ap length (vector-by_entries c.args.n m c.args.constraint.now.class _ _ entries.items (c.in_ok-rule.ensures.terms m) (λ k. c.in_ok-rule.ensures.entries k m) is), c.in_ok-rule.ensures.terms m, c.in_ok-rule.ensures.short)) c.entries_of.ensures.entries
