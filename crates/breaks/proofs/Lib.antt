@@ -1,2 +1,3 @@
 pub mod TermLemmas
 mod TouchFacts
+pub mod TouchLemmas

@@ -2,7 +2,10 @@
 --
 -- Which constraints each class is made from:
 pub mod Classes
--- What the classes keep, and which keys a game touches:
+-- Which keys a game touches, by the constraint's own lists:
+pub mod Br1
+pub mod Br2
+-- What the classes keep, and the same keys by what they keep:
 pub mod Scope
 -- The laws of each class:
 pub mod ScopeLaws

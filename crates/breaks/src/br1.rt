@@ -18,10 +18,12 @@ pub struct Br1 {
 impl Br1 {
     ghost use Rattle.league.specs.Counts.{Counts, slot_count};
     ghost use Rattle.league.specs.Deviation.{entry_of, vector_of};
-    ghost use Rattle.league.specs.Instance.{class_fits};
+    ghost use Rattle.league.specs.Instance.{IsGame, class_fits};
     ghost use Rattle.league.specs.Sets.{IsAscending};
+    ghost use Rattle.league.specs.declared.game.Game.{Game};
     ghost use Rattle.std.specs.List.{All};
     ghost use Rattle.std.specs.Ordering.{nat_cmp};
+    ghost use Rattle.breaks.specs.Br1.{touches_of};
     ghost use Rattle.breaks.specs.Classes.{class_of_br1, is_br1};
 
     /// The rule of a BR1 that fits a league of n teams, n at most 40.
@@ -36,6 +38,7 @@ impl Br1 {
         ensures reach { IfOk result (λ rule. ⟦<Br1 as Entries>⟧.reach_of rule ≡ 2) }
         ensures terms { IfOk result (λ rule. (m : Counts) → ⟦<Br1 as Entries>⟧.term_count rule ≡ length (vector_of n m constraint.now.class)) }
         ensures entries { IfOk result (λ rule. (k : ℕ) (m : Counts) → ⟦<Br1 as Entries>⟧.entry rule k m ≡ entry_of n m constraint.now.class k) }
+        ensures touches { IfOk result (λ rule. (g : Game) → IsGame n g → ⟦<Br1 as Entries>⟧.touches rule g ≡ touches_of constraint.now.class g) }
     {
         let Class::Br1 {
             teams,
@@ -67,6 +70,7 @@ impl Br1 {
         ensures reach { IfOk result (λ rule. ⟦<Br1 as Entries>⟧.reach_of rule ≡ 2) }
         ensures terms { IfOk result (λ rule. ⟦<Br1 as Entries>⟧.term_count rule ≡ length teams.now) }
         ensures entries { IfOk result (λ rule. (k : ℕ) (m : Counts) → ⟦<Br1 as Entries>⟧.entry rule k m ≡ entry_of n m (class_of_br1 teams.now intp side slots.now) k) }
+        ensures touches { IfOk result (λ rule. (g : Game) → IsGame n g → ⟦<Br1 as Entries>⟧.touches rule g ≡ touches_of (class_of_br1 teams.now intp side slots.now) g) }
     {
         Ok(Br1 {
             scope: Scope::of(alloc, n, teams, slots)?,

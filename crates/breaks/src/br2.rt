@@ -17,10 +17,12 @@ pub struct Br2 {
 impl Br2 {
     ghost use Rattle.league.specs.Counts.{Counts, slot_count};
     ghost use Rattle.league.specs.Deviation.{entry_of, vector_of};
-    ghost use Rattle.league.specs.Instance.{class_fits};
+    ghost use Rattle.league.specs.Instance.{IsGame, class_fits};
     ghost use Rattle.league.specs.Sets.{IsAscending};
+    ghost use Rattle.league.specs.declared.game.Game.{Game};
     ghost use Rattle.std.specs.List.{All};
     ghost use Rattle.std.specs.Ordering.{nat_cmp};
+    ghost use Rattle.breaks.specs.Br2.{touches_of};
     ghost use Rattle.breaks.specs.Classes.{class_of_br2, is_br2};
 
     /// The rule of a BR2 that fits a league of n teams, n at most 40.
@@ -35,6 +37,7 @@ impl Br2 {
         ensures reach { IfOk result (λ rule. ⟦<Br2 as Entries>⟧.reach_of rule ≡ 1) }
         ensures terms { IfOk result (λ rule. (m : Counts) → ⟦<Br2 as Entries>⟧.term_count rule ≡ length (vector_of n m constraint.now.class)) }
         ensures entries { IfOk result (λ rule. (k : ℕ) (m : Counts) → ⟦<Br2 as Entries>⟧.entry rule k m ≡ entry_of n m constraint.now.class k) }
+        ensures touches { IfOk result (λ rule. (g : Game) → IsGame n g → ⟦<Br2 as Entries>⟧.touches rule g ≡ touches_of constraint.now.class g) }
     {
         let Class::Br2 { teams, intp, slots } = &constraint.class else {
             unreachable!()
@@ -53,6 +56,7 @@ impl Br2 {
         ensures reach { IfOk result (λ rule. ⟦<Br2 as Entries>⟧.reach_of rule ≡ 1) }
         ensures terms { IfOk result (λ rule. ⟦<Br2 as Entries>⟧.term_count rule ≡ 1) }
         ensures entries { IfOk result (λ rule. (k : ℕ) (m : Counts) → ⟦<Br2 as Entries>⟧.entry rule k m ≡ entry_of n m (class_of_br2 teams.now intp slots.now) k) }
+        ensures touches { IfOk result (λ rule. (g : Game) → IsGame n g → ⟦<Br2 as Entries>⟧.touches rule g ≡ touches_of (class_of_br2 teams.now intp slots.now) g) }
     {
         Ok(Br2 {
             scope: Scope::of(alloc, n, teams, slots)?,
