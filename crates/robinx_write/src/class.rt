@@ -1,10 +1,11 @@
 //! The attributes of the nine classes, each in the order of the format.
-ghost use Rattle.std.specs.Prelude.{◌≡◌, ◌++◌, OnOk, codes};
+ghost use Rattle.std.specs.Prelude.{◌≡◌, ◌++◌, IsTrue, OnOk, codes};
 ghost use Rattle.std.specs.List.{flat_map};
 ghost use Rattle.robinx_read.specs.Attributes.{attribute_text};
 ghost use Rattle.robinx_read.specs.Texts as texts;
 ghost use Rattle.robinx_read.specs.Texts.{class_attributes};
 ghost use Rattle.robinx_write.specs.Held.{IsHeldClass};
+ghost use Rattle.robinx_write.specs.Groups.{is_capacity};
 
 use crate::tag::{Attribute, Value, put_attributes};
 use league::{Class, PairSet, Side, SlotSet, Span, TeamSet};
@@ -250,8 +251,9 @@ fn put_se1(text: &mut Vec<u8>, teams: &TeamSet, min: u32) -> Result<(), AllocErr
     put_attributes(text, &attributes)
 }
 
-/// Adds the attributes of a class.
-pub(crate) fn put_class(text: &mut Vec<u8>, class: &Class) -> Result<(), AllocError>
+/// Adds the attributes of a capacity class.
+fn put_capacity(text: &mut Vec<u8>, class: &Class) -> Result<(), AllocError>
+    requires { IsTrue (is_capacity class.now) }
     ensures written { OnOk result (text.new.items ≡ text.old.items ++ flat_map attribute_text (class_attributes class.now)) }
     ensures held { IsHeldClass class.now }
 {
@@ -284,6 +286,19 @@ pub(crate) fn put_class(text: &mut Vec<u8>, class: &Class) -> Result<(), AllocEr
             span,
             slots,
         } => put_ca4(text, teams1, teams2, *max, *side, *span, slots),
+        _ => unreachable!(),
+    }
+}
+
+/// Adds the attributes of a class.
+pub(crate) fn put_class(text: &mut Vec<u8>, class: &Class) -> Result<(), AllocError>
+    ensures written { OnOk result (text.new.items ≡ text.old.items ++ flat_map attribute_text (class_attributes class.now)) }
+    ensures held { IsHeldClass class.now }
+{
+    match class {
+        Class::Ca1 { .. } | Class::Ca2 { .. } | Class::Ca3 { .. } | Class::Ca4 { .. } => {
+            put_capacity(text, class)
+        }
         Class::Ga1 {
             meetings,
             min,
