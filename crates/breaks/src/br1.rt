@@ -37,6 +37,7 @@ impl Br1 {
         ensures teams { IfOk result (λ rule. ⟦<Br1 as Entries>⟧.team_count rule ≡ n) }
         ensures reach { IfOk result (λ rule. ⟦<Br1 as Entries>⟧.reach_of rule ≡ 2) }
         ensures terms { IfOk result (λ rule. (m : Counts) → ⟦<Br1 as Entries>⟧.term_count rule ≡ length (vector_of n m constraint.now.class)) }
+        ensures short { IfOk result (λ rule. ⟦<Br1 as Entries>⟧.term_count rule ≤ 1600) }
         ensures entries { IfOk result (λ rule. (k : ℕ) (m : Counts) → ⟦<Br1 as Entries>⟧.entry rule k m ≡ entry_of n m constraint.now.class k) }
         ensures touches { IfOk result (λ rule. (g : Game) → IsGame n g → ⟦<Br1 as Entries>⟧.touches rule g ≡ touches_of constraint.now.class g) }
     {
@@ -69,6 +70,7 @@ impl Br1 {
         ensures teams { IfOk result (λ rule. ⟦<Br1 as Entries>⟧.team_count rule ≡ n) }
         ensures reach { IfOk result (λ rule. ⟦<Br1 as Entries>⟧.reach_of rule ≡ 2) }
         ensures terms { IfOk result (λ rule. ⟦<Br1 as Entries>⟧.term_count rule ≡ length teams.now) }
+        ensures short { IfOk result (λ rule. ⟦<Br1 as Entries>⟧.term_count rule ≤ 1600) }
         ensures entries { IfOk result (λ rule. (k : ℕ) (m : Counts) → ⟦<Br1 as Entries>⟧.entry rule k m ≡ entry_of n m (class_of_br1 teams.now intp side slots.now) k) }
         ensures touches { IfOk result (λ rule. (g : Game) → IsGame n g → ⟦<Br1 as Entries>⟧.touches rule g ≡ touches_of (class_of_br1 teams.now intp side slots.now) g) }
     {
