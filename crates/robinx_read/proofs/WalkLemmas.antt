@@ -52,6 +52,11 @@ module _ {Read : Type 0} (meaning : Meaning Read) where
   unfolding walk
   walk-end left at line is = ap (λ (l : Pieces). walk meaning l.items l.last at) is
 
+  -- the file's end on this line where it is refused
+  pub walk-cut : (said : Result Read Fault) (left : Pieces) (at : Place Read) (line told : ℕ) → walk meaning left.items left.last at ≡ said → left ≡ none_but (Ends line) → told ≡ line
+      → at_file_end at.outer line at ≡ Err (Truncated, line) → said ≡ Err (Truncated, told)
+  walk-cut said left at line told says ends same refused = sym says ∙ walk-end left at line ends ∙ refused ∙ ap (λ (l : ℕ). Err (Truncated, l)) (sym same)
+
 -- the file's end, by the elements around the place
 module _ {Read : Type 0} where
   pub file_end-whole : (outer : List Open) (line : ℕ) (at : Place Read) → length outer ≡ 0 → is_complete at.inner ≡ true → at_file_end outer line at ≡ Ok at.read

@@ -7,7 +7,7 @@ use Rattle.robinx_read.specs.Walk.{at_file_end}
 use Rattle.robinx_read.specs.Tagged.{of_tags}
 use Rattle.robinx_read.specs.SeenPlace.{place_of}
 use Rattle.robinx_read.specs.Answers.{Moves}
-use Rattle.robinx_read.proofs.WalkLemmas.{next_piece, nothing_left, walk-piece, walk-stop, walk-fault, walk-end, file_end-whole, file_end-open, file_end-incomplete}
+use Rattle.robinx_read.proofs.WalkLemmas.{next_piece, nothing_left, walk-piece, walk-stop, walk-fault, walk-end, walk-cut, file_end-whole, file_end-open, file_end-incomplete}
 use Rattle.robinx_read.proofs.walk.read_file.Goals as goal
 use Rattle.robinx_read.proofs.walk.read_file.Goals.{then-not-is_empty-via-then-not-is_empty, then-not-is_empty-via-else-not-is_empty+then-not-is_complete}
 
@@ -43,13 +43,12 @@ returns-then-not-is_empty g c =
     let at = place_of c.pieces.place c.pieces.read in
     let end = nothing_left c.pieces.tags c.next.new.self c.in_ok-tag.field-0 c.in_ok-tag.ensures c.in_default.is in
     let line_is : c.end_line.result ≡ end.1.0 = c.end_line.ensures end.1.0 (ap (λ l. l.last) end.0 ∙ ap (λ l. l.last) end.1.1) in
-    let said = sym c.pieces.invariant ∙ walk-end (record { started = g.R.Reads.begun; ended = g.R.Reads.closed }) c.pieces.tags at end.1.0 end.1.1 in
     let refused : at_file_end at.outer end.1.0 at ≡ Err (Truncated, end.1.0) =
     elim c.then-not-is_empty.branch [
       | then-not-is_empty-via-then-not-is_empty w ↦ file_end-open at.outer end.1.0 at (grind (arith, nat_tests, c.is_empty.ensures, w.if-not-is_empty.true))
       | then-not-is_empty-via-else-not-is_empty+then-not-is_complete w ↦ file_end-incomplete at.outer end.1.0 at (sym w.is_complete.ensures ∙ w.if-not-is_complete.true)
     ] in
-    rw c.fault.ensures (said ∙ refused ∙ ap (λ line. Err (Truncated, line)) (sym line_is))
+    rw c.fault.ensures (walk-cut (record { started = g.R.Reads.begun; ended = g.R.Reads.closed }) _ c.pieces.tags at end.1.0 c.end_line.result c.pieces.invariant end.1.1 line_is refused)
 
 pub returns : goal.returns
 returns g c =
