@@ -1,3 +1,4 @@
 -- What is assessed:
 pub mod Reach
+pub mod Touches
 pub mod Assess

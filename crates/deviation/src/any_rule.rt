@@ -4,6 +4,7 @@ ghost use Rattle.league.specs.Counts.{Counts};
 ghost use Rattle.league.specs.Deviation.{entry_of, vector_of};
 ghost use Rattle.league.specs.Instance.{class_fits};
 ghost use Rattle.deviation.specs.Reach.{class_reach};
+ghost use Rattle.deviation.specs.Touches.{TouchesExactly};
 
 use breaks::{Br1, Br2};
 use capacity::{Ca1, Ca2, Ca3, Ca4};
@@ -40,6 +41,7 @@ impl AnyRule {
         ensures terms { IfOk result (λ rule. (m : Counts) → ⟦<AnyRule as Entries>⟧.term_count rule ≡ length (vector_of n m constraint.now.class)) }
         ensures entries { IfOk result (λ rule. (k : ℕ) (m : Counts) → ⟦<AnyRule as Entries>⟧.entry rule k m ≡ entry_of n m constraint.now.class k) }
         ensures reach { IfOk result (λ rule. ⟦<AnyRule as Entries>⟧.reach_of rule ≡ class_reach constraint.now.class) }
+        ensures touches { IfOk result (λ rule. TouchesExactly constraint.now.class (⟦<AnyRule as Entries>⟧.touches rule)) }
     {
         Ok(match &constraint.class {
             Class::Ca1 { .. } => AnyRule::Ca1(Ca1::new(alloc, n, constraint)?),
