@@ -1,7 +1,7 @@
 -- From the weights of a league's constraints to the assessment.
-use Rattle.std.proofs.Common.{◌≡◌, ℕ, List, ◌↔◌, ◌∙◌, sym, subst}
+use Rattle.std.proofs.Common.{◌≡◌, ◌↔◌, ◌∙◌, sym}
 use Rattle.league.specs.Accepted.{IsAccepted}
-use Rattle.league.specs.Counts.{Counts, counts_of}
+use Rattle.league.specs.Counts.{Counts}
 use Rattle.league.specs.Instance.{Instance}
 use Rattle.league.specs.declared.wrongs.Wrongs.{Wrongs}
 use Rattle.league.proofs.AcceptedLemmas.{MeetsHard-from_sum, sum-from_MeetsHard}

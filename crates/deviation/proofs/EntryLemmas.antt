@@ -1,5 +1,5 @@
 -- Vectors by their entries, and counts by their games.
-use Rattle.std.proofs.Common.{◌≡◌, ℕ, ◌+◌, ◌*◌, ◌^◌, ◌<◌, ◌≤◌, zero, suc, Bool, nat_lt, List, [], ◌∷◌, ◌++◌, length, map, get_or, take, sum, IsTrue, Result, Ok, Err, IfOk, refl, ap, sym, ◌∙◌, arith}
+use Rattle.std.proofs.Common.{◌≡◌, ℕ, ◌+◌, ◌*◌, ◌<◌, ◌≤◌, zero, suc, nat_lt, List, [], ◌∷◌, ◌++◌, length, map, get_or, take, sum, IsTrue, Result, Ok, Err, IfOk, refl, ap, sym, ◌∙◌, arith}
 use borrow.Author.Tests.{ltb-true}
 use Rattle.std.proofs.lemmas.List.{length-append, length-map, take_more}
 use Rattle.std.proofs.lemmas.List.Sums.{AllPass-from_list_all, sum_by-cons, sum_by_push}

@@ -1,6 +1,5 @@
-use Rattle.std.proofs.Common.{◌≡◌, List, ◌∙◌, ap, subst, sym}
+use Rattle.std.proofs.Common.{◌∙◌, ap, subst}
 use Rattle.league.specs.Counts.{Counts, counts_of}
-use Rattle.rule_core.specs.Table.{table_counts}
 use Rattle.deviation.specs.Assess.{AreWeightsOf, IsStructureOf}
 use Rattle.deviation.proofs.AssessLemmas.{accepted-counted}
 use Rattle.deviation.proofs.assessment.assess.Goals as goal
