@@ -138,14 +138,14 @@ reach-no_team = refl
 -- what the game of 0 at home to 1 in slot 2 touches: 0 at home; 0 and 1, who meet; 1, away to 0; the second slot; the meeting; 1, whose
 -- break at slot 3 it can make; nothing, since 3 doesn't play; the pairs 0 1 and 0 2; the pair 0 1
 pub touches-by_class : map (λ class. class_touches class (game 0 1 2))
-  (Ca1 (0 ∷ 1 ∷ []) 0 H (2 ∷ [])
-  ∷ Ca2 (0 ∷ 1 ∷ []) (0 ∷ 1 ∷ []) 0 Both (2 ∷ [])
-  ∷ Ca3 (1 ∷ 2 ∷ []) (0 ∷ []) 0 3 A
-  ∷ Ca4 (0 ∷ []) (1 ∷ []) 0 H Every (1 ∷ 2 ∷ [])
-  ∷ Ga1 ((0, 1) ∷ []) 1 1 (2 ∷ [])
-  ∷ Br1 (1 ∷ 3 ∷ []) 0 Both (3 ∷ [])
-  ∷ Br2 (3 ∷ []) 0 (2 ∷ [])
-  ∷ Fa2 (0 ∷ 1 ∷ 2 ∷ []) 0 (2 ∷ [])
-  ∷ Se1 (0 ∷ 1 ∷ 2 ∷ []) 1
-  ∷ []) ≡ (0 ∷ []) ∷ (0 ∷ 1 ∷ []) ∷ (0 ∷ []) ∷ (1 ∷ []) ∷ (0 ∷ []) ∷ (0 ∷ []) ∷ [] ∷ (0 ∷ 1 ∷ []) ∷ (0 ∷ []) ∷ []
+    (Ca1 (0 ∷ 1 ∷ []) 0 H (2 ∷ [])
+    ∷ Ca2 (0 ∷ 1 ∷ []) (0 ∷ 1 ∷ []) 0 Both (2 ∷ [])
+    ∷ Ca3 (1 ∷ 2 ∷ []) (0 ∷ []) 0 3 A
+    ∷ Ca4 (0 ∷ []) (1 ∷ []) 0 H Every (1 ∷ 2 ∷ [])
+    ∷ Ga1 ((0, 1) ∷ []) 1 1 (2 ∷ [])
+    ∷ Br1 (1 ∷ 3 ∷ []) 0 Both (3 ∷ [])
+    ∷ Br2 (3 ∷ []) 0 (2 ∷ [])
+    ∷ Fa2 (0 ∷ 1 ∷ 2 ∷ []) 0 (2 ∷ [])
+    ∷ Se1 (0 ∷ 1 ∷ 2 ∷ []) 1
+    ∷ []) ≡ (0 ∷ []) ∷ (0 ∷ 1 ∷ []) ∷ (0 ∷ []) ∷ (1 ∷ []) ∷ (0 ∷ []) ∷ (0 ∷ []) ∷ [] ∷ (0 ∷ 1 ∷ []) ∷ (0 ∷ []) ∷ []
 touches-by_class = refl

@@ -1,18 +1,11 @@
 -- Vectors by their entries, and counts by their games.
-use Rattle.std.proofs.Common.{◌≡◌, ℕ, ◌+◌, ◌*◌, ◌<◌, ◌≤◌, zero, suc, nat_lt, List, [], ◌∷◌, ◌++◌, length, map, get_or, take, sum, IsTrue, Result, Ok, Err, IfOk, refl, ap, sym, ◌∙◌, arith}
-use borrow.Author.Tests.{ltb-true}
-use Rattle.std.proofs.lemmas.List.{length-append, length-map, take_more}
-use Rattle.std.proofs.lemmas.List.Sums.{AllPass-from_list_all, sum_by-cons, sum_by_push}
-use Rattle.std.specs.Ordering.{nat_cmp}
+use Rattle.std.proofs.Common.{◌≡◌, ℕ, ◌+◌, ◌*◌, ◌<◌, ◌≤◌, zero, suc, List, [], ◌∷◌, ◌++◌, length, map, get_or, take, sum, Result, Ok, Err, IfOk, refl, ap, sym, ◌∙◌, arith}
+use Rattle.std.proofs.lemmas.List.{take_more}
+use Rattle.std.proofs.lemmas.List.Sums.{sum_by-cons, sum_by_push}
 use Rattle.std.proofs.lemmas.List.Sums.{fold-append}
 use Rattle.std.specs.List.{range_with_len}
 use Rattle.league.specs.Counts.{Counts, counts_of, one_more, is_game}
-use Rattle.league.specs.Counts.{slot_count}
 use Rattle.league.specs.Deviation.{entry_of, vector_of}
-use Rattle.league.specs.Instance.{are_slots, are_teams}
-use Rattle.league.specs.Meetings.{pairs_of}
-use Rattle.league.specs.Sets.{IsAscending}
-use Rattle.league.proofs.SetLemmas.{length-ascending}
 use Rattle.league.proofs.RangeLemmas.{one_if}
 use Rattle.rule_core.proofs.TableLemmas.{same_counts}
 use Rattle.league.specs.declared.class.Class.{Class}

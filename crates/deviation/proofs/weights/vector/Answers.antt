@@ -1,6 +1,5 @@
-use Rattle.std.proofs.Common.{◌≡◌, ◌≤◌, ℕ, List, length, ap, arith}
+use Rattle.std.proofs.Common.{length, ap, arith}
 use Rattle.rule_core.specs.Table.{table_counts}
-use Rattle.league.specs.Deviation.{vector_of}
 use Rattle.deviation.proofs.EntryLemmas.{IfOk-map, vector-by_entries}
 use Rattle.deviation.proofs.weights.vector.Goals as goal
 
