@@ -1,6 +1,9 @@
-//! Runs over a store and a sink in memory: the reports and the refusals of worked cases.
+//! Runs over a store and a sink in memory: the reports and the refusals of worked cases. The tests of the crates that read and
+//! write files stand here too, so that each of those is proved once.
 mod circle;
 mod faults;
+mod reading;
+mod writing;
 
 use crate::run::run;
 use crate::status::Status;

@@ -14,8 +14,6 @@ mod instance;
 mod lists;
 mod place;
 mod reads;
-#[cfg(test)]
-mod tests;
 mod values;
 mod walk;
 

@@ -9,8 +9,6 @@ mod constraints;
 mod instance;
 mod solution;
 mod tag;
-#[cfg(test)]
-mod tests;
 
 pub use instance::instance_text;
 pub use solution::solution_text;

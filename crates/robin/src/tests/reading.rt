@@ -1,4 +1,5 @@
-use super::*;
+//! What the readers take, and the first thing that they refuse.
+use robinx_read::{FormFault, FormKind, ReadFault, read_instance, read_solution};
 use std::alloc::{AllocError, Global};
 use std::test::Fail;
 

@@ -1,5 +1,6 @@
-use super::*;
+//! What the writers write.
 use league::{Class, Constraint, Game, League, PairSet, Schedule, SlotId, SlotSet, TeamId};
+use robinx_write::{instance_text, solution_text};
 use std::test::Fail;
 
 const SEASON: &[u8] =
