@@ -1,26 +1,42 @@
 //! CA4 on the schedule of four teams.
 use super::*;
 use crate::tests::{entry, slots, teams, touches};
-use league::Side;
+use league::{Side, SlotSet, TeamSet};
 use std::process::Abort;
 use std::test::Fail;
 
-/// The rule of at most so many games of the teams 0 and 1 with each other, in the season or in each slot.
-fn between_two(rt: &impl Abort, alloc: Global, max: u32, span: Span) -> Result<Ca4, Fail> {
+/// The rule of at most so many games of the first teams with the second, in all of these slots or in each.
+fn bounded(
+    rt: &impl Abort,
+    alloc: Global,
+    teams1: TeamSet,
+    teams2: TeamSet,
+    max: u32,
+    span: Span,
+    slots: SlotSet,
+) -> Result<Ca4, AllocError> {
     let constraint = Constraint {
         hard: true,
         penalty: 1,
         class: Class::Ca4 {
-            teams1: teams(alloc, &[0, 1])?,
-            teams2: teams(alloc, &[0, 1])?,
+            teams1,
+            teams2,
             max,
             side: Side::Both,
             span,
-            slots: slots(alloc, &[0, 1, 2, 3, 4, 5])?,
+            slots,
         },
     };
     assert!(rt; constraint.fits(4));
-    Ok(Ca4::new(alloc, 4, &constraint)?)
+    Ca4::new(alloc, 4, &constraint)
+}
+
+/// The rule for the teams 0 and 1 with each other, in the whole season or in each slot.
+fn between_two(rt: &impl Abort, alloc: Global, max: u32, span: Span) -> Result<Ca4, Fail> {
+    let teams1 = teams(alloc, &[0, 1])?;
+    let teams2 = teams(alloc, &[0, 1])?;
+    let slots = slots(alloc, &[0, 1, 2, 3, 4, 5])?;
+    Ok(bounded(rt, alloc, teams1, teams2, max, span, slots)?)
 }
 
 #[test]
