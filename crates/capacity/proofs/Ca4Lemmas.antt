@@ -1,4 +1,4 @@
--- What a CA4 keeps, and what the evaluation of a term adds up to.
+-- The slots of an entry of a CA4, and what the evaluation of a term adds up to.
 use Rattle.std.proofs.Common.{◌≡◌, ℕ, ◌+◌, ◌-◌, ◌<◌, ◌≤◌, List, [], ◌∷◌, length, get_or, take, drop, ap, sym, ◌∙◌, subst, zero, suc, arith}
 use Rattle.std.proofs.lemmas.List.{get_or-map, length-map}
 use Rattle.std.proofs.Math.Seq.{drop-cons}
@@ -8,13 +8,8 @@ use Rattle.league.specs.Deviation.{spans}
 use Rattle.league.specs.Meetings.{games_of}
 use Rattle.league.specs.declared.class.Span.{Span}
 use Rattle.league.specs.declared.class.Span.TheVariants.{Global, Every}
-use Rattle.rule_core.specs.Meetings.{MeetingList}
-use Rattle.capacity.specs.Ca4.{IsReady, beyond_max}
+use Rattle.capacity.specs.Ca4.{beyond_max}
 use Rattle.capacity.specs.Ca4Laws.{entry-by_slots}
-
--- what is ready with some slots is ready with their copy
-pub IsReady-same_slots : (n : ℕ) (meetings : MeetingList) (slots copied slot_places : List ℕ) → copied ≡ slots → IsReady n meetings slots slot_places → IsReady n meetings copied slot_places
-IsReady-same_slots n meetings slots copied slot_places same ready = subst (λ (xs : List ℕ). IsReady n meetings xs slot_places) (sym same) ready
 
 -- the slots of an entry, of which each slot is one of these
 one_slot : (slots : List ℕ) (k : ℕ) → k < length slots → get_or (spans Every slots) k [] ≡ get_or slots k 0 ∷ []

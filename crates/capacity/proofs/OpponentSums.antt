@@ -7,7 +7,6 @@ use Rattle.league.specs.Counts.{Counts}
 use Rattle.league.specs.Meetings.{games_of}
 use Rattle.league.specs.declared.class.Side.{Side}
 use Rattle.rule_core.proofs.OpponentLemmas.{against, games_of-by_opponent, games_of-by_slot}
-use Rattle.capacity.specs.Ca2.{AreSlots}
 use Rattle.capacity.specs.Opponents.{AreOpponents}
 
 -- a sum over all opponents
@@ -29,7 +28,3 @@ pub AreOpponents-copied : (n : ℕ) (teams1 copied1 teams2 copied2 places1 place
 AreOpponents-copied n teams1 copied1 teams2 copied2 places1 places2 same1 same2 are =
     subst (λ (xs : List ℕ). AreOpponents n xs copied2 places1 places2) (sym same1)
     (subst (λ (ys : List ℕ). AreOpponents n teams1 ys places1 places2) (sym same2) are)
-
--- and slots are slots as a copy
-pub AreSlots-copied : (n : ℕ) (slots copied places : List ℕ) → copied ≡ slots → AreSlots n slots places → AreSlots n copied places
-AreSlots-copied n slots copied places same are = subst (λ (xs : List ℕ). AreSlots n xs places) (sym same) are

@@ -2,7 +2,6 @@
 use Rattle.std.specs.Prelude.{ℕ, ◌<◌, ◌≤◌, ◌==◌, if◌then◌else◌, List, [], length, IsTrue}
 use Rattle.std.specs.List.{All}
 use Rattle.league.specs.Capacity.{is_in}
-use Rattle.league.specs.Counts.{slot_count}
 use Rattle.league.specs.Instance.{is_one_side}
 use Rattle.league.specs.declared.game.Game.{Game}
 use Rattle.league.specs.declared.class.Class.{Class}
@@ -10,16 +9,15 @@ use Rattle.league.specs.declared.class.Class.TheVariants.{Ca1}
 use Rattle.league.specs.declared.class.Side.{Side}
 use Rattle.league.specs.declared.class.Side.TheVariants.{H, A, Both}
 use Rattle.rule_core.specs.Places.{ArePlaces, key_of, places_from, stands}
+use Rattle.rule_core.specs.Slots.{AreSlots}
 
 -- teams and slots of a league, with where each stands among them
 pub record IsReady (n : ℕ) (teams : List ℕ) (side : Side) (slots team_places slot_places : List ℕ) : Type 0 where
   pub at_most : n ≤ 40
   pub one_side : IsTrue (is_one_side side)
   pub teams_below : All (λ t. t < n) teams
-  pub slots_below : All (λ s. s < slot_count n) slots
-  pub slots_few : length slots ≤ 78
   pub teams_placed : ArePlaces (length teams) teams team_places
-  pub slots_placed : ArePlaces (length slots) slots slot_places
+  pub in_season : AreSlots n slots slot_places
 
 -- the team of a game that plays at home or away
 abbrev pub team_on : Side → Game → ℕ

@@ -61,5 +61,5 @@ touches_at-frame n teams max side slots team_places slot_places ready g m k fits
     ∙ sym (entry-by_team n m teams max side slots k inside))
     (λ e. λ lacks.
     entry-by_team n (one_more m g) teams max side slots k inside
-    ∙ ca1_entry-same n m max side slots g i (λ p d lt. games_on-elsewhere n m side g i (get_or slots p d) fits (stands-no slots slot_places g.slot.0 ready.slots_placed e p d lt))
+    ∙ ca1_entry-same n m max side slots g i (λ p d lt. games_on-elsewhere n m side g i (get_or slots p d) fits (stands-no slots slot_places g.slot.0 ready.in_season.placed e p d lt))
     ∙ sym (entry-by_team n m teams max side slots k inside))

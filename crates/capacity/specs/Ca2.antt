@@ -1,20 +1,12 @@
--- What a CA2 keeps of its slots, and which keys a game touches.
-use Rattle.std.specs.Prelude.{ℕ, ◌<◌, ◌≤◌, if◌then◌else◌, List, [], length}
-use Rattle.std.specs.List.{All}
+-- Which keys of a CA2 a game touches.
+use Rattle.std.specs.Prelude.{ℕ, if◌then◌else◌, List, []}
 use Rattle.league.specs.Capacity.{is_in}
-use Rattle.league.specs.Counts.{slot_count}
 use Rattle.league.specs.declared.game.Game.{Game}
 use Rattle.league.specs.declared.class.Class.{Class}
 use Rattle.league.specs.declared.class.Class.TheVariants.{Ca2}
 use Rattle.league.specs.declared.class.Side.{Side}
-use Rattle.rule_core.specs.Places.{ArePlaces, places_from, stands}
+use Rattle.rule_core.specs.Places.{places_from, stands}
 use Rattle.capacity.specs.Opponents.{plays_against, touches_between}
-
--- slots of a season, with where each stands among them
-pub record AreSlots (n : ℕ) (slots places : List ℕ) : Type 0 where
-  pub below : All (λ s. s < slot_count n) slots
-  pub few : length slots ≤ 78
-  pub placed : ArePlaces (length slots) slots places
 
 -- the keys of the first teams that play on the side against one of the second, exactly where the game's slot is one of these
 abbrev pub touches_of : Class → Game → List ℕ

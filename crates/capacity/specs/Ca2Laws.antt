@@ -10,9 +10,10 @@ use Rattle.league.specs.Deviation.{entry_of}
 use Rattle.league.specs.declared.game.Game.{Game}
 use Rattle.league.specs.declared.class.Side.{Side}
 use Rattle.rule_core.specs.Places.{stands}
+use Rattle.rule_core.specs.Slots.{AreSlots}
 use Rattle.rule_core.proofs.OpponentLemmas.{between, between-elsewhere, games_of-same}
 use Rattle.rule_core.proofs.PlaceLemmas.{ascending-few, stands-no}
-use Rattle.capacity.specs.Ca2.{AreSlots, touches_at}
+use Rattle.capacity.specs.Ca2.{touches_at}
 use Rattle.capacity.specs.Classes.{class_of_ca2}
 use Rattle.capacity.specs.Opponents.{AreOpponents, touches_between}
 use Rattle.capacity.specs.OpponentLaws.{touches_between-ascending, touches_between-below, touches_between-few, touches_between-frame}

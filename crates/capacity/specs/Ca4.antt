@@ -1,9 +1,8 @@
--- What a CA4 keeps, and which keys a game touches.
-use Rattle.std.specs.Prelude.{◌≡◌, ℕ, ◌<◌, ◌≤◌, ◌==◌, if◌then◌else◌, List, [], ◌∷◌, length, map}
-use Rattle.std.specs.List.{All}
+-- The entries of a CA4, and which of their keys a game touches.
+use Rattle.std.specs.Prelude.{ℕ, ◌==◌, if◌then◌else◌, List, [], ◌∷◌, map}
 use Rattle.league.specs.Bounds.{excess}
 use Rattle.league.specs.Capacity.{is_between, is_in}
-use Rattle.league.specs.Counts.{Counts, slot_count}
+use Rattle.league.specs.Counts.{Counts}
 use Rattle.league.specs.Deviation.{spans}
 use Rattle.league.specs.Meetings.{games_of}
 use Rattle.league.specs.declared.class.Class.{Class}
@@ -11,16 +10,8 @@ use Rattle.league.specs.declared.class.Class.TheVariants.{Ca4}
 use Rattle.league.specs.declared.class.Span.{Span}
 use Rattle.league.specs.declared.class.Span.TheVariants.{Global, Every}
 use Rattle.league.specs.declared.game.Game.{Game}
-use Rattle.rule_core.specs.Meetings.{MeetingList, is_listed}
-use Rattle.rule_core.specs.Places.{ArePlaces, key_of, places_from, stands}
-
--- meetings and slots of a league, with where each slot stands among them
-pub record IsReady (n : ℕ) (meetings : MeetingList) (slots slot_places : List ℕ) : Type 0 where
-  pub at_most : n ≤ 40
-  pub same_league : meetings.n ≡ n
-  pub slots_below : All (λ s. s < slot_count n) slots
-  pub slots_few : length slots ≤ 78
-  pub slots_placed : ArePlaces (length slots) slots slot_places
+use Rattle.rule_core.specs.Meetings.{is_listed}
+use Rattle.rule_core.specs.Places.{key_of, places_from, stands}
 
 -- the games of these meetings beyond max, in all the slots together or in each
 abbrev pub beyond_max : Counts → List (ℕ × ℕ) → ℕ → Span → List ℕ → List ℕ

@@ -1,6 +1,6 @@
 //! CA2: at most so many games of a team against some others, at home, away or both, in some slots.
 ghost use Rattle.std.specs.Prelude.{◌≡◌, ℕ, ◌<◌, ◌≤◌, length, IfOk, IsTrue};
-ghost use Rattle.capacity.specs.Ca2.{AreSlots};
+ghost use Rattle.rule_core.specs.Slots.{AreSlots};
 
 use crate::opponents::Opponents;
 use league::{Class, Constraint, Game};

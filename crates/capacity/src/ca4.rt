@@ -1,6 +1,6 @@
 //! CA4: at most so many games of some teams with others in some slots, together or in each slot.
 ghost use Rattle.std.specs.Prelude.{◌≡◌, ℕ, ◌<◌, ◌≤◌, length, IfOk, IsTrue};
-ghost use Rattle.capacity.specs.Ca4.{IsReady};
+ghost use Rattle.rule_core.specs.Slots.{AreMeetingsAt};
 
 use crate::between::meetings_between;
 use league::{Class, Constraint, Game, Span};
@@ -18,7 +18,7 @@ pub struct Ca4 {
     span: Span,
     slots: Vec<u16>,
     slot_places: Places,
-    ghost ready: { IsReady n meetings slots.items slot_places },
+    ghost ready: { AreMeetingsAt n meetings slots.items slot_places },
 }
 
 impl Ca4 {
@@ -137,11 +137,11 @@ impl Entries for Ca4 {
 
     ghost few = { λ r g fits. touches_at-few r.meetings.list r.span r.slot_places g };
 
-    ghost below = { λ r g fits. touches_at-below r.meetings.list r.span r.slots.items r.slot_places r.ready.slots_placed g };
+    ghost below = { λ r g fits. touches_at-below r.meetings.list r.span r.slots.items r.slot_places r.ready.in_season.placed g };
 
     ghost ascending = { λ r g fits. touches_at-ascending r.meetings.list r.span r.slot_places g };
 
-    ghost frame = { λ r g m k fits inside lacks. touches_at-frame r.meetings.list r.max r.span r.slots.items r.slot_places r.ready.slots_placed g m k inside lacks };
+    ghost frame = { λ r g m k fits inside lacks. touches_at-frame r.meetings.list r.max r.span r.slots.items r.slot_places r.ready.in_season.placed g m k inside lacks };
 
     fn teams(&self) -> u16 {
         self.n

@@ -1,7 +1,7 @@
 //! GA1: from so many to so many games of some meetings in some slots.
 ghost use Rattle.std.specs.Prelude.{◌≡◌, ℕ, ◌<◌, ◌≤◌, ◌&&◌, length, IfOk, IsTrue};
 ghost use Rattle.league.specs.Bounds;
-ghost use Rattle.games.specs.Ga1.{IsReady};
+ghost use Rattle.rule_core.specs.Slots.{AreMeetingsAt};
 
 use league::{Class, Constraint, Game};
 use rule_core::{Cells, Entries, Keys, Meetings, Places, Rule, Steps};
@@ -16,7 +16,7 @@ pub struct Ga1 {
     max: u32,
     slots: Vec<u16>,
     slot_places: Places,
-    ghost ready: { IsReady n meetings slots.items slot_places },
+    ghost ready: { AreMeetingsAt n meetings slots.items slot_places },
 }
 
 impl Ga1 {

@@ -7,5 +7,6 @@ pub mod PairLemmas
 pub mod PlaceLemmas
 pub mod RowLemmas
 pub mod RuleFacts
+pub mod SlotLemmas
 pub mod TableLemmas
 pub mod TouchLemmas

@@ -6,6 +6,7 @@ pub mod Table
 pub mod Keys
 pub mod Places
 pub mod Meetings
+pub mod Slots
 pub mod Pairs
 -- What the tables of the counts keep:
 pub mod Tables

@@ -1,5 +1,6 @@
 use Rattle.std.proofs.Common.{◌≤◌, ℕ, List, length, subst, sym, arith}
-use Rattle.rule_core.proofs.PairLemmas.{slots-few, teams-few}
+use Rattle.rule_core.proofs.PairLemmas.{teams-few}
+use Rattle.rule_core.proofs.SlotLemmas.{AreSlots-ascending}
 use Rattle.capacity.proofs.TermLemmas.{IsReady-copied}
 use Rattle.capacity.proofs.KeyLemmas.{ca1-touches}
 use Rattle.capacity.proofs.ca1.Ca1.of.Goals as goal
@@ -12,10 +13,8 @@ invariant_of-result c =
             at_most = c.requires.at_most;
             one_side = c.requires.one_side;
             teams_below = c.requires.teams_below;
-            slots_below = c.requires.slots_below;
-            slots_few = slots-few c.args.n c.args.slots.now c.requires.at_most c.requires.slots_ascending c.requires.slots_below;
             teams_placed = c.of.ensures;
-            slots_placed = c.of-2.ensures;
+            in_season = AreSlots-ascending c.args.n c.args.slots.now c.of-2.result c.requires.at_most c.requires.slots_ascending c.requires.slots_below c.of-2.ensures;
           });
     }
 

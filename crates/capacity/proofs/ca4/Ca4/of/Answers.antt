@@ -1,8 +1,9 @@
 use Rattle.std.proofs.Common.{◌≤◌, ◌∙◌, ℕ, List, length, ap, subst, sym}
 use Rattle.league.specs.Deviation.{spans}
 use Rattle.rule_core.proofs.PairLemmas.{slots-few}
+use Rattle.rule_core.proofs.SlotLemmas.{AreSlots-ascending, AreSlots-copied}
 use Rattle.rule_core.specs.Meetings.{MeetingList}
-use Rattle.capacity.proofs.Ca4Lemmas.{IsReady-same_slots, length-spans}
+use Rattle.capacity.proofs.Ca4Lemmas.{length-spans}
 use Rattle.capacity.specs.Ca4.{touches_at}
 use Rattle.capacity.proofs.KeyLemmas.{ca4-touches}
 use Rattle.capacity.proofs.ca4.Ca4.of.Goals as goal
@@ -10,14 +11,12 @@ use Rattle.capacity.proofs.ca4.Ca4.of.Goals as goal
 pub invariant_of-result : goal.invariant_of-result
 invariant_of-result c =
     record {
-      ready = IsReady-same_slots c.args.n c.in_ok-of.field-0 c.args.slots.now c.in_ok-from_slice.field-0.items c.of-2.result c.in_ok-from_slice.ensures.items
-          (record {
-            at_most = c.requires.at_most;
-            same_league = ap (λ (made : MeetingList). made.n) c.in_ok-of.ensures;
-            slots_below = c.requires.slots_below;
-            slots_few = slots-few c.args.n c.args.slots.now c.requires.at_most c.requires.slots_ascending c.requires.slots_below;
-            slots_placed = c.of-2.ensures;
-          });
+      ready = record {
+        at_most = c.requires.at_most;
+        same_league = ap (λ (made : MeetingList). made.n) c.in_ok-of.ensures;
+        in_season = AreSlots-copied c.args.n c.args.slots.now c.in_ok-from_slice.field-0.items c.of-2.result c.in_ok-from_slice.ensures.items
+            (AreSlots-ascending c.args.n c.args.slots.now c.of-2.result c.requires.at_most c.requires.slots_ascending c.requires.slots_below c.of-2.ensures);
+      };
     }
 
 pub returns-clause-touches : goal.returns-clause-touches

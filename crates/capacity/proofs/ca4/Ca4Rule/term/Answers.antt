@@ -10,12 +10,12 @@ games-requires-clause-slots g c =
     let rule = c.args.self.now in
     subst (λ (n : ℕ). All (λ s. s < slot_count n) c.slots_at.result.now) (sym rule.ready.same_league)
     (subst (λ (xs : List ℕ). All (λ s. s < slot_count rule.n) xs) (sym c.slots_at.ensures)
-    (spans-all (λ s. s < slot_count rule.n) rule.span rule.slots.items c.args.key c.requires.key rule.ready.slots_below))
+    (spans-all (λ s. s < slot_count rule.n) rule.span rule.slots.items c.args.key c.requires.key rule.ready.in_season.below))
 
 pub games-requires-clause-few : goal.games-requires-clause-few
 games-requires-clause-few g c =
     let rule = c.args.self.now in
-    subst (λ (xs : List ℕ). length xs ≤ 78) (sym c.slots_at.ensures) (spans-few rule.span rule.slots.items c.args.key c.requires.key rule.ready.slots_few)
+    subst (λ (xs : List ℕ). length xs ≤ 78) (sym c.slots_at.ensures) (spans-few rule.span rule.slots.items c.args.key c.requires.key rule.ready.in_season.few)
 
 pub returns-clause-entry : goal.returns-clause-entry
 returns-clause-entry g c =

@@ -1,9 +1,7 @@
-use Rattle.std.proofs.Common.{◌<◌, arith, ap}
-use Rattle.std.specs.List.{All}
-use Rattle.league.proofs.SetLemmas.{length-ascending}
+use Rattle.std.proofs.Common.{ap}
 use Rattle.rule_core.specs.Meetings.{MeetingList}
 use Rattle.rule_core.proofs.ListedLemmas.{are_meetings-teams, length-meetings}
-use Rattle.games.proofs.TermLemmas.{IsReady-copied}
+use Rattle.rule_core.proofs.SlotLemmas.{AreSlots-ascending, AreSlots-copied}
 use Rattle.games.proofs.ga1.Ga1.of.Goals as goal
 
 pub of-requires-clause-few : goal.of-requires-clause-few
@@ -12,14 +10,11 @@ of-requires-clause-few c =
 
 pub invariant_of-result : goal.invariant_of-result
 invariant_of-result c =
-    let small : All (λ s. s < 78) c.args.slots.now = λ k d lt. omega (arith, c.requires.slots_below k d lt, c.requires.at_most) in
     record {
-      ready = IsReady-copied c.args.n c.in_ok-of.field-0 c.args.slots.now c.in_ok-from_slice.field-0.items c.of-2.result c.in_ok-from_slice.ensures.items
-          (record {
-            at_most = c.requires.at_most;
-            same_league = ap (λ (made : MeetingList). made.n) c.in_ok-of.ensures;
-            slots_below = c.requires.slots_below;
-            slots_few = length-ascending c.args.slots.now 78 c.requires.slots_ascending small;
-            slots_placed = c.of-2.ensures;
-          });
+      ready = record {
+        at_most = c.requires.at_most;
+        same_league = ap (λ (made : MeetingList). made.n) c.in_ok-of.ensures;
+        in_season = AreSlots-copied c.args.n c.args.slots.now c.in_ok-from_slice.field-0.items c.of-2.result c.in_ok-from_slice.ensures.items
+            (AreSlots-ascending c.args.n c.args.slots.now c.of-2.result c.requires.at_most c.requires.slots_ascending c.requires.slots_below c.of-2.ensures);
+      };
     }
