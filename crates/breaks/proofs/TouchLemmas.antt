@@ -24,10 +24,10 @@ keys_on-places teams team_places placed Both g differ = keys_of-places teams tea
 
 pub touches_teams-by_class : (n : ℕ) (teams slots team_places slot_places : List ℕ) → AreInScope n teams slots team_places slot_places → (intp : ℕ) (side : Side) (g : Game) → g.home.0 ≢ g.away.0 → touches_teams side team_places slot_places g ≡ br1.touches_of (class_of_br1 teams intp side slots) g
 touches_teams-by_class n teams slots team_places slot_places ready intp side g differ =
-    ap (λ (b : Bool). cond b (keys_on side team_places g) []) (either_stands slots slot_places ready.slots_placed g.slot.0 (g.slot.0 + 1))
+    ap (λ (b : Bool). cond b (keys_on side team_places g) []) (either_stands slots slot_places ready.in_season.placed g.slot.0 (g.slot.0 + 1))
     ∙ ap (λ (ks : List ℕ). cond (is_in g.slot.0 slots || is_in (g.slot.0 + 1) slots) ks []) (keys_on-places teams team_places ready.teams_placed side g differ)
 
 pub touches_all-by_class : (n : ℕ) (teams slots team_places slot_places : List ℕ) → AreInScope n teams slots team_places slot_places → (intp : ℕ) (g : Game) → touches_all team_places slot_places g ≡ br2.touches_of (class_of_br2 teams intp slots) g
 touches_all-by_class n teams slots team_places slot_places ready intp g =
-    ap (λ (b : Bool). cond (b && (stands team_places g.home.0 || stands team_places g.away.0)) (0 ∷ []) []) (either_stands slots slot_places ready.slots_placed g.slot.0 (g.slot.0 + 1))
+    ap (λ (b : Bool). cond (b && (stands team_places g.home.0 || stands team_places g.away.0)) (0 ∷ []) []) (either_stands slots slot_places ready.in_season.placed g.slot.0 (g.slot.0 + 1))
     ∙ ap (λ (b : Bool). cond ((is_in g.slot.0 slots || is_in (g.slot.0 + 1) slots) && b) (0 ∷ []) []) (either_stands teams team_places ready.teams_placed g.home.0 g.away.0)

@@ -73,7 +73,7 @@ touches_teams-frame n teams slots team_places slot_places ready intp side g m k 
     let Same : Type 0 = All (λ s. breaks_at n (one_more m g) side i s ≡ breaks_at n m side i s) slots in
     let same : Same = cond_both (can_break slot_places g.slot.0) (keys_on side team_places g) [] (λ ks. (Contains ks k → ⊥) → Same)
     (λ e. λ misses. λ p d lt. keys_on-frame n m teams team_places ready.teams_placed side g k (get_or slots p d) fits inside misses)
-    (λ e. λ misses. no_break n m side g i slots slot_places ready.slots_placed fits e)
+    (λ e. λ misses. no_break n m side g i slots slot_places ready.in_season.placed fits e)
     lacks in
     br1-by_team n (one_more m g) teams intp side slots k inside
     ∙ br1_entry-same n m (one_more m g) intp side slots i same

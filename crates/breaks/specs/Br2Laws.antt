@@ -51,7 +51,7 @@ has_zero (suc k) inside = absurd (omega arith)
 breaks_of_all-same : (n : ℕ) (teams slots team_places slot_places : List ℕ) → AreInScope n teams slots team_places slot_places → (g : Game) (m : Counts) → IsGame n g → (can_break slot_places g.slot.0 && team_stands team_places g) ≡ false → All (λ i. All (λ s. breaks_at n (one_more m g) Both i s ≡ breaks_at n m Both i s) slots) teams
 breaks_of_all-same n teams slots team_places slot_places ready g m fits out =
     elim (and_cases (can_break slot_places g.slot.0) (team_stands team_places g) out) [
-      | inl elsewhere ↦ λ p d lt. no_break n m Both g (get_or teams p d) slots slot_places ready.slots_placed fits elsewhere
+      | inl elsewhere ↦ λ p d lt. no_break n m Both g (get_or teams p d) slots slot_places ready.in_season.placed fits elsewhere
       | inr others ↦
           let parts = or_parts (stands team_places g.home.0) (stands team_places g.away.0) others in
           λ p d lt. λ q e le.

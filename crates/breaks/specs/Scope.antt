@@ -1,21 +1,19 @@
 -- What a break constraint keeps, and which keys a game touches.
 use Rattle.std.specs.Prelude.{ℕ, ◌+◌, ◌<◌, ◌≤◌, Bool, ◌&&◌, ◌||◌, if◌then◌else◌, List, [], ◌∷◌, length}
 use Rattle.std.specs.List.{All}
-use Rattle.league.specs.Counts.{slot_count}
 use Rattle.league.specs.declared.game.Game.{Game}
 use Rattle.league.specs.declared.class.Side.{Side}
 use Rattle.league.specs.declared.class.Side.TheVariants.{H, A, Both}
 use Rattle.rule_core.specs.Places.{ArePlaces, key_of, keys_of, stands}
+use Rattle.rule_core.specs.Slots.{AreSlots}
 
 -- teams and slots of a league, with where each stands among them
 pub record AreInScope (n : ℕ) (teams slots team_places slot_places : List ℕ) : Type 0 where
   pub at_most : n ≤ 40
   pub teams_below : All (λ t. t < n) teams
   pub teams_few : length teams ≤ 40
-  pub slots_below : All (λ s. s < slot_count n) slots
-  pub slots_few : length slots ≤ 78
   pub teams_placed : ArePlaces (length teams) teams team_places
-  pub slots_placed : ArePlaces (length slots) slots slot_places
+  pub in_season : AreSlots n slots slot_places
 
 -- whether a game in slot s can change a break at one of the slots: a break at t is of the slots t - 1 and t
 abbrev pub can_break : List ℕ → ℕ → Bool

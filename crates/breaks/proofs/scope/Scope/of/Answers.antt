@@ -1,4 +1,5 @@
-use Rattle.rule_core.proofs.PairLemmas.{slots-few, teams-few}
+use Rattle.rule_core.proofs.PairLemmas.{teams-few}
+use Rattle.rule_core.proofs.SlotLemmas.{AreSlots-ascending}
 use Rattle.breaks.proofs.TermLemmas.{AreInScope-copied}
 use Rattle.breaks.proofs.scope.Scope.of.Goals as goal
 
@@ -10,9 +11,7 @@ invariant_of-result c =
             at_most = c.requires.at_most;
             teams_below = c.requires.teams_below;
             teams_few = teams-few c.args.n c.args.teams.now c.requires.at_most c.requires.teams_ascending c.requires.teams_below;
-            slots_below = c.requires.slots_below;
-            slots_few = slots-few c.args.n c.args.slots.now c.requires.at_most c.requires.slots_ascending c.requires.slots_below;
             teams_placed = c.of.ensures;
-            slots_placed = c.of-2.ensures;
+            in_season = AreSlots-ascending c.args.n c.args.slots.now c.of-2.result c.requires.at_most c.requires.slots_ascending c.requires.slots_below c.of-2.ensures;
           });
     }
