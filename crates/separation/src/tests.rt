@@ -61,17 +61,22 @@ pub(crate) fn entry<R: Rule<Plain>>(
     Ok(rule.term(key, &cells, &mut Steps::<Plain>::start()))
 }
 
-/// The keys that a game of four teams touches.
-pub(crate) fn touched<R: Entries>(
+/// Whether a game of four teams touches these keys, and no others.
+pub(crate) fn touches<R: Entries>(
     rt: &impl Abort,
     alloc: Global,
     rule: &R,
     played: (u16, u16, u16),
-) -> Result<Keys, Fail> {
+    wanted: &[usize],
+) -> Result<bool, Fail> {
     assert!(rt; rule.teams() == 4);
     let mut keys = Keys::new(alloc, rule.reach())?;
     rule.touched(game(rt, played), &mut keys);
-    Ok(keys)
+    let mut same = keys.len() == wanted.len();
+    for k in 0..keys.len() {
+        same = same && k < wanted.len() && keys.get(k) == wanted[k];
+    }
+    Ok(same)
 }
 
 /// The set of these teams.

@@ -1,83 +1,74 @@
 //! FA2 on the schedule of four teams.
-ghost use Rattle.std.specs.Prelude.{◌≡◌, IfOk};
-
 use super::*;
-use crate::tests::{four, slots, teams};
-use league::{SlotId, TeamId};
-use rule_core::Plain;
+use crate::tests::{entry, slots, teams, touches};
+use league::{SlotSet, TeamSet};
 use std::process::Abort;
 use std::test::Fail;
 
-/// The rule of these teams and slots in a league of four.
-fn rule_of(
+/// The rule of at most such a difference in home games of any two of these teams, after each of these slots.
+fn balanced(
     rt: &impl Abort,
     alloc: Global,
-    team_numbers: &[u16],
+    teams: TeamSet,
     intp: u32,
-    slot_numbers: &[u16],
-) -> Result<Fa2, Fail>
-    ensures { IfOk result (λ rule. ⟦<Fa2 as Entries>⟧.team_count rule ≡ 4) }
-{
+    slots: SlotSet,
+) -> Result<Fa2, AllocError> {
     let constraint = Constraint {
         hard: true,
         penalty: 1,
-        class: Class::Fa2 {
-            teams: teams(alloc, team_numbers)?,
-            intp,
-            slots: slots(alloc, slot_numbers)?,
-        },
+        class: Class::Fa2 { teams, intp, slots },
     };
     assert!(rt; constraint.fits(4));
-    Ok(Fa2::new(alloc, 4, &constraint)?)
+    Fa2::new(alloc, 4, &constraint)
 }
 
-/// Whether all six entries of four teams are as said.
-fn assert_entries(rt: &impl Abort, rule: &Fa2, cells: &Cells, entries: [u64; 6])
-    requires { ⟦<Fa2 as Entries>⟧.team_count rule.now ≡ cells.now.n }
-{
-    assert!(rt; rule.terms() == 6);
-    for (key, entry) in entries.iter().enumerate() {
-        assert!(rt; rule.term(key, cells, &mut Steps::<Plain>::start()) == *entry);
+/// Sees that the six entries of all four teams in the whole season are as said.
+fn assert_entries(
+    rt: &impl Abort,
+    alloc: Global,
+    intp: u32,
+    entries: [u64; 6],
+) -> Result<(), Fail> {
+    let four = teams(alloc, &[0, 1, 2, 3])?;
+    let season = slots(alloc, &[0, 1, 2, 3, 4, 5])?;
+    let rule = balanced(rt, alloc, four, intp, season)?;
+    assert_eq!(rt; rule.terms(), 6);
+    for (key, wanted) in entries.iter().enumerate() {
+        assert_eq!(rt; entry(rt, alloc, &rule, key)?, *wanted, "at {key}");
     }
+    Ok(())
 }
 
 #[test]
 fn beyond_a_difference_of_one(rt: HostRuntime) -> Result<(), Fail> {
-    let rule = rule_of(&rt, rt.alloc(), &[0, 1, 2, 3], 1, &[0, 1, 2, 3, 4, 5])?;
-    let cells = four(&rt, rt.alloc())?;
-    assert_entries(&rt, &rule, &cells, [1, 0, 0, 0, 0, 0]);
-    Ok(())
+    assert_entries(&rt, rt.alloc(), 1, [1, 0, 0, 0, 0, 0])
 }
 
 #[test]
 fn the_largest_and_no_sum(rt: HostRuntime) -> Result<(), Fail> {
-    let rule = rule_of(&rt, rt.alloc(), &[0, 1, 2, 3], 0, &[0, 1, 2, 3, 4, 5])?;
-    let cells = four(&rt, rt.alloc())?;
-    assert_entries(&rt, &rule, &cells, [2, 1, 1, 1, 1, 1]);
-    Ok(())
+    assert_entries(&rt, rt.alloc(), 0, [2, 1, 1, 1, 1, 1])
 }
 
 #[test]
 fn the_first_slot_counts(rt: HostRuntime) -> Result<(), Fail> {
-    let rule = rule_of(&rt, rt.alloc(), &[0, 1], 0, &[0])?;
+    let alloc = rt.alloc();
+    let rule = balanced(&rt, alloc, teams(alloc, &[0, 1])?, 0, slots(alloc, &[0])?)?;
     assert_eq!(rt; rule.terms(), 1);
-    let cells = four(&rt, rt.alloc())?;
-    assert_eq!(rt; rule.term(0, &cells, &mut Steps::<Plain>::start()), 1);
+    assert_eq!(rt; entry(&rt, alloc, &rule, 0)?, 1);
     Ok(())
 }
 
 #[test]
 fn home_team_touched(rt: HostRuntime) -> Result<(), Fail> {
-    let rule = rule_of(&rt, rt.alloc(), &[0, 1, 3], 0, &[2])?;
+    let alloc = rt.alloc();
+    let rule = balanced(
+        &rt,
+        alloc,
+        teams(alloc, &[0, 1, 3])?,
+        0,
+        slots(alloc, &[2])?,
+    )?;
     assert_eq!(rt; rule.reach(), 2);
-    let mut keys = Keys::new(rt.alloc(), 2)?;
-    let game = Game {
-        home: TeamId(1),
-        away: TeamId(0),
-        slot: SlotId(2),
-    };
-    rule.touched(game, &mut keys);
-    assert_eq!(rt; keys.len(), 2);
-    assert_eq!(rt; (keys.get(0), keys.get(1)), (0, 2));
+    assert!(rt; touches(&rt, alloc, &rule, (1, 0, 2), &[0, 2])?);
     Ok(())
 }
