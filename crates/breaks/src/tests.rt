@@ -1,5 +1,5 @@
 //! A schedule of four teams on which the classes are tried, with sets for their constraints.
-ghost use Rattle.std.specs.Prelude.{◌≡◌, IfOk};
+ghost use Rattle.league.specs.Instance.{IsGame};
 
 use league::{Game, SlotId, SlotSet, TeamId, TeamSet};
 use rule_core::{Cells, Entries, Keys, Plain, Rule, Steps};
@@ -23,24 +23,17 @@ const FOUR: [(u16, u16, u16); 12] = [
     (1, 0, 5),
 ];
 
-/// The counts of that schedule.
-pub(crate) fn four(rt: &impl Abort, alloc: Global) -> Result<Cells, Fail>
-    ensures { IfOk result (λ cells. cells.n ≡ 4) }
+/// The game of two of four teams.
+fn game(rt: &impl Abort, played: (u16, u16, u16)) -> Game
+    ensures { IsGame 4 result }
 {
-    let mut cells = Cells::new(alloc, 4)?;
-    for (home, away, slot) in FOUR {
-        assert!(rt; home < 4);
-        assert!(rt; away < 4);
-        assert!(rt; home != away);
-        assert!(rt; slot < 6);
-        assert!(rt; cells.games() < 10000);
-        cells.add(Game {
-            home: TeamId(home),
-            away: TeamId(away),
-            slot: SlotId(slot),
-        });
+    let (home, away, slot) = played;
+    assert!(rt; home < 4 && away < 4 && home != away && slot < 6);
+    Game {
+        home: TeamId(home),
+        away: TeamId(away),
+        slot: SlotId(slot),
     }
-    Ok(cells)
 }
 
 /// The entry of a rule's key on that schedule.
@@ -50,29 +43,31 @@ pub(crate) fn entry<R: Rule<Plain>>(
     rule: &R,
     key: usize,
 ) -> Result<u64, Fail> {
-    assert!(rt; rule.teams() == 4);
-    assert!(rt; key < rule.terms());
-    let cells = four(rt, alloc)?;
+    let mut cells = Cells::new(alloc, 4)?;
+    for played in FOUR {
+        assert!(rt; cells.n() == 4 && cells.games() < 10000);
+        cells.add(game(rt, played));
+    }
+    assert!(rt; cells.n() == 4 && rule.teams() == 4 && key < rule.terms());
     Ok(rule.term(key, &cells, &mut Steps::<Plain>::start()))
 }
 
-/// The keys that a game of four teams touches.
-pub(crate) fn touched<R: Entries>(
+/// Whether a game of four teams touches these keys, and no others.
+pub(crate) fn touches<R: Entries>(
     rt: &impl Abort,
     alloc: Global,
     rule: &R,
-    (home, away, slot): (u16, u16, u16),
-) -> Result<Keys, Fail> {
+    played: (u16, u16, u16),
+    wanted: &[usize],
+) -> Result<bool, Fail> {
     assert!(rt; rule.teams() == 4);
-    assert!(rt; home < 4 && away < 4 && home != away && slot < 6);
     let mut keys = Keys::new(alloc, rule.reach())?;
-    let game = Game {
-        home: TeamId(home),
-        away: TeamId(away),
-        slot: SlotId(slot),
-    };
-    rule.touched(game, &mut keys);
-    Ok(keys)
+    rule.touched(game(rt, played), &mut keys);
+    let mut same = keys.len() == wanted.len();
+    for k in 0..keys.len() {
+        same = same && k < wanted.len() && keys.get(k) == wanted[k];
+    }
+    Ok(same)
 }
 
 /// The set of these teams.

@@ -1,29 +1,45 @@
 //! BR1 on the schedule of four teams.
 use super::*;
-use crate::tests::{entry, slots, teams, touched};
+use crate::tests::{entry, slots, teams, touches};
+use league::{SlotSet, TeamSet};
 use std::process::Abort;
 use std::test::Fail;
 
-/// The rule of team 0 on a side at some slots.
-fn rule_of(
+/// The rule of at most so many breaks of each of these teams on a side at these slots.
+fn at_most(
+    rt: &impl Abort,
+    alloc: Global,
+    teams: TeamSet,
+    intp: u32,
+    side: Side,
+    slots: SlotSet,
+) -> Result<Br1, AllocError> {
+    let constraint = Constraint {
+        hard: true,
+        penalty: 1,
+        class: Class::Br1 {
+            teams,
+            intp,
+            side,
+            slots,
+        },
+    };
+    assert!(rt; constraint.fits(4));
+    Br1::new(alloc, 4, &constraint)
+}
+
+/// The entry of team 0 under that rule.
+fn entry_of_team_0(
     rt: &impl Abort,
     alloc: Global,
     intp: u32,
     side: Side,
     numbers: &[u16],
-) -> Result<Br1, Fail> {
-    let constraint = Constraint {
-        hard: true,
-        penalty: 1,
-        class: Class::Br1 {
-            teams: teams(alloc, &[0])?,
-            intp,
-            side,
-            slots: slots(alloc, numbers)?,
-        },
-    };
-    assert!(rt; constraint.fits(4));
-    Ok(Br1::new(alloc, 4, &constraint)?)
+) -> Result<u64, Fail> {
+    let team = teams(alloc, &[0])?;
+    let slots = slots(alloc, numbers)?;
+    let rule = at_most(rt, alloc, team, intp, side, slots)?;
+    entry(rt, alloc, &rule, 0)
 }
 
 // Team 0 plays AAHHHA: it has an away break at slot 1, and home breaks at the slots 3 and 4.
@@ -31,25 +47,32 @@ fn rule_of(
 fn breaks_of_each_side(rt: HostRuntime) -> Result<(), Fail> {
     let alloc = rt.alloc();
     let all = [0, 1, 2, 3, 4, 5];
-    let at_home_and_away = rule_of(&rt, alloc, 1, Side::Both, &all)?;
-    assert_eq!(rt; entry(&rt, alloc, &at_home_and_away, 0)?, 2);
-    let at_home = rule_of(&rt, alloc, 0, Side::H, &all)?;
-    assert_eq!(rt; entry(&rt, alloc, &at_home, 0)?, 2);
-    let away = rule_of(&rt, alloc, 0, Side::A, &all)?;
-    assert_eq!(rt; entry(&rt, alloc, &away, 0)?, 1);
-    let at_first_slot = rule_of(&rt, alloc, 0, Side::Both, &[0])?;
-    assert_eq!(rt; entry(&rt, alloc, &at_first_slot, 0)?, 0);
+    assert_eq!(rt; entry_of_team_0(&rt, alloc, 1, Side::Both, &all)?, 2);
+    assert_eq!(rt; entry_of_team_0(&rt, alloc, 0, Side::H, &all)?, 2);
+    assert_eq!(rt; entry_of_team_0(&rt, alloc, 0, Side::A, &all)?, 1);
     Ok(())
 }
 
-// The break at slot 3 is of the slots 2 and 3.
+// The first slot has no break. The break at slot 3 is of the slots 2 and 3.
+#[test]
+fn breaks_at_one_slot(rt: HostRuntime) -> Result<(), Fail> {
+    let alloc = rt.alloc();
+    assert_eq!(rt; entry_of_team_0(&rt, alloc, 0, Side::Both, &[0])?, 0);
+    assert_eq!(rt; entry_of_team_0(&rt, alloc, 0, Side::Both, &[3])?, 1);
+    Ok(())
+}
+
 #[test]
 fn next_slot_touched(rt: HostRuntime) -> Result<(), Fail> {
     let alloc = rt.alloc();
-    let rule = rule_of(&rt, alloc, 0, Side::Both, &[3])?;
-    assert_eq!(rt; entry(&rt, alloc, &rule, 0)?, 1);
-    let keys = touched(&rt, alloc, &rule, (0, 1, 2))?;
-    assert_eq!(rt; keys.len(), 1);
-    assert_eq!(rt; keys.get(0), 0);
+    let rule = at_most(
+        &rt,
+        alloc,
+        teams(alloc, &[0])?,
+        0,
+        Side::Both,
+        slots(alloc, &[3])?,
+    )?;
+    assert!(rt; touches(&rt, alloc, &rule, (0, 1, 2), &[0])?);
     Ok(())
 }

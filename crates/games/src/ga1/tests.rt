@@ -60,12 +60,15 @@ fn touched<R: Entries>(
     Ok(keys.len())
 }
 
-/// From `min` to `max` home games of team 0 against team 1 in one slot.
-fn meeting_in(rt: &impl Abort, alloc: Global, slot: u16, min: u32, max: u32) -> Result<Ga1, Fail> {
-    let mut meetings = PairSet::new(alloc);
-    meetings.insert((TeamId(0), TeamId(1)))?;
-    let mut slots = SlotSet::new(alloc);
-    slots.insert(SlotId(slot))?;
+/// The rule of `min` to `max` of these meetings in these slots.
+fn bounded(
+    rt: &impl Abort,
+    alloc: Global,
+    meetings: PairSet,
+    min: u32,
+    max: u32,
+    slots: SlotSet,
+) -> Result<Ga1, AllocError> {
     let constraint = Constraint {
         hard: true,
         penalty: 1,
@@ -77,7 +80,16 @@ fn meeting_in(rt: &impl Abort, alloc: Global, slot: u16, min: u32, max: u32) -> 
         },
     };
     assert!(rt; constraint.fits(4));
-    Ok(Ga1::new(alloc, 4, &constraint)?)
+    Ga1::new(alloc, 4, &constraint)
+}
+
+/// From `min` to `max` home games of team 0 against team 1 in one slot.
+fn meeting_in(rt: &impl Abort, alloc: Global, slot: u16, min: u32, max: u32) -> Result<Ga1, Fail> {
+    let mut meetings = PairSet::new(alloc);
+    meetings.insert((TeamId(0), TeamId(1)))?;
+    let mut slots = SlotSet::new(alloc);
+    slots.insert(SlotId(slot))?;
+    Ok(bounded(rt, alloc, meetings, min, max, slots)?)
 }
 
 // Team 0 is at home to team 1 in slot 2 alone: in slot 0 the one game lacks; in slot 2, one is too few where two are asked
