@@ -138,6 +138,3 @@ impl<L> Rule<L> for Br1 {
         breaks.saturating_sub(self.intp as u64)
     }
 }
-
-#[cfg(test)]
-mod tests;

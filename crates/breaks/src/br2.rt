@@ -116,6 +116,3 @@ impl<L> Rule<L> for Br2 {
         breaks.saturating_sub(self.intp as u64)
     }
 }
-
-#[cfg(test)]
-mod tests;

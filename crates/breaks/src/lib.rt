@@ -11,6 +11,3 @@ mod sums;
 
 pub use br1::Br1;
 pub use br2::Br2;
-
-#[cfg(test)]
-mod tests;

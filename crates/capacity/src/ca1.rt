@@ -152,6 +152,3 @@ fn team_on(side: Side, game: Game) -> u16
         _ => game.home.0,
     }
 }
-
-#[cfg(test)]
-mod tests;

@@ -130,6 +130,3 @@ impl<L> Rule<L> for Ca2 {
             .saturating_sub(self.max as u64)
     }
 }
-
-#[cfg(test)]
-mod tests;

@@ -129,6 +129,3 @@ fn excess_in_windows(before: &[u64], slots: usize, intp: usize, max: u64) -> u64
     }
     excess
 }
-
-#[cfg(test)]
-mod tests;

@@ -173,6 +173,3 @@ impl<L> Rule<L> for Ca4 {
             .saturating_sub(self.max as u64)
     }
 }
-
-#[cfg(test)]
-mod tests;

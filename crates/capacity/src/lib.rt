@@ -16,6 +16,3 @@ pub use ca1::Ca1;
 pub use ca2::Ca2;
 pub use ca3::Ca3;
 pub use ca4::Ca4;
-
-#[cfg(test)]
-mod tests;

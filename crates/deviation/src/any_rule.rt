@@ -160,3 +160,6 @@ impl<L> Rule<L> for AnyRule {
         }
     }
 }
+
+#[cfg(test)]
+mod tests;

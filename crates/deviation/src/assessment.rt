@@ -65,6 +65,3 @@ fn is_feasible(wrongs: Wrongs, hard_deviation: u128) -> bool
         && wrongs.phases_wrong == 0
         && hard_deviation == 0
 }
-
-#[cfg(test)]
-mod tests;

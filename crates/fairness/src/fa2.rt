@@ -138,6 +138,3 @@ fn has_from(slots: &[u16], slot: u16) -> bool
         None => false,
     }
 }
-
-#[cfg(test)]
-mod tests;

@@ -8,6 +8,3 @@ mod fa2;
 mod leads;
 
 pub use fa2::Fa2;
-
-#[cfg(test)]
-mod tests;

@@ -155,6 +155,3 @@ fn outside(min: u32, max: u32, games: u64) -> u64
     let beyond = games.saturating_sub(u64::from(max));
     lacking.max(beyond)
 }
-
-#[cfg(test)]
-mod tests;

@@ -1,6 +1,7 @@
 //! Runs over a store and a sink in memory: the reports and the refusals of worked cases. The tests of the crates that read and
-//! write files stand here too, so that each of those is proved once.
+//! write files, and of the classes' deviations, stand here too, so that each of those crates is proved once.
 mod circle;
+mod classes;
 mod faults;
 mod reading;
 mod writing;

@@ -8,6 +8,3 @@ mod gaps;
 mod se1;
 
 pub use se1::Se1;
-
-#[cfg(test)]
-mod tests;

@@ -119,6 +119,3 @@ impl<L> Rule<L> for Se1 {
         lacking(cells, first, second, self.min)
     }
 }
-
-#[cfg(test)]
-mod tests;

@@ -1,8 +1,0 @@
-use Rattle.std.specs.List.{All}
-use Rattle.league.specs.Instance.{IsGame}
-use Rattle.deviation.proofs.assessment.tests.schedule_of.Given as goal
-
-abbrev pub invariant-loop-home : goal.invariant-loop-home
-invariant-loop-home g l = record {
-  fit : All (IsGame 4) l.schedule;
-}

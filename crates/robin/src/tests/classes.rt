@@ -1,0 +1,69 @@
+//! A deviation vector of each class, on the season of four teams, through the whole program.
+use super::{ELEVEN, FOUR_PHASED, GAMES, LAST, NO_CONSTRAINTS, NO_MORE_GAMES, judged};
+use crate::status::Status;
+use std::test::Fail;
+
+/// Constraints of all nine classes. Team 0 is at home in the slots 2 to 4, team 1 in the slots 0, 1 and 5; they meet in the slots
+/// 2 and 5, the first time at team 0's. A window of seven slots is longer than the season.
+const CONSTRAINTS: &str = r#"<CapacityConstraints>
+<CA1 teams="0" max="0" mode="H" slots="2;3" type="SOFT"/>
+<CA2 teams1="0" teams2="1;2" max="1" mode1="HA" slots="0;1;2" type="SOFT"/>
+<CA3 teams1="0" teams2="1;2;3" max="2" mode1="H" intp="3" type="SOFT"/>
+<CA3 teams1="0" teams2="1;2;3" max="2" mode1="H" intp="7" type="SOFT"/>
+<CA4 teams1="0;1" teams2="0;1" max="1" mode1="HA" mode2="GLOBAL" slots="0;1;2;3;4;5" type="SOFT"/>
+<CA4 teams1="0;1" teams2="0;1" max="0" mode1="HA" mode2="EVERY" slots="0;1;2;3;4;5" type="SOFT"/>
+</CapacityConstraints>
+<GameConstraints>
+<GA1 meetings="0,1;" min="1" max="1" slots="0" type="SOFT"/>
+<GA1 meetings="0,1;" min="2" max="0" slots="2" type="SOFT"/>
+</GameConstraints>
+<BreakConstraints>
+<BR1 teams="0" intp="1" mode2="HA" slots="0;1;2;3;4;5" type="SOFT"/>
+<BR2 teams="0;1;2;3" intp="4" slots="0;1;2;3;4;5" type="SOFT"/>
+</BreakConstraints>
+<FairnessConstraints>
+<FA2 teams="0;1;2;3" intp="1" slots="0;1;2;3;4;5" type="SOFT"/>
+<FA2 teams="0;1;2;3" intp="0" slots="0;1;2;3;4;5" type="SOFT"/>
+</FairnessConstraints>
+<SeparationConstraints>
+<SE1 teams="0;1" min="3" type="SOFT"/>
+<SE1 teams="0;1" min="2" type="SOFT"/>
+</SeparationConstraints>
+"#;
+
+/// What they deviate by.
+const REPORT: &str = r#"teams 4
+slots 6
+mode P
+games 12
+structure pairs 0 cells 0 phases 0
+constraint 1 CA1 SOFT penalty 1 sum 2 entries 2
+constraint 2 CA2 SOFT penalty 1 sum 1 entries 1
+constraint 3 CA3 SOFT penalty 1 sum 1 entries 1
+constraint 4 CA3 SOFT penalty 1 sum 0 entries 0
+constraint 5 CA4 SOFT penalty 1 sum 1 entries 1
+constraint 6 CA4 SOFT penalty 1 sum 2 entries 0 0 1 0 0 1
+constraint 7 GA1 SOFT penalty 1 sum 1 entries 1
+constraint 8 GA1 SOFT penalty 1 sum 1 entries 1
+constraint 9 BR1 SOFT penalty 1 sum 2 entries 2
+constraint 10 BR2 SOFT penalty 1 sum 2 entries 2
+constraint 11 FA2 SOFT penalty 1 sum 1 entries 1 0 0 0 0 0
+constraint 12 FA2 SOFT penalty 1 sum 7 entries 2 1 1 1 1 1
+constraint 13 SE1 SOFT penalty 1 sum 1 entries 1
+constraint 14 SE1 SOFT penalty 1 sum 0 entries 0
+infeasibility 0
+objective 22
+feasible yes
+"#;
+
+#[test]
+fn constraints_of_every_class(rt: HostRuntime) -> Result<(), Fail> {
+    judged(
+        &rt,
+        rt.alloc(),
+        &[FOUR_PHASED, CONSTRAINTS, NO_CONSTRAINTS],
+        &[GAMES, ELEVEN, LAST, NO_MORE_GAMES],
+        Status::Yes,
+        REPORT,
+    )
+}
