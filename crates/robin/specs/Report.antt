@@ -7,31 +7,16 @@ use Rattle.league.specs.Counts.{counts_of, slot_count}
 use Rattle.league.specs.Deviation.{vector_of}
 use Rattle.league.specs.Instance.{Instance}
 use Rattle.league.specs.Structure.{pairs_wrong, cells_wrong, phases_wrong}
-use Rattle.league.specs.declared.class.Class.{Class}
-use Rattle.league.specs.declared.class.Class.TheVariants.{Ca1, Ca2, Ca3, Ca4, Ga1, Br1, Br2, Fa2, Se1}
 use Rattle.league.specs.declared.class.Constraint.{Constraint}
 use Rattle.league.specs.declared.game.Game.{Game}
 use Rattle.league.specs.declared.wrongs.Wrongs.{Wrongs}
+use Rattle.robinx_read.specs.Texts.{class_name, type_word}
 
 abbrev pub mode_word : Bool → List ℕ
 mode_word phased = if phased then codes "P" else codes "NULL"
 
-abbrev pub type_word : Bool → List ℕ
-type_word hard = if hard then codes "HARD" else codes "SOFT"
-
 abbrev pub yes_or_no : Bool → List ℕ
 yes_or_no feasible = if feasible then codes "yes" else codes "no"
-
-abbrev pub class_word : Class → List ℕ
-class_word (Ca1 teams max side slots) = codes "CA1"
-class_word (Ca2 teams1 teams2 max side slots) = codes "CA2"
-class_word (Ca3 teams1 teams2 max intp side) = codes "CA3"
-class_word (Ca4 teams1 teams2 max side span slots) = codes "CA4"
-class_word (Ga1 meetings min max slots) = codes "GA1"
-class_word (Br1 teams intp side slots) = codes "BR1"
-class_word (Br2 teams intp slots) = codes "BR2"
-class_word (Fa2 teams intp slots) = codes "FA2"
-class_word (Se1 teams min) = codes "SE1"
 
 -- the four lines that say what was read
 abbrev pub head_text : ℕ → Bool → ℕ → List ℕ
@@ -41,12 +26,12 @@ head_text n phased games = codes "teams " ++ (decimal n ++ (codes "\nslots " ++ 
 abbrev pub structure_text : ℕ → ℕ → ℕ → List ℕ
 structure_text pairs cells phases = codes "structure pairs " ++ (decimal pairs ++ (codes " cells " ++ (decimal cells ++ (codes " phases " ++ (decimal phases ++ codes "\n")))))
 
--- the line of a constraint: its number, what it is, its deviation, and the vector's entries
+-- the line of a constraint: its number, what it is in the words of a file, its deviation, and the vector's entries
 abbrev pub entries_text : List ℕ → List ℕ
 entries_text entries = flat_map (λ entry. codes " " ++ decimal entry) entries
 
 abbrev pub constraint_front : ℕ → Constraint → ℕ → List ℕ
-constraint_front number c deviation = codes "constraint " ++ (decimal number ++ (codes " " ++ (class_word c.class ++ (codes " " ++ (type_word c.hard ++ (codes " penalty " ++ (decimal c.penalty ++ (codes " sum " ++ (decimal deviation ++ codes " entries")))))))))
+constraint_front number c deviation = codes "constraint " ++ (decimal number ++ (codes " " ++ (codes (class_name c.class) ++ (codes " " ++ (codes (type_word c.hard) ++ (codes " penalty " ++ (decimal c.penalty ++ (codes " sum " ++ (decimal deviation ++ codes " entries")))))))))
 
 abbrev pub constraint_text : ℕ → Constraint → List ℕ → List ℕ
 constraint_text number c entries = constraint_front number c (sum entries) ++ (entries_text entries ++ codes "\n")

@@ -1,9 +1,10 @@
 //! The texts of the report.
 ghost use Rattle.std.specs.Prelude.{◌≡◌, ◌++◌, length, IfOk, OnOk, string_bytes, sum};
-ghost use Rattle.robin.specs.Report.{head_text, structure_text, verdict_text, entries_text, constraint_front, constraint_text, constraints_text, lines_text, class_word, type_word};
+ghost use Rattle.robin.specs.Report.{head_text, structure_text, verdict_text, entries_text, constraint_front, constraint_text, constraints_text, lines_text};
 
 use deviation::{Assessment, Vectors, total};
-use league::{Class, Constraint, League, Wrongs};
+use league::{Constraint, League, Wrongs};
+use robinx_write::{class_name, type_word};
 use std::alloc::{AllocError, Global};
 
 /// The lines that say what was read.
@@ -39,30 +40,6 @@ fn verdict(
     format!(in alloc; "infeasibility {infeasibility}\nobjective {objective}\nfeasible {word}\n")
 }
 
-/// The name of a constraint's class.
-fn class_name(class: &Class) -> &'static str
-    ensures { result.now ≡ class_word class.now }
-{
-    match class {
-        Class::Ca1 { .. } => "CA1",
-        Class::Ca2 { .. } => "CA2",
-        Class::Ca3 { .. } => "CA3",
-        Class::Ca4 { .. } => "CA4",
-        Class::Ga1 { .. } => "GA1",
-        Class::Br1 { .. } => "BR1",
-        Class::Br2 { .. } => "BR2",
-        Class::Fa2 { .. } => "FA2",
-        Class::Se1 { .. } => "SE1",
-    }
-}
-
-/// How a file says whether a constraint is hard.
-fn type_name(hard: bool) -> &'static str
-    ensures { result.now ≡ type_word hard }
-{
-    if hard { "HARD" } else { "SOFT" }
-}
-
 /// Adds the entries, each after a space.
 fn push_entries(text: &mut String, entries: &[u64]) -> Result<(), AllocError>
     ensures { OnOk result (string_bytes text.new ≡ string_bytes text.old ++ entries_text entries.now) }
@@ -83,7 +60,7 @@ fn push_front(
     ensures { OnOk result (string_bytes text.new ≡ string_bytes text.old ++ constraint_front number constraint.now deviation) }
 {
     let class = class_name(&constraint.class);
-    let kind = type_name(constraint.hard);
+    let kind = type_word(constraint.hard);
     let penalty = constraint.penalty;
     write!(
         text,

@@ -11,8 +11,8 @@ use crate::tag::{Attribute, Value, put_attributes};
 use league::{Class, PairSet, Side, SlotSet, Span, TeamSet};
 use std::alloc::AllocError;
 
-/// The name of a constraint's class.
-pub(crate) fn class_name(class: &Class) -> &'static str
+/// The name of a constraint's class, as RobinX has it: `CA1` and so on. It takes no memory.
+pub fn class_name(class: &Class) -> &'static str
     ensures { result.now ≡ codes (texts.class_name class.now) }
 {
     match class {

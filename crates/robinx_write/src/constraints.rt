@@ -11,8 +11,8 @@ use crate::tag::{Attribute, Value, put_attributes};
 use league::Constraint;
 use std::alloc::AllocError;
 
-/// How a file says whether a constraint is hard.
-fn type_word(hard: bool) -> &'static str
+/// How a file says whether a constraint is hard: `HARD` or `SOFT`. It takes no memory.
+pub fn type_word(hard: bool) -> &'static str
     ensures { result.now ≡ codes (texts.type_word hard) }
 {
     if hard { "HARD" } else { "SOFT" }

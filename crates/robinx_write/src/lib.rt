@@ -10,5 +10,7 @@ mod instance;
 mod solution;
 mod tag;
 
+pub use class::class_name;
+pub use constraints::type_word;
 pub use instance::instance_text;
 pub use solution::solution_text;
