@@ -1,6 +1,7 @@
 -- Tags: what stands after `<` or `</`.
-use Rattle.std.specs.Prelude.{ℕ, zero, suc, Bool, true, not, ◌&&◌, ◌||◌, ◌==◌, if◌then◌else◌, List, [], ◌∷◌, ◌++◌, Option, Some, None, Ok, Err, codes, bytes_eq, option_map}
+use Rattle.std.specs.Prelude.{ℕ, zero, suc, Bool, true, not, ◌&&◌, ◌||◌, ◌==◌, if◌then◌else◌, List, [], ◌∷◌, ◌++◌, ◌+◌, Option, Some, None, Ok, Err, codes, bytes_eq, option_map}
 use Rattle.std.specs.List.{list_any, find}
+use Rattle.std.specs.Result.{result_ok}
 use Rattle.std.specs.Str.{byte}
 use Rattle.robinx_tags.specs.Bytes.{is_name_byte, is_name_start, is_one_of}
 use Rattle.robinx_tags.specs.Fronts.{◌>>=◌, Front, next, mark, until, after_white, starts_white, check}
@@ -94,6 +95,29 @@ attributes_at (suc left) earlier bytes = do
       attribute ← attribute_at earlier end.1
       attributes_at left (earlier ++ attribute.0 ∷ []) attribute.1
   ]
+
+-- what a tag goes on with: an attribute and the bytes after it, or None where the tag ends or has a fault
+abbrev pub attribute_by : List Attribute → Front (Option TagKind) → Option (Attribute × List ℕ)
+attribute_by earlier (Ok (None, begin)) = result_ok (attribute_at earlier begin)
+attribute_by earlier (Ok (Some kind, after)) = None
+attribute_by earlier (Err kind) = None
+
+-- how many whole attributes a tag has behind these, up to its end, its fault, or this limit
+unfoldable pub more_attributes : ℕ → List Attribute → List ℕ → ℕ
+more_attributes zero earlier bytes = 0
+more_attributes (suc left) earlier bytes = elim (attribute_by earlier (end_at bytes)) [
+  | Some found ↦ 1 + more_attributes left (earlier ++ found.0 ∷ []) found.1
+  | None ↦ 0
+]
+
+-- how many whole attributes a tag has behind its name, up to its end or its fault; 0 where the name is at fault
+abbrev pub attributes_behind : Front (List ℕ) → ℕ
+attributes_behind (Ok (name, bytes)) = more_attributes 64 [] bytes
+attributes_behind (Err kind) = 0
+
+-- the same of a start tag or an empty tag after `<`
+abbrev pub tag_attributes : List ℕ → ℕ
+tag_attributes bytes = attributes_behind (name_at bytes)
 
 -- a start tag or an empty tag after `<`: a name, then at most 64 attributes
 abbrev pub start_tag : List ℕ → Front (TagKind × List ℕ × List Attribute)
