@@ -1,5 +1,6 @@
 -- The pieces of a file, with the line on which each begins.
-use Rattle.std.specs.Prelude.{ℕ, zero, suc, ◌+◌, ◌-◌, Bool, true, false, ◌==◌, if◌then◌else◌, List, [], ◌∷◌, length, drop, Option, Some, None, Result, Ok, Err, nat_eq, codes}
+use Rattle.std.specs.Prelude.{ℕ, zero, suc, ◌+◌, ◌-◌, Bool, true, false, ◌==◌, if◌then◌else◌, List, [], ◌∷◌}
+use Rattle.std.specs.Prelude.{length, drop, Option, Some, None, Result, Ok, Err, nat_eq, codes}
 use Rattle.std.specs.List.{starts_with}
 use Rattle.std.specs.Str.{byte}
 use Rattle.robinx_tags.specs.Bytes.{line_feed}
@@ -8,7 +9,8 @@ use Rattle.robinx_tags.specs.Tags.{Attribute, end_tag, start_tag, tag_attributes
 use Rattle.robinx_tags.specs.declared.fault.FormKind.{FormKind}
 use Rattle.robinx_tags.specs.declared.fault.FormKind.TheVariants.{BadTag, Truncated}
 use Rattle.robinx_tags.specs.declared.opening.Opening.{Opening}
-use Rattle.robinx_tags.specs.declared.opening.Opening.TheVariants.{Comment, Declaration, Reserved, EndTag, StartTag, Content}
+use Rattle.robinx_tags.specs.declared.opening.Opening.TheVariants.{Comment, Declaration, Reserved}
+use Rattle.robinx_tags.specs.declared.opening.Opening.TheVariants.{EndTag, StartTag, Content}
 use Rattle.robinx_tags.specs.declared.tag.TagKind.{TagKind}
 use Rattle.robinx_tags.specs.declared.tag.TagKind.TheVariants.{End, Text}
 
@@ -29,7 +31,7 @@ pub data Last : Type 0 where
 pub record Pieces : Type 0 where
   pub items : List Piece
   pub last : Last
-  -- how many whole attributes stand before the fault in its tag; 0 where there is no fault, and where it is no start tag's
+  -- how many whole attributes stand before the fault in its tag; 0 where there is no fault, or it is no start tag's
   pub before_fault : ℕ
 
 -- no pieces
@@ -51,7 +53,10 @@ begins text bytes = starts_with nat_eq bytes text
 -- the bytes after the first place at which this text stands
 abbrev pub after_text : List ℕ → List ℕ → Option (List ℕ)
 after_text text [] = None
-after_text text (b ∷ bytes) = elim (begins text (b ∷ bytes)) [ true ↦ Some (drop (length text) (b ∷ bytes)) | false ↦ after_text text bytes ]
+after_text text (b ∷ bytes) = elim (begins text (b ∷ bytes)) [
+  | true ↦ Some (drop (length text) (b ∷ bytes))
+  | false ↦ after_text text bytes
+]
 
 -- what begins at a place, and the bytes after its mark
 abbrev pub opening_at : List ℕ → Opening × List ℕ
@@ -140,7 +145,8 @@ unfoldable pub pieces_from : ℕ → ℕ → List ℕ → Pieces
 pieces_from line inside [] = none_but (Ends line)
 pieces_from line (suc inside) (b ∷ bytes) = pieces_from (line_after line b) inside bytes
 pieces_from line zero (b ∷ bytes) =
-    go_on line (b ∷ bytes) (piece_at line (b ∷ bytes)) (λ rest. pieces_from (line_after line b) (length bytes - length rest) bytes)
+    go_on line (b ∷ bytes) (piece_at line (b ∷ bytes))
+    (λ rest. pieces_from (line_after line b) (length bytes - length rest) bytes)
 
 -- the bytes without a byte order mark
 abbrev pub without_mark : List ℕ → List ℕ

@@ -49,7 +49,8 @@ fn value_to(quote: u8, bytes: &[u8]) -> Result<(&[u8], &[u8]), FormKind>
 
 /// A fault where an earlier attribute has this name.
 fn check_new(name: &[u8], earlier: &Attrs) -> Result<(), FormKind>
-    ensures { Finds (λ _. tt) result (fronts.check (not (list_any (tags.has_name name.now) earlier.now)) kinds.RepeatedAttribute) }
+    ensures { Finds (λ _. tt) result
+        (fronts.check (not (list_any (tags.has_name name.now) earlier.now)) kinds.RepeatedAttribute) }
 {
     if earlier.contains(name) {
         return Err(FormKind::RepeatedAttribute);
