@@ -1,4 +1,5 @@
 mod PieceFacts
+mod TrimFacts
 pub mod SearchLemmas
 pub mod AttributeLemmas
 pub mod TextLemmas

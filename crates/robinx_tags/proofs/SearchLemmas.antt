@@ -1,9 +1,9 @@
 -- What a search answers, in the words of the pieces.
-use Rattle.std.proofs.Common.{◌≡◌, ℕ, ◌<◌, ◌≤◌, Bool, true, false, not, List, length, get_or, Option, Some, None, count_by, unwrap_or, sym, arith, le_refl}
-use Rattle.std.specs.List.{position_or_len}
+use Rattle.std.proofs.Common.{◌≡◌, ℕ, ◌<◌, ◌≤◌, ◌-◌, Bool, true, false, not, List, length, get_or, Option, Some, None, count_by, unwrap_or, sym, arith, le_refl}
+use Rattle.std.specs.List.{position_or_len, suffix_len}
 use Rattle.std.proofs.lemmas.Bool.{not_from_true, cases_Bool}
 use Rattle.std.proofs.Common.{inl, inr}
-use Rattle.std.proofs.lemmas.List.Sums.{position_or_len_is}
+use Rattle.std.proofs.lemmas.List.Sums.{position_or_len_is, suffix_len_is}
 use Rattle.memchr.specs.Find.{IsFirstByte, places}
 use Rattle.memchr.proofs.lemmas.CallerLemmas.{length-places}
 
@@ -29,3 +29,10 @@ pub run_to_end : (test : ℕ → Bool) (bytes : List ℕ) (len : ℕ) → length
     → len ≡ position_or_len (λ b. not (test b)) bytes
 run_to_end test bytes len past within passes =
     sym (position_or_len_is (λ b. not (test b)) bytes len 0 within (λ k below. not_from_true _ (passes k below)) (λ lt. absurd (omega arith)))
+
+-- a run that passes from a place up to the end
+pub run_back : (test : ℕ → Bool) (bytes : List ℕ) (len : ℕ) → len ≤ length bytes → ((k : ℕ) → len ≤ k → k < length bytes → test (get_or bytes k 0) ≡ true)
+    → (0 < len → test (get_or bytes (len - 1) 0) ≡ false) → len ≡ length bytes - suffix_len test bytes
+run_back test bytes len within passes stops =
+    let run : suffix_len test bytes ≡ length bytes - len = suffix_len_is test bytes len 0 within passes stops in
+    omega arith

@@ -1,6 +1,6 @@
 -- Reading from the front of some bytes, from left to right, up to the first fault.
-use Rattle.std.specs.Prelude.{ℕ, Bool, true, false, not, if◌then◌else◌, List, [], ◌∷◌, take, drop, Result, Ok, Err}
-use Rattle.std.specs.List.{position_or_len}
+use Rattle.std.specs.Prelude.{ℕ, Bool, true, false, not, if◌then◌else◌, List, [], ◌∷◌, ◌-◌, length, take, drop, Result, Ok, Err}
+use Rattle.std.specs.List.{position_or_len, suffix_len}
 use Rattle.robinx_tags.specs.Bytes.{is_white}
 use Rattle.robinx_tags.specs.declared.fault.FormKind.{FormKind}
 use Rattle.robinx_tags.specs.declared.fault.FormKind.TheVariants.{Truncated}
@@ -27,6 +27,12 @@ until test bytes = (take (position_or_len test bytes) bytes, drop (position_or_l
 -- the bytes after white bytes
 abbrev pub after_white : List ℕ → List ℕ
 after_white bytes = (until (λ b. not (is_white b)) bytes).1
+
+-- a text without white bytes at both ends
+abbrev pub trimmed : List ℕ → List ℕ
+trimmed text =
+    let rest = after_white text in
+    take (length rest - suffix_len is_white rest) rest
 
 -- whether the next byte is white
 abbrev pub starts_white : List ℕ → Bool

@@ -1,11 +1,10 @@
--- what the public contracts rest on: the pieces of a file, and what `next` answers of them
+-- What a reader of a claim must believe:
 pub mod Bytes
 pub mod Fronts
 pub mod Tags
 pub mod Pieces
-pub mod Next
 pub mod SeenAttr
 pub mod SeenTag
--- inside
-pub mod Seen
+pub mod Next
 pub mod Faults
+pub mod Seen

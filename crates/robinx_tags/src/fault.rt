@@ -76,16 +76,18 @@ pub enum TagFault {
     Mem,
 }
 
-/// Why a tag couldn't be read, on a line that its caller knows.
-#[derive(Drop)]
-pub(crate) enum Stop {
+/// Why a piece or an element can't be read, on a line that its caller knows.
+#[derive(Debug, Drop)]
+pub enum Stop {
+    /// It has this fault.
     Form(FormKind),
+    /// Memory ran out.
     Mem,
 }
 
 impl Stop {
-    /// The fault on this line.
-    pub(crate) fn on_line(self, line: u32) -> TagFault
+    /// The fault on this line. Want of memory has no line.
+    pub fn on_line(self, line: u32) -> TagFault
         ensures { result ≡ fault_on line self }
     {
         match self {

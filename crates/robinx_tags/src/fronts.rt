@@ -6,13 +6,21 @@ ghost use Rattle.robinx_tags.specs.declared.fault.FormKind.TheVariants as kinds;
 ghost use Rattle.robinx_tags.specs.Seen.{Finds};
 
 use crate::FormKind;
-use crate::letters::white_len;
+use crate::letters::{len_without_white, white_len};
 
 /// The bytes after white bytes.
 pub(crate) fn after_white(bytes: &[u8]) -> &[u8]
     ensures { result.now ≡ fronts.after_white bytes.now }
 {
     &bytes[white_len(bytes)..]
+}
+
+/// A text without white bytes (space, tab, CR, LF) at both ends.
+pub fn trimmed(text: &[u8]) -> &[u8]
+    ensures { result.now ≡ fronts.trimmed text.now }
+{
+    let rest = after_white(text);
+    &rest[..len_without_white(rest)]
 }
 
 /// The bytes after this byte, which has to come next.

@@ -1,6 +1,6 @@
 // The bytes that tags are made of, and how far runs of them go.
-ghost use Rattle.std.specs.Prelude.{◌≡◌, ◌+◌, ◌==◌, ◌||◌, ◌<◌, ◌≤◌, ◌^◌, not, length, count_by};
-ghost use Rattle.std.specs.List.{position_or_len};
+ghost use Rattle.std.specs.Prelude.{◌≡◌, ◌+◌, ◌-◌, ◌==◌, ◌||◌, ◌<◌, ◌≤◌, ◌^◌, not, length, count_by};
+ghost use Rattle.std.specs.List.{position_or_len, suffix_len};
 ghost use Rattle.std.specs.Str.{byte};
 ghost use Rattle.robinx_tags.specs.Bytes as letters;
 ghost use Rattle.robinx_tags.specs.Fronts as fronts;
@@ -47,6 +47,19 @@ pub(crate) fn white_len(bytes: &[u8]) -> usize
     let mut len = 0;
     while len < bytes.len() && is_white(bytes[len]) {
         len += 1;
+    }
+    len
+}
+
+/// How many bytes are left without the white bytes at the end.
+#[tactic(auto, using(std::proofs::lemmas::List::Sums::suffix_len_is))]
+pub(crate) fn len_without_white(bytes: &[u8]) -> usize
+    ensures value { result ≡ length bytes.now - suffix_len letters.is_white bytes.now }
+    ensures within { result ≤ length bytes.now }
+{
+    let mut len = bytes.len();
+    while len > 0 && is_white(bytes[len - 1]) {
+        len -= 1;
     }
     len
 }

@@ -15,7 +15,8 @@ mod tag;
 mod turn;
 
 pub use attribute::{Attr, Attrs};
-pub use fault::{FormKind, TagFault};
+pub use fault::{FormKind, Stop, TagFault};
+pub use fronts::trimmed;
 pub use reader::TagReader;
 pub use tag::{Tag, TagKind};
 

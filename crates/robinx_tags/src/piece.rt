@@ -1,7 +1,7 @@
 // One piece, and the way to the next.
 ghost use Rattle.std.specs.Prelude.{◌≡◌, ◌+◌, ◌<◌, ◌^◌, length, option_map, IfOk};
 ghost use Rattle.robinx_tags.specs.Pieces as pieces;
-ghost use Rattle.robinx_tags.specs.Seen.{Finds, Gives, attribute_count};
+ghost use Rattle.robinx_tags.specs.Seen.{Finds, GivesCounted, attribute_count};
 ghost use Rattle.robinx_tags.specs.SeenTag.{view_of};
 ghost use Rattle.robinx_tags.specs.Next.{MovesOn, Steps};
 
@@ -48,7 +48,7 @@ fn start_piece<'a>(
     line: u32,
     bytes: &'a [u8],
 ) -> Result<(Option<Tag<'a>>, &'a [u8]), Stop>
-    ensures { Gives (λ x. (option_map view_of x.0, x.1.now)) (λ found. attribute_count found.0) result (pieces.start_piece line bytes.now) }
+    ensures { GivesCounted (λ x. (option_map view_of x.0, x.1.now)) (λ found. attribute_count found.0) result (pieces.start_piece line bytes.now) }
 {
     let (kind, name, attrs, rest) = start_tag(alloc, bytes)?;
     let tag = Tag {
@@ -82,7 +82,7 @@ fn piece_at<'a>(
     line: u32,
     bytes: &'a [u8],
 ) -> Result<(Option<Tag<'a>>, &'a [u8]), Stop>
-    ensures { Gives (λ x. (option_map view_of x.0, x.1.now)) (λ found. attribute_count found.0) result (pieces.piece_at line bytes.now) }
+    ensures { GivesCounted (λ x. (option_map view_of x.0, x.1.now)) (λ found. attribute_count found.0) result (pieces.piece_at line bytes.now) }
 {
     let (opening, after) = opening_at(bytes);
     match opening {

@@ -5,7 +5,7 @@ ghost use Rattle.robinx_tags.specs.Bytes as letters;
 ghost use Rattle.robinx_tags.specs.Fronts as fronts;
 ghost use Rattle.robinx_tags.specs.Tags as tags;
 ghost use Rattle.robinx_tags.specs.declared.fault.FormKind.TheVariants as kinds;
-ghost use Rattle.robinx_tags.specs.Seen.{Finds, Gives};
+ghost use Rattle.robinx_tags.specs.Seen.{Finds, GivesCounted};
 ghost use Rattle.robinx_tags.specs.SeenAttr.{attribute_of};
 
 use crate::fault::Stop;
@@ -112,7 +112,7 @@ fn end_at(bytes: &[u8]) -> Result<(Option<TagKind>, &[u8]), FormKind>
 
 /// How a tag ends after its name or an attribute, all its attributes, and the bytes after the tag.
 fn attributes_at<'a>(alloc: Global, bytes: &'a [u8]) -> Result<(TagKind, Attrs<'a>, &'a [u8]), Stop>
-    ensures { Gives (λ x. ((x.0, x.1), x.2.now)) (λ tag. length tag.0.1) result (tags.attributes_at 64 [] bytes.now) }
+    ensures { GivesCounted (λ x. ((x.0, x.1), x.2.now)) (λ tag. length tag.0.1) result (tags.attributes_at 64 [] bytes.now) }
 {
     let mut attrs = Attrs::new(alloc);
     let mut rest = bytes;
@@ -137,7 +137,7 @@ pub(crate) fn start_tag<'a>(
     alloc: Global,
     bytes: &'a [u8],
 ) -> Result<(TagKind, &'a [u8], Attrs<'a>, &'a [u8]), Stop>
-    ensures { Gives (λ x. ((x.0, x.1.now, x.2), x.3.now)) (λ tag. length tag.0.2) result (tags.start_tag bytes.now) }
+    ensures { GivesCounted (λ x. ((x.0, x.1.now, x.2), x.3.now)) (λ tag. length tag.0.2) result (tags.start_tag bytes.now) }
 {
     let (name, after) = name_at(bytes)?;
     let (kind, attrs, rest) = attributes_at(alloc, after)?;
