@@ -3,16 +3,16 @@ ghost use Rattle.std.specs.Prelude.{◌≤◌, length, IfOk};
 ghost use Rattle.std.specs.List.{All};
 ghost use Rattle.robinx_tags.specs.Pieces.{pieces};
 ghost use Rattle.league.specs.Instance.{IsGame};
-ghost use Rattle.robinx_read.specs.InstanceFile.{instance_of};
-ghost use Rattle.robinx_read.specs.SolutionFile.{solution_of};
+ghost use Rattle.robinx_form.specs.InstanceFile.{instance_of};
+ghost use Rattle.robinx_form.specs.SolutionFile.{solution_of};
 ghost use Rattle.robinx_read.specs.Answers.{Says};
 
 use crate::draft::Draft;
-use crate::element::Element;
 use crate::fault::ReadFault;
 use crate::games::Games;
 use crate::walk::read_file;
 use league::{League, Schedule};
+use robinx_form::Element;
 use robinx_tags::TagReader;
 use std::alloc::Global;
 

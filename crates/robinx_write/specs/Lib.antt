@@ -1,5 +1,7 @@
--- Attributes and constraints as functions inside are given them:
-pub mod SeenAttribute
-pub mod Groups
+-- Kept inside (laws, and how fields are seen):
+--
+-- Values without where they lie in memory, and numbers as they are held in it:
+pub mod SeenValues
 pub mod Held
-pub mod Parts
+-- Which classes are written together:
+pub mod Groups
