@@ -8,7 +8,7 @@ use Rattle.std.specs.List.{flat_map, range_with_len}
 use Rattle.robinx_tags.specs.Tags.{Attribute}
 use Rattle.robinx_tags.specs.declared.fault.FormKind.{FormKind}
 use Rattle.robinx_tags.specs.declared.fault.FormKind.TheVariants.{MissingAttribute, BadNumber, NumberTooLarge, UnknownTeam, UnknownSlot, SameTeam, BadChoice}
-use Rattle.robinx_form.specs.Values.{Reading, zero_only, above_zero}
+use Rattle.robinx_form.specs.Values.{Reading, above_zero}
 use Rattle.robinx_form.specs.Classes.{constraint_of}
 use Rattle.robinx_form.specs.Words.{home_or_away, side, span, hardness, game_mode}
 use Rattle.league.specs.declared.class.ClassName.{ClassName}
@@ -55,48 +55,48 @@ abbrev absences : ClassName → List Row → List (Option FormKind)
 absences name rows = map (λ k. fault_of (constraint_of name 4 (tag_of (flat_map right (take k rows ++ drop (k + 1) rows))))) (range_with_len 0 (length rows))
 
 abbrev ca1 : List Row
-ca1 = ("teams", "3;0;3;", Some "4") ∷ ("min", "00", Some "1") ∷ ("max", "9", Some "x") ∷ ("mode", "A", Some "HA") ∷ ("slots", "5;2", Some "6") ∷ []
+ca1 = ("teams", "3;0;3;", Some "4") ∷ ("min", "07", Some "") ∷ ("max", "9", Some "4294967296") ∷ ("mode", "A", Some "HA") ∷ ("slots", "5;2", Some "6") ∷ []
 
-pub ca1-is : reads Ca1 ca1 ≡ Ok (soft (class.Ca1 (0 ∷ 3 ∷ []) 9 A (2 ∷ 5 ∷ [])))
+pub ca1-is : reads Ca1 ca1 ≡ Ok (soft (class.Ca1 (0 ∷ 3 ∷ []) 7 9 A (2 ∷ 5 ∷ [])))
 ca1-is = refl
 
-pub ca1-faults : faults Ca1 ca1 ≡ Some UnknownTeam ∷ Some BadChoice ∷ Some BadNumber ∷ Some BadChoice ∷ Some UnknownSlot ∷ []
+pub ca1-faults : faults Ca1 ca1 ≡ Some UnknownTeam ∷ Some BadNumber ∷ Some NumberTooLarge ∷ Some BadChoice ∷ Some UnknownSlot ∷ []
 ca1-faults = refl
 
 pub ca1-absences : absences Ca1 ca1 ≡ missing ∷ None ∷ missing ∷ missing ∷ missing ∷ []
 ca1-absences = refl
 
 abbrev ca2 : List Row
-ca2 = ("teams1", "1", Some "4") ∷ ("teams2", "2;0", Some ";") ∷ ("min", "0", Some "1") ∷ ("max", "9", Some "4294967296") ∷ ("mode1", "HA", None) ∷ ("mode2", "GLOBAL", Some "EVERY") ∷ ("slots", "5;2", Some "6") ∷ []
+ca2 = ("teams1", "1", Some "4") ∷ ("teams2", "2;0", Some ";") ∷ ("min", "3", Some "4294967296") ∷ ("max", "9", Some "x") ∷ ("mode1", "HA", None) ∷ ("mode2", "GLOBAL", Some "EVERY") ∷ ("slots", "5;2", Some "6") ∷ []
 
-pub ca2-is : reads Ca2 ca2 ≡ Ok (soft (class.Ca2 (1 ∷ []) (0 ∷ 2 ∷ []) 9 Both (2 ∷ 5 ∷ [])))
+pub ca2-is : reads Ca2 ca2 ≡ Ok (soft (class.Ca2 (1 ∷ []) (0 ∷ 2 ∷ []) 3 9 Both (2 ∷ 5 ∷ [])))
 ca2-is = refl
 
-pub ca2-faults : faults Ca2 ca2 ≡ Some UnknownTeam ∷ Some BadNumber ∷ Some BadChoice ∷ Some NumberTooLarge ∷ Some MissingAttribute ∷ Some BadChoice ∷ Some UnknownSlot ∷ []
+pub ca2-faults : faults Ca2 ca2 ≡ Some UnknownTeam ∷ Some BadNumber ∷ Some NumberTooLarge ∷ Some BadNumber ∷ Some MissingAttribute ∷ Some BadChoice ∷ Some UnknownSlot ∷ []
 ca2-faults = refl
 
 pub ca2-absences : absences Ca2 ca2 ≡ missing ∷ missing ∷ None ∷ missing ∷ missing ∷ None ∷ missing ∷ []
 ca2-absences = refl
 
 abbrev ca3 : List Row
-ca3 = ("teams1", "1", Some "4") ∷ ("teams2", "2;0", Some ";") ∷ ("min", "0", Some "1") ∷ ("max", "9", Some "4294967296") ∷ ("mode1", "H", None) ∷ ("mode2", "SLOTS", Some "GLOBAL") ∷ ("intp", "3", Some "") ∷ []
+ca3 = ("teams1", "1", Some "4") ∷ ("teams2", "2;0", Some ";") ∷ ("min", "12", Some "x") ∷ ("max", "9", Some "4294967296") ∷ ("mode1", "H", None) ∷ ("mode2", "SLOTS", Some "GLOBAL") ∷ ("intp", "3", Some "") ∷ []
 
-pub ca3-is : reads Ca3 ca3 ≡ Ok (soft (class.Ca3 (1 ∷ []) (0 ∷ 2 ∷ []) 9 3 H))
+pub ca3-is : reads Ca3 ca3 ≡ Ok (soft (class.Ca3 (1 ∷ []) (0 ∷ 2 ∷ []) 12 9 3 H))
 ca3-is = refl
 
-pub ca3-faults : faults Ca3 ca3 ≡ Some UnknownTeam ∷ Some BadNumber ∷ Some BadChoice ∷ Some NumberTooLarge ∷ Some MissingAttribute ∷ Some BadChoice ∷ Some BadNumber ∷ []
+pub ca3-faults : faults Ca3 ca3 ≡ Some UnknownTeam ∷ Some BadNumber ∷ Some BadNumber ∷ Some NumberTooLarge ∷ Some MissingAttribute ∷ Some BadChoice ∷ Some BadNumber ∷ []
 ca3-faults = refl
 
 pub ca3-absences : absences Ca3 ca3 ≡ missing ∷ missing ∷ None ∷ missing ∷ missing ∷ None ∷ missing ∷ []
 ca3-absences = refl
 
 abbrev ca4 : List Row
-ca4 = ("teams1", "1", Some "4") ∷ ("teams2", "2;0", Some ";") ∷ ("min", "0", Some "1") ∷ ("max", "9", Some "4294967296") ∷ ("mode1", "A", None) ∷ ("mode2", "EVERY", Some "SLOTS") ∷ ("slots", "5;2", Some "6") ∷ []
+ca4 = ("teams1", "1", Some "4") ∷ ("teams2", "2;0", Some ";") ∷ ("min", "1", Some "") ∷ ("max", "9", Some "4294967296") ∷ ("mode1", "A", None) ∷ ("mode2", "EVERY", Some "SLOTS") ∷ ("slots", "5;2", Some "6") ∷ []
 
-pub ca4-is : reads Ca4 ca4 ≡ Ok (soft (class.Ca4 (1 ∷ []) (0 ∷ 2 ∷ []) 9 A Every (2 ∷ 5 ∷ [])))
+pub ca4-is : reads Ca4 ca4 ≡ Ok (soft (class.Ca4 (1 ∷ []) (0 ∷ 2 ∷ []) 1 9 A Every (2 ∷ 5 ∷ [])))
 ca4-is = refl
 
-pub ca4-faults : faults Ca4 ca4 ≡ Some UnknownTeam ∷ Some BadNumber ∷ Some BadChoice ∷ Some NumberTooLarge ∷ Some MissingAttribute ∷ Some BadChoice ∷ Some UnknownSlot ∷ []
+pub ca4-faults : faults Ca4 ca4 ≡ Some UnknownTeam ∷ Some BadNumber ∷ Some BadNumber ∷ Some NumberTooLarge ∷ Some MissingAttribute ∷ Some BadChoice ∷ Some UnknownSlot ∷ []
 ca4-faults = refl
 
 pub ca4-absences : absences Ca4 ca4 ≡ missing ∷ missing ∷ None ∷ missing ∷ missing ∷ missing ∷ missing ∷ []
@@ -203,9 +203,9 @@ span-words = (refl, refl, refl)
 pub game_mode-words : (game_mode (codes "P") ≡ Ok true) × (game_mode (codes "NULL") ≡ Ok false) × (game_mode [] ≡ Ok false) × (game_mode (codes "null") ≡ Err BadChoice)
 game_mode-words = (refl, refl, refl, refl)
 
--- a lower bound on a capacity class: a number first, and then 0
-pub zero_only-values : (zero_only (codes "00") ≡ Ok 0) × (zero_only (codes "1") ≡ Err BadChoice) × (zero_only (codes "") ≡ Err BadNumber) × (zero_only (codes "4294967296") ≡ Err NumberTooLarge)
-zero_only-values = (refl, refl, refl, refl)
+-- a lower bound on a capacity class that is absent is 0
+pub ca1-no_min : reads Ca1 (take 1 ca1 ++ drop 2 ca1) ≡ Ok (soft (class.Ca1 (0 ∷ 3 ∷ []) 0 9 A (2 ∷ 5 ∷ [])))
+ca1-no_min = refl
 
 -- the length of a window: a number first, and then not 0
 pub above_zero-values : (above_zero (codes "01") ≡ Ok 1) × (above_zero (codes "00") ≡ Err BadChoice) × (above_zero (codes "x") ≡ Err BadNumber) × (above_zero (codes "4294967296") ≡ Err NumberTooLarge)

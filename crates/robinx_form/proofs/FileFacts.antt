@@ -34,7 +34,7 @@ pub instance_of-f4 : instance_of (pieces f4) ≡ Ok (record {
   n = 4;
   phased = true;
   constraints =
-      record { hard = false; penalty = 10; class = Ca1 (0 ∷ []) 0 H (2 ∷ 3 ∷ []) }
+      record { hard = false; penalty = 10; class = Ca1 (0 ∷ []) 0 0 H (2 ∷ 3 ∷ []) }
       ∷ record { hard = false; penalty = 10; class = Fa2 all_teams 1 all_slots }
       ∷ record { hard = true; penalty = 10; class = Se1 all_teams 2 }
       ∷ [];
@@ -65,8 +65,9 @@ pub instance_of-other_class : instance_of (pieces (text (replaced league_lines 2
 unfolding attributes_at pieces_from walk
 instance_of-other_class = refl
 
--- a lower bound on a capacity class isn't read yet
-pub instance_of-min_one : instance_of (pieces (text (replaced league_lines 27 0 ("<CapacityConstraints>" ∷ "<CA1 teams=\"0\" min=\"1\" max=\"1\" mode=\"H\" slots=\"2;3\" type=\"HARD\"/>" ∷ "</CapacityConstraints>" ∷ [])))) ≡ Err (BadChoice, 28)
+-- a lower bound on a capacity class
+pub instance_of-min_one : instance_of (pieces (text (replaced league_lines 27 0 ("<CapacityConstraints>" ∷ "<CA1 teams=\"0\" min=\"1\" max=\"1\" mode=\"H\" slots=\"2;3\" type=\"HARD\"/>" ∷ "</CapacityConstraints>" ∷ []))))
+    ≡ Ok (record { n = 4; phased = true; constraints = record { hard = true; penalty = 1; class = Ca1 (0 ∷ []) 1 1 H (2 ∷ 3 ∷ []) } ∷ [] })
 unfolding attributes_at pieces_from walk
 instance_of-min_one = refl
 

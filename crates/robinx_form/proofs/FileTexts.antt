@@ -62,7 +62,7 @@ abbrev pub nine : List ℕ
 nine = text (replaced (replaced league_lines 7 1 ("<gameMode>NULL</gameMode>" ∷ [])) 27 0 (
     "<CapacityConstraints>"
     ∷ "<CA1 teams=\"0\" min=\"0\" max=\"0\" mode=\"H\" slots=\"2;3\" type=\"HARD\" penalty=\"1\"/>"
-    ∷ "<CA2 teams1=\"0\" teams2=\"1;2\" min=\"0\" max=\"1\" mode1=\"HA\" mode2=\"GLOBAL\" slots=\"0;1;2\" type=\"SOFT\" penalty=\"2\"/>"
+    ∷ "<CA2 teams1=\"0\" teams2=\"1;2\" min=\"1\" max=\"1\" mode1=\"HA\" mode2=\"GLOBAL\" slots=\"0;1;2\" type=\"SOFT\" penalty=\"2\"/>"
     ∷ "<CA3 teams1=\"0\" teams2=\"1;2;3\" min=\"0\" max=\"2\" mode1=\"H\" mode2=\"SLOTS\" intp=\"3\" type=\"SOFT\" penalty=\"5\"/>"
     ∷ "<CA4 teams1=\"0;1\" teams2=\"0;1\" min=\"0\" max=\"0\" mode1=\"A\" mode2=\"EVERY\" slots=\"0;5\" type=\"HARD\" penalty=\"1\"/>"
     ∷ "</CapacityConstraints>"

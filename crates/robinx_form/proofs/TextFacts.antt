@@ -18,7 +18,7 @@ pub instance_text-i4 : instance_text (record { n = 4; phased = true; constraints
 unfolding digits
 instance_text-i4 = refl
 
-pub instance_text-i4_ca1 : instance_text (record { n = 4; phased = true; constraints = record { hard = true; penalty = 1; class = Ca1 (0 ∷ []) 0 H (2 ∷ 3 ∷ []) } ∷ [] }) ≡ i4_ca1
+pub instance_text-i4_ca1 : instance_text (record { n = 4; phased = true; constraints = record { hard = true; penalty = 1; class = Ca1 (0 ∷ []) 0 0 H (2 ∷ 3 ∷ []) } ∷ [] }) ≡ i4_ca1
 unfolding digits
 instance_text-i4_ca1 = refl
 
@@ -27,16 +27,16 @@ nine_classes = record {
   n = 4;
   phased = false;
   constraints =
-      record { hard = true; penalty = 1; class = Ca1 (0 ∷ []) 0 H (2 ∷ 3 ∷ []) }
-      ∷ record { hard = false; penalty = 2; class = Ca2 (0 ∷ []) (1 ∷ 2 ∷ []) 1 Both (0 ∷ 1 ∷ 2 ∷ []) }
-      ∷ record { hard = false; penalty = 5; class = Ca3 (0 ∷ []) (1 ∷ 2 ∷ 3 ∷ []) 2 3 H }
-      ∷ record { hard = true; penalty = 1; class = Ca4 (0 ∷ 1 ∷ []) (0 ∷ 1 ∷ []) 0 A Every (0 ∷ 5 ∷ []) }
+      record { hard = true; penalty = 1; class = Ca1 (0 ∷ []) 0 0 H (2 ∷ 3 ∷ []) }
+      ∷ record { hard = false; penalty = 2; class = Ca2 (0 ∷ []) (1 ∷ 2 ∷ []) 1 1 Both (0 ∷ 1 ∷ 2 ∷ []) }
+      ∷ record { hard = false; penalty = 5; class = Ca3 (0 ∷ []) (1 ∷ 2 ∷ 3 ∷ []) 0 2 3 H }
+      ∷ record { hard = true; penalty = 1; class = Ca4 (0 ∷ 1 ∷ []) (0 ∷ 1 ∷ []) 0 0 A Every (0 ∷ 5 ∷ []) }
       ∷ record { hard = true; penalty = 1; class = Ga1 ((0, 1) ∷ (3, 2) ∷ []) 1 1 (0 ∷ []) }
       ∷ record { hard = false; penalty = 7; class = Br1 (0 ∷ []) 1 Both (0 ∷ 1 ∷ 2 ∷ []) }
       ∷ record { hard = true; penalty = 1; class = Br2 (0 ∷ 1 ∷ 2 ∷ 3 ∷ []) 4 [] }
       ∷ record { hard = false; penalty = 10; class = Fa2 (0 ∷ 1 ∷ 2 ∷ 3 ∷ []) 2 (0 ∷ 1 ∷ []) }
       ∷ record { hard = true; penalty = 10; class = Se1 (0 ∷ 1 ∷ []) 2 }
-      ∷ record { hard = true; penalty = 0; class = Ca1 [] 4294967295 A (2 ∷ []) }
+      ∷ record { hard = true; penalty = 0; class = Ca1 [] 0 4294967295 A (2 ∷ []) }
       ∷ [];
 }
 

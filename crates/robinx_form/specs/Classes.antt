@@ -30,21 +30,21 @@ class_of Ca1 n tag = do
   i ← teams_in n tag
   games ← demand.ca1 tag
   s ← slots_in n tag
-  Ok (class.Ca1 i games.0 games.1 s)
+  Ok (class.Ca1 i games.0 games.1 games.2 s)
 class_of Ca2 n tag = do
   i ← opponents n tag
   games ← demand.ca2 tag
   s ← slots_in n tag
-  Ok (class.Ca2 i.0 i.1 games.0 games.1 s)
+  Ok (class.Ca2 i.0 i.1 games.0 games.1 games.2 s)
 class_of Ca3 n tag = do
   i ← opponents n tag
   games ← demand.ca3 tag
-  Ok (class.Ca3 i.0 i.1 games.0 games.2 games.1)
+  Ok (class.Ca3 i.0 i.1 games.0 games.1 games.3 games.2)
 class_of Ca4 n tag = do
   i ← opponents n tag
   games ← demand.ca4 tag
   s ← slots_in n tag
-  Ok (class.Ca4 i.0 i.1 games.0 games.1 games.2 s)
+  Ok (class.Ca4 i.0 i.1 games.0 games.1 games.2 games.3 s)
 class_of Ga1 n tag = do
   pairs ← required (codes "meetings") (meetings n) tag
   games ← demand.ga1 tag

@@ -3,7 +3,7 @@
 use Rattle.std.specs.Prelude.{ℕ, List, Ok, codes}
 use Rattle.robinx_tags.specs.Fronts.{◌>>=◌}
 use Rattle.robinx_tags.specs.Tags.{Attribute}
-use Rattle.robinx_form.specs.Values.{Reading, required, optional, number, zero_only, above_zero, only}
+use Rattle.robinx_form.specs.Values.{Reading, required, optional, number, above_zero, only}
 use Rattle.robinx_form.specs.Words.{home_or_away, side, span}
 use Rattle.league.specs.declared.class.Side.{Side}
 use Rattle.league.specs.declared.class.Span.{Span}
@@ -16,47 +16,48 @@ number_in name tag = required name number tag
 abbrev pub only_in : List ℕ → List ℕ → List Attribute → Reading (Unit {0})
 only_in name word tag = optional name tt (only word) tag
 
--- at most so many games: a capacity class has no lower bound but 0, which may be absent
-abbrev pub most : List Attribute → Reading ℕ
-most tag = do
-  min ← optional (codes "min") 0 zero_only tag
-  number_in (codes "max") tag
+-- from so many games to so many: the lower bound of a capacity class is 0 where it is absent (own)
+abbrev pub bounds : List Attribute → Reading (ℕ × ℕ)
+bounds tag = do
+  min ← optional (codes "min") 0 number tag
+  max ← number_in (codes "max") tag
+  Ok (min, max)
 
--- CA1: at most so many games, at home or away
-abbrev pub ca1 : List Attribute → Reading (ℕ × Side)
+-- CA1: from so many games to so many, at home or away
+abbrev pub ca1 : List Attribute → Reading (ℕ × ℕ × Side)
 ca1 tag = do
-  max ← most tag
+  games ← bounds tag
   mode ← required (codes "mode") home_or_away tag
-  Ok (max, mode)
+  Ok (games.0, games.1, mode)
 
--- CA2, CA3 and CA4: at most so many games on a side
-abbrev pub most_on_side : List Attribute → Reading (ℕ × Side)
-most_on_side tag = do
-  max ← most tag
+-- CA2, CA3 and CA4: from so many games to so many, on a side
+abbrev pub bounds_on_side : List Attribute → Reading (ℕ × ℕ × Side)
+bounds_on_side tag = do
+  games ← bounds tag
   mode ← required (codes "mode1") side tag
-  Ok (max, mode)
+  Ok (games.0, games.1, mode)
 
 -- CA2: in all its slots together
-abbrev pub ca2 : List Attribute → Reading (ℕ × Side)
+abbrev pub ca2 : List Attribute → Reading (ℕ × ℕ × Side)
 ca2 tag = do
-  games ← most_on_side tag
+  games ← bounds_on_side tag
   global ← only_in (codes "mode2") (codes "GLOBAL") tag
   Ok games
 
 -- CA3: in each window of so many slots
-abbrev pub ca3 : List Attribute → Reading (ℕ × Side × ℕ)
+abbrev pub ca3 : List Attribute → Reading (ℕ × ℕ × Side × ℕ)
 ca3 tag = do
-  games ← most_on_side tag
+  games ← bounds_on_side tag
   in_slots ← only_in (codes "mode2") (codes "SLOTS") tag
   intp ← required (codes "intp") above_zero tag
-  Ok (games.0, games.1, intp)
+  Ok (games.0, games.1, games.2, intp)
 
 -- CA4: in all its slots together, or in each of them
-abbrev pub ca4 : List Attribute → Reading (ℕ × Side × Span)
+abbrev pub ca4 : List Attribute → Reading (ℕ × ℕ × Side × Span)
 ca4 tag = do
-  games ← most_on_side tag
+  games ← bounds_on_side tag
   over ← required (codes "mode2") span tag
-  Ok (games.0, games.1, over)
+  Ok (games.0, games.1, games.2, over)
 
 -- GA1: from so many games to so many
 abbrev pub ga1 : List Attribute → Reading (ℕ × ℕ)

@@ -53,16 +53,16 @@ group_of name.Se1 = Separation
 
 -- a class's attributes; those that a file may leave out are written
 abbrev pub class_attributes : Class → List Attribute
-class_attributes (Ca1 teams max side slots) =
-    ids "teams" teams ∷ count "min" 0 ∷ count "max" max ∷ word "mode" (side_word side) ∷ ids "slots" slots ∷ []
-class_attributes (Ca2 teams1 teams2 max side slots) =
-    ids "teams1" teams1 ∷ ids "teams2" teams2 ∷ count "min" 0 ∷ count "max" max ∷ word "mode1" (side_word side)
+class_attributes (Ca1 teams min max side slots) =
+    ids "teams" teams ∷ count "min" min ∷ count "max" max ∷ word "mode" (side_word side) ∷ ids "slots" slots ∷ []
+class_attributes (Ca2 teams1 teams2 min max side slots) =
+    ids "teams1" teams1 ∷ ids "teams2" teams2 ∷ count "min" min ∷ count "max" max ∷ word "mode1" (side_word side)
     ∷ word "mode2" "GLOBAL" ∷ ids "slots" slots ∷ []
-class_attributes (Ca3 teams1 teams2 max intp side) =
-    ids "teams1" teams1 ∷ ids "teams2" teams2 ∷ count "min" 0 ∷ count "max" max ∷ word "mode1" (side_word side)
+class_attributes (Ca3 teams1 teams2 min max intp side) =
+    ids "teams1" teams1 ∷ ids "teams2" teams2 ∷ count "min" min ∷ count "max" max ∷ word "mode1" (side_word side)
     ∷ word "mode2" "SLOTS" ∷ count "intp" intp ∷ []
-class_attributes (Ca4 teams1 teams2 max side span slots) =
-    ids "teams1" teams1 ∷ ids "teams2" teams2 ∷ count "min" 0 ∷ count "max" max ∷ word "mode1" (side_word side)
+class_attributes (Ca4 teams1 teams2 min max side span slots) =
+    ids "teams1" teams1 ∷ ids "teams2" teams2 ∷ count "min" min ∷ count "max" max ∷ word "mode1" (side_word side)
     ∷ word "mode2" (span_word span) ∷ ids "slots" slots ∷ []
 class_attributes (Ga1 meetings min max slots) =
     pairs "meetings" meetings ∷ count "min" min ∷ count "max" max ∷ ids "slots" slots ∷ []

@@ -113,13 +113,6 @@ choice texts text = elim (find (λ t. bytes_eq text (codes t.0)) texts) [
 abbrev pub only : List ℕ → List ℕ → Reading (Unit {0})
 only one text = check (bytes_eq text one) kind.BadChoice
 
--- the number 0
-abbrev pub zero_only : List ℕ → Reading ℕ
-zero_only text = do
-  n ← number text
-  zero ← check (n == 0) kind.BadChoice
-  Ok n
-
 -- a number that isn't 0
 abbrev pub above_zero : List ℕ → Reading ℕ
 above_zero text = do

@@ -63,12 +63,12 @@ module _ (m n : ℕ) (le : m ≤ n) where
       both_later (are_teams m ts && are_teams m us) (are_slots m ss) (are_teams n ts && are_teams n us) (are_slots n ss) (opponents_later ts us) (slots_later ss) h
 
   pub class_fits_later : (c : Class) → class_fits m c ≡ true → class_fits n c ≡ true
-  class_fits_later (class.Ca1 teams max side slots) h =
+  class_fits_later (class.Ca1 teams min max side slots) h =
       both_later (are_teams m teams && are_slots m slots) (is_one_side side) (are_teams n teams && are_slots n slots) (is_one_side side) (two_later teams slots) (λ same. same) h
-  class_fits_later (class.Ca2 teams1 teams2 max side slots) h = three_later teams1 teams2 slots h
-  class_fits_later (class.Ca3 teams1 teams2 max intp side) h =
+  class_fits_later (class.Ca2 teams1 teams2 min max side slots) h = three_later teams1 teams2 slots h
+  class_fits_later (class.Ca3 teams1 teams2 min max intp side) h =
       both_later (are_teams m teams1 && are_teams m teams2) (nat_lt 0 intp) (are_teams n teams1 && are_teams n teams2) (nat_lt 0 intp) (opponents_later teams1 teams2) (λ same. same) h
-  class_fits_later (class.Ca4 teams1 teams2 max side span slots) h = three_later teams1 teams2 slots h
+  class_fits_later (class.Ca4 teams1 teams2 min max side span slots) h = three_later teams1 teams2 slots h
   class_fits_later (class.Ga1 meetings min max slots) h =
       both_later (are_meetings m meetings) (are_slots m slots) (are_meetings n meetings) (are_slots n slots) (meetings_later meetings) (slots_later slots) h
   class_fits_later (class.Br1 teams intp side slots) h = two_later teams slots h

@@ -31,10 +31,11 @@ fn ca1_of(alloc: Global, n: u16, tag: &Attrs) -> Result<Class, Stop>
     ensures fits { IfOk result (λ class. class_fits n class ≡ true) }
 {
     let teams = teams_in(alloc, tag, b"teams", n)?;
-    let (max, side) = ca1_in(tag)?;
+    let (min, max, side) = ca1_in(tag)?;
     let slots = slots_in(alloc, tag, b"slots", n)?;
     Ok(Class::Ca1 {
         teams,
+        min,
         max,
         side,
         slots,
@@ -47,11 +48,12 @@ fn ca2_of(alloc: Global, n: u16, tag: &Attrs) -> Result<Class, Stop>
     ensures fits { IfOk result (λ class. class_fits n class ≡ true) }
 {
     let (teams1, teams2) = opponents_in(alloc, n, tag)?;
-    let (max, side) = ca2_in(tag)?;
+    let (min, max, side) = ca2_in(tag)?;
     let slots = slots_in(alloc, tag, b"slots", n)?;
     Ok(Class::Ca2 {
         teams1,
         teams2,
+        min,
         max,
         side,
         slots,
@@ -63,10 +65,11 @@ fn ca3_of(alloc: Global, n: u16, tag: &Attrs) -> Result<Class, Stop>
     ensures fits { IfOk result (λ class. class_fits n class ≡ true) }
 {
     let (teams1, teams2) = opponents_in(alloc, n, tag)?;
-    let (max, side, intp) = ca3_in(tag)?;
+    let (min, max, side, intp) = ca3_in(tag)?;
     Ok(Class::Ca3 {
         teams1,
         teams2,
+        min,
         max,
         intp,
         side,
@@ -79,11 +82,12 @@ fn ca4_of(alloc: Global, n: u16, tag: &Attrs) -> Result<Class, Stop>
     ensures fits { IfOk result (λ class. class_fits n class ≡ true) }
 {
     let (teams1, teams2) = opponents_in(alloc, n, tag)?;
-    let (max, side, span) = ca4_in(tag)?;
+    let (min, max, side, span) = ca4_in(tag)?;
     let slots = slots_in(alloc, tag, b"slots", n)?;
     Ok(Class::Ca4 {
         teams1,
         teams2,
+        min,
         max,
         side,
         span,

@@ -60,17 +60,6 @@ pub(crate) fn number_or(attrs: &Attrs, name: &[u8], absent: u32) -> Result<u32, 
     }
 }
 
-/// The number 0, which may be absent.
-pub(crate) fn zero_or_none(attrs: &Attrs, name: &[u8]) -> Result<u32, FormKind>
-    ensures { result ≡ values.optional name.now 0 values.zero_only attrs.now }
-{
-    let n = number_or(attrs, name, 0)?;
-    if n != 0 {
-        return Err(FormKind::BadChoice);
-    }
-    Ok(n)
-}
-
 /// A number that isn't 0.
 pub(crate) fn above_zero_in(attrs: &Attrs, name: &[u8]) -> Result<u32, FormKind>
     ensures { result ≡ values.required name.now values.above_zero attrs.now }

@@ -14,7 +14,7 @@ use Rattle.league.specs.declared.class.Span.TheVariants.{Global, Every}
 use Rattle.robinx_tags.specs.Tags.{Attribute}
 use Rattle.robinx_form.specs.Attributes.{word, count}
 use Rattle.robinx_form.specs.Texts.{side_word, span_word, type_word, constraint_attributes}
-use Rattle.robinx_form.specs.Values.{number, zero_only, above_zero}
+use Rattle.robinx_form.specs.Values.{above_zero}
 use Rattle.robinx_form.specs.Words as words
 use Rattle.robinx_form.specs.Words.{hardness, home_or_away}
 use Rattle.robinx_form.specs.Classes.{constraint_of}
@@ -46,42 +46,39 @@ span-read : (span : Span) → words.span (codes (span_word span)) ≡ Ok span
 span-read Global = refl
 span-read Every = refl
 
-zero-read : zero_only (decimal 0) ≡ Ok 0
-zero-read = let none : number (decimal 0) ≡ Ok 0 = number-decimal 0 (lit< tt) in rw none refl
-
 module _ (n : ℕ) (size : n ≤ 40) (hard : Bool) (penalty : ℕ) where
   abbrev Reads : ClassName → Class → Type 0
   Reads name class = IsHeld (made hard penalty class) → class_fits n class ≡ true → constraint_of name n ((constraint_attributes (made hard penalty class))) ≡ Ok (made hard penalty class)
 
-  ca1-read : (i : List ℕ) (max : ℕ) (side : Side) (s : List ℕ) → Reads names.Ca1 (Ca1 i max side s)
-  ca1-read i max side s held fits =
+  ca1-read : (i : List ℕ) (min max : ℕ) (side : Side) (s : List ℕ) → Reads names.Ca1 (Ca1 i min max side s)
+  ca1-read i min max side s held fits =
       let all = and_parts (are_teams n i && are_slots n s) (is_one_side side) fits in
       let sets = and_parts (are_teams n i) (are_slots n s) all.0 in
       let is_hard = hard-read hard in
       let is_penalty = number-decimal penalty held.0 in
       let is_teams = teams-joined n i size sets.0 in
-      let is_zero = zero-read in
-      let is_max = number-decimal max held.1 in
+      let is_min = number-decimal min held.1.0 in
+      let is_max = number-decimal max held.1.1 in
       let is_side = one_side-read side all.1 in
       let is_slots = slots-joined n s size sets.1 in
-      rw (is_hard, is_penalty, is_teams, is_zero, is_max, is_side, is_slots) refl
+      rw (is_hard, is_penalty, is_teams, is_min, is_max, is_side, is_slots) refl
 
-  ca2-read : (i j : List ℕ) (max : ℕ) (side : Side) (s : List ℕ) → Reads names.Ca2 (Ca2 i j max side s)
-  ca2-read i j max side s held fits =
+  ca2-read : (i j : List ℕ) (min max : ℕ) (side : Side) (s : List ℕ) → Reads names.Ca2 (Ca2 i j min max side s)
+  ca2-read i j min max side s held fits =
       let all = and_parts (are_teams n i && are_teams n j) (are_slots n s) fits in
       let sets = and_parts (are_teams n i) (are_teams n j) all.0 in
       let is_hard = hard-read hard in
       let is_penalty = number-decimal penalty held.0 in
       let is_first = teams-joined n i size sets.0 in
       let is_second = teams-joined n j size sets.1 in
-      let is_zero = zero-read in
-      let is_max = number-decimal max held.1 in
+      let is_min = number-decimal min held.1.0 in
+      let is_max = number-decimal max held.1.1 in
       let is_side = side-read side in
       let is_slots = slots-joined n s size all.1 in
-      rw (is_hard, is_penalty, is_first, is_second, is_zero, is_max, is_side, is_slots) refl
+      rw (is_hard, is_penalty, is_first, is_second, is_min, is_max, is_side, is_slots) refl
 
-  ca3-read : (i j : List ℕ) (max intp : ℕ) (side : Side) → Reads names.Ca3 (Ca3 i j max intp side)
-  ca3-read i j max intp side held fits =
+  ca3-read : (i j : List ℕ) (min max intp : ℕ) (side : Side) → Reads names.Ca3 (Ca3 i j min max intp side)
+  ca3-read i j min max intp side held fits =
       let all = and_parts (are_teams n i && are_teams n j) (nat_lt 0 intp) fits in
       let sets = and_parts (are_teams n i) (are_teams n j) all.0 in
       let above : nat_lt 0 intp ≡ true = all.1 in
@@ -89,27 +86,27 @@ module _ (n : ℕ) (size : n ≤ 40) (hard : Bool) (penalty : ℕ) where
       let is_penalty = number-decimal penalty held.0 in
       let is_first = teams-joined n i size sets.0 in
       let is_second = teams-joined n j size sets.1 in
-      let is_zero = zero-read in
-      let is_max = number-decimal max held.1.0 in
+      let is_min = number-decimal min held.1.0 in
+      let is_max = number-decimal max held.1.1 in
       let is_side = side-read side in
-      let is_number = number-decimal intp held.1.1 in
+      let is_number = number-decimal intp held.1.2 in
       let is_intp : above_zero (decimal intp) ≡ Ok intp = rw (is_number, above) refl in
-      rw (is_hard, is_penalty, is_first, is_second, is_zero, is_max, is_side, is_intp) refl
+      rw (is_hard, is_penalty, is_first, is_second, is_min, is_max, is_side, is_intp) refl
 
-  ca4-read : (i j : List ℕ) (max : ℕ) (side : Side) (span : Span) (s : List ℕ) → Reads names.Ca4 (Ca4 i j max side span s)
-  ca4-read i j max side span s held fits =
+  ca4-read : (i j : List ℕ) (min max : ℕ) (side : Side) (span : Span) (s : List ℕ) → Reads names.Ca4 (Ca4 i j min max side span s)
+  ca4-read i j min max side span s held fits =
       let all = and_parts (are_teams n i && are_teams n j) (are_slots n s) fits in
       let sets = and_parts (are_teams n i) (are_teams n j) all.0 in
       let is_hard = hard-read hard in
       let is_penalty = number-decimal penalty held.0 in
       let is_first = teams-joined n i size sets.0 in
       let is_second = teams-joined n j size sets.1 in
-      let is_zero = zero-read in
-      let is_max = number-decimal max held.1 in
+      let is_min = number-decimal min held.1.0 in
+      let is_max = number-decimal max held.1.1 in
       let is_side = side-read side in
       let is_span = span-read span in
       let is_slots = slots-joined n s size all.1 in
-      rw (is_hard, is_penalty, is_first, is_second, is_zero, is_max, is_side, is_span, is_slots) refl
+      rw (is_hard, is_penalty, is_first, is_second, is_min, is_max, is_side, is_span, is_slots) refl
 
   ga1-read : (ps : List (ℕ × ℕ)) (min max : ℕ) (s : List ℕ) → Reads names.Ga1 (Ga1 ps min max s)
   ga1-read ps min max s held fits =
@@ -162,10 +159,10 @@ module _ (n : ℕ) (size : n ≤ 40) (hard : Bool) (penalty : ℕ) where
       rw (is_hard, is_penalty, is_teams, is_min) refl
 
 read_by : (n : ℕ) (size : n ≤ 40) (hard : Bool) (penalty : ℕ) (c : Class) → Reads n size hard penalty (name_of c) c
-read_by n size hard penalty (Ca1 i max side s) = ca1-read n size hard penalty i max side s
-read_by n size hard penalty (Ca2 i j max side s) = ca2-read n size hard penalty i j max side s
-read_by n size hard penalty (Ca3 i j max intp side) = ca3-read n size hard penalty i j max intp side
-read_by n size hard penalty (Ca4 i j max side span s) = ca4-read n size hard penalty i j max side span s
+read_by n size hard penalty (Ca1 i min max side s) = ca1-read n size hard penalty i min max side s
+read_by n size hard penalty (Ca2 i j min max side s) = ca2-read n size hard penalty i j min max side s
+read_by n size hard penalty (Ca3 i j min max intp side) = ca3-read n size hard penalty i j min max intp side
+read_by n size hard penalty (Ca4 i j min max side span s) = ca4-read n size hard penalty i j min max side span s
 read_by n size hard penalty (Ga1 ps min max s) = ga1-read n size hard penalty ps min max s
 read_by n size hard penalty (Br1 i intp side s) = br1-read n size hard penalty i intp side s
 read_by n size hard penalty (Br2 i intp s) = br2-read n size hard penalty i intp s
@@ -192,14 +189,14 @@ span-plain Global = refl
 span-plain Every = refl
 
 plain_by : (hard : Bool) (penalty : ℕ) (c : Class) → are_plain_values (constraint_attributes (made hard penalty c)) ≡ true
-plain_by hard penalty (Ca1 i max side s) =
-    rw (joined-plain i, decimal-plain 0, decimal-plain max, side-plain side, joined-plain s, hard-plain hard, decimal-plain penalty) refl
-plain_by hard penalty (Ca2 i j max side s) =
-    rw (joined-plain i, joined-plain j, decimal-plain 0, decimal-plain max, side-plain side, joined-plain s, hard-plain hard, decimal-plain penalty) refl
-plain_by hard penalty (Ca3 i j max intp side) =
-    rw (joined-plain i, joined-plain j, decimal-plain 0, decimal-plain max, side-plain side, decimal-plain intp, hard-plain hard, decimal-plain penalty) refl
-plain_by hard penalty (Ca4 i j max side span s) =
-    rw (joined-plain i, joined-plain j, decimal-plain 0, decimal-plain max, side-plain side, span-plain span, joined-plain s, hard-plain hard, decimal-plain penalty) refl
+plain_by hard penalty (Ca1 i min max side s) =
+    rw (joined-plain i, decimal-plain min, decimal-plain max, side-plain side, joined-plain s, hard-plain hard, decimal-plain penalty) refl
+plain_by hard penalty (Ca2 i j min max side s) =
+    rw (joined-plain i, joined-plain j, decimal-plain min, decimal-plain max, side-plain side, joined-plain s, hard-plain hard, decimal-plain penalty) refl
+plain_by hard penalty (Ca3 i j min max intp side) =
+    rw (joined-plain i, joined-plain j, decimal-plain min, decimal-plain max, side-plain side, decimal-plain intp, hard-plain hard, decimal-plain penalty) refl
+plain_by hard penalty (Ca4 i j min max side span s) =
+    rw (joined-plain i, joined-plain j, decimal-plain min, decimal-plain max, side-plain side, span-plain span, joined-plain s, hard-plain hard, decimal-plain penalty) refl
 plain_by hard penalty (Ga1 ps min max s) =
     rw (pairs-plain ps, decimal-plain min, decimal-plain max, joined-plain s, hard-plain hard, decimal-plain penalty) refl
 plain_by hard penalty (Br1 i intp side s) =
@@ -215,10 +212,10 @@ pub values-plain : (c : Constraint) → are_plain_values (constraint_attributes 
 values-plain c = plain_by c.hard c.penalty c.class
 
 new_by : (hard : Bool) (penalty : ℕ) (c : Class) → are_new [] (constraint_attributes (made hard penalty c)) ≡ true
-new_by hard penalty (Ca1 i max side s) = refl
-new_by hard penalty (Ca2 i j max side s) = refl
-new_by hard penalty (Ca3 i j max intp side) = refl
-new_by hard penalty (Ca4 i j max side span s) = refl
+new_by hard penalty (Ca1 i min max side s) = refl
+new_by hard penalty (Ca2 i j min max side s) = refl
+new_by hard penalty (Ca3 i j min max intp side) = refl
+new_by hard penalty (Ca4 i j min max side span s) = refl
 new_by hard penalty (Ga1 ps min max s) = refl
 new_by hard penalty (Br1 i intp side s) = refl
 new_by hard penalty (Br2 i intp s) = refl
@@ -229,10 +226,10 @@ pub names-new : (c : Constraint) → are_new [] (constraint_attributes c) ≡ tr
 names-new c = new_by c.hard c.penalty c.class
 
 few_by : (hard : Bool) (penalty : ℕ) (c : Class) → length (constraint_attributes (made hard penalty c)) ≤ 64
-few_by hard penalty (Ca1 i max side s) = omega arith
-few_by hard penalty (Ca2 i j max side s) = omega arith
-few_by hard penalty (Ca3 i j max intp side) = omega arith
-few_by hard penalty (Ca4 i j max side span s) = omega arith
+few_by hard penalty (Ca1 i min max side s) = omega arith
+few_by hard penalty (Ca2 i j min max side s) = omega arith
+few_by hard penalty (Ca3 i j min max intp side) = omega arith
+few_by hard penalty (Ca4 i j min max side span s) = omega arith
 few_by hard penalty (Ga1 ps min max s) = omega arith
 few_by hard penalty (Br1 i intp side s) = omega arith
 few_by hard penalty (Br2 i intp s) = omega arith
@@ -243,10 +240,10 @@ pub attributes-few : (c : Constraint) → length (constraint_attributes c) ≤ 6
 attributes-few c = few_by c.hard c.penalty c.class
 
 pub class_name-plain : (c : Class) → is_plain_name (codes (name_text (name_of c))) ≡ true
-class_name-plain (Ca1 i max side s) = refl
-class_name-plain (Ca2 i j max side s) = refl
-class_name-plain (Ca3 i j max intp side) = refl
-class_name-plain (Ca4 i j max side span s) = refl
+class_name-plain (Ca1 i min max side s) = refl
+class_name-plain (Ca2 i j min max side s) = refl
+class_name-plain (Ca3 i j min max intp side) = refl
+class_name-plain (Ca4 i j min max side span s) = refl
 class_name-plain (Ga1 ps min max s) = refl
 class_name-plain (Br1 i intp side s) = refl
 class_name-plain (Br2 i intp s) = refl

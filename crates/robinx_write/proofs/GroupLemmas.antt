@@ -78,10 +78,10 @@ module _ (line : ℕ) (outer : List Open) where
 
   class-stands : (c : Class) (attributes : List Attribute) (g : GroupName) (at start : ℕ) (draft next : Draft) → with_constraint (name_of c) attributes draft ≡ Ok next
       → at_piece instance_meaning Empty (tag Empty (codes (name_text (name_of c))) attributes at) (within start g draft) ≡ Ok (within start g next)
-  class-stands (Ca1 i max side s) attributes g at start draft next is = rw is refl
-  class-stands (Ca2 i j max side s) attributes g at start draft next is = rw is refl
-  class-stands (Ca3 i j max intp side) attributes g at start draft next is = rw is refl
-  class-stands (Ca4 i j max side span s) attributes g at start draft next is = rw is refl
+  class-stands (Ca1 i min max side s) attributes g at start draft next is = rw is refl
+  class-stands (Ca2 i j min max side s) attributes g at start draft next is = rw is refl
+  class-stands (Ca3 i j min max intp side) attributes g at start draft next is = rw is refl
+  class-stands (Ca4 i j min max side span s) attributes g at start draft next is = rw is refl
   class-stands (Ga1 ps min max s) attributes g at start draft next is = rw is refl
   class-stands (Br1 i intp side s) attributes g at start draft next is = rw is refl
   class-stands (Br2 i intp s) attributes g at start draft next is = rw is refl

@@ -6,10 +6,10 @@ use Rattle.league.specs.declared.class.Constraint.{Constraint}
 
 -- the numbers of a class
 abbrev pub IsHeldClass : Class → Type 0
-IsHeldClass (Ca1 teams max side slots) = max < 2 ^ 32
-IsHeldClass (Ca2 teams1 teams2 max side slots) = max < 2 ^ 32
-IsHeldClass (Ca3 teams1 teams2 max intp side) = (max < 2 ^ 32) × (intp < 2 ^ 32)
-IsHeldClass (Ca4 teams1 teams2 max side span slots) = max < 2 ^ 32
+IsHeldClass (Ca1 teams min max side slots) = (min < 2 ^ 32) × (max < 2 ^ 32)
+IsHeldClass (Ca2 teams1 teams2 min max side slots) = (min < 2 ^ 32) × (max < 2 ^ 32)
+IsHeldClass (Ca3 teams1 teams2 min max intp side) = (min < 2 ^ 32) × (max < 2 ^ 32) × (intp < 2 ^ 32)
+IsHeldClass (Ca4 teams1 teams2 min max side span slots) = (min < 2 ^ 32) × (max < 2 ^ 32)
 IsHeldClass (Ga1 meetings min max slots) = (min < 2 ^ 32) × (max < 2 ^ 32)
 IsHeldClass (Br1 teams intp side slots) = intp < 2 ^ 32
 IsHeldClass (Br2 teams intp slots) = intp < 2 ^ 32

@@ -46,17 +46,18 @@ fn span_word(span: Span) -> &'static str
 fn put_ca1<'a>(
     text: &mut Vec<u8>,
     teams: &'a TeamSet,
+    min: u32,
     max: u32,
     side: Side,
     slots: &'a SlotSet,
 ) -> Result<(), AllocError>
     ensures written { OnOk result
-        (text.new.items ≡ text.old.items ++ class_text (Class.Ca1 teams.now max side slots.now)) }
-    ensures held { IsHeldClass (Class.Ca1 teams.now max side slots.now) }
+        (text.new.items ≡ text.old.items ++ class_text (Class.Ca1 teams.now min max side slots.now)) }
+    ensures held { IsHeldClass (Class.Ca1 teams.now min max side slots.now) }
 {
     let attributes = [
         NamedValue("teams", Value::Ids(teams.numbers())),
-        NamedValue("min", Value::Count(0)),
+        NamedValue("min", Value::Count(u128::from(min))),
         NamedValue("max", Value::Count(u128::from(max))),
         NamedValue("mode", Value::Word(side_word(side))),
         NamedValue("slots", Value::Ids(slots.numbers())),
@@ -69,18 +70,19 @@ fn put_ca2<'a>(
     text: &mut Vec<u8>,
     teams1: &'a TeamSet,
     teams2: &'a TeamSet,
+    min: u32,
     max: u32,
     side: Side,
     slots: &'a SlotSet,
 ) -> Result<(), AllocError>
     ensures written { OnOk result
-        (text.new.items ≡ text.old.items ++ class_text (Class.Ca2 teams1.now teams2.now max side slots.now)) }
-    ensures held { IsHeldClass (Class.Ca2 teams1.now teams2.now max side slots.now) }
+        (text.new.items ≡ text.old.items ++ class_text (Class.Ca2 teams1.now teams2.now min max side slots.now)) }
+    ensures held { IsHeldClass (Class.Ca2 teams1.now teams2.now min max side slots.now) }
 {
     let attributes = [
         NamedValue("teams1", Value::Ids(teams1.numbers())),
         NamedValue("teams2", Value::Ids(teams2.numbers())),
-        NamedValue("min", Value::Count(0)),
+        NamedValue("min", Value::Count(u128::from(min))),
         NamedValue("max", Value::Count(u128::from(max))),
         NamedValue("mode1", Value::Word(side_word(side))),
         NamedValue("mode2", Value::Word("GLOBAL")),
@@ -94,18 +96,19 @@ fn put_ca3<'a>(
     text: &mut Vec<u8>,
     teams1: &'a TeamSet,
     teams2: &'a TeamSet,
+    min: u32,
     max: u32,
     intp: u32,
     side: Side,
 ) -> Result<(), AllocError>
     ensures written { OnOk result
-        (text.new.items ≡ text.old.items ++ class_text (Class.Ca3 teams1.now teams2.now max intp side)) }
-    ensures held { IsHeldClass (Class.Ca3 teams1.now teams2.now max intp side) }
+        (text.new.items ≡ text.old.items ++ class_text (Class.Ca3 teams1.now teams2.now min max intp side)) }
+    ensures held { IsHeldClass (Class.Ca3 teams1.now teams2.now min max intp side) }
 {
     let attributes = [
         NamedValue("teams1", Value::Ids(teams1.numbers())),
         NamedValue("teams2", Value::Ids(teams2.numbers())),
-        NamedValue("min", Value::Count(0)),
+        NamedValue("min", Value::Count(u128::from(min))),
         NamedValue("max", Value::Count(u128::from(max))),
         NamedValue("mode1", Value::Word(side_word(side))),
         NamedValue("mode2", Value::Word("SLOTS")),
@@ -119,19 +122,20 @@ fn put_ca4<'a>(
     text: &mut Vec<u8>,
     teams1: &'a TeamSet,
     teams2: &'a TeamSet,
+    min: u32,
     max: u32,
     side: Side,
     span: Span,
     slots: &'a SlotSet,
 ) -> Result<(), AllocError>
     ensures written { OnOk result
-        (text.new.items ≡ text.old.items ++ class_text (Class.Ca4 teams1.now teams2.now max side span slots.now)) }
-    ensures held { IsHeldClass (Class.Ca4 teams1.now teams2.now max side span slots.now) }
+        (text.new.items ≡ text.old.items ++ class_text (Class.Ca4 teams1.now teams2.now min max side span slots.now)) }
+    ensures held { IsHeldClass (Class.Ca4 teams1.now teams2.now min max side span slots.now) }
 {
     let attributes = [
         NamedValue("teams1", Value::Ids(teams1.numbers())),
         NamedValue("teams2", Value::Ids(teams2.numbers())),
-        NamedValue("min", Value::Count(0)),
+        NamedValue("min", Value::Count(u128::from(min))),
         NamedValue("max", Value::Count(u128::from(max))),
         NamedValue("mode1", Value::Word(side_word(side))),
         NamedValue("mode2", Value::Word(span_word(span))),
@@ -246,32 +250,36 @@ fn put_capacity(text: &mut Vec<u8>, class: &Class) -> Result<(), AllocError>
     match class {
         Class::Ca1 {
             teams,
+            min,
             max,
             side,
             slots,
-        } => put_ca1(text, teams, *max, *side, slots),
+        } => put_ca1(text, teams, *min, *max, *side, slots),
         Class::Ca2 {
             teams1,
             teams2,
+            min,
             max,
             side,
             slots,
-        } => put_ca2(text, teams1, teams2, *max, *side, slots),
+        } => put_ca2(text, teams1, teams2, *min, *max, *side, slots),
         Class::Ca3 {
             teams1,
             teams2,
+            min,
             max,
             intp,
             side,
-        } => put_ca3(text, teams1, teams2, *max, *intp, *side),
+        } => put_ca3(text, teams1, teams2, *min, *max, *intp, *side),
         Class::Ca4 {
             teams1,
             teams2,
+            min,
             max,
             side,
             span,
             slots,
-        } => put_ca4(text, teams1, teams2, *max, *side, *span, slots),
+        } => put_ca4(text, teams1, teams2, *min, *max, *side, *span, slots),
         _ => unreachable!(),
     }
 }
