@@ -1,11 +1,12 @@
--- what the public contracts rest on
+-- What a reader of a claim must believe:
 pub mod Counts
 pub mod Numbers
 pub mod Written
 pub mod ShelfView
 pub mod Faults
 pub mod SinkView
--- how the types in memory are seen
+-- Kept inside (laws, and how fields are seen):
 pub mod Files
 pub mod ShelfFields
 pub mod SinkFields
+pub mod HostFields

@@ -1,5 +1,6 @@
 -- What a store in memory shows of its fields.
-use Rattle.std.specs.Prelude.{◌≤◌, map, drop, length, slice_get, option_map, option_and_then, MatchOption, IsSomeAnd, string_bytes, ⊤}
+use Rattle.std.specs.Prelude.{◌≤◌, ⊤, map, drop, length, slice_get, string_bytes}
+use Rattle.std.specs.Prelude.{option_map, option_and_then, MatchOption, IsSomeAnd}
 use Rattle.robin_io.specs.ShelfView.{ShelfView}
 use Rattle.robin_io.specs.Files.{file_view}
 use Rattle.robin_io.specs.declared.mem_shelf.MemShelf.TheInside.{Inside}
@@ -17,4 +18,5 @@ shelf_view s = record {
 
 -- the started place is one of a file
 abbrev pub IsWithinFile : Inside → Type 0
-IsWithinFile s = MatchOption s.started ⊤ (λ p. IsSomeAnd (slice_get s.files.items p.file) (λ f. p.at ≤ length f.bytes.items))
+IsWithinFile s =
+    MatchOption s.started ⊤ (λ p. IsSomeAnd (slice_get s.files.items p.file) (λ f. p.at ≤ length f.bytes.items))

@@ -1,12 +1,14 @@
 // The machine's files and its standard output: the trusted edge. What they give and keep is outside any proof.
-ghost use Rattle.std.specs.Prelude.{◌≡◌, ◌-◌, ◌^◌, ◌<◌, ◌≤◌, ℕ, List, IsSome, IsNone, None, length, take, IfOk, OnOk, OnErr, MatchResult};
+ghost use Rattle.std.specs.Prelude.{◌≡◌, ◌-◌, ◌^◌, ◌<◌, ◌≤◌, ℕ, List, None, length, take};
+ghost use Rattle.std.specs.Prelude.{IsSome, IsNone, IsSomeAnd, IfOk, OnOk, OnErr, MatchResult};
 ghost use Rattle.std.specs.Option.{option_and_then};
 ghost use Rattle.std.specs.Io.KnownBytes.{Keeps, Appends, Consumes, IsAtEnd};
 ghost use Rattle.robin_io.specs.Counts.{raised, HasCause, HasOneCause};
+ghost use Rattle.robin_io.specs.HostFields.{reader_of, bytes_taken, files_failed, writer_of, writes_failed};
 
 use crate::{Failed, Shelf, Sink};
 use std::fs;
-use std::io::{Read, Write};
+use std::io::{self, Read, Write};
 use std::rt::Files;
 
 /// The files of the machine. It tells no bytes, and keeps one count of faults for all names.
@@ -23,6 +25,7 @@ impl<R: Files> HostShelf<R> {
     pub fn new(rt: R) -> Self
         ensures taken { ⟦<HostShelf<R> as Shelf>⟧.taken result ≡ 0 }
         ensures faults { (n : List ℕ) → ⟦<HostShelf<R> as Shelf>⟧.faults result n ≡ 0 }
+        ensures started { IsNone (reader_of result) }
     {
         HostShelf {
             rt,
@@ -33,54 +36,74 @@ impl<R: Files> HostShelf<R> {
     }
 }
 
+/// Keeps what was opened as the started file, with nothing read of it. Where it can't be opened, no file is started.
+fn keep_opened<F: Read + Drop>(opened: io::Result<F>, kept: &mut Option<F>) -> Result<(), Failed>
+    ensures unread { IfOk opened (λ file. IsSomeAnd kept.new (λ reader. F.remaining reader ≡ F.remaining file)) }
+    ensures started { MatchResult result (λ _. IsSome kept.new) (λ _. IsNone kept.new) }
+{
+    match opened {
+        Ok(file) => {
+            *kept = Some(file);
+            Ok(())
+        }
+        Err(_) => {
+            *kept = None;
+            Err(Failed)
+        }
+    }
+}
+
 impl<R: Files> Shelf for HostShelf<R> {
     ghost contents = { λ s name. None };
 
-    ghost started = { λ s name. IsSome s.file };
+    ghost started = { λ s name. IsSome (reader_of s) };
 
     ghost left = { λ s. None };
 
-    ghost taken = { λ s. s.taken };
+    ghost taken = { bytes_taken };
 
-    ghost faults = { λ s name. s.faults };
+    ghost faults = { λ s name. files_failed s };
 
     // The clauses of the trait, and then how faults are counted: a file that can't be opened drops the one before.
     fn start(&mut self, name: &str) -> Result<(), Failed>
-        ensures started { OnOk result (IsSome self.new.file) }
-        ensures taken { self.new.taken ≡ self.old.taken }
-        ensures last { self.new.taken ≤ 2 ^ 64 - 1 }
-        ensures cause { HasCause (λ _. self.old.faults) (λ _. self.new.faults) name.now result }
+        ensures started { OnOk result (IsSome (reader_of self.new)) }
+        ensures taken { bytes_taken self.new ≡ bytes_taken self.old }
+        ensures last { bytes_taken self.new ≤ 2 ^ 64 - 1 }
+        ensures cause { HasCause (λ _. files_failed self.old) (λ _. files_failed self.new) name.now result }
 
-        ensures faults { MatchResult result (λ _. self.new.faults ≡ self.old.faults) (λ _. self.new.faults ≡ raised self.old.faults 1) }
-        ensures stopped { OnErr result (IsNone self.new.file) }
+        ensures faults { MatchResult result
+            (λ _. files_failed self.new ≡ files_failed self.old)
+            (λ _. files_failed self.new ≡ raised (files_failed self.old) 1) }
+        ensures stopped { OnErr result (IsNone (reader_of self.new)) }
     {
         // A field behind a `&mut` has its type's range only once it is read, and `last` needs it.
         let _taken = self.taken;
-        match fs::open(&self.rt, name) {
-            Ok(file) => {
-                self.file = Some(file);
-                Ok(())
-            }
-            Err(_) => {
-                self.file = None;
+        match keep_opened(fs::open(&self.rt, name), &mut self.file) {
+            Ok(()) => Ok(()),
+            Err(failed) => {
                 self.faults = self.faults.saturating_add(1);
-                Err(Failed)
+                Err(failed)
             }
         }
     }
 
     // The same, and that the room gets what the file's reader gives.
     fn take(&mut self, name: &str, room: &mut [u8]) -> Result<usize, Failed>
-        requires { IsSome self.old.file }
-        ensures started { IsSome self.new.file }
+        requires { IsSome (reader_of self.old) }
+        ensures started { IsSome (reader_of self.new) }
         ensures count { IfOk result (λ k. k ≤ length room.new) }
-        ensures taken { IfOk result (λ k. self.new.taken ≡ raised self.old.taken k) }
-        ensures err { OnErr result (self.new.taken ≡ self.old.taken) }
-        ensures cause { HasCause (λ _. self.old.faults) (λ _. self.new.faults) name.now result }
+        ensures taken { IfOk result (λ k. bytes_taken self.new ≡ raised (bytes_taken self.old) k) }
+        ensures err { OnErr result (bytes_taken self.new ≡ bytes_taken self.old) }
+        ensures cause { HasCause (λ _. files_failed self.old) (λ _. files_failed self.new) name.now result }
 
-        ensures faults { MatchResult result (λ _. self.new.faults ≡ self.old.faults) (λ _. self.new.faults ≡ raised self.old.faults 1) }
-        ensures given { IfOk result (λ k. Consumes (option_and_then R.File.remaining self.old.file) (option_and_then R.File.remaining self.new.file) (take k room.new)) }
-        ensures end { IfOk result (λ k. k ≡ 0 → 0 < length room.new → IsAtEnd (option_and_then R.File.remaining self.new.file)) }
+        ensures faults { MatchResult result
+            (λ _. files_failed self.new ≡ files_failed self.old)
+            (λ _. files_failed self.new ≡ raised (files_failed self.old) 1) }
+        ensures given { IfOk result (λ k. Consumes
+            (option_and_then R.File.remaining (reader_of self.old))
+            (option_and_then R.File.remaining (reader_of self.new)) (take k room.new)) }
+        ensures end { IfOk result (λ k. k ≡ 0 → 0 < length room.new →
+            IsAtEnd (option_and_then R.File.remaining (reader_of self.new))) }
     {
         match &mut self.file {
             None => unreachable!(),
@@ -106,9 +129,10 @@ pub struct HostSink<W: Write> {
 }
 
 impl<W: Write> HostSink<W> {
-    /// Nothing has failed.
+    /// Nothing has failed, and nothing is put to the writer.
     pub fn new(out: W) -> Self
-        ensures { ⟦<HostSink<W> as Sink>⟧.faults result ≡ 0 }
+        ensures faults { ⟦<HostSink<W> as Sink>⟧.faults result ≡ 0 }
+        ensures kept { Keeps (W.contents out) (W.contents (writer_of result)) }
     {
         HostSink { out, faults: 0 }
     }
@@ -117,18 +141,21 @@ impl<W: Write> HostSink<W> {
 impl<W: Write> Sink for HostSink<W> {
     ghost written = { λ s. None };
 
-    ghost faults = { λ s. s.faults };
+    ghost faults = { writes_failed };
 
     // A write that takes nothing of a piece that isn't empty counts as a fault.
     // The clauses of the trait, and then how faults are counted, and that the writer gets what is put.
     fn put(&mut self, piece: &[u8]) -> Result<usize, Failed>
         ensures most { IfOk result (λ k. k ≤ length piece.now) }
         ensures some { IfOk result (λ k. 0 < length piece.now → 0 < k) }
-        ensures cause { HasOneCause self.old.faults self.new.faults result }
+        ensures cause { HasOneCause (writes_failed self.old) (writes_failed self.new) result }
 
-        ensures faults { MatchResult result (λ _. self.new.faults ≡ self.old.faults) (λ _. self.new.faults ≡ raised self.old.faults 1) }
-        ensures handed_on { IfOk result (λ k. Appends (W.contents self.old.out) (W.contents self.new.out) (take k piece.now)) }
-        ensures kept { OnErr result (Keeps (W.contents self.old.out) (W.contents self.new.out)) }
+        ensures faults { MatchResult result
+            (λ _. writes_failed self.new ≡ writes_failed self.old)
+            (λ _. writes_failed self.new ≡ raised (writes_failed self.old) 1) }
+        ensures handed_on { IfOk result (λ k.
+            Appends (W.contents (writer_of self.old)) (W.contents (writer_of self.new)) (take k piece.now)) }
+        ensures kept { OnErr result (Keeps (W.contents (writer_of self.old)) (W.contents (writer_of self.new))) }
     {
         match self.out.write(piece) {
             Ok(count) if count > 0 || piece.is_empty() => Ok(count),

@@ -1,4 +1,4 @@
-//! The outside of robin: stores of files that are read, places that bytes are written to, and decimal numbers.
+//! The outside of robin: stores of files that are read, sinks that bytes are written to, and decimal numbers.
 //!
 //! A contract sees a store by the bytes that it tells, if it tells any, and by counts that never fall.
 #![tactic(auto)]

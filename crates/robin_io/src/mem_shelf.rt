@@ -1,5 +1,7 @@
 // A store of files in memory.
-ghost use Rattle.std.specs.Prelude.{◌≡◌, ◌≢◌, ◌-◌, ◌^◌, ◌<◌, ◌≤◌, ◌↔◌, ◌⊎◌, List, [], ◌∷◌, ◌++◌, ℕ, Contains, Some, None, length, take, drop, min, map, position, bytes_eq, string_bytes, slice_get, IfOk, OnOk, OnErr, IfSome, IsSome, IsSomeAnd, IsNone, IsErr};
+ghost use Rattle.std.specs.Prelude.{◌≡◌, ◌≢◌, ◌-◌, ◌^◌, ◌<◌, ◌≤◌, ◌↔◌, ◌⊎◌, List, [], ◌∷◌, ◌++◌, ℕ, Contains, Some};
+ghost use Rattle.std.specs.Prelude.{None, length, take, drop, min, map, position, bytes_eq, string_bytes, slice_get};
+ghost use Rattle.std.specs.Prelude.{IfOk, OnOk, OnErr, IfSome, IsSome, IsSomeAnd, IsNone, IsErr};
 ghost use Rattle.std.specs.Io.KnownBytes.{Keeps, Consumes, IsAtEnd};
 ghost use Rattle.robin_io.specs.Counts.{raised, HasCause};
 ghost use Rattle.robin_io.specs.ShelfView.{contents_in, faults_in};
@@ -73,8 +75,10 @@ impl MemShelf {
     /// Sets the contents of a name. No file is started then.
     pub fn add(&mut self, name: &str, bytes: &[u8]) -> Result<(), AllocError>
         ensures added { OnOk result (contents_in self.new.files name.now ≡ Some bytes.now) }
-        ensures others { (n : List ℕ) → n ≢ name.now → contents_in self.new.files n ≡ contents_in self.old.files n }
-        ensures faults { (n : List ℕ) → faults_in self.new.files self.new.other_faults n ≡ faults_in self.old.files self.old.other_faults n }
+        ensures others { (n : List ℕ) → n ≢ name.now →
+            contents_in self.new.files n ≡ contents_in self.old.files n }
+        ensures faults { (n : List ℕ) →
+            faults_in self.new.files self.new.other_faults n ≡ faults_in self.old.files self.old.other_faults n }
         ensures other_faults { self.new.other_faults ≡ self.old.other_faults }
         ensures taken { self.new.taken ≡ self.old.taken }
         ensures plan { self.new.plan ≡ self.old.plan }
@@ -102,12 +106,13 @@ impl MemShelf {
     fn fail(&mut self, name: &str) -> Failed
         ensures counted { CountsFault name.now self.old self.new }
         ensures contents { (n : List ℕ) → contents_in self.new.files n ≡ contents_in self.old.files n }
-        ensures later { (n : List ℕ) → faults_in self.old.files self.old.other_faults n ≤ faults_in self.new.files self.new.other_faults n }
+        ensures later { (n : List ℕ) →
+            faults_in self.old.files self.old.other_faults n ≤ faults_in self.new.files self.new.other_faults n }
         ensures rest { self.new ≡ record self.old { files = self.new.files; other_faults = self.new.other_faults } }
     {
-        match place_of(&self.files, name) {
-            Some(place) => {
-                let file = &mut self.files[place];
+        match index_of(&self.files, name) {
+            Some(index) => {
+                let file = &mut self.files[index];
                 file.faults = file.faults.saturating_add(1);
             }
             None => self.other_faults = self.other_faults.saturating_add(1),
@@ -149,6 +154,8 @@ impl Shelf for MemShelf {
 
     ghost faults = { λ s name. faults_in s.files s.other_faults name };
 
+    ghost calls = { λ s. s.calls };
+
     // The clauses of the trait, and then what exactly this store does.
     fn start(&mut self, name: &str) -> Result<(), Failed>
         ensures contents { (n : List ℕ) → contents_in self.new.files n ≡ contents_in self.old.files n }
@@ -156,9 +163,11 @@ impl Shelf for MemShelf {
         ensures left { OnOk result (Keeps (contents_in self.old.files name.now) self.new.left) }
         ensures taken { self.new.taken ≡ self.old.taken }
         ensures last { self.new.taken ≤ 2 ^ 64 - 1 }
-        ensures cause { HasCause (faults_in self.old.files self.old.other_faults) (faults_in self.new.files self.new.other_faults) name.now result }
+        ensures cause { HasCause (faults_in self.old.files self.old.other_faults)
+            (faults_in self.new.files self.new.other_faults) name.now result }
 
-        ensures failed { IsErr result ↔ (Contains self.old.plan (raised self.old.calls 1) ⊎ IsNone (contents_in self.old.files name.now)) }
+        ensures failed { IsErr result
+            ↔ (Contains self.old.plan (raised self.old.calls 1) ⊎ IsNone (contents_in self.old.files name.now)) }
         ensures stopped { OnErr result (self.new.started ≡ None) }
         ensures nothing_left { OnErr result (self.new.left ≡ None) }
         ensures fault { OnErr result (CountsFault name.now self.old self.new) }
@@ -173,7 +182,7 @@ impl Shelf for MemShelf {
         if self.plan.next_fails() {
             return Err(self.fail(name));
         }
-        match place_of(&self.files, name) {
+        match index_of(&self.files, name) {
             Some(file) => {
                 self.started = Some(Place { file, at: 0 });
                 Ok(())
@@ -191,7 +200,8 @@ impl Shelf for MemShelf {
         ensures bytes { IfOk result (λ k. Consumes self.old.left self.new.left (take k room.new)) }
         ensures end { IfOk result (λ k. k ≡ 0 → 0 < length room.new → IsAtEnd self.new.left) }
         ensures err { OnErr result ((self.new.left ≡ self.old.left) × (self.new.taken ≡ self.old.taken)) }
-        ensures cause { HasCause (faults_in self.old.files self.old.other_faults) (faults_in self.new.files self.new.other_faults) name.now result }
+        ensures cause { HasCause (faults_in self.old.files self.old.other_faults)
+            (faults_in self.new.files self.new.other_faults) name.now result }
 
         ensures exact { IfOk result (λ k. IsSomeAnd self.old.left (λ left. k ≡ min (length room.new) (length left))) }
         ensures failed { IsErr result ↔ Contains self.old.plan (raised self.old.calls 1) }
@@ -209,7 +219,7 @@ impl Shelf for MemShelf {
 }
 
 // Where the file of this name is.
-fn place_of(files: &[MemFile], name: &str) -> Option<usize>
+fn index_of(files: &[MemFile], name: &str) -> Option<usize>
     ensures { result ≡ position (λ f. bytes_eq (string_bytes f.name) name.now) files.now }
 {
     files.iter().position(|file| file.name.as_str() == name)
@@ -222,13 +232,14 @@ fn put_file(
     bytes: &[u8],
     faults: u64,
 ) -> Result<(), AllocError>
-    ensures ok { OnOk result (Puts faults name.now bytes.now (map file_view files.old.items) (map file_view files.new.items)) }
+    ensures ok { OnOk result
+        (Puts faults name.now bytes.now (map file_view files.old.items) (map file_view files.new.items)) }
     ensures err { OnErr result (files.new.items ≡ files.old.items) }
 {
     let alloc = *files.allocator();
     let bytes = Vec::from_slice(alloc, bytes)?;
-    match place_of(files, name) {
-        Some(place) => files[place].bytes = bytes,
+    match index_of(files, name) {
+        Some(index) => files[index].bytes = bytes,
         None => {
             let name = String::from_str(alloc, name)?;
             files.push(MemFile {
@@ -241,7 +252,7 @@ fn put_file(
     Ok(())
 }
 
-// Copies the bytes from a place on to the front of the room, as many as fit.
+// Copies the bytes from `at` on to the front of the room, as many as fit.
 fn copy_from(bytes: &[u8], at: usize, room: &mut [u8]) -> usize
     requires { at ≤ length bytes.now }
     ensures count { result ≡ min (length room.new) (length bytes.now - at) }

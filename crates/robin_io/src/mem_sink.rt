@@ -1,5 +1,6 @@
 // A sink in memory, with room for so many bytes.
-ghost use Rattle.std.specs.Prelude.{◌≡◌, ◌+◌, ◌-◌, ◌<◌, ◌≤◌, ◌↔◌, ◌⊎◌, List, [], ◌∷◌, ◌++◌, ℕ, Some, length, take, min, Contains, IfOk, OnOk, OnErr, IsErr, MatchResult};
+ghost use Rattle.std.specs.Prelude.{◌≡◌, ◌+◌, ◌-◌, ◌<◌, ◌≤◌, ◌↔◌, ◌⊎◌, List, [], ◌∷◌, ◌++◌, ℕ, Some};
+ghost use Rattle.std.specs.Prelude.{length, take, min, Contains, IfOk, OnOk, OnErr, IsErr, MatchResult};
 ghost use Rattle.std.specs.Io.KnownBytes.{Appends};
 ghost use Rattle.robin_io.specs.Counts.{raised, HasOneCause};
 
@@ -74,22 +75,27 @@ impl Sink for MemSink {
 
     ghost faults = { λ s. s.faults };
 
+    ghost calls = { λ s. s.calls };
+
     // The clauses of the trait, and then what exactly this sink takes.
     fn put(&mut self, piece: &[u8]) -> Result<usize, Failed>
         ensures most { IfOk result (λ k. k ≤ length piece.now) }
         ensures some { IfOk result (λ k. 0 < length piece.now → 0 < k) }
-        ensures bytes { IfOk result (λ k. Appends (Some self.old.written) (Some self.new.written) (take k piece.now)) }
+        ensures bytes { IfOk result (λ k.
+            Appends (Some self.old.written) (Some self.new.written) (take k piece.now)) }
         ensures err { OnErr result (Some self.new.written ≡ Some self.old.written) }
         ensures cause { HasOneCause self.old.faults self.new.faults result }
 
         ensures exact { IfOk result (λ k. k ≡ min (min self.old.piece (length piece.now)) self.old.room) }
-        ensures failed { IsErr result ↔ (Contains self.old.plan (raised self.old.calls 1) ⊎ ((0 < length piece.now) × (self.old.room ≡ 0))) }
+        ensures failed { IsErr result
+            ↔ (Contains self.old.plan (raised self.old.calls 1) ⊎ ((0 < length piece.now) × (self.old.room ≡ 0))) }
         ensures room { IfOk result (λ k. self.new.room + k ≡ self.old.room) }
         ensures room_err { OnErr result (self.new.room ≡ self.old.room) }
         ensures piece { self.new.piece ≡ self.old.piece }
         ensures plan { self.new.plan ≡ self.old.plan }
         ensures calls { self.new.calls ≡ raised self.old.calls 1 }
-        ensures faults { MatchResult result (λ _. self.new.faults ≡ self.old.faults) (λ _. self.new.faults ≡ raised self.old.faults 1) }
+        ensures faults { MatchResult result
+            (λ _. self.new.faults ≡ self.old.faults) (λ _. self.new.faults ≡ raised self.old.faults 1) }
     {
         let is_planned = self.plan.next_fails();
         let room = self.bytes.len() - self.len;

@@ -1,5 +1,6 @@
 // Decimal numbers: their reading and their writing.
-ghost use Rattle.std.specs.Prelude.{◌≡◌, ◌+◌, ◌-◌, ◌*◌, ◌++◌, ◌^◌, ◌<◌, ◌≤◌, ◌↔◌, ℕ, Ok, IsTrue, IsFalse, IsErrOf, IfOk, OnOk, OnErr, SomeIff, decimal as decimal_text};
+ghost use Rattle.std.specs.Prelude.{◌≡◌, ◌+◌, ◌-◌, ◌*◌, ◌++◌, ◌^◌, ◌<◌, ◌≤◌, ◌↔◌, ℕ, Ok, decimal as decimal_text};
+ghost use Rattle.std.specs.Prelude.{IsTrue, IsFalse, IsErrOf, IfOk, OnOk, OnErr, SomeIff};
 ghost use Rattle.std.specs.Str.Parse.{digits_value};
 ghost use Rattle.std.specs.List.{list_all};
 ghost use Rattle.std.specs.Char.{is_ascii_digit};
@@ -23,7 +24,8 @@ pub enum NumberFault {
 pub fn decimal(bytes: &[u8]) -> Result<u64, NumberFault>
     ensures value { IfOk result (λ n. IsTrue (is_number bytes.now) × (n ≡ digits_value 10 bytes.now)) }
     ensures bad { IsErrOf result NumberFault.Bad ↔ IsFalse (is_number bytes.now) }
-    ensures too_large { IsErrOf result NumberFault.TooLarge ↔ (IsTrue (is_number bytes.now) × (2 ^ 64 ≤ digits_value 10 bytes.now)) }
+    ensures too_large { IsErrOf result NumberFault.TooLarge
+        ↔ (IsTrue (is_number bytes.now) × (2 ^ 64 ≤ digits_value 10 bytes.now)) }
 
     // The text that `put_decimal` writes is read back.
     ensures written { (n : ℕ) → n < 2 ^ 64 → bytes.now ≡ decimal_text n → result ≡ Ok n }

@@ -1,5 +1,6 @@
 // Stores of named files, and the reading of a whole file.
-ghost use Rattle.std.specs.Prelude.{◌≡◌, ◌+◌, ◌-◌, ◌^◌, ◌<◌, ◌≤◌, ℕ, List, Option, length, take, vec_len, IfOk, OnOk, OnErr, IfSome, IsErrOf};
+ghost use Rattle.std.specs.Prelude.{◌≡◌, ◌+◌, ◌-◌, ◌^◌, ◌<◌, ◌≤◌, ℕ, List, Option, length, take, vec_len};
+ghost use Rattle.std.specs.Prelude.{IfOk, OnOk, OnErr, IfSome, IsErrOf};
 ghost use Rattle.std.specs.Io.KnownBytes.{Keeps, Consumes, IsAtEnd};
 ghost use Rattle.robin_io.specs.Counts.{raised, Rose, HasCause};
 ghost use Rattle.robin_io.specs.declared.shelf.TakeFault.TheVariants as fault;
@@ -25,6 +26,9 @@ pub trait Shelf {
     /// How often a file has failed, up to 2^64 - 1, its last value.
     ghost faults: { Self → List ℕ → ℕ };
 
+    /// How many calls of `start` and `take` were counted. A store may count none.
+    ghost calls: { Self → ℕ } = { λ _. 0 };
+
     /// Starts a file at its front. After `Failed` nothing is said of which file is started.
     fn start(&mut self, name: &str) -> Result<(), Failed>
         ensures contents { (n : List ℕ) → contents self.new n ≡ contents self.old n }
@@ -32,6 +36,7 @@ pub trait Shelf {
         ensures left { OnOk result (Keeps (contents self.old name.now) (left self.new)) }
         ensures taken { taken self.new ≡ taken self.old }
         ensures last { taken self.new ≤ 2 ^ 64 - 1 }
+        ensures calls { calls self.new ≤ calls self.old + 1 }
         ensures cause { HasCause (faults self.old) (faults self.new) name.now result };
 
     /// Takes the next bytes of the started file to the front of the room, and says how many.
@@ -45,6 +50,7 @@ pub trait Shelf {
         ensures bytes { IfOk result (λ k. Consumes (left self.old) (left self.new) (take k room.new)) }
         ensures end { IfOk result (λ k. k ≡ 0 → 0 < length room.new → IsAtEnd (left self.new)) }
         ensures err { OnErr result ((left self.new ≡ left self.old) × (taken self.new ≡ taken self.old)) }
+        ensures calls { calls self.new ≤ calls self.old + 1 }
         ensures cause { HasCause (faults self.old) (faults self.new) name.now result };
 }
 
@@ -97,11 +103,18 @@ pub fn read_all<S: Shelf>(
     ensures end { OnOk result (IsAtEnd (S.left shelf.new)) }
     ensures started { OnOk result (S.started shelf.new name.now) }
 
+    // One start, and of the takes each but the last gives a byte.
+    ensures calls { IfOk result (λ bytes. S.calls shelf.new ≤ S.calls shelf.old + (vec_len bytes + 2)) }
+    ensures most_calls { S.calls shelf.new ≤ S.calls shelf.old + (limit + 2) }
+
     // Each refusal's cause. A file is too long exactly where more than `limit` bytes were taken.
-    ensures failed { IsErrOf result TakeFault.Failed → Rose (S.faults shelf.old name.now) (S.faults shelf.new name.now) }
+    ensures failed { IsErrOf result TakeFault.Failed →
+        Rose (S.faults shelf.old name.now) (S.faults shelf.new name.now) }
     ensures too_long { (l : ℕ) → IsErrOf result (TakeFault.TooLong l) →
-        (l ≡ limit) × (raised (S.taken shelf.old) (limit + 1) ≤ S.taken shelf.new) × IfSome (S.contents shelf.old name.now) (λ file. limit < length file) }
-    ensures not_too_long { (IsErrOf result (TakeFault.TooLong limit) → ⊥) → S.taken shelf.new ≤ S.taken shelf.old + limit }
+        (l ≡ limit) × (raised (S.taken shelf.old) (limit + 1) ≤ S.taken shelf.new)
+        × IfSome (S.contents shelf.old name.now) (λ file. limit < length file) }
+    ensures not_too_long { (IsErrOf result (TakeFault.TooLong limit) → ⊥) →
+        S.taken shelf.new ≤ S.taken shelf.old + limit }
 
     // What holds whatever the answer is.
     ensures risen { S.taken shelf.old ≤ S.taken shelf.new }

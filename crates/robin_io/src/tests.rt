@@ -140,3 +140,23 @@ fn the_machine_has_files_and_writers(rt: HostRuntime) -> Result<(), Fail> {
     assert_eq!(rt; room.as_slice(), &TEXT[..7]);
     Ok(())
 }
+
+// A start opens a file to read it: it makes none, and changes none.
+#[test]
+fn starts_leave_files_as_they_were(rt: HostRuntime) -> Result<(), Fail> {
+    let alloc = rt.alloc();
+    let mut shelf = HostShelf::new(&rt);
+    fs::write(&rt, "there", TEXT)?;
+    assert_eq!(rt; shelf.start("there"), Ok(()));
+    assert_eq!(rt; fs::read(&rt, "there")?.as_slice(), TEXT);
+    for name in ["absent", "there/absent", ""] {
+        assert_eq!(rt; shelf.start(name), Err(Failed), "at {name}");
+        assert!(rt; fs::read(&rt, name).is_err(), "at {name}");
+    }
+    assert_eq!(rt; fs::read(&rt, "there")?.as_slice(), TEXT);
+    fs::remove_file(&rt, "there")?;
+    let unread = read_all(alloc, &mut shelf, "there", TEXT.len());
+    assert_eq!(rt; unread.err(), Some(TakeFault::Failed));
+    assert!(rt; fs::read(&rt, "there").is_err());
+    Ok(())
+}

@@ -1,5 +1,6 @@
 -- Reading from the front of some bytes, from left to right, up to the first fault.
-use Rattle.std.specs.Prelude.{ℕ, Bool, true, false, not, if◌then◌else◌, List, [], ◌∷◌, ◌-◌, length, take, drop, Result, Ok, Err}
+use Rattle.std.specs.Prelude.{ℕ, Bool, true, false, not, if◌then◌else◌, List, [], ◌∷◌, ◌-◌}
+use Rattle.std.specs.Prelude.{length, take, drop, Result, Ok, Err}
 use Rattle.std.specs.List.{position_or_len, suffix_len}
 use Rattle.robinx_tags.specs.Bytes.{is_white}
 use Rattle.robinx_tags.specs.declared.fault.FormKind.{FormKind}

@@ -1,14 +1,16 @@
 -- The pieces of a file, with the line on which each begins.
-use Rattle.std.specs.Prelude.{ℕ, zero, suc, ◌+◌, ◌-◌, Bool, true, false, ◌==◌, if◌then◌else◌, List, [], ◌∷◌, length, drop, Option, Some, None, Result, Ok, Err, nat_eq, codes}
+use Rattle.std.specs.Prelude.{ℕ, zero, suc, ◌+◌, ◌-◌, Bool, true, false, ◌==◌, if◌then◌else◌, List, [], ◌∷◌}
+use Rattle.std.specs.Prelude.{length, drop, Option, Some, None, Result, Ok, Err, nat_eq, codes}
 use Rattle.std.specs.List.{starts_with}
 use Rattle.std.specs.Str.{byte}
 use Rattle.robinx_tags.specs.Bytes.{line_feed}
 use Rattle.robinx_tags.specs.Fronts.{◌>>=◌, Front, until}
-use Rattle.robinx_tags.specs.Tags.{Attribute, end_tag, start_tag}
+use Rattle.robinx_tags.specs.Tags.{Attribute, end_tag, start_tag, tag_attributes}
 use Rattle.robinx_tags.specs.declared.fault.FormKind.{FormKind}
 use Rattle.robinx_tags.specs.declared.fault.FormKind.TheVariants.{BadTag, Truncated}
 use Rattle.robinx_tags.specs.declared.opening.Opening.{Opening}
-use Rattle.robinx_tags.specs.declared.opening.Opening.TheVariants.{Comment, Declaration, Reserved, EndTag, StartTag, Content}
+use Rattle.robinx_tags.specs.declared.opening.Opening.TheVariants.{Comment, Declaration, Reserved}
+use Rattle.robinx_tags.specs.declared.opening.Opening.TheVariants.{EndTag, StartTag, Content}
 use Rattle.robinx_tags.specs.declared.tag.TagKind.{TagKind}
 use Rattle.robinx_tags.specs.declared.tag.TagKind.TheVariants.{End, Text}
 
@@ -25,17 +27,24 @@ pub data Last : Type 0 where
   Ends : (line : ℕ) → Last
   Faulty : (kind : FormKind) → (line : ℕ) → Last
 
+-- What a file has: its pieces up to its end or its first fault.
 pub record Pieces : Type 0 where
   pub items : List Piece
   pub last : Last
+  -- how many whole attributes stand before the fault in its tag; 0 where there is no fault, or it is no start tag's
+  pub before_fault : ℕ
 
 -- no pieces
 abbrev pub none_but : Last → Pieces
-none_but last = record { items = []; last = last }
+none_but last = record { items = []; last = last; before_fault = 0 }
+
+-- no pieces but a fault, with so many whole attributes before it
+abbrev pub fault_after : ℕ → FormKind → ℕ → Pieces
+fault_after before kind line = record { items = []; last = Faulty kind line; before_fault = before }
 
 -- a piece before others
 abbrev pub onto : Piece → Pieces → Pieces
-onto piece others = record { items = piece ∷ others.items; last = others.last }
+onto piece others = record others { items = piece ∷ others.items }
 
 -- whether the bytes begin with this text
 abbrev pub begins : List ℕ → List ℕ → Bool
@@ -44,7 +53,10 @@ begins text bytes = starts_with nat_eq bytes text
 -- the bytes after the first place at which this text stands
 abbrev pub after_text : List ℕ → List ℕ → Option (List ℕ)
 after_text text [] = None
-after_text text (b ∷ bytes) = elim (begins text (b ∷ bytes)) [ true ↦ Some (drop (length text) (b ∷ bytes)) | false ↦ after_text text bytes ]
+after_text text (b ∷ bytes) = elim (begins text (b ∷ bytes)) [
+  | true ↦ Some (drop (length text) (b ∷ bytes))
+  | false ↦ after_text text bytes
+]
 
 -- what begins at a place, and the bytes after its mark
 abbrev pub opening_at : List ℕ → Opening × List ℕ
@@ -102,6 +114,18 @@ piece_of Content line bytes = text_piece line bytes
 abbrev pub piece_at : ℕ → List ℕ → Found
 piece_at line bytes = piece_of (opening_at bytes).0 line (opening_at bytes).1
 
+-- how many whole attributes stand in what begins here, up to its end or its fault: only start tags have some
+abbrev pub attributes_in : Opening → List ℕ → ℕ
+attributes_in Comment bytes = 0
+attributes_in Declaration bytes = 0
+attributes_in Reserved bytes = 0
+attributes_in EndTag bytes = 0
+attributes_in StartTag bytes = tag_attributes bytes
+attributes_in Content bytes = 0
+
+abbrev pub attributes_here : List ℕ → ℕ
+attributes_here bytes = attributes_in (opening_at bytes).0 (opening_at bytes).1
+
 -- the line after a byte
 abbrev pub line_after : ℕ → ℕ → ℕ
 line_after line b = if b == line_feed then line + 1 else line
@@ -111,16 +135,18 @@ abbrev pub with_piece : Option Piece → Pieces → Pieces
 with_piece None others = others
 with_piece (Some piece) others = onto piece others
 
--- what is read at a place on this line, where `others` are the pieces from these bytes on
-abbrev pub go_on : ℕ → Result (Option Piece × List ℕ) FormKind → (List ℕ → Pieces) → Pieces
-go_on line (Err kind) others = none_but (Faulty kind line)
-go_on line (Ok found) others = with_piece found.0 (others found.1)
+-- what is read at these bytes on this line, where `others` are the pieces from the bytes after it on
+abbrev pub go_on : ℕ → List ℕ → Result (Option Piece × List ℕ) FormKind → (List ℕ → Pieces) → Pieces
+go_on line bytes (Err kind) others = fault_after (attributes_here bytes) kind line
+go_on line bytes (Ok found) others = with_piece found.0 (others found.1)
 
 -- The pieces from a place on this line on. Of the bytes, so many still belong to what began before them.
 unfoldable pub pieces_from : ℕ → ℕ → List ℕ → Pieces
 pieces_from line inside [] = none_but (Ends line)
 pieces_from line (suc inside) (b ∷ bytes) = pieces_from (line_after line b) inside bytes
-pieces_from line zero (b ∷ bytes) = go_on line (piece_at line (b ∷ bytes)) (λ rest. pieces_from (line_after line b) (length bytes - length rest) bytes)
+pieces_from line zero (b ∷ bytes) =
+    go_on line (b ∷ bytes) (piece_at line (b ∷ bytes))
+    (λ rest. pieces_from (line_after line b) (length bytes - length rest) bytes)
 
 -- the bytes without a byte order mark
 abbrev pub without_mark : List ℕ → List ℕ

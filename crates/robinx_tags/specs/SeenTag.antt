@@ -3,4 +3,10 @@ use Rattle.robinx_tags.specs.Pieces.{Piece}
 use Rattle.robinx_tags.specs.declared.tag.Tag.{Tag}
 
 abbrev pub view_of : Tag → Piece
-view_of tag = record { kind = tag.kind; name = tag.name.now; attributes = tag.attrs; text = tag.text.now; line = tag.line }
+view_of tag = record {
+  kind = tag.kind;
+  name = tag.name.now;
+  attributes = tag.attrs;
+  text = tag.text.now;
+  line = tag.line;
+}

@@ -1,10 +1,13 @@
 -- Tags: what stands after `<` or `</`.
-use Rattle.std.specs.Prelude.{ℕ, zero, suc, Bool, true, not, ◌&&◌, ◌||◌, ◌==◌, if◌then◌else◌, List, [], ◌∷◌, ◌++◌, Option, Some, None, Ok, Err, codes, bytes_eq, option_map}
+use Rattle.std.specs.Prelude.{ℕ, zero, suc, Bool, true, not, ◌&&◌, ◌||◌, ◌==◌, if◌then◌else◌, List, [], ◌∷◌, ◌++◌, ◌+◌}
+use Rattle.std.specs.Prelude.{Option, Some, None, Ok, Err, codes, bytes_eq, option_map}
 use Rattle.std.specs.List.{list_any, find}
+use Rattle.std.specs.Result.{result_ok}
 use Rattle.std.specs.Str.{byte}
 use Rattle.robinx_tags.specs.Bytes.{is_name_byte, is_name_start, is_one_of}
 use Rattle.robinx_tags.specs.Fronts.{◌>>=◌, Front, next, mark, until, after_white, starts_white, check}
-use Rattle.robinx_tags.specs.declared.fault.FormKind.TheVariants.{BadTag, BadAttribute, RepeatedAttribute, TooManyAttributes}
+use Rattle.robinx_tags.specs.declared.fault.FormKind.TheVariants.{BadTag, BadAttribute}
+use Rattle.robinx_tags.specs.declared.fault.FormKind.TheVariants.{RepeatedAttribute, TooManyAttributes}
 use Rattle.robinx_tags.specs.declared.turn.Turn.{Turn}
 use Rattle.robinx_tags.specs.declared.turn.Turn.TheVariants.{Closes, Slash, Begins, Wrong}
 use Rattle.robinx_tags.specs.declared.tag.TagKind.{TagKind}
@@ -67,7 +70,7 @@ turn_at bytes = do
   b ← mark BadTag (λ b. true) bytes
   Ok (turn_of (starts_white bytes) b.0, b.1)
 
--- after a turn: how the tag ends and the bytes after it, or None where an attribute begins, with the bytes from there on
+-- after a turn: how the tag ends and the bytes after it, or None where an attribute begins and the bytes from there
 abbrev pub end_by : Turn → List ℕ → List ℕ → Front (Option TagKind)
 end_by Closes begin after = Ok (Some Start, after)
 end_by Slash begin after = do
@@ -81,7 +84,7 @@ end_at bytes = do
   turn ← turn_at bytes
   end_by turn.0 (after_white bytes) turn.1
 
--- the rest of a tag that has these attributes, and may have so many more: which of the two tags it is, and all its attributes
+-- the rest of a tag that has these attributes, and may have so many more: which of the two tags it is, and them all
 unfoldable pub attributes_at : ℕ → List Attribute → List ℕ → Front (TagKind × List Attribute)
 attributes_at zero earlier bytes = do
   end ← end_at bytes
@@ -94,6 +97,29 @@ attributes_at (suc left) earlier bytes = do
       attribute ← attribute_at earlier end.1
       attributes_at left (earlier ++ attribute.0 ∷ []) attribute.1
   ]
+
+-- what a tag goes on with: an attribute and the bytes after it, or None where the tag ends or has a fault
+abbrev pub attribute_by : List Attribute → Front (Option TagKind) → Option (Attribute × List ℕ)
+attribute_by earlier (Ok (None, begin)) = result_ok (attribute_at earlier begin)
+attribute_by earlier (Ok (Some kind, after)) = None
+attribute_by earlier (Err kind) = None
+
+-- how many whole attributes a tag has behind these, up to its end, its fault, or this limit
+unfoldable pub more_attributes : ℕ → List Attribute → List ℕ → ℕ
+more_attributes zero earlier bytes = 0
+more_attributes (suc left) earlier bytes = elim (attribute_by earlier (end_at bytes)) [
+  | Some found ↦ 1 + more_attributes left (earlier ++ found.0 ∷ []) found.1
+  | None ↦ 0
+]
+
+-- how many whole attributes a tag has behind its name, up to its end or its fault; 0 where the name is at fault
+abbrev pub attributes_behind : Front (List ℕ) → ℕ
+attributes_behind (Ok (name, bytes)) = more_attributes 64 [] bytes
+attributes_behind (Err kind) = 0
+
+-- the same of a start tag or an empty tag after `<`
+abbrev pub tag_attributes : List ℕ → ℕ
+tag_attributes bytes = attributes_behind (name_at bytes)
 
 -- a start tag or an empty tag after `<`: a name, then at most 64 attributes
 abbrev pub start_tag : List ℕ → Front (TagKind × List ℕ × List Attribute)

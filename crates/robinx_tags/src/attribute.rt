@@ -50,7 +50,8 @@ impl<'a> Attrs<'a> {
         }
     }
 
-    /// Puts an attribute behind the others. Only from the ninth on this takes memory; where there is none, nothing changes.
+    /// Puts an attribute behind the others. Only from the ninth on this takes memory; where there is none, nothing
+    /// changes.
     pub(crate) fn push(&mut self, attr: Attr<'a>) -> Result<(), AllocFailed<Attr<'a>>>
         ensures ok { OnOk result (self.new ≡ self.old ++ attribute_of attr.entry ∷ []) }
         ensures err { OnErr result (self.new ≡ self.old) }

@@ -6,7 +6,7 @@ ghost use Rattle.robinx_tags.specs.declared.fault.FormKind.TheVariants as kinds;
 ghost use Rattle.robinx_tags.specs.Seen.{Finds};
 
 use crate::FormKind;
-use crate::letters::{len_without_white, white_len};
+use crate::bytes::{len_without_white, white_len};
 
 /// The bytes after white bytes.
 pub(crate) fn after_white(bytes: &[u8]) -> &[u8]

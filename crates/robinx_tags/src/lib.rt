@@ -4,9 +4,9 @@
 #![tactic(auto)]
 
 mod attribute;
+mod bytes;
 mod fault;
 mod fronts;
-mod letters;
 mod opening;
 mod piece;
 mod reader;

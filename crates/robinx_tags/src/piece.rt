@@ -1,12 +1,13 @@
 // One piece, and the way to the next.
-ghost use Rattle.std.specs.Prelude.{◌≡◌, ◌+◌, ◌<◌, ◌^◌, length, option_map, IfOk};
+ghost use Rattle.std.specs.Prelude.{◌≡◌, ◌+◌, ◌<◌, ◌^◌, length, option_map, IfOk, IsErrOf};
+ghost use Rattle.robinx_tags.specs.Tags as tags;
 ghost use Rattle.robinx_tags.specs.Pieces as pieces;
-ghost use Rattle.robinx_tags.specs.Seen.{Finds, GivesCounted, attribute_count};
+ghost use Rattle.robinx_tags.specs.Seen.{Finds, Gives};
 ghost use Rattle.robinx_tags.specs.SeenTag.{view_of};
 ghost use Rattle.robinx_tags.specs.Next.{MovesOn, Steps};
 
+use crate::bytes::{line_past, text_len};
 use crate::fault::Stop;
-use crate::letters::{line_past, text_len};
 use crate::opening::{Opening, after_text, opening_at};
 use crate::reading::{end_tag, start_tag};
 use crate::{Attrs, FormKind, Tag, TagFault, TagKind};
@@ -48,7 +49,8 @@ fn start_piece<'a>(
     line: u32,
     bytes: &'a [u8],
 ) -> Result<(Option<Tag<'a>>, &'a [u8]), Stop>
-    ensures { GivesCounted (λ x. (option_map view_of x.0, x.1.now)) (λ found. attribute_count found.0) result (pieces.start_piece line bytes.now) }
+    ensures piece { Gives (λ x. (option_map view_of x.0, x.1.now)) result (pieces.start_piece line bytes.now) }
+    ensures memory { IsErrOf result Stop.Mem → tags.without_memory < tags.tag_attributes bytes.now }
 {
     let (kind, name, attrs, rest) = start_tag(alloc, bytes)?;
     let tag = Tag {
@@ -82,7 +84,8 @@ fn piece_at<'a>(
     line: u32,
     bytes: &'a [u8],
 ) -> Result<(Option<Tag<'a>>, &'a [u8]), Stop>
-    ensures { GivesCounted (λ x. (option_map view_of x.0, x.1.now)) (λ found. attribute_count found.0) result (pieces.piece_at line bytes.now) }
+    ensures piece { Gives (λ x. (option_map view_of x.0, x.1.now)) result (pieces.piece_at line bytes.now) }
+    ensures memory { IsErrOf result Stop.Mem → tags.without_memory < pieces.attributes_here bytes.now }
 {
     let (opening, after) = opening_at(bytes);
     match opening {

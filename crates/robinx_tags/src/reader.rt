@@ -3,7 +3,7 @@ ghost use Rattle.std.specs.Prelude.{◌≡◌, ◌≤◌, ℕ, length};
 ghost use Rattle.robinx_tags.specs.Pieces.{Ends, pieces};
 ghost use Rattle.robinx_tags.specs.Next.{GivesNext};
 
-use crate::letters::line_past;
+use crate::bytes::line_past;
 use crate::piece::next_from;
 use crate::{Tag, TagFault};
 use std::alloc::Global;
@@ -48,7 +48,8 @@ impl<'a> TagReader<'a> {
     ///
     /// Each piece is the first of those that are left, and the others are left then. So calls from `new` on give the
     /// pieces of the file one by one, and then None or the fault, as often as they are made: a whole run is this
-    /// clause for each of its calls. Memory is taken only for a tag with more than eight attributes.
+    /// clause for each of its calls. Memory is taken only for a tag that has a ninth attribute before its end or its
+    /// fault.
     pub fn next(&mut self, alloc: Global) -> Result<Option<Tag<'a>>, TagFault>
         ensures { GivesNext self.old result self.new }
     {

@@ -1,16 +1,16 @@
 // What stands in tags: names, attributes and ends.
-ghost use Rattle.std.specs.Prelude.{◌≡◌, [], not, length};
+ghost use Rattle.std.specs.Prelude.{◌≡◌, ◌<◌, [], not, IsErrOf};
 ghost use Rattle.std.specs.List.{list_any};
 ghost use Rattle.robinx_tags.specs.Bytes as letters;
 ghost use Rattle.robinx_tags.specs.Fronts as fronts;
 ghost use Rattle.robinx_tags.specs.Tags as tags;
 ghost use Rattle.robinx_tags.specs.declared.fault.FormKind.TheVariants as kinds;
-ghost use Rattle.robinx_tags.specs.Seen.{Finds, GivesCounted};
+ghost use Rattle.robinx_tags.specs.Seen.{Finds, Gives};
 ghost use Rattle.robinx_tags.specs.SeenAttr.{attribute_of};
 
+use crate::bytes::{is_name_start, name_len, starts_white, value_len};
 use crate::fault::Stop;
 use crate::fronts::{after_byte, after_mark, after_white, quote_at};
-use crate::letters::{is_name_start, name_len, starts_white, value_len};
 use crate::turn::Turn;
 use crate::{Attr, Attrs, FormKind, TagKind};
 use std::alloc::Global;
@@ -49,7 +49,8 @@ fn value_to(quote: u8, bytes: &[u8]) -> Result<(&[u8], &[u8]), FormKind>
 
 /// A fault where an earlier attribute has this name.
 fn check_new(name: &[u8], earlier: &Attrs) -> Result<(), FormKind>
-    ensures { Finds (λ _. tt) result (fronts.check (not (list_any (tags.has_name name.now) earlier.now)) kinds.RepeatedAttribute) }
+    ensures { Finds (λ _. tt) result
+        (fronts.check (not (list_any (tags.has_name name.now) earlier.now)) kinds.RepeatedAttribute) }
 {
     if earlier.contains(name) {
         return Err(FormKind::RepeatedAttribute);
@@ -112,7 +113,8 @@ fn end_at(bytes: &[u8]) -> Result<(Option<TagKind>, &[u8]), FormKind>
 
 /// How a tag ends after its name or an attribute, all its attributes, and the bytes after the tag.
 fn attributes_at<'a>(alloc: Global, bytes: &'a [u8]) -> Result<(TagKind, Attrs<'a>, &'a [u8]), Stop>
-    ensures { GivesCounted (λ x. ((x.0, x.1), x.2.now)) (λ tag. length tag.0.1) result (tags.attributes_at 64 [] bytes.now) }
+    ensures tag { Gives (λ x. ((x.0, x.1), x.2.now)) result (tags.attributes_at 64 [] bytes.now) }
+    ensures memory { IsErrOf result Stop.Mem → tags.without_memory < tags.more_attributes 64 [] bytes.now }
 {
     let mut attrs = Attrs::new(alloc);
     let mut rest = bytes;
@@ -137,7 +139,8 @@ pub(crate) fn start_tag<'a>(
     alloc: Global,
     bytes: &'a [u8],
 ) -> Result<(TagKind, &'a [u8], Attrs<'a>, &'a [u8]), Stop>
-    ensures { GivesCounted (λ x. ((x.0, x.1.now, x.2), x.3.now)) (λ tag. length tag.0.2) result (tags.start_tag bytes.now) }
+    ensures tag { Gives (λ x. ((x.0, x.1.now, x.2), x.3.now)) result (tags.start_tag bytes.now) }
+    ensures memory { IsErrOf result Stop.Mem → tags.without_memory < tags.tag_attributes bytes.now }
 {
     let (name, after) = name_at(bytes)?;
     let (kind, attrs, rest) = attributes_at(alloc, after)?;

@@ -5,7 +5,7 @@ use Rattle.robin_io.proofs.mem_shelf.put_file.Goals as goal
 pub returns-in-Some-clause-ok : goal.returns-in-Some-clause-ok
 returns-in-Some-clause-ok c =
     let at = rw c.deref.ensures.value at (sym c.in-Some.ensures) in
-    let put = Puts-set c.args.faults c.args.name.now c.args.files.now.items c.in-Some.place c.index_mut.result.now c.in_ok-bytes.bytes at c.index_mut.ensures.value in
+    let put = Puts-set c.args.faults c.args.name.now c.args.files.now.items c.in-Some.index c.index_mut.result.now c.in_ok-bytes.bytes at c.index_mut.ensures.value in
     rw (← c.in_ok-bytes.ensures.items) put
 
 pub returns-in_ok-push-in-None-clause-ok : goal.returns-in_ok-push-in-None-clause-ok

@@ -10,6 +10,7 @@ invariant-pieces g l = record {
   consumed : Consumes (g.S.Shelf.contents l.fn.shelf l.name) (g.S.Shelf.left l.shelf) l.bytes.items;
   taken : g.S.Shelf.taken l.shelf ≡ raised (g.S.Shelf.taken l.fn.shelf) (vec_len l.bytes);
   contents : (n : List ℕ) → g.S.Shelf.contents l.shelf n ≡ g.S.Shelf.contents l.fn.shelf n;
+  calls : g.S.Shelf.calls l.shelf ≤ g.S.Shelf.calls l.fn.shelf + (vec_len l.bytes + 1);
   later : (n : List ℕ) → g.S.Shelf.faults l.fn.shelf n ≤ g.S.Shelf.faults l.shelf n;
 }
 

@@ -11,6 +11,7 @@ loop-done-preserved g c =
       within = search rules;
       written = rw take-add (Appends-trans _ _ _ _ _ c.loop-done.invariant.written put);
       later = search rules;
+      calls = omega (arith, c.in_ok-done.ensures.calls, c.in_ok-done.ensures.some, length-drop c.loop-done.done c.args.bytes.now, c.loop-done-test.true, c.loop-done.invariant.calls);
       untouched = λ none. absurd (omega (arith, c.in_ok-done.ensures.some, length-drop c.loop-done.done c.args.bytes.now, c.loop-done-test.true, none));
     }
 

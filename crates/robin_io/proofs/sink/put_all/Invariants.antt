@@ -1,4 +1,4 @@
-use Rattle.std.proofs.Common.{◌≡◌, ◌-◌, ◌≤◌, length, take}
+use Rattle.std.proofs.Common.{◌≡◌, ◌+◌, ◌-◌, ◌≤◌, length, take}
 use Rattle.std.specs.Io.KnownBytes.{Appends}
 use Rattle.robin_io.proofs.sink.put_all.Given as goal
 
@@ -7,6 +7,7 @@ invariant-loop-done g l = record {
   within : l.done ≤ length l.bytes;
   written : Appends (g.K.Sink.written l.fn.sink) (g.K.Sink.written l.sink) (take l.done l.bytes);
   later : g.K.Sink.faults l.fn.sink ≤ g.K.Sink.faults l.sink;
+  calls : g.K.Sink.calls l.sink ≤ g.K.Sink.calls l.fn.sink + l.done;
   untouched : l.done ≡ 0 → l.sink ≡ l.fn.sink;
 }
 

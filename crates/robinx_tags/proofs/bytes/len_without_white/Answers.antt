@@ -1,7 +1,7 @@
 use Rattle.std.proofs.Common.{arith}
 use Rattle.robinx_tags.specs.Bytes.{is_white}
 use Rattle.robinx_tags.proofs.SearchLemmas.{run_back}
-use Rattle.robinx_tags.proofs.letters.len_without_white.Goals as goal
+use Rattle.robinx_tags.proofs.bytes.len_without_white.Goals as goal
 
 pub returns-after-loop-len-clause-value : goal.returns-after-loop-len-clause-value
 returns-after-loop-len-clause-value c =
