@@ -5,8 +5,8 @@ use Rattle.std.specs.declared.cmp.Ordering.{Ordering}
 use Rattle.robinx_tags.specs.Fronts.{◌>>=◌}
 use Rattle.robinx_tags.specs.declared.fault.FormKind.{FormKind}
 use Rattle.league.specs.Sets.{with_item}
-use Rattle.robinx_read.specs.Values.{Reading, onto_item, items_of, each}
-use Rattle.robinx_read.specs.Gathered.{gathered}
+use Rattle.robinx_form.specs.Values.{Reading, onto_item, items_of, each}
+use Rattle.robinx_form.specs.Gathered.{gathered}
 
 abbrev ends_item : ℕ → Bool
 ends_item b = eqb b 59

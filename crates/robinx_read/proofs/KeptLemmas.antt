@@ -1,14 +1,14 @@
 -- What stays so along a walk, from its first piece to the file's end.
 use Rattle.std.proofs.Common.{◌≡◌, ℕ, Bool, true, false, List, [], ◌∷◌, ◌++◌, Option, Some, None, Ok, Err, refl, ap, subst}
 use Rattle.std.specs.Prelude.{Result, if◌then◌else◌, bytes_eq}
-use Rattle.robinx_tags.specs.Fronts.{◌>>=◌, check}
+use Rattle.robinx_tags.specs.Fronts.{◌>>=◌, check, trimmed}
 use Rattle.robinx_tags.specs.Pieces.{Piece, Last, Ends, Faulty}
 use Rattle.robinx_tags.specs.declared.tag.TagKind.{TagKind}
 use Rattle.robinx_tags.specs.declared.tag.TagKind.TheVariants.{Start, End, Empty, Text}
 use Rattle.robinx_tags.specs.declared.fault.FormKind.{FormKind}
 use Rattle.robinx_tags.specs.declared.fault.FormKind.TheVariants.{BadNesting, MissingElement}
-use Rattle.robinx_read.specs.Elements.{element_name, has_value}
-use Rattle.robinx_read.specs.Walk.{Meaning, Open, Place, is_complete, trimmed, on_line, end_line, closed, begun, start_in, ended, end_in, text_in, at_start, at_end, at_piece, at_file_end, walk}
+use Rattle.robinx_form.specs.Elements.{element_name, has_value}
+use Rattle.robinx_form.specs.Walk.{Meaning, Open, Position, is_complete, on_line, end_line, closed, begun, start_in, ended, end_in, text_in, at_start, at_end, at_piece, at_file_end, walk}
 
 -- a value that was read, where faults are such
 abbrev pub as_read : {A : Type 0} → (F : Type 0) → A → Result A F
@@ -48,32 +48,32 @@ closed_is meaning inner piece before now h =
     )
 
 -- a fact of places that no step breaks: it doesn't speak of what is passed over or of texts
-module _ {Read : Type 0} (meaning : Meaning Read) (Fits : Place Read → Type 0)
-    (passes : (at : Place Read) (name : Option (List ℕ)) → Fits at → Fits (record at { passing = name }))
-    (joins : (at : Place Read) (text : List ℕ) → Fits at → Fits (record at { inner = record at.inner { text = text } }))
-    (starts_so : (piece : Piece) (at next : Place Read) → Fits at → begun meaning piece at ≡ Ok next → Fits next)
-    (ends_so : (piece : Piece) (at next : Place Read) → Fits at → ended meaning at.outer piece at ≡ Ok next → Fits next) where
-  start_kept : (passing : Option (List ℕ)) (piece : Piece) (at next : Place Read) → Fits at → start_in passing meaning piece at ≡ Ok next → Fits next
+module _ {Read : Type 0} (meaning : Meaning Read) (Fits : Position Read → Type 0)
+    (passes : (at : Position Read) (name : Option (List ℕ)) → Fits at → Fits (record at { passing = name }))
+    (joins : (at : Position Read) (text : List ℕ) → Fits at → Fits (record at { inner = record at.inner { text = text } }))
+    (starts_so : (piece : Piece) (at next : Position Read) → Fits at → begun meaning piece at ≡ Ok next → Fits next)
+    (ends_so : (piece : Piece) (at next : Position Read) → Fits at → ended meaning at.outer piece at ≡ Ok next → Fits next) where
+  start_kept : (passing : Option (List ℕ)) (piece : Piece) (at next : Position Read) → Fits at → start_in passing meaning piece at ≡ Ok next → Fits next
   start_kept (Some name) piece at next fits h = subst Fits (ok_is at next h) fits
   start_kept None piece at next fits h = starts_so piece at next fits h
 
-  passed_by : (own : Bool) (at : Place Read) → Fits at → Fits (if own then record at { passing = None } else at)
+  passed_by : (own : Bool) (at : Position Read) → Fits at → Fits (if own then record at { passing = None } else at)
   passed_by true at fits = passes at None fits
   passed_by false at fits = fits
 
-  end_kept : (passing : Option (List ℕ)) (piece : Piece) (at next : Place Read) → Fits at → end_in passing meaning piece at ≡ Ok next → Fits next
+  end_kept : (passing : Option (List ℕ)) (piece : Piece) (at next : Position Read) → Fits at → end_in passing meaning piece at ≡ Ok next → Fits next
   end_kept (Some name) piece at next fits h = subst Fits (ok_is _ next h) (passed_by (bytes_eq name piece.name) at fits)
   end_kept None piece at next fits h = ends_so piece at next fits h
 
-  joined_by : (value : Bool) (piece : Piece) (at : Place Read) → Fits at → Fits (if value then record at { inner = record at.inner { text = at.inner.text ++ piece.text } } else at)
+  joined_by : (value : Bool) (piece : Piece) (at : Position Read) → Fits at → Fits (if value then record at { inner = record at.inner { text = at.inner.text ++ piece.text } } else at)
   joined_by true piece at fits = joins at (at.inner.text ++ piece.text) fits
   joined_by false piece at fits = fits
 
-  text_kept : (passing : Option (List ℕ)) (piece : Piece) (at : Place Read) → Fits at → Fits (text_in passing piece at)
+  text_kept : (passing : Option (List ℕ)) (piece : Piece) (at : Position Read) → Fits at → Fits (text_in passing piece at)
   text_kept (Some name) piece at fits = fits
   text_kept None piece at fits = joined_by (has_value at.inner.element) piece at fits
 
-  piece_kept : (kind : TagKind) (piece : Piece) (at next : Place Read) → Fits at → at_piece meaning kind piece at ≡ Ok next → Fits next
+  piece_kept : (kind : TagKind) (piece : Piece) (at next : Position Read) → Fits at → at_piece meaning kind piece at ≡ Ok next → Fits next
   piece_kept Start piece at next fits h = start_kept at.passing piece at next fits (read_on_line piece.line (at_start meaning piece at) next h)
   piece_kept End piece at next fits h = end_kept at.passing piece at next fits h
   piece_kept Empty piece at next fits h =
@@ -83,8 +83,8 @@ module _ {Read : Type 0} (meaning : Meaning Read) (Fits : Place Read → Type 0)
   piece_kept Text piece at next fits h = subst Fits (ok_is _ next h) (text_kept at.passing piece at fits)
 
   -- so it holds at the file's end, where what was read is the whole
-  pub walk_kept : (items : List Piece) (last : Last) (at : Place Read) (read : Read) → Fits at → walk meaning items last at ≡ Ok read
-      → (line : ℕ) × ((end : Place Read) × (Fits end × (at_file_end end.outer line end ≡ Ok read)))
+  pub walk_kept : (items : List Piece) (last : Last) (at : Position Read) (read : Read) → Fits at → walk meaning items last at ≡ Ok read
+      → (line : ℕ) × ((end : Position Read) × (Fits end × (at_file_end end.outer line end ≡ Ok read)))
   unfolding walk
   walk_kept [] (Ends line) at read fits h = (line, (at, (fits, h)))
   walk_kept [] (Faulty kind line) at read fits h = absurd (err_isnt (kind, line) read h)

@@ -5,22 +5,23 @@ use Rattle.std.specs.List.{list_any, list_all}
 use Rattle.std.proofs.lemmas.Bool.Decides.{nat_tests}
 use Rattle.std.proofs.lemmas.List.Folds.{list_any-append}
 use Rattle.std.proofs.lemmas.Slice.Eq.{bytes_eq-Decides}
-use Rattle.robinx_tags.specs.Fronts.{◌>>=◌, check}
+use Rattle.robinx_tags.specs.Fronts.{◌>>=◌, check, trimmed}
 use Rattle.robinx_tags.specs.Tags.{Attribute}
 use Rattle.robinx_tags.specs.Pieces.{Piece, Pieces}
 use Rattle.robinx_tags.specs.declared.fault.FormKind.{FormKind}
 use Rattle.robinx_tags.specs.declared.fault.FormKind.TheVariants.{BadNesting, MissingElement, TooMany, Truncated, WrongCounts}
-use Rattle.robinx_read.specs.Elements.{element_name, inside, unlisted, repeated, once}
-use Rattle.robinx_read.specs.Walk as walk
-use Rattle.robinx_read.specs.Walk.{Open, Place, is_met, is_complete, row_of, begins_by, passed_over, with_seen}
-use Rattle.robinx_read.specs.Classes.{constraint_of, game_mode}
-use Rattle.robinx_read.specs.Values.{required, number, only}
-use Rattle.robinx_read.specs.InstanceFile.{Draft, starts, ends, instance_meaning, nothing, double, is_season}
-use Rattle.robinx_read.specs.declared.element.Element.{Element}
-use Rattle.robinx_read.specs.declared.element.Element.TheVariants.{InstanceFile, Instance, NumberRoundRobin, Compactness, GameMode, Resources, Team, Slot, Constraints, Class}
-use Rattle.robinx_read.specs.declared.element.Times.{Times}
-use Rattle.robinx_read.specs.declared.element.Times.TheVariants.{Once, AtMostOnce, Any}
-use Rattle.robinx_read.specs.declared.element.Row.{Row}
+use Rattle.robinx_form.specs.Elements.{element_name, inside, unlisted, repeated, once}
+use Rattle.robinx_form.specs.Walk as walk
+use Rattle.robinx_form.specs.Walk.{Open, Position, is_met, is_complete, row_of, begins_by, passed_over, with_seen}
+use Rattle.robinx_form.specs.Classes.{constraint_of}
+use Rattle.robinx_form.specs.Words.{game_mode}
+use Rattle.robinx_form.specs.Values.{required, number, only}
+use Rattle.robinx_form.specs.InstanceFile.{Draft, starts, ends, instance_meaning, nothing, double, is_season}
+use Rattle.robinx_form.specs.declared.element.Element.{Element}
+use Rattle.robinx_form.specs.declared.element.Element.TheVariants.{InstanceFile, Instance, NumberRoundRobin, Compactness, GameMode, Resources, Team, Slot, Constraints, Class}
+use Rattle.robinx_form.specs.declared.element.Times.{Times}
+use Rattle.robinx_form.specs.declared.element.Times.TheVariants.{Once, AtMostOnce, Any}
+use Rattle.robinx_form.specs.declared.element.Row.{Row}
 use Rattle.league.specs.declared.class.Constraint.{Constraint}
 use Rattle.robinx_read.proofs.KeptLemmas.{ok_is, err_isnt, both_read, read_on_line, checked, closed_is, walk_kept}
 use Rattle.robinx_read.proofs.DraftLemmas.{season_size}
@@ -85,7 +86,7 @@ IsEarly element seen (around ∷ []) = (around.element ≡ InstanceFile) × (ele
 IsEarly element seen (around ∷ (next ∷ outer)) = IsEarly around.element around.seen (next ∷ outer)
 
 -- there are teams, or it is early
-abbrev pub HasTeams : Place Draft → Type 0
+abbrev pub HasTeams : Position Draft → Type 0
 HasTeams at = (0 < at.read.n) ⊎ IsEarly at.inner.element at.inner.seen at.outer
 
 -- ---- a Start
@@ -136,11 +137,11 @@ begun_early (around ∷ []) inner row piece draft read is started early =
     ]
 begun_early (around ∷ (next ∷ outer)) inner row piece draft read is started early = inr early
 
-started_fits : (row : Option Row) (piece : Piece) (at next : Place Draft) → HasTeams at → begins_by (row_of at.inner.element piece.name) at.inner piece.name ≡ Ok row
+started_fits : (row : Option Row) (piece : Piece) (at next : Position Draft) → HasTeams at → begins_by (row_of at.inner.element piece.name) at.inner piece.name ≡ Ok row
     → walk.started instance_meaning row piece at ≡ Ok next → HasTeams next
 started_fits None piece at next fits begins h = subst HasTeams (ok_is _ next h) fits
 started_fits (Some row) piece at next fits begins h =
-    let inside_of : Draft → Place Draft = λ read. record {
+    let inside_of : Draft → Position Draft = λ read. record {
       inner = record { element = row.element; line = piece.line; seen = []; text = [] };
       outer = record at.inner { seen = with_seen row.times piece.name at.inner.seen } ∷ at.outer;
       passing = None;
@@ -158,7 +159,7 @@ started_fits (Some row) piece at next fits begins h =
       ]
     ])
 
-begun_fits : (piece : Piece) (at next : Place Draft) → HasTeams at → walk.begun instance_meaning piece at ≡ Ok next → HasTeams next
+begun_fits : (piece : Piece) (at next : Position Draft) → HasTeams at → walk.begun instance_meaning piece at ≡ Ok next → HasTeams next
 begun_fits piece at next fits h =
     let row = both_read (walk.begins at.inner piece.name) (λ row. walk.started instance_meaning row piece at) next h in
     started_fits row.0 piece at next fits row.1.0 row.1.1
@@ -194,21 +195,21 @@ ended_early : (around : Open) (outer : List Open) (inner : Open) → all_seen in
 ended_early around [] inner whole early = absurd (differ (is_known (codes "Constraints") inner.seen) (instance_whole inner.element inner.seen early.1 whole) early.2)
 ended_early around (next ∷ outer) inner whole early = early
 
-ended_fits : (outer : List Open) (piece : Piece) (at next : Place Draft) → (0 < at.read.n) ⊎ IsEarly at.inner.element at.inner.seen outer → walk.ended instance_meaning outer piece at ≡ Ok next → HasTeams next
+ended_fits : (outer : List Open) (piece : Piece) (at next : Position Draft) → (0 < at.read.n) ⊎ IsEarly at.inner.element at.inner.seen outer → walk.ended instance_meaning outer piece at ≡ Ok next → HasTeams next
 ended_fits [] piece at next fits h = absurd (err_isnt (BadNesting, piece.line) next h)
 ended_fits (around ∷ outer) piece at next fits h =
-    let behind : Draft → Place Draft = λ read. record { inner = around; outer = outer; passing = None; read = read } in
+    let behind : Draft → Position Draft = λ read. record { inner = around; outer = outer; passing = None; read = read } in
     let read = both_read (walk.closed instance_meaning at.inner piece at.read) (λ read. Ok (behind read)) next h in
     let closed = closed_is instance_meaning at.inner piece at.read read.0 read.1.0 in
     subst HasTeams (ok_is (behind read.0) next read.1.1)
     (elim fits [
-      | inl some ↦ inl (ends_some at.inner.element (walk.trimmed at.inner.text) at.read read.0 closed.1 some)
+      | inl some ↦ inl (ends_some at.inner.element (trimmed at.inner.text) at.read read.0 closed.1 some)
       | inr early ↦ inr (ended_early around outer at.inner closed.0 early)
     ])
 
 -- ---- the file's end
 
-end_some : (outer : List Open) (line : ℕ) (at : Place Draft) (read : Draft) → (0 < at.read.n) ⊎ IsEarly at.inner.element at.inner.seen outer → walk.at_file_end outer line at ≡ Ok read → 0 < read.n
+end_some : (outer : List Open) (line : ℕ) (at : Position Draft) (read : Draft) → (0 < at.read.n) ⊎ IsEarly at.inner.element at.inner.seen outer → walk.at_file_end outer line at ≡ Ok read → 0 < read.n
 end_some [] line at read fits h =
     let whole = both_read (check (is_complete at.inner) Truncated) (λ complete. Ok at.read) read (read_on_line line (check (is_complete at.inner) Truncated >>= λ complete. Ok at.read) read h) in
     let seen : is_complete at.inner ≡ true = checked (is_complete at.inner) Truncated whole.0 whole.1.0 in
@@ -221,7 +222,7 @@ end_some (around ∷ outer) line at read fits h = absurd (err_isnt (Truncated, l
 -- a league that was read has teams
 pub teams_read : (found : Pieces) (read : Draft) → walk.reading instance_meaning InstanceFile nothing found ≡ Ok read → 0 < read.n
 teams_read found read h =
-    let start : Place Draft = record { inner = record { element = InstanceFile; line = 0; seen = []; text = [] }; outer = []; passing = None; read = nothing } in
+    let start : Position Draft = record { inner = record { element = InstanceFile; line = 0; seen = []; text = [] }; outer = []; passing = None; read = nothing } in
     let end = walk_kept instance_meaning HasTeams (λ at name fits. fits) (λ at text fits. fits) begun_fits (λ piece at next fits. ended_fits at.outer piece at next fits)
     found.items found.last start read (inr (refl, refl)) h in
     end_some end.1.0.outer end.0 end.1.0 read end.1.1.0 end.1.1.1

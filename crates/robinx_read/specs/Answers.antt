@@ -1,9 +1,11 @@
 -- What functions answer of what is read. Want of memory says nothing of it.
 use Rattle.std.specs.Prelude.{◌≡◌, ⊤, ℕ, Result, Ok, Err}
+use Rattle.robinx_tags.specs.Faults.{fault_on}
 use Rattle.robinx_tags.specs.declared.fault.FormKind.{FormKind}
-use Rattle.robinx_read.specs.Walk.{Fault}
-use Rattle.robinx_read.specs.declared.fault.Stop.{Stop}
-use Rattle.robinx_read.specs.declared.fault.Stop.TheVariants as stops
+use Rattle.robinx_tags.specs.declared.fault.Stop.{Stop}
+use Rattle.robinx_tags.specs.declared.fault.Stop.TheVariants as stops
+use Rattle.robinx_form.specs.Walk.{Fault}
+use Rattle.robinx_read.specs.Tagged.{of_tags}
 use Rattle.robinx_read.specs.declared.fault.ReadFault.{ReadFault}
 use Rattle.robinx_read.specs.declared.fault.ReadFault.TheVariants as faults
 
@@ -13,34 +15,19 @@ Says said (Ok x) = said ≡ Ok x
 Says said (Err (faults.Form fault)) = said ≡ Err (fault.kind, fault.line)
 Says said (Err faults.Mem) = ⊤
 
--- The same of a value, whose fault has no line yet.
-abbrev pub Gives : {A : Type 0} → Result A FormKind → Result A Stop → Type 0
-Gives read (Ok x) = read ≡ Ok x
-Gives read (Err (stops.Form kind)) = read ≡ Err kind
-Gives read (Err stops.Mem) = ⊤
+-- What is read is what a call makes of a value, which is `now` after it.
+abbrev pub Changes : {A : Type 0} → Result A FormKind → Result (Unit {0}) Stop → A → Type 0
+Changes read (Ok _) now = read ≡ Ok now
+Changes read (Err (stops.Form kind)) now = read ≡ Err kind
+Changes read (Err stops.Mem) now = ⊤
 
--- The same where memory isn't taken, by how the value is seen.
-abbrev pub Finds : {X A : Type 0} → (X → A) → Result X FormKind → Result A FormKind → Type 0
-Finds view (Ok x) read = read ≡ Ok (view x)
-Finds view (Err kind) read = read ≡ Err kind
-
--- The same of what a call changes, which is `now` where it is read.
-abbrev pub Steps : {A : Type 0} → Result A FormKind → Result (Unit {0}) Stop → A → Type 0
-Steps read (Ok _) now = read ≡ Ok now
-Steps read (Err (stops.Form kind)) now = read ≡ Err kind
-Steps read (Err stops.Mem) now = ⊤
-
-abbrev pub Moves : {A : Type 0} → Result A Fault → Result (Unit {0}) ReadFault → A → Type 0
-Moves read (Ok _) now = read ≡ Ok now
-Moves read (Err (faults.Form fault)) now = read ≡ Err (fault.kind, fault.line)
-Moves read (Err faults.Mem) now = ⊤
-
--- the fault on this line
-abbrev pub fault_on : ℕ → Stop → ReadFault
-fault_on line (stops.Form kind) = faults.Form (record { kind = kind; line = line })
-fault_on line stops.Mem = faults.Mem
+-- The same where a fault has its line.
+abbrev pub Walks : {A : Type 0} → Result A Fault → Result (Unit {0}) ReadFault → A → Type 0
+Walks read (Ok _) now = read ≡ Ok now
+Walks read (Err (faults.Form fault)) now = read ≡ Err (fault.kind, fault.line)
+Walks read (Err faults.Mem) now = ⊤
 
 -- an answer, of which a fault is on this line
 abbrev pub answer_on : ℕ → Result (Unit {0}) Stop → Result (Unit {0}) ReadFault
 answer_on line (Ok x) = Ok x
-answer_on line (Err stop) = Err (fault_on line stop)
+answer_on line (Err stop) = Err (of_tags (fault_on line stop))

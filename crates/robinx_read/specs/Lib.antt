@@ -1,17 +1,21 @@
--- What a file says, read in this order; each needs only those above it.
-pub mod Elements
-pub mod Walk
-pub mod Values
-pub mod Classes
-pub mod InstanceFile
-pub mod SolutionFile
--- The texts of files that are written:
-pub mod Attributes
-pub mod Texts
--- What functions answer of it:
-pub mod Answers
+-- What a reader of a claim must believe:
+--
+-- What a file says is defined in robinx_form.
+pub use Rattle.robinx_form.specs.Elements
+pub use Rattle.robinx_form.specs.Walk
+pub use Rattle.robinx_form.specs.Values
+pub use Rattle.robinx_form.specs.Words
+pub use Rattle.robinx_form.specs.Demands
+pub use Rattle.robinx_form.specs.Classes
+pub use Rattle.robinx_form.specs.InstanceFile
+pub use Rattle.robinx_form.specs.SolutionFile
+pub use Rattle.robinx_form.specs.Texts
+-- Faults of tags as faults of reading, and what the calls answer of what a file says:
 pub mod Tagged
--- Sets as they are read, and the place of a walk:
-pub mod Gathered
+pub mod Answers
+-- Kept inside (laws, and how fields are seen):
+--
+-- Names and positions without where they lie in memory, and what a draft keeps:
 pub mod Seen
-pub mod SeenPlace
+pub mod SeenPosition
+pub mod Drafts

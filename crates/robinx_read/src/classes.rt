@@ -1,33 +1,41 @@
-// The constraints, class by class, from the attributes of their tags.
+// The constraints, class by class, from the attributes of their tags. Each way out of a function lets go of the sets
+// that it has, so numbers and words are read by functions of their own, in `demands`.
 ghost use Rattle.std.specs.Prelude.{◌≡◌, ◌≤◌, true, IfOk};
-ghost use Rattle.league.specs.Instance.{class_fits};
-ghost use Rattle.robinx_read.specs.Classes as classes;
-ghost use Rattle.robinx_read.specs.declared.element.ClassName.TheVariants as names;
-ghost use Rattle.robinx_read.specs.Answers.{Gives};
+ghost use Rattle.league.specs.Instance.{class_fits, are_teams};
+ghost use Rattle.league.specs.declared.class.ClassName.TheVariants as names;
+ghost use Rattle.robinx_tags.specs.Seen.{Gives};
+ghost use Rattle.robinx_form.specs.Classes as classes;
 
-use crate::element::ClassName;
-use crate::fault::Stop;
+use crate::demands::{br1_in, br2_in, ca1_in, ca2_in, ca3_in, ca4_in, fa2_in, ga1_in, se1_in};
 use crate::lists::{meetings_in, slots_in, teams_in};
-use crate::values::{
-    above_zero_in, hardness_in, home_or_away_in, number_in, number_or, only_or_none, side_in,
-    span_in, zero_or_none,
-};
-use league::{Class, Constraint};
-use robinx_tags::Attrs;
+use crate::values::number_or;
+use crate::words::hardness_in;
+use league::{Class, ClassName, Constraint, TeamSet};
+use robinx_tags::{Attrs, Stop};
 use std::alloc::Global;
+
+/// Two sets of teams that play against each other.
+fn opponents_in(alloc: Global, n: u16, tag: &Attrs) -> Result<(TeamSet, TeamSet), Stop>
+    ensures value { Gives (λ x. x) result (classes.opponents n tag.now) }
+    ensures one { IfOk result (λ sets. are_teams n sets.0 ≡ true) }
+    ensures other { IfOk result (λ sets. are_teams n sets.1 ≡ true) }
+{
+    let teams1 = teams_in(alloc, tag, b"teams1", n)?;
+    let teams2 = teams_in(alloc, tag, b"teams2", n)?;
+    Ok((teams1, teams2))
+}
 
 fn ca1_of(alloc: Global, n: u16, tag: &Attrs) -> Result<Class, Stop>
     requires { n ≤ 40 }
-    ensures value { Gives (classes.class_of names.Ca1 n tag.now) result }
+    ensures value { Gives (λ x. x) result (classes.class_of names.Ca1 n tag.now) }
     ensures fits { IfOk result (λ class. class_fits n class ≡ true) }
 {
     let teams = teams_in(alloc, tag, b"teams", n)?;
-    zero_or_none(tag, b"min")?;
-    let max = number_in(tag, b"max")?;
-    let side = home_or_away_in(tag, b"mode")?;
+    let (min, max, side) = ca1_in(tag)?;
     let slots = slots_in(alloc, tag, b"slots", n)?;
     Ok(Class::Ca1 {
         teams,
+        min,
         max,
         side,
         slots,
@@ -36,19 +44,16 @@ fn ca1_of(alloc: Global, n: u16, tag: &Attrs) -> Result<Class, Stop>
 
 fn ca2_of(alloc: Global, n: u16, tag: &Attrs) -> Result<Class, Stop>
     requires { n ≤ 40 }
-    ensures value { Gives (classes.class_of names.Ca2 n tag.now) result }
+    ensures value { Gives (λ x. x) result (classes.class_of names.Ca2 n tag.now) }
     ensures fits { IfOk result (λ class. class_fits n class ≡ true) }
 {
-    let teams1 = teams_in(alloc, tag, b"teams1", n)?;
-    let teams2 = teams_in(alloc, tag, b"teams2", n)?;
-    zero_or_none(tag, b"min")?;
-    let max = number_in(tag, b"max")?;
-    let side = side_in(tag, b"mode1")?;
-    only_or_none(tag, b"mode2", b"GLOBAL")?;
+    let (teams1, teams2) = opponents_in(alloc, n, tag)?;
+    let (min, max, side) = ca2_in(tag)?;
     let slots = slots_in(alloc, tag, b"slots", n)?;
     Ok(Class::Ca2 {
         teams1,
         teams2,
+        min,
         max,
         side,
         slots,
@@ -56,19 +61,15 @@ fn ca2_of(alloc: Global, n: u16, tag: &Attrs) -> Result<Class, Stop>
 }
 
 fn ca3_of(alloc: Global, n: u16, tag: &Attrs) -> Result<Class, Stop>
-    ensures value { Gives (classes.class_of names.Ca3 n tag.now) result }
+    ensures value { Gives (λ x. x) result (classes.class_of names.Ca3 n tag.now) }
     ensures fits { IfOk result (λ class. class_fits n class ≡ true) }
 {
-    let teams1 = teams_in(alloc, tag, b"teams1", n)?;
-    let teams2 = teams_in(alloc, tag, b"teams2", n)?;
-    zero_or_none(tag, b"min")?;
-    let max = number_in(tag, b"max")?;
-    let side = side_in(tag, b"mode1")?;
-    only_or_none(tag, b"mode2", b"SLOTS")?;
-    let intp = above_zero_in(tag, b"intp")?;
+    let (teams1, teams2) = opponents_in(alloc, n, tag)?;
+    let (min, max, side, intp) = ca3_in(tag)?;
     Ok(Class::Ca3 {
         teams1,
         teams2,
+        min,
         max,
         intp,
         side,
@@ -77,19 +78,16 @@ fn ca3_of(alloc: Global, n: u16, tag: &Attrs) -> Result<Class, Stop>
 
 fn ca4_of(alloc: Global, n: u16, tag: &Attrs) -> Result<Class, Stop>
     requires { n ≤ 40 }
-    ensures value { Gives (classes.class_of names.Ca4 n tag.now) result }
+    ensures value { Gives (λ x. x) result (classes.class_of names.Ca4 n tag.now) }
     ensures fits { IfOk result (λ class. class_fits n class ≡ true) }
 {
-    let teams1 = teams_in(alloc, tag, b"teams1", n)?;
-    let teams2 = teams_in(alloc, tag, b"teams2", n)?;
-    zero_or_none(tag, b"min")?;
-    let max = number_in(tag, b"max")?;
-    let side = side_in(tag, b"mode1")?;
-    let span = span_in(tag, b"mode2")?;
+    let (teams1, teams2) = opponents_in(alloc, n, tag)?;
+    let (min, max, side, span) = ca4_in(tag)?;
     let slots = slots_in(alloc, tag, b"slots", n)?;
     Ok(Class::Ca4 {
         teams1,
         teams2,
+        min,
         max,
         side,
         span,
@@ -99,12 +97,11 @@ fn ca4_of(alloc: Global, n: u16, tag: &Attrs) -> Result<Class, Stop>
 
 fn ga1_of(alloc: Global, n: u16, tag: &Attrs) -> Result<Class, Stop>
     requires { n ≤ 40 }
-    ensures value { Gives (classes.class_of names.Ga1 n tag.now) result }
+    ensures value { Gives (λ x. x) result (classes.class_of names.Ga1 n tag.now) }
     ensures fits { IfOk result (λ class. class_fits n class ≡ true) }
 {
     let meetings = meetings_in(alloc, tag, b"meetings", n)?;
-    let min = number_in(tag, b"min")?;
-    let max = number_in(tag, b"max")?;
+    let (min, max) = ga1_in(tag)?;
     let slots = slots_in(alloc, tag, b"slots", n)?;
     Ok(Class::Ga1 {
         meetings,
@@ -116,13 +113,11 @@ fn ga1_of(alloc: Global, n: u16, tag: &Attrs) -> Result<Class, Stop>
 
 fn br1_of(alloc: Global, n: u16, tag: &Attrs) -> Result<Class, Stop>
     requires { n ≤ 40 }
-    ensures value { Gives (classes.class_of names.Br1 n tag.now) result }
+    ensures value { Gives (λ x. x) result (classes.class_of names.Br1 n tag.now) }
     ensures fits { IfOk result (λ class. class_fits n class ≡ true) }
 {
     let teams = teams_in(alloc, tag, b"teams", n)?;
-    let intp = number_in(tag, b"intp")?;
-    only_or_none(tag, b"mode1", b"LEQ")?;
-    let side = side_in(tag, b"mode2")?;
+    let (intp, side) = br1_in(tag)?;
     let slots = slots_in(alloc, tag, b"slots", n)?;
     Ok(Class::Br1 {
         teams,
@@ -134,43 +129,39 @@ fn br1_of(alloc: Global, n: u16, tag: &Attrs) -> Result<Class, Stop>
 
 fn br2_of(alloc: Global, n: u16, tag: &Attrs) -> Result<Class, Stop>
     requires { n ≤ 40 }
-    ensures value { Gives (classes.class_of names.Br2 n tag.now) result }
+    ensures value { Gives (λ x. x) result (classes.class_of names.Br2 n tag.now) }
     ensures fits { IfOk result (λ class. class_fits n class ≡ true) }
 {
     let teams = teams_in(alloc, tag, b"teams", n)?;
-    let intp = number_in(tag, b"intp")?;
-    only_or_none(tag, b"homeMode", b"HA")?;
-    only_or_none(tag, b"mode2", b"LEQ")?;
+    let intp = br2_in(tag)?;
     let slots = slots_in(alloc, tag, b"slots", n)?;
     Ok(Class::Br2 { teams, intp, slots })
 }
 
 fn fa2_of(alloc: Global, n: u16, tag: &Attrs) -> Result<Class, Stop>
     requires { n ≤ 40 }
-    ensures value { Gives (classes.class_of names.Fa2 n tag.now) result }
+    ensures value { Gives (λ x. x) result (classes.class_of names.Fa2 n tag.now) }
     ensures fits { IfOk result (λ class. class_fits n class ≡ true) }
 {
     let teams = teams_in(alloc, tag, b"teams", n)?;
-    let intp = number_in(tag, b"intp")?;
-    only_or_none(tag, b"mode", b"H")?;
+    let intp = fa2_in(tag)?;
     let slots = slots_in(alloc, tag, b"slots", n)?;
     Ok(Class::Fa2 { teams, intp, slots })
 }
 
 fn se1_of(alloc: Global, n: u16, tag: &Attrs) -> Result<Class, Stop>
-    ensures value { Gives (classes.class_of names.Se1 n tag.now) result }
+    ensures value { Gives (λ x. x) result (classes.class_of names.Se1 n tag.now) }
     ensures fits { IfOk result (λ class. class_fits n class ≡ true) }
 {
     let teams = teams_in(alloc, tag, b"teams", n)?;
-    let min = number_in(tag, b"min")?;
-    only_or_none(tag, b"mode1", b"SLOTS")?;
+    let min = se1_in(tag)?;
     Ok(Class::Se1 { teams, min })
 }
 
 /// What a constraint of this class demands in a league of n teams.
 fn class_of(alloc: Global, name: ClassName, n: u16, tag: &Attrs) -> Result<Class, Stop>
     requires { n ≤ 40 }
-    ensures value { Gives (classes.class_of name n tag.now) result }
+    ensures value { Gives (λ x. x) result (classes.class_of name n tag.now) }
     ensures fits { IfOk result (λ class. class_fits n class ≡ true) }
 {
     match name {
@@ -194,7 +185,7 @@ pub(crate) fn constraint_of(
     tag: &Attrs,
 ) -> Result<Constraint, Stop>
     requires { n ≤ 40 }
-    ensures value { Gives (classes.constraint_of name n tag.now) result }
+    ensures value { Gives (λ x. x) result (classes.constraint_of name n tag.now) }
     ensures fits { IfOk result (λ constraint. class_fits n constraint.class ≡ true) }
 {
     let hard = hardness_in(tag)?;

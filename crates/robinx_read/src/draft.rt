@@ -1,25 +1,22 @@
 // What an instance file says.
 ghost use Rattle.std.specs.Prelude.{◌≡◌, ◌<◌};
 ghost use Rattle.std.specs.List.{list_all, range_with_len};
-ghost use Rattle.robinx_read.specs.Values as values;
-ghost use Rattle.robinx_read.specs.InstanceFile as instance;
-ghost use Rattle.robinx_read.specs.Answers.{Steps};
+ghost use Rattle.league.specs.Sets.{is_in};
+ghost use Rattle.robinx_form.specs.InstanceFile as instance;
+ghost use Rattle.robinx_read.specs.Answers.{Changes};
 
 use crate::classes::constraint_of;
-use crate::element::{ClassName, Element};
-use crate::fault::Stop;
 use crate::reads::Reads;
-use crate::values::{game_mode, number, number_in, only};
-use league::{Constraint, League};
-use robinx_tags::{Attrs, FormKind};
+use crate::values::{number, number_in, only};
+use crate::words::game_mode;
+use league::{ClassName, Constraint, League, is_team_count, slot_count};
+use robinx_form::Element;
+use robinx_tags::{Attrs, FormKind, Stop};
 use std::alloc::Global;
 use std::marker::Model;
 
 /// The most constraints that a league may have.
 const MAX_CONSTRAINTS: usize = 20_000;
-
-/// The most teams that a league may have.
-const MAX_TEAMS: usize = 40;
 
 /// What was read of an instance. There are `n` teams, or 0 until the End of `Resources`.
 #[derive(Drop)]
@@ -32,16 +29,20 @@ pub(crate) struct Draft {
 }
 
 impl Model for Draft {
-    ghost use Rattle.std.specs.Prelude.{◌≡◌, ◌≤◌, ◌%◌, length, true};
-    ghost use Rattle.std.specs.List.{All};
-    ghost use Rattle.league.specs.Instance.{class_fits};
-    ghost use Rattle.robinx_read.specs.InstanceFile as instance;
+    ghost use Rattle.robinx_read.specs.Drafts.{IsDraft};
+    ghost use Rattle.robinx_form.specs.InstanceFile as instance;
 
     ghost Value = { instance.Draft };
 
-    ghost view = { λ d. record { phased = d.phased; teams = d.teams.items; slots = d.slots.items; n = d.n; constraints = d.constraints.items } };
+    ghost view = { λ d. record {
+      phased = d.phased;
+      teams = d.teams.items;
+      slots = d.slots.items;
+      n = d.n;
+      constraints = d.constraints.items;
+    } };
 
-    ghost invariant = { λ d. (d.n % 2 ≡ 0) × (d.n ≤ 40) × (d.n ≤ length d.teams.items) × (length d.constraints.items ≤ 20000) × All (λ c. class_fits d.n c.class ≡ true) d.constraints.items };
+    ghost invariant = { λ d. IsDraft d.n d.teams.items d.constraints.items };
 }
 
 /// Whether these ids are those from 0 up, each once.
@@ -52,7 +53,7 @@ fn are_ids(ids: &[u32], count: u32) -> bool
 }
 
 fn contain_all(ids: &[u32], count: u32) -> bool
-    ensures { result ≡ list_all (values.contains ids.now) (range_with_len 0 count) }
+    ensures { result ≡ list_all (λ id. is_in id ids.now) (range_with_len 0 count) }
 {
     for id in 0..count {
         if !contains(ids, id) {
@@ -63,7 +64,7 @@ fn contain_all(ids: &[u32], count: u32) -> bool
 }
 
 fn contains(ids: &[u32], id: u32) -> bool
-    ensures { result ≡ values.contains ids.now id }
+    ensures { result ≡ is_in id ids.now }
 {
     ids.iter().any(|known| *known == id)
 }
@@ -87,14 +88,15 @@ impl Draft {
         ensures { result ≡ instance.is_season self.now.teams self.now.slots }
     {
         let n = self.teams.len();
-        if n % 2 != 0 || n < 2 || n > MAX_TEAMS {
+        if !is_team_count(n as u64) {
             return false;
         }
-        are_ids(&self.teams, n as u32) && are_ids(&self.slots, 2 * (n as u32 - 1))
+        let slots = slot_count(n as u16);
+        are_ids(&self.teams, n as u32) && are_ids(&self.slots, u32::from(slots))
     }
 
     fn take_team(&mut self, attrs: &Attrs) -> Result<(), Stop>
-        ensures { Steps (instance.with_team attrs.now self.old) result self.new }
+        ensures { Changes (instance.with_team attrs.now self.old) result self.new }
     {
         let id = number_in(attrs, b"id")?;
         self.teams.push(id)?;
@@ -102,7 +104,7 @@ impl Draft {
     }
 
     fn take_slot(&mut self, attrs: &Attrs) -> Result<(), Stop>
-        ensures { Steps (instance.with_slot attrs.now self.old) result self.new }
+        ensures { Changes (instance.with_slot attrs.now self.old) result self.new }
     {
         let id = number_in(attrs, b"id")?;
         self.slots.push(id)?;
@@ -111,7 +113,7 @@ impl Draft {
 
     /// The Start of the constraints: the teams and the slots come before it.
     fn begin_constraints(&self) -> Result<(), Stop>
-        ensures { Steps (instance.with_season_known self.now) result self.now }
+        ensures { Changes (instance.with_season_known self.now) result self.now }
     {
         if self.n == 0 {
             return Err(Stop::Form(FormKind::MissingElement));
@@ -120,7 +122,7 @@ impl Draft {
     }
 
     fn take_game_mode(&mut self, value: &[u8]) -> Result<(), Stop>
-        ensures { Steps (instance.with_game_mode value.now self.old) result self.new }
+        ensures { Changes (instance.with_game_mode value.now self.old) result self.new }
     {
         self.phased = game_mode(value)?;
         Ok(())
@@ -132,7 +134,7 @@ impl Draft {
         class: ClassName,
         attrs: &Attrs,
     ) -> Result<(), Stop>
-        ensures { Steps (instance.with_constraint class attrs.now self.old) result self.new }
+        ensures { Changes (instance.with_constraint class attrs.now self.old) result self.new }
     {
         if self.constraints.len() >= MAX_CONSTRAINTS {
             return Err(Stop::Form(FormKind::TooMany));
@@ -144,7 +146,7 @@ impl Draft {
 
     /// The End of `Resources`.
     fn take_season(&mut self) -> Result<(), Stop>
-        ensures { Steps (instance.with_season self.old) result self.new }
+        ensures { Changes (instance.with_season self.old) result self.new }
     {
         if !self.has_season() {
             return Err(Stop::Form(FormKind::WrongCounts));
@@ -170,11 +172,9 @@ impl Draft {
 }
 
 impl Reads for Draft {
-    ghost use Rattle.robinx_read.specs.InstanceFile as instance;
+    ghost use Rattle.robinx_form.specs.InstanceFile as instance;
 
-    ghost begun = { instance.starts };
-
-    ghost closed = { instance.ends };
+    ghost meaning = { instance.instance_meaning };
 
     fn started(&mut self, alloc: Global, element: Element, attrs: &Attrs) -> Result<(), Stop> {
         match element {

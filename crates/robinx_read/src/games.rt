@@ -1,16 +1,15 @@
 // What a solution file says.
 ghost use Rattle.std.specs.Prelude.{◌≡◌, ◌≤◌, [], length, IfOk};
 ghost use Rattle.std.specs.List.{All};
-ghost use Rattle.robinx_read.specs.SolutionFile as solution;
+ghost use Rattle.robinx_form.specs.SolutionFile as solution;
 ghost use Rattle.league.specs.Instance.{IsGame};
-ghost use Rattle.robinx_read.specs.Answers.{Steps};
+ghost use Rattle.robinx_read.specs.Answers.{Changes};
 
-use crate::element::Element;
-use crate::fault::Stop;
 use crate::lists::{distinct, slot_in, team_in};
 use crate::reads::Reads;
 use league::{Game, Schedule, SlotId, TeamId};
-use robinx_tags::{Attrs, FormKind};
+use robinx_form::Element;
+use robinx_tags::{Attrs, FormKind, Stop};
 use std::alloc::Global;
 use std::marker::Model;
 
@@ -28,7 +27,7 @@ impl Model for Games {
     ghost use Rattle.std.specs.Prelude.{◌≤◌, length};
     ghost use Rattle.std.specs.List.{All};
     ghost use Rattle.league.specs.Instance.{IsGame};
-    ghost use Rattle.robinx_read.specs.SolutionFile as solution;
+    ghost use Rattle.robinx_form.specs.SolutionFile as solution;
 
     ghost Value = { solution.Games };
 
@@ -77,7 +76,7 @@ impl Games {
     }
 
     fn take_game(&mut self, attrs: &Attrs) -> Result<(), Stop>
-        ensures { Steps (solution.with_game attrs.now self.old) result self.new }
+        ensures { Changes (solution.with_game attrs.now self.old) result self.new }
     {
         if self.schedule.len() >= MAX_GAMES {
             return Err(Stop::Form(FormKind::TooMany));
@@ -89,12 +88,9 @@ impl Games {
 }
 
 impl Reads for Games {
-    ghost use Rattle.std.specs.Prelude.{Ok};
-    ghost use Rattle.robinx_read.specs.SolutionFile as solution;
+    ghost use Rattle.robinx_form.specs.SolutionFile as solution;
 
-    ghost begun = { solution.starts };
-
-    ghost closed = { λ element value read. Ok read };
+    ghost meaning = { solution.solution_meaning };
 
     fn started(&mut self, _alloc: Global, element: Element, attrs: &Attrs) -> Result<(), Stop> {
         match element {

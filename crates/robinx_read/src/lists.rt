@@ -3,22 +3,21 @@ ghost use Rattle.std.specs.Prelude.{◌≡◌, ◌≢◌, ◌<◌, ◌≤◌, �
 ghost use Rattle.std.specs.List.{before_first, after_first, position_or_len};
 ghost use Rattle.std.specs.Str.{byte};
 ghost use Rattle.std.specs.Ordering.{nat_cmp};
+ghost use Rattle.robinx_tags.specs.Seen.{Gives};
 ghost use Rattle.league.specs.Sets.{pair_cmp};
 ghost use Rattle.league.specs.Instance.{are_teams, are_slots, are_meetings};
-ghost use Rattle.league.specs.Counts.{slot_count};
-ghost use Rattle.robinx_read.specs.Values as values;
-ghost use Rattle.robinx_read.specs.Gathered.{gathered};
-ghost use Rattle.robinx_read.specs.Answers.{Gives};
+ghost use Rattle.league.specs.Counts as counts;
+ghost use Rattle.robinx_form.specs.Values as values;
+ghost use Rattle.robinx_form.specs.Gathered.{gathered};
 
-use crate::fault::Stop;
 use crate::values::{id, required};
-use league::{PairSet, SlotId, SlotSet, TeamId, TeamSet};
+use league::{PairSet, SlotId, SlotSet, TeamId, TeamSet, slot_count};
 use memchr::memchr;
-use robinx_tags::{Attrs, FormKind};
+use robinx_tags::{Attrs, FormKind, Stop};
 use std::alloc::Global;
 
 /// How many bytes stand before this one.
-#[tactic(auto, using(crate::proofs::SearchLemmas::first_or_len, crate::proofs::SearchLemmas::found_within))]
+#[tactic(auto, using(robinx_tags::proofs::SearchLemmas::first_or_len, robinx_tags::proofs::SearchLemmas::found_within))]
 fn len_before(byte: u8, text: &[u8]) -> usize
     ensures value { result ≡ position_or_len (λ b. b == byte) text.now }
     ensures within { result ≤ length text.now }
@@ -50,9 +49,9 @@ fn team(n: u16, text: &[u8]) -> Result<u16, FormKind>
 fn slot(n: u16, text: &[u8]) -> Result<u16, FormKind>
     requires { n ≤ 40 }
     ensures value { result ≡ values.slot n text.now }
-    ensures below { IfOk result (λ slot. slot < slot_count n) }
+    ensures below { IfOk result (λ slot. slot < counts.slot_count n) }
 {
-    id(FormKind::UnknownSlot, 2 * n.saturating_sub(1), text)
+    id(FormKind::UnknownSlot, slot_count(n), text)
 }
 
 /// A team that has to be there.
@@ -67,14 +66,14 @@ pub(crate) fn team_in(attrs: &Attrs, name: &[u8], n: u16) -> Result<u16, FormKin
 pub(crate) fn slot_in(attrs: &Attrs, name: &[u8], n: u16) -> Result<u16, FormKind>
     requires { n ≤ 40 }
     ensures value { result ≡ values.required name.now (values.slot n) attrs.now }
-    ensures below { IfOk result (λ slot. slot < slot_count n) }
+    ensures below { IfOk result (λ slot. slot < counts.slot_count n) }
 {
     slot(n, required(attrs, name)?)
 }
 
 /// The teams of a list, as a set.
 fn gather_teams(alloc: Global, n: u16, text: &[u8]) -> Result<TeamSet, Stop>
-    ensures { Gives (gathered nat_cmp [] (values.each (values.team n) (values.items_of text.now))) result }
+    ensures { Gives (λ x. x) result (gathered nat_cmp [] (values.each (values.team n) (values.items_of text.now))) }
 {
     let mut teams = TeamSet::new(alloc);
     let mut rest = text;
@@ -90,7 +89,7 @@ fn gather_teams(alloc: Global, n: u16, text: &[u8]) -> Result<TeamSet, Stop>
 /// The slots of a list, as a set.
 fn gather_slots(alloc: Global, n: u16, text: &[u8]) -> Result<SlotSet, Stop>
     requires { n ≤ 40 }
-    ensures { Gives (gathered nat_cmp [] (values.each (values.slot n) (values.items_of text.now))) result }
+    ensures { Gives (λ x. x) result (gathered nat_cmp [] (values.each (values.slot n) (values.items_of text.now))) }
 {
     let mut slots = SlotSet::new(alloc);
     let mut rest = text;
@@ -135,7 +134,8 @@ pub(crate) fn distinct(home: u16, away: u16) -> Result<(u16, u16), FormKind>
 
 /// The meetings of a list, as a set.
 fn gather_meetings(alloc: Global, n: u16, text: &[u8]) -> Result<PairSet, Stop>
-    ensures { Gives (gathered pair_cmp [] (values.each (values.meeting n) (values.items_of text.now))) result }
+    ensures { Gives (λ x. x) result
+        (gathered pair_cmp [] (values.each (values.meeting n) (values.items_of text.now))) }
 {
     let mut meetings = PairSet::new(alloc);
     let mut rest = text;
@@ -149,7 +149,7 @@ fn gather_meetings(alloc: Global, n: u16, text: &[u8]) -> Result<PairSet, Stop>
 }
 
 fn teams(alloc: Global, n: u16, text: &[u8]) -> Result<TeamSet, Stop>
-    ensures value { Gives (values.teams n text.now) result }
+    ensures value { Gives (λ x. x) result (values.teams n text.now) }
     ensures fit { IfOk result (λ teams. are_teams n teams ≡ true) }
 {
     gather_teams(alloc, n, text)
@@ -157,14 +157,14 @@ fn teams(alloc: Global, n: u16, text: &[u8]) -> Result<TeamSet, Stop>
 
 fn slots(alloc: Global, n: u16, text: &[u8]) -> Result<SlotSet, Stop>
     requires { n ≤ 40 }
-    ensures value { Gives (values.slots n text.now) result }
+    ensures value { Gives (λ x. x) result (values.slots n text.now) }
     ensures fit { IfOk result (λ slots. are_slots n slots ≡ true) }
 {
     gather_slots(alloc, n, text)
 }
 
 fn meetings(alloc: Global, n: u16, text: &[u8]) -> Result<PairSet, Stop>
-    ensures value { Gives (values.meetings n text.now) result }
+    ensures value { Gives (λ x. x) result (values.meetings n text.now) }
     ensures fit { IfOk result (λ meetings. are_meetings n meetings ≡ true) }
 {
     gather_meetings(alloc, n, text)
@@ -172,7 +172,7 @@ fn meetings(alloc: Global, n: u16, text: &[u8]) -> Result<PairSet, Stop>
 
 /// The teams of an attribute that has to be there.
 pub(crate) fn teams_in(alloc: Global, attrs: &Attrs, name: &[u8], n: u16) -> Result<TeamSet, Stop>
-    ensures value { Gives (values.required name.now (values.teams n) attrs.now) result }
+    ensures value { Gives (λ x. x) result (values.required name.now (values.teams n) attrs.now) }
     ensures fit { IfOk result (λ teams. are_teams n teams ≡ true) }
 {
     teams(alloc, n, required(attrs, name)?)
@@ -181,7 +181,7 @@ pub(crate) fn teams_in(alloc: Global, attrs: &Attrs, name: &[u8], n: u16) -> Res
 /// The slots of an attribute that has to be there.
 pub(crate) fn slots_in(alloc: Global, attrs: &Attrs, name: &[u8], n: u16) -> Result<SlotSet, Stop>
     requires { n ≤ 40 }
-    ensures value { Gives (values.required name.now (values.slots n) attrs.now) result }
+    ensures value { Gives (λ x. x) result (values.required name.now (values.slots n) attrs.now) }
     ensures fit { IfOk result (λ slots. are_slots n slots ≡ true) }
 {
     slots(alloc, n, required(attrs, name)?)
@@ -194,7 +194,7 @@ pub(crate) fn meetings_in(
     name: &[u8],
     n: u16,
 ) -> Result<PairSet, Stop>
-    ensures value { Gives (values.required name.now (values.meetings n) attrs.now) result }
+    ensures value { Gives (λ x. x) result (values.required name.now (values.meetings n) attrs.now) }
     ensures fit { IfOk result (λ meetings. are_meetings n meetings ≡ true) }
 {
     meetings(alloc, n, required(attrs, name)?)

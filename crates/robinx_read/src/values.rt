@@ -1,10 +1,8 @@
 // Values of attributes, and which attributes there are.
-ghost use Rattle.std.specs.Prelude.{◌≡◌, ◌<◌, bytes_eq, codes, IfOk};
-ghost use Rattle.robinx_read.specs.Values as values;
-ghost use Rattle.robinx_read.specs.Classes as classes;
-ghost use Rattle.robinx_read.specs.Answers.{Finds};
+ghost use Rattle.std.specs.Prelude.{◌≡◌, ◌<◌, bytes_eq, IfOk};
+ghost use Rattle.robinx_tags.specs.Seen.{Finds};
+ghost use Rattle.robinx_form.specs.Values as values;
 
-use league::{Side, Span};
 use robin_io::{NumberFault, decimal};
 use robinx_tags::{Attrs, FormKind};
 
@@ -62,20 +60,9 @@ pub(crate) fn number_or(attrs: &Attrs, name: &[u8], absent: u32) -> Result<u32, 
     }
 }
 
-/// The number 0, which may be absent.
-pub(crate) fn zero_or_none(attrs: &Attrs, name: &[u8]) -> Result<u32, FormKind>
-    ensures { result ≡ values.optional name.now 0 classes.zero_only attrs.now }
-{
-    let n = number_or(attrs, name, 0)?;
-    if n != 0 {
-        return Err(FormKind::BadChoice);
-    }
-    Ok(n)
-}
-
 /// A number that isn't 0.
 pub(crate) fn above_zero_in(attrs: &Attrs, name: &[u8]) -> Result<u32, FormKind>
-    ensures { result ≡ values.required name.now classes.above_zero attrs.now }
+    ensures { result ≡ values.required name.now values.above_zero attrs.now }
 {
     let n = number_in(attrs, name)?;
     if n == 0 {
@@ -102,95 +89,4 @@ pub(crate) fn only(text: &[u8], word: &[u8]) -> Result<(), FormKind>
         return Err(FormKind::BadChoice);
     }
     Ok(())
-}
-
-fn home_or_away(text: &[u8]) -> Result<Side, FormKind>
-    ensures { result ≡ classes.home_or_away text.now }
-{
-    if is_word(text, b"H") {
-        Ok(Side::H)
-    } else if is_word(text, b"A") {
-        Ok(Side::A)
-    } else {
-        Err(FormKind::BadChoice)
-    }
-}
-
-fn side(text: &[u8]) -> Result<Side, FormKind>
-    ensures { result ≡ classes.side text.now }
-{
-    if is_word(text, b"H") {
-        Ok(Side::H)
-    } else if is_word(text, b"A") {
-        Ok(Side::A)
-    } else if is_word(text, b"HA") {
-        Ok(Side::Both)
-    } else {
-        Err(FormKind::BadChoice)
-    }
-}
-
-fn span(text: &[u8]) -> Result<Span, FormKind>
-    ensures { result ≡ classes.span text.now }
-{
-    if is_word(text, b"GLOBAL") {
-        Ok(Span::Global)
-    } else if is_word(text, b"EVERY") {
-        Ok(Span::Every)
-    } else {
-        Err(FormKind::BadChoice)
-    }
-}
-
-fn hardness(text: &[u8]) -> Result<bool, FormKind>
-    ensures { result ≡ classes.hardness text.now }
-{
-    if is_word(text, b"HARD") {
-        Ok(true)
-    } else if is_word(text, b"SOFT") {
-        Ok(false)
-    } else {
-        Err(FormKind::BadChoice)
-    }
-}
-
-/// The game mode: whether the league is phased.
-pub(crate) fn game_mode(text: &[u8]) -> Result<bool, FormKind>
-    ensures { result ≡ classes.game_mode text.now }
-{
-    if is_word(text, b"P") {
-        Ok(true)
-    } else if is_word(text, b"NULL") || is_word(text, b"") {
-        Ok(false)
-    } else {
-        Err(FormKind::BadChoice)
-    }
-}
-
-/// A side that isn't both.
-pub(crate) fn home_or_away_in(attrs: &Attrs, name: &[u8]) -> Result<Side, FormKind>
-    ensures { result ≡ values.required name.now classes.home_or_away attrs.now }
-{
-    home_or_away(required(attrs, name)?)
-}
-
-/// A side, which may be both.
-pub(crate) fn side_in(attrs: &Attrs, name: &[u8]) -> Result<Side, FormKind>
-    ensures { result ≡ values.required name.now classes.side attrs.now }
-{
-    side(required(attrs, name)?)
-}
-
-/// Whether slots are bounded together or each by itself.
-pub(crate) fn span_in(attrs: &Attrs, name: &[u8]) -> Result<Span, FormKind>
-    ensures { result ≡ values.required name.now classes.span attrs.now }
-{
-    span(required(attrs, name)?)
-}
-
-/// Whether a constraint is hard.
-pub(crate) fn hardness_in(attrs: &Attrs) -> Result<bool, FormKind>
-    ensures { result ≡ values.required (codes "type") classes.hardness attrs.now }
-{
-    hardness(required(attrs, b"type")?)
 }

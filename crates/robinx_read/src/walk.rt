@@ -1,16 +1,16 @@
 // The walk over the pieces of a file, the same for all elements.
 ghost use Rattle.std.specs.Prelude.{◌≡◌, ◌<◌, ◌∷◌, length, None};
 ghost use Rattle.robinx_tags.specs.SeenTag.{view_of};
-ghost use Rattle.robinx_read.specs.Walk as walk;
-ghost use Rattle.robinx_read.specs.SeenPlace.{place_of};
+ghost use Rattle.robinx_form.specs.Walk as walk;
+ghost use Rattle.robinx_read.specs.SeenPosition.{position_of};
 ghost use Rattle.robinx_read.specs.declared.fault.ReadFault.TheVariants as faults;
-ghost use Rattle.robinx_read.specs.Answers.{Steps, Moves, answer_on};
+ghost use Rattle.robinx_read.specs.Answers.{Changes, Walks, answer_on};
 
-use crate::element::Element;
-use crate::fault::{FormFault, ReadFault, Stop};
-use crate::place::{Open, Place};
+use crate::fault::{FormFault, ReadFault};
+use crate::position::{Open, Position};
 use crate::reads::Reads;
-use robinx_tags::{FormKind, Tag, TagKind, TagReader};
+use robinx_form::Element;
+use robinx_tags::{FormKind, Stop, Tag, TagKind, TagReader};
 use std::alloc::Global;
 use std::mem::replace;
 
@@ -23,24 +23,25 @@ fn fault(kind: FormKind, line: u32) -> ReadFault
 /// A Start in an element that is read.
 fn begin<'a, R: Reads>(
     alloc: Global,
-    place: &mut Place<'a>,
+    position: &mut Position<'a>,
     read: &mut R,
     tag: &Tag<'a>,
 ) -> Result<(), Stop>
-    requires { place.old.passing ≡ None }
-    ensures { Steps (walk.begun (record { started = R.begun; ended = R.closed }) (view_of tag.now) (place_of place.old read.old)) result (place_of place.new read.new) }
+    requires { position.old.passing ≡ None }
+    ensures { Changes (walk.begun R.meaning (view_of tag.now) (position_of position.old read.old))
+        result (position_of position.new read.new) }
 {
-    match place.inner.begins(tag.name)? {
+    match position.inner.begins(tag.name)? {
         None => {
-            place.passing = Some(tag.name);
+            position.passing = Some(tag.name);
             Ok(())
         }
         Some(row) => {
             read.started(alloc, row.element, &tag.attrs)?;
-            place.inner.note(row.times, tag.name)?;
+            position.inner.note(row.times, tag.name)?;
             let within = Open::new(alloc, row.element, tag.line);
-            let around = replace(&mut place.inner, within);
-            place.outer.insert(0, around)?;
+            let around = replace(&mut position.inner, within);
+            position.outer.insert(0, around)?;
             Ok(())
         }
     }
@@ -49,21 +50,22 @@ fn begin<'a, R: Reads>(
 /// A Start: nothing to an element that is passed over.
 fn at_start<'a, R: Reads>(
     alloc: Global,
-    place: &mut Place<'a>,
+    position: &mut Position<'a>,
     read: &mut R,
     tag: &Tag<'a>,
 ) -> Result<(), Stop>
-    ensures { Steps (walk.at_start (record { started = R.begun; ended = R.closed }) (view_of tag.now) (place_of place.old read.old)) result (place_of place.new read.new) }
+    ensures { Changes (walk.at_start R.meaning (view_of tag.now) (position_of position.old read.old))
+        result (position_of position.new read.new) }
 {
-    match place.passing {
+    match position.passing {
         Some(_) => Ok(()),
-        None => begin(alloc, place, read, tag),
+        None => begin(alloc, position, read, tag),
     }
 }
 
 /// The End of this element: it is its own, and all that has to stand in it was read.
 fn close<R: Reads>(inner: &Open, read: &mut R, tag: &Tag) -> Result<(), ReadFault>
-    ensures { Moves (walk.closed (record { started = R.begun; ended = R.closed }) inner.now (view_of tag.now) read.old) result read.new }
+    ensures { Walks (walk.closed R.meaning inner.now (view_of tag.now) read.old) result read.new }
 {
     let element = inner.element();
     if element.name() != tag.name {
@@ -74,30 +76,36 @@ fn close<R: Reads>(inner: &Open, read: &mut R, tag: &Tag) -> Result<(), ReadFaul
     }
     match read.ended(element, inner.value()) {
         Ok(()) => Ok(()),
-        Err(stop) => Err(stop.on_line(end_line(inner, tag.line))),
+        Err(stop) => Err(ReadFault::from(stop.on_line(end_line(inner, tag.line)))),
     }
 }
 
 /// Goes back to the element around the innermost.
-fn leave(place: &mut Place)
-    requires { 0 < length place.old.outer.items }
-    ensures around { place.old.outer.items ≡ place.new.inner ∷ place.new.outer.items }
-    ensures passing { place.new.passing ≡ place.old.passing }
+fn leave(position: &mut Position)
+    requires { 0 < length position.old.outer.items }
+    ensures around { position.old.outer.items ≡ position.new.inner ∷ position.new.outer.items }
+    ensures passing { position.new.passing ≡ position.old.passing }
 {
-    let around = place.outer.remove(0);
-    let _inner = replace(&mut place.inner, around);
+    let around = position.outer.remove(0);
+    let _inner = replace(&mut position.inner, around);
 }
 
 /// The End of an element that is read.
-fn ended<'a, R: Reads>(place: &mut Place<'a>, read: &mut R, tag: &Tag<'a>) -> Result<(), ReadFault>
-    requires { place.old.passing ≡ None }
-    ensures { Moves (walk.ended (record { started = R.begun; ended = R.closed }) place.old.outer.items (view_of tag.now) (place_of place.old read.old)) result (place_of place.new read.new) }
+fn ended<'a, R: Reads>(
+    position: &mut Position<'a>,
+    read: &mut R,
+    tag: &Tag<'a>,
+) -> Result<(), ReadFault>
+    requires { position.old.passing ≡ None }
+    ensures { Walks
+        (walk.ended R.meaning position.old.outer.items (view_of tag.now) (position_of position.old read.old))
+        result (position_of position.new read.new) }
 {
-    if place.outer.is_empty() {
+    if position.outer.is_empty() {
         return Err(fault(FormKind::BadNesting, tag.line));
     }
-    close(&place.inner, read, tag)?;
-    leave(place);
+    close(&position.inner, read, tag)?;
+    leave(position);
     Ok(())
 }
 
@@ -113,39 +121,45 @@ fn end_line(element: &Open, line: u32) -> u32
 }
 
 /// An End: the first of its own name ends an element that is passed over.
-fn at_end<'a, R: Reads>(place: &mut Place<'a>, read: &mut R, tag: &Tag<'a>) -> Result<(), ReadFault>
-    ensures { Moves (walk.at_end (record { started = R.begun; ended = R.closed }) (view_of tag.now) (place_of place.old read.old)) result (place_of place.new read.new) }
+fn at_end<'a, R: Reads>(
+    position: &mut Position<'a>,
+    read: &mut R,
+    tag: &Tag<'a>,
+) -> Result<(), ReadFault>
+    ensures { Walks (walk.at_end R.meaning (view_of tag.now) (position_of position.old read.old))
+        result (position_of position.new read.new) }
 {
-    match place.passing {
+    match position.passing {
         Some(name) => {
             if name == tag.name {
-                place.passing = None;
+                position.passing = None;
             }
             Ok(())
         }
-        None => ended(place, read, tag),
+        None => ended(position, read, tag),
     }
 }
 
 /// A piece. An `Empty` is its Start and then its End.
 fn at_piece<'a, R: Reads>(
     alloc: Global,
-    place: &mut Place<'a>,
+    position: &mut Position<'a>,
     read: &mut R,
     tag: &Tag<'a>,
 ) -> Result<(), ReadFault>
-    ensures { Moves (walk.at_piece (record { started = R.begun; ended = R.closed }) tag.now.kind (view_of tag.now) (place_of place.old read.old)) result (place_of place.new read.new) }
+    ensures { Walks (walk.at_piece R.meaning tag.now.kind (view_of tag.now) (position_of position.old read.old))
+        result (position_of position.new read.new) }
 {
     match tag.kind {
-        TagKind::Start => on_line(at_start(alloc, place, read, tag), tag.line),
-        TagKind::End => at_end(place, read, tag),
+        TagKind::Start => on_line(at_start(alloc, position, read, tag), tag.line),
+        TagKind::End => at_end(position, read, tag),
         TagKind::Empty => {
-            on_line(at_start(alloc, place, read, tag), tag.line)?;
-            at_end(place, read, tag)
+            on_line(at_start(alloc, position, read, tag), tag.line)?;
+            at_end(position, read, tag)
         }
         TagKind::Text => {
-            if place.passing.is_none() && place.inner.element().has_value() {
-                on_line(place.inner.add_text(tag.text), tag.line)?;
+            if position.passing.is_none() && position.inner.element().has_value() {
+                on_line(position.inner.add_text(tag.text), tag.line)?;
             }
             Ok(())
         }
@@ -158,7 +172,7 @@ fn on_line(done: Result<(), Stop>, line: u32) -> Result<(), ReadFault>
 {
     match done {
         Ok(()) => Ok(()),
-        Err(stop) => Err(stop.on_line(line)),
+        Err(stop) => Err(ReadFault::from(stop.on_line(line))),
     }
 }
 
@@ -173,18 +187,18 @@ pub(crate) fn read_file<'a, R: Reads>(
     file: Element,
     read: &mut R,
 ) -> Result<(), ReadFault>
-    ensures { Moves (walk.reading (record { started = R.begun; ended = R.closed }) file read.old tags.entry) result read.new }
+    ensures { Walks (walk.reading R.meaning file read.old tags.entry) result read.new }
 {
     let mut tags = tags;
-    let mut place = Place {
+    let mut position = Position {
         inner: Open::new(alloc, file, 0),
         outer: Vec::new(alloc),
         passing: None,
     };
     'pieces: while let Some(tag) = tags.next(alloc)? {
-        at_piece(alloc, &mut place, read, &tag)?;
+        at_piece(alloc, &mut position, read, &tag)?;
     }
-    if !place.outer.is_empty() || !place.inner.is_complete() {
+    if !position.outer.is_empty() || !position.inner.is_complete() {
         return Err(fault(FormKind::Truncated, tags.end_line()));
     }
     Ok(())

@@ -7,55 +7,33 @@ use Rattle.std.proofs.lemmas.List.{append-nil}
 use Rattle.std.proofs.lemmas.List.Elements.{All-tail, All-head}
 use Rattle.std.proofs.lemmas.Slice.Eq.{bytes_eq-Decides}
 use Rattle.league.specs.Instance.{class_fits}
+use Rattle.league.specs.Names.{name_of, name_text}
 use Rattle.league.specs.declared.class.Class.{Class}
 use Rattle.league.specs.declared.class.Class.TheVariants.{Ca1, Ca2, Ca3, Ca4, Ga1, Br1, Br2, Fa2, Se1}
 use Rattle.league.specs.declared.class.Constraint.{Constraint}
 use Rattle.robinx_tags.specs.Tags as tags
 use Rattle.robinx_tags.specs.declared.tag.TagKind.TheVariants.{Start, End, Empty}
-use Rattle.robinx_read.specs.Texts as texts
-use Rattle.robinx_read.specs.Texts.{class_name, constraint_line, constraints_after, opens, closes, between}
-use Rattle.robinx_read.specs.Elements as elements
-use Rattle.robinx_read.specs.Walk.{Open, Place, at_piece}
-use Rattle.robinx_read.specs.Classes.{constraint_of}
-use Rattle.robinx_read.specs.InstanceFile.{Draft, instance_meaning, with_constraint}
-use Rattle.robinx_read.specs.declared.element.Element.{Element}
-use Rattle.robinx_read.specs.declared.element.Element.TheVariants as element
-use Rattle.robinx_read.specs.declared.element.GroupName.{GroupName}
-use Rattle.robinx_read.specs.declared.element.GroupName.TheVariants.{Basic, Capacity, Game, Break, Fairness, Separation}
+use Rattle.robinx_tags.specs.Tags.{Attribute}
+use Rattle.robinx_form.specs.Texts.{group_of, constraint_attributes, constraint_line, constraints_after, opens, closes, between}
+use Rattle.robinx_form.specs.Elements as elements
+use Rattle.robinx_form.specs.Walk.{Open, Position, at_piece}
+use Rattle.robinx_form.specs.Classes.{constraint_of}
+use Rattle.robinx_form.specs.InstanceFile.{Draft, instance_meaning, with_constraint}
+use Rattle.robinx_form.specs.declared.element.Element.{Element}
+use Rattle.robinx_form.specs.declared.element.Element.TheVariants as element
+use Rattle.robinx_form.specs.declared.element.GroupName.{GroupName}
+use Rattle.robinx_form.specs.declared.element.GroupName.TheVariants.{Basic, Capacity, Game, Break, Fairness, Separation}
 use Rattle.robinx_write.specs.Held.{IsHeld}
-use Rattle.robinx_write.proofs.TagLemmas.{seen, is_plain_name}
+use Rattle.robinx_write.proofs.TagLemmas.{is_plain_name}
 use Rattle.robinx_write.proofs.StepLemmas.{tag, BeginsTag, Reads, Reads-tag_line, Reads-start_line, Reads-end_line}
-use Rattle.robinx_write.proofs.ClassLemmas.{line_attributes, name_of, constraint-read, values-plain, names-new, attributes-few, class_name-plain}
+use Rattle.robinx_write.proofs.ClassLemmas.{constraint-read, values-plain, names-new, attributes-few, class_name-plain}
 
 -- an element of which no text is read
 abbrev pub opened : Element → ℕ → List (List ℕ) → Open
 opened e line names = record { element = e; line = line; seen = names; text = [] }
 
-abbrev pub place : Open → List Open → Draft → Place Draft
-place inner outer draft = record { inner = inner; outer = outer; passing = None; read = draft }
-
--- the group of a class
-abbrev group_of : Class → GroupName
-group_of (Ca1 _ _ _ _) = Capacity
-group_of (Ca2 _ _ _ _ _) = Capacity
-group_of (Ca3 _ _ _ _ _) = Capacity
-group_of (Ca4 _ _ _ _ _ _) = Capacity
-group_of (Ga1 _ _ _ _) = Game
-group_of (Br1 _ _ _ _) = Break
-group_of (Br2 _ _ _) = Break
-group_of (Fa2 _ _ _) = Fairness
-group_of (Se1 _ _) = Separation
-
-group-named : (c : Class) → codes (texts.group_name c) ≡ elements.group_name (group_of c)
-group-named (Ca1 i max side s) = refl
-group-named (Ca2 i j max side s) = refl
-group-named (Ca3 i j max intp side) = refl
-group-named (Ca4 i j max side span s) = refl
-group-named (Ga1 ps min max s) = refl
-group-named (Br1 i intp side s) = refl
-group-named (Br2 i intp s) = refl
-group-named (Fa2 i intp s) = refl
-group-named (Se1 i min) = refl
+abbrev pub position : Open → List Open → Draft → Position Draft
+position inner outer draft = record { inner = inner; outer = outer; passing = None; read = draft }
 
 group-plain : (g : GroupName) → is_plain_name (elements.group_name g) ≡ true
 group-plain Basic = refl
@@ -76,11 +54,11 @@ constraints-begin (c ∷ constraints) end begins = (_, refl)
 
 module _ (line : ℕ) (outer : List Open) where
   -- among the groups, and in a group
-  abbrev pub among : Draft → Place Draft
-  among draft = place (opened element.Constraints line []) outer draft
+  abbrev pub among : Draft → Position Draft
+  among draft = position (opened element.Constraints line []) outer draft
 
-  abbrev within : ℕ → GroupName → Draft → Place Draft
-  within start g draft = place (opened (element.Group g) start []) (opened element.Constraints line [] ∷ outer) draft
+  abbrev within : ℕ → GroupName → Draft → Position Draft
+  within start g draft = position (opened (element.Group g) start []) (opened element.Constraints line [] ∷ outer) draft
 
   group-starts : (g : GroupName) (at : ℕ) (draft : Draft) → at_piece instance_meaning Start (tag Start (elements.group_name g) [] at) (among draft) ≡ Ok (within at g draft)
   group-starts Basic at draft = refl
@@ -98,12 +76,12 @@ module _ (line : ℕ) (outer : List Open) where
   group-ends Fairness at start draft = refl
   group-ends Separation at start draft = refl
 
-  class-stands : (c : Class) (attributes : List tags.Attribute) (g : GroupName) (at start : ℕ) (draft next : Draft) → with_constraint (name_of c) attributes draft ≡ Ok next
-      → at_piece instance_meaning Empty (tag Empty (codes (class_name c)) attributes at) (within start g draft) ≡ Ok (within start g next)
-  class-stands (Ca1 i max side s) attributes g at start draft next is = rw is refl
-  class-stands (Ca2 i j max side s) attributes g at start draft next is = rw is refl
-  class-stands (Ca3 i j max intp side) attributes g at start draft next is = rw is refl
-  class-stands (Ca4 i j max side span s) attributes g at start draft next is = rw is refl
+  class-stands : (c : Class) (attributes : List Attribute) (g : GroupName) (at start : ℕ) (draft next : Draft) → with_constraint (name_of c) attributes draft ≡ Ok next
+      → at_piece instance_meaning Empty (tag Empty (codes (name_text (name_of c))) attributes at) (within start g draft) ≡ Ok (within start g next)
+  class-stands (Ca1 i min max side s) attributes g at start draft next is = rw is refl
+  class-stands (Ca2 i j min max side s) attributes g at start draft next is = rw is refl
+  class-stands (Ca3 i j min max intp side) attributes g at start draft next is = rw is refl
+  class-stands (Ca4 i j min max side span s) attributes g at start draft next is = rw is refl
   class-stands (Ga1 ps min max s) attributes g at start draft next is = rw is refl
   class-stands (Br1 i intp side s) attributes g at start draft next is = rw is refl
   class-stands (Br2 i intp s) attributes g at start draft next is = rw is refl
@@ -135,19 +113,19 @@ module _ (line : ℕ) (outer : List Open) where
     room len h = grind (arith, nat_tests)
 
     one_more : (so_far : List Constraint) (c : Constraint) → length so_far < 20000 → CanStand n c
-        → with_constraint (name_of c.class) (map seen (line_attributes c)) (drafted so_far) ≡ Ok (drafted (so_far ++ c ∷ []))
+        → with_constraint (name_of c.class) (constraint_attributes c) (drafted so_far) ≡ Ok (drafted (so_far ++ c ∷ []))
     one_more so_far c few stands =
         let space : nat_lt (length so_far) 20000 ≡ true = room (length so_far) few in
-        let read : constraint_of (name_of c.class) n (map seen (line_attributes c)) ≡ Ok c = constraint-read n c size stands.held stands.fits in
+        let read : constraint_of (name_of c.class) n (constraint_attributes c) ≡ Ok c = constraint-read n c size stands.held stands.fits in
         rw (space, read) refl
 
     -- a line, and then the others
     one_line : (c : Constraint) (so_far : List Constraint) (g : GroupName) (start : ℕ) (rest : List ℕ) (x : Draft) → length so_far < 20000 → CanStand n c → BeginsTag rest
         → Reads instance_meaning rest (within start g (drafted (so_far ++ c ∷ []))) x → Reads instance_meaning (constraint_line c ++ rest) (within start g (drafted so_far)) x
     one_line c so_far g start rest x few stands begins on =
-        Reads-tag_line instance_meaning (codes (class_name c.class)) (line_attributes c) rest (within start g (drafted so_far)) x (λ at. within start g (drafted (so_far ++ c ∷ [])))
+        Reads-tag_line instance_meaning (codes (name_text (name_of c.class))) (constraint_attributes c) rest (within start g (drafted so_far)) x (λ at. within start g (drafted (so_far ++ c ∷ [])))
         (class_name-plain c.class) (attributes-few c) (names-new c) (values-plain c) begins
-        (λ at. class-stands c.class (map seen (line_attributes c)) g at start (drafted so_far) (drafted (so_far ++ c ∷ [])) (one_more so_far c few stands)) (λ at. refl) (λ at. on)
+        (λ at. class-stands c.class (constraint_attributes c) g at start (drafted so_far) (drafted (so_far ++ c ∷ [])) (one_more so_far c few stands)) (λ at. refl) (λ at. on)
 
     begins_by : (t : Bool) (one other rest : List ℕ) → BeginsTag one → BeginsTag rest → BeginsTag (cond t [] (one ++ other) ++ rest)
     begins_by true one other rest first second = second
@@ -160,7 +138,7 @@ module _ (line : ℕ) (outer : List Open) where
     after-begins : (g : GroupName) (constraints : List Constraint) (end : List ℕ) → BeginsTag (constraints_after (Some (elements.group_name g)) constraints ++ end)
     after-begins g [] end = (_, refl)
     after-begins g (c ∷ constraints) end =
-        let own : List ℕ = codes (texts.group_name c.class) in
+        let own : List ℕ = elements.group_name (group_of (name_of c.class)) in
         let rest : List ℕ = constraint_line c ++ constraints_after (Some own) constraints in
         let whole : between (Some (elements.group_name g)) (Some own) ++ (rest ++ end) ≡ (between (Some (elements.group_name g)) (Some own) ++ rest) ++ end = sym (append_assoc (between (Some (elements.group_name g)) (Some own)) rest end) in
         let begins : BeginsTag (between (Some (elements.group_name g)) (Some own) ++ (rest ++ end)) =
@@ -172,18 +150,18 @@ module _ (line : ℕ) (outer : List Open) where
     ReadsAfter c constraints so_far end x = (k : GroupName) (from : ℕ) → Reads instance_meaning (constraints_after (Some (elements.group_name k)) constraints ++ end) (within from k (drafted (so_far ++ c ∷ []))) x
 
     -- the line of a constraint in a group that has the name of its own, and then the others
-    line_in : (c : Constraint) (constraints so_far : List Constraint) (k : GroupName) (from : ℕ) (end : List ℕ) (x : Draft) → codes (texts.group_name c.class) ≡ elements.group_name k → ReadsAfter c constraints so_far end x
-        → CanStand n c → length so_far < 20000 → Reads instance_meaning (constraint_line c ++ (constraints_after (Some (codes (texts.group_name c.class))) constraints ++ end)) (within from k (drafted so_far)) x
+    line_in : (c : Constraint) (constraints so_far : List Constraint) (k : GroupName) (from : ℕ) (end : List ℕ) (x : Draft) → elements.group_name (group_of (name_of c.class)) ≡ elements.group_name k → ReadsAfter c constraints so_far end x
+        → CanStand n c → length so_far < 20000 → Reads instance_meaning (constraint_line c ++ (constraints_after (Some (elements.group_name (group_of (name_of c.class)))) constraints ++ end)) (within from k (drafted so_far)) x
     line_in c constraints so_far k from end x own later stands few =
         rw own (one_line c so_far k from (constraints_after (Some (elements.group_name k)) constraints ++ end) x few stands (after-begins k constraints end) (later k from))
 
     -- where the next constraint is of a group of the same name, or of another
     by_name : (c : Constraint) (constraints so_far : List Constraint) (g h : GroupName) (start : ℕ) (end : List ℕ) (x : Draft) (t : Bool) → bytes_eq (elements.group_name g) (elements.group_name h) ≡ t
-        → codes (texts.group_name c.class) ≡ elements.group_name h → ReadsAfter c constraints so_far end x → CanStand n c → length so_far < 20000
+        → elements.group_name (group_of (name_of c.class)) ≡ elements.group_name h → ReadsAfter c constraints so_far end x → CanStand n c → length so_far < 20000
         → Reads instance_meaning (constraints_after (Some (elements.group_name g)) (c ∷ constraints) ++ end) (within start g (drafted so_far)) x
     by_name c constraints so_far g h start end x true is same later stands few =
         let a : List ℕ = elements.group_name g in
-        let own : List ℕ = codes (texts.group_name c.class) in
+        let own : List ℕ = elements.group_name (group_of (name_of c.class)) in
         let line : List ℕ = constraint_line c in
         let after : List ℕ = constraints_after (Some own) constraints in
         let gap : between (Some a) (Some own) ≡ [] =
@@ -194,7 +172,7 @@ module _ (line : ℕ) (outer : List Open) where
     by_name c constraints so_far g h start end x false is same later stands few =
         let a : List ℕ = elements.group_name g in
         let b : List ℕ = elements.group_name h in
-        let own : List ℕ = codes (texts.group_name c.class) in
+        let own : List ℕ = elements.group_name (group_of (name_of c.class)) in
         let line : List ℕ = constraint_line c in
         let after : List ℕ = constraints_after (Some own) constraints in
         let gap : between (Some a) (Some own) ≡ closes (Some a) ++ opens (Some b) =
@@ -220,21 +198,21 @@ module _ (line : ℕ) (outer : List Open) where
         let more : so_far ++ c ∷ constraints ≡ (so_far ++ c ∷ []) ++ constraints = sym (append_assoc so_far (c ∷ []) constraints) in
         let room_left : length (so_far ++ c ∷ []) + length constraints ≤ 20000 = omega (arith, length-append so_far (c ∷ [])) in
         let later : ReadsAfter c constraints so_far end x = λ k from. in_group constraints (so_far ++ c ∷ []) k from end x room_left (All-tail (CanStand n) c constraints stand) begins (rw more at on) in
-        by_name c constraints so_far g (group_of c.class) start end x (bytes_eq (elements.group_name g) (elements.group_name (group_of c.class))) refl (group-named c.class) later (All-head (CanStand n) c constraints stand) (omega arith)
+        by_name c constraints so_far g (group_of (name_of c.class)) start end x (bytes_eq (elements.group_name g) (elements.group_name (group_of (name_of c.class)))) refl refl later (All-head (CanStand n) c constraints stand) (omega arith)
 
     -- all constraints
     pub constraints-read : (constraints : List Constraint) (end : List ℕ) (x : Draft) → length constraints ≤ 20000 → All (CanStand n) constraints → BeginsTag end
         → Reads instance_meaning end (among (drafted constraints)) x → Reads instance_meaning (constraints_after None constraints ++ end) (among (drafted [])) x
     constraints-read [] end x few stand begins on = on
     constraints-read (c ∷ constraints) end x few stand begins on =
-        let h : GroupName = group_of c.class in
-        let own : List ℕ = codes (texts.group_name c.class) in
+        let h : GroupName = group_of (name_of c.class) in
+        let own : List ℕ = elements.group_name (group_of (name_of c.class)) in
         let line : List ℕ = constraint_line c in
         let after : List ℕ = constraints_after (Some own) constraints in
         let text : (opens (Some own) ++ (line ++ after)) ++ end ≡ opens (Some (elements.group_name h)) ++ (line ++ (after ++ end)) =
         append_assoc (opens (Some own)) (line ++ after) end
         ∙ ap (λ (l : List ℕ). opens (Some own) ++ l) (append_assoc line after end)
-        ∙ ap (λ (o : List ℕ). opens (Some o) ++ (line ++ (after ++ end))) (group-named c.class) in
+        ∙ ap (λ (o : List ℕ). opens (Some o) ++ (line ++ (after ++ end))) refl in
         let later : ReadsAfter c constraints [] end x = λ k from. in_group constraints (c ∷ []) k from end x (omega arith) (All-tail (CanStand n) c constraints stand) begins on in
         subst (λ (l : List ℕ). Reads instance_meaning l (among (drafted [])) x) (sym text)
-        (group-opened h (line ++ (after ++ end)) (drafted []) x (line-begins c (after ++ end)) (λ from. line_in c constraints [] h from end x (group-named c.class) later (All-head (CanStand n) c constraints stand) (omega arith)))
+        (group-opened h (line ++ (after ++ end)) (drafted []) x (line-begins c (after ++ end)) (λ from. line_in c constraints [] h from end x refl later (All-head (CanStand n) c constraints stand) (omega arith)))

@@ -1,34 +1,33 @@
 -- What the text of an instance says.
-use Rattle.std.proofs.Common.{◌≡◌, ℕ, zero, suc, ◌+◌, ◌%◌, ◌<◌, ◌≤◌, ◌^◌, Bool, true, false, ◌&&◌, ◌||◌, ◌==◌, List, [], ◌∷◌, ◌++◌, length, map, None, Ok, decimal, refl, sym, ap, ◌∙◌, append_assoc, arith}
+use Rattle.std.proofs.Common.{◌≡◌, ℕ, zero, suc, ◌+◌, ◌%◌, ◌<◌, ◌≤◌, ◌^◌, Bool, true, false, ◌&&◌, ◌||◌, ◌==◌, List, [], ◌∷◌, ◌++◌, length, map, None, Ok, decimal, refl, sym, ap, ◌∙◌, append_assoc, arith, subst}
 use Rattle.std.specs.Prelude.{codes, nat_lt, nat_le, Result}
 use Rattle.std.specs.List.{All, flat_map, list_all, list_any, range_with_len}
 use Rattle.std.proofs.lemmas.Bool.Decides.{nat_tests}
 use Rattle.std.proofs.lemmas.List.{append-nil}
+use Rattle.std.proofs.lemmas.List.FromFn.{length-range_with_len}
 use Rattle.league.specs.Counts.{teams_of, slots_of, slot_count}
-use Rattle.league.specs.Instance.{Instance, IsInstance}
+use Rattle.league.specs.Instance.{Instance, IsInstance, IsTeamCount, is_team_count}
+use Rattle.league.specs.Sets.{is_in}
 use Rattle.league.specs.declared.class.Constraint.{Constraint}
 use Rattle.robinx_tags.specs.Fronts.{◌>>=◌}
 use Rattle.robinx_tags.specs.Tags.{attributes_at}
 use Rattle.robinx_tags.specs.Pieces.{pieces, pieces_from}
 use Rattle.robinx_tags.specs.declared.tag.TagKind.TheVariants.{Empty}
-use Rattle.robinx_read.specs.Attributes.{Attribute, count, word}
-use Rattle.robinx_read.specs.Texts.{mode_word, team_line, slot_line, constraints_after, instance_text}
-use Rattle.robinx_read.specs.Values.{number, contains}
-use Rattle.robinx_read.specs.Walk.{Open, Place, Fault, walk, at_piece}
-use Rattle.robinx_read.specs.InstanceFile.{Draft, instance_meaning, instance_of, nothing, league_of, are_ids, is_season}
-use Rattle.robinx_read.specs.declared.element.Element.{Element}
-use Rattle.robinx_read.specs.declared.element.Element.TheVariants as element
+use Rattle.robinx_tags.specs.Tags.{Attribute}
+use Rattle.robinx_form.specs.Attributes.{count, word}
+use Rattle.robinx_form.specs.Texts.{mode_word, team_line, slot_line, constraints_after, instance_text}
+use Rattle.robinx_form.specs.Values.{number}
+use Rattle.robinx_form.specs.Walk.{Open, Position, Fault, walk, at_piece}
+use Rattle.robinx_form.specs.InstanceFile.{Draft, instance_meaning, instance_of, nothing, league_of, are_ids, is_season}
+use Rattle.robinx_form.specs.declared.element.Element.{Element}
+use Rattle.robinx_form.specs.declared.element.Element.TheVariants as element
 use Rattle.robinx_write.specs.Held.{IsHeld}
-use Rattle.robinx_write.proofs.TagLemmas.{seen, are_plain_values}
+use Rattle.robinx_write.proofs.TagLemmas.{are_plain_values}
 use Rattle.robinx_write.proofs.StepLemmas.{tag, BeginsTag, Reads, Reads-passed, Reads-newline, Reads-tag_line, Reads-start_line, Reads-end_line, Reads-value_line}
 use Rattle.robinx_write.proofs.NumberTexts.{number-decimal, decimal-plain}
-use Rattle.robinx_write.proofs.GroupLemmas.{opened, place, among, CanStand, constraints-begin, constraints-read}
+use Rattle.robinx_write.proofs.GroupLemmas.{opened, position, among, CanStand, constraints-begin, constraints-read}
 
 -- ---- the season
-
-length-range : (a k : ℕ) → length (range_with_len a k) ≡ k
-length-range a zero = refl
-length-range a (suc k) = ap suc (length-range (a + 1) k)
 
 any-here : (p : ℕ → Bool) (before after : List ℕ) (x : ℕ) → p x ≡ true → list_any p (before ++ x ∷ after) ≡ true
 any-here p [] after x here = rw here refl
@@ -40,17 +39,17 @@ any-here p (y ∷ before) after x here = or_true (p y) (list_any p (before ++ x 
 same_number : (x : ℕ) → (x == x) ≡ true
 same_number x = grind (arith, nat_tests)
 
-contains-all : (before ids : List ℕ) → list_all (contains (before ++ ids)) ids ≡ true
-contains-all before [] = refl
-contains-all before (x ∷ ids) =
-    let here : contains (before ++ x ∷ ids) x ≡ true = any-here (λ i. i == x) before ids x (same_number x) in
-    let later : list_all (contains (before ++ x ∷ ids)) ids ≡ true = ap (λ (l : List ℕ). list_all (contains l) ids) (sym (append_assoc before (x ∷ []) ids)) ∙ contains-all (before ++ x ∷ []) ids in
+is_in-all : (before ids : List ℕ) → list_all (λ i. is_in i (before ++ ids)) ids ≡ true
+is_in-all before [] = refl
+is_in-all before (x ∷ ids) =
+    let here : is_in x (before ++ x ∷ ids) ≡ true = any-here (λ i. i == x) before ids x (same_number x) in
+    let later : list_all (λ i. is_in i (before ++ x ∷ ids)) ids ≡ true = ap (λ (l : List ℕ). list_all (λ i. is_in i l) ids) (sym (append_assoc before (x ∷ []) ids)) ∙ is_in-all (before ++ x ∷ []) ids in
     rw here later
 
 are_ids-same : (ids : List ℕ) → are_ids ids ids ≡ true
 are_ids-same ids =
     let len : (length ids == length ids) ≡ true = same_number (length ids) in
-    let all : list_all (contains ids) ids ≡ true = contains-all [] ids in
+    let all : list_all (λ i. is_in i ids) ids ≡ true = is_in-all [] ids in
     rw (len, all) refl
 
 even_test : (n : ℕ) → n % 2 ≡ 0 → (n % 2 == 0) ≡ true
@@ -59,15 +58,15 @@ even_test n h = grind (arith, nat_tests)
 le_test : (m n : ℕ) → m ≤ n → nat_le m n ≡ true
 le_test m n h = grind (arith, nat_tests)
 
-season-is : (n : ℕ) → n % 2 ≡ 0 → 2 ≤ n → n ≤ 40 → is_season (teams_of n) (slots_of n) ≡ true
-season-is n even low high =
-    let len : length (teams_of n) ≡ n = length-range 0 n in
-    let is_even : (n % 2 == 0) ≡ true = even_test n even in
-    let is_low : nat_le 2 n ≡ true = le_test 2 n low in
-    let is_high : nat_le n 40 ≡ true = le_test n 40 high in
+season-is : (n : ℕ) → IsTeamCount n → is_season (teams_of n) (slots_of n) ≡ true
+season-is n size =
+    let len : length (teams_of n) ≡ n = length-range_with_len 0 n in
+    let is_even : (n % 2 == 0) ≡ true = even_test n size.even in
+    let is_low : nat_le 2 n ≡ true = le_test 2 n size.at_least in
+    let is_high : nat_le n 40 ≡ true = le_test n 40 size.at_most in
     let first : are_ids (teams_of n) (teams_of n) ≡ true = are_ids-same (teams_of n) in
     let second : are_ids (slots_of n) (slots_of n) ≡ true = are_ids-same (slots_of n) in
-    ap (λ (m : ℕ). m % 2 == 0 && nat_le 2 m && nat_le m 40 && are_ids (teams_of n) (teams_of m) && are_ids (slots_of n) (slots_of m)) len
+    ap (λ (m : ℕ). is_team_count m && are_ids (teams_of n) (teams_of m) && are_ids (slots_of n) (slots_of m)) len
     ∙ rw (is_even, is_low, is_high, first, second) refl
 
 abbrev draft : Bool → List ℕ → List ℕ → ℕ → List Constraint → Draft
@@ -82,16 +81,16 @@ id-plain : (i : ℕ) → are_plain_values (id_attributes i) ≡ true
 id-plain i = let value = decimal-plain i in rw value refl
 
 module _ (phased : Bool) (line : ℕ) (outer : List Open) where
-  abbrev in_teams : List ℕ → List ℕ → Place Draft
-  in_teams slots teams = place (opened element.Teams line []) outer (draft phased teams slots 0 [])
+  abbrev in_teams : List ℕ → List ℕ → Position Draft
+  in_teams slots teams = position (opened element.Teams line []) outer (draft phased teams slots 0 [])
 
-  abbrev in_slots : List ℕ → List ℕ → Place Draft
-  in_slots teams slots = place (opened element.Slots line []) outer (draft phased teams slots 0 [])
+  abbrev in_slots : List ℕ → List ℕ → Position Draft
+  in_slots teams slots = position (opened element.Slots line []) outer (draft phased teams slots 0 [])
 
-  one_team : (slots so_far : List ℕ) (i at : ℕ) → i < 2 ^ 32 → at_piece instance_meaning Empty (tag Empty (codes "team") (map seen (id_attributes i)) at) (in_teams slots so_far) ≡ Ok (in_teams slots (so_far ++ i ∷ []))
+  one_team : (slots so_far : List ℕ) (i at : ℕ) → i < 2 ^ 32 → at_piece instance_meaning Empty (tag Empty (codes "team") (id_attributes i) at) (in_teams slots so_far) ≡ Ok (in_teams slots (so_far ++ i ∷ []))
   one_team slots so_far i at small = let value : number (decimal i) ≡ Ok i = number-decimal i small in rw value refl
 
-  one_slot : (teams so_far : List ℕ) (i at : ℕ) → i < 2 ^ 32 → at_piece instance_meaning Empty (tag Empty (codes "slot") (map seen (id_attributes i)) at) (in_slots teams so_far) ≡ Ok (in_slots teams (so_far ++ i ∷ []))
+  one_slot : (teams so_far : List ℕ) (i at : ℕ) → i < 2 ^ 32 → at_piece instance_meaning Empty (tag Empty (codes "slot") (id_attributes i) at) (in_slots teams so_far) ≡ Ok (in_slots teams (so_far ++ i ∷ []))
   one_slot teams so_far i at small = let value : number (decimal i) ≡ Ok i = number-decimal i small in rw value refl
 
   team_lines-begin : (k a : ℕ) (end : List ℕ) → BeginsTag end → BeginsTag (flat_map team_line (range_with_len a k) ++ end)
@@ -145,7 +144,7 @@ with_constraints = codes "Structure" ∷ codes "Resources" ∷ codes "Constraint
 abbrev file_end : List ℕ
 file_end = codes "</Constraints>\n</Instance>\n"
 
-module _ (n : ℕ) (phased : Bool) (constraints : List Constraint) (even : n % 2 ≡ 0) (low : 2 ≤ n) (high : n ≤ 40) (few : length constraints ≤ 20000) (stand : All (CanStand n) constraints) where
+module _ (n : ℕ) (phased : Bool) (constraints : List Constraint) (size : IsTeamCount n) (few : length constraints ≤ 20000) (stand : All (CanStand n) constraints) where
   abbrev last_draft : Draft
   last_draft = draft phased (teams_of n) (slots_of n) n constraints
 
@@ -155,19 +154,19 @@ module _ (n : ℕ) (phased : Bool) (constraints : List Constraint) (even : n % 2
   end-read line inner = λ at. refl
 
   above_zero : nat_lt 0 n ≡ true
-  above_zero = less_by n low where
+  above_zero = less_by n size.at_least where
     less_by : (n : ℕ) → 2 ≤ n → nat_lt 0 n ≡ true
     less_by n low = grind (arith, nat_tests)
 
   -- the constraints, from the Start of their element on
-  from_constraints : (line : ℕ) → Reads instance_meaning (codes "<Constraints>\n" ++ (constraints_after None constraints ++ file_end)) (place (root line with_resources) (file_open ∷ []) (draft phased (teams_of n) (slots_of n) n [])) last_draft
+  from_constraints : (line : ℕ) → Reads instance_meaning (codes "<Constraints>\n" ++ (constraints_after None constraints ++ file_end)) (position (root line with_resources) (file_open ∷ []) (draft phased (teams_of n) (slots_of n) n [])) last_draft
   from_constraints line =
       let known : nat_lt 0 n ≡ true = above_zero in
       let rest : List ℕ = constraints_after None constraints ++ file_end in
-      Reads-start_line instance_meaning (codes "Constraints") [] rest (place (root line with_resources) (file_open ∷ []) (draft phased (teams_of n) (slots_of n) n [])) last_draft
+      Reads-start_line instance_meaning (codes "Constraints") [] rest (position (root line with_resources) (file_open ∷ []) (draft phased (teams_of n) (slots_of n) n [])) last_draft
       (λ at. among at (root line with_constraints ∷ file_open ∷ []) (draft phased (teams_of n) (slots_of n) n [])) refl (omega arith) refl refl (constraints-begin constraints file_end (_, refl))
       (λ at. rw known refl) (λ at. refl)
-      (λ at. constraints-read at (root line with_constraints ∷ file_open ∷ []) n high phased (teams_of n) (slots_of n) constraints file_end last_draft few stand (_, refl) (end-read line at))
+      (λ at. constraints-read at (root line with_constraints ∷ file_open ∷ []) n size.at_most phased (teams_of n) (slots_of n) constraints file_end last_draft few stand (_, refl) (end-read line at))
 
   -- the teams and the slots, from the Start of their element on
   abbrev constraints_text : List ℕ
@@ -176,15 +175,15 @@ module _ (n : ℕ) (phased : Bool) (constraints : List Constraint) (even : n % 2
   abbrev resources_end : List ℕ
   resources_end = codes "</Resources>\n" ++ constraints_text
 
-  abbrev in_resources : ℕ → ℕ → List (List ℕ) → List ℕ → List ℕ → Place Draft
-  in_resources line at names teams slots = place (opened element.Resources at names) (root line with_resources ∷ file_open ∷ []) (draft phased teams slots 0 [])
+  abbrev in_resources : ℕ → ℕ → List (List ℕ) → List ℕ → List ℕ → Position Draft
+  in_resources line at names teams slots = position (opened element.Resources at names) (root line with_resources ∷ file_open ∷ []) (draft phased teams slots 0 [])
 
   from_resources_end : (line at : ℕ) → Reads instance_meaning resources_end (in_resources line at (codes "Teams" ∷ codes "Slots" ∷ []) (teams_of n) (slots_of n)) last_draft
   from_resources_end line at =
-      let season : is_season (teams_of n) (slots_of n) ≡ true = season-is n even low high in
-      let len : length (teams_of n) ≡ n = length-range 0 n in
+      let season : is_season (teams_of n) (slots_of n) ≡ true = season-is n size in
+      let len : length (teams_of n) ≡ n = length-range_with_len 0 n in
       Reads-end_line instance_meaning (codes "Resources") constraints_text (in_resources line at (codes "Teams" ∷ codes "Slots" ∷ []) (teams_of n) (slots_of n)) last_draft
-      (λ to. place (root line with_resources) (file_open ∷ []) (draft phased (teams_of n) (slots_of n) n [])) refl (_, refl)
+      (λ to. position (root line with_resources) (file_open ∷ []) (draft phased (teams_of n) (slots_of n) n [])) refl (_, refl)
       (λ to. rw (season, len) refl) (λ to. refl) (λ to. from_constraints line)
 
   abbrev slots_text : List ℕ
@@ -214,9 +213,9 @@ module _ (n : ℕ) (phased : Bool) (constraints : List Constraint) (even : n % 2
       (Reads-end_line instance_meaning (codes "Teams") (codes "<Slots>\n" ++ slots_text) (in_teams phased to outer [] (teams_of n)) last_draft
       (λ more. in_resources line at (codes "Teams" ∷ []) (teams_of n) []) refl (_, refl) (λ more. refl) (λ more. refl) (λ more. from_slots line at)))
 
-  from_resources : (line : ℕ) → Reads instance_meaning (codes "<Resources>\n<Teams>\n" ++ teams_text) (place (root line with_structure) (file_open ∷ []) (draft phased [] [] 0 [])) last_draft
+  from_resources : (line : ℕ) → Reads instance_meaning (codes "<Resources>\n<Teams>\n" ++ teams_text) (position (root line with_structure) (file_open ∷ []) (draft phased [] [] 0 [])) last_draft
   from_resources line =
-      Reads-start_line instance_meaning (codes "Resources") [] (codes "<Teams>\n" ++ teams_text) (place (root line with_structure) (file_open ∷ []) (draft phased [] [] 0 [])) last_draft
+      Reads-start_line instance_meaning (codes "Resources") [] (codes "<Teams>\n" ++ teams_text) (position (root line with_structure) (file_open ∷ []) (draft phased [] [] 0 [])) last_draft
       (λ at. in_resources line at [] [] []) refl (omega arith) refl refl (_, refl) (λ at. refl) (λ at. refl) (λ at. from_teams line at)
 
   -- ---- the format
@@ -225,8 +224,8 @@ module _ (n : ℕ) (phased : Bool) (constraints : List Constraint) (even : n % 2
   format_end = codes "</Format>\n</Structure>\n<Resources>\n<Teams>\n" ++ teams_text
 
   -- in the format, in which these elements were read
-  abbrev in_format : ℕ → ℕ → ℕ → List (List ℕ) → Bool → Place Draft
-  in_format line at to names mode = place (opened element.Format to names) (opened element.Structure at (codes "Format" ∷ []) ∷ root line with_structure ∷ file_open ∷ []) (draft mode [] [] 0 [])
+  abbrev in_format : ℕ → ℕ → ℕ → List (List ℕ) → Bool → Position Draft
+  in_format line at to names mode = position (opened element.Format to names) (opened element.Structure at (codes "Format" ∷ []) ∷ root line with_structure ∷ file_open ∷ []) (draft mode [] [] 0 [])
 
   abbrev format_names : List (List ℕ)
   format_names = codes "numberRoundRobin" ∷ codes "compactness" ∷ codes "gameMode" ∷ []
@@ -234,14 +233,14 @@ module _ (n : ℕ) (phased : Bool) (constraints : List Constraint) (even : n % 2
   from_format_end : (line at to : ℕ) → Reads instance_meaning format_end (in_format line at to format_names phased) last_draft
   from_format_end line at to =
       Reads-end_line instance_meaning (codes "Format") (codes "</Structure>\n<Resources>\n<Teams>\n" ++ teams_text) (in_format line at to format_names phased) last_draft
-      (λ more. place (opened element.Structure at (codes "Format" ∷ [])) (root line with_structure ∷ file_open ∷ []) (draft phased [] [] 0 [])) refl (_, refl) (λ more. refl) (λ more. refl)
-      (λ more. Reads-end_line instance_meaning (codes "Structure") (codes "<Resources>\n<Teams>\n" ++ teams_text) (place (opened element.Structure at (codes "Format" ∷ [])) (root line with_structure ∷ file_open ∷ []) (draft phased [] [] 0 [])) last_draft
-      (λ other. place (root line with_structure) (file_open ∷ []) (draft phased [] [] 0 [])) refl (_, refl) (λ other. refl) (λ other. refl) (λ other. from_resources line))
+      (λ more. position (opened element.Structure at (codes "Format" ∷ [])) (root line with_structure ∷ file_open ∷ []) (draft phased [] [] 0 [])) refl (_, refl) (λ more. refl) (λ more. refl)
+      (λ more. Reads-end_line instance_meaning (codes "Structure") (codes "<Resources>\n<Teams>\n" ++ teams_text) (position (opened element.Structure at (codes "Format" ∷ [])) (root line with_structure ∷ file_open ∷ []) (draft phased [] [] 0 [])) last_draft
+      (λ other. position (root line with_structure) (file_open ∷ []) (draft phased [] [] 0 [])) refl (_, refl) (λ other. refl) (λ other. refl) (λ other. from_resources line))
 
   -- in a value of the format
-  abbrev in_value : ℕ → ℕ → ℕ → List (List ℕ) → Element → List ℕ → ℕ → Place Draft
+  abbrev in_value : ℕ → ℕ → ℕ → List (List ℕ) → Element → List ℕ → ℕ → Position Draft
   in_value line at to names e text start =
-      place (record { element = e; line = start; seen = []; text = text }) (opened element.Format to names ∷ opened element.Structure at (codes "Format" ∷ []) ∷ root line with_structure ∷ file_open ∷ []) (draft false [] [] 0 [])
+      position (record { element = e; line = start; seen = []; text = text }) (opened element.Format to names ∷ opened element.Structure at (codes "Format" ∷ []) ∷ root line with_structure ∷ file_open ∷ []) (draft false [] [] 0 [])
 
   abbrev two_names : List (List ℕ)
   two_names = codes "numberRoundRobin" ∷ codes "compactness" ∷ []
@@ -272,17 +271,17 @@ module _ (n : ℕ) (phased : Bool) (constraints : List Constraint) (even : n % 2
 
   -- ---- from the front
 
-  abbrev at_front : Place Draft
-  at_front = place (opened element.InstanceFile 0 []) [] nothing
+  abbrev at_front : Position Draft
+  at_front = position (opened element.InstanceFile 0 []) [] nothing
 
   abbrev rounds_text : List ℕ
   rounds_text = codes "<numberRoundRobin>2</numberRoundRobin>\n<compactness>C</compactness>\n" ++ mode_text
 
-  from_root : (line : ℕ) → Reads instance_meaning (codes "<Structure>\n<Format leagueIds=\"0\">\n" ++ rounds_text) (place (root line []) (file_open ∷ []) nothing) last_draft
+  from_root : (line : ℕ) → Reads instance_meaning (codes "<Structure>\n<Format leagueIds=\"0\">\n" ++ rounds_text) (position (root line []) (file_open ∷ []) nothing) last_draft
   from_root line =
-      Reads-start_line instance_meaning (codes "Structure") [] (codes "<Format leagueIds=\"0\">\n" ++ rounds_text) (place (root line []) (file_open ∷ []) nothing) last_draft
-      (λ at. place (opened element.Structure at []) (root line with_structure ∷ file_open ∷ []) nothing) refl (omega arith) refl refl (_, refl) (λ at. refl) (λ at. refl)
-      (λ at. Reads-start_line instance_meaning (codes "Format") (word "leagueIds" "0" ∷ []) rounds_text (place (opened element.Structure at []) (root line with_structure ∷ file_open ∷ []) nothing) last_draft
+      Reads-start_line instance_meaning (codes "Structure") [] (codes "<Format leagueIds=\"0\">\n" ++ rounds_text) (position (root line []) (file_open ∷ []) nothing) last_draft
+      (λ at. position (opened element.Structure at []) (root line with_structure ∷ file_open ∷ []) nothing) refl (omega arith) refl refl (_, refl) (λ at. refl) (λ at. refl)
+      (λ at. Reads-start_line instance_meaning (codes "Format") (word "leagueIds" "0" ∷ []) rounds_text (position (opened element.Structure at []) (root line with_structure ∷ file_open ∷ []) nothing) last_draft
       (λ to. in_format line at to [] false) refl (omega arith) refl refl (_, refl) (λ to. refl) (λ to. refl) (λ to. from_rounds line at to))
 
   from_front : Reads instance_meaning (codes "<?xml version=\"1.0\" encoding=\"UTF-8\"?>\n<Instance>\n<Structure>\n<Format leagueIds=\"0\">\n" ++ rounds_text) at_front last_draft
@@ -290,13 +289,15 @@ module _ (n : ℕ) (phased : Bool) (constraints : List Constraint) (even : n % 2
       let body : List ℕ = codes "<Structure>\n<Format leagueIds=\"0\">\n" ++ rounds_text in
       Reads-passed instance_meaning (codes "<?xml version=\"1.0\" encoding=\"UTF-8\"?>") (codes "\n<Instance>\n" ++ body) at_front last_draft (omega arith) (λ line. refl)
       (Reads-newline instance_meaning (codes "<Instance>\n" ++ body) at_front last_draft (_, refl) refl
-      (Reads-start_line instance_meaning (codes "Instance") [] body at_front last_draft (λ at. place (root at []) (file_open ∷ []) nothing) refl (omega arith) refl refl (_, refl) (λ at. refl) (λ at. refl) (λ at. from_root at)))
+      (Reads-start_line instance_meaning (codes "Instance") [] body at_front last_draft (λ at. position (root at []) (file_open ∷ []) nothing) refl (omega arith) refl refl (_, refl) (λ at. refl) (λ at. refl) (λ at. from_root at)))
 
   pub text-read : Reads instance_meaning (instance_text (record { n = n; phased = phased; constraints = constraints })) at_front last_draft
-  text-read = from_front
+  text-read =
+      let whole : instance_text (record { n = n; phased = phased; constraints = constraints }) ≡ codes "<?xml version=\"1.0\" encoding=\"UTF-8\"?>\n<Instance>\n<Structure>\n<Format leagueIds=\"0\">\n" ++ rounds_text = simp append_assoc in
+      subst (λ (l : List ℕ). Reads instance_meaning l at_front last_draft) (sym whole) from_front
 
 -- the text of a league is read as this league
 pub instance-reads_back : (league : Instance) → IsInstance league → All IsHeld league.constraints → instance_of (pieces (instance_text league)) ≡ Ok league
 instance-reads_back league fits held =
     let stand : All (CanStand league.n) league.constraints = λ k d lt. record { held = held k d lt; fits = fits.fit k d lt } in
-    ap (λ (r : Result Draft Fault). r >>= λ read. Ok (league_of read)) (text-read league.n league.phased league.constraints fits.even fits.at_least fits.at_most fits.few stand 1)
+    ap (λ (r : Result Draft Fault). r >>= λ read. Ok (league_of read)) (text-read league.n league.phased league.constraints fits.teams fits.few stand 1)

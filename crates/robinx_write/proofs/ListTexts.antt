@@ -11,14 +11,16 @@ use Rattle.std.proofs.lemmas.Fmt.{decimal_nonempty}
 use Rattle.std.proofs.lemmas.List.{take_at, drop_at, append-nil}
 use Rattle.std.proofs.lemmas.List.Elements.{All-tail, All-head}
 use Rattle.std.proofs.lemmas.List.Sums.{AllPass-from_list_all, sum_by-cons, sum_by-append}
-use Rattle.league.specs.Sets.{IsAscending, with_item, pair_cmp}
+use Rattle.league.specs.Sets.{IsAscending, ascends, with_item, pair_cmp}
 use Rattle.league.specs.Counts.{slot_count}
-use Rattle.league.specs.Instance.{are_teams, are_slots, are_meetings}
+use Rattle.league.specs.Instance.{are_teams, are_slots, is_meeting, are_meetings}
+use Rattle.league.proofs.AscendingLemmas.{IsAscending-ascends, first_true, second_true}
+use Rattle.league.proofs.FitLemmas.{are_teams-below, are_teams-ascending, are_slots-below, are_slots-ascending}
 use Rattle.robinx_tags.specs.declared.fault.FormKind.TheVariants.{UnknownTeam, UnknownSlot}
-use Rattle.robinx_read.specs.Gathered.{with_items, gathered}
-use Rattle.robinx_read.specs.Values.{Reading, items_of, onto_item, each, team, slot, teams, slots, meeting, meetings}
-use Rattle.robinx_read.proofs.KnownLemmas.{gathered_teams, gathered_slots, gathered_meetings}
-use Rattle.robinx_write.specs.SeenAttribute.{pair_text}
+use Rattle.robinx_form.specs.Gathered.{with_items, gathered}
+use Rattle.robinx_form.specs.Values.{Reading, items_of, onto_item, each, team, slot, teams, slots, meeting, meetings}
+use Rattle.robinx_form.proofs.KnownLemmas.{gathered_teams, gathered_slots, gathered_meetings}
+use Rattle.robinx_write.specs.SeenValues.{pair_text}
 use Rattle.robinx_write.proofs.TagLemmas.{is_plain_value, and_parts, position-stop}
 use Rattle.robinx_write.proofs.NumberTexts.{decimal-all, decimal-plain, id-decimal}
 
@@ -135,23 +137,22 @@ each-read {X} read text_of (x ∷ xs) good =
     let others : each read (map text_of xs) ≡ Ok xs = each-read read text_of xs (All-tail (λ x. read (text_of x) ≡ Ok x) x xs good) in
     rw (first, others) refl
 
-below : (limit : ℕ) (ids : List ℕ) → list_all (λ i. nat_lt i limit) ids ≡ true → All (λ i. i < limit) ids
-below limit ids pass k d h = ltb-true (get_or ids k d) limit (AllPass-from_list_all (λ i. nat_lt i limit) ids pass k d h)
-
 -- ---- teams and slots
 
-pub teams-joined : (n : ℕ) (ids : List ℕ) → n ≤ 40 → IsAscending nat_cmp ids → are_teams n ids ≡ true → teams n (joined ids) ≡ Ok ids
-teams-joined n ids size rise fit =
-    let known = below n ids fit in
+pub teams-joined : (n : ℕ) (ids : List ℕ) → n ≤ 40 → are_teams n ids ≡ true → teams n (joined ids) ≡ Ok ids
+teams-joined n ids size fit =
+    let known = are_teams-below n ids fit in
+    let rise = are_teams-ascending n ids fit in
     let items : items_of (joined ids) ≡ map decimal ids = items_of-joined ids (λ k d lt. omega (arith, known k d lt)) in
     let read : each (team n) (map decimal ids) ≡ Ok ids = each-read (team n) decimal ids (λ k d lt. id-decimal UnknownTeam n (get_or ids k d) (omega arith) (known k d lt)) in
     sym (gathered_teams n (joined ids))
     ∙ ap (λ (r : Reading (List ℕ)). gathered nat_cmp [] r) (ap (each (team n)) items ∙ read)
     ∙ ap Ok (with_items-in_order nat_cmp number-behind ids rise)
 
-pub slots-joined : (n : ℕ) (ids : List ℕ) → n ≤ 40 → IsAscending nat_cmp ids → are_slots n ids ≡ true → slots n (joined ids) ≡ Ok ids
-slots-joined n ids size rise fit =
-    let known = below (slot_count n) ids fit in
+pub slots-joined : (n : ℕ) (ids : List ℕ) → n ≤ 40 → are_slots n ids ≡ true → slots n (joined ids) ≡ Ok ids
+slots-joined n ids size fit =
+    let known = are_slots-below n ids fit in
+    let rise = are_slots-ascending n ids fit in
     let items : items_of (joined ids) ≡ map decimal ids = items_of-joined ids (λ k d lt. omega (arith, known k d lt)) in
     let read : each (slot n) (map decimal ids) ≡ Ok ids = each-read (slot n) decimal ids (λ k d lt. id-decimal UnknownSlot (slot_count n) (get_or ids k d) (omega arith) (known k d lt)) in
     sym (gathered_slots n (joined ids))
@@ -225,18 +226,17 @@ meeting-item n p size home away differ =
     let second : team n (decimal p.1) ≡ Ok p.1 = id-decimal UnknownTeam n p.1 (omega arith) away in
     rw (one, before, after, first, second, differ) refl
 
-abbrev is_meeting : ℕ → ℕ × ℕ → Bool
-is_meeting n p = nat_lt p.0 n && nat_lt p.1 n && not (p.0 == p.1)
-
 meeting-fits : (n : ℕ) (p : ℕ × ℕ) → n ≤ 40 → is_meeting n p ≡ true → meeting n (item_of p) ≡ Ok p
 meeting-fits n p size fits =
     let parts = and_parts (nat_lt p.0 n && nat_lt p.1 n) (not (p.0 == p.1)) fits in
     let teams = and_parts (nat_lt p.0 n) (nat_lt p.1 n) parts.0 in
     meeting-item n p size (ltb-true p.0 n teams.0) (ltb-true p.1 n teams.1) parts.1
 
-pub meetings-pairs : (n : ℕ) (ps : List (ℕ × ℕ)) → n ≤ 40 → IsAscending pair_cmp ps → are_meetings n ps ≡ true → meetings n (flat_map pair_text ps) ≡ Ok ps
-meetings-pairs n ps size rise fit =
-    let read : each (meeting n) (map item_of ps) ≡ Ok ps = each-read (meeting n) item_of ps (λ k d lt. meeting-fits n (get_or ps k d) size (AllPass-from_list_all (is_meeting n) ps fit k d lt)) in
+pub meetings-pairs : (n : ℕ) (ps : List (ℕ × ℕ)) → n ≤ 40 → are_meetings n ps ≡ true → meetings n (flat_map pair_text ps) ≡ Ok ps
+meetings-pairs n ps size fit =
+    let meets = first_true (list_all (is_meeting n) ps) (ascends pair_cmp ps) fit in
+    let rise = IsAscending-ascends pair_cmp ps (second_true (list_all (is_meeting n) ps) (ascends pair_cmp ps) fit) in
+    let read : each (meeting n) (map item_of ps) ≡ Ok ps = each-read (meeting n) item_of ps (λ k d lt. meeting-fits n (get_or ps k d) size (AllPass-from_list_all (is_meeting n) ps meets k d lt)) in
     sym (gathered_meetings n (flat_map pair_text ps))
     ∙ ap (λ (r : Reading (List (ℕ × ℕ))). gathered pair_cmp [] r) (ap (each (meeting n)) (items_of-pairs ps) ∙ read)
     ∙ ap Ok (with_items-in_order pair_cmp pair-behind ps rise)

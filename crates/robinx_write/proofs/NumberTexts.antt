@@ -8,7 +8,7 @@ use Rattle.std.proofs.lemmas.Bool.Decides.{nat_tests}
 use Rattle.robin_io.specs.Numbers.{is_number}
 use Rattle.robin_io.proofs.NumberLemmas.{is_number-decimal, reads-decimal}
 use Rattle.robinx_tags.specs.declared.fault.FormKind.{FormKind}
-use Rattle.robinx_read.specs.Values.{number, id}
+use Rattle.robinx_form.specs.Values.{number, id}
 use Rattle.robinx_write.proofs.TagLemmas.{is_plain_value}
 
 glyph_is : (d : ℕ) → d < 10 → digit_glyph false d ≡ 48 + d

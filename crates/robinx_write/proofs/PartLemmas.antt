@@ -6,10 +6,11 @@ use Rattle.std.proofs.Math.Seq.{drop-cons}
 use Rattle.std.proofs.lemmas.List.{append-nil, take_more, take_all}
 use Rattle.std.proofs.lemmas.List.Concat.{flat_map-append}
 use Rattle.league.specs.Instance.{Instance}
+use Rattle.league.specs.Names.{name_of}
 use Rattle.league.specs.declared.class.Constraint.{Constraint}
-use Rattle.robinx_read.specs.Texts as texts
-use Rattle.robinx_read.specs.Texts.{between, constraint_line, constraints_after, instance_text}
-use Rattle.robinx_write.specs.Parts.{head_text, season_text}
+use Rattle.robinx_form.specs.Elements as elements
+use Rattle.robinx_form.specs.Texts.{group_of, between, constraint_line, constraints_after, instance_text}
+use Rattle.robinx_form.specs.Texts.{head_text, season_text}
 use Rattle.robinx_write.proofs.ListTexts.{All-push}
 
 -- one number more
@@ -34,7 +35,7 @@ line_added line i old text new so_far added =
     added ∙ ap (λ (l : List ℕ). l ++ line i) so_far ∙ append_assoc old (flat_map line (range_with_len 0 i)) (line i) ∙ ap (λ (l : List ℕ). old ++ l) (sym (lines-push line i))
 
 -- a constraint more, behind what stands before it
-pub constraint_added : (constraints : List Constraint) (k : ℕ) (c : Constraint) (group : Option (List ℕ)) (next old middle new whole : List ℕ) → k < length constraints → get_or constraints k c ≡ c → next ≡ codes (texts.group_name c.class)
+pub constraint_added : (constraints : List Constraint) (k : ℕ) (c : Constraint) (group : Option (List ℕ)) (next old middle new whole : List ℕ) → k < length constraints → get_or constraints k c ≡ c → next ≡ elements.group_name (group_of (name_of c.class))
     → middle ≡ old ++ between group (Some next) → new ≡ middle ++ constraint_line c → old ++ constraints_after group (drop k constraints) ≡ whole → new ++ constraints_after (Some next) (drop (k + 1) constraints) ≡ whole
 constraint_added constraints k c group next old middle new whole within is named opened added so_far =
     let rest : List ℕ = constraints_after (Some next) (drop (suc k) constraints) in
@@ -56,7 +57,3 @@ All-take_more {X} P xs k x within is so_far here =
 
 pub All-whole : {X : Type 0} (P : X → Type 0) (xs : List X) (k : ℕ) → length xs ≤ k → All P (take k xs) → All P xs
 All-whole P xs k past so_far = let all : take k xs ≡ xs = take_all k xs past in rw all at so_far
-
--- the parts are the whole
-pub instance-parts : (league : Instance) → head_text league.phased ++ (season_text league.n ++ (constraints_after None league.constraints ++ codes "</Constraints>\n</Instance>\n")) ≡ instance_text league
-instance-parts league = simp append_assoc

@@ -13,13 +13,14 @@ use Rattle.robinx_tags.specs.Tags.{attributes_at}
 use Rattle.robinx_tags.specs.Pieces.{pieces, pieces_from}
 use Rattle.robinx_tags.specs.declared.tag.TagKind.TheVariants.{Empty}
 use Rattle.robinx_tags.specs.declared.fault.FormKind.TheVariants.{UnknownTeam, UnknownSlot}
-use Rattle.robinx_read.specs.Attributes.{Attribute, count, tag_line}
-use Rattle.robinx_read.specs.Texts.{game_line, score_text, solution_text}
-use Rattle.robinx_read.specs.Values.{team, slot}
-use Rattle.robinx_read.specs.Walk.{Open, Place, Fault, walk, at_piece}
-use Rattle.robinx_read.specs.SolutionFile.{Games, solution_meaning, solution_of, game_of}
-use Rattle.robinx_read.specs.declared.element.Element.TheVariants as element
-use Rattle.robinx_write.proofs.TagLemmas.{seen, are_plain_values}
+use Rattle.robinx_tags.specs.Tags.{Attribute}
+use Rattle.robinx_form.specs.Attributes.{count, tag_line}
+use Rattle.robinx_form.specs.Texts.{game_line, score_text, solution_text}
+use Rattle.robinx_form.specs.Values.{team, slot}
+use Rattle.robinx_form.specs.Walk.{Open, Position, Fault, walk, at_piece}
+use Rattle.robinx_form.specs.SolutionFile.{Games, solution_meaning, solution_of, game_of}
+use Rattle.robinx_form.specs.declared.element.Element.TheVariants as element
+use Rattle.robinx_write.proofs.TagLemmas.{are_plain_values}
 use Rattle.robinx_write.proofs.StepLemmas.{tag, BeginsTag, Reads, Reads-passed, Reads-newline, Reads-tag_line, Reads-start_line, Reads-end_line}
 use Rattle.robinx_write.proofs.NumberTexts.{id-decimal, decimal-plain}
 
@@ -31,7 +32,7 @@ game_attributes g = count "home" g.home.0 ∷ count "away" g.away.0 ∷ count "s
 different : (i j : ℕ) → i ≢ j → not (i == j) ≡ true
 different i j h = grind (arith, nat_tests)
 
-game-read : (n : ℕ) (g : Game) → n ≤ 40 → IsGame n g → game_of n (map seen (game_attributes g)) ≡ Ok g
+game-read : (n : ℕ) (g : Game) → n ≤ 40 → IsGame n g → game_of n (game_attributes g) ≡ Ok g
 game-read n g size fits =
     let home : team n (decimal g.home.0) ≡ Ok g.home.0 = id-decimal UnknownTeam n g.home.0 (omega arith) fits.home in
     let away : team n (decimal g.away.0) ≡ Ok g.away.0 = id-decimal UnknownTeam n g.away.0 (omega arith) fits.away in
@@ -50,17 +51,17 @@ game-plain g =
 
 module _ (n : ℕ) (size : n ≤ 40) where
   -- among the games
-  abbrev among : ℕ → List Open → List Game → Place Games
+  abbrev among : ℕ → List Open → List Game → Position Games
   among line outer games = record { inner = record { element = element.Games; line = line; seen = []; text = [] }; outer = outer; passing = None; read = record { n = n; games = games } }
 
   room : (len : ℕ) → len < 10000 → nat_lt len 10000 ≡ true
   room len h = grind (arith, nat_tests)
 
   one_game : (line at : ℕ) (outer : List Open) (games : List Game) (g : Game) → length games < 10000 → IsGame n g
-      → at_piece solution_meaning Empty (tag Empty (codes "ScheduledMatch") (map seen (game_attributes g)) at) (among line outer games) ≡ Ok (among line outer (games ++ g ∷ []))
+      → at_piece solution_meaning Empty (tag Empty (codes "ScheduledMatch") (game_attributes g) at) (among line outer games) ≡ Ok (among line outer (games ++ g ∷ []))
   one_game line at outer games g few fits =
       let space : nat_lt (length games) 10000 ≡ true = room (length games) few in
-      let game : game_of n (map seen (game_attributes g)) ≡ Ok g = game-read n g size fits in
+      let game : game_of n (game_attributes g) ≡ Ok g = game-read n g size fits in
       rw (space, game) refl
 
   BeginsTag-games : (games : List Game) (end : List ℕ) → BeginsTag end → BeginsTag (flat_map game_line games ++ end)
@@ -94,7 +95,7 @@ module _ (n : ℕ) (size : n ≤ 40) where
   end-read line outer_line games = λ at. refl
 
   -- in the root, before the games
-  abbrev in_solution : ℕ → Option (List ℕ) → Place Games
+  abbrev in_solution : ℕ → Option (List ℕ) → Position Games
   in_solution line passing = record { inner = record { element = element.Solution; line = line; seen = []; text = [] }; outer = record { element = element.SolutionFile; line = 0; seen = codes "Solution" ∷ []; text = [] } ∷ []; passing = passing; read = record { n = n; games = [] } }
 
   from_games : (games : List Game) (line : ℕ) → length games ≤ 10000 → All (IsGame n) games
@@ -122,7 +123,7 @@ module _ (n : ℕ) (size : n ≤ 40) where
   score-begins None rest begins = begins
   score-begins (Some pair) rest begins = (_, refl)
 
-  abbrev at_start : Place Games
+  abbrev at_start : Position Games
   at_start = record { inner = record { element = element.SolutionFile; line = 0; seen = []; text = [] }; outer = []; passing = None; read = record { n = n; games = [] } }
 
   pub text-read : (games : List Game) (score : Option (ℕ × ℕ)) → length games ≤ 10000 → All (IsGame n) games → Reads solution_meaning (solution_text games score) at_start (record { n = n; games = games })

@@ -8,7 +8,8 @@ use Rattle.robinx_tags.specs.Fronts.{until}
 use Rattle.robinx_tags.specs.Tags as tags
 use Rattle.robinx_tags.specs.Tags.{name_at, value_to, has_name, attribute_at, end_at, attributes_at, start_tag}
 use Rattle.robinx_tags.specs.declared.tag.TagKind.{TagKind}
-use Rattle.robinx_read.specs.Attributes.{Attribute, attribute_text}
+use Rattle.robinx_tags.specs.Tags.{Attribute}
+use Rattle.robinx_form.specs.Attributes.{attribute_text}
 
 pub and_parts : (a b : Bool) → (a && b) ≡ true → (a ≡ true) × (b ≡ true)
 and_parts true b h = (refl, h)
@@ -59,20 +60,16 @@ value_to-plain value tail plain =
 
 -- ---- attributes
 
--- an attribute as it is read
-abbrev pub seen : Attribute → tags.Attribute
-seen a = record { name = a.name; value = a.value }
-
 -- its text with what follows it
 pub attribute_parts : (a : Attribute) (tail : List ℕ) → attribute_text a ++ tail ≡ 32 ∷ (a.name ++ (61 ∷ 34 ∷ (a.value ++ (34 ∷ tail))))
 attribute_parts a tail = simp append_assoc
 
 -- whether an attribute can be written behind others
-abbrev pub is_new : List tags.Attribute → Attribute → Bool
+abbrev pub is_new : List Attribute → Attribute → Bool
 is_new earlier a = is_plain_name a.name && not (list_any (has_name a.name) earlier)
 
-pub attribute_at-plain : (earlier : List tags.Attribute) (a : Attribute) (tail : List ℕ) → is_plain_name a.name ≡ true → not (list_any (has_name a.name) earlier) ≡ true → is_plain_value a.value ≡ true
-    → attribute_at earlier (a.name ++ (61 ∷ 34 ∷ (a.value ++ (34 ∷ tail)))) ≡ Ok (seen a, tail)
+pub attribute_at-plain : (earlier : List Attribute) (a : Attribute) (tail : List ℕ) → is_plain_name a.name ≡ true → not (list_any (has_name a.name) earlier) ≡ true → is_plain_value a.value ≡ true
+    → attribute_at earlier (a.name ++ (61 ∷ 34 ∷ (a.value ++ (34 ∷ tail)))) ≡ Ok (a, tail)
 attribute_at-plain earlier a tail plain new value =
     let named = name_at-plain a.name 61 (34 ∷ (a.value ++ (34 ∷ tail))) plain refl in
     let valued = value_to-plain a.value tail value in
@@ -126,32 +123,32 @@ end_at-begins (b ∷ name) tail plain =
 -- ---- all attributes of a tag
 
 -- whether these attributes can be written behind others
-abbrev pub are_new : List tags.Attribute → List Attribute → Bool
+abbrev pub are_new : List Attribute → List Attribute → Bool
 are_new earlier [] = true
-are_new earlier (a ∷ attributes) = is_plain_name a.name && (not (list_any (has_name a.name) earlier) && are_new (earlier ++ seen a ∷ []) attributes)
+are_new earlier (a ∷ attributes) = is_plain_name a.name && (not (list_any (has_name a.name) earlier) && are_new (earlier ++ a ∷ []) attributes)
 
 -- whether none of their values ends too early
 abbrev pub are_plain_values : List Attribute → Bool
 are_plain_values [] = true
 are_plain_values (a ∷ attributes) = is_plain_value a.value && are_plain_values attributes
 
-attributes_at-more : (left : ℕ) (earlier : List tags.Attribute) (rest begin after : List ℕ) (attribute : tags.Attribute) → end_at rest ≡ Ok (None, begin)
+attributes_at-more : (left : ℕ) (earlier : List Attribute) (rest begin after : List ℕ) (attribute : Attribute) → end_at rest ≡ Ok (None, begin)
     → attribute_at earlier begin ≡ Ok (attribute, after) → attributes_at (suc left) earlier rest ≡ attributes_at left (earlier ++ attribute ∷ []) after
 unfolding attributes_at
 attributes_at-more left earlier rest begin after attribute is good = rw (is, good) refl
 
-attributes_at-end : (left : ℕ) (earlier : List tags.Attribute) (rest after : List ℕ) (kind : TagKind) → end_at rest ≡ Ok (Some kind, after)
+attributes_at-end : (left : ℕ) (earlier : List Attribute) (rest after : List ℕ) (kind : TagKind) → end_at rest ≡ Ok (Some kind, after)
     → attributes_at left earlier rest ≡ Ok ((kind, earlier), after)
 unfolding attributes_at
 attributes_at-end zero earlier rest after kind is = rw is refl
 attributes_at-end (suc left) earlier rest after kind is = rw is refl
 
 -- the attributes of a tag that ends so are read one by one
-pub attributes_at-plain : (left : ℕ) (earlier : List tags.Attribute) (attributes : List Attribute) (end tail : List ℕ) (kind : TagKind) → length attributes ≤ left
+pub attributes_at-plain : (left : ℕ) (earlier : List Attribute) (attributes : List Attribute) (end tail : List ℕ) (kind : TagKind) → length attributes ≤ left
     → are_new earlier attributes ≡ true → are_plain_values attributes ≡ true → end_at end ≡ Ok (Some kind, tail)
-    → attributes_at left earlier (flat_map attribute_text attributes ++ end) ≡ Ok ((kind, earlier ++ map seen attributes), tail)
+    → attributes_at left earlier (flat_map attribute_text attributes ++ end) ≡ Ok ((kind, earlier ++ attributes), tail)
 attributes_at-plain left earlier [] end tail kind few new plain ends =
-    attributes_at-end left earlier end tail kind ends ∙ ap (λ (l : List tags.Attribute). Ok ((kind, l), tail)) (sym (append-nil earlier))
+    attributes_at-end left earlier end tail kind ends ∙ ap (λ (l : List Attribute). Ok ((kind, l), tail)) (sym (append-nil earlier))
 attributes_at-plain zero earlier (a ∷ attributes) end tail kind few new plain ends = absurd (omega arith)
 attributes_at-plain (suc left) earlier (a ∷ attributes) end tail kind few new plain ends =
     let named = and_parts (is_plain_name a.name) _ new in
@@ -160,9 +157,9 @@ attributes_at-plain (suc left) earlier (a ∷ attributes) end tail kind few new 
     let others : List ℕ = flat_map attribute_text attributes ++ end in
     let rest : List ℕ = 61 ∷ 34 ∷ (a.value ++ (34 ∷ others)) in
     ap (attributes_at (suc left) earlier) (append_assoc (attribute_text a) (flat_map attribute_text attributes) end ∙ attribute_parts a others)
-    ∙ attributes_at-more left earlier (32 ∷ (a.name ++ rest)) (a.name ++ rest) others (seen a) (end_at-begins a.name rest named.0) (attribute_at-plain earlier a others named.0 fresh.0 valued.0)
-    ∙ attributes_at-plain left (earlier ++ seen a ∷ []) attributes end tail kind (omega arith) fresh.1 valued.1 ends
-    ∙ ap (λ (l : List tags.Attribute). Ok ((kind, l), tail)) (append_assoc earlier (seen a ∷ []) (map seen attributes))
+    ∙ attributes_at-more left earlier (32 ∷ (a.name ++ rest)) (a.name ++ rest) others (a) (end_at-begins a.name rest named.0) (attribute_at-plain earlier a others named.0 fresh.0 valued.0)
+    ∙ attributes_at-plain left (earlier ++ a ∷ []) attributes end tail kind (omega arith) fresh.1 valued.1 ends
+    ∙ ap (λ (l : List Attribute). Ok ((kind, l), tail)) (append_assoc earlier (a ∷ []) attributes)
 
 -- ---- whole tags
 
@@ -177,7 +174,7 @@ name_ends-attribute (a ∷ attributes) end c tail is ends = (
 
 pub start_tag-plain : (name : List ℕ) (attributes : List Attribute) (c : ℕ) (end tail : List ℕ) (kind : TagKind) → is_plain_name name ≡ true → length attributes ≤ 64
     → are_new [] attributes ≡ true → are_plain_values attributes ≡ true → is_name_byte c ≡ false → end_at (c ∷ end) ≡ Ok (Some kind, tail)
-    → start_tag (name ++ (flat_map attribute_text attributes ++ c ∷ end)) ≡ Ok ((kind, name, map seen attributes), tail)
+    → start_tag (name ++ (flat_map attribute_text attributes ++ c ∷ end)) ≡ Ok ((kind, name, attributes), tail)
 start_tag-plain name attributes c end tail kind plain few new values stops ends =
     let next = name_ends-attribute attributes (c ∷ end) c end refl stops in
     let named : name_at (name ++ (flat_map attribute_text attributes ++ c ∷ end)) ≡ Ok (name, flat_map attribute_text attributes ++ c ∷ end) =

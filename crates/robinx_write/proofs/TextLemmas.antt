@@ -3,7 +3,7 @@ use Rattle.std.proofs.Common.{◌≡◌, ℕ, suc, ◌+◌, ◌<◌, List, [], �
 use Rattle.std.specs.List.{flat_map, join_with_byte}
 use Rattle.std.proofs.Math.Seq.{drop-cons}
 use Rattle.std.proofs.lemmas.List.{append-nil}
-use Rattle.robinx_write.specs.SeenAttribute.{further_text}
+use Rattle.robinx_write.specs.SeenValues.{further_text}
 
 -- ids after the first
 pub joined-cons : (id : ℕ) (ids : List ℕ) → join_with_byte 59 (map decimal (id ∷ ids)) ≡ decimal id ++ flat_map further_text ids

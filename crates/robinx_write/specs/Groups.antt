@@ -5,8 +5,8 @@ use Rattle.league.specs.declared.class.Class.TheVariants.{Ca1, Ca2, Ca3, Ca4}
 
 -- whether it is a capacity class
 abbrev pub is_capacity : Class → Bool
-is_capacity (Ca1 teams max side slots) = true
-is_capacity (Ca2 teams1 teams2 max side slots) = true
-is_capacity (Ca3 teams1 teams2 max intp side) = true
-is_capacity (Ca4 teams1 teams2 max side span slots) = true
+is_capacity (Ca1 teams min max side slots) = true
+is_capacity (Ca2 teams1 teams2 min max side slots) = true
+is_capacity (Ca3 teams1 teams2 min max intp side) = true
+is_capacity (Ca4 teams1 teams2 min max side span slots) = true
 is_capacity _ = false

@@ -2,12 +2,12 @@
 ghost use Rattle.std.specs.Prelude.{◌≡◌, ◌++◌, Bool, None, Some, IsTrue, OnOk, codes};
 ghost use Rattle.std.specs.List.{All};
 ghost use Rattle.std.specs.Option.{option_copied};
-ghost use Rattle.robinx_read.specs.Texts as texts;
-ghost use Rattle.robinx_read.specs.Texts.{opens, closes, between, constraint_line, constraints_after};
+ghost use Rattle.robinx_form.specs.Texts as texts;
+ghost use Rattle.robinx_form.specs.Texts.{opens, closes, between, constraint_line, constraints_after};
 ghost use Rattle.robinx_write.specs.Held.{IsHeld};
 
-use crate::class::{class_name, group_name, put_class};
-use crate::tag::{Attribute, Value, put_attributes};
+use crate::class::{group_of, put_class};
+use crate::tag::{NamedValue, Value, put_attributes};
 use league::Constraint;
 use std::alloc::AllocError;
 
@@ -24,12 +24,12 @@ fn put_constraint(text: &mut Vec<u8>, constraint: &Constraint) -> Result<(), All
     ensures held { OnOk result (IsHeld constraint.now) }
 {
     text.extend_from_slice(b"<")?;
-    text.extend_from_slice(class_name(&constraint.class).as_bytes())?;
+    text.extend_from_slice(constraint.class.name().text().as_bytes())?;
     put_class(text, &constraint.class)?;
     let penalty = constraint.penalty;
     let attributes = [
-        Attribute("type", Value::Word(type_word(constraint.hard))),
-        Attribute("penalty", Value::Count(u128::from(penalty))),
+        NamedValue("type", Value::Word(type_word(constraint.hard))),
+        NamedValue("penalty", Value::Count(u128::from(penalty))),
     ];
     put_attributes(text, &attributes)?;
     text.extend_from_slice(b"/>\n")?;
@@ -37,25 +37,25 @@ fn put_constraint(text: &mut Vec<u8>, constraint: &Constraint) -> Result<(), All
 }
 
 /// Adds the line that begins a group.
-fn put_start(text: &mut Vec<u8>, group: &str) -> Result<(), AllocError>
+fn put_start(text: &mut Vec<u8>, group: &[u8]) -> Result<(), AllocError>
     ensures { OnOk result (text.new.items ≡ text.old.items ++ opens (Some group.now)) }
 {
     text.extend_from_slice(b"<")?;
-    text.extend_from_slice(group.as_bytes())?;
+    text.extend_from_slice(group)?;
     text.extend_from_slice(b">\n")
 }
 
 /// Adds the line that ends a group.
-fn put_end(text: &mut Vec<u8>, group: &str) -> Result<(), AllocError>
+fn put_end(text: &mut Vec<u8>, group: &[u8]) -> Result<(), AllocError>
     ensures { OnOk result (text.new.items ≡ text.old.items ++ closes (Some group.now)) }
 {
     text.extend_from_slice(b"</")?;
-    text.extend_from_slice(group.as_bytes())?;
+    text.extend_from_slice(group)?;
     text.extend_from_slice(b">\n")
 }
 
 /// Adds what stands between constraints of one group, or the front, and of another.
-fn put_between(text: &mut Vec<u8>, group: Option<&str>, next: &str) -> Result<(), AllocError>
+fn put_between(text: &mut Vec<u8>, group: Option<&[u8]>, next: &[u8]) -> Result<(), AllocError>
     ensures { OnOk result (text.new.items ≡ text.old.items ++ between (option_copied group.entry) (Some next.now)) }
 {
     if let Some(name) = group {
@@ -75,9 +75,9 @@ pub(crate) fn put_constraints(
     ensures written { OnOk result (text.new.items ≡ text.old.items ++ constraints_after None constraints.now) }
     ensures held { OnOk result (All IsHeld constraints.now) }
 {
-    let mut group: Option<&str> = None;
+    let mut group: Option<&[u8]> = None;
     for constraint in constraints {
-        let next = group_name(&constraint.class);
+        let next = group_of(constraint.class.name()).name();
         put_between(text, group, next)?;
         put_constraint(text, constraint)?;
         group = Some(next);

@@ -1,6 +1,6 @@
 //! The texts of instance and solution files, written.
 //!
-//! A contract says that what is written is the text that `robinx_read` defines, and that it reads back as what it was
+//! A contract says that what is written is the text that `robinx_form` defines, and that it reads back as what it was
 //! written for.
 #![tactic(auto)]
 
@@ -10,7 +10,6 @@ mod instance;
 mod solution;
 mod tag;
 
-pub use class::class_name;
 pub use constraints::type_word;
 pub use instance::instance_text;
 pub use solution::solution_text;

@@ -3,10 +3,10 @@ ghost use Rattle.std.specs.Prelude.{◌≡◌, ◌≤◌, ◌++◌, ℕ, length,
 ghost use Rattle.std.specs.List.{All, flat_map};
 ghost use Rattle.league.specs.Instance.{IsGame};
 ghost use Rattle.robinx_tags.specs.Pieces.{pieces};
-ghost use Rattle.robinx_read.specs.SolutionFile.{solution_of};
-ghost use Rattle.robinx_read.specs.Texts.{game_line, score_text, solution_text as text_of};
+ghost use Rattle.robinx_form.specs.SolutionFile.{solution_of};
+ghost use Rattle.robinx_form.specs.Texts.{game_line, score_text, solution_text as text_of};
 
-use crate::tag::{Attribute, Value, put_tag};
+use crate::tag::{NamedValue, Value, put_tag};
 use league::{Game, Schedule};
 use std::alloc::{AllocError, Global};
 
@@ -15,9 +15,9 @@ fn put_game(text: &mut Vec<u8>, game: &Game) -> Result<(), AllocError>
     ensures { OnOk result (text.new.items ≡ text.old.items ++ game_line game.now) }
 {
     let attributes = [
-        Attribute("home", Value::Count(u128::from(game.home.0))),
-        Attribute("away", Value::Count(u128::from(game.away.0))),
-        Attribute("slot", Value::Count(u128::from(game.slot.0))),
+        NamedValue("home", Value::Count(u128::from(game.home.0))),
+        NamedValue("away", Value::Count(u128::from(game.away.0))),
+        NamedValue("slot", Value::Count(u128::from(game.slot.0))),
     ];
     put_tag(text, "ScheduledMatch", &attributes)
 }
@@ -31,8 +31,8 @@ fn put_score(text: &mut Vec<u8>, score: Option<(u128, u128)>) -> Result<(), Allo
     };
     text.extend_from_slice(b"<MetaData>\n")?;
     let attributes = [
-        Attribute("infeasibility", Value::Count(infeasibility)),
-        Attribute("objective", Value::Count(objective)),
+        NamedValue("infeasibility", Value::Count(infeasibility)),
+        NamedValue("objective", Value::Count(objective)),
     ];
     put_tag(text, "ObjectiveValue", &attributes)?;
     text.extend_from_slice(b"</MetaData>\n")?;
@@ -62,7 +62,9 @@ pub fn solution_text(
     ensures text { IfOk result (λ text. text.items ≡ text_of schedule.now score) }
 
     // What is written of games that fit a league of n teams reads back as these games.
-    ensures reads_back { IfOk result (λ text. (n : ℕ) → n ≤ 40 → All (IsGame n) schedule.now → length schedule.now ≤ 10000 → solution_of n (pieces text.items) ≡ Ok schedule.now) }
+    ensures reads_back { IfOk result (λ text.
+        (n : ℕ) → n ≤ 40 → All (IsGame n) schedule.now → length schedule.now ≤ 10000
+        → solution_of n (pieces text.items) ≡ Ok schedule.now) }
 {
     let mut text = Vec::new(alloc);
     text.extend_from_slice(b"<?xml version=\"1.0\" encoding=\"UTF-8\"?>\n<Solution>\n")?;

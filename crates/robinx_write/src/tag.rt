@@ -2,8 +2,8 @@
 ghost use Rattle.std.specs.Prelude.{◌≡◌, ◌++◌, OnOk, map, codes, decimal as decimal_text};
 ghost use Rattle.std.specs.List.{flat_map, join_with_byte};
 ghost use Rattle.std.specs.Str.{byte};
-ghost use Rattle.robinx_read.specs.Attributes.{attribute_text, tag_line};
-ghost use Rattle.robinx_write.specs.SeenAttribute.{attributes_of, value_of, pair_text, further_text};
+ghost use Rattle.robinx_form.specs.Attributes.{attribute_text, tag_line};
+ghost use Rattle.robinx_write.specs.SeenValues.{attributes_of, value_text, pair_text, further_text};
 
 use robin_io::put_decimal;
 use std::alloc::AllocError;
@@ -17,9 +17,9 @@ pub(crate) enum Value<'a> {
     Pairs(&'a [(u16, u16)]),
 }
 
-/// An attribute that is written: its name and its value.
+/// A value and the name of its attribute.
 #[derive(Clone, Copy)]
-pub(crate) struct Attribute<'a>(pub &'a str, pub Value<'a>);
+pub(crate) struct NamedValue<'a>(pub &'a str, pub Value<'a>);
 
 /// Adds numbers, each behind a `;`.
 fn put_further_ids(text: &mut Vec<u8>, ids: &[u16]) -> Result<(), AllocError>
@@ -59,7 +59,7 @@ fn put_pairs(text: &mut Vec<u8>, pairs: &[(u16, u16)]) -> Result<(), AllocError>
 
 /// Adds a value.
 fn put_value(text: &mut Vec<u8>, value: Value) -> Result<(), AllocError>
-    ensures { OnOk result (text.new.items ≡ text.old.items ++ value_of value.entry) }
+    ensures { OnOk result (text.new.items ≡ text.old.items ++ value_text value.entry) }
 {
     match value {
         Value::Word(word) => text.extend_from_slice(word.as_bytes()),
@@ -70,7 +70,10 @@ fn put_value(text: &mut Vec<u8>, value: Value) -> Result<(), AllocError>
 }
 
 /// Adds attributes, each with the space before it.
-pub(crate) fn put_attributes(text: &mut Vec<u8>, attributes: &[Attribute]) -> Result<(), AllocError>
+pub(crate) fn put_attributes(
+    text: &mut Vec<u8>,
+    attributes: &[NamedValue],
+) -> Result<(), AllocError>
     ensures { OnOk result (text.new.items ≡ text.old.items ++ flat_map attribute_text (attributes_of attributes.now)) }
 {
     for attribute in attributes {
@@ -87,7 +90,7 @@ pub(crate) fn put_attributes(text: &mut Vec<u8>, attributes: &[Attribute]) -> Re
 pub(crate) fn put_tag(
     text: &mut Vec<u8>,
     name: &str,
-    attributes: &[Attribute],
+    attributes: &[NamedValue],
 ) -> Result<(), AllocError>
     ensures { OnOk result (text.new.items ≡ text.old.items ++ tag_line name.now (attributes_of attributes.now)) }
 {

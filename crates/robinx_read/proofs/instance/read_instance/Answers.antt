@@ -1,7 +1,7 @@
 use Rattle.std.proofs.Common.{◌≡◌, Ok, subst}
-use Rattle.robinx_read.specs.Walk.{reading}
-use Rattle.robinx_read.specs.InstanceFile.{Draft, instance_meaning, nothing}
-use Rattle.robinx_read.specs.declared.element.Element.TheVariants.{InstanceFile}
+use Rattle.robinx_form.specs.Walk.{reading}
+use Rattle.robinx_form.specs.InstanceFile.{Draft, instance_meaning, nothing}
+use Rattle.robinx_form.specs.declared.element.Element.TheVariants.{InstanceFile}
 use Rattle.robinx_read.proofs.SeasonLemmas.{teams_read}
 use Rattle.robinx_read.proofs.instance.read_instance.Goals as goal
 

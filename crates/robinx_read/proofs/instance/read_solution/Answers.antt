@@ -1,9 +1,9 @@
 use Rattle.std.proofs.Common.{◌≡◌, [], Ok, sym, ◌∙◌, subst}
 use Rattle.std.specs.List.{All}
 use Rattle.league.specs.Instance.{IsGame}
-use Rattle.robinx_read.specs.Walk.{reading}
-use Rattle.robinx_read.specs.SolutionFile.{Games, solution_meaning}
-use Rattle.robinx_read.specs.declared.element.Element.TheVariants.{SolutionFile}
+use Rattle.robinx_form.specs.Walk.{reading}
+use Rattle.robinx_form.specs.SolutionFile.{Games, solution_meaning}
+use Rattle.robinx_form.specs.declared.element.Element.TheVariants.{SolutionFile}
 use Rattle.robinx_read.proofs.GamesLemmas.{games_same}
 use Rattle.robinx_read.proofs.instance.read_solution.Goals as goal
 

@@ -3,8 +3,8 @@ use Rattle.std.specs.List.{before_first}
 use Rattle.std.proofs.lemmas.Bool.Decides.{nat_tests}
 use Rattle.std.proofs.lemmas.Result.{err_from_is_err_and}
 use Rattle.league.specs.Sets.{with_item, pair_cmp}
-use Rattle.robinx_read.specs.Values.{meeting, each, items_of}
-use Rattle.robinx_read.specs.Gathered.{gathered}
+use Rattle.robinx_form.specs.Values.{meeting, each, items_of}
+use Rattle.robinx_form.specs.Gathered.{gathered}
 use Rattle.robinx_read.proofs.ItemLemmas.{gathered_more, gathered_fault}
 use Rattle.robinx_read.proofs.lists.gather_meetings.Goals as goal
 

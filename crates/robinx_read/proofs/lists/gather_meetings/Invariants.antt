@@ -1,7 +1,7 @@
 use Rattle.std.proofs.Common.{◌≡◌, [], length}
 use Rattle.league.specs.Sets.{pair_cmp}
-use Rattle.robinx_read.specs.Values.{meeting, each, items_of}
-use Rattle.robinx_read.specs.Gathered.{gathered}
+use Rattle.robinx_form.specs.Values.{meeting, each, items_of}
+use Rattle.robinx_form.specs.Gathered.{gathered}
 use Rattle.robinx_read.proofs.lists.gather_meetings.Given as goal
 
 abbrev pub invariant-items : goal.invariant-items

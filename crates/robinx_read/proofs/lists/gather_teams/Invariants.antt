@@ -1,7 +1,7 @@
 use Rattle.std.proofs.Common.{◌≡◌, [], length}
 use Rattle.std.specs.Ordering.{nat_cmp}
-use Rattle.robinx_read.specs.Values.{team, each, items_of}
-use Rattle.robinx_read.specs.Gathered.{gathered}
+use Rattle.robinx_form.specs.Values.{team, each, items_of}
+use Rattle.robinx_form.specs.Gathered.{gathered}
 use Rattle.robinx_read.proofs.lists.gather_teams.Given as goal
 
 abbrev pub invariant-items : goal.invariant-items

@@ -1,11 +1,11 @@
 use Rattle.std.proofs.Common.{ℕ, List, subst}
-use Rattle.robinx_read.specs.Values.{Reading}
-use Rattle.robinx_read.specs.Answers.{Gives}
-use Rattle.robinx_read.proofs.KnownLemmas.{gathered_slots, slots_fit_all}
+use Rattle.robinx_form.specs.Values.{Reading}
+use Rattle.robinx_tags.specs.Seen.{Gives}
+use Rattle.robinx_form.proofs.KnownLemmas.{gathered_slots, slots_fit_all}
 use Rattle.robinx_read.proofs.lists.slots.Goals as goal
 
 pub returns-clause-value : goal.returns-clause-value
-returns-clause-value c = subst (λ (r : Reading (List ℕ)). Gives r c.gather_slots.result) (gathered_slots c.args.n c.args.text.now) c.gather_slots.ensures
+returns-clause-value c = subst (λ (r : Reading (List ℕ)). Gives (λ x. x) c.gather_slots.result r) (gathered_slots c.args.n c.args.text.now) c.gather_slots.ensures
 
 pub returns-clause-fit : goal.returns-clause-fit
-returns-clause-fit c = slots_fit_all c.args.n c.args.text.now c.gather_slots.result (subst (λ (r : Reading (List ℕ)). Gives r c.gather_slots.result) (gathered_slots c.args.n c.args.text.now) c.gather_slots.ensures)
+returns-clause-fit c = slots_fit_all c.args.n c.args.text.now c.gather_slots.result (subst (λ (r : Reading (List ℕ)). Gives (λ x. x) c.gather_slots.result r) (gathered_slots c.args.n c.args.text.now) c.gather_slots.ensures)

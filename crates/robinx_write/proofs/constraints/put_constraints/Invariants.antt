@@ -1,7 +1,7 @@
 use Rattle.std.proofs.Common.{◌≡◌, ◌++◌, drop, take, None}
 use Rattle.std.specs.List.{All}
 use Rattle.std.specs.Option.{option_copied}
-use Rattle.robinx_read.specs.Texts.{constraints_after}
+use Rattle.robinx_form.specs.Texts.{constraints_after}
 use Rattle.robinx_write.specs.Held.{IsHeld}
 use Rattle.robinx_write.proofs.constraints.put_constraints.Given as goal
 

@@ -2,11 +2,10 @@ use Rattle.std.proofs.Common.{◌≡◌, ◌++◌, [], List, ℕ, Bool, ap, ◌�
 use Rattle.std.specs.Prelude.{codes, None}
 use Rattle.std.specs.List.{All}
 use Rattle.league.specs.declared.class.Constraint.{Constraint}
-use Rattle.robinx_read.specs.Texts.{constraints_after, instance_text as text_of}
+use Rattle.robinx_form.specs.Texts.{constraints_after, instance_text as text_of}
 use Rattle.robinx_write.specs.Held.{IsHeld}
-use Rattle.robinx_write.specs.Parts.{head_text, season_text}
+use Rattle.robinx_form.specs.Texts.{head_text, season_text}
 use Rattle.robinx_write.proofs.TextLemmas.{four_pieces}
-use Rattle.robinx_write.proofs.PartLemmas.{instance-parts}
 use Rattle.robinx_write.proofs.InstanceLemmas.{instance-reads_back}
 use Rattle.robinx_write.proofs.instance.instance_text.Goals as goal
 
@@ -21,7 +20,6 @@ whole c =
     c.in_ok-put_constraints.ensures.written ∙ ap (λ (l : List Constraint). c.put_season.new.text.items ++ constraints_after None l) c.constraints.ensures in
     four_pieces [] c.put_head.new.text.items c.put_season.new.text.items c.put_constraints.new.text.items c.extend_from_slice.new.self.items (head_text league.phased) (season_text league.n) (constraints_after None league.constraints) (codes "</Constraints>\n</Instance>\n")
     head season constraints c.in_ok-extend_from_slice.ensures.items
-    ∙ instance-parts league
 
 pub returns-clause-text : goal.returns-clause-text
 returns-clause-text c = whole c

@@ -1,5 +1,5 @@
 use Rattle.std.proofs.Common.{◌++◌, ℕ, ap, ◌∙◌}
-use Rattle.robinx_write.specs.Parts.{id_line}
+use Rattle.robinx_form.specs.Texts.{id_line}
 use Rattle.robinx_write.proofs.PartLemmas.{line_added}
 use Rattle.robinx_write.proofs.instance.put_ids.Goals as goal
 

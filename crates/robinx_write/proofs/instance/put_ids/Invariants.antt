@@ -1,6 +1,6 @@
 use Rattle.std.proofs.Common.{◌≡◌, ◌++◌}
 use Rattle.std.specs.List.{flat_map, range_with_len}
-use Rattle.robinx_write.specs.Parts.{id_line}
+use Rattle.robinx_form.specs.Texts.{id_line}
 use Rattle.robinx_write.proofs.instance.put_ids.Given as goal
 
 -- the lines so far

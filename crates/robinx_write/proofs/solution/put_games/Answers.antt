@@ -1,5 +1,5 @@
 use Rattle.std.proofs.lemmas.List.{get_or_default}
-use Rattle.robinx_read.specs.Texts.{game_line}
+use Rattle.robinx_form.specs.Texts.{game_line}
 use Rattle.robinx_write.proofs.TextLemmas.{piece_added}
 use Rattle.robinx_write.proofs.solution.put_games.Goals as goal
 

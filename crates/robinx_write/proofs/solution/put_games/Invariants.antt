@@ -1,6 +1,6 @@
 use Rattle.std.proofs.Common.{◌≡◌, ◌++◌, drop}
 use Rattle.std.specs.List.{flat_map}
-use Rattle.robinx_read.specs.Texts.{game_line}
+use Rattle.robinx_form.specs.Texts.{game_line}
 use Rattle.robinx_write.proofs.solution.put_games.Given as goal
 
 -- the text so far, and then the lines that are left, is the whole

@@ -1,7 +1,7 @@
 use Rattle.std.proofs.Common.{◌≡◌, ◌++◌, [], List, ℕ, ap, ◌∙◌}
 use Rattle.std.specs.Prelude.{codes}
 use Rattle.std.specs.List.{flat_map}
-use Rattle.robinx_read.specs.Texts.{game_line, score_text, solution_text as text_of}
+use Rattle.robinx_form.specs.Texts.{game_line, score_text, solution_text as text_of}
 use Rattle.robinx_write.proofs.TextLemmas.{five_pieces}
 use Rattle.robinx_write.proofs.SolutionLemmas.{solution-reads_back}
 use Rattle.robinx_write.proofs.solution.solution_text.Goals as goal

@@ -1,7 +1,7 @@
 use Rattle.std.proofs.Common.{◌≡◌, ◌++◌, drop}
 use Rattle.std.specs.List.{flat_map}
-use Rattle.robinx_read.specs.Attributes.{attribute_text}
-use Rattle.robinx_write.specs.SeenAttribute.{attributes_of}
+use Rattle.robinx_form.specs.Attributes.{attribute_text}
+use Rattle.robinx_write.specs.SeenValues.{attributes_of}
 use Rattle.robinx_write.proofs.tag.put_attributes.Given as goal
 
 -- the text so far, and then the attributes that are left, is the whole

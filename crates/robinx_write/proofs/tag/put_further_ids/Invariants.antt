@@ -1,6 +1,6 @@
 use Rattle.std.proofs.Common.{◌≡◌, ◌++◌, drop}
 use Rattle.std.specs.List.{flat_map}
-use Rattle.robinx_write.specs.SeenAttribute.{further_text}
+use Rattle.robinx_write.specs.SeenValues.{further_text}
 use Rattle.robinx_write.proofs.tag.put_further_ids.Given as goal
 
 -- the text so far, and then the ids that are left, is the whole

@@ -1,6 +1,6 @@
 use Rattle.std.proofs.Common.{◌≡◌, ◌++◌, drop}
 use Rattle.std.specs.List.{flat_map}
-use Rattle.robinx_write.specs.SeenAttribute.{pair_text}
+use Rattle.robinx_write.specs.SeenValues.{pair_text}
 use Rattle.robinx_write.proofs.tag.put_pairs.Given as goal
 
 -- the text so far, and then the pairs that are left, is the whole
