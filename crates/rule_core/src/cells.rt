@@ -70,6 +70,14 @@ impl Cells {
         self.n
     }
 
+    /// The number of slots of the season.
+    pub fn slots(&self) -> u16
+        ensures slots { result ≡ slot_count self.now.n }
+        ensures at_most { result ≤ 78 }
+    {
+        2 * (self.n - 1)
+    }
+
     /// The number of games, at most 10,000.
     pub fn games(&self) -> u32
         ensures total { result ≡ sum self.now.list }

@@ -23,13 +23,14 @@ pub struct Meetings {
 }
 
 impl Model for Meetings {
-    ghost use Rattle.rule_core.specs.Meetings.{AreListed, MeetingList};
+    ghost use Rattle.rule_core.specs.KeptMeetings.{AreTabled};
+    ghost use Rattle.rule_core.specs.Meetings.{MeetingList};
 
     ghost Value = { MeetingList };
 
     ghost view = { λ m. record { n = m.n; list = m.list.items } };
 
-    ghost invariant = { λ m. AreListed m.n m.list.items m.listed.items };
+    ghost invariant = { λ m. AreTabled m.n m.list.items m.listed.items };
 }
 
 impl Meetings {

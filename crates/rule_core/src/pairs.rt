@@ -83,8 +83,6 @@ impl Pairs {
 
     /// Adds the key of the pair of two different teams, in either order, where both are among the teams. It takes no memory.
     pub fn push_key(&self, one: u16, other: u16, keys: &mut Keys)
-        requires one { one < 78 }
-        requires other { other < 78 }
         requires differ { one ≢ other }
         requires spare { length keys.old.list + 1 ≤ keys.old.room }
         ensures { keys.new ≡ record { list = keys.old.list ++ key_between self.now one other; room = keys.old.room } }
@@ -103,8 +101,7 @@ impl Pairs {
 
     /// Adds the keys of all pairs in which a team is, ascending. It takes no memory.
     pub fn push_keys(&self, team: u16, keys: &mut Keys)
-        requires team { team < 78 }
-        requires spare { length keys.old.list + (length self.now - 1) ≤ keys.old.room }
+        requires { length keys.old.list + (length self.now - 1) ≤ keys.old.room }
         ensures { keys.new ≡ record { list = keys.old.list ++ keys_with self.now team; room = keys.old.room } }
     {
         let place = self.places.place(team);

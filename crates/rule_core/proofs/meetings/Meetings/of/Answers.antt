@@ -1,5 +1,5 @@
 use Rattle.std.proofs.Common.{arith}
-use Rattle.rule_core.proofs.ListedLemmas.{IsTableOf-more, are_meetings-teams, place_in}
+use Rattle.rule_core.proofs.KeptMeetingLemmas.{IsTableOf-more, are_meetings-teams, place_in}
 use Rattle.rule_core.proofs.meetings.Meetings.of.Goals as goal
 
 pub index_mut-requires : goal.index_mut-requires

@@ -1,27 +1,28 @@
-//! The number of terms that were evaluated. It stands in proofs alone.
+//! The number of steps that an evaluation took. It stands in proofs alone, and costs nothing at run time.
+#![tactic(auto)]
 ghost use Rattle.std.specs.Prelude.{◌≡◌, ◌+◌};
 
-use http_server::Log;
+mod taken;
+
 use std::marker::{Model, PhantomData};
+use taken::Taken;
 
 /// The one ledger for which a counter can be made.
 pub struct Plain;
 
-/// The number of terms evaluated so far. It has no bytes at run time, and `tick` alone changes it.
-///
-/// Code that knows a ledger `L` only as a type can't make a counter for it, and so counts by its caller's.
+/// The number of steps taken so far. It has no bytes at run time, and `tick` alone changes it.
 #[derive(Drop)]
 pub struct Steps<L> {
     of: PhantomData<L>,
-    taken: Log<(), ()>,
+    taken: Taken,
 }
 
 impl<L> Model for Steps<L> {
-    ghost use Rattle.std.specs.Prelude.{ℕ, length};
+    ghost use Rattle.std.specs.Prelude.{ℕ};
 
     ghost Value = { ℕ };
 
-    ghost view = { λ s. length s.taken.items };
+    ghost view = { λ s. s.taken.number };
 }
 
 impl Steps<Plain> {
@@ -31,17 +32,17 @@ impl Steps<Plain> {
     {
         Steps {
             of: PhantomData,
-            taken: Log::new(),
+            taken: Taken::none(),
         }
     }
 }
 
 impl<L> Steps<L> {
-    /// Counts one term more.
+    /// Counts one step more.
     pub fn tick(&mut self)
         ensures { self.new ≡ self.old + 1 }
     {
-        self.taken = self.taken.and(&(), &());
+        self.taken = self.taken.next();
     }
 }
 
