@@ -1,6 +1,6 @@
 -- What fits into a league of four teams, whose slots are 0 to 5, and what doesn't: each condition at its edge.
 use Rattle.std.proofs.Common.{◌≡◌, ℕ, ◌<◌, ◌≤◌, [], ◌∷◌, true, false, arith, refl}
-use Rattle.league.specs.Instance.{IsGame, IsInstance, class_fits}
+use Rattle.league.specs.Instance.{IsGame, IsInstance, class_fits, is_team_count}
 use Rattle.league.specs.declared.class.Class.TheVariants.{Ca1, Ca2, Ca3, Ca4, Ga1, Br1, Br2, Fa2, Se1}
 use Rattle.league.specs.declared.class.Side.TheVariants.{A, Both, H}
 use Rattle.league.specs.declared.class.Span.TheVariants.{Every, Global}
@@ -133,13 +133,34 @@ game-one_team h = h.differ refl
 
 -- the smallest league, and a number of teams that isn't even
 pub instance-two : IsInstance (record { n = 2; phased = true; constraints = [] })
-instance-two = record { even = refl; at_least = omega arith; at_most = omega arith; few = omega arith; fit = λ k d h. absurd (omega arith) }
+instance-two = record { teams = record { even = refl; at_least = omega arith; at_most = omega arith }; few = omega arith; fit = λ k d h. absurd (omega arith) }
 
 pub instance-odd : IsInstance (record { n = 3; phased = true; constraints = [] }) → ⊥
-instance-odd h = let rest : ℕ = 1 in let e : rest ≡ 0 = h.even in omega arith
+instance-odd h = let rest : ℕ = 1 in let e : rest ≡ 0 = h.teams.even in omega arith
 
 pub instance-none : IsInstance (record { n = 0; phased = true; constraints = [] }) → ⊥
-instance-none h = let e : 2 ≤ 0 = h.at_least in omega arith
+instance-none h = let e : 2 ≤ 0 = h.teams.at_least in omega arith
 
 pub instance-large : IsInstance (record { n = 42; phased = true; constraints = [] }) → ⊥
-instance-large h = let e : 42 ≤ 40 = h.at_most in omega arith
+instance-large h = let e : 42 ≤ 40 = h.teams.at_most in omega arith
+
+-- teams, slots and meetings ascend, and none stands twice
+pub ca1-teams_descend : class_fits 4 (Ca1 (3 ∷ 0 ∷ []) 0 A (0 ∷ 5 ∷ [])) ≡ false
+ca1-teams_descend = refl
+
+pub ca2-second_team_twice : class_fits 4 (Ca2 (0 ∷ 3 ∷ []) (1 ∷ 1 ∷ []) 0 Both (5 ∷ [])) ≡ false
+ca2-second_team_twice = refl
+
+pub br1-slots_descend : class_fits 4 (Br1 (3 ∷ []) 0 Both (0 ∷ 5 ∷ 4 ∷ [])) ≡ false
+br1-slots_descend = refl
+
+pub ga1-meetings_by_away_team : class_fits 4 (Ga1 ((3, 0) ∷ (2, 1) ∷ []) 0 1 (5 ∷ [])) ≡ false
+ga1-meetings_by_away_team = refl
+
+pub ga1-meeting_twice : class_fits 4 (Ga1 ((2, 1) ∷ (2, 1) ∷ []) 0 1 (5 ∷ [])) ≡ false
+ga1-meeting_twice = refl
+
+-- 2 and 40 are the fewest and the most teams
+pub team_count-edges : (is_team_count 0 ≡ false) × (is_team_count 2 ≡ true) × (is_team_count 3 ≡ false)
+    × (is_team_count 40 ≡ true) × (is_team_count 41 ≡ false) × (is_team_count 42 ≡ false)
+team_count-edges = (refl, refl, refl, refl, refl, refl)

@@ -1,5 +1,7 @@
 -- Lemmas on the definitions:
 pub mod AcceptedLemmas
+pub mod AscendingLemmas
+pub mod FitLemmas
 pub mod SumLemmas
 pub mod RangeLemmas
 pub mod MeetingLemmas
@@ -15,6 +17,7 @@ pub mod Crowded
 pub mod CrowdedFacts
 pub mod TwoTeamsFacts
 pub mod InstanceFacts
+pub mod NameFacts
 pub mod SetFacts
 pub mod SetLemmas
 pub mod OrderLemmas

@@ -1,10 +1,11 @@
--- Read in this order; each file needs only those above it.
+-- What a reader of a claim must believe:
 --
--- What a league and a schedule are:
+-- Read in this order; each file needs only those above it. What a league and a schedule are:
 pub mod Sets
 pub mod Counts
 pub mod Order
 pub mod Instance
+pub mod Names
 pub mod Meetings
 pub mod Venues
 pub mod Structure
@@ -18,6 +19,8 @@ pub mod Separation
 -- What it adds up to:
 pub mod Deviation
 pub mod Accepted
+-- Kept inside (laws, and how fields are seen):
+--
 -- Laws that the sets rest on:
 pub mod SetLaws
 -- Which sets a class has, for copies:

@@ -17,7 +17,8 @@ both_equal Greater p h = absurd (cc)
 
 pub same-pair_cmp : (a b : ℕ × ℕ) → pair_cmp a b ≡ Equal → a ≡ b
 same-pair_cmp a b h =
-    let both : (nat_cmp a.0 b.0 ≡ Equal) × (nat_cmp a.1 b.1 ≡ Equal) = both_equal (nat_cmp a.0 b.0) (nat_cmp a.1 b.1) h in
+    let both : (nat_cmp a.0 b.0 ≡ Equal) × (nat_cmp a.1 b.1 ≡ Equal) =
+    both_equal (nat_cmp a.0 b.0) (nat_cmp a.1 b.1) h in
     let first : a.0 ≡ b.0 = same-nat_cmp a.0 b.0 both.0 in
     let second : a.1 ≡ b.1 = same-nat_cmp a.1 b.1 both.1 in
     ap (λ (x : ℕ). (x, a.1)) first ∙ ap (λ (y : ℕ). (b.0, y)) second

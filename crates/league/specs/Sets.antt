@@ -1,6 +1,6 @@
 -- Sets, as lists in ascending order without repeats.
-use Rattle.std.specs.Prelude.{◌≡◌, ℕ, List, ◌∷◌, ◌++◌}
-use Rattle.std.specs.List.{AllPairs, filter}
+use Rattle.std.specs.Prelude.{◌≡◌, ℕ, Bool, true, ◌&&◌, ◌==◌, List, [], ◌∷◌, ◌++◌}
+use Rattle.std.specs.List.{AllPairs, filter, list_all, list_any}
 use Rattle.std.specs.Ordering.{is_lt, nat_cmp, ordering_then}
 use Rattle.std.specs.declared.cmp.Ordering.{Ordering}
 use Rattle.std.specs.declared.cmp.Ordering.TheVariants.{Less}
@@ -8,6 +8,15 @@ use Rattle.std.specs.declared.cmp.Ordering.TheVariants.{Less}
 -- each element comes before all later ones
 abbrev pub IsAscending : {X : Type 0} → (X → X → Ordering) → List X → Type 0
 IsAscending cmp xs = AllPairs (λ a b. cmp a b ≡ Less) xs
+
+-- the same as a test
+abbrev pub ascends : {X : Type 0} → (X → X → Ordering) → List X → Bool
+ascends cmp [] = true
+ascends cmp (x ∷ xs) = list_all (λ y. is_lt (cmp x y)) xs && ascends cmp xs
+
+-- whether a number is one of these
+abbrev pub is_in : ℕ → List ℕ → Bool
+is_in x xs = list_any (λ y. y == x) xs
 
 -- the set with x: the elements before it, x itself, and the elements after it
 abbrev pub with_item : {X : Type 0} → (X → X → Ordering) → X → List X → List X

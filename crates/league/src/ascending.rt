@@ -45,7 +45,8 @@ impl<T: Item> Ascending<T> {
     /// Only where memory runs out; the set is as before.
     pub fn insert(&mut self, item: T) -> Result<bool, AllocError>
         ensures ok { OnOk result (self.new ≡ with_item T.cmp item self.old) }
-        ensures fresh { IfOk result (λ fresh. MatchBool fresh (Contains self.old item → ⊥) (Contains self.old item)) }
+        ensures fresh { IfOk result (λ fresh.
+            MatchBool fresh (Contains self.old item → ⊥) (Contains self.old item)) }
         ensures err { OnErr result (self.new ≡ self.old) }
     {
         match self.items.binary_search(&item) {

@@ -1,6 +1,7 @@
 //! The nine classes of constraints of the International Timetabling Competition 2021, in the terms of RobinX.
-ghost use Rattle.std.specs.Prelude.{◌≡◌, IfOk, IsTrue};
+ghost use Rattle.std.specs.Prelude.{◌≡◌, IfOk, IsTrue, codes};
 ghost use Rattle.league.specs.Instance.{class_fits, are_teams, are_slots, are_meetings, is_one_side};
+ghost use Rattle.league.specs.Names.{name_of, name_text};
 ghost use Rattle.league.specs.Shapes.{has_one_set, has_opponents_in_slots};
 
 use crate::pair_set::PairSet;
@@ -21,6 +22,39 @@ pub enum Side {
 pub enum Span {
     Global,
     Every,
+}
+
+/// The name of one of the nine classes.
+#[derive(Clone, Copy, Debug, PartialEq, Eq)]
+pub enum ClassName {
+    Ca1,
+    Ca2,
+    Ca3,
+    Ca4,
+    Ga1,
+    Br1,
+    Br2,
+    Fa2,
+    Se1,
+}
+
+impl ClassName {
+    /// The name as RobinX files have it: `CA1` and so on.
+    pub fn text(self) -> &'static str
+        ensures { result.now ≡ codes (name_text self) }
+    {
+        match self {
+            ClassName::Ca1 => "CA1",
+            ClassName::Ca2 => "CA2",
+            ClassName::Ca3 => "CA3",
+            ClassName::Ca4 => "CA4",
+            ClassName::Ga1 => "GA1",
+            ClassName::Br1 => "BR1",
+            ClassName::Br2 => "BR2",
+            ClassName::Fa2 => "FA2",
+            ClassName::Se1 => "SE1",
+        }
+    }
 }
 
 /// A constraint's class, with what it speaks of. `specs/Deviation.antt` says what each demands.
@@ -92,6 +126,23 @@ pub enum Class {
 }
 
 impl Class {
+    /// The class's name.
+    pub fn name(&self) -> ClassName
+        ensures { result ≡ name_of self.now }
+    {
+        match self {
+            Class::Ca1 { .. } => ClassName::Ca1,
+            Class::Ca2 { .. } => ClassName::Ca2,
+            Class::Ca3 { .. } => ClassName::Ca3,
+            Class::Ca4 { .. } => ClassName::Ca4,
+            Class::Ga1 { .. } => ClassName::Ga1,
+            Class::Br1 { .. } => ClassName::Br1,
+            Class::Br2 { .. } => ClassName::Br2,
+            Class::Fa2 { .. } => ClassName::Fa2,
+            Class::Se1 { .. } => ClassName::Se1,
+        }
+    }
+
     /// An equal class.
     fn copy(&self) -> Result<Class, AllocError>
         ensures { IfOk result (λ copy. copy ≡ self.now) }

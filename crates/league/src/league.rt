@@ -1,11 +1,30 @@
 //! A league: what an instance file says.
-ghost use Rattle.std.specs.Prelude.{◌≡◌, ◌≤◌, ◌%◌, length, IfOk, IsTrue};
+ghost use Rattle.std.specs.Prelude.{◌≡◌, ◌≤◌, ◌↔◌, length, IfOk, IsTrue};
 ghost use Rattle.std.specs.List.{All};
-ghost use Rattle.league.specs.Instance.{IsInstance, class_fits};
+ghost use Rattle.league.specs.Counts as counts;
+ghost use Rattle.league.specs.Instance.{IsInstance, IsTeamCount, class_fits};
+ghost use Rattle.league.specs.Instance as instance;
 
 use crate::class::Constraint;
 use std::alloc::AllocError;
 use std::marker::Model;
+
+/// Whether a league may have n teams: an even number from 2 to 40 (own limits). It is the test of what `League::new`
+/// requires.
+pub fn is_team_count(n: u64) -> bool
+    ensures test { result ≡ instance.is_team_count n }
+    ensures teams { IsTrue result ↔ IsTeamCount n }
+{
+    n % 2 == 0 && 2 <= n && n <= 40
+}
+
+/// The number of slots of a double round robin of n teams: 2(n - 1), and 0 of no team.
+pub fn slot_count(n: u16) -> u16
+    requires { n ≤ 40 }
+    ensures { result ≡ counts.slot_count n }
+{
+    2 * n.saturating_sub(1)
+}
 
 /// A compact double round robin of n teams, perhaps phased, with constraints in file order.
 #[derive(Drop)]
@@ -28,9 +47,7 @@ impl Model for League {
 impl League {
     /// The league of n teams with these constraints. It takes no memory.
     pub fn new(n: u16, phased: bool, constraints: Vec<Constraint>) -> League
-        requires even { n % 2 ≡ 0 }
-        requires at_least { 2 ≤ n }
-        requires at_most { n ≤ 40 }
+        requires teams { IsTeamCount n }
         requires few { length constraints.items ≤ 20000 }
         requires fit { All (λ c. IsTrue (class_fits n c.class)) constraints.items }
         ensures { result ≡ record { n = n; phased = phased; constraints = constraints.items } }
@@ -48,6 +65,13 @@ impl League {
         ensures instance { IsInstance self.now }
     {
         self.n
+    }
+
+    /// The number of slots of the season: 2(n - 1).
+    pub fn slots(&self) -> u16
+        ensures { result ≡ counts.slot_count self.now.n }
+    {
+        slot_count(self.n)
     }
 
     /// Whether each two teams meet once in each half of the season.

@@ -15,10 +15,10 @@ mod slot_set;
 mod team_set;
 mod wrongs;
 
-pub use class::{Class, Constraint, Side, Span};
+pub use class::{Class, ClassName, Constraint, Side, Span};
 pub use game::{Game, SlotId, TeamId};
 pub use grid::Grid;
-pub use league::League;
+pub use league::{League, is_team_count, slot_count};
 pub use pair_set::PairSet;
 pub use schedule::Schedule;
 pub use slot_set::SlotSet;

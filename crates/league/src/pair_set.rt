@@ -1,8 +1,10 @@
 //! Sets of pairs.
-ghost use Rattle.std.specs.Prelude.{◌≡◌, ◌<◌, ◌==◌, ◌↔◌, [], length, Contains, IsTrue, OnOk, OnErr, IfOk, Some, slice_get};
+ghost use Rattle.std.specs.Prelude.{◌≡◌, ◌<◌, ◌==◌, ◌&&◌, ◌↔◌, [], length, Contains, IsTrue, OnOk, OnErr, IfOk, Some};
+ghost use Rattle.std.specs.Prelude.{nat_lt, not, slice_get};
+ghost use Rattle.std.specs.List.{list_all};
 ghost use Rattle.std.specs.Bool.{MatchBool};
 ghost use Rattle.league.specs.Sets.{IsAscending, with_item, pair_cmp};
-ghost use Rattle.league.specs.Instance.{are_meetings};
+ghost use Rattle.league.specs.Instance.{are_meetings, is_meeting};
 
 use crate::ascending::Ascending;
 use crate::game::TeamId;
@@ -39,7 +41,8 @@ impl PairSet {
     /// Only where memory runs out.
     pub fn insert(&mut self, pair: (TeamId, TeamId)) -> Result<bool, AllocError>
         ensures ok { OnOk result (self.new ≡ with_item pair_cmp (pair.0.0, pair.1.0) self.old) }
-        ensures fresh { IfOk result (λ fresh. MatchBool fresh (Contains self.old (pair.0.0, pair.1.0) → ⊥) (Contains self.old (pair.0.0, pair.1.0))) }
+        ensures fresh { IfOk result (λ fresh.
+            MatchBool fresh (Contains self.old (pair.0.0, pair.1.0) → ⊥) (Contains self.old (pair.0.0, pair.1.0))) }
         ensures err { OnErr result (self.new ≡ self.old) }
     {
         self.numbers.insert((pair.0.0, pair.1.0))
@@ -97,8 +100,15 @@ impl PairSet {
     pub(crate) fn are_meetings(&self, n: u16) -> bool
         ensures { result ≡ are_meetings n self.now }
     {
-        self.numbers()
-            .iter()
-            .all(|pair| pair.0 < n && pair.1 < n && pair.0 != pair.1)
+        all_meetings(self.numbers(), n)
     }
+}
+
+/// Whether each pair is a meeting of two different teams of a league of n teams.
+fn all_meetings(pairs: &[(u16, u16)], n: u16) -> bool
+    ensures { result ≡ list_all (is_meeting n) pairs.now }
+{
+    pairs
+        .iter()
+        .all(|pair| pair.0 < n && pair.1 < n && pair.0 != pair.1)
 }

@@ -1,7 +1,10 @@
 //! Sets of slots.
-ghost use Rattle.std.specs.Prelude.{◌≡◌, ◌<◌, ◌==◌, ◌↔◌, [], length, Contains, IsTrue, OnOk, OnErr, IfOk, Some, slice_get};
+ghost use Rattle.std.specs.Prelude.{◌≡◌, ◌<◌, ◌==◌, ◌↔◌, [], length, Contains, IsTrue, OnOk, OnErr, IfOk, Some};
+ghost use Rattle.std.specs.Prelude.{nat_lt, slice_get};
 ghost use Rattle.std.specs.Bool.{MatchBool};
+ghost use Rattle.std.specs.List.{list_all};
 ghost use Rattle.std.specs.Ordering.{nat_cmp};
+ghost use Rattle.league.specs.Counts.{slot_count};
 ghost use Rattle.league.specs.Sets.{IsAscending, with_item};
 ghost use Rattle.league.specs.Instance.{are_slots};
 
@@ -40,7 +43,8 @@ impl SlotSet {
     /// Only where memory runs out.
     pub fn insert(&mut self, slot: SlotId) -> Result<bool, AllocError>
         ensures ok { OnOk result (self.new ≡ with_item nat_cmp slot.0 self.old) }
-        ensures fresh { IfOk result (λ fresh. MatchBool fresh (Contains self.old slot.0 → ⊥) (Contains self.old slot.0)) }
+        ensures fresh { IfOk result (λ fresh.
+            MatchBool fresh (Contains self.old slot.0 → ⊥) (Contains self.old slot.0)) }
         ensures err { OnErr result (self.new ≡ self.old) }
     {
         self.numbers.insert(slot.0)
@@ -97,7 +101,14 @@ impl SlotSet {
     pub(crate) fn are_in_season(&self, n: u16) -> bool
         ensures { result ≡ are_slots n self.now }
     {
-        let end = 2 * u32::from(n.saturating_sub(1));
-        self.numbers().iter().all(|slot| u32::from(*slot) < end)
+        all_in_season(self.numbers(), n)
     }
+}
+
+/// Whether each number is a slot of the season of n teams.
+fn all_in_season(numbers: &[u16], n: u16) -> bool
+    ensures { result ≡ list_all (λ s. nat_lt s (slot_count n)) numbers.now }
+{
+    let end = 2 * u32::from(n.saturating_sub(1));
+    numbers.iter().all(|number| u32::from(*number) < end)
 }

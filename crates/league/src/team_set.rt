@@ -1,6 +1,8 @@
 //! Sets of teams.
-ghost use Rattle.std.specs.Prelude.{◌≡◌, ◌<◌, ◌==◌, ◌↔◌, [], length, Contains, IsTrue, OnOk, OnErr, IfOk, Some, slice_get};
+ghost use Rattle.std.specs.Prelude.{◌≡◌, ◌<◌, ◌==◌, ◌↔◌, [], length, Contains, IsTrue, OnOk, OnErr, IfOk, Some};
+ghost use Rattle.std.specs.Prelude.{nat_lt, slice_get};
 ghost use Rattle.std.specs.Bool.{MatchBool};
+ghost use Rattle.std.specs.List.{list_all};
 ghost use Rattle.std.specs.Ordering.{nat_cmp};
 ghost use Rattle.league.specs.Sets.{IsAscending, with_item};
 ghost use Rattle.league.specs.Instance.{are_teams};
@@ -40,7 +42,8 @@ impl TeamSet {
     /// Only where memory runs out.
     pub fn insert(&mut self, team: TeamId) -> Result<bool, AllocError>
         ensures ok { OnOk result (self.new ≡ with_item nat_cmp team.0 self.old) }
-        ensures fresh { IfOk result (λ fresh. MatchBool fresh (Contains self.old team.0 → ⊥) (Contains self.old team.0)) }
+        ensures fresh { IfOk result (λ fresh.
+            MatchBool fresh (Contains self.old team.0 → ⊥) (Contains self.old team.0)) }
         ensures err { OnErr result (self.new ≡ self.old) }
     {
         self.numbers.insert(team.0)
@@ -93,10 +96,17 @@ impl TeamSet {
         })
     }
 
-    /// Whether each is a team of a league of n teams.
+    /// Whether these are teams of a league of n teams. That they ascend needs no test.
     pub(crate) fn are_below(&self, n: u16) -> bool
         ensures { result ≡ are_teams n self.now }
     {
-        self.numbers().iter().all(|team| *team < n)
+        all_below(self.numbers(), n)
     }
+}
+
+/// Whether each number is below n.
+fn all_below(numbers: &[u16], n: u16) -> bool
+    ensures { result ≡ list_all (λ t. nat_lt t n) numbers.now }
+{
+    numbers.iter().all(|number| *number < n)
 }

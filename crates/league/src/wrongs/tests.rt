@@ -1,7 +1,7 @@
 //! What small schedules have wrong.
-ghost use Rattle.std.specs.Prelude.{◌≡◌, ◌≤◌, ◌%◌, length, IfOk};
+ghost use Rattle.std.specs.Prelude.{◌≤◌, length, IfOk};
 ghost use Rattle.std.specs.List.{All};
-ghost use Rattle.league.specs.Instance.{IsGame};
+ghost use Rattle.league.specs.Instance.{IsGame, IsTeamCount};
 
 use super::*;
 use crate::game::{SlotId, TeamId};
@@ -49,8 +49,7 @@ fn schedule_of(
     n: u16,
     games: &[(u16, u16, u16)],
 ) -> Result<Schedule, Fail>
-    requires at_least { 2 ≤ n }
-    requires at_most { n ≤ 40 }
+    requires teams { IsTeamCount n }
     ensures { IfOk result (λ schedule. (length schedule ≤ length games.now) × All (IsGame n) schedule) }
 {
     let mut schedule = Schedule::new(alloc);
@@ -58,7 +57,7 @@ fn schedule_of(
         assert!(rt; home < n);
         assert!(rt; away < n);
         assert!(rt; home != away);
-        assert!(rt; slot < 2 * (n - 1));
+        assert!(rt; slot < slot_count(n));
         schedule.push(Game {
             home: TeamId(home),
             away: TeamId(away),
@@ -76,9 +75,7 @@ fn wrongs_of(
     phased: bool,
     games: &[(u16, u16, u16)],
 ) -> Result<(u32, u32, u32), Fail>
-    requires even { n % 2 ≡ 0 }
-    requires at_least { 2 ≤ n }
-    requires at_most { n ≤ 40 }
+    requires teams { IsTeamCount n }
     requires few { length games.now ≤ 10000 }
 {
     let league = League::new(n, phased, Vec::new(alloc));
