@@ -1,20 +1,21 @@
 -- The table of some meetings: how it is made.
 use Rattle.std.proofs.Common.{◌≡◌, ◌≢◌, ℕ, ◌+◌, ◌*◌, ◌<◌, ◌≤◌, Bool, true, false, not, ◌&&◌, ◌||◌, ◌==◌, nat_lt, List, [], ◌∷◌, length, get_or, map, take, set, refl, arith, ap, sym, ◌∙◌, inl, inr, ◌⊎◌, IsTrue}
-use Rattle.std.proofs.lemmas.Bool.{cases_eq}
+use Rattle.std.proofs.lemmas.Bool.{and_parts, cases_eq}
 use Rattle.std.proofs.lemmas.Bool.Decides.{nat_tests}
 use Rattle.std.proofs.lemmas.List.{get_or-map, get_or-set_other, get_or-set_same, length-map, length-set, take_more}
 use Rattle.std.proofs.lemmas.List.Folds.{list_any-append}
 use Rattle.std.proofs.lemmas.List.Sums.{AllPass-from_list_all}
 use Rattle.std.proofs.lemmas.Nat.{mul-add-lt, mul-le, same_from_place}
 use Rattle.std.proofs.Math.Nat.{mul_comm}
-use Rattle.std.specs.List.{All}
-use Rattle.league.specs.Instance.{are_meetings}
+use Rattle.std.specs.List.{All, list_all}
+use Rattle.league.specs.Instance.{are_meetings, is_meeting}
 use Rattle.std.specs.Ordering.{nat_cmp, ordering_then}
 use Rattle.std.specs.declared.cmp.Ordering.{Ordering}
 use Rattle.std.specs.declared.cmp.Ordering.TheVariants.{Less, Equal, Greater}
+use Rattle.league.proofs.AscendingLemmas.{IsAscending-ascends}
 use Rattle.league.proofs.SetLemmas.{length-ascending}
 use Rattle.league.specs.SetLaws.{same-nat_cmp}
-use Rattle.league.specs.Sets.{IsAscending, pair_cmp}
+use Rattle.league.specs.Sets.{IsAscending, ascends, pair_cmp}
 use Rattle.rule_core.specs.KeptMeetings.{IsTableOf}
 use Rattle.rule_core.specs.Meetings.{is_listed}
 
@@ -82,9 +83,9 @@ teams_pass n p h = (first p.0 p.1 (not (p.0 == p.1)) h, second p.0 p.1 (not (p.0
   second : (a b : ℕ) (c : Bool) → (nat_lt a n && nat_lt b n && c) ≡ true → b < n
   second a b c h = grind (arith, nat_tests)
 
-pub are_meetings-teams : (n : ℕ) (xs : List (ℕ × ℕ)) → IsTrue (are_meetings n xs) → All (λ p. (p.0 < n) × (p.1 < n)) xs
-are_meetings-teams n xs are k d lt =
-    teams_pass n (get_or xs k d) (AllPass-from_list_all (λ p. nat_lt p.0 n && nat_lt p.1 n && not (p.0 == p.1)) xs are k d lt)
+pub meetings-teams : (n : ℕ) (xs : List (ℕ × ℕ)) → IsTrue (list_all (is_meeting n) xs) → All (λ p. (p.0 < n) × (p.1 < n)) xs
+meetings-teams n xs are k d lt =
+    teams_pass n (get_or xs k d) (AllPass-from_list_all (is_meeting n) xs are k d lt)
 
 -- an earlier pair has an earlier place in the table
 earlier : (o p : Ordering) → ordering_then o p ≡ Less → (o ≡ Less) ⊎ ((o ≡ Equal) × (p ≡ Less))
@@ -122,3 +123,8 @@ length-meetings n xs at_most ascending teams =
     ∙ ap (λ (b : ℕ). nat_cmp (place (get_or xs i (0, 0))) b) (at j d last)
     ∙ earlier_place n (get_or xs i (0, 0)) (get_or xs j (0, 0)) (teams i (0, 0) first).1 (ascending i j (0, 0) before last) in
     omega (arith, length-ascending (map place xs) (n * n) rising below, mul-le n n 40 40 at_most at_most)
+
+pub are_meetings-few : (n : ℕ) (xs : List (ℕ × ℕ)) → n ≤ 40 → IsTrue (are_meetings n xs) → length xs ≤ 1600
+are_meetings-few n xs at_most are =
+    let parts = and_parts (list_all (is_meeting n) xs) (ascends pair_cmp xs) are in
+    length-meetings n xs at_most (IsAscending-ascends pair_cmp xs parts.1) (meetings-teams n xs parts.0)

@@ -1,5 +1,5 @@
 -- The keys of the elements that pass a test.
-use Rattle.std.proofs.Common.{◌≡◌, ◌≢◌, ℕ, ◌+◌, ◌<◌, ◌≤◌, zero, suc, Bool, true, false, cond, List, [], ◌∷◌, ◌++◌, length, get_or, map, drop, refl, arith, ap, sym, ◌∙◌, subst, ◌⊎◌, inl, inr, Contains, add-zero, zero-add}
+use Rattle.std.proofs.Common.{◌≡◌, ◌≢◌, ℕ, ◌+◌, ◌<◌, ◌≤◌, zero, suc, Bool, true, false, cond, if◌then◌else◌, List, [], ◌∷◌, ◌++◌, length, get_or, map, drop, refl, arith, ap, sym, ◌∙◌, subst, ◌⊎◌, inl, inr, Contains, add-zero, zero-add}
 use Rattle.std.proofs.lemmas.Bool.{cases_Bool, cond_both}
 use Rattle.std.proofs.lemmas.Bool.Decides.{nat_tests}
 use Rattle.std.proofs.lemmas.List.{append-nil, append_assoc, get_or_default, length-append}
@@ -256,6 +256,17 @@ keys_where-one test xs t ascending only = at_most_one 0 test xs t (λ k d lt. on
 
 pub keys_where-two : (test : ℕ → Bool) (xs : List ℕ) (t u : ℕ) → IsAscending nat_cmp xs → ((x : ℕ) → test x ≡ true → (x ≡ t) ⊎ (x ≡ u)) → length (keys_where test xs) ≤ 2
 keys_where-two test xs t u ascending either = two_from 0 test xs t u ascending either
+
+-- a key that isn't among some keys that are there where a test passes: the test fails, or it isn't among them
+pub if_lacks : (test : Bool) (ks : List ℕ) (k : ℕ) → (Contains (if test then ks else []) k → ⊥) → (test ≡ false) ⊎ (Contains ks k → ⊥)
+if_lacks true ks k lacks = inr lacks
+if_lacks false ks k lacks = inl refl
+
+-- the key of an only entry is there unless the test fails
+pub only_key-lacks : (test : Bool) (k : ℕ) → k < 1 → (Contains (if test then 0 ∷ [] else []) k → ⊥) → test ≡ false
+only_key-lacks true zero inside lacks = absurd (lacks (0, omega arith, refl))
+only_key-lacks true (suc k) inside lacks = absurd (omega arith)
+only_key-lacks false k inside lacks = refl
 
 -- ---- lists of keys
 

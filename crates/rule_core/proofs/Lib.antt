@@ -11,4 +11,5 @@ pub mod ReadyLemmas
 pub mod RowLemmas
 pub mod RuleFacts
 pub mod TableLemmas
+pub mod TouchedFacts
 pub mod TouchedLemmas

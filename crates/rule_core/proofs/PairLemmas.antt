@@ -1,7 +1,7 @@
 -- The pairs of teams: how many there are, and the keys of those with a team, or with two.
-use Rattle.std.proofs.Common.{◌≡◌, ◌≢◌, ℕ, ◌+◌, ◌-◌, ◌*◌, ◌/◌, ◌<◌, ◌≤◌, zero, suc, Bool, true, false, ◌&&◌, cond, List, [], ◌∷◌, ◌++◌, length, get_or, map, drop, refl, arith, ap, sym, ◌∙◌, subst, ◌⊎◌, inl, inr, Contains, add-zero, zero-add}
+use Rattle.std.proofs.Common.{◌≡◌, ◌≢◌, ℕ, ◌+◌, ◌-◌, ◌*◌, ◌/◌, ◌<◌, ◌≤◌, zero, suc, Bool, true, false, ◌&&◌, List, [], ◌∷◌, ◌++◌, length, get_or, map, drop, refl, arith, ap, sym, ◌∙◌, subst, ◌⊎◌, inl, inr, zero-add}
 use Rattle.std.proofs.Math.Nat.{mul-le-mul}
-use Rattle.std.proofs.lemmas.Bool.{cases_Bool, cases_eq, cases_lt}
+use Rattle.std.proofs.lemmas.Bool.{cases_eq, cases_lt}
 use Rattle.std.proofs.lemmas.Bool.Decides.{nat_tests}
 use Rattle.std.proofs.lemmas.List.{append_assoc, append-nil, drop_more, get_or-drop, get_or_default, length-append, length-drop, length-map}
 use Rattle.std.proofs.lemmas.Option.{get_or_from_slice_get}
@@ -9,7 +9,6 @@ use Rattle.std.specs.Prelude.{slice_get, Some}
 use Rattle.std.proofs.lemmas.List.Elements.{All-append, All-cons, All-head, All-map, All-nil, All-tail}
 use Rattle.std.proofs.lemmas.List.FromFn.{length-range_with_len}
 use Rattle.std.specs.List.{All, range_with_len}
-use Rattle.std.specs.List.Sorted.{IsStrictlyIncreasing}
 use Rattle.std.specs.Ordering.{nat_cmp}
 use Rattle.league.specs.Counts.{slot_count}
 use Rattle.league.specs.Meetings.{pairs_of}
@@ -18,7 +17,7 @@ use Rattle.league.proofs.SetLemmas.{length-ascending}
 use Rattle.rule_core.specs.KeptPairs.{ArePairs, first_key, key_at}
 use Rattle.rule_core.specs.Keys.{places_from}
 use Rattle.rule_core.specs.Pairs.{has_team, key_between, keys_with}
-use Rattle.rule_core.proofs.KeyLemmas.{ascending-drop, ascending-tail, later_differ, one_passes, places_from-all, places_from-append, places_from-map, places_from-none, skipped, taken}
+use Rattle.rule_core.proofs.KeyLemmas.{ascending-drop, ascending-tail, later_differ, one_passes, places_from-all, places_from-append, places_from-map, places_from-none}
 
 -- ---- how many pairs there are
 

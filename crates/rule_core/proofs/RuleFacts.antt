@@ -7,7 +7,7 @@ use Rattle.rule_core.specs.Meetings.{is_listed}
 use Rattle.rule_core.specs.Pairs.{key_between, keys_with}
 use Rattle.rule_core.specs.Keys.{keys_where}
 use Rattle.rule_core.specs.Places.{ArePlaces}
-use Rattle.rule_core.specs.Rows.{number}
+use Rattle.league.specs.Grid.{number}
 use Rattle.rule_core.specs.Table.{Table, table_counts}
 
 -- Two teams have two slots, so a row of two counts for each home team and away team: 0 with 0, 0 with 1, 1 with 0 and 1 with 1.

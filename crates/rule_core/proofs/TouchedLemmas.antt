@@ -1,13 +1,14 @@
 -- The keys that a game touches, by class: few, of entries, and ascending.
-use Rattle.std.proofs.Common.{◌≡◌, ℕ, zero, suc, ◌-◌, ◌<◌, ◌≤◌, Bool, true, false, ◌&&◌, ◌||◌, ◌==◌, if◌then◌else◌, List, [], ◌∷◌, length, map, arith, ap, ◌⊎◌, inl, inr, IsTrue}
-use Rattle.std.specs.Prelude.{nat_le}
+use Rattle.std.proofs.Common.{◌≡◌, ℕ, zero, suc, ◌-◌, ◌<◌, ◌≤◌, Bool, true, ◌&&◌, ◌||◌, ◌==◌, if◌then◌else◌, List, [], ◌∷◌, length, arith, ap, ◌⊎◌, inl, inr, IsTrue}
+use Rattle.std.specs.Prelude.{nat_le, nat_lt}
 use Rattle.std.proofs.lemmas.Bool.{and_parts, cond_both, or_cases}
 use Rattle.std.proofs.lemmas.Bool.Decides.{nat_tests}
 use Rattle.std.proofs.lemmas.List.Elements.{All-nil}
 use Rattle.std.specs.List.{All, list_any}
 use Rattle.std.specs.List.Sorted.{IsStrictlyIncreasing}
 use Rattle.std.specs.Ordering.{nat_cmp}
-use Rattle.league.specs.Capacity.{is_between, is_in}
+use Rattle.league.specs.Capacity.{is_between}
+use Rattle.league.specs.Sets.{is_in}
 use Rattle.league.specs.Deviation.{spans}
 use Rattle.league.specs.Instance.{IsGame, are_slots, are_teams, is_one_side}
 use Rattle.league.specs.Meetings.{pairs_of}
@@ -19,6 +20,7 @@ use Rattle.league.specs.declared.class.Side.TheVariants.{H, A, Both}
 use Rattle.league.specs.declared.class.Span.{Span}
 use Rattle.league.specs.declared.class.Span.TheVariants.{Global, Every}
 use Rattle.league.specs.declared.game.Game.{Game}
+use Rattle.league.proofs.FitLemmas.{are_slots-ascending, are_teams-ascending}
 use Rattle.rule_core.specs.Keys.{keys_where}
 use Rattle.rule_core.specs.Meetings.{is_listed}
 use Rattle.rule_core.specs.Pairs.{has_team, keys_with}
@@ -102,6 +104,11 @@ plays_against-either Both others g x h =
       | inr away ↦ inr (is_one x g.away.0 (and_parts (x == g.away.0) (is_in g.home.0 others) away).0)
     ]
 
+-- at most the two teams of a game play it against others
+opponents-two : (n : ℕ) (teams1 teams2 : List ℕ) (side : Side) (g : Game) → (are_teams n teams1 && are_teams n teams2) ≡ true → length (keys_where (plays_against side teams2 g) teams1) ≤ 2
+opponents-two n teams1 teams2 side g are =
+    keys_where-two (plays_against side teams2 g) teams1 g.home.0 g.away.0 (are_teams-ascending n teams1 (and_parts (are_teams n teams1) (are_teams n teams2) are).0) (plays_against-either side teams2 g)
+
 -- a slot is in one span at most
 in_span : (s t : ℕ) → is_in s (t ∷ []) ≡ true → t ≡ s
 in_span s t h = grind (arith, nat_tests)
@@ -114,22 +121,24 @@ spans-one Every slots s ascending =
 -- they are few
 pub touched_keys-few : (n : ℕ) (class : Class) → IsReady n class → (g : Game) → IsGame n g → length (touched_keys class g) ≤ most_touched class
 touched_keys-few n (Ca1 teams max side slots) ready g fits =
-    at_most 1 (is_in g.slot.0 slots) (keys_where (plays_on side g) teams)
-    (players-one side g teams (and_parts (are_teams n teams && are_slots n slots) (is_one_side side) ready.fits).1 ready.ascending.0)
+    let parts = and_parts (are_teams n teams && are_slots n slots) (is_one_side side) ready.fits in
+    at_most 1 (is_in g.slot.0 slots) (keys_where (plays_on side g) teams) (players-one side g teams parts.1 (are_teams-ascending n teams (and_parts (are_teams n teams) (are_slots n slots) parts.0).0))
 touched_keys-few n (Ca2 teams1 teams2 max side slots) ready g fits =
-    at_most 2 (is_in g.slot.0 slots) (keys_where (plays_against side teams2 g) teams1)
-    (keys_where-two (plays_against side teams2 g) teams1 g.home.0 g.away.0 ready.ascending.0 (plays_against-either side teams2 g))
+    let parts = and_parts (are_teams n teams1 && are_teams n teams2) (are_slots n slots) ready.fits in
+    at_most 2 (is_in g.slot.0 slots) (keys_where (plays_against side teams2 g) teams1) (opponents-two n teams1 teams2 side g parts.0)
 touched_keys-few n (Ca3 teams1 teams2 max intp side) ready g fits =
-    keys_where-two (plays_against side teams2 g) teams1 g.home.0 g.away.0 ready.ascending.0 (plays_against-either side teams2 g)
+    opponents-two n teams1 teams2 side g (and_parts (are_teams n teams1 && are_teams n teams2) (nat_lt 0 intp) ready.fits).0
 touched_keys-few n (Ca4 teams1 teams2 max side span slots) ready g fits =
-    at_most 1 (is_between side teams1 teams2 (g.home.0, g.away.0)) (keys_where (is_in g.slot.0) (spans span slots)) (spans-one span slots g.slot.0 ready.ascending.2)
+    at_most 1 (is_between side teams1 teams2 (g.home.0, g.away.0)) (keys_where (is_in g.slot.0) (spans span slots))
+    (spans-one span slots g.slot.0 (are_slots-ascending n slots (and_parts (are_teams n teams1 && are_teams n teams2) (are_slots n slots) ready.fits).1))
 touched_keys-few n (Ga1 meetings min max slots) ready g fits =
     at_most 1 (is_listed meetings g.home.0 g.away.0 && is_in g.slot.0 slots) (0 ∷ []) (omega arith)
 touched_keys-few n (Br1 teams intp side slots) ready g fits =
     at_most 2 (can_break slots g.slot.0) (keys_where (plays_on side g) teams)
-    (keys_where-two (plays_on side g) teams g.home.0 g.away.0 ready.ascending.0 (plays_on-either side g))
+    (keys_where-two (plays_on side g) teams g.home.0 g.away.0 (are_teams-ascending n teams (and_parts (are_teams n teams) (are_slots n slots) ready.fits).0) (plays_on-either side g))
 touched_keys-few n (Br2 teams intp slots) ready g fits =
     at_most 1 (can_break slots g.slot.0 && (is_in g.home.0 teams || is_in g.away.0 teams)) (0 ∷ []) (omega arith)
 touched_keys-few n (Fa2 teams intp slots) ready g fits =
-    at_most (length teams - 1) (list_any (λ s. nat_le g.slot.0 s) slots) (keys_with teams g.home.0) (keys_with-few teams g.home.0 ready.ascending.0)
-touched_keys-few n (Se1 teams min) ready g fits = key_between-few teams g.home.0 g.away.0 ready.ascending fits.differ
+    at_most (length teams - 1) (list_any (λ s. nat_le g.slot.0 s) slots) (keys_with teams g.home.0)
+    (keys_with-few teams g.home.0 (are_teams-ascending n teams (and_parts (are_teams n teams) (are_slots n slots) ready.fits).0))
+touched_keys-few n (Se1 teams min) ready g fits = key_between-few teams g.home.0 g.away.0 (are_teams-ascending n teams ready.fits) fits.differ

@@ -6,7 +6,6 @@ pub mod Pairs
 pub mod Touched
 pub mod Rule
 -- Kept inside (laws, and how fields are seen):
-pub mod Rows
 pub mod Tables
 pub mod Places
 pub mod KeptMeetings

@@ -7,3 +7,8 @@ pub record ArePlaces (count : ℕ) (xs places : List ℕ) : Type 0 where
   pub there : (k : ℕ) → k < count → slice_index places (slice_index xs k) ≡ k + 1
   pub here : (t : ℕ) → 0 < slice_index places t → slice_index xs (slice_index places t - 1) ≡ t
   pub within : (t : ℕ) → slice_index places t ≤ count
+
+-- at most 78 numbers, with the place of each
+pub record AreListed (xs places : List ℕ) : Type 0 where
+  pub few : length xs ≤ 78
+  pub placed : ArePlaces (length xs) xs places

@@ -1,30 +1,15 @@
 -- What makes a constraint ready to be a rule, and how many entries it has.
-use Rattle.std.specs.Prelude.{ℕ, ◌≤◌, List, length, IsTrue}
-use Rattle.std.specs.Ordering.{nat_cmp}
+use Rattle.std.specs.Prelude.{ℕ, ◌≤◌, length, IsTrue}
 use Rattle.league.specs.Deviation.{spans}
 use Rattle.league.specs.Instance.{class_fits}
 use Rattle.league.specs.Meetings.{pairs_of}
-use Rattle.league.specs.Sets.{IsAscending, pair_cmp}
 use Rattle.league.specs.declared.class.Class.{Class}
 use Rattle.league.specs.declared.class.Class.TheVariants.{Ca1, Ca2, Ca3, Ca4, Ga1, Br1, Br2, Fa2, Se1}
 
--- its sets ascend without repeats
-abbrev pub HasAscendingSets : Class → Type 0
-HasAscendingSets (Ca1 teams max side slots) = IsAscending nat_cmp teams × IsAscending nat_cmp slots
-HasAscendingSets (Ca2 teams1 teams2 max side slots) = IsAscending nat_cmp teams1 × IsAscending nat_cmp teams2 × IsAscending nat_cmp slots
-HasAscendingSets (Ca3 teams1 teams2 max intp side) = IsAscending nat_cmp teams1 × IsAscending nat_cmp teams2
-HasAscendingSets (Ca4 teams1 teams2 max side span slots) = IsAscending nat_cmp teams1 × IsAscending nat_cmp teams2 × IsAscending nat_cmp slots
-HasAscendingSets (Ga1 meetings min max slots) = IsAscending pair_cmp meetings × IsAscending nat_cmp slots
-HasAscendingSets (Br1 teams intp side slots) = IsAscending nat_cmp teams × IsAscending nat_cmp slots
-HasAscendingSets (Br2 teams intp slots) = IsAscending nat_cmp teams × IsAscending nat_cmp slots
-HasAscendingSets (Fa2 teams intp slots) = IsAscending nat_cmp teams × IsAscending nat_cmp slots
-HasAscendingSets (Se1 teams min) = IsAscending nat_cmp teams
-
--- a constraint of a league of n teams
+-- a constraint that fits a league of n teams, at most 40
 pub record IsReady (n : ℕ) (class : Class) : Type 0 where
   pub at_most : n ≤ 40
   pub fits : IsTrue (class_fits n class)
-  pub ascending : HasAscendingSets class
 
 -- how many entries it has
 abbrev pub entry_count : Class → ℕ

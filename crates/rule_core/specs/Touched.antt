@@ -1,7 +1,8 @@
 -- Which entries of a constraint one game can change, by class, and how many at most (own).
 use Rattle.std.specs.Prelude.{ℕ, ◌+◌, ◌-◌, Bool, ◌&&◌, ◌||◌, ◌==◌, nat_le, if◌then◌else◌, List, [], ◌∷◌, length}
 use Rattle.std.specs.List.{list_any}
-use Rattle.league.specs.Capacity.{is_between, is_in}
+use Rattle.league.specs.Capacity.{is_between}
+use Rattle.league.specs.Sets.{is_in}
 use Rattle.league.specs.Deviation.{spans}
 use Rattle.league.specs.declared.class.Class.{Class}
 use Rattle.league.specs.declared.class.Class.TheVariants.{Ca1, Ca2, Ca3, Ca4, Ga1, Br1, Br2, Fa2, Se1}

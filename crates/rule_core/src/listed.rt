@@ -1,13 +1,14 @@
 //! A list of teams or slots in which a number is found by one look-up.
-ghost use Rattle.std.specs.Prelude.{◌≡◌, ◌≢◌, ◌<◌, ◌≤◌, ◌+◌, ◌++◌, ◌==◌, ◌||◌, length, slice_index, IfOk};
+ghost use Rattle.std.specs.Prelude.{◌≡◌, ◌≢◌, ◌<◌, ◌≤◌, ◌+◌, ◌++◌, ◌==◌, ◌||◌, length, slice_index, IsTrue, IfOk};
 ghost use Rattle.std.specs.List.{All};
 ghost use Rattle.std.specs.Ordering.{nat_cmp};
-ghost use Rattle.league.specs.Capacity.{is_in};
-ghost use Rattle.league.specs.Sets.{IsAscending};
+ghost use Rattle.league.specs.Instance.{are_slots, are_teams};
+ghost use Rattle.league.specs.Sets.{IsAscending, is_in};
 ghost use Rattle.rule_core.specs.Keys.{keys_where};
 
 use crate::keys::Keys;
 use crate::places::Places;
+use league::{SlotSet, TeamSet};
 use std::alloc::{AllocError, Global};
 use std::marker::Model;
 
@@ -21,22 +22,43 @@ pub struct Listed {
 }
 
 impl Model for Listed {
-    ghost use Rattle.std.specs.Prelude.{ℕ, List, length};
-    ghost use Rattle.rule_core.specs.Places.{ArePlaces};
+    ghost use Rattle.std.specs.Prelude.{ℕ, List};
+    ghost use Rattle.rule_core.specs.Places.{AreListed};
 
     ghost Value = { List ℕ };
 
     ghost view = { λ l. l.numbers.items };
 
-    ghost invariant = { λ l. ArePlaces (length l.numbers.items) l.numbers.items l.places };
+    ghost invariant = { λ l. AreListed l.numbers.items l.places };
 }
 
 impl Listed {
-    /// These numbers, which ascend and are below 78.
+    /// Some teams of a league of n teams.
     ///
     /// # Errors
     /// Only where memory runs out.
-    pub fn of(alloc: Global, numbers: &[u16]) -> Result<Listed, AllocError>
+    pub fn of_teams(alloc: Global, n: u16, teams: &TeamSet) -> Result<Listed, AllocError>
+        requires at_most { n ≤ 40 }
+        requires teams { IsTrue (are_teams n teams.now) }
+        ensures { IfOk result (λ listed. listed ≡ teams.now) }
+    {
+        Listed::of(alloc, teams.numbers())
+    }
+
+    /// Some slots of the season of n teams.
+    ///
+    /// # Errors
+    /// Only where memory runs out.
+    pub fn of_slots(alloc: Global, n: u16, slots: &SlotSet) -> Result<Listed, AllocError>
+        requires at_most { n ≤ 40 }
+        requires slots { IsTrue (are_slots n slots.now) }
+        ensures { IfOk result (λ listed. listed ≡ slots.now) }
+    {
+        Listed::of(alloc, slots.numbers())
+    }
+
+    /// These numbers.
+    fn of(alloc: Global, numbers: &[u16]) -> Result<Listed, AllocError>
         requires ascending { IsAscending nat_cmp numbers.now }
         requires below { All (λ x. x < 78) numbers.now }
         ensures { IfOk result (λ listed. listed ≡ numbers.now) }
@@ -49,7 +71,8 @@ impl Listed {
 
     /// The numbers, in ascending order.
     pub fn numbers(&self) -> &[u16]
-        ensures { result.now ≡ self.now }
+        ensures numbers { result.now ≡ self.now }
+        ensures few { length self.now ≤ 78 }
     {
         &self.numbers
     }
@@ -102,3 +125,6 @@ impl Listed {
         }
     }
 }
+
+#[cfg(test)]
+mod tests;

@@ -16,7 +16,7 @@ use types.Run.{enter, returns, and_then, no_more}
 use types.ByLocal.{alloc_all, pass_all, free_all, look_at, get, sets}
 use denote.Builtin.{RefOf, unit}
 use denote.Exit.{yes}
-use denote.RattleType.{RattleType, owns}
+use denote.RattleType.{owns}
 use denote.Laws.{Is}
 use denote.Signature.{plain, types_at}
 use denote.Steps.{nothing, owned}

@@ -1,7 +1,6 @@
 -- `none` makes the empty struct, with the number that its clause names. Assumes `Logic`.
 use Rattle.std.proofs.Common.{[], ◌∷◌, refl}
 use seplogic.Ra.Ura.{Ura}
-use mir.Syntax.{Fn}
 use mir.Val.{Val}
 use base.Logic.{SProp, ent}
 use prog.Memory.{Memory}
@@ -16,7 +15,7 @@ use types.Part.{agg}
 use types.Run.{enter, returns, and_then, no_more}
 use types.ByLocal.{alloc_all, pass_all, free_all, look_at, get, sets}
 use denote.Builtin.{unit}
-use denote.RattleType.{RattleType, owns}
+use denote.RattleType.{owns}
 use denote.Laws.{Is}
 use denote.Signature.{types_at}
 use denote.Steps.{nothing, owned}
