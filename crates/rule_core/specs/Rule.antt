@@ -8,8 +8,8 @@ use Rattle.league.specs.declared.game.Game.{Game}
 use Rattle.rule_core.specs.Touched.{most_touched, touched_keys}
 use Rattle.rule_core.specs.declared.rule.Entries.{Ghosts}
 
--- a rule, with what it says of its entries, is that of a class of constraints in a league of n teams: its entries are those of the
--- class's vector, at most 1,600, and a game touches those that it can change
+-- a rule, by what it says of its entries, is that of a constraint of this class in a league of n teams: its entries are
+-- those of the constraint's vector, at most 1,600, and a game touches those that it can change
 pub record IsRuleOf {R : Type 0} (E : Ghosts R) (n : ℕ) (class : Class) (rule : R) : Type 0 where
   pub teams : E.team_count rule ≡ n
   pub terms : (m : Counts) → E.term_count rule ≡ length (vector_of n m class)
