@@ -1,5 +1,5 @@
 -- The law of the frame, by class: a game changes the entries of the keys that it touches alone.
-use Rattle.std.proofs.Common.{◌≡◌, ◌≢◌, ℕ, ◌+◌, ◌<◌, Bool, true, false, ◌&&◌, ◌||◌, ◌==◌, if◌then◌else◌, List, [], ◌∷◌, length, map, get_or, arith, ap, sym, ◌∙◌, ◌⊎◌, inl, inr, Contains}
+use Rattle.std.proofs.Common.{◌≡◌, ◌≢◌, ℕ, ◌+◌, ◌<◌, Bool, true, false, ◌&&◌, ◌||◌, ◌==◌, List, [], ◌∷◌, length, map, get_or, arith, ap, sym, ◌∙◌, inl, inr, Contains}
 use Rattle.std.specs.Prelude.{nat_le}
 use Rattle.std.proofs.lemmas.Bool.{and_cases, cond_both, or_parts}
 use Rattle.std.proofs.lemmas.Bool.Decides.{nat_tests}
@@ -13,7 +13,7 @@ use Rattle.league.specs.Counts.{Counts, one_more}
 use Rattle.league.specs.Deviation.{entry_of, spans}
 use Rattle.league.specs.Fairness.{fa2_entry}
 use Rattle.league.specs.Instance.{IsGame}
-use Rattle.league.specs.Meetings.{games_of, meetings_of, pairs_of}
+use Rattle.league.specs.Meetings.{meetings_of, pairs_of}
 use Rattle.league.specs.Separation.{lacking, se1_entry}
 use Rattle.league.specs.Sets.{is_in}
 use Rattle.league.specs.Venues.{games_on}
@@ -133,9 +133,9 @@ module _ (n : ℕ) (m : Counts) (g : Game) (k : ℕ) where
       (ap (λ (c : ℕ). excess c max)
       (elim (if_lacks (is_between side teams1 teams2 meeting) (keys_where (is_in g.slot.0) (spans span slots)) k lacks) [
         | inl out ↦ games_of-other_meeting m g meetings some (λ p d lt same. absurd (
-          let passes : is_between side teams1 teams2 (get_or meetings p d) ≡ true = passing (is_between side teams1 teams2) (meetings_of n) p d lt in
-          let fails : is_between side teams1 teams2 (get_or meetings p d) ≡ false = ap (is_between side teams1 teams2) same ∙ out in
-          cc))
+            let passes : is_between side teams1 teams2 (get_or meetings p d) ≡ true = passing (is_between side teams1 teams2) (meetings_of n) p d lt in
+            let fails : is_between side teams1 teams2 (get_or meetings p d) ≡ false = ap (is_between side teams1 teams2) same ∙ out in
+            cc))
         | inr misses ↦ games_of-elsewhere m g meetings some (is_in-lacks g.slot.0 some (keys_where-lacks (is_in g.slot.0) (spans span slots) k [] inside misses))
       ]))
 
@@ -181,15 +181,17 @@ module _ (n : ℕ) (m : Counts) (g : Game) (k : ℕ) where
         | inl none ↦
             let before : All (λ s. s < g.slot.0) slots = all_before g.slot.0 slots none in
             λ q d lt.
-            let s : ℕ = get_or slots q d in
-            (home_played-same n m (one_more m g) p.0 s (λ t le. games_on-elsewhere n m H g p.0 t fits (apart t s g.slot.0 le (before q d lt))),
-            home_played-same n m (one_more m g) p.1 s (λ t le. games_on-elsewhere n m H g p.1 t fits (apart t s g.slot.0 le (before q d lt))))
+            let s : ℕ = get_or slots q d in (
+              home_played-same n m (one_more m g) p.0 s (λ t le. games_on-elsewhere n m H g p.0 t fits (apart t s g.slot.0 le (before q d lt))),
+              home_played-same n m (one_more m g) p.1 s (λ t le. games_on-elsewhere n m H g p.1 t fits (apart t s g.slot.0 le (before q d lt))),
+            )
         | inr misses ↦
             let out : has_team g.home.0 p ≡ false = keys_where-lacks (has_team g.home.0) (pairs_of teams) k (0, 0) inside misses in
             λ q d lt.
-            let s : ℕ = get_or slots q d in
-            (home_played-same n m (one_more m g) p.0 s (λ t le. games_on-not_at_home n m g p.0 t fits (not_first g.home.0 p out)),
-            home_played-same n m (one_more m g) p.1 s (λ t le. games_on-not_at_home n m g p.1 t fits (not_second g.home.0 p out)))
+            let s : ℕ = get_or slots q d in (
+              home_played-same n m (one_more m g) p.0 s (λ t le. games_on-not_at_home n m g p.0 t fits (not_first g.home.0 p out)),
+              home_played-same n m (one_more m g) p.1 s (λ t le. games_on-not_at_home n m g p.1 t fits (not_second g.home.0 p out)),
+            )
       ]))
 
   se1-frame : (teams : List ℕ) (min : ℕ) → k < length (pairs_of teams) → (Contains (touched_keys (Se1 teams min) g) k → ⊥) → entry_of n (one_more m g) (Se1 teams min) k ≡ entry_of n m (Se1 teams min) k

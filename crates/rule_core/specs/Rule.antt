@@ -2,7 +2,6 @@
 use Rattle.std.specs.Prelude.{◌≡◌, ℕ, ◌≤◌, length}
 use Rattle.league.specs.Counts.{Counts}
 use Rattle.league.specs.Deviation.{entry_of, vector_of}
-use Rattle.league.specs.Instance.{IsGame}
 use Rattle.league.specs.declared.class.Class.{Class}
 use Rattle.league.specs.declared.game.Game.{Game}
 use Rattle.rule_core.specs.Touched.{most_touched, touched_keys}
@@ -16,4 +15,4 @@ pub record IsRuleOf {R : Type 0} (E : Ghosts R) (n : ℕ) (class : Class) (rule 
   pub short : E.term_count rule ≤ 1600
   pub entries : (k : ℕ) (m : Counts) → E.entry rule k m ≡ entry_of n m class k
   pub reach : E.reach_of rule ≡ most_touched class
-  pub touches : (g : Game) → IsGame n g → E.touches rule g ≡ touched_keys class g
+  pub touches : (g : Game) → E.touches rule g ≡ touched_keys class g
