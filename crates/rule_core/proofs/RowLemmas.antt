@@ -8,12 +8,12 @@ use Rattle.std.proofs.lemmas.List.Sums.{sum_by-set}
 use Rattle.std.proofs.lemmas.Nat.{same_from_place}
 use Rattle.std.specs.List.{sum}
 use Rattle.league.proofs.RangeLemmas.{one_if}
-use Rattle.rule_core.specs.Rows.{number}
+use Rattle.league.specs.Grid.{number}
 use Rattle.rule_core.specs.Tables.{IsOneMore}
 use Rattle.rule_core.specs.declared.counters.Counters.{Counters}
 
 -- a list of zeros reads 0 everywhere
-zero_at : (size i : ℕ) → get_or {A = ℕ} (replicate size 0) i 0 ≡ 0
+pub zero_at : (size i : ℕ) → get_or {A = ℕ} (replicate size 0) i 0 ≡ 0
 zero_at zero i = refl
 zero_at (suc size) zero = refl
 zero_at (suc size) (suc i) = zero_at size i

@@ -1,16 +1,17 @@
 -- Worked examples of what rules read and which keys they give: each was worked out by hand.
-use Rattle.std.proofs.Common.{◌≡◌, ℕ, ◌+◌, true, false, List, [], ◌∷◌, ◌++◌, map, replicate, refl, arith}
+use Rattle.std.proofs.Common.{◌≡◌, ℕ, ◌+◌, ◌==◌, ◌||◌, true, false, List, [], ◌∷◌, ◌++◌, map, replicate, refl, arith}
 use Rattle.league.specs.Venues.{away_games, home_games}
 use Rattle.league.specs.Meetings.{pairs_of}
 use Rattle.rule_core.specs.KeptPairs.{first_key, key_at}
 use Rattle.rule_core.specs.Meetings.{is_listed}
 use Rattle.rule_core.specs.Pairs.{key_between, keys_with}
-use Rattle.rule_core.specs.Places.{ArePlaces, key_of, keys_of, stands}
-use Rattle.rule_core.specs.Rows.{number}
+use Rattle.rule_core.specs.Keys.{keys_where}
+use Rattle.rule_core.specs.Places.{ArePlaces}
+use Rattle.league.specs.Grid.{number}
 use Rattle.rule_core.specs.Table.{Table, table_counts}
 
--- Two teams have two slots, so a row of two counts for each home team and away team: 0 with 0, 0 with 1, 1 with 0 and 1 with 1.
--- Team 0 is at home to 1 three times in slot 0 and once in slot 1, and team 1 is at home to 0 five times in slot 1.
+-- Two teams have two slots, so a row of two counts for each home team and away team: 0 with 0, 0 with 1, 1 with 0 and 1
+-- with 1. Team 0 is at home to 1 three times in slot 0 and once in slot 1, and team 1 at home to 0 five times in slot 1.
 abbrev two_teams : Table
 two_teams = record { n = 2; list = 0 ∷ 0 ∷ 3 ∷ 1 ∷ 0 ∷ 5 ∷ 0 ∷ 0 ∷ [] }
 
@@ -21,7 +22,8 @@ table_counts-inside = refl
 pub table_counts-no_slot : map (λ s. table_counts two_teams 0 1 s) (2 ∷ 3 ∷ []) ≡ 0 ∷ 0 ∷ []
 table_counts-no_slot = refl
 
--- nor is there a team 2, whose row at home to 0 would be past the end, and whose row away to 0 would be that of 1 at home to 0
+-- nor is there a team 2, whose row at home to 0 would be past the end, and whose row away to 0 would be that of 1 at
+-- home to 0
 pub table_counts-no_team : table_counts two_teams 2 0 1 + table_counts two_teams 0 2 1 ≡ 0
 table_counts-no_team = refl
 
@@ -40,24 +42,9 @@ number-no_column = refl
 abbrev places : List ℕ
 places = 0 ∷ 0 ∷ 1 ∷ 2 ∷ 0 ∷ 0 ∷ 0 ∷ 3 ∷ replicate 70 0
 
-pub stands-2_and_4 : map (stands places) (2 ∷ 4 ∷ 7 ∷ 77 ∷ []) ≡ true ∷ false ∷ true ∷ false ∷ []
-stands-2_and_4 = refl
-
-pub key_of-7 : key_of places 7 ≡ 2 ∷ []
-key_of-7 = refl
-
-pub key_of-4 : key_of places 4 ≡ []
-key_of-4 = refl
-
--- the smaller place first, in whichever order the two are given; one alone where the other doesn't stand in the list
-pub keys_of-7_2 : keys_of places 7 2 ≡ 0 ∷ 2 ∷ []
-keys_of-7_2 = refl
-
-pub keys_of-2_7 : keys_of places 2 7 ≡ 0 ∷ 2 ∷ []
-keys_of-2_7 = refl
-
-pub keys_of-4_7 : (keys_of places 4 7 ≡ 2 ∷ []) × (keys_of places 7 4 ≡ 2 ∷ []) × (keys_of places 4 5 ≡ [])
-keys_of-4_7 = (refl, refl, refl)
+-- the keys of numbers in 2, 3 and 7 are their places from 0 on; the smaller first, in whichever order two are asked for
+pub keys_where-each : (keys_where (λ x. x == 7) (2 ∷ 3 ∷ 7 ∷ []) ≡ 2 ∷ []) × (keys_where (λ x. x == 4) (2 ∷ 3 ∷ 7 ∷ []) ≡ []) × (keys_where (λ x. (x == 7) || (x == 2)) (2 ∷ 3 ∷ 7 ∷ []) ≡ 0 ∷ 2 ∷ [])
+keys_where-each = (refl, refl, refl)
 
 -- a table of nothing isn't that of a list with a 2
 pub ArePlaces-not_empty : ArePlaces 1 (2 ∷ []) (replicate 78 0) → ⊥
@@ -71,7 +58,8 @@ ArePlaces-not_exchanged are = absurd (omega (arith, are.there 0 (omega arith)))
 pub ArePlaces-not_another : ArePlaces 1 (2 ∷ []) (0 ∷ 0 ∷ 1 ∷ 0 ∷ 0 ∷ 1 ∷ replicate 72 0) → ⊥
 ArePlaces-not_another are = absurd (omega (arith, are.here 5 (omega arith)))
 
--- a meeting is listed with its home team first: neither turned, nor made of the home team of one and the away team of another
+-- a meeting is listed with its home team first: neither turned, nor made of the home team of one and the away team of
+-- another
 pub is_listed-each : map (λ (p : ℕ × ℕ). is_listed ((0, 1) ∷ (2, 3) ∷ []) p.0 p.1) ((0, 1) ∷ (2, 3) ∷ (1, 0) ∷ (0, 3) ∷ []) ≡ true ∷ true ∷ false ∷ false ∷ []
 is_listed-each = refl
 
