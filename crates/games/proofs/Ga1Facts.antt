@@ -4,8 +4,8 @@ use Rattle.league.specs.Counts.{Counts, counts_of}
 use Rattle.league.specs.Deviation.{vector_of}
 use Rattle.league.specs.Meetings.{games_of}
 use Rattle.league.proofs.DoubleFour.{game}
-use Rattle.games.specs.Classes.{class_of_ga1}
-use Rattle.games.specs.Ga1.{touches_of}
+use Rattle.league.specs.declared.class.Class.TheVariants.{Ga1}
+use Rattle.rule_core.specs.Touched.{touched_keys}
 
 -- 0 at home to 1 twice in slot 1, and once in slot 2; 1 at home to 0 in slot 1; 2 at home to 0 in slot 4, and to 1 in slot 4
 abbrev counts : Counts
@@ -23,7 +23,7 @@ pub games_of-three : games_of counts meetings slots ≡ 3
 games_of-three = refl
 
 abbrev entries : ℕ → ℕ → List ℕ
-entries min max = vector_of 4 counts (class_of_ga1 meetings min max slots)
+entries min max = vector_of 4 counts (Ga1 meetings min max slots)
 
 -- three of at least 5 are two too few, and of at most 1 two too many; at the bounds themselves nothing is wrong
 pub ga1-bounds : map (λ (p : ℕ × ℕ). entries p.0 p.1) ((5, 9) ∷ (0, 1) ∷ (3, 3) ∷ (0, 9) ∷ []) ≡ (2 ∷ []) ∷ (2 ∷ []) ∷ (0 ∷ []) ∷ (0 ∷ []) ∷ []
@@ -34,10 +34,10 @@ pub ga1-larger_of_both : map (λ (p : ℕ × ℕ). entries p.0 p.1) ((7, 1) ∷ 
 ga1-larger_of_both = refl
 
 -- without meetings, and without slots, no game counts
-pub ga1-nothing_listed : (vector_of 4 counts (class_of_ga1 [] 2 9 slots) ≡ 2 ∷ []) × (vector_of 4 counts (class_of_ga1 meetings 2 9 []) ≡ 2 ∷ [])
+pub ga1-nothing_listed : (vector_of 4 counts (Ga1 [] 2 9 slots) ≡ 2 ∷ []) × (vector_of 4 counts (Ga1 meetings 2 9 []) ≡ 2 ∷ [])
 ga1-nothing_listed = (refl, refl)
 
 -- the one key is touched by a listed meeting in one of the slots, and neither by it turned, nor in another slot, nor by another
 -- meeting
-pub touches_of-each : map (λ g. touches_of (class_of_ga1 meetings 1 1 slots) g) (game 0 1 1 ∷ game 2 0 4 ∷ game 2 0 1 ∷ game 1 0 1 ∷ game 0 1 2 ∷ game 2 1 4 ∷ []) ≡ (0 ∷ []) ∷ (0 ∷ []) ∷ (0 ∷ []) ∷ [] ∷ [] ∷ [] ∷ []
-touches_of-each = refl
+pub touched_keys-each : map (λ g. touched_keys (Ga1 meetings 1 1 slots) g) (game 0 1 1 ∷ game 2 0 4 ∷ game 2 0 1 ∷ game 1 0 1 ∷ game 0 1 2 ∷ game 2 1 4 ∷ []) ≡ (0 ∷ []) ∷ (0 ∷ []) ∷ (0 ∷ []) ∷ [] ∷ [] ∷ [] ∷ []
+touched_keys-each = refl

@@ -1,2 +1,1 @@
 pub mod Ga1Facts
-pub mod TermLemmas

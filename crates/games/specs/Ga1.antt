@@ -1,12 +1,8 @@
--- Which keys of a GA1 a game touches.
-use Rattle.std.specs.Prelude.{ℕ, ◌&&◌, if◌then◌else◌, List, [], ◌∷◌}
-use Rattle.league.specs.Capacity.{is_in}
+-- The constraint of a GA1.
 use Rattle.league.specs.declared.class.Class.{Class}
-use Rattle.league.specs.declared.class.Class.TheVariants.{Ga1}
-use Rattle.league.specs.declared.game.Game.{Game}
-use Rattle.rule_core.specs.Meetings.{is_listed}
+use Rattle.league.specs.declared.class.Class.TheVariants as class
+use Rattle.games.specs.declared.ga1.Ga1.{Ga1}
 
--- the key of the one entry, exactly where the game's meeting is one of these and its slot is, too
-abbrev pub touches_of : Class → Game → List ℕ
-touches_of (Ga1 meetings min max slots) g = if is_listed meetings g.home.0 g.away.0 && is_in g.slot.0 slots then 0 ∷ [] else []
-touches_of other g = []
+-- the class that a rule was made of
+abbrev pub class_of : Ga1 → Class
+class_of r = class.Ga1 r.meetings.list r.min r.max r.slots

@@ -1,8 +1,3 @@
--- Read in this order.
---
--- Which constraints a GA1 is made from:
-pub mod Classes
--- Which keys a game touches:
+-- Kept inside (laws, and how fields are seen):
 pub mod Ga1
--- Its laws:
 pub mod Ga1Laws

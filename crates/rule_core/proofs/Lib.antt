@@ -1,12 +1,15 @@
 pub mod BreakLemmas
 pub mod GameLemmas
+pub mod KeptMeetingLemmas
+pub mod KeyLemmas
 pub mod ListedLemmas
 pub mod MeetingLemmas
 pub mod OpponentLemmas
 pub mod PairLemmas
 pub mod PlaceLemmas
+pub mod ReadyLemmas
 pub mod RowLemmas
 pub mod RuleFacts
-pub mod SlotLemmas
 pub mod TableLemmas
-pub mod TouchLemmas
+pub mod TouchedFacts
+pub mod TouchedLemmas

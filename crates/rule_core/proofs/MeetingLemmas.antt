@@ -1,20 +1,18 @@
 -- Which games leave the games of some meetings in some slots as many as they are.
-use Rattle.std.proofs.Common.{◌≡◌, ◌≢◌, ℕ, ◌-◌, ◌<◌, ◌≤◌, Bool, true, false, ◌&&◌, ◌==◌, nat_lt, List, length, get_or, refl, arith, ap, sym, ◌∙◌, inl, inr, ◌⊎◌}
-use Rattle.std.proofs.lemmas.Bool.{cases_Bool, cases_eq}
+use Rattle.std.proofs.Common.{◌≡◌, ◌≢◌, ℕ, ◌<◌, Bool, true, false, ◌&&◌, ◌==◌, List, length, get_or, refl, arith, ap, ◌∙◌, inl, inr, ◌⊎◌}
+use Rattle.std.proofs.lemmas.Bool.{cases_eq}
 use Rattle.std.proofs.lemmas.Bool.Decides.{nat_tests}
 use Rattle.std.proofs.lemmas.List.{get_or_default}
 use Rattle.std.proofs.lemmas.List.Folds.{list_any-from_Any, list_any_none}
 use Rattle.std.specs.List.{All, sum_by}
-use Rattle.league.specs.Capacity.{is_in}
+use Rattle.league.specs.Sets.{is_in}
 use Rattle.league.specs.Counts.{Counts, one_more}
 use Rattle.league.specs.Meetings.{games_of}
 use Rattle.league.specs.declared.game.Game.{Game}
 use Rattle.league.proofs.SumLemmas.{sum_by-same}
 use Rattle.rule_core.specs.Meetings.{is_listed}
-use Rattle.rule_core.specs.Places.{ArePlaces, stands}
 use Rattle.rule_core.proofs.GameLemmas.{sum_by-same_in}
 use Rattle.rule_core.proofs.OpponentLemmas.{one_more-other_away, one_more-other_home, one_more-other_slot}
-use Rattle.rule_core.proofs.PlaceLemmas.{stands-no}
 
 -- a game of another meeting has another home team or another away team
 one_more-other_meeting : (m : Counts) (g : Game) (p : ℕ × ℕ) (s : ℕ) → p ≢ (g.home.0, g.away.0) → one_more m g p.0 p.1 s ≡ m p.0 p.1 s
@@ -73,16 +71,3 @@ games_of-unlisted m g meetings slots out =
       one_fails : (a b : Bool) → (a && b) ≡ false → (a ≡ false) ⊎ (b ≡ false)
       one_fails true b h = inr h
       one_fails false b h = inl refl
-
--- a number has a place exactly where it is one of these
-pub stands-is_in : (xs places : List ℕ) (t : ℕ) → ArePlaces (length xs) xs places → stands places t ≡ is_in t xs
-stands-is_in xs places t are =
-    elim (cases_Bool (stands places t)) [
-      | inl at ↦
-          let more : 0 < get_or places t 0 = above_0 (get_or places t 0) at in
-          let le : get_or places t 0 ≤ length xs = are.within t in
-          at ∙ sym (is_in-yes t xs (get_or places t 0 - 1) (omega arith) (are.here t more))
-      | inr out ↦ out ∙ sym (is_in-no t xs (stands-no xs places t are out))
-    ] where
-      above_0 : (x : ℕ) → nat_lt 0 x ≡ true → 0 < x
-      above_0 x h = grind (arith, nat_tests)

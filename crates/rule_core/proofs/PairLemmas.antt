@@ -1,7 +1,7 @@
 -- The pairs of teams: how many there are, and the keys of those with a team, or with two.
-use Rattle.std.proofs.Common.{◌≡◌, ◌≢◌, ℕ, ◌+◌, ◌-◌, ◌*◌, ◌/◌, ◌<◌, ◌≤◌, zero, suc, Bool, true, false, ◌&&◌, cond, List, [], ◌∷◌, ◌++◌, length, get_or, map, drop, refl, arith, ap, sym, ◌∙◌, subst, ◌⊎◌, inl, inr, Contains, add-zero, zero-add}
+use Rattle.std.proofs.Common.{◌≡◌, ◌≢◌, ℕ, ◌+◌, ◌-◌, ◌*◌, ◌/◌, ◌<◌, ◌≤◌, zero, suc, Bool, true, false, ◌&&◌, List, [], ◌∷◌, ◌++◌, length, get_or, map, drop, refl, arith, ap, sym, ◌∙◌, subst, ◌⊎◌, inl, inr, zero-add}
 use Rattle.std.proofs.Math.Nat.{mul-le-mul}
-use Rattle.std.proofs.lemmas.Bool.{cases_Bool, cases_eq, cases_lt}
+use Rattle.std.proofs.lemmas.Bool.{cases_eq, cases_lt}
 use Rattle.std.proofs.lemmas.Bool.Decides.{nat_tests}
 use Rattle.std.proofs.lemmas.List.{append_assoc, append-nil, drop_more, get_or-drop, get_or_default, length-append, length-drop, length-map}
 use Rattle.std.proofs.lemmas.Option.{get_or_from_slice_get}
@@ -9,17 +9,15 @@ use Rattle.std.specs.Prelude.{slice_get, Some}
 use Rattle.std.proofs.lemmas.List.Elements.{All-append, All-cons, All-head, All-map, All-nil, All-tail}
 use Rattle.std.proofs.lemmas.List.FromFn.{length-range_with_len}
 use Rattle.std.specs.List.{All, range_with_len}
-use Rattle.std.specs.List.Sorted.{IsStrictlyIncreasing}
 use Rattle.std.specs.Ordering.{nat_cmp}
 use Rattle.league.specs.Counts.{slot_count}
 use Rattle.league.specs.Meetings.{pairs_of}
 use Rattle.league.specs.Sets.{IsAscending}
 use Rattle.league.proofs.SetLemmas.{length-ascending}
 use Rattle.rule_core.specs.KeptPairs.{ArePairs, first_key, key_at}
-use Rattle.rule_core.specs.Keys.{KeyList}
-use Rattle.rule_core.specs.Pairs.{is_in, key_between, keys_with}
-use Rattle.rule_core.specs.Places.{places_from}
-use Rattle.rule_core.proofs.PlaceLemmas.{less_than}
+use Rattle.rule_core.specs.Keys.{places_from}
+use Rattle.rule_core.specs.Pairs.{has_team, key_between, keys_with}
+use Rattle.rule_core.proofs.KeyLemmas.{ascending-drop, ascending-tail, later_differ, one_passes, places_from-all, places_from-append, places_from-map, places_from-none}
 
 -- ---- how many pairs there are
 
@@ -69,122 +67,6 @@ first_key-more (t ∷ teams) (suc i) h =
     let next : suc i + 1 ≡ suc (i + 1) = omega arith in
     omega (arith, ap (λ (k : ℕ). first_key (t ∷ teams) k) next, first_key-more teams i (omega arith))
 
--- ---- places of what passes a test
-
-pub taken : (b : Bool) (start : ℕ) (ks : List ℕ) → b ≡ true → cond b (start ∷ ks) ks ≡ start ∷ ks
-taken b start ks e = ap (λ (c : Bool). cond c (start ∷ ks) ks) e
-
-pub skipped : (b : Bool) (start : ℕ) (ks : List ℕ) → b ≡ false → cond b (start ∷ ks) ks ≡ ks
-skipped b start ks e = ap (λ (c : Bool). cond c (start ∷ ks) ks) e
-
-joined : (b : Bool) (start : ℕ) (all ks rest : List ℕ) → all ≡ ks ++ rest → cond b (start ∷ all) all ≡ cond b (start ∷ ks) ks ++ rest
-joined true start all ks rest e = ap (λ (xs : List ℕ). start ∷ xs) e
-joined false start all ks rest e = e
-
--- in two lists that are joined
-pub places_from-append : {X : Type 0} (start : ℕ) (test : X → Bool) (xs ys : List X) → places_from start test (xs ++ ys) ≡ places_from start test xs ++ places_from (start + length xs) test ys
-places_from-append start test [] ys = ap (λ (s : ℕ). places_from s test ys) (sym (add-zero start))
-places_from-append start test (x ∷ xs) ys =
-    let further : start + 1 + length xs ≡ start + length (x ∷ xs) = omega arith in
-    joined (test x) start (places_from (start + 1) test (xs ++ ys)) (places_from (start + 1) test xs) (places_from (start + length (x ∷ xs)) test ys)
-    (places_from-append (start + 1) test xs ys ∙ ap (λ (s : ℕ). places_from (start + 1) test xs ++ places_from s test ys) further)
-
--- in a list that is mapped
-pub places_from-map : {X Y : Type 0} (start : ℕ) (test : Y → Bool) (f : X → Y) (xs : List X) → places_from start test (map f xs) ≡ places_from start (λ x. test (f x)) xs
-places_from-map start test f [] = refl
-places_from-map start test f (x ∷ xs) = ap (λ (ks : List ℕ). cond (test (f x)) (start ∷ ks) ks) (places_from-map (start + 1) test f xs)
-
--- where none passes
-pub places_from-none : {X : Type 0} (start : ℕ) (test : X → Bool) (xs : List X) → All (λ x. test x ≡ false) xs → places_from start test xs ≡ []
-places_from-none start test [] none = refl
-places_from-none start test (x ∷ xs) none =
-    skipped (test x) start (places_from (start + 1) test xs) (none 0 x (omega arith))
-    ∙ places_from-none (start + 1) test xs (λ k d lt. none (suc k) d (omega arith))
-
--- where all pass
-pub places_from-all : {X : Type 0} (start : ℕ) (test : X → Bool) (xs : List X) → All (λ x. test x ≡ true) xs → places_from start test xs ≡ range_with_len start (length xs)
-places_from-all start test [] all = refl
-places_from-all start test (x ∷ xs) all =
-    taken (test x) start (places_from (start + 1) test xs) (all 0 x (omega arith))
-    ∙ ap (λ (ks : List ℕ). start ∷ ks) (places_from-all (start + 1) test xs (λ k d lt. all (suc k) d (omega arith)))
-
--- they are below the length
-pub places_from-below : {X : Type 0} (start : ℕ) (test : X → Bool) (xs : List X) → All (λ k. k < start + length xs) (places_from start test xs)
-places_from-below start test [] = λ k d lt. absurd (omega arith)
-places_from-below start test (x ∷ xs) =
-    let P : ℕ → Type 0 = λ k. k < start + length (x ∷ xs) in
-    let rest : All P (places_from (start + 1) test xs) = λ k d lt. omega (arith, places_from-below (start + 1) test xs k d lt) in
-    elim (cases_Bool (test x)) [
-      | inl passes ↦ subst (λ (ks : List ℕ). All P ks) (sym (taken (test x) start (places_from (start + 1) test xs) passes)) (All-cons P start (places_from (start + 1) test xs) (omega arith) rest)
-      | inr fails ↦ subst (λ (ks : List ℕ). All P ks) (sym (skipped (test x) start (places_from (start + 1) test xs) fails)) rest
-    ]
-
--- and at least the start
-places_from-least : {X : Type 0} (start : ℕ) (test : X → Bool) (xs : List X) → All (λ k. start ≤ k) (places_from start test xs)
-places_from-least start test [] = λ k d lt. absurd (omega arith)
-places_from-least start test (x ∷ xs) =
-    let P : ℕ → Type 0 = λ k. start ≤ k in
-    let rest : All P (places_from (start + 1) test xs) = λ k d lt. omega (arith, places_from-least (start + 1) test xs k d lt) in
-    elim (cases_Bool (test x)) [
-      | inl passes ↦ subst (λ (ks : List ℕ). All P ks) (sym (taken (test x) start (places_from (start + 1) test xs) passes)) (All-cons P start (places_from (start + 1) test xs) (omega arith) rest)
-      | inr fails ↦ subst (λ (ks : List ℕ). All P ks) (sym (skipped (test x) start (places_from (start + 1) test xs) fails)) rest
-    ]
-
-increasing-cons : (x : ℕ) (ks : List ℕ) → All (λ k. x + 1 ≤ k) ks → IsStrictlyIncreasing ks → IsStrictlyIncreasing (x ∷ ks)
-increasing-cons x ks least rest zero lt = omega (arith, least 0 0 (omega arith))
-increasing-cons x ks least rest (suc k) lt =
-    let next : suc (k + 1) ≡ suc k + 1 = omega arith in
-    subst (λ (p : ℕ). get_or ks k 0 < get_or (x ∷ ks) p 0) next (rest k (omega arith))
-
--- they ascend
-pub places_from-ascending : {X : Type 0} (start : ℕ) (test : X → Bool) (xs : List X) → IsStrictlyIncreasing (places_from start test xs)
-places_from-ascending start test [] = λ k lt. absurd (omega arith)
-places_from-ascending start test (x ∷ xs) =
-    let ks : List ℕ = places_from (start + 1) test xs in
-    elim (cases_Bool (test x)) [
-      | inl passes ↦ subst (λ (ls : List ℕ). IsStrictlyIncreasing ls) (sym (taken (test x) start ks passes)) (increasing-cons start ks (places_from-least (start + 1) test xs) (places_from-ascending (start + 1) test xs))
-      | inr fails ↦ subst (λ (ls : List ℕ). IsStrictlyIncreasing ls) (sym (skipped (test x) start ks fails)) (places_from-ascending (start + 1) test xs)
-    ]
-
-contains-later : (x k : ℕ) (ks : List ℕ) → Contains ks k → Contains (x ∷ ks) k
-contains-later x k ks has = (suc has.0, omega (arith, has.1), has.2)
-
--- what passes has its place among them
-pub places_from-has : {X : Type 0} (start : ℕ) (test : X → Bool) (xs : List X) (k : ℕ) (d : X) → k < length xs → test (get_or xs k d) ≡ true → Contains (places_from start test xs) (start + k)
-places_from-has start test [] k d inside passes = absurd (omega arith)
-places_from-has start test (x ∷ xs) zero d inside passes =
-    let ks : List ℕ = places_from (start + 1) test xs in
-    subst (λ (ls : List ℕ). Contains ls (start + 0)) (sym (taken (test x) start ks passes)) (0, omega arith, sym (add-zero start))
-places_from-has start test (x ∷ xs) (suc k) d inside passes =
-    let ks : List ℕ = places_from (start + 1) test xs in
-    let next : start + 1 + k ≡ start + suc k = omega arith in
-    let later : Contains ks (start + suc k) = subst (λ (p : ℕ). Contains ks p) next (places_from-has (start + 1) test xs k d (omega arith) passes) in
-    elim (cases_Bool (test x)) [
-      | inl head ↦ subst (λ (ls : List ℕ). Contains ls (start + suc k)) (sym (taken (test x) start ks head)) (contains-later start (start + suc k) ks later)
-      | inr head ↦ subst (λ (ls : List ℕ). Contains ls (start + suc k)) (sym (skipped (test x) start ks head)) later
-    ]
-
--- so what has no place among them fails the test
-pub places_from-lacks : {X : Type 0} (test : X → Bool) (xs : List X) (k : ℕ) (d : X) → k < length xs → (Contains (places_from 0 test xs) k → ⊥) → test (get_or xs k d) ≡ false
-places_from-lacks test xs k d inside lacks =
-    elim (cases_Bool (test (get_or xs k d))) [
-      | inl passes ↦ absurd (lacks (subst (λ (p : ℕ). Contains (places_from 0 test xs) p) (zero-add k) (places_from-has 0 test xs k d inside passes)))
-      | inr fails ↦ fails
-    ]
-
--- ---- ascending teams
-
-ascending-tail : (t : ℕ) (teams : List ℕ) → IsAscending nat_cmp (t ∷ teams) → IsAscending nat_cmp teams
-ascending-tail t teams ascending = λ i j d before within. ascending (suc i) (suc j) d (omega arith) (omega arith)
-
-later_differ : (t : ℕ) (teams : List ℕ) → IsAscending nat_cmp (t ∷ teams) → All (λ x. x ≢ t) teams
-later_differ t teams ascending = λ k d lt same. absurd (omega (arith, less_than t (get_or teams k d) (ascending 0 (suc k) d (omega arith) (omega arith))))
-
-pub ascending-drop : (i : ℕ) (teams : List ℕ) → IsAscending nat_cmp teams → IsAscending nat_cmp (drop i teams)
-ascending-drop zero teams ascending = ascending
-ascending-drop (suc i) [] ascending = ascending
-ascending-drop (suc i) (t ∷ teams) ascending = ascending-drop i teams (ascending-tail t teams ascending)
-
 -- a team's place, or none of them is it
 found : (t : ℕ) (teams : List ℕ) → ((q : ℕ) × (q < length teams) × (get_or teams q 0 ≡ t)) ⊎ All (λ x. x ≢ t) teams
 found t [] = inr (λ k d lt. absurd (omega arith))
@@ -208,20 +90,6 @@ pairs_of-all Q P both (t ∷ teams) all =
 pub pairs_of-below : (n : ℕ) (teams : List ℕ) → All (λ t. t < n) teams → All (λ p. (p.0 < n) × (p.1 < n)) (pairs_of teams)
 pairs_of-below n teams below = pairs_of-all (λ t. t < n) (λ p. (p.0 < n) × (p.1 < n)) (λ x y first second. (first, second)) teams below
 
--- one of the teams passes
-one_passes : (start : ℕ) (test : ℕ → Bool) (teams : List ℕ) (b q : ℕ) → IsAscending nat_cmp teams → q < length teams → get_or teams q 0 ≡ b → test b ≡ true → ((x : ℕ) → x ≢ b → test x ≡ false) → places_from start test teams ≡ (start + q) ∷ []
-one_passes start test [] b q ascending inside is passes fails = absurd (omega arith)
-one_passes start test (t ∷ teams) b zero ascending inside is passes fails =
-    taken (test t) start (places_from (start + 1) test teams) (ap test is ∙ passes)
-    ∙ ap (λ (ks : List ℕ). start ∷ ks) (places_from-none (start + 1) test teams (λ k d lt. fails (get_or teams k d) (λ same. later_differ t teams ascending k d lt (same ∙ sym is))))
-    ∙ ap (λ (k : ℕ). k ∷ []) (sym (add-zero start))
-one_passes start test (t ∷ teams) b (suc q) ascending inside is passes fails =
-    let differ : t ≢ b = λ same. later_differ t teams ascending q 0 (omega arith) (is ∙ sym same) in
-    let next : start + 1 + q ≡ start + suc q = omega arith in
-    skipped (test t) start (places_from (start + 1) test teams) (fails t differ)
-    ∙ one_passes (start + 1) test teams b q (ascending-tail t teams ascending) (omega arith) is passes fails
-    ∙ ap (λ (k : ℕ). k ∷ []) next
-
 -- the pairs of a first team with the later ones, and those of the later ones
 split : (start : ℕ) (test : ℕ × ℕ → Bool) (t : ℕ) (teams : List ℕ) → places_from start test (pairs_of (t ∷ teams)) ≡ places_from start (λ j. test (t, j)) teams ++ places_from (start + length teams) test (pairs_of teams)
 split start test t teams =
@@ -231,44 +99,44 @@ split start test t teams =
 
 -- ---- the pairs with a team
 
-without : (start t : ℕ) (teams : List ℕ) → All (λ x. x ≢ t) teams → places_from start (is_in t) (pairs_of teams) ≡ []
-without start t teams none = places_from-none start (is_in t) (pairs_of teams) (pairs_of-all (λ x. x ≢ t) (λ p. is_in t p ≡ false) (λ x y first second. grind (arith, nat_tests)) teams none)
+without : (start t : ℕ) (teams : List ℕ) → All (λ x. x ≢ t) teams → places_from start (has_team t) (pairs_of teams) ≡ []
+without start t teams none = places_from-none start (has_team t) (pairs_of teams) (pairs_of-all (λ x. x ≢ t) (λ p. has_team t p ≡ false) (λ x y first second. grind (arith, nat_tests)) teams none)
 
 pub keys_with-none : (t : ℕ) (teams : List ℕ) → All (λ x. x ≢ t) teams → keys_with teams t ≡ []
 keys_with-none t teams none = without 0 t teams none
 
-second_is : (v t : ℕ) → is_in t (v, t) ≡ true
+second_is : (v t : ℕ) → has_team t (v, t) ≡ true
 second_is v t = grind (arith, nat_tests)
 
-first_is : (t x : ℕ) → is_in t (t, x) ≡ true
+first_is : (t x : ℕ) → has_team t (t, x) ≡ true
 first_is t x = grind (arith, nat_tests)
 
-neither_is : (v t x : ℕ) → v ≢ t → x ≢ t → is_in t (v, x) ≡ false
+neither_is : (v t x : ℕ) → v ≢ t → x ≢ t → has_team t (v, x) ≡ false
 neither_is v t x first second = grind (arith, nat_tests)
 
 -- with an earlier team
-with_earlier : (start t v q : ℕ) (teams : List ℕ) → IsAscending nat_cmp (v ∷ teams) → v ≢ t → q < length teams → get_or teams q 0 ≡ t → places_from start (is_in t) (pairs_of (v ∷ teams)) ≡ (start + q) ∷ places_from (start + length teams) (is_in t) (pairs_of teams)
+with_earlier : (start t v q : ℕ) (teams : List ℕ) → IsAscending nat_cmp (v ∷ teams) → v ≢ t → q < length teams → get_or teams q 0 ≡ t → places_from start (has_team t) (pairs_of (v ∷ teams)) ≡ (start + q) ∷ places_from (start + length teams) (has_team t) (pairs_of teams)
 with_earlier start t v q teams ascending differ inside is =
-    split start (is_in t) v teams
-    ∙ ap (λ (ks : List ℕ). ks ++ places_from (start + length teams) (is_in t) (pairs_of teams))
-    (one_passes start (λ j. is_in t (v, j)) teams t q (ascending-tail v teams ascending) inside is (second_is v t) (λ x other. neither_is v t x differ other))
+    split start (has_team t) v teams
+    ∙ ap (λ (ks : List ℕ). ks ++ places_from (start + length teams) (has_team t) (pairs_of teams))
+    (one_passes start (λ j. has_team t (v, j)) teams t q (ascending-tail v teams ascending) inside is (second_is v t) (λ x other. neither_is v t x differ other))
 
 -- with the later teams
-with_later : (start t : ℕ) (teams : List ℕ) → IsAscending nat_cmp (t ∷ teams) → places_from start (is_in t) (pairs_of (t ∷ teams)) ≡ range_with_len start (length teams)
+with_later : (start t : ℕ) (teams : List ℕ) → IsAscending nat_cmp (t ∷ teams) → places_from start (has_team t) (pairs_of (t ∷ teams)) ≡ range_with_len start (length teams)
 with_later start t teams ascending =
-    split start (is_in t) t teams
-    ∙ ap (λ (ks : List ℕ). places_from start (λ j. is_in t (t, j)) teams ++ ks) (without (start + length teams) t teams (later_differ t teams ascending))
-    ∙ append-nil (places_from start (λ j. is_in t (t, j)) teams)
-    ∙ places_from-all start (λ j. is_in t (t, j)) teams (λ k d lt. first_is t (get_or teams k d))
+    split start (has_team t) t teams
+    ∙ ap (λ (ks : List ℕ). places_from start (λ j. has_team t (t, j)) teams ++ ks) (without (start + length teams) t teams (later_differ t teams ascending))
+    ∙ append-nil (places_from start (λ j. has_team t (t, j)) teams)
+    ∙ places_from-all start (λ j. has_team t (t, j)) teams (λ k d lt. first_is t (get_or teams k d))
 
 -- one with each other team
-few_with : (start t : ℕ) (teams : List ℕ) → IsAscending nat_cmp teams → length (places_from start (is_in t) (pairs_of teams)) ≤ length teams - 1
+few_with : (start t : ℕ) (teams : List ℕ) → IsAscending nat_cmp teams → length (places_from start (has_team t) (pairs_of teams)) ≤ length teams - 1
 few_with start t [] ascending = omega arith
 few_with start t (v ∷ teams) ascending =
     elim (cases_eq v t) [
       | inl same ↦
-          let is : places_from start (is_in t) (pairs_of (v ∷ teams)) ≡ range_with_len start (length teams) =
-          subst (λ (u : ℕ). places_from start (is_in u) (pairs_of (v ∷ teams)) ≡ range_with_len start (length teams)) same (with_later start v teams ascending) in
+          let is : places_from start (has_team t) (pairs_of (v ∷ teams)) ≡ range_with_len start (length teams) =
+          subst (λ (u : ℕ). places_from start (has_team u) (pairs_of (v ∷ teams)) ≡ range_with_len start (length teams)) same (with_later start v teams ascending) in
           omega (arith, ap (λ (ks : List ℕ). length ks) is, length-range_with_len start (length teams))
       | inr differ ↦ elim (found t teams) [
         | inl at ↦ omega (arith, ap (λ (ks : List ℕ). length ks) (with_earlier start t v at.0 teams ascending differ at.1 at.2), few_with (start + length teams) t teams (ascending-tail v teams ascending), at.1)
@@ -306,7 +174,7 @@ module _ (test : ℕ × ℕ → Bool) (a b : ℕ) (passes : test (a, b) ≡ true
       ∙ ap (λ (k : ℕ). k ∷ []) place
 
 abbrev both : ℕ → ℕ → ℕ × ℕ → Bool
-both t u p = is_in t p && is_in u p
+both t u p = has_team t p && has_team u p
 
 both_in : (t u : ℕ) → both t u (t, u) ≡ true
 both_in t u = grind (arith, nat_tests)
@@ -368,7 +236,7 @@ key_between-few teams t u ascending apart =
 -- ---- the loops over the teams
 
 -- keys so far, with that of an earlier team
-pub earlier_more : (teams : List ℕ) (place i : ℕ) (before whole : List ℕ) → IsAscending nat_cmp teams → place < length teams → i < place → before ++ places_from (first_key teams i) (is_in (get_or teams place 0)) (pairs_of (drop i teams)) ≡ whole → (before ++ key_at teams i place ∷ []) ++ places_from (first_key teams (i + 1)) (is_in (get_or teams place 0)) (pairs_of (drop (i + 1) teams)) ≡ whole
+pub earlier_more : (teams : List ℕ) (place i : ℕ) (before whole : List ℕ) → IsAscending nat_cmp teams → place < length teams → i < place → before ++ places_from (first_key teams i) (has_team (get_or teams place 0)) (pairs_of (drop i teams)) ≡ whole → (before ++ key_at teams i place ∷ []) ++ places_from (first_key teams (i + 1)) (has_team (get_or teams place 0)) (pairs_of (drop (i + 1) teams)) ≡ whole
 earlier_more teams place i before whole ascending inside earlier so_far =
     let t : ℕ = get_or teams place 0 in
     let v : ℕ = get_or teams i 0 in
@@ -382,14 +250,14 @@ earlier_more teams place i before whole ascending inside earlier so_far =
     let within : q < length rest = omega arith in
     let differ : v ≢ t = λ same. later_differ v rest sorted q 0 within (is ∙ sym same) in
     let next : first_key teams i + length rest ≡ first_key teams (i + 1) = omega (arith, first_key-more teams i (omega arith)) in
-    append_assoc before (key_at teams i place ∷ []) (places_from (first_key teams (i + 1)) (is_in t) (pairs_of rest))
-    ∙ ap (λ (k : ℕ). before ++ (key_at teams i place ∷ places_from k (is_in t) (pairs_of rest))) (sym next)
+    append_assoc before (key_at teams i place ∷ []) (places_from (first_key teams (i + 1)) (has_team t) (pairs_of rest))
+    ∙ ap (λ (k : ℕ). before ++ (key_at teams i place ∷ places_from k (has_team t) (pairs_of rest))) (sym next)
     ∙ ap (λ (ks : List ℕ). before ++ ks) (sym (with_earlier (first_key teams i) t v q rest sorted differ within is))
-    ∙ ap (λ (xs : List ℕ). before ++ places_from (first_key teams i) (is_in t) (pairs_of xs)) (sym here)
+    ∙ ap (λ (xs : List ℕ). before ++ places_from (first_key teams i) (has_team t) (pairs_of xs)) (sym here)
     ∙ so_far
 
 -- then those with the later teams are left
-pub later_left : (teams : List ℕ) (place i : ℕ) (before whole : List ℕ) → IsAscending nat_cmp teams → place < length teams → i ≡ place → before ++ places_from (first_key teams i) (is_in (get_or teams place 0)) (pairs_of (drop i teams)) ≡ whole → before ++ range_with_len (key_at teams place (place + 1)) (length teams - (place + 1)) ≡ whole
+pub later_left : (teams : List ℕ) (place i : ℕ) (before whole : List ℕ) → IsAscending nat_cmp teams → place < length teams → i ≡ place → before ++ places_from (first_key teams i) (has_team (get_or teams place 0)) (pairs_of (drop i teams)) ≡ whole → before ++ range_with_len (key_at teams place (place + 1)) (length teams - (place + 1)) ≡ whole
 later_left teams place i before whole ascending inside done so_far =
     let t : ℕ = get_or teams place 0 in
     let rest : List ℕ = drop (place + 1) teams in
@@ -400,8 +268,8 @@ later_left teams place i before whole ascending inside done so_far =
     ap (λ (k : ℕ). before ++ range_with_len k (length teams - (place + 1))) start
     ∙ ap (λ (k : ℕ). before ++ range_with_len (first_key teams place) k) (sym size)
     ∙ ap (λ (ks : List ℕ). before ++ ks) (sym (with_later (first_key teams place) t rest sorted))
-    ∙ ap (λ (xs : List ℕ). before ++ places_from (first_key teams place) (is_in t) (pairs_of xs)) (sym here)
-    ∙ ap (λ (k : ℕ). before ++ places_from (first_key teams k) (is_in t) (pairs_of (drop k teams))) (sym done)
+    ∙ ap (λ (xs : List ℕ). before ++ places_from (first_key teams place) (has_team t) (pairs_of xs)) (sym here)
+    ∙ ap (λ (k : ℕ). before ++ places_from (first_key teams k) (has_team t) (pairs_of (drop k teams))) (sym done)
     ∙ so_far
 
 -- keys so far, with that of a later team
@@ -466,19 +334,6 @@ module _ (teams : List ℕ) (pairs : List (ℕ × ℕ)) (places now : List ℕ) 
   -- a copy of the teams with the pairs as they are listed
   pub copied_pairs : (copy : List ℕ) → copy ≡ teams → ArePairs copy pairs places
   copied_pairs copy same = subst (λ (xs : List ℕ). ArePairs xs pairs places) (sym same) are
-
--- a list of keys with no more
-pub no_more : (keys : KeyList) (more : List ℕ) → more ≡ [] → keys ≡ record { list = keys.list ++ more; room = keys.room }
-no_more keys more none = ap (λ (ks : List ℕ). record { list = ks; room = keys.room }) (sym (append-nil keys.list) ∙ ap (λ (ks : List ℕ). keys.list ++ ks) (sym none))
-
--- a list of keys with one more
-pub one_more_key : (keys : KeyList) (key : ℕ) (more : List ℕ) (new : KeyList) → more ≡ key ∷ [] → new ≡ record { list = keys.list ++ key ∷ []; room = keys.room } → new ≡ record { list = keys.list ++ more; room = keys.room }
-one_more_key keys key more new is pushed = pushed ∙ ap (λ (ks : List ℕ). record { list = keys.list ++ ks; room = keys.room }) (sym is)
-
--- a list of keys is its keys and its room
-pub keys_are : (keys : KeyList) (list : List ℕ) (room : ℕ) → keys.list ≡ list → keys.room ≡ room → keys ≡ record { list = list; room = room }
-keys_are keys list room same_list same_room =
-    ap (λ (ks : List ℕ). record { list = ks; room = keys.room }) same_list ∙ ap (λ (k : ℕ). record { list = list; room = k }) same_room
 
 -- the pair of a key
 pub pair_read : (teams : List ℕ) (k x y : ℕ) → slice_get (pairs_of teams) k ≡ Some (x, y) → get_or (pairs_of teams) k (0, 0) ≡ (x, y)

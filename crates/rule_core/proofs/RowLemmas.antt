@@ -8,7 +8,7 @@ use Rattle.std.proofs.lemmas.List.Sums.{sum_by-set}
 use Rattle.std.proofs.lemmas.Nat.{same_from_place}
 use Rattle.std.specs.List.{sum}
 use Rattle.league.proofs.RangeLemmas.{one_if}
-use Rattle.rule_core.specs.Rows.{number}
+use Rattle.league.specs.Grid.{number}
 use Rattle.rule_core.specs.Tables.{IsOneMore}
 use Rattle.rule_core.specs.declared.counters.Counters.{Counters}
 

@@ -1,12 +1,13 @@
 -- Worked examples of what rules read and which keys they give: each was worked out by hand.
-use Rattle.std.proofs.Common.{◌≡◌, ℕ, ◌+◌, true, false, List, [], ◌∷◌, ◌++◌, map, replicate, refl, arith}
+use Rattle.std.proofs.Common.{◌≡◌, ℕ, ◌+◌, ◌==◌, ◌||◌, true, false, List, [], ◌∷◌, ◌++◌, map, replicate, refl, arith}
 use Rattle.league.specs.Venues.{away_games, home_games}
 use Rattle.league.specs.Meetings.{pairs_of}
 use Rattle.rule_core.specs.KeptPairs.{first_key, key_at}
 use Rattle.rule_core.specs.Meetings.{is_listed}
 use Rattle.rule_core.specs.Pairs.{key_between, keys_with}
-use Rattle.rule_core.specs.Places.{ArePlaces, key_of, keys_of, stands}
-use Rattle.rule_core.specs.Rows.{number}
+use Rattle.rule_core.specs.Keys.{keys_where}
+use Rattle.rule_core.specs.Places.{ArePlaces}
+use Rattle.league.specs.Grid.{number}
 use Rattle.rule_core.specs.Table.{Table, table_counts}
 
 -- Two teams have two slots, so a row of two counts for each home team and away team: 0 with 0, 0 with 1, 1 with 0 and 1 with 1.
@@ -40,24 +41,9 @@ number-no_column = refl
 abbrev places : List ℕ
 places = 0 ∷ 0 ∷ 1 ∷ 2 ∷ 0 ∷ 0 ∷ 0 ∷ 3 ∷ replicate 70 0
 
-pub stands-2_and_4 : map (stands places) (2 ∷ 4 ∷ 7 ∷ 77 ∷ []) ≡ true ∷ false ∷ true ∷ false ∷ []
-stands-2_and_4 = refl
-
-pub key_of-7 : key_of places 7 ≡ 2 ∷ []
-key_of-7 = refl
-
-pub key_of-4 : key_of places 4 ≡ []
-key_of-4 = refl
-
--- the smaller place first, in whichever order the two are given; one alone where the other doesn't stand in the list
-pub keys_of-7_2 : keys_of places 7 2 ≡ 0 ∷ 2 ∷ []
-keys_of-7_2 = refl
-
-pub keys_of-2_7 : keys_of places 2 7 ≡ 0 ∷ 2 ∷ []
-keys_of-2_7 = refl
-
-pub keys_of-4_7 : (keys_of places 4 7 ≡ 2 ∷ []) × (keys_of places 7 4 ≡ 2 ∷ []) × (keys_of places 4 5 ≡ [])
-keys_of-4_7 = (refl, refl, refl)
+-- the keys of numbers in 2, 3 and 7 are their places from 0 on; the smaller first, in whichever order two are asked for
+pub keys_where-each : (keys_where (λ x. x == 7) (2 ∷ 3 ∷ 7 ∷ []) ≡ 2 ∷ []) × (keys_where (λ x. x == 4) (2 ∷ 3 ∷ 7 ∷ []) ≡ []) × (keys_where (λ x. (x == 7) || (x == 2)) (2 ∷ 3 ∷ 7 ∷ []) ≡ 0 ∷ 2 ∷ [])
+keys_where-each = (refl, refl, refl)
 
 -- a table of nothing isn't that of a list with a 2
 pub ArePlaces-not_empty : ArePlaces 1 (2 ∷ []) (replicate 78 0) → ⊥

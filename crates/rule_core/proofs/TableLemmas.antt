@@ -1,5 +1,5 @@
 -- The counts of games in a table, and the tables kept beside it, with one game more.
-use Rattle.std.proofs.Common.{◌≡◌, ◌≢◌, ℕ, ◌+◌, ◌*◌, ◌-◌, ◌%◌, ◌<◌, ◌≤◌, zero, suc, ◌&&◌, ◌==◌, nat_lt, List, [], ◌∷◌, length, get_or, replicate, refl, arith, ap, ◌∙◌, sym, inl, inr, mul_comm, zero-add}
+use Rattle.std.proofs.Common.{◌≡◌, ◌≢◌, ℕ, ◌+◌, ◌*◌, ◌-◌, ◌<◌, ◌≤◌, zero, suc, ◌&&◌, ◌==◌, nat_lt, List, [], ◌∷◌, length, get_or, replicate, refl, arith, ap, ◌∙◌, sym, inl, inr, mul_comm, zero-add}
 use Rattle.std.proofs.Math.Path.{fun_ext}
 use Rattle.std.proofs.lemmas.Bool.{cases_eq, cases_lt, cond_both}
 use Rattle.std.proofs.lemmas.Bool.Decides.{nat_tests}
@@ -10,13 +10,13 @@ use Rattle.std.proofs.lemmas.List.Sums.{get_or-le-sum_by, sum_by-cons, sum_by-le
 use Rattle.std.proofs.lemmas.Nat.{mul-add-lt, mul-le, same_from_place}
 use Rattle.std.specs.List.{sum}
 use Rattle.league.specs.Counts.{Counts, counts_of, is_game, one_more, slot_count, teams_of}
-use Rattle.league.specs.Instance.{IsGame}
+use Rattle.league.specs.Instance.{IsGame, IsTeamCount}
 use Rattle.league.specs.Venues.{away_games, home_games}
 use Rattle.league.specs.declared.game.Game.{Game}
 use Rattle.league.proofs.CountLemmas.{away_games-none, home_games-none}
 use Rattle.league.proofs.RangeLemmas.{one_if}
 use Rattle.league.proofs.SumLemmas.{sum_by-same}
-use Rattle.rule_core.specs.Rows.{number}
+use Rattle.league.specs.Grid.{number}
 use Rattle.rule_core.specs.Table.{Table, table_counts}
 use Rattle.rule_core.specs.Tables.{AreKept, HasRows, IsOneMore}
 use Rattle.rule_core.specs.declared.counters.Counters.{Counters}
@@ -117,9 +117,7 @@ pub record AreOneMore (n : ℕ) (g : Game) (counts homes aways more_counts more_
 -- they are kept
 pub AreKept-more : (n games : ℕ) (g : Game) (c h a c1 h1 a1 : Counters) → IsGame n g → games < 10000 → AreOneMore n g c h a c1 h1 a1 → AreKept n games c h a → AreKept n (games + 1) c1 h1 a1
 AreKept-more n games g c h a c1 h1 a1 fits room one kept = record {
-  even = kept.even;
-  at_least = kept.at_least;
-  at_most = kept.at_most;
+  teams = kept.teams;
   count_rows = rows_after n (n * n) _ _ c c1 kept.count_rows one.by_pair;
   home_rows = rows_after n n _ _ h h1 kept.home_rows one.by_home;
   away_rows = rows_after n n _ _ a a1 kept.away_rows one.by_away;
@@ -134,9 +132,7 @@ pub AreKept-less : (n games : ℕ) (g : Game) (c h a c1 h1 a1 : Counters) → Is
 AreKept-less n games g c h a c1 h1 a1 fits one kept =
     let count_rows = rows_before n (n * n) _ _ c c1 kept.count_rows one.by_pair in
     record {
-      even = kept.even;
-      at_least = kept.at_least;
-      at_most = kept.at_most;
+      teams = kept.teams;
       count_rows = count_rows;
       home_rows = rows_before n n _ _ h h1 kept.home_rows one.by_home;
       away_rows = rows_before n n _ _ a a1 kept.away_rows one.by_away;
@@ -152,13 +148,11 @@ counts_in-none n size c items =
     same_counts (counts_in n c) (counts_of []) (λ i j s. ap (λ (xs : List ℕ). table_counts (record { n = n; list = xs }) i j s) items ∙ counts-none n size i j s)
 
 -- new tables
-pub AreKept-none : (n : ℕ) (c h a : Counters) → n % 2 ≡ 0 → 2 ≤ n → n ≤ 40 → c.columns ≡ slot_count n → c.numbers.items ≡ replicate (n * n * slot_count n) 0 → h.columns ≡ slot_count n → h.numbers.items ≡ replicate (n * slot_count n) 0 → a.columns ≡ slot_count n → a.numbers.items ≡ replicate (n * slot_count n) 0 → AreKept n 0 c h a
-AreKept-none n c h a even at_least at_most c_wide c_items h_wide h_items a_wide a_items =
+pub AreKept-none : (n : ℕ) (c h a : Counters) → IsTeamCount n → c.columns ≡ slot_count n → c.numbers.items ≡ replicate (n * n * slot_count n) 0 → h.columns ≡ slot_count n → h.numbers.items ≡ replicate (n * slot_count n) 0 → a.columns ≡ slot_count n → a.numbers.items ≡ replicate (n * slot_count n) 0 → AreKept n 0 c h a
+AreKept-none n c h a teams c_wide c_items h_wide h_items a_wide a_items =
     let empty : counts_in n c ≡ counts_of [] = counts_in-none n (n * n * slot_count n) c c_items in
     record {
-      even = even;
-      at_least = at_least;
-      at_most = at_most;
+      teams = teams;
       count_rows = record { wide = c_wide; long = ap length c_items ∙ length-replicate {A = ℕ} (n * n * slot_count n) 0 };
       home_rows = record { wide = h_wide; long = ap length h_items ∙ length-replicate {A = ℕ} (n * slot_count n) 0 };
       away_rows = record { wide = a_wide; long = ap length a_items ∙ length-replicate {A = ℕ} (n * slot_count n) 0 };
@@ -219,12 +213,12 @@ place_of_game n row column home away counters has is in_home in_away in_column =
 pub kept-home-le : (n games : ℕ) (c h a : Counters) → AreKept n games c h a → (i s : ℕ) → number h.columns h.numbers.items i s ≤ 400000
 kept-home-le n games c h a kept i s =
     let few : sum c.numbers.items ≤ 10000 = omega (arith, kept.total, kept.few) in
-    omega (arith, kept.home i s, home_games-le (record { n = n; list = c.numbers.items }) i s, mul-le n (sum c.numbers.items) 40 10000 kept.at_most few)
+    omega (arith, kept.home i s, home_games-le (record { n = n; list = c.numbers.items }) i s, mul-le n (sum c.numbers.items) 40 10000 kept.teams.at_most few)
 
 pub kept-away-le : (n games : ℕ) (c h a : Counters) → AreKept n games c h a → (i s : ℕ) → number a.columns a.numbers.items i s ≤ 400000
 kept-away-le n games c h a kept i s =
     let few : sum c.numbers.items ≤ 10000 = omega (arith, kept.total, kept.few) in
-    omega (arith, kept.away i s, away_games-le (record { n = n; list = c.numbers.items }) i s, mul-le n (sum c.numbers.items) 40 10000 kept.at_most few)
+    omega (arith, kept.away i s, away_games-le (record { n = n; list = c.numbers.items }) i s, mul-le n (sum c.numbers.items) 40 10000 kept.teams.at_most few)
 
 -- a count, as it stands in the table of counts
 pub kept-count : (n games : ℕ) (c h a : Counters) → AreKept n games c h a → (i j s : ℕ) → j < n → number c.columns c.numbers.items (i * n + j) s ≡ counts_in n c i j s

@@ -1,14 +1,13 @@
--- Read in this order.
---
--- What contracts see:
-pub mod Rows
+-- What a reader of a claim must believe:
 pub mod Table
 pub mod Keys
-pub mod Places
 pub mod Meetings
-pub mod Slots
 pub mod Pairs
--- What the tables of the counts keep:
+pub mod Touched
+pub mod Rule
+-- Kept inside (laws, and how fields are seen):
 pub mod Tables
--- What is kept of the pairs of teams:
+pub mod Places
+pub mod KeptMeetings
 pub mod KeptPairs
+pub mod Ready

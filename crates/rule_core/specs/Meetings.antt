@@ -1,6 +1,6 @@
--- Meetings of a league, with a table of them.
-use Rattle.std.specs.Prelude.{◌≡◌, ℕ, ◌+◌, ◌*◌, ◌<◌, ◌≤◌, Bool, false, ◌&&◌, ◌==◌, List, length, slice_index_or}
-use Rattle.std.specs.List.{All, list_any}
+-- Meetings of a league.
+use Rattle.std.specs.Prelude.{ℕ, Bool, ◌&&◌, ◌==◌, List}
+use Rattle.std.specs.List.{list_any}
 
 -- the number of teams, and some meetings, each a home team and an away team
 pub record MeetingList : Type 0 where
@@ -10,15 +10,3 @@ pub record MeetingList : Type 0 where
 -- whether the meeting of a home team and an away team is one of these
 abbrev pub is_listed : List (ℕ × ℕ) → ℕ → ℕ → Bool
 is_listed meetings home away = list_any (λ p. (p.0 == home) && (p.1 == away)) meetings
-
--- for each home team and each away team, in rows of n, whether their meeting is one of these
-pub record IsTableOf (n : ℕ) (meetings : List (ℕ × ℕ)) (listed : List Bool) : Type 0 where
-  pub size : length listed ≡ n * n
-  pub each : (home away : ℕ) → home < n → away < n → slice_index_or listed (home * n + away) false ≡ is_listed meetings home away
-
--- at most 1600 meetings of teams of the league, with their table
-pub record AreListed (n : ℕ) (meetings : List (ℕ × ℕ)) (listed : List Bool) : Type 0 where
-  pub at_most : n ≤ 40
-  pub few : length meetings ≤ 1600
-  pub teams : All (λ p. (p.0 < n) × (p.1 < n)) meetings
-  pub tabled : IsTableOf n meetings listed

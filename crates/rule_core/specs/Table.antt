@@ -1,7 +1,7 @@
 -- The counts of a league's games, as one list.
 use Rattle.std.specs.Prelude.{ℕ, ◌+◌, ◌*◌, nat_lt, if◌then◌else◌, List}
 use Rattle.league.specs.Counts.{Counts, slot_count}
-use Rattle.rule_core.specs.Rows.{number}
+use Rattle.league.specs.Grid.{number}
 
 -- the number of teams, and how often each game is played, by home team, then away team, then slot
 pub record Table : Type 0 where

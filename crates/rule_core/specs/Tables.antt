@@ -1,9 +1,10 @@
 -- The tables in which the counts are kept.
-use Rattle.std.specs.Prelude.{◌≡◌, ℕ, ◌+◌, ◌*◌, ◌≤◌, ◌%◌, ◌&&◌, ◌==◌, if◌then◌else◌, length}
+use Rattle.std.specs.Prelude.{◌≡◌, ℕ, ◌+◌, ◌*◌, ◌≤◌, ◌&&◌, ◌==◌, if◌then◌else◌, length}
 use Rattle.std.specs.List.{sum}
 use Rattle.league.specs.Counts.{slot_count}
+use Rattle.league.specs.Instance.{IsTeamCount}
 use Rattle.league.specs.Venues.{away_games, home_games}
-use Rattle.rule_core.specs.Rows.{number}
+use Rattle.league.specs.Grid.{number}
 use Rattle.rule_core.specs.Table.{table_counts}
 use Rattle.rule_core.specs.declared.counters.Counters.{Counters}
 
@@ -21,9 +22,7 @@ pub record HasRows (n rows : ℕ) (counters : Counters) : Type 0 where
 
 -- the counts of at most 10,000 games, with each team's home games and away games in each slot beside them
 pub record AreKept (n games : ℕ) (counts homes aways : Counters) : Type 0 where
-  pub even : n % 2 ≡ 0
-  pub at_least : 2 ≤ n
-  pub at_most : n ≤ 40
+  pub teams : IsTeamCount n
   pub count_rows : HasRows n (n * n) counts
   pub home_rows : HasRows n n homes
   pub away_rows : HasRows n n aways

@@ -1,13 +1,14 @@
 //! How often each game is played, kept while games come and go.
-ghost use Rattle.std.specs.Prelude.{◌≡◌, ◌<◌, ◌≤◌, ◌+◌, ◌*◌, ◌%◌, [], IfOk};
+ghost use Rattle.std.specs.Prelude.{◌≡◌, ◌<◌, ◌≤◌, ◌+◌, ◌*◌, [], IfOk};
 ghost use Rattle.std.specs.List.{sum};
-ghost use Rattle.league.specs.Counts.{counts_of, one_more, slot_count};
-ghost use Rattle.league.specs.Instance.{IsGame};
+ghost use Rattle.league.specs.Counts as counts;
+ghost use Rattle.league.specs.Counts.{counts_of, one_more};
+ghost use Rattle.league.specs.Instance.{IsGame, IsTeamCount};
 ghost use Rattle.league.specs.Venues.{away_games, home_games};
 ghost use Rattle.rule_core.specs.Table.{table_counts};
 
 use crate::counters::Counters;
-use league::{Game, SlotId, TeamId};
+use league::{Game, SlotId, TeamId, slot_count};
 use std::alloc::{AllocError, Global};
 use std::marker::Model;
 
@@ -42,15 +43,13 @@ impl Cells {
     /// # Errors
     /// Only where memory runs out.
     pub fn new(alloc: Global, n: u16) -> Result<Cells, AllocError>
-        requires even { n % 2 ≡ 0 }
-        requires at_least { 2 ≤ n }
-        requires at_most { n ≤ 40 }
+        requires teams { IsTeamCount n }
         ensures n { IfOk result (λ cells. cells.n ≡ n) }
         ensures counts { IfOk result (λ cells. table_counts cells ≡ counts_of []) }
         ensures total { IfOk result (λ cells. sum cells.list ≡ 0) }
     {
         let teams = n as usize;
-        let slots = 2 * (teams - 1);
+        let slots = slot_count(n) as usize;
         Ok(Cells {
             n,
             games: 0,
@@ -63,11 +62,17 @@ impl Cells {
     /// The number of teams: even, from 2 to 40.
     pub fn n(&self) -> u16
         ensures n { result ≡ self.now.n }
-        ensures even { result % 2 ≡ 0 }
-        ensures at_least { 2 ≤ result }
-        ensures at_most { result ≤ 40 }
+        ensures teams { IsTeamCount result }
     {
         self.n
+    }
+
+    /// The number of slots of the season.
+    pub fn slots(&self) -> u16
+        ensures slots { result ≡ counts.slot_count self.now.n }
+        ensures at_most { result ≤ 78 }
+    {
+        slot_count(self.n)
     }
 
     /// The number of games, at most 10,000.
@@ -82,7 +87,7 @@ impl Cells {
     pub fn at(&self, home: TeamId, away: TeamId, slot: SlotId) -> u32
         requires home { home.0 < self.now.n }
         requires away { away.0 < self.now.n }
-        requires slot { slot.0 < slot_count self.now.n }
+        requires slot { slot.0 < counts.slot_count self.now.n }
         ensures count { result ≡ table_counts self.now home.0 away.0 slot.0 }
         ensures at_most { result ≤ 10000 }
     {
@@ -92,7 +97,7 @@ impl Cells {
     /// How often a team is at home in a slot. It is one look-up.
     pub fn home(&self, team: TeamId, slot: SlotId) -> u32
         requires team { team.0 < self.now.n }
-        requires slot { slot.0 < slot_count self.now.n }
+        requires slot { slot.0 < counts.slot_count self.now.n }
         ensures count { result ≡ home_games self.now.n (table_counts self.now) team.0 slot.0 }
         ensures at_most { result ≤ 400000 }
     {
@@ -102,7 +107,7 @@ impl Cells {
     /// How often a team is away in a slot. It is one look-up.
     pub fn away(&self, team: TeamId, slot: SlotId) -> u32
         requires team { team.0 < self.now.n }
-        requires slot { slot.0 < slot_count self.now.n }
+        requires slot { slot.0 < counts.slot_count self.now.n }
         ensures count { result ≡ away_games self.now.n (table_counts self.now) team.0 slot.0 }
         ensures at_most { result ≤ 400000 }
     {

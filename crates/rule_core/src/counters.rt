@@ -1,6 +1,6 @@
 //! Numbers in rows and columns.
 ghost use Rattle.std.specs.Prelude.{◌≡◌, ◌<◌, ◌≤◌, ◌+◌, ◌*◌, length, replicate, IfOk};
-ghost use Rattle.rule_core.specs.Rows.{number};
+ghost use Rattle.league.specs.Grid.{number};
 ghost use Rattle.rule_core.specs.Tables.{IsOneMore};
 
 use std::alloc::{AllocError, Global};

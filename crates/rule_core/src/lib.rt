@@ -7,16 +7,16 @@
 mod cells;
 mod counters;
 mod keys;
+mod listed;
 mod meetings;
 mod pairs;
 mod places;
 mod rule;
-mod steps;
 
 pub use cells::Cells;
 pub use keys::Keys;
+pub use listed::Listed;
 pub use meetings::Meetings;
 pub use pairs::Pairs;
-pub use places::Places;
 pub use rule::{Entries, Rule};
 pub use steps::{Plain, Steps};

@@ -1,14 +1,14 @@
 //! Some meetings, how often they take place, and whether a meeting is one of them: one look-up in place of a search.
 ghost use Rattle.std.specs.Prelude.{◌≡◌, ◌<◌, ◌≤◌, length, IfOk, IsTrue};
-ghost use Rattle.std.specs.List.{All, sum_by};
+ghost use Rattle.std.specs.List.{All, list_all, sum_by};
 ghost use Rattle.league.specs.Counts.{slot_count};
-ghost use Rattle.league.specs.Instance.{are_meetings};
+ghost use Rattle.league.specs.Instance.{are_meetings, is_meeting};
 ghost use Rattle.league.specs.Meetings.{games_of};
 ghost use Rattle.rule_core.specs.Meetings.{is_listed};
 ghost use Rattle.rule_core.specs.Table.{table_counts};
 
 use crate::cells::{Cells, row_of};
-use league::{SlotId, TeamId};
+use league::{PairSet, SlotId, TeamId};
 use std::alloc::{AllocError, Global};
 use std::marker::Model;
 
@@ -23,23 +23,36 @@ pub struct Meetings {
 }
 
 impl Model for Meetings {
-    ghost use Rattle.rule_core.specs.Meetings.{AreListed, MeetingList};
+    ghost use Rattle.rule_core.specs.KeptMeetings.{AreTabled};
+    ghost use Rattle.rule_core.specs.Meetings.{MeetingList};
 
     ghost Value = { MeetingList };
 
     ghost view = { λ m. record { n = m.n; list = m.list.items } };
 
-    ghost invariant = { λ m. AreListed m.n m.list.items m.listed.items };
+    ghost invariant = { λ m. AreTabled m.n m.list.items m.listed.items };
 }
 
 impl Meetings {
-    /// These meetings, in a league of n teams.
+    /// A set of meetings of a league of n teams.
+    ///
+    /// # Errors
+    /// Only where memory runs out.
+    pub fn of_set(alloc: Global, n: u16, meetings: &PairSet) -> Result<Meetings, AllocError>
+        requires at_most { n ≤ 40 }
+        requires meetings { IsTrue (are_meetings n meetings.now) }
+        ensures { IfOk result (λ made. made ≡ record { n = n; list = meetings.now }) }
+    {
+        Meetings::of(alloc, n, meetings.numbers())
+    }
+
+    /// A list of meetings of a league of n teams.
     ///
     /// # Errors
     /// Only where memory runs out.
     pub fn of(alloc: Global, n: u16, meetings: &[(u16, u16)]) -> Result<Meetings, AllocError>
         requires at_most { n ≤ 40 }
-        requires teams { IsTrue (are_meetings n meetings.now) }
+        requires teams { IsTrue (list_all (is_meeting n) meetings.now) }
         requires few { length meetings.now ≤ 1600 }
         ensures { IfOk result (λ made. made ≡ record { n = n; list = meetings.now }) }
     {
@@ -53,6 +66,13 @@ impl Meetings {
             list: Vec::from_slice(alloc, meetings)?,
             listed,
         })
+    }
+
+    /// The number of teams of the league.
+    pub fn n(&self) -> u16
+        ensures { result ≡ self.now.n }
+    {
+        self.n
     }
 
     /// Whether the meeting of a home team and an away team is one of these. It is one look-up.

@@ -1,7 +1,8 @@
 //! The pairs of some teams, each with its key.
-ghost use Rattle.std.specs.Prelude.{◌≡◌, ◌<◌, ◌≤◌, ◌≢◌, ◌+◌, ◌-◌, ◌++◌, ◌==◌, length, map, slice_get, slice_index, Some, IfOk, OnOk};
+ghost use Rattle.std.specs.Prelude.{◌≡◌, ◌<◌, ◌≤◌, ◌≢◌, ◌+◌, ◌-◌, ◌++◌, ◌==◌, length, map, slice_get, slice_index, Some, IsTrue, IfOk, OnOk};
 ghost use Rattle.std.specs.List.{All};
 ghost use Rattle.std.specs.Ordering.{nat_cmp};
+ghost use Rattle.league.specs.Instance.{are_teams};
 ghost use Rattle.league.specs.Meetings.{pairs_of};
 ghost use Rattle.league.specs.Sets.{IsAscending};
 ghost use Rattle.rule_core.specs.KeptPairs.{key_at};
@@ -9,7 +10,7 @@ ghost use Rattle.rule_core.specs.Pairs.{key_between, keys_with};
 
 use crate::keys::Keys;
 use crate::places::Places;
-use league::TeamId;
+use league::{TeamId, TeamSet};
 use std::alloc::{AllocError, Global};
 use std::marker::Model;
 
@@ -35,11 +36,20 @@ impl Model for Pairs {
 }
 
 impl Pairs {
-    /// The pairs of these teams, whose numbers are below 78 and ascending.
+    /// The pairs of some teams of a league of n teams.
     ///
     /// # Errors
     /// Only where memory runs out.
-    pub fn of(alloc: Global, teams: &[u16]) -> Result<Pairs, AllocError>
+    pub fn of_teams(alloc: Global, n: u16, teams: &TeamSet) -> Result<Pairs, AllocError>
+        requires at_most { n ≤ 40 }
+        requires teams { IsTrue (are_teams n teams.now) }
+        ensures { IfOk result (λ pairs. pairs ≡ teams.now) }
+    {
+        Pairs::of(alloc, teams.numbers())
+    }
+
+    /// The pairs of teams with these numbers.
+    fn of(alloc: Global, teams: &[u16]) -> Result<Pairs, AllocError>
         requires ascending { IsAscending nat_cmp teams.now }
         requires below { All (λ t. t < 78) teams.now }
         ensures { IfOk result (λ pairs. pairs ≡ teams.now) }
@@ -83,8 +93,6 @@ impl Pairs {
 
     /// Adds the key of the pair of two different teams, in either order, where both are among the teams. It takes no memory.
     pub fn push_key(&self, one: u16, other: u16, keys: &mut Keys)
-        requires one { one < 78 }
-        requires other { other < 78 }
         requires differ { one ≢ other }
         requires spare { length keys.old.list + 1 ≤ keys.old.room }
         ensures { keys.new ≡ record { list = keys.old.list ++ key_between self.now one other; room = keys.old.room } }
@@ -103,8 +111,7 @@ impl Pairs {
 
     /// Adds the keys of all pairs in which a team is, ascending. It takes no memory.
     pub fn push_keys(&self, team: u16, keys: &mut Keys)
-        requires team { team < 78 }
-        requires spare { length keys.old.list + (length self.now - 1) ≤ keys.old.room }
+        requires { length keys.old.list + (length self.now - 1) ≤ keys.old.room }
         ensures { keys.new ≡ record { list = keys.old.list ++ keys_with self.now team; room = keys.old.room } }
     {
         let place = self.places.place(team);

@@ -9,8 +9,8 @@ ghost use Rattle.rule_core.specs.Table.{table_counts};
 
 use crate::cells::Cells;
 use crate::keys::Keys;
-use crate::steps::Steps;
 use league::Game;
+use steps::Steps;
 
 /// The entries of a constraint's deviation vector, and which of them a game can change. No call takes memory.
 ///

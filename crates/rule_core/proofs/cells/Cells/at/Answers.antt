@@ -1,6 +1,6 @@
 use Rattle.std.proofs.Common.{◌≡◌, ℕ, ◌<◌, arith, ap, subst, sym, ◌∙◌}
 use Rattle.league.specs.Counts.{slot_count}
-use Rattle.rule_core.specs.Rows.{number}
+use Rattle.league.specs.Grid.{number}
 use Rattle.rule_core.specs.Table.{Table, table_counts}
 use Rattle.rule_core.proofs.TableLemmas.{counts-le, counts_in, kept-count, place_of_game}
 use Rattle.rule_core.proofs.cells.Cells.at.Goals as goal

@@ -1,7 +1,7 @@
 use Rattle.std.proofs.Common.{◌≡◌, ℕ, ◌+◌, ◌*◌, ◌<◌, arith, ap, subst, sym, ◌∙◌}
 use Rattle.league.specs.Counts.{one_more}
 use Rattle.league.specs.Instance.{IsGame}
-use Rattle.rule_core.specs.Rows.{number}
+use Rattle.league.specs.Grid.{number}
 use Rattle.rule_core.specs.Table.{Table, table_counts}
 use Rattle.rule_core.specs.Tables.{IsOneMore}
 use Rattle.rule_core.proofs.TableLemmas.{AreKept-less, away_games-ge, counts_in, counts_in-one_more, home_games-ge, kept-count, place_in_rows, place_of_game, rows_before, same_counts}

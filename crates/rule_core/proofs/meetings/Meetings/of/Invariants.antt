@@ -1,5 +1,5 @@
 use Rattle.std.proofs.Common.{take}
-use Rattle.rule_core.specs.Meetings.{IsTableOf}
+use Rattle.rule_core.specs.KeptMeetings.{IsTableOf}
 use Rattle.rule_core.proofs.meetings.Meetings.of.Given as goal
 
 abbrev pub invariant-loop-home : goal.invariant-loop-home

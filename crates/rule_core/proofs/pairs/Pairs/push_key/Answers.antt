@@ -1,6 +1,7 @@
 use Rattle.std.proofs.Common.{◌≡◌, [], ◌∷◌, ◌∙◌, sym, ap, ℕ}
 use Rattle.rule_core.specs.Pairs.{key_between}
-use Rattle.rule_core.proofs.PairLemmas.{key_between-no_first, key_between-no_second, key_placed_after, key_placed_before, no_more, one_more_key, place_gone}
+use Rattle.rule_core.proofs.KeyLemmas.{no_more, one_more_key}
+use Rattle.rule_core.proofs.PairLemmas.{key_between-no_first, key_between-no_second, key_placed_after, key_placed_before, place_gone}
 use Rattle.rule_core.proofs.pairs.Pairs.push_key.Goals as goal
 use Rattle.rule_core.proofs.pairs.Pairs.push_key.Goals.{then-one-other, else-one-other, else-one-gt0-via-then-one-gt0+else-other-gt0, else-one-gt0-via-else-one-gt0}
 

@@ -1,5 +1,6 @@
 use Rattle.rule_core.specs.Pairs.{keys_with}
-use Rattle.rule_core.proofs.PairLemmas.{keys_with-none, no_more, place_gone}
+use Rattle.rule_core.proofs.KeyLemmas.{no_more}
+use Rattle.rule_core.proofs.PairLemmas.{keys_with-none, place_gone}
 use Rattle.rule_core.proofs.pairs.Pairs.push_keys.Goals as goal
 
 pub returns-else-place-gt0 : goal.returns-else-place-gt0

@@ -2,11 +2,11 @@ use Rattle.std.proofs.Common.{◌≡◌, ℕ, ◌+◌, ◌-◌, ◌<◌, List, �
 use Rattle.std.specs.List.{range_with_len}
 use Rattle.std.proofs.lemmas.List.{length_push}
 use Rattle.league.specs.Meetings.{pairs_of}
-use Rattle.rule_core.specs.Keys.{KeyList}
+use Rattle.rule_core.specs.Keys.{KeyList, places_from}
 use Rattle.rule_core.specs.KeptPairs.{first_key, key_at}
-use Rattle.rule_core.specs.Pairs.{is_in, keys_with}
-use Rattle.rule_core.specs.Places.{places_from}
-use Rattle.rule_core.proofs.PairLemmas.{earlier_more, keys_are, later_done, later_left, later_more, seen_pairs}
+use Rattle.rule_core.specs.Pairs.{has_team, keys_with}
+use Rattle.rule_core.proofs.KeyLemmas.{keys_are}
+use Rattle.rule_core.proofs.PairLemmas.{earlier_more, later_done, later_left, later_more, seen_pairs}
 use Rattle.rule_core.proofs.pairs.Pairs.push_keys_at.Goals as goal
 
 pub loop-first-preserved : goal.loop-first-preserved
@@ -22,7 +22,7 @@ loop-first-preserved c =
       room = ap (λ (k : KeyList). k.room) c.push.ensures ∙ c.loop-first.invariant.room;
       counted = omega (arith, ap (λ (ks : List ℕ). length ks) pushed, length_push c.loop-first.keys.list (key_at teams i place), c.loop-first.invariant.counted);
       listed =
-          ap (λ (ks : List ℕ). ks ++ places_from (first_key teams (i + 1)) (is_in (get_or teams place 0)) (pairs_of (drop (i + 1) teams))) pushed
+          ap (λ (ks : List ℕ). ks ++ places_from (first_key teams (i + 1)) (has_team (get_or teams place 0)) (pairs_of (drop (i + 1) teams))) pushed
           ∙ earlier_more teams place i c.loop-first.keys.list (c.args.keys.now.list ++ keys_with teams (get_or teams place 0)) ready.ascending c.requires.place c.loop-first-test.true c.loop-first.invariant.listed;
     }
 

@@ -2,15 +2,15 @@ use Rattle.std.proofs.Common.{◌≡◌, ◌+◌, ◌-◌, ◌++◌, length, dro
 use Rattle.std.specs.List.{range_with_len}
 use Rattle.league.specs.Meetings.{pairs_of}
 use Rattle.rule_core.specs.KeptPairs.{first_key, key_at}
-use Rattle.rule_core.specs.Pairs.{is_in, keys_with}
-use Rattle.rule_core.specs.Places.{places_from}
+use Rattle.rule_core.specs.Pairs.{has_team, keys_with}
+use Rattle.rule_core.specs.Keys.{places_from}
 use Rattle.rule_core.proofs.pairs.Pairs.push_keys_at.Given as goal
 
 abbrev pub invariant-loop-first : goal.invariant-loop-first
 invariant-loop-first l = record {
   room : l.keys.room ≡ l.fn.keys.room;
   counted : length l.keys.list ≡ length l.fn.keys.list + l.first;
-  listed : l.keys.list ++ places_from (first_key l.self l.first) (is_in (get_or l.self l.place 0)) (pairs_of (drop l.first l.self)) ≡ l.fn.keys.list ++ keys_with l.self (get_or l.self l.place 0);
+  listed : l.keys.list ++ places_from (first_key l.self l.first) (has_team (get_or l.self l.place 0)) (pairs_of (drop l.first l.self)) ≡ l.fn.keys.list ++ keys_with l.self (get_or l.self l.place 0);
 }
 
 abbrev pub invariant-loop-second : goal.invariant-loop-second
