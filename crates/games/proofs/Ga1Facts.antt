@@ -5,7 +5,6 @@ use Rattle.league.specs.Deviation.{vector_of}
 use Rattle.league.specs.Meetings.{games_of}
 use Rattle.league.proofs.DoubleFour.{game}
 use Rattle.league.specs.declared.class.Class.TheVariants.{Ga1}
-use Rattle.rule_core.specs.Touched.{touched_keys}
 
 -- 0 at home to 1 twice in slot 1, and once in slot 2; 1 at home to 0 in slot 1; 2 at home to 0 in slot 4, and to 1 in slot 4
 abbrev counts : Counts
@@ -36,8 +35,3 @@ ga1-larger_of_both = refl
 -- without meetings, and without slots, no game counts
 pub ga1-nothing_listed : (vector_of 4 counts (Ga1 [] 2 9 slots) ≡ 2 ∷ []) × (vector_of 4 counts (Ga1 meetings 2 9 []) ≡ 2 ∷ [])
 ga1-nothing_listed = (refl, refl)
-
--- the one key is touched by a listed meeting in one of the slots, and neither by it turned, nor in another slot, nor by another
--- meeting
-pub touched_keys-each : map (λ g. touched_keys (Ga1 meetings 1 1 slots) g) (game 0 1 1 ∷ game 2 0 4 ∷ game 2 0 1 ∷ game 1 0 1 ∷ game 0 1 2 ∷ game 2 1 4 ∷ []) ≡ (0 ∷ []) ∷ (0 ∷ []) ∷ (0 ∷ []) ∷ [] ∷ [] ∷ [] ∷ []
-touched_keys-each = refl

@@ -3,9 +3,8 @@ use Rattle.std.proofs.Common.{◌≡◌, ℕ, List, [], ◌∷◌, map, refl}
 use Rattle.league.specs.Counts.{Counts, counts_of}
 use Rattle.league.specs.Deviation.{vector_of}
 use Rattle.league.specs.Separation.{lacking, mutual_games}
+use Rattle.league.specs.declared.class.Class.TheVariants.{Se1}
 use Rattle.league.proofs.DoubleFour.{game}
-use Rattle.separation.specs.Classes.{class_of_se1}
-use Rattle.separation.specs.Se1.{touches_of}
 
 -- 1 and 3 meet in slot 1, twice in slot 4 and in the last slot, 9, at either's home; 3 and 5 meet in the slots 0 and 1; 1 and 5
 -- once; 0 and 2 in slot 4
@@ -16,7 +15,7 @@ pub mutual_games-each : map (mutual_games 6 counts) ((1, 3) ∷ (1, 5) ∷ (3, 5
 mutual_games-each = refl
 
 abbrev entries : ℕ → List ℕ
-entries min = vector_of 6 counts (class_of_se1 (1 ∷ 3 ∷ 5 ∷ []) min)
+entries min = vector_of 6 counts (Se1 (1 ∷ 3 ∷ 5 ∷ []) min)
 
 -- Between the neighbours of 1 and 3 lie the slots 2 and 3, none, and 5 to 8: two, none and four. With min 3 they lack 1, 3 and 0;
 -- 1 and 5 have no neighbours; between 3 and 5's games lies no slot.
@@ -36,9 +35,5 @@ pub lacking-three_in_one_slot : lacking 2 (4 ∷ 4 ∷ 4 ∷ []) ≡ 4
 lacking-three_in_one_slot = refl
 
 -- no pair, no entry
-pub se1-one_team : vector_of 6 counts (class_of_se1 (3 ∷ []) 9) ≡ []
+pub se1-one_team : vector_of 6 counts (Se1 (3 ∷ []) 9) ≡ []
 se1-one_team = refl
-
--- a game of two of the teams touches its pair's key at either's home and in any slot, and a game of another team none
-pub touches_of-each : map (λ g. touches_of (class_of_se1 (1 ∷ 3 ∷ 5 ∷ []) 2) g) (game 1 3 0 ∷ game 5 1 9 ∷ game 3 5 4 ∷ game 5 3 4 ∷ game 0 3 4 ∷ game 0 2 4 ∷ []) ≡ (0 ∷ []) ∷ (1 ∷ []) ∷ (2 ∷ []) ∷ (2 ∷ []) ∷ [] ∷ [] ∷ []
-touches_of-each = refl

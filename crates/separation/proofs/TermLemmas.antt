@@ -6,11 +6,11 @@ use Rattle.league.specs.Deviation.{entry_of}
 use Rattle.league.specs.Meetings.{pairs_of}
 use Rattle.league.specs.Separation.{se1_entry}
 use Rattle.rule_core.proofs.PairLemmas.{pair_read}
-use Rattle.separation.specs.Classes.{class_of_se1}
+use Rattle.league.specs.declared.class.Class.TheVariants.{Se1}
 use Rattle.separation.specs.Se1Laws.{entry-by_pair}
 
 -- the entry of an SE1, by the pair that was read
-pub se1_term : (n : ℕ) (m : Counts) (teams : List ℕ) (min key known x y result : ℕ) → key < length (pairs_of teams) → known ≡ n → slice_get (pairs_of teams) key ≡ Some (x, y) → result ≡ se1_entry known m min (x, y) → result ≡ entry_of n m (class_of_se1 teams min) key
+pub se1_term : (n : ℕ) (m : Counts) (teams : List ℕ) (min key known x y result : ℕ) → key < length (pairs_of teams) → known ≡ n → slice_get (pairs_of teams) key ≡ Some (x, y) → result ≡ se1_entry known m min (x, y) → result ≡ entry_of n m (Se1 teams min) key
 se1_term n m teams min key known x y result inside same is lacked =
     lacked
     ∙ ap (λ (k : ℕ). se1_entry k m min (x, y)) same

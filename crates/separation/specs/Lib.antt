@@ -1,8 +1,3 @@
--- Read in this order.
---
--- Which constraints the class is made from:
-pub mod Classes
--- What the class keeps, and which keys a game touches:
+-- Kept inside (laws, and how fields are seen):
 pub mod Se1
--- The laws of the class:
 pub mod Se1Laws

@@ -1,20 +1,8 @@
--- What an SE1 keeps, and which keys a game touches.
-use Rattle.std.specs.Prelude.{ℕ, ◌<◌, ◌≤◌, List, []}
-use Rattle.std.specs.List.{All}
-use Rattle.std.specs.Ordering.{nat_cmp}
-use Rattle.league.specs.Sets.{IsAscending}
+-- The constraint of an SE1.
 use Rattle.league.specs.declared.class.Class.{Class}
-use Rattle.league.specs.declared.class.Class.TheVariants.{Se1}
-use Rattle.league.specs.declared.game.Game.{Game}
-use Rattle.rule_core.specs.Pairs.{key_between}
+use Rattle.league.specs.declared.class.Class.TheVariants as class
+use Rattle.separation.specs.declared.se1.Se1.{Se1}
 
--- teams of a league, in ascending order
-pub record IsReady (n : ℕ) (teams : List ℕ) : Type 0 where
-  pub at_most : n ≤ 40
-  pub ascending : IsAscending nat_cmp teams
-  pub below : All (λ t. t < n) teams
-
--- the key of the pair of the game's two teams, exactly where both are among the teams
-abbrev pub touches_of : Class → Game → List ℕ
-touches_of (Se1 teams min) g = key_between teams g.home.0 g.away.0
-touches_of other g = []
+-- the class that a rule was made of
+abbrev pub class_of : Se1 → Class
+class_of r = class.Se1 r.pairs r.min

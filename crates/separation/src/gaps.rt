@@ -17,7 +17,7 @@ pub(crate) fn lacking(cells: &Cells, first: TeamId, second: TeamId, min: u32) ->
 {
     let mut total: u64 = 0;
     let mut last: Option<u16> = None;
-    for slot in 0..2 * (cells.n() - 1) {
+    for slot in 0..cells.slots() {
         let games = games_at(cells, first, second, SlotId(slot));
         if games > 0 {
             total += lacking_at(last, slot, games, min);
