@@ -1,3 +1,2 @@
 -- Kept inside (laws, and how fields are seen):
 pub mod Ga1
-pub mod Ga1Laws

@@ -53,12 +53,11 @@ impl Ga1 {
 
 impl Entries for Ga1 {
     ghost use Rattle.league.specs.Deviation.{entry_of};
-    ghost use Rattle.league.specs.declared.class.Class.TheVariants as class;
     ghost use Rattle.rule_core.specs.Ready.{entry_count};
     ghost use Rattle.rule_core.specs.Touched.{most_touched, touched_keys};
+    ghost use Rattle.rule_core.proofs.FrameLemmas.{touched_keys-frame};
     ghost use Rattle.rule_core.proofs.TouchedLemmas.{touched_keys-ascending, touched_keys-below, touched_keys-few};
     ghost use Rattle.games.specs.Ga1.{class_of};
-    ghost use Rattle.games.specs.Ga1Laws.{ga1-frame};
 
     ghost team_count = { λ r. r.meetings.n };
 
@@ -68,15 +67,15 @@ impl Entries for Ga1 {
 
     ghost entry = { λ r k m. entry_of r.meetings.n m (class_of r) k };
 
-    ghost touches = { λ r g. touched_keys (class_of r) g };
+    ghost touches = { λ r. touched_keys (class_of r) };
 
-    ghost few = { λ r g fits. touched_keys-few r.meetings.n (class_of r) r.ready g fits };
+    ghost few = { λ r. touched_keys-few r.meetings.n (class_of r) r.ready };
 
     ghost below = { λ r g fits. touched_keys-below (class_of r) g };
 
     ghost ascending = { λ r g fits. touched_keys-ascending (class_of r) g };
 
-    ghost frame = { λ r g m k fits inside lacks. ga1-frame r.meetings.n r.meetings.list r.min r.max r.slots g m k inside lacks };
+    ghost frame = { λ r. touched_keys-frame r.meetings.n (class_of r) };
 
     fn teams(&self) -> u16 {
         self.meetings.n()
@@ -100,7 +99,11 @@ impl Entries for Ga1 {
 impl<L> Rule<L> for Ga1 {
     fn term(&self, _key: usize, cells: &Cells, steps: &mut Steps<L>) -> u64 {
         steps.tick();
-        outside(self.min, self.max, self.meetings.games(cells, self.slots.numbers()))
+        outside(
+            self.min,
+            self.max,
+            self.meetings.games(cells, self.slots.numbers()),
+        )
     }
 }
 

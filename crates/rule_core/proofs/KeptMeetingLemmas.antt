@@ -18,6 +18,7 @@ use Rattle.league.specs.SetLaws.{same-nat_cmp}
 use Rattle.league.specs.Sets.{IsAscending, ascends, pair_cmp}
 use Rattle.rule_core.specs.KeptMeetings.{IsTableOf}
 use Rattle.rule_core.specs.Meetings.{is_listed}
+use Rattle.rule_core.proofs.KeyLemmas.{less_than}
 
 -- whether a pair of numbers is another
 abbrev is_pair : ℕ × ℕ → ℕ → ℕ → Bool
@@ -95,9 +96,6 @@ earlier Greater p h = absurd (cc)
 
 less : (a b : ℕ) → a < b → nat_cmp a b ≡ Less
 less a b h = grind (arith, nat_tests)
-
-less_than : (a b : ℕ) → nat_cmp a b ≡ Less → a < b
-less_than a b h = grind (arith, nat_tests)
 
 earlier_place : (n : ℕ) (p q : ℕ × ℕ) → p.1 < n → pair_cmp p q ≡ Less → nat_cmp (p.0 * n + p.1) (q.0 * n + q.1) ≡ Less
 earlier_place n p q in_away before =

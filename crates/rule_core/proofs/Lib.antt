@@ -1,9 +1,12 @@
 pub mod BreakLemmas
+pub mod FrameLemmas
 pub mod GameLemmas
 pub mod KeptMeetingLemmas
 pub mod KeyLemmas
+pub mod LeadLemmas
 pub mod ListedLemmas
 pub mod MeetingLemmas
+pub mod MutualLemmas
 pub mod OpponentLemmas
 pub mod PairLemmas
 pub mod PlaceLemmas

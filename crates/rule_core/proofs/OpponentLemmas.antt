@@ -1,4 +1,5 @@
--- What a team's games against some others add up to, slot by slot and opponent by opponent, and which games don't change them.
+-- What a team's games against some others add up to, slot by slot and opponent by opponent, and which games don't
+-- change them.
 use Rattle.std.proofs.Common.{◌≡◌, ◌≢◌, ℕ, ◌+◌, zero, suc, Bool, true, false, not, ◌==◌, if◌then◌else◌, List, [], ◌∷◌, map, get_or, cond, refl, arith, ap, sym, ◌∙◌, zero-add}
 use Rattle.std.proofs.lemmas.Bool.Decides.{nat_tests}
 use Rattle.std.proofs.lemmas.List.Sums.{sum_by-append, sum_by-cons}

@@ -1,25 +1,20 @@
 -- How the table of the places of numbers in a list is made.
-use Rattle.std.proofs.Common.{◌≡◌, ◌≢◌, ℕ, ◌+◌, ◌-◌, ◌<◌, zero, suc, List, length, get_or, replicate, set, refl, arith, ap, sym, ◌∙◌, inl, inr, below_more}
+use Rattle.std.proofs.Common.{◌≡◌, ◌≢◌, ℕ, ◌+◌, ◌-◌, ◌<◌, List, length, get_or, replicate, set, arith, ap, sym, ◌∙◌, inl, inr, below_more}
 use Rattle.std.proofs.lemmas.Bool.{cases_eq}
 use Rattle.std.proofs.lemmas.List.{get_or-set_other, get_or-set_same, length-replicate, length-set}
 use Rattle.std.specs.Ordering.{nat_cmp}
 use Rattle.league.specs.Sets.{IsAscending}
 use Rattle.rule_core.specs.Places.{ArePlaces}
 use Rattle.rule_core.proofs.KeyLemmas.{less_than}
-
--- a list of zeros reads 0 everywhere
-zeros : (size i : ℕ) → get_or {A = ℕ} (replicate size 0) i 0 ≡ 0
-zeros zero i = refl
-zeros (suc size) zero = refl
-zeros (suc size) (suc i) = zeros size i
+use Rattle.rule_core.proofs.RowLemmas.{zero_at}
 
 -- of no numbers, none has a place
 pub ArePlaces-none : (xs : List ℕ) → ArePlaces 0 xs (replicate 78 0)
 ArePlaces-none xs = record {
   size = length-replicate {A = ℕ} 78 0;
   there = λ k lt. absurd (omega arith);
-  here = λ t more. absurd (omega (arith, zeros 78 t));
-  within = λ t. omega (arith, zeros 78 t);
+  here = λ t more. absurd (omega (arith, zero_at 78 t));
+  within = λ t. omega (arith, zero_at 78 t);
 }
 
 -- an earlier number of an ascending list is another

@@ -7,7 +7,7 @@ use Rattle.league.specs.Capacity.{ca1_entry, ca2_entry, ca3_entry, ca4_entry}
 use Rattle.league.specs.Counts.{Counts}
 use Rattle.league.specs.Deviation.{entry_of, spans, vector_of}
 use Rattle.league.specs.Fairness.{fa2_entry}
-use Rattle.league.specs.Instance.{IsGame, are_slots, are_teams, class_fits, is_one_side}
+use Rattle.league.specs.Instance.{are_slots, are_teams, class_fits, is_one_side}
 use Rattle.league.specs.Meetings.{pairs_of}
 use Rattle.league.specs.Separation.{se1_entry}
 use Rattle.league.specs.declared.class.Class.{Class}
@@ -69,7 +69,7 @@ entry_count-few n (Se1 teams min) ready = pairs_of-few n teams ready.at_most (ar
 -- a value that says of its entries what a constraint's class says is its rule
 pub IsRuleOf-made : {R : Type 0} (E : Ghosts R) (n : ℕ) (class other : Class) (rule : R) → class ≡ other → n ≤ 40 → IsTrue (class_fits n other)
     → E.team_count rule ≡ n → E.term_count rule ≡ entry_count class → E.reach_of rule ≡ most_touched class
-    → ((k : ℕ) (m : Counts) → E.entry rule k m ≡ entry_of n m class k) → ((g : Game) → IsGame n g → E.touches rule g ≡ touched_keys class g) → IsRuleOf E n other rule
+    → ((k : ℕ) (m : Counts) → E.entry rule k m ≡ entry_of n m class k) → ((g : Game) → E.touches rule g ≡ touched_keys class g) → IsRuleOf E n other rule
 IsRuleOf-made E n class other rule same at_most fits teams terms reach entries touches =
     let ready : IsReady n class = record { at_most = at_most; fits = subst (λ (c : Class). IsTrue (class_fits n c)) (sym same) fits } in
     subst (λ (c : Class). IsRuleOf E n c rule) same

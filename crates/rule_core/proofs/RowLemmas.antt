@@ -13,7 +13,7 @@ use Rattle.rule_core.specs.Tables.{IsOneMore}
 use Rattle.rule_core.specs.declared.counters.Counters.{Counters}
 
 -- a list of zeros reads 0 everywhere
-zero_at : (size i : ℕ) → get_or {A = ℕ} (replicate size 0) i 0 ≡ 0
+pub zero_at : (size i : ℕ) → get_or {A = ℕ} (replicate size 0) i 0 ≡ 0
 zero_at zero i = refl
 zero_at (suc size) zero = refl
 zero_at (suc size) (suc i) = zero_at size i

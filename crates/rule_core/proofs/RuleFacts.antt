@@ -10,8 +10,8 @@ use Rattle.rule_core.specs.Places.{ArePlaces}
 use Rattle.league.specs.Grid.{number}
 use Rattle.rule_core.specs.Table.{Table, table_counts}
 
--- Two teams have two slots, so a row of two counts for each home team and away team: 0 with 0, 0 with 1, 1 with 0 and 1 with 1.
--- Team 0 is at home to 1 three times in slot 0 and once in slot 1, and team 1 is at home to 0 five times in slot 1.
+-- Two teams have two slots, so a row of two counts for each home team and away team: 0 with 0, 0 with 1, 1 with 0 and 1
+-- with 1. Team 0 is at home to 1 three times in slot 0 and once in slot 1, and team 1 at home to 0 five times in slot 1.
 abbrev two_teams : Table
 two_teams = record { n = 2; list = 0 ∷ 0 ∷ 3 ∷ 1 ∷ 0 ∷ 5 ∷ 0 ∷ 0 ∷ [] }
 
@@ -22,7 +22,8 @@ table_counts-inside = refl
 pub table_counts-no_slot : map (λ s. table_counts two_teams 0 1 s) (2 ∷ 3 ∷ []) ≡ 0 ∷ 0 ∷ []
 table_counts-no_slot = refl
 
--- nor is there a team 2, whose row at home to 0 would be past the end, and whose row away to 0 would be that of 1 at home to 0
+-- nor is there a team 2, whose row at home to 0 would be past the end, and whose row away to 0 would be that of 1 at
+-- home to 0
 pub table_counts-no_team : table_counts two_teams 2 0 1 + table_counts two_teams 0 2 1 ≡ 0
 table_counts-no_team = refl
 
@@ -57,7 +58,8 @@ ArePlaces-not_exchanged are = absurd (omega (arith, are.there 0 (omega arith)))
 pub ArePlaces-not_another : ArePlaces 1 (2 ∷ []) (0 ∷ 0 ∷ 1 ∷ 0 ∷ 0 ∷ 1 ∷ replicate 72 0) → ⊥
 ArePlaces-not_another are = absurd (omega (arith, are.here 5 (omega arith)))
 
--- a meeting is listed with its home team first: neither turned, nor made of the home team of one and the away team of another
+-- a meeting is listed with its home team first: neither turned, nor made of the home team of one and the away team of
+-- another
 pub is_listed-each : map (λ (p : ℕ × ℕ). is_listed ((0, 1) ∷ (2, 3) ∷ []) p.0 p.1) ((0, 1) ∷ (2, 3) ∷ (1, 0) ∷ (0, 3) ∷ []) ≡ true ∷ true ∷ false ∷ false ∷ []
 is_listed-each = refl
 

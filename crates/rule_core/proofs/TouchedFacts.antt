@@ -1,4 +1,4 @@
--- Worked examples of the keys that a game touches, so that a wrong definition does not check: each was worked out by hand.
+-- Worked examples of the keys that a game touches, so that a wrong definition does not check: each was made by hand.
 use Rattle.std.proofs.Common.{◌≡◌, ℕ, true, false, List, [], ◌∷◌, map, refl}
 use Rattle.league.specs.declared.class.Class.TheVariants.{Ca1, Ca2, Ca3, Ca4, Ga1, Br1, Br2, Fa2, Se1}
 use Rattle.league.specs.declared.class.Side.{Side}
@@ -32,8 +32,8 @@ ca1-home = refl
 pub ca1-away : map (touched_keys (Ca1 teams 0 A slots)) games ≡ (0 ∷ []) ∷ (0 ∷ []) ∷ [] ∷ [] ∷ (0 ∷ []) ∷ [] ∷ (1 ∷ []) ∷ []
 ca1-away = refl
 
--- Team 3 plays 1, who is one of the others, while team 1 plays 3, who isn't. Both of 1 and 2 are others: only 1 has a key.
--- 0 is neither.
+-- Team 3 plays 1, who is one of the others, while team 1 plays 3, who isn't. Both of 1 and 2 are others: only 1 has a
+-- key. 0 is neither.
 pub ca2-either_side : map (touched_keys (Ca2 teams others 0 Both slots)) games ≡ (1 ∷ []) ∷ (1 ∷ []) ∷ [] ∷ (0 ∷ []) ∷ (0 ∷ []) ∷ [] ∷ [] ∷ []
 ca2-either_side = refl
 
@@ -123,8 +123,8 @@ br2-each_game = refl
 abbrev fa2_keys : List ℕ → Game → List ℕ
 fa2_keys slots g = touched_keys (Fa2 (0 ∷ 1 ∷ 3 ∷ []) 1 slots) g
 
--- A home game of team 1 between the two slots, one of 1 at 3 in the last of them, and one before both against a team that isn't
--- listed: the keys of the home team's pairs. After both slots, or of another home team, none.
+-- A home game of team 1 between the two slots, one of 1 at 3 in the last of them, and one before both against a team
+-- that isn't listed: the keys of the home team's pairs. After both slots, or of another home team, none.
 pub fa2-each : map (fa2_keys (1 ∷ 4 ∷ [])) (game 1 0 2 ∷ game 3 1 4 ∷ game 0 2 0 ∷ game 1 0 5 ∷ game 2 0 0 ∷ []) ≡ (0 ∷ 2 ∷ []) ∷ (1 ∷ 2 ∷ []) ∷ (0 ∷ 1 ∷ []) ∷ [] ∷ [] ∷ []
 fa2-each = refl
 

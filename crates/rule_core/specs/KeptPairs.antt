@@ -12,7 +12,8 @@ pub record ArePairs (teams : List ℕ) (pairs : List (ℕ × ℕ)) (places : Lis
   pub listed : pairs ≡ pairs_of teams
   pub placed : ArePlaces (length teams) teams places
 
--- the key of the first pair of the team at place i with a later one: each earlier team has a pair with each later one before
+-- the key of the first pair of the team at place i with a later one: each earlier team has a pair with each later one
+-- before
 abbrev pub first_key : List ℕ → ℕ → ℕ
 first_key teams zero = 0
 first_key [] (suc i) = 0

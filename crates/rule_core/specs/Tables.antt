@@ -13,7 +13,8 @@ pub record IsOneMore (row column : ℕ) (before after : Counters) : Type 0 where
   pub as_wide : after.columns ≡ before.columns
   pub as_long : length after.numbers.items ≡ length before.numbers.items
   pub total : sum after.numbers.items ≡ sum before.numbers.items + 1
-  pub each : (i k : ℕ) → number after.columns after.numbers.items i k ≡ number before.columns before.numbers.items i k + (if (row == i) && (column == k) then 1 else 0)
+  pub each : (i k : ℕ) → number after.columns after.numbers.items i k
+      ≡ number before.columns before.numbers.items i k + (if (row == i) && (column == k) then 1 else 0)
 
 -- so many rows, each with a number for every slot of a season of n teams
 pub record HasRows (n rows : ℕ) (counters : Counters) : Type 0 where
@@ -28,5 +29,7 @@ pub record AreKept (n games : ℕ) (counts homes aways : Counters) : Type 0 wher
   pub away_rows : HasRows n n aways
   pub total : games ≡ sum counts.numbers.items
   pub few : games ≤ 10000
-  pub home : (i s : ℕ) → number homes.columns homes.numbers.items i s ≡ home_games n (table_counts (record { n = n; list = counts.numbers.items })) i s
-  pub away : (i s : ℕ) → number aways.columns aways.numbers.items i s ≡ away_games n (table_counts (record { n = n; list = counts.numbers.items })) i s
+  pub home : (i s : ℕ) → number homes.columns homes.numbers.items i s
+      ≡ home_games n (table_counts (record { n = n; list = counts.numbers.items })) i s
+  pub away : (i s : ℕ) → number aways.columns aways.numbers.items i s
+      ≡ away_games n (table_counts (record { n = n; list = counts.numbers.items })) i s

@@ -25,11 +25,12 @@ plays_against H teams g i = (i == g.home.0) && is_in g.away.0 teams
 plays_against A teams g i = (i == g.away.0) && is_in g.home.0 teams
 plays_against Both teams g i = ((i == g.home.0) && is_in g.away.0 teams) || ((i == g.away.0) && is_in g.home.0 teams)
 
--- whether a game in slot s can change a break at one of these slots: a break is of two slots in a row, and counts at the second
+-- whether a game in slot s can change a break at one of these slots: a break is of two slots in a row, and counts at
+-- the second
 abbrev pub can_break : List ℕ → ℕ → Bool
 can_break slots s = is_in s slots || is_in (s + 1) slots
 
--- The keys of the entries that a game can change: those of its teams that count, or of their pairs, or of its slot, or the one key.
+-- the keys of the entries that a game can change: those of its teams, of their pairs, of its slot, or the one key
 abbrev pub touched_keys : Class → Game → List ℕ
 touched_keys (Ca1 teams max side slots) g = if is_in g.slot.0 slots then keys_where (plays_on side g) teams else []
 touched_keys (Ca2 teams1 teams2 max side slots) g =

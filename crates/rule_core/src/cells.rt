@@ -12,8 +12,8 @@ use league::{Game, SlotId, TeamId, slot_count};
 use std::alloc::{AllocError, Global};
 use std::marker::Model;
 
-/// The counts of at most 10,000 games of a league, seen as the number of teams with the list of the counts, by home team,
-/// then away team, then slot.
+/// The counts of at most 10,000 games of a league, seen as the number of teams with the list of the counts, by home
+/// team, then away team, then slot.
 #[derive(Drop)]
 pub struct Cells {
     n: u16,

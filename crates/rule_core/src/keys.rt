@@ -1,5 +1,6 @@
 //! A list of keys with a fixed room, so that adding a key takes no memory.
-ghost use Rattle.std.specs.Prelude.{◌≡◌, ◌<◌, ◌++◌, ◌==◌, [], ◌∷◌, length, slice_get, Some, IfOk};
+ghost use Rattle.std.specs.Prelude.{◌≡◌, ◌<◌, ◌==◌, [], ◌∷◌, length, slice_get, Some, IfOk};
+ghost use Rattle.rule_core.specs.Keys.{with_keys};
 
 use std::alloc::{AllocError, Global};
 use std::marker::Model;
@@ -46,7 +47,7 @@ impl Keys {
     /// Adds a key at the end, where there is room. It takes no memory.
     pub fn push(&mut self, key: usize)
         requires { length self.old.list < self.old.room }
-        ensures { self.new ≡ record { list = self.old.list ++ key ∷ []; room = self.old.room } }
+        ensures { self.new ≡ with_keys self.old (key ∷ []) }
     {
         self.keys.push_reserved(key);
     }

@@ -1,10 +1,10 @@
 //! A list of teams or slots in which a number is found by one look-up.
-ghost use Rattle.std.specs.Prelude.{◌≡◌, ◌≢◌, ◌<◌, ◌≤◌, ◌+◌, ◌++◌, ◌==◌, ◌||◌, length, slice_index, IsTrue, IfOk};
+ghost use Rattle.std.specs.Prelude.{◌≡◌, ◌≢◌, ◌<◌, ◌≤◌, ◌+◌, ◌==◌, ◌||◌, length, slice_index, IsTrue, IfOk};
 ghost use Rattle.std.specs.List.{All};
 ghost use Rattle.std.specs.Ordering.{nat_cmp};
 ghost use Rattle.league.specs.Instance.{are_slots, are_teams};
 ghost use Rattle.league.specs.Sets.{IsAscending, is_in};
-ghost use Rattle.rule_core.specs.Keys.{keys_where};
+ghost use Rattle.rule_core.specs.Keys.{keys_where, with_keys};
 
 use crate::keys::Keys;
 use crate::places::Places;
@@ -12,7 +12,7 @@ use league::{SlotSet, TeamSet};
 use std::alloc::{AllocError, Global};
 use std::marker::Model;
 
-/// An ascending list of numbers below 78, which teams' and slots' are, with the place of each. A number's key is its place.
+/// An ascending list of teams or slots, with the place of each. A number's key is its place, counted from 0.
 ///
 /// A contract sees it as the list.
 #[derive(Drop)]
@@ -102,7 +102,7 @@ impl Listed {
     /// Adds the key of a number, where it is one of these. It takes no memory.
     pub fn push_key(&self, number: u16, keys: &mut Keys)
         requires { length keys.old.list + 1 ≤ keys.old.room }
-        ensures { keys.new ≡ record { list = keys.old.list ++ keys_where (λ x. x == number) self.now; room = keys.old.room } }
+        ensures { keys.new ≡ with_keys keys.old (keys_where (λ x. x == number) self.now) }
     {
         let place = self.places.place(number);
         if place > 0 {
@@ -114,7 +114,7 @@ impl Listed {
     pub fn push_keys(&self, one: u16, other: u16, keys: &mut Keys)
         requires differ { one ≢ other }
         requires spare { length keys.old.list + 2 ≤ keys.old.room }
-        ensures { keys.new ≡ record { list = keys.old.list ++ keys_where (λ x. (x == one) || (x == other)) self.now; room = keys.old.room } }
+        ensures { keys.new ≡ with_keys keys.old (keys_where (λ x. (x == one) || (x == other)) self.now) }
     {
         if self.places.place(one) <= self.places.place(other) {
             self.push_key(one, keys);

@@ -12,8 +12,8 @@ use league::{PairSet, SlotId, TeamId};
 use std::alloc::{AllocError, Global};
 use std::marker::Model;
 
-/// At most 1600 meetings of a league, seen as the number of teams with the list of the meetings, each a home team and an
-/// away team.
+/// At most 1600 meetings of a league, seen as the number of teams with the list of the meetings, each a home team and
+/// an away team.
 #[derive(Drop)]
 pub struct Meetings {
     n: u16,

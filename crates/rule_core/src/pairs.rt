@@ -1,11 +1,13 @@
 //! The pairs of some teams, each with its key.
-ghost use Rattle.std.specs.Prelude.{◌≡◌, ◌<◌, ◌≤◌, ◌≢◌, ◌+◌, ◌-◌, ◌++◌, ◌==◌, length, map, slice_get, slice_index, Some, IsTrue, IfOk, OnOk};
+ghost use Rattle.std.specs.Prelude.{◌≡◌, ◌<◌, ◌≤◌, ◌≢◌, ◌+◌, ◌-◌, ◌++◌, ◌==◌, length, map, slice_get, slice_index};
+ghost use Rattle.std.specs.Prelude.{Some, IsTrue, IfOk, OnOk};
 ghost use Rattle.std.specs.List.{All};
 ghost use Rattle.std.specs.Ordering.{nat_cmp};
 ghost use Rattle.league.specs.Instance.{are_teams};
 ghost use Rattle.league.specs.Meetings.{pairs_of};
 ghost use Rattle.league.specs.Sets.{IsAscending};
 ghost use Rattle.rule_core.specs.KeptPairs.{key_at};
+ghost use Rattle.rule_core.specs.Keys.{with_keys};
 ghost use Rattle.rule_core.specs.Pairs.{key_between, keys_with};
 
 use crate::keys::Keys;
@@ -14,7 +16,8 @@ use league::{TeamId, TeamSet};
 use std::alloc::{AllocError, Global};
 use std::marker::Model;
 
-/// Each two of some teams once, the smaller first, in order of the first and then of the second. A pair's key is its place.
+/// Each two of some teams once, the smaller first, in order of the first and then of the second. A pair's key is its
+/// place.
 ///
 /// A contract sees it as the ascending list of the teams.
 #[derive(Drop)]
@@ -91,11 +94,12 @@ impl Pairs {
         (TeamId(first), TeamId(second))
     }
 
-    /// Adds the key of the pair of two different teams, in either order, where both are among the teams. It takes no memory.
+    /// Adds the key of the pair of two different teams, in either order, where both are among the teams. It takes no
+    /// memory.
     pub fn push_key(&self, one: u16, other: u16, keys: &mut Keys)
         requires differ { one ≢ other }
         requires spare { length keys.old.list + 1 ≤ keys.old.room }
-        ensures { keys.new ≡ record { list = keys.old.list ++ key_between self.now one other; room = keys.old.room } }
+        ensures { keys.new ≡ with_keys keys.old (key_between self.now one other) }
     {
         let one = self.places.place(one);
         let other = self.places.place(other);
@@ -112,7 +116,7 @@ impl Pairs {
     /// Adds the keys of all pairs in which a team is, ascending. It takes no memory.
     pub fn push_keys(&self, team: u16, keys: &mut Keys)
         requires { length keys.old.list + (length self.now - 1) ≤ keys.old.room }
-        ensures { keys.new ≡ record { list = keys.old.list ++ keys_with self.now team; room = keys.old.room } }
+        ensures { keys.new ≡ with_keys keys.old (keys_with self.now team) }
     {
         let place = self.places.place(team);
         if place > 0 {
@@ -124,7 +128,7 @@ impl Pairs {
     fn push_keys_at(&self, place: usize, keys: &mut Keys)
         requires place { place < length self.now }
         requires spare { length keys.old.list + (length self.now - 1) ≤ keys.old.room }
-        ensures { keys.new ≡ record { list = keys.old.list ++ keys_with self.now (slice_index self.now place); room = keys.old.room } }
+        ensures { keys.new ≡ with_keys keys.old (keys_with self.now (slice_index self.now place)) }
     {
         let count = self.teams.len();
         for first in 0..place {

@@ -14,8 +14,8 @@ use steps::Steps;
 
 /// The entries of a constraint's deviation vector, and which of them a game can change. No call takes memory.
 ///
-/// An entry is a number for each key and each table of counts: so equal counts have equal entries, whatever the order of
-/// the games was.
+/// An entry is a number for each key and each table of counts: so equal counts have equal entries, whatever the order
+/// of the games was.
 pub trait Entries: Drop {
     ghost team_count: { Self → ℕ };
 
@@ -52,7 +52,8 @@ pub trait Entries: Drop {
 
     ghost ascending: { (r : Self) (g : Game) → IsGame (team_count r) g → IsStrictlyIncreasing (touches r g) };
 
-    ghost frame: { (r : Self) (g : Game) (m : Counts) (k : ℕ) → IsGame (team_count r) g → k < term_count r → (Contains (touches r g) k → ⊥) → entry r k (one_more m g) ≡ entry r k m };
+    ghost frame: { (r : Self) (g : Game) (m : Counts) (k : ℕ) → IsGame (team_count r) g → k < term_count r
+        → (Contains (touches r g) k → ⊥) → entry r k (one_more m g) ≡ entry r k m };
 }
 
 /// Entries that can be evaluated, each at the price of one step in the ledger `L`.

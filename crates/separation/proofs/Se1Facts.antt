@@ -6,8 +6,8 @@ use Rattle.league.specs.Separation.{lacking, mutual_games}
 use Rattle.league.specs.declared.class.Class.TheVariants.{Se1}
 use Rattle.league.proofs.DoubleFour.{game}
 
--- 1 and 3 meet in slot 1, twice in slot 4 and in the last slot, 9, at either's home; 3 and 5 meet in the slots 0 and 1; 1 and 5
--- once; 0 and 2 in slot 4
+-- 1 and 3 meet in slot 1, twice in slot 4 and in the last slot, 9, at either's home; 3 and 5 meet in the slots 0 and 1;
+-- 1 and 5 once; 0 and 2 in slot 4
 abbrev counts : Counts
 counts = counts_of (game 1 3 1 ∷ game 3 1 4 ∷ game 1 3 4 ∷ game 3 1 9 ∷ game 5 3 1 ∷ game 3 5 0 ∷ game 5 1 7 ∷ game 0 2 4 ∷ [])
 
@@ -17,8 +17,8 @@ mutual_games-each = refl
 abbrev entries : ℕ → List ℕ
 entries min = vector_of 6 counts (Se1 (1 ∷ 3 ∷ 5 ∷ []) min)
 
--- Between the neighbours of 1 and 3 lie the slots 2 and 3, none, and 5 to 8: two, none and four. With min 3 they lack 1, 3 and 0;
--- 1 and 5 have no neighbours; between 3 and 5's games lies no slot.
+-- Between the neighbours of 1 and 3 lie the slots 2 and 3, none, and 5 to 8: two, none and four. With min 3 they lack 1,
+-- 3 and 0; 1 and 5 have no neighbours; between 3 and 5's games lies no slot.
 pub se1-min_3 : entries 3 ≡ 4 ∷ 0 ∷ 3 ∷ []
 se1-min_3 = refl
 

@@ -1,5 +1,6 @@
 -- What the evaluation of a term gives.
 use Rattle.std.proofs.Common.{◌≡◌, ℕ, ◌<◌, List, length, ap, sym, ◌∙◌, Some}
+use Rattle.std.proofs.lemmas.List.{get_or-map}
 use Rattle.std.specs.Prelude.{slice_get}
 use Rattle.league.specs.Counts.{Counts}
 use Rattle.league.specs.Deviation.{entry_of}
@@ -7,7 +8,6 @@ use Rattle.league.specs.Meetings.{pairs_of}
 use Rattle.league.specs.Separation.{se1_entry}
 use Rattle.rule_core.proofs.PairLemmas.{pair_read}
 use Rattle.league.specs.declared.class.Class.TheVariants.{Se1}
-use Rattle.separation.specs.Se1Laws.{entry-by_pair}
 
 -- the entry of an SE1, by the pair that was read
 pub se1_term : (n : ℕ) (m : Counts) (teams : List ℕ) (min key known x y result : ℕ) → key < length (pairs_of teams) → known ≡ n → slice_get (pairs_of teams) key ≡ Some (x, y) → result ≡ se1_entry known m min (x, y) → result ≡ entry_of n m (Se1 teams min) key
@@ -15,4 +15,4 @@ se1_term n m teams min key known x y result inside same is lacked =
     lacked
     ∙ ap (λ (k : ℕ). se1_entry k m min (x, y)) same
     ∙ ap (λ (p : ℕ × ℕ). se1_entry n m min p) (sym (pair_read teams key x y is))
-    ∙ sym (entry-by_pair n m teams min key inside)
+    ∙ sym (get_or-map (se1_entry n m min) (pairs_of teams) key (0, 0) 0 inside)

@@ -1,3 +1,2 @@
 -- Kept inside (laws, and how fields are seen):
 pub mod Se1
-pub mod Se1Laws

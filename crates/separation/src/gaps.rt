@@ -8,8 +8,8 @@ ghost use Rattle.rule_core.specs.Table.{table_counts};
 use league::{SlotId, TeamId};
 use rule_core::Cells;
 
-/// What the slots between neighbouring games of two teams lack of `min`, summed. It is one pass over the slots, with two
-/// look-ups each, and keeps the slot of the last game alone.
+/// What the slots between neighbouring games of two teams lack of `min`, summed. It is one pass over the slots, with
+/// two look-ups each, and keeps the slot of the last game alone.
 pub(crate) fn lacking(cells: &Cells, first: TeamId, second: TeamId, min: u32) -> u64
     requires first { first.0 < cells.now.n }
     requires second { second.0 < cells.now.n }

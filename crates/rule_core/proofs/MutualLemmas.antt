@@ -1,21 +1,15 @@
--- Which entries of an SE1 a game leaves as they are.
-use Rattle.std.proofs.Common.{◌≡◌, ℕ, ◌+◌, ◌<◌, Bool, false, ◌&&◌, ◌==◌, List, [], ◌∷◌, ◌++◌, length, get_or, replicate, refl, arith, ap, sym, ◌∙◌, Contains}
+-- Which games leave the mutual games of two teams as they are.
+use Rattle.std.proofs.Common.{◌≡◌, ℕ, ◌+◌, Bool, false, ◌&&◌, ◌==◌, List, [], ◌∷◌, ◌++◌, replicate, refl, arith, ap, ◌∙◌}
 use Rattle.std.proofs.lemmas.Bool.Decides.{nat_tests}
-use Rattle.std.proofs.lemmas.List.{get_or-map}
 use Rattle.std.specs.List.{flat_map}
 use Rattle.league.specs.Counts.{Counts, one_more, slots_of}
-use Rattle.league.specs.Deviation.{entry_of}
-use Rattle.league.specs.Meetings.{pairs_of}
-use Rattle.league.specs.Separation.{lacking, mutual_games, se1_entry}
-use Rattle.league.specs.declared.class.Class.TheVariants.{Se1}
+use Rattle.league.specs.Separation.{mutual_games}
 use Rattle.league.specs.declared.game.Game.{Game}
 use Rattle.league.proofs.RangeLemmas.{one_if}
 use Rattle.rule_core.specs.Pairs.{has_team}
-use Rattle.rule_core.specs.Touched.{touched_keys}
-use Rattle.rule_core.proofs.KeyLemmas.{keys_where-lacks}
 
 -- whether a pair is that of the teams of a game
-abbrev plays : Game → ℕ × ℕ → Bool
+abbrev pub plays : Game → ℕ × ℕ → Bool
 plays g p = has_team g.home.0 p && has_team g.away.0 p
 
 -- two teams that aren't those of a game
@@ -36,20 +30,6 @@ flat_map-same f h same [] = refl
 flat_map-same f h same (x ∷ xs) = ap (λ (ys : List ℕ). ys ++ flat_map f xs) (same x) ∙ ap (λ (ys : List ℕ). h x ++ ys) (flat_map-same f h same xs)
 
 -- so they have the same mutual games
-same_mutual_games : (n : ℕ) (m : Counts) (g : Game) (p : ℕ × ℕ) → plays g p ≡ false → mutual_games n (one_more m g) p ≡ mutual_games n m p
+pub same_mutual_games : (n : ℕ) (m : Counts) (g : Game) (p : ℕ × ℕ) → plays g p ≡ false → mutual_games n (one_more m g) p ≡ mutual_games n m p
 same_mutual_games n m g p other =
     flat_map-same (λ s. replicate (one_more m g p.0 p.1 s + one_more m g p.1 p.0 s) s) (λ s. replicate (m p.0 p.1 s + m p.1 p.0 s) s) (λ s. ap (λ (c : ℕ). replicate c s) (same_games m g p s other)) (slots_of n)
-
--- a key's entry, by its pair
-pub entry-by_pair : (n : ℕ) (m : Counts) (teams : List ℕ) (min k : ℕ) → k < length (pairs_of teams)
-    → entry_of n m (Se1 teams min) k ≡ se1_entry n m min (get_or (pairs_of teams) k (0, 0))
-entry-by_pair n m teams min k inside = get_or-map (se1_entry n m min) (pairs_of teams) k (0, 0) 0 inside
-
--- a key that the game doesn't touch keeps its entry
-pub se1-frame : (n : ℕ) (teams : List ℕ) (min : ℕ) (g : Game) (m : Counts) (k : ℕ) → k < length (pairs_of teams)
-    → (Contains (touched_keys (Se1 teams min) g) k → ⊥) → entry_of n (one_more m g) (Se1 teams min) k ≡ entry_of n m (Se1 teams min) k
-se1-frame n teams min g m k inside lacks =
-    let p : ℕ × ℕ = get_or (pairs_of teams) k (0, 0) in
-    entry-by_pair n (one_more m g) teams min k inside
-    ∙ ap (lacking min) (same_mutual_games n m g p (keys_where-lacks (plays g) (pairs_of teams) k (0, 0) inside lacks))
-    ∙ sym (entry-by_pair n m teams min k inside)
