@@ -16,14 +16,20 @@ use league::{League, Schedule};
 use robinx_tags::TagReader;
 use std::alloc::Global;
 
-/// The league that an instance file of at most 16,777,216 bytes says (RobinX, as the International Timetabling
+/// The most bytes that an instance file may have: 16 MiB (own limit).
+pub const INSTANCE_LIMIT: usize = 16_777_216;
+
+/// The most bytes that a solution file may have: 1 MiB (own limit).
+pub const SOLUTION_LIMIT: usize = 1_048_576;
+
+/// The league that an instance file of at most `INSTANCE_LIMIT` bytes says (RobinX, as the International Timetabling
 /// Competition 2021 uses it): n even and from 2 to 40 teams in a double round robin, phased or not, with at most
 /// 20,000 constraints of its nine classes.
 ///
 /// # Errors
 /// `Form` exactly where the file has a fault: its first one, with its line. `Mem` where memory runs out.
 pub fn read_instance(alloc: Global, bytes: &[u8]) -> Result<League, ReadFault>
-    requires { length bytes.now ≤ 16777216 }
+    requires { length bytes.now ≤ INSTANCE_LIMIT }
     ensures { Says (instance_of (pieces bytes.now)) result }
 {
     let mut draft = Draft::new(alloc);
@@ -36,13 +42,13 @@ pub fn read_instance(alloc: Global, bytes: &[u8]) -> Result<League, ReadFault>
     Ok(draft.into_league())
 }
 
-/// The schedule that a solution file (RobinX) of at most 1,048,576 bytes says, for this league: at most 10,000 games
-/// of two of its teams in one of its slots, in file order.
+/// The schedule that a solution file (RobinX) of at most `SOLUTION_LIMIT` bytes says, for this league: at most 10,000
+/// games of two of its teams in one of its slots, in file order.
 ///
 /// # Errors
 /// `Form` exactly where the file has a fault: its first one, with its line. `Mem` where memory runs out.
 pub fn read_solution(alloc: Global, bytes: &[u8], league: &League) -> Result<Schedule, ReadFault>
-    requires { length bytes.now ≤ 1048576 }
+    requires { length bytes.now ≤ SOLUTION_LIMIT }
     ensures value { Says (solution_of league.now.n (pieces bytes.now)) result }
     ensures few { IfOk result (λ games. length games ≤ 10000) }
     ensures fit { IfOk result (All (IsGame league.now.n)) }

@@ -18,5 +18,5 @@ mod values;
 mod walk;
 
 pub use fault::{FormFault, ReadFault};
-pub use instance::{read_instance, read_solution};
+pub use instance::{INSTANCE_LIMIT, SOLUTION_LIMIT, read_instance, read_solution};
 pub use robinx_tags::FormKind;
