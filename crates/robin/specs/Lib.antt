@@ -1,8 +1,10 @@
--- what the contract of `run` rests on
+-- What a reader of a claim must believe:
 pub mod Words
-pub mod Refusals
+pub mod Status
+pub mod Reply
 pub mod Report
+pub mod Circle
 pub mod Answer
--- how words and steps are seen
+-- Kept inside (laws, and how fields are seen):
 pub mod SeenWords
 pub mod SeenReply

@@ -12,38 +12,58 @@ use Rattle.league.specs.declared.game.Game.{Game}
 use Rattle.league.specs.declared.wrongs.Wrongs.{Wrongs}
 use Rattle.robinx_read.specs.Texts.{class_name, type_word}
 
+-- the game mode
 abbrev pub mode_word : Bool → List ℕ
 mode_word phased = if phased then codes "P" else codes "NULL"
 
+-- whether the schedule is accepted
 abbrev pub yes_or_no : Bool → List ℕ
 yes_or_no feasible = if feasible then codes "yes" else codes "no"
 
 -- the four lines that say what was read
 abbrev pub head_text : ℕ → Bool → ℕ → List ℕ
-head_text n phased games = codes "teams " ++ (decimal n ++ (codes "\nslots " ++ (decimal (slot_count n) ++ (codes "\nmode " ++ (mode_word phased ++ (codes "\ngames " ++ (decimal games ++ codes "\n")))))))
+head_text n phased games =
+    codes "teams " ++ (decimal n
+    ++ (codes "\nslots " ++ (decimal (slot_count n)
+    ++ (codes "\nmode " ++ (mode_word phased
+    ++ (codes "\ngames " ++ (decimal games ++ codes "\n")))))))
 
 -- the line on the round robin
 abbrev pub structure_text : ℕ → ℕ → ℕ → List ℕ
-structure_text pairs cells phases = codes "structure pairs " ++ (decimal pairs ++ (codes " cells " ++ (decimal cells ++ (codes " phases " ++ (decimal phases ++ codes "\n")))))
+structure_text pairs cells phases =
+    codes "structure pairs " ++ (decimal pairs
+    ++ (codes " cells " ++ (decimal cells
+    ++ (codes " phases " ++ (decimal phases ++ codes "\n")))))
 
--- the line of a constraint: its number, what it is in the words of a file, its deviation, and the vector's entries
+-- the entries of a vector, each after a space
 abbrev pub entries_text : List ℕ → List ℕ
 entries_text entries = flat_map (λ entry. codes " " ++ decimal entry) entries
 
+-- a constraint's number, what it is in the words of a file, and its deviation
 abbrev pub constraint_front : ℕ → Constraint → ℕ → List ℕ
-constraint_front number c deviation = codes "constraint " ++ (decimal number ++ (codes " " ++ (codes (class_name c.class) ++ (codes " " ++ (codes (type_word c.hard) ++ (codes " penalty " ++ (decimal c.penalty ++ (codes " sum " ++ (decimal deviation ++ codes " entries")))))))))
+constraint_front number c deviation =
+    codes "constraint " ++ (decimal number
+    ++ (codes " " ++ (codes (class_name c.class)
+    ++ (codes " " ++ (codes (type_word c.hard)
+    ++ (codes " penalty " ++ (decimal c.penalty
+    ++ (codes " sum " ++ (decimal deviation ++ codes " entries")))))))))
 
+-- the line of a constraint
 abbrev pub constraint_text : ℕ → Constraint → List ℕ → List ℕ
 constraint_text number c entries = constraint_front number c (sum entries) ++ (entries_text entries ++ codes "\n")
 
 -- the lines of constraints with their vectors, numbered from here on
 abbrev pub constraints_text : ℕ → List Constraint → List (List ℕ) → List ℕ
-constraints_text number (c ∷ constraints) (entries ∷ vectors) = constraint_text number c entries ++ constraints_text (number + 1) constraints vectors
+constraints_text number (c ∷ constraints) (entries ∷ vectors) =
+    constraint_text number c entries ++ constraints_text (number + 1) constraints vectors
 constraints_text number _ _ = []
 
 -- the last three lines
 abbrev pub verdict_text : ℕ → ℕ → Bool → List ℕ
-verdict_text infeasible objective feasible = codes "infeasibility " ++ (decimal infeasible ++ (codes "\nobjective " ++ (decimal objective ++ (codes "\nfeasible " ++ (yes_or_no feasible ++ codes "\n")))))
+verdict_text infeasible objective feasible =
+    codes "infeasibility " ++ (decimal infeasible
+    ++ (codes "\nobjective " ++ (decimal objective
+    ++ (codes "\nfeasible " ++ (yes_or_no feasible ++ codes "\n")))))
 
 -- the whole report, from what was counted
 abbrev pub lines_text : Instance → ℕ → Wrongs → List (List ℕ) → ℕ → ℕ → Bool → List ℕ
@@ -57,5 +77,10 @@ lines_text league games wrongs vectors infeasible objective feasible =
 abbrev pub report_text : Instance → List Game → Bool → List ℕ
 report_text league games feasible =
     let m = counts_of games in
-    let wrongs : Wrongs = record { pairs_wrong = pairs_wrong league.n m; cells_wrong = cells_wrong league.n m; phases_wrong = phases_wrong league.n league.phased m } in
-    lines_text league (length games) wrongs (map (λ c. vector_of league.n m c.class) league.constraints) (infeasibility league m) (objective league m) feasible
+    let wrongs : Wrongs = record {
+      pairs_wrong = pairs_wrong league.n m;
+      cells_wrong = cells_wrong league.n m;
+      phases_wrong = phases_wrong league.n league.phased m;
+    } in
+    let vectors = map (λ c. vector_of league.n m c.class) league.constraints in
+    lines_text league (length games) wrongs vectors (infeasibility league m) (objective league m) feasible

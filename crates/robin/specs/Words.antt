@@ -1,5 +1,6 @@
 -- What the words of the command line, without the program's name, ask for.
-use Rattle.std.specs.Prelude.{◌≡◌, ℕ, ◌%◌, ◌^◌, ◌≤◌, Bool, true, not, ◌&&◌, ◌==◌, nat_le, nat_lt, if◌then◌else◌, List, [], ◌∷◌, Option, Some, None, option_and_then, option_map, codes, bytes_eq}
+use Rattle.std.specs.Prelude.{◌≡◌, ℕ, ◌%◌, ◌^◌, ◌≤◌, nat_le, nat_lt, ◌==◌, List, [], ◌∷◌, codes, bytes_eq}
+use Rattle.std.specs.Prelude.{Bool, true, not, ◌&&◌, if◌then◌else◌, Option, Some, None, option_and_then, option_map}
 use Rattle.std.specs.Str.{byte}
 use Rattle.std.specs.Str.Parse.{digits_value}
 use Rattle.robin_io.specs.Numbers.{is_number}
@@ -21,7 +22,10 @@ is_shortest _ = true
 
 -- the number that a word writes: decimal digits without a leading zero, at most 18446744073709551615
 abbrev pub number_in : List ℕ → Option ℕ
-number_in word = if is_number word && (is_shortest word && nat_lt (digits_value 10 word) (2 ^ 64)) then Some (digits_value 10 word) else None
+number_in word =
+    if is_number word && (is_shortest word && nat_lt (digits_value 10 word) (2 ^ 64))
+    then Some (digits_value 10 word)
+    else None
 
 -- whether a league can have so many teams
 abbrev pub is_team_count : ℕ → Bool
@@ -33,8 +37,12 @@ team_count_in word = option_and_then (λ n. if is_team_count n then Some n else 
 
 -- the one reading of the words, or none
 abbrev pub reading : List (List ℕ) → Option Command
-reading (command ∷ instance ∷ solution ∷ []) = if bytes_eq command (codes "validate") && (is_file_name instance && is_file_name solution) then Some (Validate instance solution) else None
-reading (command ∷ teams ∷ []) = if bytes_eq command (codes "circle") then option_map Circle (team_count_in teams) else None
+reading (command ∷ instance ∷ solution ∷ []) =
+    if bytes_eq command (codes "validate") && (is_file_name instance && is_file_name solution)
+    then Some (Validate instance solution)
+    else None
+reading (command ∷ teams ∷ []) =
+    if bytes_eq command (codes "circle") then option_map Circle (team_count_in teams) else None
 reading _ = None
 
 -- the teams of a command, where it names a number of them: even, and from 2 to 40

@@ -1,23 +1,36 @@
 //! The season of the circle method.
 ghost use Rattle.std.specs.Prelude.{◌≡◌, ◌%◌, ◌≤◌, IfOk};
-ghost use Rattle.robin.specs.Answer.{IsCircle};
+ghost use Rattle.circle_method.specs.Circle.{double_games};
+ghost use Rattle.robin.specs.Circle.{circle_season, in_order};
 ghost use Rattle.robin.specs.SeenReply.{answer_of};
 
 use crate::reply::Reply;
 use crate::status::Status;
 use circle_method::double;
+use league::Schedule;
 use robinx_write::solution_text;
 use std::alloc::{AllocError, Global};
 
-/// Makes the double round robin of the circle method, and the text of its games in order.
+/// The double round robin of the circle method, its games in order.
+fn season(alloc: Global, n: u16) -> Result<Schedule, AllocError>
+    requires even { n % 2 ≡ 0 }
+    requires at_least { 2 ≤ n }
+    requires at_most { n ≤ 40 }
+    ensures { IfOk result (λ games. games ≡ in_order (double_games n)) }
+{
+    let mut schedule = double(alloc, n)?;
+    schedule.put_in_order();
+    Ok(schedule)
+}
+
+/// Makes the season of the circle method, and its text.
 pub fn circle(alloc: Global, n: u16) -> Result<Reply, AllocError>
     requires even { n % 2 ≡ 0 }
     requires at_least { 2 ≤ n }
     requires at_most { n ≤ 40 }
-    ensures { IfOk result (λ reply. IsCircle n (answer_of reply)) }
+    ensures { IfOk result (λ reply. answer_of reply ≡ circle_season n) }
 {
-    let mut schedule = double(alloc, n)?;
-    schedule.put_in_order();
+    let schedule = season(alloc, n)?;
     let text = solution_text(alloc, &schedule, None)?;
     Ok(Reply {
         status: Status::Yes,

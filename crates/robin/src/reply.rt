@@ -1,8 +1,8 @@
 //! What a run answers, and the answers that refuse.
 ghost use Rattle.std.specs.Prelude.{◌≡◌, IfOk};
-ghost use Rattle.robin.specs.Refusals as refusals;
+ghost use Rattle.robin.specs.Reply as refusals;
 ghost use Rattle.robin.specs.SeenReply.{answer_of};
-ghost use Rattle.robin.specs.declared.reply.Stop.TheVariants as stop;
+ghost use Rattle.robin.specs.declared.reply.NoValue.TheVariants.{Memory};
 
 use crate::status::Status;
 use robinx_read::{FormFault, FormKind};
@@ -15,18 +15,18 @@ pub struct Reply {
     pub text: Vec<u8>,
 }
 
-/// Why no later step is taken: this is the answer, or memory ran out.
+/// Why a step has no value, so that no later one is taken: the run is refused with this reply, or memory ran out.
 #[derive(Drop)]
-pub enum Stop {
-    Answered(Reply),
+pub enum NoValue {
+    Refused(Reply),
     Memory,
 }
 
-impl From<AllocError> for Stop {
-    ghost from_gives = { λ _ e. e ≡ stop.Memory };
+impl From<AllocError> for NoValue {
+    ghost from_gives = { λ _ e. e ≡ Memory };
 
-    fn from(_: AllocError) -> Stop {
-        Stop::Memory
+    fn from(_: AllocError) -> NoValue {
+        NoValue::Memory
     }
 }
 

@@ -1,6 +1,7 @@
 //! The texts of the report.
 ghost use Rattle.std.specs.Prelude.{◌≡◌, ◌++◌, length, IfOk, OnOk, string_bytes, sum};
-ghost use Rattle.robin.specs.Report.{head_text, structure_text, verdict_text, entries_text, constraint_front, constraint_text, constraints_text, lines_text};
+ghost use Rattle.robin.specs.Report.{head_text, structure_text, verdict_text, lines_text};
+ghost use Rattle.robin.specs.Report.{entries_text, constraint_front, constraint_text, constraints_text};
 
 use deviation::{Assessment, Vectors, total};
 use league::{Constraint, League, Wrongs};
@@ -19,7 +20,8 @@ fn head(alloc: Global, league: &League, games: usize) -> Result<String, AllocErr
 
 /// The line on the round robin.
 fn structure_line(alloc: Global, wrongs: Wrongs) -> Result<String, AllocError>
-    ensures { IfOk result (λ text. string_bytes text ≡ structure_text wrongs.pairs_wrong wrongs.cells_wrong wrongs.phases_wrong) }
+    ensures { IfOk result (λ text. string_bytes text
+        ≡ structure_text wrongs.pairs_wrong wrongs.cells_wrong wrongs.phases_wrong) }
 {
     let pairs = wrongs.pairs_wrong;
     let cells = wrongs.cells_wrong;
@@ -57,7 +59,8 @@ fn push_front(
     constraint: &Constraint,
     deviation: u128,
 ) -> Result<(), AllocError>
-    ensures { OnOk result (string_bytes text.new ≡ string_bytes text.old ++ constraint_front number constraint.now deviation) }
+    ensures { OnOk result (string_bytes text.new
+        ≡ string_bytes text.old ++ constraint_front number constraint.now deviation) }
 {
     let class = class_name(&constraint.class);
     let kind = type_word(constraint.hard);
@@ -76,7 +79,8 @@ fn push_constraint(
     constraint: &Constraint,
     entries: &[u64],
 ) -> Result<(), AllocError>
-    ensures { OnOk result (string_bytes text.new ≡ string_bytes text.old ++ constraint_text number constraint.now entries.now) }
+    ensures { OnOk result (string_bytes text.new
+        ≡ string_bytes text.old ++ constraint_text number constraint.now entries.now) }
 {
     push_front(text, number, constraint, total(entries))?;
     push_entries(text, entries)?;
@@ -91,7 +95,8 @@ fn push_constraints(
     vectors: &Vectors,
 ) -> Result<(), AllocError>
     requires { length vectors.now ≡ length constraints.now }
-    ensures { OnOk result (string_bytes text.new ≡ string_bytes text.old ++ constraints_text 1 constraints.now vectors.now) }
+    ensures { OnOk result (string_bytes text.new
+        ≡ string_bytes text.old ++ constraints_text 1 constraints.now vectors.now) }
 {
     for (k, constraint) in constraints.iter().enumerate() {
         push_constraint(text, k + 1, constraint, vectors.vector(k))?;
@@ -107,7 +112,9 @@ pub fn report(
     assessed: &Assessment,
 ) -> Result<String, AllocError>
     requires { length assessed.now.vectors ≡ length league.now.constraints }
-    ensures { IfOk result (λ text. string_bytes text ≡ lines_text league.now games assessed.now.structure assessed.now.vectors assessed.now.infeasibility assessed.now.objective assessed.now.feasible) }
+    ensures { IfOk result (λ text. string_bytes text
+        ≡ lines_text league.now games assessed.now.structure assessed.now.vectors
+        assessed.now.infeasibility assessed.now.objective assessed.now.feasible) }
 {
     let mut text = head(alloc, league, games)?;
     text.push_str(&structure_line(alloc, assessed.structure)?)?;

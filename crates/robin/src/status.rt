@@ -1,6 +1,6 @@
 //! How a run ends, and the exit status that says so.
 ghost use Rattle.std.specs.Prelude.{◌≡◌};
-ghost use Rattle.robin.specs.Refusals.{status_code};
+ghost use Rattle.robin.specs.Status.{status_code};
 
 /// How a run ended.
 #[derive(Clone, Copy, Debug, PartialEq, Eq)]

@@ -1,8 +1,8 @@
 //! The words of the command line.
-ghost use Rattle.std.specs.Prelude.{◌≡◌, [], ◌∷◌, option_map, IfSome};
+ghost use Rattle.std.specs.Prelude.{◌≡◌, [], ◌∷◌, map, string_bytes, option_map, IfSome};
 ghost use Rattle.robin.specs.Words.{reading, is_file_name, HasTeams, number_in, team_count_in};
 ghost use Rattle.robin.specs.Words.Command.{Circle};
-ghost use Rattle.robin.specs.SeenWords.{texts, command_of};
+ghost use Rattle.robin.specs.SeenWords.{command_of};
 
 use robin_io::decimal;
 
@@ -20,9 +20,10 @@ pub enum Words<'a> {
     },
 }
 
-/// What the arguments, without the program's name, ask for: None exactly where they are no command. It takes no memory.
+/// What the arguments, without the program's name, ask for: None exactly where they are no command. It takes no
+/// memory.
 pub fn read_words(words: &[String]) -> Option<Words<'_>>
-    ensures reading { option_map command_of result ≡ reading (texts words.now) }
+    ensures reading { option_map command_of result ≡ reading (map string_bytes words.now) }
     ensures teams { IfSome result (λ command. HasTeams (command_of command)) }
 {
     match words {

@@ -1,5 +1,5 @@
 //! The season of the circle method.
-use super::{FOUR_PHASED, NO_CONSTRAINTS, joined, validated, words_of};
+use super::{FOUR, HEAD, NO_MORE_CONSTRAINTS, joined, validated, words_of};
 use crate::run::run;
 use crate::status::Status;
 use robin_io::{MemShelf, MemSink};
@@ -7,7 +7,7 @@ use std::alloc::Global;
 use std::test::Fail;
 
 /// The season of four teams, in order.
-const FOUR_TEAMS: &str = r#"<?xml version="1.0" encoding="UTF-8"?>
+pub const FOUR_TEAMS: &str = r#"<?xml version="1.0" encoding="UTF-8"?>
 <Solution>
 <Games>
 <ScheduledMatch home="1" away="2" slot="0"/>
@@ -41,7 +41,7 @@ fn four_teams(rt: HostRuntime) -> Result<(), Fail> {
     let (status, text) = made(alloc, "4", MemSink::new(alloc, 4096, 16)?)?;
     assert_eq!(rt; status, Status::Yes);
     assert!(rt; text.as_slice() == FOUR_TEAMS.as_bytes());
-    let league = joined(alloc, &[FOUR_PHASED, NO_CONSTRAINTS])?;
+    let league = joined(alloc, &[HEAD, "P", FOUR, NO_MORE_CONSTRAINTS])?;
     let (status, _) = validated(alloc, league.as_bytes(), &text)?;
     assert_eq!(rt; status, Status::Yes);
     Ok(())

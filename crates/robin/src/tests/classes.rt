@@ -1,10 +1,10 @@
 //! A deviation vector of each class, on the season of four teams, through the whole program.
-use super::{ELEVEN, FOUR_PHASED, GAMES, LAST, NO_CONSTRAINTS, NO_MORE_GAMES, judged};
+use super::{ELEVEN, FOUR, GAMES, HEAD, LAST, NO_MORE_CONSTRAINTS, NO_MORE_GAMES, judged};
 use crate::status::Status;
 use std::test::Fail;
 
-/// Constraints of all nine classes. Team 0 is at home in the slots 2 to 4, team 1 in the slots 0, 1 and 5; they meet in the slots
-/// 2 and 5, the first time at team 0's. A window of seven slots is longer than the season.
+/// Constraints of all nine classes. Team 0 is at home in the slots 2 to 4, team 1 in the slots 0, 1 and 5; they meet
+/// in the slots 2 and 5, the first time at team 0's. A window of seven slots is longer than the season.
 const CONSTRAINTS: &str = r#"<CapacityConstraints>
 <CA1 teams="0" max="0" mode="H" slots="2;3" type="SOFT"/>
 <CA2 teams1="0" teams2="1;2" max="1" mode1="HA" slots="0;1;2" type="SOFT"/>
@@ -61,7 +61,7 @@ fn constraints_of_every_class(rt: HostRuntime) -> Result<(), Fail> {
     judged(
         &rt,
         rt.alloc(),
-        &[FOUR_PHASED, CONSTRAINTS, NO_CONSTRAINTS],
+        &[HEAD, "P", FOUR, CONSTRAINTS, NO_MORE_CONSTRAINTS],
         &[GAMES, ELEVEN, LAST, NO_MORE_GAMES],
         Status::Yes,
         REPORT,

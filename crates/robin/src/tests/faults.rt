@@ -1,21 +1,17 @@
 //! Words that are refused, and stores and sinks that fail.
-use super::{ELEVEN, FOUR_PHASED, GAMES, LAST, NO_CONSTRAINTS, NO_MORE_GAMES, joined, words_of};
+use super::examples::{CAPACITY, SHORT};
+use super::{
+    ELEVEN, FOUR, GAMES, HEAD, LAST, NO_MORE_CONSTRAINTS, NO_MORE_GAMES, joined, words_of,
+};
 use crate::run::run;
 use crate::status::Status;
 use robin_io::{MemShelf, MemSink};
 use std::alloc::Global;
 use std::test::Fail;
 
-/// The canonical season is judged by a league of four teams with a capacity that it misses.
-const HARD: &str =
-    "<CapacityConstraints>\n<CA1 teams=\"0\" min=\"0\" max=\"0\" mode=\"H\" slots=\"2;3\" type=\"HARD\" penalty=\"1\"/>\n</CapacityConstraints>\n";
-
-const REPORT: &str =
-    "teams 4\nslots 6\nmode P\ngames 12\nstructure pairs 0 cells 0 phases 0\nconstraint 1 CA1 HARD penalty 1 sum 2 entries 2\ninfeasibility 2\nobjective 0\nfeasible no\n";
-
-/// A store with the files of that case.
+/// A store with the files of `four-teams.xml` and its season.
 fn shelf_of_four(alloc: Global) -> Result<MemShelf, Fail> {
-    let league = joined(alloc, &[FOUR_PHASED, HARD, NO_CONSTRAINTS])?;
+    let league = joined(alloc, &[HEAD, "P", FOUR, CAPACITY, NO_MORE_CONSTRAINTS])?;
     let season = joined(alloc, &[GAMES, ELEVEN, LAST, NO_MORE_GAMES])?;
     let mut shelf = MemShelf::new(alloc);
     shelf.add("instance.xml", league.as_bytes())?;
@@ -80,7 +76,7 @@ fn a_store_that_fails_at_each_call(rt: HostRuntime) -> Result<(), Fail> {
         let mut out = MemSink::new(alloc, 4096, 16)?;
         let status = run(alloc, &words, &mut shelf, &mut out);
         if status == Status::No {
-            assert!(rt; out.written() == REPORT.as_bytes());
+            assert!(rt; out.written() == SHORT.as_bytes());
             break;
         }
         assert_eq!(rt; status, Status::ReadFault);
@@ -98,7 +94,7 @@ fn a_store_that_fails_at_each_call(rt: HostRuntime) -> Result<(), Fail> {
 fn a_sink_that_fails_at_each_put(rt: HostRuntime) -> Result<(), Fail> {
     let alloc = rt.alloc();
     let words = words_of(alloc, &["validate", "instance.xml", "solution.xml"])?;
-    let report = REPORT.as_bytes();
+    let report = SHORT.as_bytes();
     let mut written = 0usize;
     for call in 1..100 {
         let mut shelf = shelf_of_four(alloc)?;

@@ -1,13 +1,25 @@
 //! What the writers write.
+use super::{HEAD, NO_MORE_CONSTRAINTS, TWO, joined};
 use league::{Class, Constraint, Game, League, PairSet, Schedule, SlotId, SlotSet, TeamId};
 use robinx_write::{instance_text, solution_text};
 use std::test::Fail;
 
-const SEASON: &[u8] =
-    b"<?xml version=\"1.0\" encoding=\"UTF-8\"?>\n<Solution>\n<MetaData>\n<ObjectiveValue infeasibility=\"3\" objective=\"340282366920938463463374607431768211455\"/>\n</MetaData>\n<Games>\n<ScheduledMatch home=\"39\" away=\"0\" slot=\"77\"/>\n<ScheduledMatch home=\"1\" away=\"2\" slot=\"0\"/>\n</Games>\n</Solution>\n";
+const SEASON: &str = r#"<?xml version="1.0" encoding="UTF-8"?>
+<Solution>
+<MetaData>
+<ObjectiveValue infeasibility="3" objective="340282366920938463463374607431768211455"/>
+</MetaData>
+<Games>
+<ScheduledMatch home="39" away="0" slot="77"/>
+<ScheduledMatch home="1" away="2" slot="0"/>
+</Games>
+</Solution>
+"#;
 
-const LEAGUE: &[u8] =
-    b"<?xml version=\"1.0\" encoding=\"UTF-8\"?>\n<Instance>\n<Structure>\n<Format leagueIds=\"0\">\n<numberRoundRobin>2</numberRoundRobin>\n<compactness>C</compactness>\n<gameMode>NULL</gameMode>\n</Format>\n</Structure>\n<Resources>\n<Teams>\n<team id=\"0\"/>\n<team id=\"1\"/>\n</Teams>\n<Slots>\n<slot id=\"0\"/>\n<slot id=\"1\"/>\n</Slots>\n</Resources>\n<Constraints>\n<GameConstraints>\n<GA1 meetings=\"0,1;\" min=\"1\" max=\"4294967295\" slots=\"0;1\" type=\"HARD\" penalty=\"7\"/>\n</GameConstraints>\n</Constraints>\n</Instance>\n";
+const CONSTRAINT: &str = r#"<GameConstraints>
+<GA1 meetings="0,1;" min="1" max="4294967295" slots="0;1" type="HARD" penalty="7"/>
+</GameConstraints>
+"#;
 
 fn game(home: u16, away: u16, slot: u16) -> Game {
     Game {
@@ -23,7 +35,7 @@ fn writes_a_season_with_its_score(rt: HostRuntime) -> Result<(), Fail> {
     schedule.push(game(39, 0, 77))?;
     schedule.push(game(1, 2, 0))?;
     let text = solution_text(rt.alloc(), &schedule, Some((3, u128::MAX)))?;
-    assert_eq!(rt; text.as_slice(), SEASON);
+    assert!(rt; text.as_slice() == SEASON.as_bytes());
     Ok(())
 }
 
@@ -51,6 +63,7 @@ fn writes_a_league_with_a_constraint(rt: HostRuntime) -> Result<(), Fail> {
     assert!(rt; constraints.iter().all(|constraint| constraint.fits(2)));
     let league = League::new(2, false, constraints);
     let text = instance_text(alloc, &league)?;
-    assert_eq!(rt; text.as_slice(), LEAGUE);
+    let expected = joined(alloc, &[HEAD, "NULL", TWO, CONSTRAINT, NO_MORE_CONSTRAINTS])?;
+    assert!(rt; text.as_slice() == expected.as_bytes());
     Ok(())
 }

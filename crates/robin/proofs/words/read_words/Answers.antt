@@ -1,18 +1,17 @@
-use Rattle.std.proofs.Common.{◌≡◌, ◌<◌, ◌≤◌, List, String, [], ◌∷◌, length, None, refl, arith}
+use Rattle.std.proofs.Common.{◌≡◌, ◌<◌, ◌≤◌, List, String, [], ◌∷◌, length, map, string_bytes, None, refl, arith}
 use Rattle.std.proofs.lemmas.Bool.Decides.{nat_tests}
-use Rattle.robin.specs.SeenWords.{texts}
 use Rattle.robin.specs.Words.{reading}
 use Rattle.robin.proofs.words.read_words.Goals as goal
 use Rattle.robin.proofs.words.read_words.Goals.{in_default-via-then-words-lt2, in_default-via-else-words-lt2+else-words-lt3+else-words-lt4}
 
 -- fewer than two words are no command
-few : {Z : Type 0} (words : List (String Z)) → length words < 2 → None ≡ reading (texts words)
+few : {Z : Type 0} (words : List (String Z)) → length words < 2 → None ≡ reading (map string_bytes words)
 few [] h = refl
 few (a ∷ []) h = refl
 few (a ∷ b ∷ rest) h = absurd (omega arith)
 
 -- nor are more than three
-many : {Z : Type 0} (words : List (String Z)) → 4 ≤ length words → None ≡ reading (texts words)
+many : {Z : Type 0} (words : List (String Z)) → 4 ≤ length words → None ≡ reading (map string_bytes words)
 many [] h = absurd (omega arith)
 many (a ∷ []) h = absurd (omega arith)
 many (a ∷ b ∷ []) h = absurd (omega arith)

@@ -1,21 +1,14 @@
 -- Answers, and those that refuse.
 use Rattle.std.specs.Prelude.{ℕ, List, ◌++◌, codes, decimal}
 use Rattle.robinx_tags.specs.declared.fault.FormKind.{FormKind}
-use Rattle.robinx_tags.specs.declared.fault.FormKind.TheVariants.{BadTag, BadAttribute, RepeatedAttribute, TooManyAttributes, Truncated, BadNesting, MissingElement, RepeatedElement, MissingAttribute, BadNumber, NumberTooLarge, UnknownTeam, UnknownSlot, SameTeam, BadChoice, UnsupportedClass, WrongCounts, TooMany}
+use Rattle.robinx_tags.specs.declared.fault.FormKind.TheVariants.{BadTag, BadAttribute, RepeatedAttribute}
+use Rattle.robinx_tags.specs.declared.fault.FormKind.TheVariants.{TooManyAttributes, Truncated, BadNesting}
+use Rattle.robinx_tags.specs.declared.fault.FormKind.TheVariants.{MissingElement, RepeatedElement, MissingAttribute}
+use Rattle.robinx_tags.specs.declared.fault.FormKind.TheVariants.{BadNumber, NumberTooLarge, UnknownTeam, UnknownSlot}
+use Rattle.robinx_tags.specs.declared.fault.FormKind.TheVariants.{SameTeam, BadChoice, UnsupportedClass, WrongCounts}
+use Rattle.robinx_tags.specs.declared.fault.FormKind.TheVariants.{TooMany}
 use Rattle.robin.specs.declared.status.Status.{Status}
-use Rattle.robin.specs.declared.status.Status.TheVariants.{Yes, No, Words, File, Refuted, Spent, ReadFault, WriteFault, Memory}
-
--- the exit status
-abbrev pub status_code : Status → ℕ
-status_code Yes = 0
-status_code No = 1
-status_code Words = 2
-status_code File = 3
-status_code Refuted = 4
-status_code Spent = 5
-status_code ReadFault = 6
-status_code WriteFault = 7
-status_code Memory = 8
+use Rattle.robin.specs.declared.status.Status.TheVariants.{Words, File, ReadFault}
 
 -- how a run ends, and the text that it writes
 pub record Answer : Type 0 where
@@ -32,7 +25,10 @@ read_fault which = record { status = ReadFault; text = codes "read fault " ++ (w
 
 -- a file has more bytes than its limit
 abbrev pub too_long : List ℕ → ℕ → Answer
-too_long which limit = record { status = File; text = codes "refused " ++ (which ++ (codes " TooLong limit " ++ (decimal limit ++ codes "\n"))) }
+too_long which limit = record {
+  status = File;
+  text = codes "refused " ++ (which ++ (codes " TooLong limit " ++ (decimal limit ++ codes "\n")));
+}
 
 -- the name of a fault of form
 abbrev pub kind_word : FormKind → List ℕ
@@ -57,4 +53,9 @@ kind_word TooMany = codes "TooMany"
 
 -- a file has this fault of form on this line, and none before it
 abbrev pub malformed : List ℕ → FormKind → ℕ → Answer
-malformed which kind line = record { status = File; text = codes "refused " ++ (which ++ (codes " " ++ (kind_word kind ++ (codes " line " ++ (decimal line ++ codes "\n"))))) }
+malformed which kind line = record {
+  status = File;
+  text =
+      codes "refused "
+      ++ (which ++ (codes " " ++ (kind_word kind ++ (codes " line " ++ (decimal line ++ codes "\n")))));
+}
