@@ -134,7 +134,7 @@ demanding = record {
   n = 2;
   phased = true;
   constraints =
-      record { hard = true; penalty = 5; class = Ca1 (0 ∷ 1 ∷ []) 1 H (0 ∷ []) }
+      record { hard = true; penalty = 5; class = Ca1 (0 ∷ 1 ∷ []) 0 1 H (0 ∷ []) }
       ∷ record { hard = false; penalty = 7; class = Ga1 ((0, 1) ∷ []) 0 0 (0 ∷ []) }
       ∷ [];
 }

@@ -10,7 +10,8 @@ use Rattle.league.specs.Structure.{pairs_wrong, cells_wrong, phases_wrong}
 use Rattle.league.specs.declared.class.Constraint.{Constraint}
 use Rattle.league.specs.declared.game.Game.{Game}
 use Rattle.league.specs.declared.wrongs.Wrongs.{Wrongs}
-use Rattle.robinx_read.specs.Texts.{class_name, type_word}
+use Rattle.league.specs.Names.{name_of, name_text}
+use Rattle.robinx_read.specs.Texts.{type_word}
 
 -- the game mode
 abbrev pub mode_word : Bool → List ℕ
@@ -43,7 +44,7 @@ entries_text entries = flat_map (λ entry. codes " " ++ decimal entry) entries
 abbrev pub constraint_front : ℕ → Constraint → ℕ → List ℕ
 constraint_front number c deviation =
     codes "constraint " ++ (decimal number
-    ++ (codes " " ++ (codes (class_name c.class)
+    ++ (codes " " ++ (codes (name_text (name_of c.class))
     ++ (codes " " ++ (codes (type_word c.hard)
     ++ (codes " penalty " ++ (decimal c.penalty
     ++ (codes " sum " ++ (decimal deviation ++ codes " entries")))))))))

@@ -1,8 +1,9 @@
 -- What the words of the command line, without the program's name, ask for.
-use Rattle.std.specs.Prelude.{◌≡◌, ℕ, ◌%◌, ◌^◌, ◌≤◌, nat_le, nat_lt, ◌==◌, List, [], ◌∷◌, codes, bytes_eq}
+use Rattle.std.specs.Prelude.{ℕ, ◌^◌, nat_lt, ◌==◌, List, [], ◌∷◌, codes, bytes_eq}
 use Rattle.std.specs.Prelude.{Bool, true, not, ◌&&◌, if◌then◌else◌, Option, Some, None, option_and_then, option_map}
 use Rattle.std.specs.Str.{byte}
 use Rattle.std.specs.Str.Parse.{digits_value}
+use Rattle.league.specs.Instance.{IsTeamCount, is_team_count}
 use Rattle.robin_io.specs.Numbers.{is_number}
 
 -- a command with its arguments
@@ -27,11 +28,7 @@ number_in word =
     then Some (digits_value 10 word)
     else None
 
--- whether a league can have so many teams
-abbrev pub is_team_count : ℕ → Bool
-is_team_count n = (n % 2 == 0) && (nat_le 2 n && nat_le n 40)
-
--- the number of teams that a word writes: even, and from 2 to 40
+-- the number of teams that a word writes, where a league may have so many
 abbrev pub team_count_in : List ℕ → Option ℕ
 team_count_in word = option_and_then (λ n. if is_team_count n then Some n else None) (number_in word)
 
@@ -45,10 +42,10 @@ reading (command ∷ teams ∷ []) =
     if bytes_eq command (codes "circle") then option_map Circle (team_count_in teams) else None
 reading _ = None
 
--- the teams of a command, where it names a number of them: even, and from 2 to 40
+-- a league may have the teams of a command, where it names a number of them
 abbrev pub HasTeams : Command → Type 0
 HasTeams (Validate instance solution) = Unit {0}
-HasTeams (Circle n) = (n % 2 ≡ 0) × (2 ≤ n) × (n ≤ 40)
+HasTeams (Circle n) = IsTeamCount n
 
 -- whether the words need no file: they are refused, or ask for a schedule that is made
 abbrev pub NeedsNoFile : Option Command → Type 0

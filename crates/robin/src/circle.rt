@@ -1,6 +1,7 @@
 //! The season of the circle method.
-ghost use Rattle.std.specs.Prelude.{◌≡◌, ◌%◌, ◌≤◌, IfOk};
+ghost use Rattle.std.specs.Prelude.{◌≡◌, IfOk};
 ghost use Rattle.circle_method.specs.Circle.{double_games};
+ghost use Rattle.league.specs.Instance.{IsTeamCount};
 ghost use Rattle.robin.specs.Circle.{circle_season, in_order};
 ghost use Rattle.robin.specs.SeenReply.{answer_of};
 
@@ -13,9 +14,7 @@ use std::alloc::{AllocError, Global};
 
 /// The double round robin of the circle method, its games in order.
 fn season(alloc: Global, n: u16) -> Result<Schedule, AllocError>
-    requires even { n % 2 ≡ 0 }
-    requires at_least { 2 ≤ n }
-    requires at_most { n ≤ 40 }
+    requires teams { IsTeamCount n }
     ensures { IfOk result (λ games. games ≡ in_order (double_games n)) }
 {
     let mut schedule = double(alloc, n)?;
@@ -25,9 +24,7 @@ fn season(alloc: Global, n: u16) -> Result<Schedule, AllocError>
 
 /// Makes the season of the circle method, and its text.
 pub fn circle(alloc: Global, n: u16) -> Result<Reply, AllocError>
-    requires even { n % 2 ≡ 0 }
-    requires at_least { 2 ≤ n }
-    requires at_most { n ≤ 40 }
+    requires teams { IsTeamCount n }
     ensures { IfOk result (λ reply. answer_of reply ≡ circle_season n) }
 {
     let schedule = season(alloc, n)?;

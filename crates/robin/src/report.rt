@@ -5,7 +5,7 @@ ghost use Rattle.robin.specs.Report.{entries_text, constraint_front, constraint_
 
 use deviation::{Assessment, Vectors, total};
 use league::{Constraint, League, Wrongs};
-use robinx_write::{class_name, type_word};
+use robinx_write::type_word;
 use std::alloc::{AllocError, Global};
 
 /// The lines that say what was read.
@@ -13,7 +13,7 @@ fn head(alloc: Global, league: &League, games: usize) -> Result<String, AllocErr
     ensures { IfOk result (λ text. string_bytes text ≡ head_text league.now.n league.now.phased games) }
 {
     let n = league.n();
-    let slots = 2 * (n - 1);
+    let slots = league.slots();
     let mode = if league.phased() { "P" } else { "NULL" };
     format!(in alloc; "teams {n}\nslots {slots}\nmode {mode}\ngames {games}\n")
 }
@@ -62,7 +62,7 @@ fn push_front(
     ensures { OnOk result (string_bytes text.new
         ≡ string_bytes text.old ++ constraint_front number constraint.now deviation) }
 {
-    let class = class_name(&constraint.class);
+    let class = constraint.class.name().text();
     let kind = type_word(constraint.hard);
     let penalty = constraint.penalty;
     write!(

@@ -4,6 +4,7 @@ ghost use Rattle.robin.specs.Words.{reading, is_file_name, HasTeams, number_in, 
 ghost use Rattle.robin.specs.Words.Command.{Circle};
 ghost use Rattle.robin.specs.SeenWords.{command_of};
 
+use league::is_team_count;
 use robin_io::decimal;
 
 /// What the words ask for.
@@ -82,7 +83,7 @@ fn team_count(word: &str) -> Option<u16>
     ensures teams { IfSome result (λ n. HasTeams (Circle n)) }
 {
     let n = number(word)?;
-    if n % 2 == 0 && n >= 2 && n <= 40 {
+    if is_team_count(n) {
         Some(n as u16)
     } else {
         None

@@ -1,6 +1,10 @@
 //! A deviation vector of each class, on the season of four teams, through the whole program.
-use super::{ELEVEN, FOUR, GAMES, HEAD, LAST, NO_MORE_CONSTRAINTS, NO_MORE_GAMES, judged};
+use super::{
+    ELEVEN, FOUR, GAMES, HEAD, LAST, NO_MORE_CONSTRAINTS, NO_MORE_GAMES, joined, judged, validated,
+};
 use crate::status::Status;
+use std::alloc::Global;
+use std::process::Abort;
 use std::test::Fail;
 
 /// Constraints of all nine classes. Team 0 is at home in the slots 2 to 4, team 1 in the slots 0, 1 and 5; they meet
@@ -29,6 +33,14 @@ const CONSTRAINTS: &str = r#"<CapacityConstraints>
 <SE1 teams="0;1" min="3" type="SOFT"/>
 <SE1 teams="0;1" min="2" type="SOFT"/>
 </SeparationConstraints>
+<CapacityConstraints>
+<CA1 teams="0" min="4" max="6" mode="H" slots="0;1;2;3;4;5" type="SOFT"/>
+<CA1 teams="0" min="2" max="1" mode="H" slots="2;3;4" type="SOFT"/>
+<CA2 teams1="0" teams2="1;2" min="3" max="6" mode1="HA" slots="0;1;2" type="SOFT"/>
+<CA3 teams1="0" teams2="1;2;3" min="2" max="2" mode1="H" intp="3" type="SOFT"/>
+<CA3 teams1="0" teams2="1;2;3" min="5" max="9" mode1="H" intp="7" type="SOFT"/>
+<CA4 teams1="0;1" teams2="0;1" min="1" max="1" mode1="HA" mode2="EVERY" slots="0;1;2;3;4;5" type="SOFT"/>
+</CapacityConstraints>
 "#;
 
 /// What they deviate by.
@@ -51,10 +63,35 @@ constraint 11 FA2 SOFT penalty 1 sum 1 entries 1 0 0 0 0 0
 constraint 12 FA2 SOFT penalty 1 sum 7 entries 2 1 1 1 1 1
 constraint 13 SE1 SOFT penalty 1 sum 1 entries 1
 constraint 14 SE1 SOFT penalty 1 sum 0 entries 0
+constraint 15 CA1 SOFT penalty 1 sum 1 entries 1
+constraint 16 CA1 SOFT penalty 1 sum 2 entries 2
+constraint 17 CA2 SOFT penalty 1 sum 1 entries 1
+constraint 18 CA3 SOFT penalty 1 sum 2 entries 2
+constraint 19 CA3 SOFT penalty 1 sum 0 entries 0
+constraint 20 CA4 SOFT penalty 1 sum 4 entries 1 1 0 1 1 0
 infeasibility 0
-objective 22
+objective 32
 feasible yes
 "#;
+
+/// A hard CA1 of so many home games of team 0 in the season, in which it has three.
+fn home_games_demanded(rt: &impl Abort, alloc: Global, bound: &str, status: Status) -> Result<(), Fail> {
+    let instance = joined(alloc, &[HEAD, "P", FOUR, bound, NO_MORE_CONSTRAINTS])?;
+    let solution = joined(alloc, &[GAMES, ELEVEN, LAST, NO_MORE_GAMES])?;
+    let (ended, _) = validated(alloc, instance.as_bytes(), solution.as_bytes())?;
+    assert_eq!(rt; ended, status, "{bound}");
+    Ok(())
+}
+
+#[test]
+fn a_lower_bound_decides(rt: HostRuntime) -> Result<(), Fail> {
+    let three = r#"<CapacityConstraints><CA1 teams="0" min="3" max="6" mode="H" slots="0;1;2;3;4;5" type="HARD"/></CapacityConstraints>"#;
+    home_games_demanded(&rt, rt.alloc(), three, Status::Yes)?;
+    let four = r#"<CapacityConstraints><CA1 teams="0" min="4" max="6" mode="H" slots="0;1;2;3;4;5" type="HARD"/></CapacityConstraints>"#;
+    home_games_demanded(&rt, rt.alloc(), four, Status::No)?;
+    let empty = r#"<CapacityConstraints><CA1 teams="0" min="" max="6" mode="H" slots="" type="HARD"/></CapacityConstraints>"#;
+    home_games_demanded(&rt, rt.alloc(), empty, Status::File)
+}
 
 #[test]
 fn constraints_of_every_class(rt: HostRuntime) -> Result<(), Fail> {

@@ -9,7 +9,7 @@ use std::test::Fail;
 const NINE_CLASSES: &str = r#"<CapacityConstraints>
 <CA1 teams="0" min="0" max="0" mode="A" slots="2;3" type="HARD" penalty="10"/>
 <CA2 teams1="0" teams2="1;2" min="0" max="1" mode1="HA" mode2="GLOBAL" slots="0;1;2" type="SOFT" penalty="5"/>
-<CA3 teams1="0;1" teams2="0;1;2;3" min="0" max="2" mode1="H" mode2="SLOTS" intp="3" type="SOFT" penalty="2"/>
+<CA3 teams1="0;1" teams2="0;1;2;3" min="1" max="2" mode1="H" mode2="SLOTS" intp="3" type="SOFT" penalty="2"/>
 <CA4 teams1="0;1" teams2="2;3" min="0" max="2" mode1="HA" mode2="EVERY" slots="0;5" type="HARD" penalty="10"/>
 </CapacityConstraints>
 <GameConstraints>
@@ -35,7 +35,7 @@ games 12
 structure pairs 0 cells 0 phases 0
 constraint 1 CA1 HARD penalty 10 sum 0 entries 0
 constraint 2 CA2 SOFT penalty 5 sum 1 entries 1
-constraint 3 CA3 SOFT penalty 2 sum 1 entries 1 0
+constraint 3 CA3 SOFT penalty 2 sum 2 entries 1 1
 constraint 4 CA4 HARD penalty 10 sum 0 entries 0 0
 constraint 5 GA1 HARD penalty 7 sum 0 entries 0
 constraint 6 BR1 SOFT penalty 3 sum 4 entries 2 2 0
@@ -43,7 +43,7 @@ constraint 7 BR2 HARD penalty 10 sum 0 entries 0
 constraint 8 FA2 SOFT penalty 4 sum 1 entries 1 0 0 0 0 0
 constraint 9 SE1 HARD penalty 6 sum 0 entries 0 0 0 0 0 0
 infeasibility 0
-objective 23
+objective 25
 feasible yes
 "#;
 
