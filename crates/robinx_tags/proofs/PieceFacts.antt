@@ -1,8 +1,9 @@
 -- Worked examples, so that a wrong definition of the pieces does not check.
-use Rattle.std.proofs.Common.{◌≡◌, ℕ, ◌+◌, ◌/◌, ◌%◌, Bool, true, false, List, [], ◌∷◌, ◌++◌, Some, None, map, take, refl}
+use Rattle.std.proofs.Common.{◌≡◌, ℕ, ◌+◌, ◌/◌, ◌%◌, Bool, true, false, List, [], ◌∷◌, ◌++◌, Some, None, map, take, refl, arith}
 use Rattle.std.specs.List.{flat_map, list_all, range_with_len}
 use Rattle.std.specs.Prelude.{codes, ◌==◌}
 use Rattle.robinx_tags.specs.Tags.{Attribute, attributes_at, more_attributes, tag_attributes, value_of}
+use Rattle.robinx_tags.specs.Next.{TakesMemory}
 use Rattle.robinx_tags.specs.Pieces.{Piece, Pieces, Last, none_but, fault_after, onto, Ends, Faulty, pieces, pieces_from}
 use Rattle.robinx_tags.specs.declared.fault.FormKind.TheVariants.{BadTag, BadAttribute, RepeatedAttribute, TooManyAttributes, Truncated}
 use Rattle.robinx_tags.specs.declared.tag.TagKind.{TagKind}
@@ -183,6 +184,44 @@ pieces-65 = refl
 pub pieces-65_faulty : pieces (codes "<a" ++ flat_map (λ k. codes " " ++ name_of k ++ codes "=\"\"") (range_with_len 0 64) ++ codes " b>") ≡ fault_after 64 TooManyAttributes 1
 unfolding attributes_at more_attributes pieces_from
 pieces-65_faulty = refl
+
+-- memory is wanted from the ninth attribute on, in a tag and before a fault, and only by what comes next
+pub takes-9 : TakesMemory (pieces (many 9))
+unfolding attributes_at more_attributes pieces_from
+takes-9 = omega arith
+
+pub takes-8 : TakesMemory (pieces (many 8)) → ⊥
+unfolding attributes_at more_attributes pieces_from
+takes-8 = λ takes. absurd (omega (arith, takes))
+
+pub takes-later : TakesMemory (pieces (codes "x" ++ many 9)) → ⊥
+unfolding attributes_at more_attributes pieces_from
+takes-later = λ takes. absurd (omega (arith, takes))
+
+-- `a` with so many attributes before one without a value
+abbrev many_faulty : ℕ → List ℕ
+many_faulty n = codes "<a" ++ flat_map (λ k. codes " " ++ name_of k ++ codes "=\"\"") (range_with_len 0 n) ++ codes " b>"
+
+pub takes-faulty_9 : TakesMemory (pieces (many_faulty 9))
+unfolding attributes_at more_attributes pieces_from
+takes-faulty_9 = omega arith
+
+pub takes-faulty_8 : TakesMemory (pieces (many_faulty 8)) → ⊥
+unfolding attributes_at more_attributes pieces_from
+takes-faulty_8 = λ takes. absurd (omega (arith, takes))
+
+-- an end tag, a comment that isn't closed, and the file's end want none
+pub takes-end : TakesMemory (pieces (codes "</a b>")) → ⊥
+unfolding attributes_at more_attributes pieces_from
+takes-end = λ takes. absurd (omega (arith, takes))
+
+pub takes-comment : TakesMemory (pieces (codes "<!-- ")) → ⊥
+unfolding attributes_at more_attributes pieces_from
+takes-comment = λ takes. absurd (omega (arith, takes))
+
+pub takes-nothing : TakesMemory (pieces []) → ⊥
+unfolding attributes_at more_attributes pieces_from
+takes-nothing = λ takes. absurd (omega (arith, takes))
 
 -- a tag that is cut at any byte is cut on the line of its first
 pub pieces-cut_anywhere : list_all (λ k. is_cut 2 (pieces (take k (codes "\n<a b = '1'\n c=\"\" />")))) (range_with_len 2 18) ≡ true

@@ -6,7 +6,8 @@ use Rattle.robinx_tags.specs.Fronts.{Front, ◌>>=◌}
 use Rattle.robinx_tags.specs.Pieces.{Piece, Pieces, Found, Ends, none_but, fault_after, with_piece, go_on, line_after, after_text, piece_of, piece_at, attributes_in, attributes_here, opening_at, pieces_from}
 use Rattle.robinx_tags.specs.Seen.{Stops}
 use Rattle.robinx_tags.specs.Faults.{fault_on}
-use Rattle.robinx_tags.specs.Next.{TakesMemory, Steps, MovesOn, GivesNext}
+use Rattle.robinx_tags.specs.Next.{TakesMemory, GivesNext}
+use Rattle.robinx_tags.specs.Moves.{MovesOn, PassesOver}
 use Rattle.robinx_tags.specs.Tags.{Attribute, without_memory, end_tag, start_tag, tag_attributes}
 use Rattle.std.specs.Prelude.{IfOk, codes}
 use Rattle.robinx_tags.specs.declared.fault.FormKind.{FormKind}
@@ -126,10 +127,10 @@ pieces_from-memory line (b ∷ bytes) some h =
     takes_by line (b ∷ bytes) (piece_at line (b ∷ bytes)) (λ rest. pieces_from (line_after line b) (length bytes - length rest) bytes)
     (piece_of-all (opening_at (b ∷ bytes)).0 line (opening_at (b ∷ bytes)).1) h
 
-pub Steps-fault : (line : ℕ) (bytes : List ℕ) (stop : Stop) → 0 < length bytes → Stops stop (piece_at line bytes) → (stop ≡ stops.Mem → without_memory < attributes_here bytes)
-    → Steps (pieces_from line 0 bytes) (Err (fault_on line stop))
-Steps-fault line bytes (stops.Form kind) some is memory = rw (pieces_from-fault line bytes kind some is) refl
-Steps-fault line bytes stops.Mem some is memory = pieces_from-memory line bytes some (memory refl)
+pub PassesOver-fault : (line : ℕ) (bytes : List ℕ) (stop : Stop) → 0 < length bytes → Stops stop (piece_at line bytes) → (stop ≡ stops.Mem → without_memory < attributes_here bytes)
+    → PassesOver (pieces_from line 0 bytes) (Err (fault_on line stop))
+PassesOver-fault line bytes (stops.Form kind) some is memory = rw (pieces_from-fault line bytes kind some is) refl
+PassesOver-fault line bytes stops.Mem some is memory = pieces_from-memory line bytes some (memory refl)
 
 -- a way to the next piece is what the reader answers
 pub GivesNext-moved : (before left : Pieces) (tag : Option Tag) (line : ℕ) (rest : Bor (List ℕ)) → left ≡ before → MovesOn left (Ok (tag, line, rest)) → GivesNext before (Ok tag) (pieces_from line 0 rest.now)

@@ -8,3 +8,5 @@ pub mod SeenTag
 pub mod Next
 pub mod Faults
 pub mod Seen
+-- Kept inside (laws, and how fields are seen):
+pub mod Moves

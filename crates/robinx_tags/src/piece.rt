@@ -4,7 +4,7 @@ ghost use Rattle.robinx_tags.specs.Tags as tags;
 ghost use Rattle.robinx_tags.specs.Pieces as pieces;
 ghost use Rattle.robinx_tags.specs.Seen.{Finds, Gives};
 ghost use Rattle.robinx_tags.specs.SeenTag.{view_of};
-ghost use Rattle.robinx_tags.specs.Next.{MovesOn, Steps};
+ghost use Rattle.robinx_tags.specs.Moves.{MovesOn, PassesOver};
 
 use crate::bytes::{line_past, text_len};
 use crate::fault::Stop;
@@ -109,7 +109,7 @@ fn step<'a>(
 ) -> Result<(Option<Tag<'a>>, u32, &'a [u8]), TagFault>
     requires some { 0 < length bytes.now }
     requires fits { line + length bytes.now < 2 ^ 32 }
-    ensures pieces { Steps (pieces.pieces_from line 0 bytes.now) result }
+    ensures pieces { PassesOver (pieces.pieces_from line 0 bytes.now) result }
     ensures shorter { IfOk result (λ x. length x.2.now < length bytes.now) }
     ensures fits { IfOk result (λ x. x.1 + length x.2.now < 2 ^ 32) }
 {

@@ -1,5 +1,5 @@
 use Rattle.std.proofs.Common.{◌≡◌, ◌+◌, ◌-◌, length, Err, ap, arith}
-use Rattle.robinx_tags.proofs.PieceLemmas.{pieces_from-found, Steps-fault}
+use Rattle.robinx_tags.proofs.PieceLemmas.{pieces_from-found, PassesOver-fault}
 use Rattle.robinx_tags.proofs.piece.step.Goals as goal
 
 pub returns-in-Ok-clause-pieces : goal.returns-in-Ok-clause-pieces
@@ -12,4 +12,4 @@ returns-in-Ok-clause-pieces c =
 
 pub returns-in-Err-clause-pieces : goal.returns-in-Err-clause-pieces
 returns-in-Err-clause-pieces c =
-    rw c.on_line.ensures (Steps-fault c.args.line c.args.bytes.now c.in-Err.stop c.requires.some c.in-Err.ensures.piece (λ is. c.in-Err.ensures.memory (ap Err is)))
+    rw c.on_line.ensures (PassesOver-fault c.args.line c.args.bytes.now c.in-Err.stop c.requires.some c.in-Err.ensures.piece (λ is. c.in-Err.ensures.memory (ap Err is)))
