@@ -1,6 +1,5 @@
 -- The text of an instance, part by part.
-use Rattle.std.proofs.Common.{◌≡◌, ℕ, zero, suc, ◌+◌, ◌<◌, ◌≤◌, List, [], ◌∷◌, ◌++◌, length, get_or, take, drop, Option, Some, None, sym, ap, ◌∙◌, append_assoc, add-one, arith, subst}
-use Rattle.std.specs.Prelude.{codes}
+use Rattle.std.proofs.Common.{◌≡◌, ℕ, suc, ◌+◌, ◌<◌, ◌≤◌, List, [], ◌∷◌, ◌++◌, length, get_or, take, drop, Option, Some, sym, ap, ◌∙◌, append_assoc, add-one, arith, subst}
 use Rattle.std.specs.List.{All, flat_map, range_with_len}
 use Rattle.std.proofs.Math.Seq.{drop-cons}
 use Rattle.std.proofs.lemmas.List.{append-nil, take_all}
@@ -10,8 +9,7 @@ use Rattle.league.proofs.RangeLemmas.{range_with_len-more}
 use Rattle.league.specs.Names.{name_of}
 use Rattle.league.specs.declared.class.Constraint.{Constraint}
 use Rattle.robinx_form.specs.Elements as elements
-use Rattle.robinx_form.specs.Texts.{group_of, between, constraint_line, constraints_after, instance_text}
-use Rattle.robinx_form.specs.Texts.{head_text, season_text}
+use Rattle.robinx_form.specs.Texts.{group_of, between, constraint_line, constraints_after}
 
 -- the lines of a number more
 lines-push : (line : ℕ → List ℕ) (i : ℕ) → flat_map line (range_with_len 0 (i + 1)) ≡ flat_map line (range_with_len 0 i) ++ line i

@@ -1,12 +1,11 @@
 -- Tags at the front of bytes, as they are read.
-use Rattle.std.proofs.Common.{◌≡◌, ℕ, zero, suc, ◌≤◌, Bool, true, false, not, ◌&&◌, ◌||◌, ◌==◌, List, [], ◌∷◌, ◌++◌, length, map, Some, None, Ok, refl, sym, ap, ◌∙◌, append_assoc, arith}
+use Rattle.std.proofs.Common.{◌≡◌, ℕ, zero, suc, ◌≤◌, Bool, true, false, not, ◌&&◌, ◌||◌, ◌==◌, List, [], ◌∷◌, ◌++◌, length, Some, None, Ok, refl, sym, ap, ◌∙◌, append_assoc, arith}
 use Rattle.std.specs.List.{list_all, list_any, position_or_len, flat_map}
 use Rattle.std.proofs.lemmas.Bool.{false≢true, not-true}
 use Rattle.std.proofs.lemmas.List.{take_at, drop_at, append-nil}
 use Rattle.league.proofs.AscendingLemmas.{first_true, second_true}
 use Rattle.robinx_tags.specs.Bytes.{is_white, is_name_byte, is_name_start}
 use Rattle.robinx_tags.specs.Fronts.{until}
-use Rattle.robinx_tags.specs.Tags as tags
 use Rattle.robinx_tags.specs.Tags.{name_at, value_to, has_name, attribute_at, end_at, attributes_at, start_tag}
 use Rattle.robinx_tags.specs.declared.tag.TagKind.{TagKind}
 use Rattle.robinx_tags.specs.Tags.{Attribute}
