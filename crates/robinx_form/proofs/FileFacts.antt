@@ -3,7 +3,7 @@ use Rattle.std.proofs.Common.{◌≡◌, ℕ, true, false, List, [], ◌∷◌, 
 use Rattle.std.specs.Prelude.{Ok, Err, codes}
 use Rattle.robinx_tags.specs.Tags.{attributes_at}
 use Rattle.robinx_tags.specs.Pieces.{pieces, pieces_from}
-use Rattle.robinx_tags.specs.declared.fault.FormKind.TheVariants.{Truncated, WrongCounts, UnsupportedClass, BadChoice, UnknownSlot, SameTeam}
+use Rattle.robinx_tags.specs.declared.fault.FormKind.TheVariants.{Truncated, WrongCounts, UnsupportedClass, UnknownSlot, SameTeam}
 use Rattle.robinx_form.specs.Walk.{walk}
 use Rattle.robinx_form.specs.InstanceFile.{instance_of}
 use Rattle.robinx_form.specs.SolutionFile.{solution_of}

@@ -1,5 +1,5 @@
 -- The line of each class of constraints, and what it is read as.
-use Rattle.std.proofs.Common.{◌≡◌, ℕ, ◌≤◌, Bool, true, false, ◌&&◌, List, [], ◌∷◌, ◌++◌, length, map, decimal, Ok, refl, arith, lit<}
+use Rattle.std.proofs.Common.{◌≡◌, ℕ, ◌≤◌, Bool, true, false, ◌&&◌, List, [], length, decimal, Ok, refl, arith}
 use Rattle.std.specs.Prelude.{codes, nat_lt}
 use Rattle.std.proofs.lemmas.Bool.{false≢true}
 use Rattle.league.specs.Names.{name_of, name_text}
@@ -11,8 +11,6 @@ use Rattle.league.specs.declared.class.Side.{Side}
 use Rattle.league.specs.declared.class.Side.TheVariants.{H, A, Both}
 use Rattle.league.specs.declared.class.Span.{Span}
 use Rattle.league.specs.declared.class.Span.TheVariants.{Global, Every}
-use Rattle.robinx_tags.specs.Tags.{Attribute}
-use Rattle.robinx_form.specs.Attributes.{word, count}
 use Rattle.robinx_form.specs.Texts.{side_word, span_word, type_word, constraint_attributes}
 use Rattle.robinx_form.specs.Values.{above_zero}
 use Rattle.robinx_form.specs.Words as words

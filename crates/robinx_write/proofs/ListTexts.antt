@@ -1,15 +1,17 @@
 -- The texts of lists of teams, slots and meetings, and what they are read as.
-use Rattle.std.proofs.Common.{◌≡◌, ℕ, zero, suc, ◌+◌, ◌<◌, ◌≤◌, ◌^◌, Bool, true, false, not, ◌&&◌, ◌||◌, ◌==◌, cond, List, [], ◌∷◌, ◌++◌, length, length-append, get_or, take, drop, map, decimal, Ok, refl, sym, ap, ◌∙◌, append_assoc, arith}
+use Rattle.std.proofs.Common.{◌≡◌, ℕ, suc, ◌+◌, ◌<◌, ◌≤◌, ◌^◌, Bool, true, false, not, ◌&&◌, ◌||◌, ◌==◌, cond, List, [], ◌∷◌, ◌++◌, length, length-append, get_or, take, drop, map, decimal, Ok, refl, sym, ap, ◌∙◌, append_assoc, arith}
 use Rattle.std.specs.Prelude.{nat_lt}
 use Rattle.std.specs.List.{All, AllPairs, filter, flat_map, list_all, join_with_byte, count_by, before_first, after_first, position_or_len}
 use Rattle.std.specs.Ordering.{nat_cmp, is_lt}
 use Rattle.std.specs.declared.cmp.Ordering.{Ordering}
 use Rattle.std.specs.declared.cmp.Ordering.TheVariants.{Less}
-use Rattle.std.proofs.lemmas.Bool.{false≢true, ltb-true}
+use Rattle.std.specs.Cmp.Derive.{both_true}
+use Rattle.std.proofs.lemmas.Bool.{ltb-true, not-true}
 use Rattle.std.proofs.lemmas.Bool.Decides.{nat_tests}
 use Rattle.std.proofs.lemmas.Fmt.{decimal_nonempty}
 use Rattle.std.proofs.lemmas.List.{take_at, drop_at, append-nil}
-use Rattle.std.proofs.lemmas.List.Elements.{All-tail, All-head}
+use Rattle.std.proofs.lemmas.List.Elements.{All-tail, All-head, All-push}
+use Rattle.std.proofs.lemmas.List.Folds.{list_all-append}
 use Rattle.std.proofs.lemmas.List.Sums.{AllPass-from_list_all, sum_by-cons, sum_by-append}
 use Rattle.league.specs.Sets.{IsAscending, ascends, with_item, pair_cmp}
 use Rattle.league.specs.Counts.{slot_count}
@@ -40,14 +42,6 @@ first_below R x xs h = λ k d lt. h 0 (suc k) d (omega arith) (omega arith)
 
 later_pairs : {X : Type 0} (R : X → X → Type 0) (x : X) (xs : List X) → AllPairs R (x ∷ xs) → AllPairs R xs
 later_pairs R x xs h = λ i j d lt below. h (suc i) (suc j) d (omega arith) (omega arith)
-
-All-cons : {X : Type 0} (P : X → Type 0) (x : X) (xs : List X) → P x → All P xs → All P (x ∷ xs)
-All-cons P x xs here later zero d lt = here
-All-cons P x xs here later (suc k) d lt = later k d (omega arith)
-
-pub All-push : {X : Type 0} (P : X → Type 0) (xs : List X) (x : X) → All P xs → P x → All P (xs ++ x ∷ [])
-All-push P [] x all last = All-cons P x [] last all
-All-push P (y ∷ xs) x all last = All-cons P y (xs ++ x ∷ []) (All-head P y xs all) (All-push P xs x (All-tail P y xs all) last)
 
 module _ {X : Type 0} (cmp : X → X → Ordering) (behind : (x y : X) → cmp y x ≡ Less → is_lt (cmp x y) ≡ false) where
   abbrev Below : List X → X → Type 0
@@ -89,26 +83,22 @@ pair-behind p q h = pair-behind_by p.0 p.1 q.0 q.1 h
 abbrev pub is_whole : List ℕ → Bool
 is_whole bytes = list_all (λ b. not (b == 59)) bytes
 
-other_by : (t : Bool) → not t ≡ true → t ≡ false
-other_by true h = absurd (false≢true h)
-other_by false h = refl
-
 items_of-ended : (item text : List ℕ) → is_whole item ≡ true → items_of (item ++ 59 ∷ text) ≡ item ∷ items_of text
 items_of-ended [] text whole = refl
 items_of-ended (b ∷ item) text whole =
     let both = and_parts (not (b == 59)) (is_whole item) whole in
-    let other : (b == 59) ≡ false = other_by (b == 59) both.0 in
+    let other : (b == 59) ≡ false = not-true (b == 59) both.0 in
     let later : items_of (item ++ 59 ∷ text) ≡ item ∷ items_of text = items_of-ended item text both.1 in
     rw (other, later) refl
 
 items_of-last : (item : List ℕ) → 0 < length item → is_whole item ≡ true → items_of item ≡ item ∷ []
 items_of-last [] some whole = absurd (omega arith)
 items_of-last (b ∷ []) some whole =
-    let other : (b == 59) ≡ false = other_by (b == 59) (and_parts (not (b == 59)) true whole).0 in
+    let other : (b == 59) ≡ false = not-true (b == 59) (and_parts (not (b == 59)) true whole).0 in
     rw other refl
 items_of-last (b ∷ c ∷ item) some whole =
     let both = and_parts (not (b == 59)) (is_whole (c ∷ item)) whole in
-    let other : (b == 59) ≡ false = other_by (b == 59) both.0 in
+    let other : (b == 59) ≡ false = not-true (b == 59) both.0 in
     let later : items_of (c ∷ item) ≡ (c ∷ item) ∷ [] = items_of-last (c ∷ item) (omega arith) both.1 in
     ap (λ (t : Bool). cond t ([] ∷ items_of (c ∷ item)) (onto_item b (items_of (c ∷ item)))) other ∙ ap (onto_item b) later
 
@@ -162,11 +152,7 @@ slots-joined n ids size fit =
 -- ---- meetings
 
 all-append : (p : ℕ → Bool) (xs ys : List ℕ) → list_all p xs ≡ true → list_all p ys ≡ true → list_all p (xs ++ ys) ≡ true
-all-append p [] ys first second = second
-all-append p (x ∷ xs) ys first second =
-    let both = and_parts (p x) (list_all p xs) first in
-    let here : p x ≡ true = both.0 in
-    rw here (all-append p xs ys both.1 second)
+all-append p xs ys first second = list_all-append p xs ys ∙ both_true first second
 
 -- a meeting without the `;` after it
 abbrev item_of : ℕ × ℕ → List ℕ
@@ -192,7 +178,7 @@ count_none : (p : ℕ → Bool) (xs : List ℕ) → list_all (λ b. not (p b)) x
 count_none p [] none = refl
 count_none p (x ∷ xs) none =
     let both = and_parts (not (p x)) (list_all (λ b. not (p b)) xs) none in
-    let here : p x ≡ false = other_by (p x) both.0 in
+    let here : p x ≡ false = not-true (p x) both.0 in
     let later : count_by p xs ≡ 0 = count_none p xs both.1 in
     sum_by-cons (λ b. cond (p b) 1 0) x xs ∙ ap (λ (t : Bool). cond t 1 0 + count_by p xs) here ∙ ap (λ (k : ℕ). 0 + k) later
 

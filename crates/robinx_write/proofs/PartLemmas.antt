@@ -1,31 +1,21 @@
 -- The text of an instance, part by part.
-use Rattle.std.proofs.Common.{◌≡◌, ℕ, zero, suc, ◌+◌, ◌<◌, ◌≤◌, List, [], ◌∷◌, ◌++◌, length, get_or, take, drop, Option, Some, None, sym, ap, ◌∙◌, append_assoc, add-one, arith}
-use Rattle.std.specs.Prelude.{codes}
+use Rattle.std.proofs.Common.{◌≡◌, ℕ, suc, ◌+◌, ◌<◌, ◌≤◌, List, [], ◌∷◌, ◌++◌, length, get_or, take, drop, Option, Some, sym, ap, ◌∙◌, append_assoc, add-one, arith, subst}
 use Rattle.std.specs.List.{All, flat_map, range_with_len}
 use Rattle.std.proofs.Math.Seq.{drop-cons}
-use Rattle.std.proofs.lemmas.List.{append-nil, take_more, take_all}
+use Rattle.std.proofs.lemmas.List.{append-nil, take_all}
+use Rattle.std.proofs.lemmas.List.Elements.{All-more}
 use Rattle.std.proofs.lemmas.List.Concat.{flat_map-append}
-use Rattle.league.specs.Instance.{Instance}
+use Rattle.league.proofs.RangeLemmas.{range_with_len-more}
 use Rattle.league.specs.Names.{name_of}
 use Rattle.league.specs.declared.class.Constraint.{Constraint}
 use Rattle.robinx_form.specs.Elements as elements
-use Rattle.robinx_form.specs.Texts.{group_of, between, constraint_line, constraints_after, instance_text}
-use Rattle.robinx_form.specs.Texts.{head_text, season_text}
-use Rattle.robinx_write.proofs.ListTexts.{All-push}
+use Rattle.robinx_form.specs.Texts.{group_of, between, constraint_line, constraints_after}
 
--- one number more
-range-push : (a n : ℕ) → range_with_len a (suc n) ≡ range_with_len a n ++ (a + n) ∷ []
-range-push a zero = let same : a ≡ a + 0 = omega arith in ap (λ (x : ℕ). x ∷ []) same
-range-push a (suc n) =
-    let same : (a + 1) + n ≡ a + suc n = omega arith in
-    ap (λ (l : List ℕ). a ∷ l) (range-push (a + 1) n ∙ ap (λ (x : ℕ). range_with_len (a + 1) n ++ x ∷ []) same)
-
+-- the lines of a number more
 lines-push : (line : ℕ → List ℕ) (i : ℕ) → flat_map line (range_with_len 0 (i + 1)) ≡ flat_map line (range_with_len 0 i) ++ line i
 lines-push line i =
-    let more : i + 1 ≡ suc i = omega arith in
     let here : 0 + i ≡ i = omega arith in
-    ap (λ (k : ℕ). flat_map line (range_with_len 0 k)) more
-    ∙ ap (λ (l : List ℕ). flat_map line l) (range-push 0 i ∙ ap (λ (x : ℕ). range_with_len 0 i ++ x ∷ []) here)
+    ap (λ (l : List ℕ). flat_map line l) (range_with_len-more 0 i ∙ ap (λ (x : ℕ). range_with_len 0 i ++ x ∷ []) here)
     ∙ flat_map-append line (range_with_len 0 i) (i ∷ [])
     ∙ ap (λ (l : List ℕ). flat_map line (range_with_len 0 i) ++ l) (append-nil (line i))
 
@@ -51,9 +41,7 @@ constraint_added constraints k c group next old middle new whole within is named
 
 -- what holds of those so far and of the next, and in the end of all
 pub All-take_more : {X : Type 0} (P : X → Type 0) (xs : List X) (k : ℕ) (x : X) → k < length xs → get_or xs k x ≡ x → All P (take k xs) → P x → All P (take (k + 1) xs)
-All-take_more {X} P xs k x within is so_far here =
-    let more : take (k + 1) xs ≡ take k xs ++ x ∷ [] = take_more xs k x within ∙ ap (λ (y : X). take k xs ++ y ∷ []) is in
-    rw more (All-push P (take k xs) x so_far here)
+All-take_more P xs k x within is so_far here = All-more P xs k x within so_far (subst P (sym is) here)
 
 pub All-whole : {X : Type 0} (P : X → Type 0) (xs : List X) (k : ℕ) → length xs ≤ k → All P (take k xs) → All P xs
 All-whole P xs k past so_far = let all : take k xs ≡ xs = take_all k xs past in rw all at so_far

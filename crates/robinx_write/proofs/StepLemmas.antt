@@ -1,13 +1,12 @@
 -- The pieces of a text that is known from its front on, and the walk over them.
-use Rattle.std.proofs.Common.{◌≡◌, ℕ, ◌+◌, ◌<◌, ◌≤◌, true, false, not, ◌==◌, List, [], ◌∷◌, ◌++◌, length, length-append, drop, map, Option, Some, None, Ok, refl, ap, ◌∙◌, append_assoc, arith}
+use Rattle.std.proofs.Common.{◌≡◌, ℕ, ◌+◌, ◌<◌, ◌≤◌, true, false, not, ◌==◌, List, [], ◌∷◌, ◌++◌, length, length-append, drop, Option, Some, None, Ok, refl, ap, ◌∙◌, append_assoc, arith}
 use Rattle.std.specs.Prelude.{Result}
 use Rattle.std.specs.List.{list_all, flat_map}
 use Rattle.std.proofs.lemmas.Bool.{false≢true}
 use Rattle.std.proofs.lemmas.List.{take_at, drop_at}
 use Rattle.robinx_tags.specs.Bytes.{is_name_byte}
 use Rattle.robinx_tags.specs.Fronts.{◌>>=◌, until}
-use Rattle.robinx_tags.specs.Tags as tags
-use Rattle.robinx_tags.specs.Tags.{end_at, name_at, start_tag}
+use Rattle.robinx_tags.specs.Tags.{end_at}
 use Rattle.robinx_tags.specs.Pieces.{Piece, Pieces, Found, with_piece, onto, piece_at, pieces_from}
 use Rattle.robinx_tags.specs.declared.tag.TagKind.{TagKind}
 use Rattle.robinx_tags.specs.declared.tag.TagKind.TheVariants.{Start, End, Empty, Text}

@@ -1,19 +1,19 @@
 -- Tags at the front of bytes, as they are read.
-use Rattle.std.proofs.Common.{◌≡◌, ℕ, zero, suc, ◌≤◌, Bool, true, false, not, ◌&&◌, ◌||◌, ◌==◌, List, [], ◌∷◌, ◌++◌, length, map, Some, None, Ok, refl, sym, ap, ◌∙◌, append_assoc, arith}
+use Rattle.std.proofs.Common.{◌≡◌, ℕ, zero, suc, ◌≤◌, Bool, true, false, not, ◌&&◌, ◌||◌, ◌==◌, List, [], ◌∷◌, ◌++◌, length, Some, None, Ok, refl, sym, ap, ◌∙◌, append_assoc, arith}
 use Rattle.std.specs.List.{list_all, list_any, position_or_len, flat_map}
-use Rattle.std.proofs.lemmas.Bool.{false≢true}
+use Rattle.std.proofs.lemmas.Bool.{false≢true, not-true}
 use Rattle.std.proofs.lemmas.List.{take_at, drop_at, append-nil}
+use Rattle.league.proofs.AscendingLemmas.{first_true, second_true}
 use Rattle.robinx_tags.specs.Bytes.{is_white, is_name_byte, is_name_start}
 use Rattle.robinx_tags.specs.Fronts.{until}
-use Rattle.robinx_tags.specs.Tags as tags
 use Rattle.robinx_tags.specs.Tags.{name_at, value_to, has_name, attribute_at, end_at, attributes_at, start_tag}
 use Rattle.robinx_tags.specs.declared.tag.TagKind.{TagKind}
 use Rattle.robinx_tags.specs.Tags.{Attribute}
 use Rattle.robinx_form.specs.Attributes.{attribute_text}
 
+-- both parts of a test that passes
 pub and_parts : (a b : Bool) → (a && b) ≡ true → (a ≡ true) × (b ≡ true)
-and_parts true b h = (refl, h)
-and_parts false b h = absurd (false≢true h)
+and_parts a b h = (first_true a b h, second_true a b h)
 
 -- ---- up to the first byte that passes
 
@@ -77,10 +77,6 @@ attribute_at-plain earlier a tail plain new value =
 
 -- ---- where an attribute begins, or a tag ends
 
-not_true : (b : Bool) → not b ≡ true → b ≡ false
-not_true true h = absurd (false≢true h)
-not_true false h = refl
-
 -- what is known of the first byte of a name
 pub record IsPlainStart (b : ℕ) : Type 0 where
   pub start : is_name_start b ≡ true
@@ -102,12 +98,12 @@ plain_start b name plain =
     let bang = and_parts (not (33 == b)) _ end.1 in
     record {
       start = start.0;
-      ink = not_true (is_white b) ink.0;
-      close = not_true (b == 62) close.0;
-      slash = not_true (b == 47) slash.0;
-      end = not_true (47 == b) end.0;
-      bang = not_true (33 == b) bang.0;
-      question = not_true (63 == b) bang.1;
+      ink = not-true (is_white b) ink.0;
+      close = not-true (b == 62) close.0;
+      slash = not-true (b == 47) slash.0;
+      end = not-true (47 == b) end.0;
+      bang = not-true (33 == b) bang.0;
+      question = not-true (63 == b) bang.1;
     }
 
 end_at-begins : (name : List ℕ) (tail : List ℕ) → is_plain_name name ≡ true → end_at (32 ∷ (name ++ tail)) ≡ Ok (None, name ++ tail)

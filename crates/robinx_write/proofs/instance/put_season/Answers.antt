@@ -1,5 +1,4 @@
 use Rattle.std.proofs.Common.{◌++◌, ℕ, ap, ◌∙◌}
-use Rattle.std.specs.Prelude.{codes}
 use Rattle.std.specs.List.{flat_map, range_with_len}
 use Rattle.robinx_form.specs.Texts.{slot_line}
 use Rattle.robinx_write.proofs.TextLemmas.{four_pieces}
