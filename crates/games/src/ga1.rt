@@ -99,11 +99,8 @@ impl Entries for Ga1 {
 impl<L> Rule<L> for Ga1 {
     fn term(&self, _key: usize, cells: &Cells, steps: &mut Steps<L>) -> u64 {
         steps.tick();
-        outside(
-            self.min,
-            self.max,
-            self.meetings.games(cells, self.slots.numbers()),
-        )
+        let games = self.meetings.games(cells, self.slots.numbers());
+        outside(self.min, self.max, games)
     }
 }
 
