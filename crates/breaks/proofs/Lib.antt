@@ -1,3 +1,1 @@
 pub mod TermLemmas
-mod TouchFacts
-pub mod TouchLemmas

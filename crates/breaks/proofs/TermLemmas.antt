@@ -1,42 +1,40 @@
--- What the evaluation of a term adds up to, and what a copy of a list serves for.
-use Rattle.std.proofs.Common.{◌≡◌, ℕ, ◌-◌, ◌<◌, List, length, get_or, ap, sym, ◌∙◌, subst}
-use Rattle.std.specs.List.{sum_by}
-use Rattle.league.specs.Breaks.{breaks_at}
+-- What the evaluation of a term adds up to.
+use Rattle.std.proofs.Common.{◌≡◌, ℕ, ◌-◌, ◌<◌, zero, suc, List, get_or, arith, ap, sym, refl, ◌∙◌}
+use Rattle.std.proofs.lemmas.List.{get_or-map}
+use Rattle.league.specs.Breaks.{all_breaks, br1_entry, br2_entry, breaks_among}
 use Rattle.league.specs.Counts.{Counts}
 use Rattle.league.specs.Deviation.{entry_of}
-use Rattle.league.specs.declared.class.Side.{Side}
-use Rattle.league.specs.declared.class.Side.TheVariants.{Both}
-use Rattle.rule_core.proofs.RowLemmas.{read_at}
-use Rattle.breaks.specs.Br1Laws.{br1-by_team}
-use Rattle.breaks.specs.Br2Laws.{br2-only}
-use Rattle.breaks.specs.Classes.{class_of_br1, class_of_br2}
-use Rattle.breaks.specs.Scope.{AreInScope}
+use Rattle.rule_core.specs.Ready.{entry_count}
+use Rattle.breaks.specs.Br1 as br1
+use Rattle.breaks.specs.Br2 as br2
+use Rattle.breaks.specs.declared.br1.Br1.{Br1}
+use Rattle.breaks.specs.declared.br2.Br2.{Br2}
 
 -- the entry of a BR1, by the breaks of the team that was read
-pub br1_term : (n : ℕ) (m : Counts) (teams : List ℕ) (intp : ℕ) (side : Side) (slots : List ℕ) (key known team : ℕ) (listed : List ℕ) (breaks result : ℕ) → key < length teams → known ≡ n → team ≡ get_or teams key team → listed ≡ slots → breaks ≡ sum_by (λ s. breaks_at known m side team s) listed → result ≡ breaks - intp → result ≡ entry_of n m (class_of_br1 teams intp side slots) key
-br1_term n m teams intp side slots key known team listed breaks result inside same is_team are_slots summed less =
-    let is : team ≡ get_or teams key 0 = read_at teams key team inside is_team in
+pub br1_term : (r : Br1) (m : Counts) (key teams team : ℕ) (slots : List ℕ) (breaks bound result : ℕ) → key < entry_count (br1.class_of r) → teams ≡ r.n → team ≡ get_or r.scope.teams key 0 → slots ≡ r.scope.slots → breaks ≡ breaks_among teams m r.side slots team → bound ≡ r.intp → result ≡ breaks - bound → result ≡ entry_of r.n m (br1.class_of r) key
+br1_term r m key teams team slots breaks bound result inside same is_team are_slots summed is_bound less =
     less
-    ∙ ap (λ (b : ℕ). b - intp)
+    ∙ ap (λ (b : ℕ). breaks - b) is_bound
+    ∙ ap (λ (b : ℕ). b - r.intp)
     (summed
-    ∙ ap (λ (xs : List ℕ). sum_by (λ s. breaks_at known m side team s) xs) are_slots
-    ∙ ap (λ (k : ℕ). sum_by (λ s. breaks_at k m side team s) slots) same
-    ∙ ap (λ (i : ℕ). sum_by (λ s. breaks_at n m side i s) slots) is)
-    ∙ sym (br1-by_team n m teams intp side slots key inside)
+    ∙ ap (λ (xs : List ℕ). breaks_among teams m r.side xs team) are_slots
+    ∙ ap (λ (k : ℕ). breaks_among k m r.side r.scope.slots team) same
+    ∙ ap (breaks_among r.n m r.side r.scope.slots) is_team)
+    ∙ sym (get_or-map (br1_entry r.n m r.intp r.side r.scope.slots) r.scope.teams key 0 0 inside)
+
+-- the one entry
+only_entry : (r : Br2) (m : Counts) (key : ℕ) → key < entry_count (br2.class_of r) → br2_entry r.n m r.scope.teams r.intp r.scope.slots ≡ entry_of r.n m (br2.class_of r) key
+only_entry r m zero inside = refl
+only_entry r m (suc key) inside = absurd (omega arith)
 
 -- the entry of a BR2, by the breaks of all the teams
-pub br2_term : (n : ℕ) (m : Counts) (teams : List ℕ) (intp : ℕ) (slots : List ℕ) (key known : ℕ) (listed_teams listed_slots : List ℕ) (breaks result : ℕ) → key < 1 → known ≡ n → listed_teams ≡ teams → listed_slots ≡ slots → breaks ≡ sum_by (λ i. sum_by (λ s. breaks_at known m Both i s) listed_slots) listed_teams → result ≡ breaks - intp → result ≡ entry_of n m (class_of_br2 teams intp slots) key
-br2_term n m teams intp slots key known listed_teams listed_slots breaks result inside same are_teams are_slots summed less =
+pub br2_term : (r : Br2) (m : Counts) (key teams : ℕ) (listed slots : List ℕ) (breaks bound result : ℕ) → key < entry_count (br2.class_of r) → teams ≡ r.n → listed ≡ r.scope.teams → slots ≡ r.scope.slots → breaks ≡ all_breaks teams m listed slots → bound ≡ r.intp → result ≡ breaks - bound → result ≡ entry_of r.n m (br2.class_of r) key
+br2_term r m key teams listed slots breaks bound result inside same are_teams are_slots summed is_bound less =
     less
-    ∙ ap (λ (b : ℕ). b - intp)
+    ∙ ap (λ (b : ℕ). breaks - b) is_bound
+    ∙ ap (λ (b : ℕ). b - r.intp)
     (summed
-    ∙ ap (λ (xs : List ℕ). sum_by (λ i. sum_by (λ s. breaks_at known m Both i s) listed_slots) xs) are_teams
-    ∙ ap (λ (xs : List ℕ). sum_by (λ i. sum_by (λ s. breaks_at known m Both i s) xs) teams) are_slots
-    ∙ ap (λ (k : ℕ). sum_by (λ i. sum_by (λ s. breaks_at k m Both i s) slots) teams) same)
-    ∙ sym (br2-only n m teams intp slots key inside)
-
--- what is in scope with some lists is in scope with their copies
-pub AreInScope-copied : (n : ℕ) (teams copied_teams slots copied_slots team_places slot_places : List ℕ) → copied_teams ≡ teams → copied_slots ≡ slots → AreInScope n teams slots team_places slot_places → AreInScope n copied_teams copied_slots team_places slot_places
-AreInScope-copied n teams copied_teams slots copied_slots team_places slot_places same_teams same_slots ready =
-    subst (λ (xs : List ℕ). AreInScope n xs copied_slots team_places slot_places) (sym same_teams)
-    (subst (λ (ys : List ℕ). AreInScope n teams ys team_places slot_places) (sym same_slots) ready)
+    ∙ ap (λ (xs : List ℕ). all_breaks teams m xs slots) are_teams
+    ∙ ap (λ (xs : List ℕ). all_breaks teams m r.scope.teams xs) are_slots
+    ∙ ap (λ (k : ℕ). all_breaks k m r.scope.teams r.scope.slots) same)
+    ∙ only_entry r m key inside

@@ -1,12 +1,8 @@
--- Which keys of a BR2 a game touches.
-use Rattle.std.specs.Prelude.{ℕ, ◌+◌, ◌&&◌, ◌||◌, if◌then◌else◌, List, [], ◌∷◌}
-use Rattle.league.specs.Capacity.{is_in}
+-- The constraint of a BR2.
 use Rattle.league.specs.declared.class.Class.{Class}
-use Rattle.league.specs.declared.class.Class.TheVariants.{Br2}
-use Rattle.league.specs.declared.game.Game.{Game}
+use Rattle.league.specs.declared.class.Class.TheVariants as class
+use Rattle.breaks.specs.declared.br2.Br2.{Br2}
 
--- The key of the one entry, where the game's slot or the next is one of the slots, and a team of the game is one of the teams: a
--- break is of two slots in a row, and counts at the second.
-abbrev pub touches_of : Class → Game → List ℕ
-touches_of (Br2 teams intp slots) g = if (is_in g.slot.0 slots || is_in (g.slot.0 + 1) slots) && (is_in g.home.0 teams || is_in g.away.0 teams) then 0 ∷ [] else []
-touches_of other g = []
+-- the class that a rule was made of
+abbrev pub class_of : Br2 → Class
+class_of r = class.Br2 r.scope.teams r.intp r.scope.slots

@@ -1,29 +1,27 @@
 //! BR2: at most so many breaks of all of some teams together, at some slots.
-ghost use Rattle.std.specs.Prelude.{◌≡◌, ℕ, ◌<◌, ◌≤◌, length, IfOk, IsTrue};
+ghost use Rattle.std.specs.Prelude.{◌≡◌, ◌≤◌, IfOk, IsTrue};
+ghost use Rattle.league.specs.declared.class.Class.TheVariants as class;
+ghost use Rattle.rule_core.specs.Ready.{IsReady};
 
 use crate::scope::Scope;
 use crate::sums::all_breaks;
-use league::{Class, Constraint, Game};
+use league::{Class, ClassName, Constraint, Game};
 use rule_core::{Cells, Entries, Keys, Rule, Steps};
 use std::alloc::{AllocError, Global};
 
 /// The breaks of some teams together, at home and away, at some slots, beyond a bound: one entry.
 #[derive(Drop)]
 pub struct Br2 {
+    n: u16,
     scope: Scope,
     intp: u32,
+    ghost ready: { IsReady n (class.Br2 scope.teams intp scope.slots) },
 }
 
 impl Br2 {
-    ghost use Rattle.league.specs.Counts.{Counts, slot_count};
-    ghost use Rattle.league.specs.Deviation.{entry_of, vector_of};
-    ghost use Rattle.league.specs.Instance.{IsGame, class_fits};
-    ghost use Rattle.league.specs.Sets.{IsAscending};
-    ghost use Rattle.league.specs.declared.game.Game.{Game};
-    ghost use Rattle.std.specs.List.{All};
-    ghost use Rattle.std.specs.Ordering.{nat_cmp};
-    ghost use Rattle.breaks.specs.Br2.{touches_of};
-    ghost use Rattle.breaks.specs.Classes.{class_of_br2, is_br2};
+    ghost use Rattle.league.specs.Instance.{class_fits};
+    ghost use Rattle.league.specs.Names.{name_of};
+    ghost use Rattle.rule_core.specs.Rule.{IsRuleOf};
 
     /// The rule of a BR2 that fits a league of n teams, n at most 40.
     ///
@@ -31,66 +29,49 @@ impl Br2 {
     /// Only where memory runs out.
     pub fn new(alloc: Global, n: u16, constraint: &Constraint) -> Result<Br2, AllocError>
         requires at_most { n ≤ 40 }
-        requires class { IsTrue (is_br2 constraint.now.class) }
+        requires class { name_of constraint.now.class ≡ ClassName.Br2 }
         requires fits { IsTrue (class_fits n constraint.now.class) }
-        ensures teams { IfOk result (λ rule. ⟦<Br2 as Entries>⟧.team_count rule ≡ n) }
-        ensures reach { IfOk result (λ rule. ⟦<Br2 as Entries>⟧.reach_of rule ≡ 1) }
-        ensures terms { IfOk result (λ rule. (m : Counts) → ⟦<Br2 as Entries>⟧.term_count rule ≡ length (vector_of n m constraint.now.class)) }
-        ensures entries { IfOk result (λ rule. (k : ℕ) (m : Counts) → ⟦<Br2 as Entries>⟧.entry rule k m ≡ entry_of n m constraint.now.class k) }
-        ensures touches { IfOk result (λ rule. (g : Game) → IsGame n g → ⟦<Br2 as Entries>⟧.touches rule g ≡ touches_of constraint.now.class g) }
+        ensures rule { IfOk result (IsRuleOf ⟦<Br2 as Entries>⟧ n constraint.now.class) }
     {
         let Class::Br2 { teams, intp, slots } = &constraint.class else {
             unreachable!()
         };
-        Br2::of(alloc, n, teams.numbers(), *intp, slots.numbers())
-    }
-
-    /// The rule of these teams and slots.
-    fn of(alloc: Global, n: u16, teams: &[u16], intp: u32, slots: &[u16]) -> Result<Br2, AllocError>
-        requires at_most { n ≤ 40 }
-        requires teams_ascending { IsAscending nat_cmp teams.now }
-        requires teams_below { All (λ t. t < n) teams.now }
-        requires slots_ascending { IsAscending nat_cmp slots.now }
-        requires slots_below { All (λ s. s < slot_count n) slots.now }
-        ensures teams { IfOk result (λ rule. ⟦<Br2 as Entries>⟧.team_count rule ≡ n) }
-        ensures reach { IfOk result (λ rule. ⟦<Br2 as Entries>⟧.reach_of rule ≡ 1) }
-        ensures terms { IfOk result (λ rule. ⟦<Br2 as Entries>⟧.term_count rule ≡ 1) }
-        ensures entries { IfOk result (λ rule. (k : ℕ) (m : Counts) → ⟦<Br2 as Entries>⟧.entry rule k m ≡ entry_of n m (class_of_br2 teams.now intp slots.now) k) }
-        ensures touches { IfOk result (λ rule. (g : Game) → IsGame n g → ⟦<Br2 as Entries>⟧.touches rule g ≡ touches_of (class_of_br2 teams.now intp slots.now) g) }
-    {
         Ok(Br2 {
+            n,
             scope: Scope::of(alloc, n, teams, slots)?,
-            intp,
+            intp: *intp,
         })
     }
 }
 
 impl Entries for Br2 {
     ghost use Rattle.league.specs.Deviation.{entry_of};
-    ghost use Rattle.breaks.specs.Classes.{class_of_br2};
-    ghost use Rattle.breaks.specs.Scope.{touches_all};
-    ghost use Rattle.breaks.specs.Br2Laws.{touches_all-ascending, touches_all-below, touches_all-few, touches_all-frame};
+    ghost use Rattle.rule_core.specs.Ready.{entry_count};
+    ghost use Rattle.rule_core.specs.Touched.{most_touched, touched_keys};
+    ghost use Rattle.rule_core.proofs.FrameLemmas.{touched_keys-frame};
+    ghost use Rattle.rule_core.proofs.TouchedLemmas.{touched_keys-ascending, touched_keys-below, touched_keys-few};
+    ghost use Rattle.breaks.specs.Br2.{class_of};
 
-    ghost team_count = { λ r. r.scope.n };
+    ghost team_count = { λ r. r.n };
 
-    ghost term_count = { λ r. 1 };
+    ghost term_count = { λ r. entry_count (class_of r) };
 
-    ghost reach_of = { λ r. 1 };
+    ghost reach_of = { λ r. most_touched (class_of r) };
 
-    ghost entry = { λ r k m. entry_of r.scope.n m (class_of_br2 r.scope.teams.items r.intp r.scope.slots.items) k };
+    ghost entry = { λ r k m. entry_of r.n m (class_of r) k };
 
-    ghost touches = { λ r g. touches_all r.scope.team_places r.scope.slot_places g };
+    ghost touches = { λ r. touched_keys (class_of r) };
 
-    ghost few = { λ r g fits. touches_all-few r.scope.team_places r.scope.slot_places g };
+    ghost few = { λ r. touched_keys-few r.n (class_of r) r.ready };
 
-    ghost below = { λ r g fits. touches_all-below r.scope.team_places r.scope.slot_places g };
+    ghost below = { λ r g fits. touched_keys-below (class_of r) g };
 
-    ghost ascending = { λ r g fits. touches_all-ascending r.scope.team_places r.scope.slot_places g };
+    ghost ascending = { λ r g fits. touched_keys-ascending (class_of r) g };
 
-    ghost frame = { λ r g m k fits inside lacks. touches_all-frame r.scope.n r.scope.teams.items r.scope.slots.items r.scope.team_places r.scope.slot_places r.scope.ready r.intp g m k fits inside lacks };
+    ghost frame = { λ r. touched_keys-frame r.n (class_of r) };
 
     fn teams(&self) -> u16 {
-        self.scope.n
+        self.n
     }
 
     fn terms(&self) -> usize {
@@ -102,17 +83,20 @@ impl Entries for Br2 {
     }
 
     fn touched(&self, game: Game, keys: &mut Keys) {
-        if self.scope.can_break(game) && self.scope.has_team(game) {
+        if self.scope.can_break(game.slot) && self.scope.has_team(game) {
             keys.push(0);
         }
     }
 }
 
 impl<L> Rule<L> for Br2 {
-    fn term(&self, key: usize, cells: &Cells, steps: &mut Steps<L>) -> u64 {
-        let _one_entry = key;
+    fn term(&self, _key: usize, cells: &Cells, steps: &mut Steps<L>) -> u64 {
         steps.tick();
-        let breaks = all_breaks(cells, &self.scope.teams, &self.scope.slots);
-        breaks.saturating_sub(self.intp as u64)
+        let breaks = all_breaks(
+            cells,
+            self.scope.teams.numbers(),
+            self.scope.slots.numbers(),
+        );
+        breaks.saturating_sub(u64::from(self.intp))
     }
 }

@@ -1,7 +1,7 @@
 //! The break constraints: at most so many breaks, of each of some teams or of all of them together.
 //!
-//! Each class is made from a constraint, and is then a `Rule` for every ledger. Its entries are those of the constraint's
-//! deviation vector, as `league` defines it.
+//! Each class is made from a constraint, and is then a `Rule` for every ledger. Its entries are those of the
+//! constraint's deviation vector, as `league` defines it.
 #![tactic(auto)]
 
 mod br1;

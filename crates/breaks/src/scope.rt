@@ -1,26 +1,18 @@
 //! The teams and slots of a break constraint.
-ghost use Rattle.std.specs.Prelude.{◌≡◌, ◌<◌, ◌≤◌, ◌||◌, IfOk};
-ghost use Rattle.std.specs.List.{All};
-ghost use Rattle.std.specs.Ordering.{nat_cmp};
-ghost use Rattle.league.specs.Counts.{slot_count};
-ghost use Rattle.league.specs.Instance.{IsGame};
-ghost use Rattle.league.specs.Sets.{IsAscending};
-ghost use Rattle.rule_core.specs.Places.{stands};
-ghost use Rattle.breaks.specs.Scope.{AreInScope, can_break};
+ghost use Rattle.std.specs.Prelude.{◌≡◌, ◌<◌, ◌≤◌, ◌||◌, IfOk, IsTrue};
+ghost use Rattle.league.specs.Instance.{are_slots, are_teams};
+ghost use Rattle.league.specs.Sets.{is_in};
+ghost use Rattle.rule_core.specs.Touched.{can_break};
 
-use league::Game;
-use rule_core::Places;
+use league::{Game, SlotId, SlotSet, TeamSet};
+use rule_core::Listed;
 use std::alloc::{AllocError, Global};
 
 /// The teams whose breaks are counted, and the slots at which.
 #[derive(Drop)]
 pub(crate) struct Scope {
-    pub(crate) n: u16,
-    pub(crate) teams: Vec<u16>,
-    pub(crate) slots: Vec<u16>,
-    pub(crate) team_places: Places,
-    pub(crate) slot_places: Places,
-    ghost ready: { AreInScope n teams.items slots.items team_places slot_places },
+    pub(crate) teams: Listed,
+    pub(crate) slots: Listed,
 }
 
 impl Scope {
@@ -28,41 +20,33 @@ impl Scope {
     pub(crate) fn of(
         alloc: Global,
         n: u16,
-        teams: &[u16],
-        slots: &[u16],
+        teams: &TeamSet,
+        slots: &SlotSet,
     ) -> Result<Scope, AllocError>
         requires at_most { n ≤ 40 }
-        requires teams_ascending { IsAscending nat_cmp teams.now }
-        requires teams_below { All (λ t. t < n) teams.now }
-        requires slots_ascending { IsAscending nat_cmp slots.now }
-        requires slots_below { All (λ s. s < slot_count n) slots.now }
-        ensures n { IfOk result (λ scope. scope.n ≡ n) }
-        ensures teams { IfOk result (λ scope. scope.teams.items ≡ teams.now) }
-        ensures slots { IfOk result (λ scope. scope.slots.items ≡ slots.now) }
+        requires teams { IsTrue (are_teams n teams.now) }
+        requires slots { IsTrue (are_slots n slots.now) }
+        ensures teams { IfOk result (λ scope. scope.teams ≡ teams.now) }
+        ensures slots { IfOk result (λ scope. scope.slots ≡ slots.now) }
     {
         Ok(Scope {
-            n,
-            teams: Vec::from_slice(alloc, teams)?,
-            slots: Vec::from_slice(alloc, slots)?,
-            team_places: Places::of(teams),
-            slot_places: Places::of(slots),
+            teams: Listed::of_teams(alloc, n, teams)?,
+            slots: Listed::of_slots(alloc, n, slots)?,
         })
     }
 
-    /// Whether a game's slot or the next is one of the slots: a break is of two slots in a row, and counts at the second.
-    pub(crate) fn can_break(&self, game: Game) -> bool
-        requires { IsGame self.now.n game }
-        ensures { result ≡ can_break self.now.slot_places game.slot.0 }
+    /// Whether a game in a slot can change a break at one of the slots: at that slot, or at the next.
+    pub(crate) fn can_break(&self, slot: SlotId) -> bool
+        requires { slot.0 < 78 }
+        ensures { result ≡ can_break self.now.slots slot.0 }
     {
-        let slot = game.slot.0;
-        self.slot_places.has(slot) || (slot < 77 && self.slot_places.has(slot + 1))
+        self.slots.has(slot.0) || self.slots.has(slot.0 + 1)
     }
 
     /// Whether a team of a game is one of the teams.
     pub(crate) fn has_team(&self, game: Game) -> bool
-        requires { IsGame self.now.n game }
-        ensures { result ≡ (stands self.now.team_places game.home.0 || stands self.now.team_places game.away.0) }
+        ensures { result ≡ (is_in game.home.0 self.now.teams || is_in game.away.0 self.now.teams) }
     {
-        self.team_places.has(game.home.0) || self.team_places.has(game.away.0)
+        self.teams.has(game.home.0) || self.teams.has(game.away.0)
     }
 }

@@ -1,9 +1,9 @@
 //! Sums of breaks.
 ghost use Rattle.std.specs.Prelude.{◌≡◌, ◌<◌, ◌≤◌, length};
-ghost use Rattle.std.specs.List.{All, sum_by};
-ghost use Rattle.league.specs.Breaks.{breaks_at, is_away_break, is_home_break};
+ghost use Rattle.std.specs.List.{All};
+ghost use Rattle.league.specs.Breaks as breaks;
+ghost use Rattle.league.specs.Breaks.{breaks_among, breaks_at, is_away_break, is_home_break};
 ghost use Rattle.league.specs.Counts.{slot_count};
-ghost use Rattle.league.specs.declared.class.Side.TheVariants.{Both};
 ghost use Rattle.rule_core.specs.Table.{table_counts};
 
 use league::{Side, SlotId, TeamId};
@@ -12,29 +12,29 @@ use rule_core::Cells;
 /// The breaks of some teams on both sides, at some slots: for each team and slot at most four look-ups.
 pub(crate) fn all_breaks(cells: &Cells, teams: &[u16], slots: &[u16]) -> u64
     requires teams { All (λ t. t < cells.now.n) teams.now }
-    requires few_teams { length teams.now ≤ 40 }
+    requires few_teams { length teams.now ≤ 78 }
     requires slots { All (λ s. s < slot_count cells.now.n) slots.now }
     requires few_slots { length slots.now ≤ 78 }
-    ensures { result ≡ sum_by (λ i. sum_by (λ s. breaks_at cells.now.n (table_counts cells.now) Both i s) slots.now) teams.now }
+    ensures { result ≡ breaks.all_breaks cells.now.n (table_counts cells.now) teams.now slots.now }
 {
     let mut breaks: u64 = 0;
     for team in teams {
-        breaks += team_breaks(cells, Side::Both, *team, slots);
+        breaks += team_breaks(cells, Side::Both, TeamId(*team), slots);
     }
     breaks
 }
 
 /// The breaks of a team on a side, at some slots: for each slot at most two look-ups, or four for both sides.
-pub(crate) fn team_breaks(cells: &Cells, side: Side, team: u16, slots: &[u16]) -> u64
-    requires team { team < cells.now.n }
+pub(crate) fn team_breaks(cells: &Cells, side: Side, team: TeamId, slots: &[u16]) -> u64
+    requires team { team.0 < cells.now.n }
     requires slots { All (λ s. s < slot_count cells.now.n) slots.now }
     requires few { length slots.now ≤ 78 }
-    ensures breaks { result ≡ sum_by (λ s. breaks_at cells.now.n (table_counts cells.now) side team s) slots.now }
+    ensures breaks { result ≡ breaks_among cells.now.n (table_counts cells.now) side slots.now team.0 }
     ensures at_most { result ≤ 156 }
 {
     let mut breaks: u64 = 0;
     for slot in slots {
-        breaks += slot_breaks(cells, side, TeamId(team), SlotId(*slot));
+        breaks += slot_breaks(cells, side, team, SlotId(*slot));
     }
     breaks
 }

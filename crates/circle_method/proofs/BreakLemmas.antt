@@ -4,8 +4,10 @@ use Rattle.std.proofs.lemmas.Bool.{cases_eq, cases_lt, le-ltb, lt-ltb, ne_eqb}
 use Rattle.std.proofs.lemmas.Bool.Decides.{nat_tests}
 use Rattle.std.proofs.lemmas.List.Sums.{sum_by-cons}
 use Rattle.std.specs.List.{range_with_len, sum_by}
-use Rattle.league.specs.Breaks.{breaks_at}
+use Rattle.league.specs.Breaks.{breaks_among, breaks_at}
 use Rattle.league.specs.Counts.{Counts, counts_of, teams_of}
+use Rattle.league.specs.Instance.{IsTeamCount}
+use Rattle.league.specs.Structure.{first_half}
 use Rattle.league.specs.Venues.{away_games, home_games}
 use Rattle.league.specs.declared.class.Side.TheVariants.{Both}
 use Rattle.league.specs.declared.game.Game.{Game}
@@ -13,8 +15,7 @@ use Rattle.league.proofs.RangeLemmas.{one_if, sum_by-range_more}
 use Rattle.circle_method.specs.Breaks.{HasFewBreaks}
 use Rattle.circle_method.specs.Circle.{double_games}
 use Rattle.circle_method.proofs.CircleLemmas.{is_at_home, is_at_home-last, is_at_home-centre, is_at_home-before, is_at_home-after, odd-other}
-use Rattle.circle_method.proofs.GameLemmas.{IsSize}
-use Rattle.circle_method.proofs.OneTermLemmas.{sum_by-range_none, sum_by-range_one, sum_by-range_same, sum_by-range_equal}
+use Rattle.circle_method.proofs.OneTermLemmas.{sum_by-range_none, sum_by-range_one, sum_by-range_same, sum_by-range_equal, sum_by-range_late}
 use Rattle.circle_method.proofs.VenueLemmas.{home_games-first, away_games-first, home_games-second, away_games-second}
 
 -- whether a team is at the same venue twice
@@ -115,7 +116,7 @@ repeats-last m t s next =
     is_same-other (is_at_home m m t) (is_at_home m m s) (is_at_home-last m t ∙ even-other t s next ∙ ap not (sym (is_at_home-last m s)))
 
 -- the last team has no break, and the others have one in the slots after the first of a half, but for team n - 2
-team-last : (n i : ℕ) → IsSize n → i ≡ n - 1 → sum_by (λ s. one_if (repeats (n - 1) i (s - 1) s)) (range_with_len 1 (n - 2)) ≡ one_if (nat_lt i (n - 2))
+team-last : (n i : ℕ) → IsTeamCount n → i ≡ n - 1 → sum_by (λ s. one_if (repeats (n - 1) i (s - 1) s)) (range_with_len 1 (n - 2)) ≡ one_if (nat_lt i (n - 2))
 team-last n i size last =
     let some : 2 ≤ n = size.at_least in
     sum_by-range_none (λ s. one_if (repeats (n - 1) i (s - 1) s)) 1 (n - 2) (λ s low high. ap (λ (t : ℕ). one_if (repeats (n - 1) t (s - 1) s)) last ∙ ap one_if (repeats-last (n - 1) (s - 1) s (omega arith)))
@@ -127,7 +128,7 @@ same_number x = grind (arith, nat_tests)
 other_number : (x y : ℕ) → x ≢ y → one_if (x == y) ≡ 0
 other_number x y other = ap one_if (ne_eqb x y other)
 
-team-circle : (n i : ℕ) → IsSize n → i < n - 1 → sum_by (λ s. one_if (repeats (n - 1) i (s - 1) s)) (range_with_len 1 (n - 2)) ≡ one_if (nat_lt i (n - 2))
+team-circle : (n i : ℕ) → IsTeamCount n → i < n - 1 → sum_by (λ s. one_if (repeats (n - 1) i (s - 1) s)) (range_with_len 1 (n - 2)) ≡ one_if (nat_lt i (n - 2))
 team-circle n i size team =
     let some : 2 ≤ n = size.at_least in
     let even : n % 2 ≡ 0 = size.even in
@@ -146,7 +147,7 @@ team-circle n i size team =
           ∙ sym (ap one_if (le-ltb i (n - 2) late))
     ]
 
-team_repeats : (n i : ℕ) → IsSize n → i < n → sum_by (λ s. one_if (repeats (n - 1) i (s - 1) s)) (range_with_len 1 (n - 2)) ≡ one_if (nat_lt i (n - 2))
+team_repeats : (n i : ℕ) → IsTeamCount n → i < n → sum_by (λ s. one_if (repeats (n - 1) i (s - 1) s)) (range_with_len 1 (n - 2)) ≡ one_if (nat_lt i (n - 2))
 team_repeats n i size team =
     elim (cases_eq i (n - 1)) as (λ _. sum_by (λ s. one_if (repeats (n - 1) i (s - 1) s)) (range_with_len 1 (n - 2)) ≡ one_if (nat_lt i (n - 2))) [
       | inl last ↦ team-last n i size last
@@ -173,7 +174,7 @@ both_venues true false = refl
 both_venues false true = refl
 both_venues false false = refl
 
-breaks_at-first : (n i s : ℕ) → IsSize n → i < n → 0 < s → s < n - 1 → breaks_at n (counts_of (double_games n)) Both i s ≡ one_if (repeats (n - 1) i (s - 1) s)
+breaks_at-first : (n i s : ℕ) → IsTeamCount n → i < n → 0 < s → s < n - 1 → breaks_at n (counts_of (double_games n)) Both i s ≡ one_if (repeats (n - 1) i (s - 1) s)
 breaks_at-first n i s size team later slot =
     let m : Counts = counts_of (double_games n) in
     let a : Bool = is_at_home (n - 1) i (s - 1) in
@@ -186,7 +187,7 @@ breaks_at-first n i s size team later slot =
       both_venues a b,
     )
 
-breaks_at-second : (n i s : ℕ) → IsSize n → i < n → 0 < s → s < n - 1 → breaks_at n (counts_of (double_games n)) Both i (s + (n - 1)) ≡ one_if (repeats (n - 1) i (s - 1) s)
+breaks_at-second : (n i s : ℕ) → IsTeamCount n → i < n → 0 < s → s < n - 1 → breaks_at n (counts_of (double_games n)) Both i (s + (n - 1)) ≡ one_if (repeats (n - 1) i (s - 1) s)
 breaks_at-second n i s size team later slot =
     let m : Counts = counts_of (double_games n) in
     let a : Bool = is_at_home (n - 1) i (s - 1) in
@@ -212,13 +213,17 @@ sum_by-range_shift f g a b c (suc k) shift same =
     let rest : sum_by f (range_with_len (b + 1) k) ≡ sum_by g (range_with_len (a + 1) k) = sum_by-range_shift f g (a + 1) (b + 1) c k (omega arith) (λ x low high. same x (omega arith) (omega arith)) in
     omega (arith, sum_by-cons f b (range_with_len (b + 1) k), sum_by-cons g a (range_with_len (a + 1) k), here, rest, ap f shift)
 
-team-first : (n i : ℕ) → IsSize n → i < n → sum_by (λ s. breaks_at n (counts_of (double_games n)) Both i s) (range_with_len 1 (n - 2)) ≡ one_if (nat_lt i (n - 2))
+team-first : (n i : ℕ) → IsTeamCount n → i < n → breaks_among n (counts_of (double_games n)) Both (first_half n) i ≡ one_if (nat_lt i (n - 2))
 team-first n i size team =
     let some : 2 ≤ n = size.at_least in
-    sum_by-range_same (λ s. breaks_at n (counts_of (double_games n)) Both i s) (λ s. one_if (repeats (n - 1) i (s - 1) s)) 1 (n - 2) (λ s low high. breaks_at-first n i s size team (omega arith) (omega arith))
+    let breaks : ℕ → ℕ = λ s. breaks_at n (counts_of (double_games n)) Both i s in
+    let fewer : n - 1 - 1 ≡ n - 2 = omega arith in
+    sum_by-range_late breaks (n - 1) (omega arith) refl
+    ∙ ap (λ (k : ℕ). sum_by breaks (range_with_len 1 k)) fewer
+    ∙ sum_by-range_same (λ s. breaks_at n (counts_of (double_games n)) Both i s) (λ s. one_if (repeats (n - 1) i (s - 1) s)) 1 (n - 2) (λ s low high. breaks_at-first n i s size team (omega arith) (omega arith))
     ∙ team_repeats n i size team
 
-team-second : (n i : ℕ) → IsSize n → i < n → sum_by (λ s. breaks_at n (counts_of (double_games n)) Both i s) (range_with_len n (n - 2)) ≡ one_if (nat_lt i (n - 2))
+team-second : (n i : ℕ) → IsTeamCount n → i < n → breaks_among n (counts_of (double_games n)) Both (range_with_len n (n - 2)) i ≡ one_if (nat_lt i (n - 2))
 team-second n i size team =
     let some : 2 ≤ n = size.at_least in
     sum_by-range_shift (λ s. breaks_at n (counts_of (double_games n)) Both i s) (λ s. one_if (repeats (n - 1) i (s - 1) s)) 1 n (n - 1) (n - 2) (omega arith) (λ s low high. breaks_at-second n i s size team (omega arith) (omega arith))
@@ -236,16 +241,15 @@ teams_below n some =
     omega (arith, whole, sum_by-range_more f 0 (n - 2), sum_by-range_more f 0 (n - 2 + 1), front, one, two)
 
 -- the law of the breaks
-pub HasFewBreaks-double_games : (n : ℕ) → IsSize n → HasFewBreaks n (counts_of (double_games n))
+pub HasFewBreaks-double_games : (n : ℕ) → IsTeamCount n → HasFewBreaks n (counts_of (double_games n))
 HasFewBreaks-double_games n size =
-    let m : Counts = counts_of (double_games n) in
     record {
-      first = sum_by-range_same (λ i. sum_by (λ t. breaks_at n (counts_of (double_games n)) Both i t) (range_with_len 1 (n - 2))) (λ i. one_if (nat_lt i (n - 2))) 0 n (λ i low high. team-first n i size (omega arith)) ∙ teams_below n size.at_least;
-      second = sum_by-range_same (λ i. sum_by (λ t. breaks_at n (counts_of (double_games n)) Both i t) (range_with_len n (n - 2))) (λ i. one_if (nat_lt i (n - 2))) 0 n (λ i low high. team-second n i size (omega arith)) ∙ teams_below n size.at_least;
+      first = sum_by-range_same (breaks_among n (counts_of (double_games n)) Both (first_half n)) (λ i. one_if (nat_lt i (n - 2))) 0 n (λ i low high. team-first n i size (omega arith)) ∙ teams_below n size.at_least;
+      second = sum_by-range_same (breaks_among n (counts_of (double_games n)) Both (range_with_len n (n - 2))) (λ i. one_if (nat_lt i (n - 2))) 0 n (λ i low high. team-second n i size (omega arith)) ∙ teams_below n size.at_least;
     }
 
 -- the same of a list of games that is this one
-pub breaks_of : (n : ℕ) (games : List Game) → n % 2 ≡ 0 → 2 ≤ n → games ≡ double_games n → HasFewBreaks n (counts_of games)
-breaks_of n games even some is =
+pub breaks_of : (n : ℕ) (games : List Game) → IsTeamCount n → games ≡ double_games n → HasFewBreaks n (counts_of games)
+breaks_of n games size is =
     let P : List Game → Type 0 = λ xs. HasFewBreaks n (counts_of xs) in
-    subst P (sym is) (HasFewBreaks-double_games n (record { even = even; at_least = some }))
+    subst P (sym is) (HasFewBreaks-double_games n size)

@@ -4,7 +4,7 @@ use Rattle.std.proofs.lemmas.List.{flat_map_more, map-append, take_all, take_mor
 use Rattle.std.proofs.lemmas.List.Elements.{All-cons, All-append, All-map, All-weaker}
 use Rattle.std.proofs.lemmas.List.FromFn.{map-range_with_len_more}
 use Rattle.std.specs.List.{All, flat_map, range_with_len}
-use Rattle.league.specs.Instance.{IsGame}
+use Rattle.league.specs.Instance.{IsGame, IsTeamCount}
 use Rattle.league.specs.declared.game.Game.{Game}
 use Rattle.league.proofs.RangeLemmas.{range_with_len-more}
 use Rattle.circle_method.specs.Circle.{game_of, last_team_game, circle_game, slot_games, single_games, return_game, double_games, steps_on, steps_back}
@@ -33,11 +33,6 @@ single_games-more n k before after so_far is =
     ∙ ap (λ (x : ℕ). flat_map (slot_games n) (range_with_len 0 k ++ x ∷ [])) (sym (zero-add k))
     ∙ ap (flat_map (slot_games n)) (sym (range_with_len-more 0 k))
 
--- a number of teams for which there is a schedule
-pub record IsSize (n : ℕ) : Type 0 where
-  pub even : n % 2 ≡ 0
-  pub at_least : 2 ≤ n
-
 -- a game of the league in its first half
 pub record IsEarly (n : ℕ) (g : Game) : Type 0 where
   pub game : IsGame n g
@@ -47,7 +42,7 @@ IsEarly-game_of : (b : Bool) (n i j s : ℕ) → i < n → j < n → i ≢ j →
 IsEarly-game_of true n i j s first second differ early = record { game = record { home = first; away = second; differ = differ; slot = omega arith }; slot = early }
 IsEarly-game_of false n i j s first second differ early = record { game = record { home = second; away = first; differ = λ e. differ (sym e); slot = omega arith }; slot = early }
 
-IsEarly-circle_game : (n s k : ℕ) → IsSize n → s < n - 1 → 1 ≤ k → k < 1 + (n / 2 - 1) → IsEarly n (circle_game n s k)
+IsEarly-circle_game : (n s k : ℕ) → IsTeamCount n → s < n - 1 → 1 ≤ k → k < 1 + (n / 2 - 1) → IsEarly n (circle_game n s k)
 IsEarly-circle_game n s k size early some half =
     let few : k + k < n - 1 = (let even : n % 2 ≡ 0 = size.even in omega arith) in
     let r : AreReached (n - 1) s k (steps_on (n - 1) s k) (steps_back (n - 1) s k) = are_reached (n - 1) s k early (omega arith) in
@@ -55,14 +50,14 @@ IsEarly-circle_game n s k size early some half =
     let back : steps_back (n - 1) s k < n = (let below : steps_back (n - 1) s k < n - 1 = r.back_below in omega arith) in
     IsEarly-game_of (k % 2 == 1) n (steps_on (n - 1) s k) (steps_back (n - 1) s k) s on back (on_isnt_back (n - 1) s k early some few) early
 
-IsEarly-slot_games : (n s : ℕ) → IsSize n → s < n - 1 → All (IsEarly n) (slot_games n s)
+IsEarly-slot_games : (n s : ℕ) → IsTeamCount n → s < n - 1 → All (IsEarly n) (slot_games n s)
 IsEarly-slot_games n s size early =
     All-cons (IsEarly n) (last_team_game n s) (map (circle_game n s) (range_with_len 1 (n / 2 - 1)))
     (IsEarly-game_of (s % 2 == 0) n (n - 1) s s (omega arith) (omega arith) (λ e. omega arith) early)
     (All-map (IsEarly n) (circle_game n s) (range_with_len 1 (n / 2 - 1)) (All-range (λ k. IsEarly n (circle_game n s k)) 1 (n / 2 - 1) (λ k low high. IsEarly-circle_game n s k size early low high)))
 
 -- the games of the single round robin are of the first half
-pub IsEarly-single_games : (n : ℕ) → IsSize n → All (IsEarly n) (single_games n)
+pub IsEarly-single_games : (n : ℕ) → IsTeamCount n → All (IsEarly n) (single_games n)
 IsEarly-single_games n size =
     All-flat_map (IsEarly n) (slot_games n) (range_with_len 0 (n - 1)) (All-range (λ s. All (IsEarly n) (slot_games n s)) 0 (n - 1) (λ s low high. IsEarly-slot_games n s size (omega arith)))
 
@@ -72,7 +67,7 @@ IsGame-return_game n g early =
     record { home = early.game.away; away = early.game.home; differ = λ e. early.game.differ (sym e); slot = omega arith }
 
 -- each game fits the league
-pub IsGame-double_games : (n : ℕ) → IsSize n → All (IsGame n) (double_games n)
+pub IsGame-double_games : (n : ℕ) → IsTeamCount n → All (IsGame n) (double_games n)
 IsGame-double_games n size =
     All-append (IsGame n) (single_games n) (map (return_game n) (single_games n))
     (All-weaker (IsEarly n) (IsGame n) (λ g early. early.game) (single_games n) (IsEarly-single_games n size))
@@ -85,9 +80,8 @@ slice_get-front (y ∷ xs) ys zero x within read = cc
 slice_get-front (y ∷ xs) ys (suc k) x within read = slice_get-front xs ys k x (omega arith) read
 
 -- a list of games that is the first half with some more games: its k-th game
-pub early_read : (n k : ℕ) (games later : List Game) (g : Game) → n % 2 ≡ 0 → 2 ≤ n → games ≡ single_games n ++ later → k < length (single_games n) → slice_get games k ≡ Some g → g.slot.0 < n - 1
-early_read n k games later g even some is within read =
-    let size : IsSize n = record { even = even; at_least = some } in
+pub early_read : (n k : ℕ) (games later : List Game) (g : Game) → IsTeamCount n → games ≡ single_games n ++ later → k < length (single_games n) → slice_get games k ≡ Some g → g.slot.0 < n - 1
+early_read n k games later g size is within read =
     let same : get_or (single_games n) k g ≡ g = slice_get-front (single_games n) later k g within (ap (λ (xs : List Game). slice_get xs k) (sym is) ∙ read) in
     let P : Game → Type 0 = λ x. IsEarly n x in
     (let early : IsEarly n g = subst P same (IsEarly-single_games n size k g within) in early.slot)

@@ -4,14 +4,14 @@ use Rattle.std.proofs.lemmas.Bool.{and_from, and_left, and_right, cases_eq, case
 use Rattle.std.proofs.lemmas.Bool.Decides.{nat_tests}
 use Rattle.std.specs.List.{range_with_len, sum_by}
 use Rattle.league.specs.Counts.{counts_of, is_game, slot_count}
-use Rattle.league.specs.Instance.{IsGame}
+use Rattle.league.specs.Instance.{IsGame, IsTeamCount}
 use Rattle.league.specs.Meetings.{games_of}
 use Rattle.league.specs.declared.game.Game.{Game}
 use Rattle.league.proofs.RangeLemmas.{one_if}
 use Rattle.league.proofs.SumLemmas.{sum_by-add, sum_by-flat_map, sum_by-same}
 use Rattle.circle_method.specs.Circle.{game_of, last_team_game, circle_game, slot_games, single_games, return_game, double_games, steps_on, steps_back}
 use Rattle.circle_method.proofs.CircleLemmas.{AreReached, are_reached, AreMet, meeting, AreMet-slot, AreMet-step}
-use Rattle.circle_method.proofs.GameLemmas.{IsSize, IsEarly, IsEarly-single_games, IsGame-double_games}
+use Rattle.circle_method.proofs.GameLemmas.{IsEarly, IsEarly-single_games, IsGame-double_games}
 use Rattle.circle_method.proofs.OneTermLemmas.{sum_by-all_none, sum_by-all_same, sum_by-range_none, sum_by-range_one, sum_by-swap}
 use Rattle.circle_method.proofs.VenueLemmas.{circle_none, circle_one, sum_by-double_games, sum_by-slot_games}
 
@@ -51,26 +51,26 @@ abbrev between_in : ℕ → ℕ → ℕ → ℕ → ℕ
 between_in n i j s = sum_by (is_between i j) (slot_games n s)
 
 -- the last team has no game in the circle
-last-none : (n i j s : ℕ) → IsSize n → j ≡ n - 1 → s < n - 1 → sum_by (λ x. is_between i j (circle_game n s x)) (range_with_len 1 (n / 2 - 1)) ≡ 0
+last-none : (n i j s : ℕ) → IsTeamCount n → j ≡ n - 1 → s < n - 1 → sum_by (λ x. is_between i j (circle_game n s x)) (range_with_len 1 (n / 2 - 1)) ≡ 0
 last-none n i j s size last slot =
     circle_none (is_between i j) n s size (λ x some half.
     let r : AreReached (n - 1) s x (steps_on (n - 1) s x) (steps_back (n - 1) s x) = are_reached (n - 1) s x slot (omega arith) in
     between-none (x % 2 == 1) (steps_on (n - 1) s x) (steps_back (n - 1) s x) s i j (λ e f. omega (arith, r.back_below)) (λ e f. omega (arith, r.on_below)))
 
 -- the last team meets team i in slot i
-last-meets : (n i j s : ℕ) → IsSize n → i < j → j ≡ n - 1 → s < n - 1 → s ≡ i → between_in n i j s ≡ 1
+last-meets : (n i j s : ℕ) → IsTeamCount n → i < j → j ≡ n - 1 → s < n - 1 → s ≡ i → between_in n i j s ≡ 1
 last-meets n i j s size earlier last slot here =
     let first : is_between j i (last_team_game n s) ≡ 1 = between-one (s % 2 == 0) (n - 1) s s j i (λ e. omega arith) (sym last) here in
     omega (arith, sum_by-slot_games (is_between i j) n s, first, last-none n i j s size last slot)
 
 -- and in no other
-last-meets_not : (n i j s : ℕ) → IsSize n → i < j → j ≡ n - 1 → s < n - 1 → s ≢ i → between_in n i j s ≡ 0
+last-meets_not : (n i j s : ℕ) → IsTeamCount n → i < j → j ≡ n - 1 → s < n - 1 → s ≢ i → between_in n i j s ≡ 0
 last-meets_not n i j s size earlier last slot other =
     let first : is_between i j (last_team_game n s) ≡ 0 = between-none (s % 2 == 0) (n - 1) s s i j (λ e f. omega arith) (λ e f. other f) in
     omega (arith, sum_by-slot_games (is_between i j) n s, first, last-none n i j s size last slot)
 
 -- teams of the circle don't meet where they aren't met
-circle-meets_not : (n i j s : ℕ) → IsSize n → i < j → j < n - 1 → s < n - 1 → ((k : ℕ) → AreMet (n - 1) i j s k → ⊥) → between_in n i j s ≡ 0
+circle-meets_not : (n i j s : ℕ) → IsTeamCount n → i < j → j < n - 1 → s < n - 1 → ((k : ℕ) → AreMet (n - 1) i j s k → ⊥) → between_in n i j s ≡ 0
 circle-meets_not n i j s size earlier inside slot apart =
     let first : is_between i j (last_team_game n s) ≡ 0 = between-none (s % 2 == 0) (n - 1) s s i j (λ e f. omega arith) (λ e f. omega arith) in
     let others : sum_by (λ x. is_between i j (circle_game n s x)) (range_with_len 1 (n / 2 - 1)) ≡ 0 =
@@ -89,7 +89,7 @@ at_met n i j s k differ met =
     ]
 
 -- and do once where they are
-circle-meets : (n i j s k : ℕ) → IsSize n → i < j → j < n - 1 → AreMet (n - 1) i j s k → between_in n i j s ≡ 1
+circle-meets : (n i j s k : ℕ) → IsTeamCount n → i < j → j < n - 1 → AreMet (n - 1) i j s k → between_in n i j s ≡ 1
 circle-meets n i j s k size earlier inside met =
     let slot : s < n - 1 = met.slot in
     let first : is_between i j (last_team_game n s) ≡ 0 = between-none (s % 2 == 0) (n - 1) s s i j (λ e f. omega arith) (λ e f. omega arith) in
@@ -108,13 +108,13 @@ by_slots f n s slot none =
     ∙ sum_by-range_one (λ t. sum_by f (slot_games n t)) 0 (n - 1) s (omega arith) (omega arith) (λ t low high other. none t (omega arith) other)
 
 -- two teams of the circle meet once
-circle-once : (n i j s k : ℕ) → IsSize n → (n - 1) % 2 ≡ 1 → i < j → j < n - 1 → AreMet (n - 1) i j s k → sum_by (is_between i j) (single_games n) ≡ 1
+circle-once : (n i j s k : ℕ) → IsTeamCount n → (n - 1) % 2 ≡ 1 → i < j → j < n - 1 → AreMet (n - 1) i j s k → sum_by (is_between i j) (single_games n) ≡ 1
 circle-once n i j s k size odd earlier inside met =
     by_slots (is_between i j) n s met.slot (λ t slot other. circle-meets_not n i j t size earlier inside slot (λ l at. other (AreMet-slot (n - 1) i j t l s k odd at met)))
     ∙ circle-meets n i j s k size earlier inside met
 
 -- two teams in order meet once
-between-earlier : (n i j : ℕ) → IsSize n → i < j → j < n → sum_by (is_between i j) (single_games n) ≡ 1
+between-earlier : (n i j : ℕ) → IsTeamCount n → i < j → j < n → sum_by (is_between i j) (single_games n) ≡ 1
 between-earlier n i j size earlier team =
     elim (cases_eq j (n - 1)) as (λ _. sum_by (is_between i j) (single_games n) ≡ 1) [
       | inl last ↦
@@ -127,7 +127,7 @@ between-earlier n i j size earlier team =
     ]
 
 -- any two teams meet once
-pub between-single_games : (n i j : ℕ) → IsSize n → i < n → j < n → i ≢ j → sum_by (is_between i j) (single_games n) ≡ 1
+pub between-single_games : (n i j : ℕ) → IsTeamCount n → i < n → j < n → i ≢ j → sum_by (is_between i j) (single_games n) ≡ 1
 between-single_games n i j size first second differ =
     elim (cases_lt i j) as (λ _. sum_by (is_between i j) (single_games n) ≡ 1) [
       | inl earlier ↦ between-earlier n i j size earlier second
@@ -165,7 +165,7 @@ games_of-counts_of i j k games =
     omega (arith, by_game, each)
 
 -- games of a meeting in the season
-season : (n i j : ℕ) → IsSize n → games_of (counts_of (double_games n)) ((i, j) ∷ []) (range_with_len 0 (slot_count n)) ≡ sum_by (is_meeting i j) (double_games n)
+season : (n i j : ℕ) → IsTeamCount n → games_of (counts_of (double_games n)) ((i, j) ∷ []) (range_with_len 0 (slot_count n)) ≡ sum_by (is_meeting i j) (double_games n)
 season n i j size =
     games_of-counts_of i j (slot_count n) (double_games n)
     ∙ sum_by-all_same (IsGame n) (λ g. one_if ((g.home.0 == i) && (g.away.0 == j) && nat_lt g.slot.0 (slot_count n))) (is_meeting i j) (λ g fits. and_below ((g.home.0 == i) && (g.away.0 == j)) g.slot.0 (slot_count n) fits.slot) (double_games n) (IsGame-double_games n size)
@@ -177,14 +177,14 @@ and_swap false true = refl
 and_swap false false = refl
 
 -- every meeting takes place once in the season
-pub meeting-once : (n i j : ℕ) → IsSize n → i < n → j < n → i ≢ j → games_of (counts_of (double_games n)) ((i, j) ∷ []) (range_with_len 0 (slot_count n)) ≡ 1
+pub meeting-once : (n i j : ℕ) → IsTeamCount n → i < n → j < n → i ≢ j → games_of (counts_of (double_games n)) ((i, j) ∷ []) (range_with_len 0 (slot_count n)) ≡ 1
 meeting-once n i j size first second differ =
     let returned : sum_by (λ g. is_meeting i j (return_game n g)) (single_games n) ≡ sum_by (is_meeting j i) (single_games n) =
     sum_by-same (λ g. is_meeting i j (return_game n g)) (is_meeting j i) (λ g. and_swap (g.away.0 == i) (g.home.0 == j)) (single_games n) in
     omega (arith, season n i j size, sum_by-double_games (is_meeting i j) n, returned, sum_by-add (is_meeting i j) (is_meeting j i) (single_games n), between-single_games n i j size first second differ)
 
 -- games of a meeting in the first half
-half : (n i j : ℕ) → IsSize n → games_of (counts_of (double_games n)) ((i, j) ∷ []) (range_with_len 0 (n - 1)) ≡ sum_by (is_meeting i j) (single_games n)
+half : (n i j : ℕ) → IsTeamCount n → games_of (counts_of (double_games n)) ((i, j) ∷ []) (range_with_len 0 (n - 1)) ≡ sum_by (is_meeting i j) (single_games n)
 half n i j size =
     let f : Game → ℕ = λ g. one_if ((g.home.0 == i) && (g.away.0 == j) && nat_lt g.slot.0 (n - 1)) in
     let early : sum_by f (single_games n) ≡ sum_by (is_meeting i j) (single_games n) =
@@ -194,6 +194,6 @@ half n i j size =
     omega (arith, games_of-counts_of i j (n - 1) (double_games n), sum_by-double_games f n, early, late)
 
 -- any two teams meet once in the first half
-pub half-once : (n i j : ℕ) → IsSize n → i < n → j < n → i ≢ j → games_of (counts_of (double_games n)) ((i, j) ∷ (j, i) ∷ []) (range_with_len 0 (n - 1)) ≡ 1
+pub half-once : (n i j : ℕ) → IsTeamCount n → i < n → j < n → i ≢ j → games_of (counts_of (double_games n)) ((i, j) ∷ (j, i) ∷ []) (range_with_len 0 (n - 1)) ≡ 1
 half-once n i j size first second differ =
     omega (arith, half n i j size, half n j i size, sum_by-add (is_meeting i j) (is_meeting j i) (single_games n), between-single_games n i j size first second differ)

@@ -1,5 +1,5 @@
 -- Sums over a range of numbers in which at most one term counts, and sums over lists of which something holds.
-use Rattle.std.proofs.Common.{◌≡◌, ◌≢◌, ℕ, ◌+◌, ◌*◌, ◌<◌, ◌≤◌, zero, suc, List, [], ◌∷◌, inl, inr, refl, arith, ap}
+use Rattle.std.proofs.Common.{◌≡◌, ◌≢◌, ℕ, ◌+◌, ◌-◌, ◌*◌, ◌<◌, ◌≤◌, zero, suc, List, [], ◌∷◌, inl, inr, refl, arith, ap}
 use Rattle.std.proofs.lemmas.Bool.{cases_eq}
 use Rattle.std.proofs.lemmas.List.Elements.{All-nil, All-cons, All-head, All-tail, All-append}
 use Rattle.std.proofs.lemmas.List.Sums.{sum_by-cons}
@@ -35,6 +35,13 @@ sum_by-range_same f g a (suc k) same =
     let here : f a ≡ g a = same a (omega arith) (omega arith) in
     let rest : sum_by f (range_with_len (a + 1) k) ≡ sum_by g (range_with_len (a + 1) k) = sum_by-range_same f g (a + 1) k (λ x low high. same x (omega arith) (omega arith)) in
     omega (arith, sum_by-cons f a (range_with_len (a + 1) k), sum_by-cons g a (range_with_len (a + 1) k), here, rest)
+
+-- a sum whose first term is 0
+pub sum_by-range_late : (f : ℕ → ℕ) (k : ℕ) → 1 ≤ k → f 0 ≡ 0 → sum_by f (range_with_len 0 k) ≡ sum_by f (range_with_len 1 (k - 1))
+sum_by-range_late f zero some none = absurd (omega arith)
+sum_by-range_late f (suc k) some none =
+    let shorter : suc k - 1 ≡ k = omega arith in
+    omega (arith, sum_by-cons f 0 (range_with_len (0 + 1) k), none, ap (λ (l : ℕ). sum_by f (range_with_len 1 l)) shorter)
 
 -- sums of terms that are equal wherever something holds
 pub sum_by-all_same : {X : Type 0} (P : X → Type 0) (f g : X → ℕ) → ((x : X) → P x → f x ≡ g x) → (xs : List X) → All P xs → sum_by f xs ≡ sum_by g xs

@@ -6,14 +6,14 @@ use Rattle.std.proofs.lemmas.List.Elements.{All-cons, All-map}
 use Rattle.std.proofs.lemmas.List.Sums.{sum_by-cons, sum_by-append}
 use Rattle.std.specs.List.{All, range_with_len, sum_by}
 use Rattle.league.specs.Counts.{counts_of, is_game, teams_of}
-use Rattle.league.specs.Instance.{IsGame}
+use Rattle.league.specs.Instance.{IsGame, IsTeamCount}
 use Rattle.league.specs.Venues.{away_games, home_games}
 use Rattle.league.specs.declared.game.Game.{Game}
 use Rattle.league.proofs.RangeLemmas.{one_if}
 use Rattle.league.proofs.SumLemmas.{sum_by-flat_map, sum_by-map, sum_by-same}
 use Rattle.circle_method.specs.Circle.{game_of, last_team_game, circle_game, slot_games, single_games, return_game, double_games, steps_on, steps_back}
 use Rattle.circle_method.proofs.CircleLemmas.{AreReached, are_reached, on_isnt_back, on_isnt_centre, back_isnt_centre, is_at_home, is_at_home-last, is_at_home-centre, IsPlace, place}
-use Rattle.circle_method.proofs.GameLemmas.{IsSize, IsEarly, IsEarly-single_games, IsGame-double_games}
+use Rattle.circle_method.proofs.GameLemmas.{IsEarly, IsEarly-single_games, IsGame-double_games}
 use Rattle.circle_method.proofs.OneTermLemmas.{All-range, sum_by-all_none, sum_by-all_same, sum_by-range_none, sum_by-range_one, sum_by-swap}
 
 -- of a game's two teams, the home team or the away team
@@ -63,13 +63,13 @@ pub sum_by-slot_games : (f : Game → ℕ) (n s : ℕ) → sum_by f (slot_games 
 sum_by-slot_games f n s = omega (arith, sum_by-cons f (last_team_game n s) (map (circle_game n s) (range_with_len 1 (n / 2 - 1))), sum_by-map f (circle_game n s) (range_with_len 1 (n / 2 - 1)))
 
 -- a sum over the circle's games of a slot with one term
-pub circle_one : (f : Game → ℕ) (n s k : ℕ) → IsSize n → 0 < k → k + k < n - 1 → ((x : ℕ) → 0 < x → x + x < n - 1 → x ≢ k → f (circle_game n s x) ≡ 0) → sum_by (λ x. f (circle_game n s x)) (range_with_len 1 (n / 2 - 1)) ≡ f (circle_game n s k)
+pub circle_one : (f : Game → ℕ) (n s k : ℕ) → IsTeamCount n → 0 < k → k + k < n - 1 → ((x : ℕ) → 0 < x → x + x < n - 1 → x ≢ k → f (circle_game n s x) ≡ 0) → sum_by (λ x. f (circle_game n s x)) (range_with_len 1 (n / 2 - 1)) ≡ f (circle_game n s k)
 circle_one f n s k size some half none =
     let even : n % 2 ≡ 0 = size.even in
     sum_by-range_one (λ x. f (circle_game n s x)) 1 (n / 2 - 1) k (omega arith) (omega arith) (λ x low high other. none x (omega arith) (omega arith) other)
 
 -- and with none
-pub circle_none : (f : Game → ℕ) (n s : ℕ) → IsSize n → ((x : ℕ) → 0 < x → x + x < n - 1 → f (circle_game n s x) ≡ 0) → sum_by (λ x. f (circle_game n s x)) (range_with_len 1 (n / 2 - 1)) ≡ 0
+pub circle_none : (f : Game → ℕ) (n s : ℕ) → IsTeamCount n → ((x : ℕ) → 0 < x → x + x < n - 1 → f (circle_game n s x) ≡ 0) → sum_by (λ x. f (circle_game n s x)) (range_with_len 1 (n / 2 - 1)) ≡ 0
 circle_none f n s size none =
     let even : n % 2 ≡ 0 = size.even in
     sum_by-range_none (λ x. f (circle_game n s x)) 1 (n / 2 - 1) (λ x low high. none x (omega arith) (omega arith))
@@ -86,7 +86,7 @@ odd-not_even x =
 abbrev at_side : Bool → ℕ → ℕ → ℕ → ℕ
 at_side side n i s = sum_by (λ g. one_if (team_at side g == i)) (slot_games n s)
 
-venue-last : (side : Bool) (n i s : ℕ) → IsSize n → s < n - 1 → i ≡ n - 1 → at_side side n i s ≡ one_if (seen side (is_at_home (n - 1) i s))
+venue-last : (side : Bool) (n i s : ℕ) → IsTeamCount n → s < n - 1 → i ≡ n - 1 → at_side side n i s ≡ one_if (seen side (is_at_home (n - 1) i s))
 venue-last side n i s size slot last =
     let f : Game → ℕ = λ g. one_if (team_at side g == i) in
     let first : f (last_team_game n s) ≡ one_if (seen side (s % 2 == 0)) = team_at-first side (s % 2 == 0) (n - 1) s s i (sym last) (λ e. omega arith) in
@@ -98,7 +98,7 @@ venue-last side n i s size slot last =
     let same : one_if (seen side (is_at_home (n - 1) i s)) ≡ one_if (seen side (s % 2 == 0)) = ap (λ (b : Bool). one_if (seen side b)) home in
     omega (arith, sum_by-slot_games f n s, first, others, same)
 
-venue-centre : (side : Bool) (n i s : ℕ) → IsSize n → s < n - 1 → i ≡ s → at_side side n i s ≡ one_if (seen side (is_at_home (n - 1) i s))
+venue-centre : (side : Bool) (n i s : ℕ) → IsTeamCount n → s < n - 1 → i ≡ s → at_side side n i s ≡ one_if (seen side (is_at_home (n - 1) i s))
 venue-centre side n i s size slot centre =
     let f : Game → ℕ = λ g. one_if (team_at side g == i) in
     let first : f (last_team_game n s) ≡ one_if (seen side (not (s % 2 == 0))) = team_at-second side (s % 2 == 0) (n - 1) s s i (λ e. omega arith) (sym centre) in
@@ -120,7 +120,7 @@ at_place side n i s k b slot at =
       | inr h ↦ team_at-second side (k % 2 == 1) (steps_on (n - 1) s k) (steps_back (n - 1) s k) s i (λ e. differ (e ∙ sym h.0)) h.0 ∙ ap (λ (c : Bool). one_if (seen side c)) (sym h.1)
     ]
 
-venue-circle : (side : Bool) (n i s : ℕ) → IsSize n → s < n - 1 → i < n - 1 → i ≢ s → at_side side n i s ≡ one_if (seen side (is_at_home (n - 1) i s))
+venue-circle : (side : Bool) (n i s : ℕ) → IsTeamCount n → s < n - 1 → i < n - 1 → i ≢ s → at_side side n i s ≡ one_if (seen side (is_at_home (n - 1) i s))
 venue-circle side n i s size slot team other =
     let f : Game → ℕ = λ g. one_if (team_at side g == i) in
     let odd : (n - 1) % 2 ≡ 1 = (let even : n % 2 ≡ 0 = size.even in omega arith) in
@@ -135,7 +135,7 @@ venue-circle side n i s size slot team other =
     sum_by-slot_games f n s ∙ ap (λ (x : ℕ). x + sum_by (λ x. f (circle_game n s x)) (range_with_len 1 (n / 2 - 1))) first ∙ (let e : 0 + sum_by (λ x. f (circle_game n s x)) (range_with_len 1 (n / 2 - 1)) ≡ f (circle_game n s found.0) = omega (arith, others) in e) ∙ here
 
 -- each team has one game in each slot of the first half, at home or away by `is_at_home`
-pub venue : (side : Bool) (n i s : ℕ) → IsSize n → i < n → s < n - 1 → at_side side n i s ≡ one_if (seen side (is_at_home (n - 1) i s))
+pub venue : (side : Bool) (n i s : ℕ) → IsTeamCount n → i < n → s < n - 1 → at_side side n i s ≡ one_if (seen side (is_at_home (n - 1) i s))
 venue side n i s size team slot =
     elim (cases_eq i (n - 1)) as (λ _. at_side side n i s ≡ one_if (seen side (is_at_home (n - 1) i s))) [
       | inl last ↦ venue-last side n i s size slot last
@@ -170,7 +170,7 @@ single-in_slot p n s early =
     ∙ sum_by-all_same (λ g. g.slot.0 ≡ s) f (λ g. one_if (p g)) (λ g e. in_slot (p g) g.slot.0 s e) (slot_games n s) (slot-slot_games n s)
 
 -- and in a later one
-single-in_later : (p : Game → Bool) (n s : ℕ) → IsSize n → n - 1 ≤ s → sum_by (λ g. one_if (p g && (g.slot.0 == s))) (single_games n) ≡ 0
+single-in_later : (p : Game → Bool) (n s : ℕ) → IsTeamCount n → n - 1 ≤ s → sum_by (λ g. one_if (p g && (g.slot.0 == s))) (single_games n) ≡ 0
 single-in_later p n s size late =
     sum_by-all_none (IsEarly n) (λ g. one_if (p g && (g.slot.0 == s))) (λ g early. not_in_slot (p g) g.slot.0 s (λ same. let below : g.slot.0 < n - 1 = early.slot in omega arith)) (single_games n) (IsEarly-single_games n size)
 
@@ -190,7 +190,7 @@ same_shifted : (b : Bool) (x s m : ℕ) → one_if (b && (x + m == s + m)) ≡ o
 same_shifted b x s m = grind (arith, nat_tests)
 
 -- and of the second
-double-in_second : (p : Game → Bool) (n s : ℕ) → IsSize n → s < n - 1 → sum_by (λ g. one_if (p g && (g.slot.0 == s + (n - 1)))) (double_games n) ≡ sum_by (λ g. one_if (p (return_game n g))) (slot_games n s)
+double-in_second : (p : Game → Bool) (n s : ℕ) → IsTeamCount n → s < n - 1 → sum_by (λ g. one_if (p g && (g.slot.0 == s + (n - 1)))) (double_games n) ≡ sum_by (λ g. one_if (p (return_game n g))) (slot_games n s)
 double-in_second p n s size early =
     let f : Game → ℕ = λ g. one_if (p g && (g.slot.0 == s + (n - 1))) in
     let later : sum_by (λ g. f (return_game n g)) (single_games n) ≡ sum_by (λ g. one_if (p (return_game n g) && (g.slot.0 == s))) (single_games n) =
@@ -226,18 +226,18 @@ away_games-counts_of n i s games fit =
     games fit
 
 -- where a team plays, by the counts of the double round robin
-pub home_games-first : (n i s : ℕ) → IsSize n → i < n → s < n - 1 → home_games n (counts_of (double_games n)) i s ≡ one_if (is_at_home (n - 1) i s)
+pub home_games-first : (n i s : ℕ) → IsTeamCount n → i < n → s < n - 1 → home_games n (counts_of (double_games n)) i s ≡ one_if (is_at_home (n - 1) i s)
 home_games-first n i s size team slot =
     home_games-counts_of n i s (double_games n) (IsGame-double_games n size) ∙ double-in_first (λ g. g.home.0 == i) n s slot ∙ venue true n i s size team slot
 
-pub away_games-first : (n i s : ℕ) → IsSize n → i < n → s < n - 1 → away_games n (counts_of (double_games n)) i s ≡ one_if (not (is_at_home (n - 1) i s))
+pub away_games-first : (n i s : ℕ) → IsTeamCount n → i < n → s < n - 1 → away_games n (counts_of (double_games n)) i s ≡ one_if (not (is_at_home (n - 1) i s))
 away_games-first n i s size team slot =
     away_games-counts_of n i s (double_games n) (IsGame-double_games n size) ∙ double-in_first (λ g. g.away.0 == i) n s slot ∙ venue false n i s size team slot
 
-pub home_games-second : (n i s : ℕ) → IsSize n → i < n → s < n - 1 → home_games n (counts_of (double_games n)) i (s + (n - 1)) ≡ one_if (not (is_at_home (n - 1) i s))
+pub home_games-second : (n i s : ℕ) → IsTeamCount n → i < n → s < n - 1 → home_games n (counts_of (double_games n)) i (s + (n - 1)) ≡ one_if (not (is_at_home (n - 1) i s))
 home_games-second n i s size team slot =
     home_games-counts_of n i (s + (n - 1)) (double_games n) (IsGame-double_games n size) ∙ double-in_second (λ g. g.home.0 == i) n s size slot ∙ venue false n i s size team slot
 
-pub away_games-second : (n i s : ℕ) → IsSize n → i < n → s < n - 1 → away_games n (counts_of (double_games n)) i (s + (n - 1)) ≡ one_if (is_at_home (n - 1) i s)
+pub away_games-second : (n i s : ℕ) → IsTeamCount n → i < n → s < n - 1 → away_games n (counts_of (double_games n)) i (s + (n - 1)) ≡ one_if (is_at_home (n - 1) i s)
 away_games-second n i s size team slot =
     away_games-counts_of n i (s + (n - 1)) (double_games n) (IsGame-double_games n size) ∙ double-in_second (λ g. g.away.0 == i) n s size slot ∙ venue true n i s size team slot

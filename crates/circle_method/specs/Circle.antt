@@ -1,5 +1,6 @@
--- The canonical schedule of n teams, n even (the circle method): in each slot the last team meets the team of that slot, and
--- the other teams below n - 1, in a circle, meet those that are as far from the slot's team the other way round.
+-- The canonical schedule of n teams, n even (the circle method): in each slot the last team meets the team of that
+-- slot, and the other teams below n - 1, in a circle, meet those that are as far from the slot's team the other way
+-- round.
 use Rattle.std.specs.Prelude.{ℕ, ◌+◌, ◌-◌, ◌/◌, ◌%◌, Bool, true, false, ◌==◌, List, ◌∷◌, ◌++◌, map}
 use Rattle.std.specs.List.{flat_map, range_with_len}
 use Rattle.league.specs.declared.game.Game.{Game}

@@ -1,12 +1,14 @@
 //! The circle method.
-ghost use Rattle.std.specs.Prelude.{true, ◌≡◌, ◌<◌, ◌≤◌, ◌-◌, ◌*◌, ◌/◌, ◌%◌, ◌++◌, length, OnOk, IfOk};
-ghost use Rattle.circle_method.specs.Breaks.{HasFewBreaks, breaks_from};
-ghost use Rattle.circle_method.specs.Circle.{game_of, last_team_game, circle_game, slot_games, single_games, return_game, double_games};
+ghost use Rattle.std.specs.Prelude.{true, ◌≡◌, ◌<◌, ◌≤◌, ◌-◌, ◌*◌, ◌/◌, ◌++◌, length, OnOk, IfOk};
+ghost use Rattle.circle_method.specs.Breaks.{HasFewBreaks};
+ghost use Rattle.circle_method.specs.Circle.{game_of, last_team_game, circle_game, slot_games, single_games};
+ghost use Rattle.circle_method.specs.Circle.{return_game, double_games};
 ghost use Rattle.circle_method.specs.SingleRoundRobin.{IsSingleRoundRobin};
 ghost use Rattle.std.specs.List.{All};
-ghost use Rattle.league.specs.Counts.{counts_of};
-ghost use Rattle.league.specs.Instance.{IsGame};
-ghost use Rattle.league.specs.Structure.{IsRoundRobin};
+ghost use Rattle.league.specs.Breaks.{all_breaks};
+ghost use Rattle.league.specs.Counts.{counts_of, teams_of};
+ghost use Rattle.league.specs.Instance.{IsGame, IsTeamCount};
+ghost use Rattle.league.specs.Structure.{IsRoundRobin, first_half};
 
 use league::{Game, Schedule, SlotId, TeamId};
 use std::alloc::{AllocError, Global};
@@ -71,16 +73,14 @@ fn returned(n: u16, game: Game) -> Game
     }
 }
 
-/// The canonical single round robin of n teams in n - 1 slots, slot by slot, for an even n from 2 to 40. In slot s the last team
-/// meets team s, at home in the even slots; the other teams stand in a circle, and those k steps on and k steps back from team s
-/// meet, the former at home for the odd k.
+/// The canonical single round robin of n teams in n - 1 slots, slot by slot, for an even n from 2 to 40. In slot s the
+/// last team meets team s, at home in the even slots; the other teams stand in a circle, and those k steps on and k
+/// steps back from team s meet, the former at home for the odd k.
 ///
 /// # Errors
 /// Only where memory runs out.
 pub fn single(alloc: Global, n: u16) -> Result<Schedule, AllocError>
-    requires even { n % 2 ≡ 0 }
-    requires at_least { 2 ≤ n }
-    requires at_most { n ≤ 40 }
+    requires teams { IsTeamCount n }
     ensures games { IfOk result (λ games. games ≡ single_games n) }
 
     // It is a single round robin, and nothing else.
@@ -88,7 +88,7 @@ pub fn single(alloc: Global, n: u16) -> Result<Schedule, AllocError>
     ensures count { IfOk result (λ games. length games ≡ (n - 1) * (n / 2)) }
 
     // It has n - 2 breaks: no single round robin has fewer.
-    ensures breaks { IfOk result (λ games. breaks_from n (counts_of games) 1 (n - 2) ≡ n - 2) }
+    ensures breaks { IfOk result (λ games. all_breaks n (counts_of games) (teams_of n) (first_half n) ≡ n - 2) }
 {
     let mut schedule = Schedule::new(alloc);
     for slot in 0..n - 1 {
@@ -97,15 +97,14 @@ pub fn single(alloc: Global, n: u16) -> Result<Schedule, AllocError>
     Ok(schedule)
 }
 
-/// The canonical double round robin of n teams in 2(n - 1) slots, for an even n from 2 to 40: the single one, and then the same games
-/// in the same order at the other venues. It is compact and in two phases (ITC 2021; RobinX: game mode P).
+/// The canonical double round robin of n teams in 2(n - 1) slots, for an even n from 2 to 40: the single one, and then
+/// the same games in the same order at the other venues. It is compact and in two phases (ITC 2021; RobinX: game mode
+/// P).
 ///
 /// # Errors
 /// Only where memory runs out.
 pub fn double(alloc: Global, n: u16) -> Result<Schedule, AllocError>
-    requires even { n % 2 ≡ 0 }
-    requires at_least { 2 ≤ n }
-    requires at_most { n ≤ 40 }
+    requires teams { IsTeamCount n }
     ensures games { IfOk result (λ games. games ≡ double_games n) }
 
     // It is a double round robin in two phases, and nothing else.

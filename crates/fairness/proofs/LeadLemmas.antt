@@ -12,7 +12,7 @@ use Rattle.std.specs.Ordering.{nat_cmp}
 use Rattle.league.specs.Bounds.{largest}
 use Rattle.league.specs.Sets.{IsAscending}
 use Rattle.league.proofs.RangeLemmas.{sum_by-range_more}
-use Rattle.rule_core.proofs.PlaceLemmas.{less_than}
+use Rattle.rule_core.proofs.KeyLemmas.{less_than}
 
 -- a slot that is read has a place
 has_place : (slots : List ℕ) (last : ℕ) → slice_get slots (length slots - 1) ≡ Some last → 0 < length slots

@@ -1,3 +1,2 @@
 pub mod LeadLemmas
 pub mod TermLemmas
-mod TouchFacts

@@ -1,35 +1,31 @@
 //! FA2: at no time have two teams played very different numbers of home games.
-ghost use Rattle.std.specs.Prelude.{◌≡◌, ℕ, ◌<◌, ◌≤◌, ◌-◌, length, IfOk, IsTrue, nat_le};
+ghost use Rattle.std.specs.Prelude.{◌≡◌, ◌≤◌, IfOk, IsTrue, nat_le};
 ghost use Rattle.std.specs.List.{list_any};
 ghost use Rattle.std.specs.Ordering.{nat_cmp};
 ghost use Rattle.league.specs.Sets.{IsAscending};
-ghost use Rattle.fairness.specs.Fa2.{IsReady};
+ghost use Rattle.league.specs.declared.class.Class.TheVariants as class;
+ghost use Rattle.rule_core.specs.Ready.{IsReady};
 
 use crate::leads::largest_lead;
-use league::{Class, Constraint, Game};
+use league::{Class, ClassName, Constraint, Game};
 use rule_core::{Cells, Entries, Keys, Pairs, Rule, Steps};
 use std::alloc::{AllocError, Global};
 
-/// The largest difference of the home games that two teams have played after one of some slots, beyond a bound: one entry
-/// for each two of some teams.
+/// The largest difference of the home games that two teams have played after one of some slots, beyond a bound: one
+/// entry for each two of some teams.
 #[derive(Drop)]
 pub struct Fa2 {
     n: u16,
     pairs: Pairs,
     intp: u32,
     slots: Vec<u16>,
-    ghost ready: { IsReady n pairs slots.items },
+    ghost ready: { IsReady n (class.Fa2 pairs intp slots.items) },
 }
 
 impl Fa2 {
-    ghost use Rattle.league.specs.Counts.{Counts, slot_count};
-    ghost use Rattle.league.specs.Deviation.{entry_of, vector_of};
-    ghost use Rattle.league.specs.Instance.{IsGame, class_fits};
-    ghost use Rattle.league.specs.Meetings.{pairs_of};
-    ghost use Rattle.league.specs.declared.game.Game.{Game};
-    ghost use Rattle.std.specs.List.{All};
-    ghost use Rattle.fairness.specs.Classes.{class_of_fa2, is_fa2, teams_of_fa2};
-    ghost use Rattle.fairness.specs.Fa2.{touches_of};
+    ghost use Rattle.league.specs.Instance.{class_fits};
+    ghost use Rattle.league.specs.Names.{name_of};
+    ghost use Rattle.rule_core.specs.Rule.{IsRuleOf};
 
     /// The rule of an FA2 that fits a league of n teams.
     ///
@@ -37,69 +33,47 @@ impl Fa2 {
     /// Only where memory runs out.
     pub fn new(alloc: Global, n: u16, constraint: &Constraint) -> Result<Fa2, AllocError>
         requires at_most { n ≤ 40 }
-        requires class { IsTrue (is_fa2 constraint.now.class) }
+        requires class { name_of constraint.now.class ≡ ClassName.Fa2 }
         requires fits { IsTrue (class_fits n constraint.now.class) }
-        ensures teams { IfOk result (λ rule. ⟦<Fa2 as Entries>⟧.team_count rule ≡ n) }
-        ensures reach { IfOk result (λ rule. ⟦<Fa2 as Entries>⟧.reach_of rule ≡ length (teams_of_fa2 constraint.now.class) - 1) }
-        ensures terms { IfOk result (λ rule. (m : Counts) → ⟦<Fa2 as Entries>⟧.term_count rule ≡ length (vector_of n m constraint.now.class)) }
-        ensures short { IfOk result (λ rule. ⟦<Fa2 as Entries>⟧.term_count rule ≤ 1600) }
-        ensures entries { IfOk result (λ rule. (k : ℕ) (m : Counts) → ⟦<Fa2 as Entries>⟧.entry rule k m ≡ entry_of n m constraint.now.class k) }
-        ensures touches { IfOk result (λ rule. (g : Game) → IsGame n g → ⟦<Fa2 as Entries>⟧.touches rule g ≡ touches_of constraint.now.class g) }
+        ensures rule { IfOk result (IsRuleOf ⟦<Fa2 as Entries>⟧ n constraint.now.class) }
     {
         let Class::Fa2 { teams, intp, slots } = &constraint.class else {
             unreachable!()
         };
-        Fa2::of(alloc, n, teams.numbers(), *intp, slots.numbers())
-    }
-
-    /// The rule of these teams and slots.
-    fn of(alloc: Global, n: u16, teams: &[u16], intp: u32, slots: &[u16]) -> Result<Fa2, AllocError>
-        requires at_most { n ≤ 40 }
-        requires teams_ascending { IsAscending nat_cmp teams.now }
-        requires teams_below { All (λ t. t < n) teams.now }
-        requires slots_ascending { IsAscending nat_cmp slots.now }
-        requires slots_below { All (λ s. s < slot_count n) slots.now }
-        ensures teams { IfOk result (λ rule. ⟦<Fa2 as Entries>⟧.team_count rule ≡ n) }
-        ensures reach { IfOk result (λ rule. ⟦<Fa2 as Entries>⟧.reach_of rule ≡ length teams.now - 1) }
-        ensures terms { IfOk result (λ rule. ⟦<Fa2 as Entries>⟧.term_count rule ≡ length (pairs_of teams.now)) }
-        ensures short { IfOk result (λ rule. ⟦<Fa2 as Entries>⟧.term_count rule ≤ 1600) }
-        ensures entries { IfOk result (λ rule. (k : ℕ) (m : Counts) → ⟦<Fa2 as Entries>⟧.entry rule k m ≡ entry_of n m (class_of_fa2 teams.now intp slots.now) k) }
-        ensures touches { IfOk result (λ rule. (g : Game) → IsGame n g → ⟦<Fa2 as Entries>⟧.touches rule g ≡ touches_of (class_of_fa2 teams.now intp slots.now) g) }
-    {
         Ok(Fa2 {
             n,
-            pairs: Pairs::of(alloc, teams)?,
-            intp,
-            slots: Vec::from_slice(alloc, slots)?,
+            pairs: Pairs::of_teams(alloc, n, teams)?,
+            intp: *intp,
+            slots: Vec::from_slice(alloc, slots.numbers())?,
         })
     }
 }
 
 impl Entries for Fa2 {
-    ghost use Rattle.std.specs.Prelude.{length};
     ghost use Rattle.league.specs.Deviation.{entry_of};
-    ghost use Rattle.league.specs.Meetings.{pairs_of};
-    ghost use Rattle.fairness.specs.Classes.{class_of_fa2};
-    ghost use Rattle.fairness.specs.Fa2.{home_keys};
-    ghost use Rattle.fairness.specs.Fa2Laws.{home_keys-ascending, home_keys-below, home_keys-few, home_keys-frame};
+    ghost use Rattle.rule_core.specs.Ready.{entry_count};
+    ghost use Rattle.rule_core.specs.Touched.{most_touched, touched_keys};
+    ghost use Rattle.rule_core.proofs.FrameLemmas.{touched_keys-frame};
+    ghost use Rattle.rule_core.proofs.TouchedLemmas.{touched_keys-ascending, touched_keys-below, touched_keys-few};
+    ghost use Rattle.fairness.specs.Fa2.{class_of};
 
     ghost team_count = { λ r. r.n };
 
-    ghost term_count = { λ r. length (pairs_of r.pairs) };
+    ghost term_count = { λ r. entry_count (class_of r) };
 
-    ghost reach_of = { λ r. length r.pairs - 1 };
+    ghost reach_of = { λ r. most_touched (class_of r) };
 
-    ghost entry = { λ r k m. entry_of r.n m (class_of_fa2 r.pairs r.intp r.slots.items) k };
+    ghost entry = { λ r k m. entry_of r.n m (class_of r) k };
 
-    ghost touches = { λ r g. home_keys r.pairs r.slots.items g };
+    ghost touches = { λ r. touched_keys (class_of r) };
 
-    ghost few = { λ r g fits. home_keys-few r.n r.pairs r.slots.items r.ready g };
+    ghost few = { λ r. touched_keys-few r.n (class_of r) r.ready };
 
-    ghost below = { λ r g fits. home_keys-below r.pairs r.slots.items g };
+    ghost below = { λ r g fits. touched_keys-below (class_of r) g };
 
-    ghost ascending = { λ r g fits. home_keys-ascending r.pairs r.slots.items g };
+    ghost ascending = { λ r g fits. touched_keys-ascending (class_of r) g };
 
-    ghost frame = { λ r g m k fits inside lacks. home_keys-frame r.n r.pairs r.intp r.slots.items g m k fits inside lacks };
+    ghost frame = { λ r. touched_keys-frame r.n (class_of r) };
 
     fn teams(&self) -> u16 {
         self.n

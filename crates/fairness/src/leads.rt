@@ -12,8 +12,8 @@ ghost use Rattle.rule_core.specs.Table.{table_counts};
 use league::{SlotId, TeamId};
 use rule_core::Cells;
 
-/// The largest difference of the home games that two teams have played after one of these slots, beyond a bound. The games
-/// are added up from slot to slot, so that each slot is read once for each team.
+/// The largest difference of the home games that two teams have played after one of these slots, beyond a bound. The
+/// games are added up from slot to slot, so that each slot is read once for each team.
 pub(crate) fn largest_lead(
     cells: &Cells,
     first: TeamId,
@@ -54,7 +54,8 @@ fn homes_in(cells: &Cells, team: TeamId, from: u16, end: u16) -> u64
     requires team { team.0 < cells.now.n }
     requires ordered { from ≤ end }
     requires end { end ≤ slot_count cells.now.n }
-    ensures games { result ≡ sum_by (λ s. home_games cells.now.n (table_counts cells.now) team.0 s) (range_with_len from (end - from)) }
+    ensures games { result
+        ≡ sum_by (λ s. home_games cells.now.n (table_counts cells.now) team.0 s) (range_with_len from (end - from)) }
     ensures at_most { result ≤ 400000 * (end - from) }
 {
     let mut games: u64 = 0;

@@ -1,10 +1,10 @@
 -- The fewest breaks (de Werra): two teams that meet differ in the slot of their game, and so of three teams without a break two would be one.
-use Rattle.std.proofs.Common.{◌≡◌, ℕ, zero, suc, ◌+◌, ◌-◌, ◌<◌, ◌≤◌, Bool, true, ◌&&◌, ◌==◌, nat_lt, cond, List, [], ◌∷◌, get_or, arith, ap, sym, ◌∙◌, inl, inr}
+use Rattle.std.proofs.Common.{◌≡◌, ℕ, zero, suc, ◌+◌, ◌-◌, ◌<◌, ◌≤◌, Bool, true, ◌&&◌, ◌==◌, nat_lt, List, [], ◌∷◌, get_or, arith, ap, sym, ◌∙◌, inl, inr}
 use Rattle.std.specs.Prelude.{◌⊎◌}
 use Rattle.std.proofs.lemmas.Bool.Decides.{nat_tests}
 use Rattle.std.proofs.lemmas.List.FromFn.{get_or-map-range_with_len}
 use Rattle.std.specs.List.{sum_by}
-use Rattle.league.specs.Breaks.{breaks_at, twice_in_a_row}
+use Rattle.league.specs.Breaks.{all_breaks, breaks_among, breaks_at, twice_in_a_row}
 use Rattle.league.specs.Counts.{Counts, counts_of, teams_of}
 use Rattle.league.specs.Meetings.{games_of}
 use Rattle.league.specs.Structure.{first_half}
@@ -15,8 +15,8 @@ use Rattle.league.specs.declared.class.Side.TheVariants.{H, A, Both}
 use Rattle.league.proofs.RangeLemmas.{one_if}
 use Rattle.league.proofs.SumLemmas.{sum_by-add}
 use Rattle.circle_method.specs.SingleRoundRobin.{IsSingleRoundRobin}
-use Rattle.patterns.specs.FewestBreaks.{DistinctPatterns, FewestBreaks, single_breaks}
-use Rattle.patterns.specs.Patterns.{letter_of, pattern_in}
+use Rattle.patterns.specs.FewestBreaks.{DistinctPatterns, FewestBreaks}
+use Rattle.patterns.specs.PatternSet.{letter_of, pattern_in, side_with}
 use Rattle.patterns.proofs.TermLemmas.{count-at_most_one, one_of_two, some_term, sum_by-at_least, term-le}
 
 -- each two teams meet in some slot, and each team has exactly one game in each
@@ -34,10 +34,11 @@ meet n m single i j s here there slot game =
     (omega arith, omega arith)
 
 -- one home game and none are two letters
-differ : (a b : ℕ) → a ≡ 1 → b ≡ 0 → cond (a == 1) H A ≡ cond (b == 1) H A → ⊥
+differ : (a b : ℕ) → a ≡ 1 → b ≡ 0 → side_with a ≡ side_with b → ⊥
 differ a b one none same =
-    let first : cond (a == 1) H A ≡ H = ap (λ (k : ℕ). cond (k == 1) H A) one in
-    let second : cond (b == 1) H A ≡ A = ap (λ (k : ℕ). cond (k == 1) H A) none in
+    let first : side_with a ≡ H = ap side_with one in
+    let second : side_with b ≡ A = ap side_with none in
+    let sides : H ≡ A = sym first ∙ same ∙ second in
     cc
 
 -- two teams differ in some slot
@@ -83,7 +84,7 @@ flips f g s first second none =
 
 -- the breaks of a team
 abbrev breaks : ℕ → Counts → ℕ → ℕ
-breaks n m i = sum_by (λ s. breaks_at n m Both i s) (first_half n)
+breaks n m i = breaks_among n m Both (first_half n) i
 
 -- two teams without a break that begin alike go on alike
 alike : (n : ℕ) (m : Counts) → IsSingle n m → (i j : ℕ) → i < n → j < n → breaks n m i ≡ 0 → breaks n m j ≡ 0 → home_games n m i 0 ≡ home_games n m j 0 → (s : ℕ) → s < n - 1 → home_games n m i s ≡ home_games n m j s
@@ -103,7 +104,7 @@ alike n m single i j here there no_i no_j begin (suc s) l =
 begin_apart : (n : ℕ) (m : Counts) → IsSingle n m → (i j : ℕ) → i < j → j < n → breaks n m i ≡ 0 → breaks n m j ≡ 0 → home_games n m i 0 ≡ home_games n m j 0 → ⊥
 begin_apart n m single i j h l no_i no_j begin =
     let found = apart n m single i j h l in
-    found.1.1 (ap (λ (k : ℕ). cond (k == 1) H A) (alike n m single i j (omega arith) l no_i no_j begin found.0 found.1.0))
+    found.1.1 (ap side_with (alike n m single i j (omega arith) l no_i no_j begin found.0 found.1.0))
 
 -- whether a number of breaks is 0, and a number of home games in the first slot is x
 abbrev begins : ℕ → ℕ → ℕ → Bool
@@ -126,7 +127,7 @@ one_begins n m single x =
     (λ i j h l first second. begin_apart n m single i j h l (begins-no_break x (breaks n m i) (home_games n m i 0) first) (begins-no_break x (breaks n m j) (home_games n m j 0) second) (begins-with x (breaks n m i) (home_games n m i 0) first ∙ sym (begins-with x (breaks n m j) (home_games n m j 0) second)))
 
 -- at least n - 2 breaks
-pub breaks_at_least : (n : ℕ) (m : Counts) → IsSingle n m → 2 ≤ n → n - 2 ≤ single_breaks n m
+pub breaks_at_least : (n : ℕ) (m : Counts) → IsSingle n m → 2 ≤ n → n - 2 ≤ all_breaks n m (teams_of n) (first_half n)
 breaks_at_least n m single two =
     let b : ℕ → ℕ = λ i. breaks n m i in
     let away_first : ℕ → ℕ = λ i. one_if (begins 0 (breaks n m i) (home_games n m i 0)) in
@@ -147,7 +148,7 @@ single_of : (n : ℕ) (games : List Game) → IsSingleRoundRobin n games → IsS
 single_of n games is = record { pairs = is.pairs; cells = is.cells }
 
 pub distinct_patterns : DistinctPatterns
-distinct_patterns n games even least most is = patterns_apart n (counts_of games) (single_of n games is)
+distinct_patterns n games teams is = patterns_apart n (counts_of games) (single_of n games is)
 
 pub fewest_breaks : FewestBreaks
-fewest_breaks n games even least most is = breaks_at_least n (counts_of games) (single_of n games is) least
+fewest_breaks n games teams is = breaks_at_least n (counts_of games) (single_of n games is) teams.at_least

@@ -2,7 +2,8 @@
 use Rattle.std.specs.Prelude.{◌≡◌, ◌≢◌, ℕ, ◌-◌, ◌<◌, zero, suc, List, [], ◌∷◌, map, refl}
 use Rattle.std.proofs.Common.{arith}
 use Rattle.std.proofs.lemmas.List.Elements.{All-cons, All-nil}
-use Rattle.league.specs.Counts.{counts_of}
+use Rattle.league.specs.Breaks.{all_breaks}
+use Rattle.league.specs.Counts.{counts_of, slots_of, teams_of}
 use Rattle.league.specs.Meetings.{games_of}
 use Rattle.league.specs.Structure.{first_half}
 use Rattle.league.specs.Venues.{games_on}
@@ -10,8 +11,8 @@ use Rattle.league.specs.declared.game.Game.{Game}
 use Rattle.league.specs.declared.class.Side.TheVariants.{H, A, Both}
 use Rattle.league.proofs.DoubleFour.{four, game}
 use Rattle.circle_method.specs.SingleRoundRobin.{IsSingleGame, IsSingleRoundRobin}
-use Rattle.patterns.specs.FewestBreaks.{single_breaks}
-use Rattle.patterns.specs.Patterns.{breaks_in, canonical_patterns, pattern_of, patterns_of}
+use Rattle.patterns.specs.Pattern.{breaks_in}
+use Rattle.patterns.specs.PatternSet.{canonical_patterns, pattern_of, patterns_of, side_with, team_breaks}
 
 -- they are AAHHHA, HHAAAH, AHAHAH and HAHAHA
 pub patterns_of-four : patterns_of 4 four ≡ (A ∷ A ∷ H ∷ H ∷ H ∷ A ∷ []) ∷ (H ∷ H ∷ A ∷ A ∷ A ∷ H ∷ []) ∷ (A ∷ H ∷ A ∷ H ∷ A ∷ H ∷ []) ∷ (H ∷ A ∷ H ∷ A ∷ H ∷ A ∷ []) ∷ []
@@ -20,6 +21,14 @@ patterns_of-four = refl
 -- with 3, 3, 0 and 0 breaks
 pub breaks_in-four : (breaks_in (pattern_of 4 four 0) ≡ 3) × (breaks_in (pattern_of 4 four 1) ≡ 3) × (breaks_in (pattern_of 4 four 2) ≡ 0) × (breaks_in (pattern_of 4 four 3) ≡ 0)
 breaks_in-four = (refl, refl, refl, refl)
+
+-- and these are the teams' breaks of the season
+pub team_breaks-four : team_breaks 4 four (slots_of 4) ≡ 3 ∷ 3 ∷ 0 ∷ 0 ∷ []
+team_breaks-four = refl
+
+-- at home where there is a home game: one, or more than one
+pub side_with-some : (side_with 0 ≡ A) × (side_with 1 ≡ H) × (side_with 2 ≡ H)
+side_with-some = (refl, refl, refl)
 
 -- a pattern of no slot, or of one, has no break
 pub breaks_in-short : (breaks_in [] ≡ 0) × (breaks_in (H ∷ []) ≡ 0)
@@ -30,8 +39,8 @@ abbrev pub half : List Game
 half = game 3 0 0 ∷ game 1 2 0 ∷ game 1 3 1 ∷ game 2 0 1 ∷ game 3 2 2 ∷ game 0 1 2 ∷ []
 
 -- it has 2 breaks, the fewest
-pub single_breaks-half : single_breaks 4 (counts_of half) ≡ 2
-single_breaks-half = refl
+pub all_breaks-half : all_breaks 4 (counts_of half) (teams_of 4) (first_half 4) ≡ 2
+all_breaks-half = refl
 
 half_pairs : (i j : ℕ) → i < j → j < 4 → games_of (counts_of half) ((i, j) ∷ (j, i) ∷ []) (first_half 4) ≡ 1
 half_pairs zero (suc zero) h l = refl

@@ -17,8 +17,9 @@ use Rattle.league.specs.declared.game.Game.{Game}
 use Rattle.league.proofs.CountLemmas.{home_games-push_game}
 use Rattle.league.proofs.RangeLemmas.{one_if, one_if-le}
 use Rattle.circle_method.specs.SingleRoundRobin.{IsSingleGame, IsSingleRoundRobin}
-use Rattle.patterns.specs.Patterns.{has_break, is_repeat, letter_of, pattern_in, side_with}
-use Rattle.patterns.specs.Told.{told_by}
+use Rattle.patterns.specs.Pattern.{has_break, is_repeat}
+use Rattle.patterns.specs.PatternSet.{letter_of, pattern_in, side_with}
+use Rattle.patterns.specs.HomeTable.{table_pattern}
 
 -- the number that a test makes
 from_bool-is : (b : Bool) → from_bool b ≡ one_if b
@@ -38,18 +39,20 @@ map-same : {X Y : Type 0} (f g : X → Y) → ((x : X) → f x ≡ g x) → (xs 
 map-same f g same [] = refl
 map-same f g same (x ∷ xs) = ap (λ y. y ∷ map f xs) (same x) ∙ ap (λ ys. g x ∷ ys) (map-same f g same xs)
 
--- the patterns that a table of home games tells are those of the schedule
-patterns-told : (n k : ℕ) (m : Counts) (table : List ℕ) → ((i s : ℕ) → entry table i s ≡ home_games n m i s) → map (told_by k table) (teams_of n) ≡ map (pattern_in n m (range_with_len 0 k)) (teams_of n)
-patterns-told n k m table counted =
-    map-same (told_by k table) (pattern_in n m (range_with_len 0 k))
+-- the patterns of a table of home games are those of the schedule
+patterns-same : (n k : ℕ) (m : Counts) (table : List ℕ) → ((i s : ℕ) → entry table i s ≡ home_games n m i s) → map (table_pattern k table) (teams_of n) ≡ map (pattern_in n m (range_with_len 0 k)) (teams_of n)
+patterns-same n k m table counted =
+    map-same (table_pattern k table) (pattern_in n m (range_with_len 0 k))
     (λ i. map-same (λ s. side_with (entry table i s)) (letter_of n m i) (λ s. ap side_with (counted i s)) (range_with_len 0 k)) (teams_of n)
 
 -- the same of what was read of the games
-pub patterns-read : (n k : ℕ) (games listed : List Game) (table : List ℕ) (patterns : List (List Side)) → listed ≡ games → All (IsGame n) games → ((teams : ℕ) → All (IsGame teams) listed → (i s : ℕ) → entry table i s ≡ home_games teams (counts_of listed) i s) → patterns ≡ map (told_by k table) (teams_of n) → patterns ≡ map (pattern_in n (counts_of games) (range_with_len 0 k)) (teams_of n)
-patterns-read n k games listed table patterns same_games fit counted is =
+pub patterns-read : (n k teams slots : ℕ) (games listed : List Game) (table : List ℕ) (patterns : List (List Side)) → teams ≡ n → slots ≡ k → listed ≡ games → All (IsGame n) games → ((count : ℕ) → All (IsGame count) listed → (i s : ℕ) → entry table i s ≡ home_games count (counts_of listed) i s) → patterns ≡ map (table_pattern slots table) (teams_of teams) → patterns ≡ map (pattern_in n (counts_of games) (range_with_len 0 k)) (teams_of n)
+patterns-read n k teams slots games listed table patterns same_teams same_slots same_games fit counted is =
     let listed_fit : All (IsGame n) listed = subst (λ (xs : List Game). All (IsGame n) xs) (sym same_games) fit in
     is
-    ∙ patterns-told n k (counts_of listed) table (counted n listed_fit)
+    ∙ ap (λ (l : ℕ). map (table_pattern slots table) (teams_of l)) same_teams
+    ∙ ap (λ (l : ℕ). map (table_pattern l table) (teams_of n)) same_slots
+    ∙ patterns-same n k (counts_of listed) table (counted n listed_fit)
     ∙ ap (λ (xs : List Game). map (pattern_in n (counts_of xs) (range_with_len 0 k)) (teams_of n)) same_games
 
 -- the games of a single round robin fit the league

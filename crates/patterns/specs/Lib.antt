@@ -1,6 +1,10 @@
--- What a pattern is, and the patterns of a schedule:
-pub mod Patterns
--- The law of the fewest breaks:
+-- What a reader of a claim must believe:
+--
+-- What a pattern is, the patterns of a schedule, and the law of the fewest breaks:
+pub mod Pattern
+pub mod PatternSet
 pub mod FewestBreaks
--- What the functions inside the crate promise each other:
-pub mod Told
+-- Kept inside (laws, and how fields are seen):
+--
+-- How the patterns stand in a table of home games:
+pub mod HomeTable

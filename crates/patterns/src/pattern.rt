@@ -1,7 +1,7 @@
 //! Patterns and their breaks.
 ghost use Rattle.std.specs.Prelude.{◌≡◌, ◌<◌, ◌≤◌, ◌++◌, ◌==◌, [], ◌∷◌, length, slice_get, Some, IsTrue, OnOk, OnErr};
 ghost use Rattle.league.specs.Instance.{is_one_side};
-ghost use Rattle.patterns.specs.Patterns.{IsPattern, breaks_in, is_repeat};
+ghost use Rattle.patterns.specs.Pattern.{IsPattern, breaks_in, is_repeat};
 
 use league::Side;
 use std::alloc::{AllocError, Global};
@@ -16,7 +16,7 @@ pub struct Pattern {
 impl Model for Pattern {
     ghost use Rattle.std.specs.Prelude.{List};
     ghost use Rattle.league.specs.declared.class.Side.{Side};
-    ghost use Rattle.patterns.specs.Patterns.{IsPattern};
+    ghost use Rattle.patterns.specs.Pattern.{IsPattern};
 
     ghost Value = { List Side };
 
@@ -73,8 +73,8 @@ impl Pattern {
     }
 }
 
-/// The breaks of a pattern: its slots, but for the first, in which the team plays where it played in the slot before. It
-/// takes no memory.
+/// The breaks of a pattern: its slots, but for the first, in which the team plays where it played in the slot before.
+/// It takes no memory.
 pub fn breaks_of(pattern: &Pattern) -> u32
     ensures breaks { result ≡ breaks_in pattern.now }
     ensures at_most { result ≤ 77 }

@@ -1,13 +1,16 @@
 //! Sets of patterns, and the patterns of a schedule.
-ghost use Rattle.std.specs.Prelude.{◌≡◌, ℕ, ◌-◌, ◌%◌, ◌<◌, ◌≤◌, ◌++◌, ◌==◌, [], ◌∷◌, length, map, slice_get, Some, IsTrue, IfOk, OnOk, OnErr};
+ghost use Rattle.std.specs.Prelude.{◌≡◌, ℕ, ◌-◌, ◌<◌, ◌≤◌, ◌++◌, ◌==◌, [], ◌∷◌, length, map, slice_get, Some, IsTrue};
+ghost use Rattle.std.specs.Prelude.{IfOk, OnOk, OnErr};
 ghost use Rattle.std.specs.List.{All, sum_by};
-ghost use Rattle.league.specs.Counts.{counts_of, teams_of};
+ghost use Rattle.circle_method.specs.Circle.{single_games};
+ghost use Rattle.league.specs.Counts.{counts_of, slots_of, teams_of};
 ghost use Rattle.league.specs.Grid.{entry};
-ghost use Rattle.league.specs.Instance.{IsGame, is_one_side};
-ghost use Rattle.league.specs.Structure.{IsRoundRobin};
+ghost use Rattle.league.specs.Instance.{IsGame, IsTeamCount, is_one_side};
+ghost use Rattle.league.specs.Structure.{IsRoundRobin, first_half};
 ghost use Rattle.league.specs.Venues.{home_games};
-ghost use Rattle.patterns.specs.Patterns.{breaks_in, canonical_patterns, patterns_of, side_with};
-ghost use Rattle.patterns.specs.Told.{told_by};
+ghost use Rattle.patterns.specs.HomeTable.{table_pattern};
+ghost use Rattle.patterns.specs.Pattern.{breaks_in};
+ghost use Rattle.patterns.specs.PatternSet.{canonical_patterns, patterns_of, side_with, team_breaks};
 
 use crate::pattern::Pattern;
 use circle_method::single;
@@ -92,39 +95,46 @@ pub fn of_schedule(
     requires few { length schedule.now ≤ 10000 }
     requires fit { All (IsGame league.now.n) schedule.now }
     requires round_robin { IsRoundRobin league.now.n league.now.phased (counts_of schedule.now) }
-    ensures { IfOk result (λ patterns. patterns ≡ patterns_of league.now.n (counts_of schedule.now)) }
+    ensures patterns { IfOk result (λ patterns. patterns ≡ patterns_of league.now.n (counts_of schedule.now)) }
+
+    // The breaks in each team's pattern are the team's breaks of the season.
+    ensures breaks { IfOk result (λ patterns.
+        map breaks_in patterns ≡ team_breaks league.now.n (counts_of schedule.now) (slots_of league.now.n)) }
 {
     let n = league.n();
     let table = home_table(schedule.games());
-    patterns_told(alloc, &table, n, 2 * (n - 1))
+    patterns_from(alloc, &table, n, league.slots())
 }
 
-/// The canonical pattern set of n teams, for an even n from 2 to 40: the patterns of the single circle schedule, in its n - 1
-/// slots. They have n - 2 breaks together, the fewest that the patterns of a single round robin can have (de Werra).
+/// The canonical pattern set of n teams, for an even n from 2 to 40: the patterns of the single circle schedule, in its
+/// n - 1 slots. They have n - 2 breaks together, the fewest that the patterns of a single round robin can have (de
+/// Werra).
 ///
 /// # Errors
 /// Only where memory runs out.
 pub fn canonical(alloc: Global, n: u16) -> Result<PatternSet, AllocError>
-    requires even { n % 2 ≡ 0 }
-    requires at_least { 2 ≤ n }
-    requires at_most { n ≤ 40 }
+    requires teams { IsTeamCount n }
     ensures patterns { IfOk result (λ patterns. patterns ≡ canonical_patterns n) }
-    ensures breaks { IfOk result (λ patterns. sum_by breaks_in patterns ≡ n - 2) }
+
+    // The breaks in each team's pattern are the team's breaks of the single circle schedule.
+    ensures breaks { IfOk result (λ patterns.
+        map breaks_in patterns ≡ team_breaks n (counts_of (single_games n)) (first_half n)) }
+    ensures fewest { IfOk result (λ patterns. sum_by breaks_in patterns ≡ n - 2) }
 {
     let schedule = single(alloc, n)?;
     let table = home_table(schedule.games());
-    patterns_told(alloc, &table, n, n - 1)
+    patterns_from(alloc, &table, n, n - 1)
 }
 
 /// The patterns of n teams in the first slots, by the table of home games.
-fn patterns_told(alloc: Global, table: &Grid, n: u16, slots: u16) -> Result<PatternSet, AllocError>
+fn patterns_from(alloc: Global, table: &Grid, n: u16, slots: u16) -> Result<PatternSet, AllocError>
     requires teams { n ≤ 40 }
     requires slots { slots ≤ 78 }
-    ensures { IfOk result (λ patterns. patterns ≡ map (told_by slots table.now) (teams_of n)) }
+    ensures { IfOk result (λ patterns. patterns ≡ map (table_pattern slots table.now) (teams_of n)) }
 {
     let mut patterns = PatternSet::new(alloc);
     for team in 0..n {
-        patterns.push(pattern_told(alloc, table, team, slots)?)?;
+        patterns.push(pattern_from(alloc, table, team, slots)?)?;
     }
     Ok(patterns)
 }
@@ -133,7 +143,8 @@ fn patterns_told(alloc: Global, table: &Grid, n: u16, slots: u16) -> Result<Patt
 fn home_table(games: &[Game]) -> Grid
     requires few { length games.now ≤ 10000 }
     requires fit { All (IsGame 40) games.now }
-    ensures { (n : ℕ) → All (IsGame n) games.now → (i s : ℕ) → entry result i s ≡ home_games n (counts_of games.now) i s }
+    ensures { (n : ℕ) → All (IsGame n) games.now →
+        (i s : ℕ) → entry result i s ≡ home_games n (counts_of games.now) i s }
 {
     let mut table = Grid::new();
     for game in games {
@@ -143,10 +154,10 @@ fn home_table(games: &[Game]) -> Grid
 }
 
 /// The pattern of a team in the first slots, by the table of home games.
-fn pattern_told(alloc: Global, table: &Grid, team: u16, slots: u16) -> Result<Pattern, AllocError>
+fn pattern_from(alloc: Global, table: &Grid, team: u16, slots: u16) -> Result<Pattern, AllocError>
     requires team { team < 40 }
     requires slots { slots ≤ 78 }
-    ensures { IfOk result (λ pattern. pattern ≡ told_by slots table.now team) }
+    ensures { IfOk result (λ pattern. pattern ≡ table_pattern slots table.now team) }
 {
     let mut pattern = Pattern::new(alloc);
     for slot in 0..slots {
@@ -155,10 +166,10 @@ fn pattern_told(alloc: Global, table: &Grid, team: u16, slots: u16) -> Result<Pa
     Ok(pattern)
 }
 
-/// Where a team plays that has so many home games in a slot, one or none.
+/// Where a team plays that has so many home games in a slot: at home where it has at least one.
 fn side_at(at_home: u16) -> Side
     ensures side { result ≡ side_with at_home }
     ensures one_side { IsTrue (is_one_side result) }
 {
-    if at_home == 1 { Side::H } else { Side::A }
+    if at_home > 0 { Side::H } else { Side::A }
 }

@@ -1,7 +1,6 @@
 use Rattle.std.proofs.Common.{arith}
 use Rattle.std.proofs.lemmas.List.Sums.{sum_by_more}
-use Rattle.std.specs.List.{sum_by}
-use Rattle.league.specs.Breaks.{breaks_at}
+use Rattle.league.specs.Breaks.{breaks_among}
 use Rattle.league.specs.declared.class.Side.TheVariants.{Both}
 use Rattle.rule_core.specs.Table.{table_counts}
 use Rattle.breaks.proofs.sums.all_breaks.Goals as goal
@@ -11,6 +10,6 @@ team_breaks-breaks-requires-clause-team c = c.requires.teams c.loop-team.team-in
 
 pub loop-team-preserved : goal.loop-team-preserved
 loop-team-preserved c = record {
-  counted = omega (arith, c.loop-team.invariant.counted, c.team_breaks-breaks.ensures.breaks, sum_by_more (λ i. sum_by (λ s. breaks_at c.args.cells.now.n (table_counts c.args.cells.now) Both i s) c.args.slots.now) c.args.teams.now c.loop-team.team-index 0 c.loop-team-test.true);
+  counted = omega (arith, c.loop-team.invariant.counted, c.team_breaks-breaks.ensures.breaks, sum_by_more (breaks_among c.args.cells.now.n (table_counts c.args.cells.now) Both c.args.slots.now) c.args.teams.now c.loop-team.team-index 0 c.loop-team-test.true);
   bounded = omega (arith, c.loop-team.invariant.bounded, c.team_breaks-breaks.ensures.at_most);
 }

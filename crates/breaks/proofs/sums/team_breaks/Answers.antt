@@ -9,6 +9,6 @@ slot_breaks-breaks-requires-clause-slot c = c.requires.slots c.loop-slot.slot-in
 
 pub loop-slot-preserved : goal.loop-slot-preserved
 loop-slot-preserved c = record {
-  counted = omega (arith, c.loop-slot.invariant.counted, c.slot_breaks-breaks.ensures.breaks, sum_by_more (λ s. breaks_at c.args.cells.now.n (table_counts c.args.cells.now) c.args.side c.args.team s) c.args.slots.now c.loop-slot.slot-index 0 c.loop-slot-test.true);
+  counted = omega (arith, c.loop-slot.invariant.counted, c.slot_breaks-breaks.ensures.breaks, sum_by_more (λ s. breaks_at c.args.cells.now.n (table_counts c.args.cells.now) c.args.side c.args.team.0 s) c.args.slots.now c.loop-slot.slot-index 0 c.loop-slot-test.true);
   bounded = omega (arith, c.loop-slot.invariant.bounded, c.slot_breaks-breaks.ensures.at_most);
 }

@@ -6,6 +6,6 @@ use Rattle.breaks.proofs.sums.team_breaks.Given as goal
 
 abbrev pub invariant-loop-slot : goal.invariant-loop-slot
 invariant-loop-slot l = record {
-  counted : l.breaks ≡ sum_by (λ s. breaks_at l.cells.n (table_counts l.cells) l.side l.team s) (take l.slot-index l.slots);
+  counted : l.breaks ≡ sum_by (λ s. breaks_at l.cells.n (table_counts l.cells) l.side l.team.0 s) (take l.slot-index l.slots);
   bounded : l.breaks ≤ 2 * l.slot-index;
 }

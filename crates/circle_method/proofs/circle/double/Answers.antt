@@ -8,7 +8,7 @@ use Rattle.circle_method.proofs.circle.double.Goals as goal
 pub returned-requires-clause-in_half : goal.returned-requires-clause-in_half
 returned-requires-clause-in_half c =
     let within : c.loop-k.k < length (single_games c.args.n) = omega (arith, ap length c.in_ok-schedule.ensures.games) in
-    early_read c.args.n c.loop-k.k c.loop-k.schedule _ c.get-game.result c.requires.even c.requires.at_least c.loop-k.invariant within c.get-game.ensures
+    early_read c.args.n c.loop-k.k c.loop-k.schedule _ c.get-game.result c.requires.teams c.loop-k.invariant within c.get-game.ensures
 
 pub loop-k-preserved : goal.loop-k-preserved
 loop-k-preserved c =
@@ -18,19 +18,19 @@ loop-k-preserved c =
 pub returns-clause-round_robin : goal.returns-clause-round_robin
 returns-clause-round_robin c =
     let all : length (single_games c.args.n) ≤ c.loop-k.k = omega (arith, ap length c.in_ok-schedule.ensures.games) in
-    round_robin_of c.args.n c.loop-k.schedule c.requires.even c.requires.at_least (double_games-all c.args.n c.loop-k.k c.loop-k.schedule all c.loop-k.invariant)
+    round_robin_of c.args.n c.loop-k.schedule c.requires.teams (double_games-all c.args.n c.loop-k.k c.loop-k.schedule all c.loop-k.invariant)
 
 pub returns-clause-fit : goal.returns-clause-fit
 returns-clause-fit c =
     let all : length (single_games c.args.n) ≤ c.loop-k.k = omega (arith, ap length c.in_ok-schedule.ensures.games) in
-    fit_of c.args.n c.loop-k.schedule c.requires.even c.requires.at_least (double_games-all c.args.n c.loop-k.k c.loop-k.schedule all c.loop-k.invariant)
+    fit_of c.args.n c.loop-k.schedule c.requires.teams (double_games-all c.args.n c.loop-k.k c.loop-k.schedule all c.loop-k.invariant)
 
 pub returns-clause-count : goal.returns-clause-count
 returns-clause-count c =
     let all : length (single_games c.args.n) ≤ c.loop-k.k = omega (arith, ap length c.in_ok-schedule.ensures.games) in
-    count_of_games c.args.n c.loop-k.schedule c.requires.even c.requires.at_least (double_games-all c.args.n c.loop-k.k c.loop-k.schedule all c.loop-k.invariant)
+    count_of_games c.args.n c.loop-k.schedule c.requires.teams (double_games-all c.args.n c.loop-k.k c.loop-k.schedule all c.loop-k.invariant)
 
 pub returns-clause-breaks : goal.returns-clause-breaks
 returns-clause-breaks c =
     let all : length (single_games c.args.n) ≤ c.loop-k.k = omega (arith, ap length c.in_ok-schedule.ensures.games) in
-    breaks_of c.args.n c.loop-k.schedule c.requires.even c.requires.at_least (double_games-all c.args.n c.loop-k.k c.loop-k.schedule all c.loop-k.invariant)
+    breaks_of c.args.n c.loop-k.schedule c.requires.teams (double_games-all c.args.n c.loop-k.k c.loop-k.schedule all c.loop-k.invariant)

@@ -10,12 +10,12 @@ loop-slot-preserved c = single_games-more c.args.n c.loop-slot.slot c.loop-slot.
 
 pub returns-clause-round_robin : goal.returns-clause-round_robin
 returns-clause-round_robin c =
-    single_round_robin_of c.args.n c.loop-slot.schedule c.requires.even c.requires.at_least (c.loop-slot.invariant ∙ (let all : c.loop-slot.slot ≡ c.args.n - 1 = omega arith in ap (λ (k : ℕ). flat_map (slot_games c.args.n) (range_with_len 0 k)) all))
+    single_round_robin_of c.args.n c.loop-slot.schedule c.requires.teams (c.loop-slot.invariant ∙ (let all : c.loop-slot.slot ≡ c.args.n - 1 = omega arith in ap (λ (k : ℕ). flat_map (slot_games c.args.n) (range_with_len 0 k)) all))
 
 pub returns-clause-count : goal.returns-clause-count
 returns-clause-count c =
-    single_count_of c.args.n c.loop-slot.schedule c.requires.even c.requires.at_least (c.loop-slot.invariant ∙ (let all : c.loop-slot.slot ≡ c.args.n - 1 = omega arith in ap (λ (k : ℕ). flat_map (slot_games c.args.n) (range_with_len 0 k)) all))
+    single_count_of c.args.n c.loop-slot.schedule c.requires.teams (c.loop-slot.invariant ∙ (let all : c.loop-slot.slot ≡ c.args.n - 1 = omega arith in ap (λ (k : ℕ). flat_map (slot_games c.args.n) (range_with_len 0 k)) all))
 
 pub returns-clause-breaks : goal.returns-clause-breaks
 returns-clause-breaks c =
-    single_breaks_of c.args.n c.loop-slot.schedule c.requires.even c.requires.at_least (c.loop-slot.invariant ∙ (let all : c.loop-slot.slot ≡ c.args.n - 1 = omega arith in ap (λ (k : ℕ). flat_map (slot_games c.args.n) (range_with_len 0 k)) all))
+    single_breaks_of c.args.n c.loop-slot.schedule c.requires.teams (c.loop-slot.invariant ∙ (let all : c.loop-slot.slot ≡ c.args.n - 1 = omega arith in ap (λ (k : ℕ). flat_map (slot_games c.args.n) (range_with_len 0 k)) all))

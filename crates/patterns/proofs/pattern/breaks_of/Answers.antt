@@ -1,6 +1,6 @@
 use Rattle.std.proofs.Common.{◌≡◌, ℕ, ◌+◌, ◌-◌, length, ap, ◌∙◌, arith}
 use Rattle.std.specs.List.{count_by, range_with_len}
-use Rattle.patterns.specs.Patterns.{has_break}
+use Rattle.patterns.specs.Pattern.{has_break}
 use Rattle.league.proofs.RangeLemmas.{counted}
 use Rattle.league.proofs.TableLemmas.{from_bool-le}
 use Rattle.patterns.proofs.PatternLemmas.{has_break-read}

@@ -1,6 +1,6 @@
 use Rattle.std.proofs.Common.{◌≡◌, ◌-◌, ◌<◌, ◌≤◌, length}
 use Rattle.std.specs.List.{count_by, range_with_len}
-use Rattle.patterns.specs.Patterns.{has_break}
+use Rattle.patterns.specs.Pattern.{has_break}
 use Rattle.patterns.proofs.pattern.breaks_of.Given as goal
 
 abbrev pub invariant-loop-slot : goal.invariant-loop-slot

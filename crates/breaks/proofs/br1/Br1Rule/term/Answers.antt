@@ -4,5 +4,4 @@ use Rattle.breaks.proofs.br1.Br1Rule.term.Goals as goal
 
 pub returns-clause-entry : goal.returns-clause-entry
 returns-clause-entry g c =
-    let rule = c.args.self.now in
-    br1_term rule.scope.n (table_counts c.args.cells.now) rule.scope.teams.items rule.intp rule.side rule.scope.slots.items c.args.key c.args.cells.now.n c.index.result.now c.deref.result.now c.team_breaks-breaks.result c.saturating_sub.result c.requires.key c.requires.teams c.index.ensures c.deref.ensures.value c.team_breaks-breaks.ensures.breaks c.saturating_sub.ensures
+    br1_term c.args.self.now (table_counts c.args.cells.now) c.args.key c.args.cells.now.n c.get.result c.numbers.result.now c.team_breaks-breaks.result c.from.result c.saturating_sub.result c.requires.key c.requires.teams c.get.ensures c.numbers.ensures.numbers c.team_breaks-breaks.ensures.breaks c.from.ensures c.saturating_sub.ensures

@@ -4,5 +4,4 @@ use Rattle.breaks.proofs.br2.Br2Rule.term.Goals as goal
 
 pub returns-clause-entry : goal.returns-clause-entry
 returns-clause-entry g c =
-    let rule = c.args.self.now in
-    br2_term rule.scope.n (table_counts c.args.cells.now) rule.scope.teams.items rule.intp rule.scope.slots.items c.args.key c.args.cells.now.n c.deref.result.now c.deref-2.result.now c.all_breaks-breaks.result c.saturating_sub.result c.requires.key c.requires.teams c.deref.ensures.value c.deref-2.ensures.value c.all_breaks-breaks.ensures c.saturating_sub.ensures
+    br2_term c.args.self.now (table_counts c.args.cells.now) c.args._key c.args.cells.now.n c.numbers.result.now c.numbers-2.result.now c.all_breaks-breaks.result c.from.result c.saturating_sub.result c.requires.key c.requires.teams c.numbers.ensures.numbers c.numbers-2.ensures.numbers c.all_breaks-breaks.ensures c.from.ensures c.saturating_sub.ensures

@@ -1,9 +1,9 @@
 use Rattle.std.proofs.Common.{◌≡◌, ℕ, length, ap, ◌∙◌, arith}
 use Rattle.league.specs.Grid.{entry}
 use Rattle.league.specs.declared.class.Side.{Side}
-use Rattle.patterns.specs.Patterns.{side_with}
+use Rattle.patterns.specs.PatternSet.{side_with}
 use Rattle.patterns.proofs.PatternLemmas.{length-made, made-more}
-use Rattle.patterns.proofs.pattern_set.pattern_told.Goals as goal
+use Rattle.patterns.proofs.pattern_set.pattern_from.Goals as goal
 
 pub push-requires-clause-room : goal.push-requires-clause-room
 push-requires-clause-room c =

@@ -1,7 +1,0 @@
-use Rattle.std.proofs.Common.{◌≡◌, map}
-use Rattle.std.specs.List.{range_with_len}
-use Rattle.patterns.specs.Told.{told_by}
-use Rattle.patterns.proofs.pattern_set.patterns_told.Given as goal
-
-abbrev pub invariant-loop-team : goal.invariant-loop-team
-invariant-loop-team l = l.patterns ≡ map (told_by l.slots l.table) (range_with_len 0 l.team)
