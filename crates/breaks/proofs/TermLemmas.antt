@@ -1,12 +1,12 @@
 -- What the evaluation of a term adds up to.
 use Rattle.std.proofs.Common.{◌≡◌, ℕ, ◌-◌, ◌<◌, zero, suc, List, get_or, arith, ap, sym, refl, ◌∙◌}
-use Rattle.league.specs.Breaks.{all_breaks, br2_entry, breaks_among}
+use Rattle.std.proofs.lemmas.List.{get_or-map}
+use Rattle.league.specs.Breaks.{all_breaks, br1_entry, br2_entry, breaks_among}
 use Rattle.league.specs.Counts.{Counts}
 use Rattle.league.specs.Deviation.{entry_of}
 use Rattle.rule_core.specs.Ready.{entry_count}
 use Rattle.breaks.specs.Br1 as br1
 use Rattle.breaks.specs.Br2 as br2
-use Rattle.breaks.specs.Br1Laws.{entry-by_team}
 use Rattle.breaks.specs.declared.br1.Br1.{Br1}
 use Rattle.breaks.specs.declared.br2.Br2.{Br2}
 
@@ -20,7 +20,7 @@ br1_term r m key teams team slots breaks bound result inside same is_team are_sl
     ∙ ap (λ (xs : List ℕ). breaks_among teams m r.side xs team) are_slots
     ∙ ap (λ (k : ℕ). breaks_among k m r.side r.scope.slots team) same
     ∙ ap (breaks_among r.n m r.side r.scope.slots) is_team)
-    ∙ sym (entry-by_team r m key inside)
+    ∙ sym (get_or-map (br1_entry r.n m r.intp r.side r.scope.slots) r.scope.teams key 0 0 inside)
 
 -- the one entry
 only_entry : (r : Br2) (m : Counts) (key : ℕ) → key < entry_count (br2.class_of r) → br2_entry r.n m r.scope.teams r.intp r.scope.slots ≡ entry_of r.n m (br2.class_of r) key

@@ -48,9 +48,9 @@ impl Entries for Br2 {
     ghost use Rattle.league.specs.Deviation.{entry_of};
     ghost use Rattle.rule_core.specs.Ready.{entry_count};
     ghost use Rattle.rule_core.specs.Touched.{most_touched, touched_keys};
+    ghost use Rattle.rule_core.proofs.FrameLemmas.{touched_keys-frame};
     ghost use Rattle.rule_core.proofs.TouchedLemmas.{touched_keys-ascending, touched_keys-below, touched_keys-few};
     ghost use Rattle.breaks.specs.Br2.{class_of};
-    ghost use Rattle.breaks.specs.Br2Laws.{br2-frame};
 
     ghost team_count = { λ r. r.n };
 
@@ -60,15 +60,15 @@ impl Entries for Br2 {
 
     ghost entry = { λ r k m. entry_of r.n m (class_of r) k };
 
-    ghost touches = { λ r g. touched_keys (class_of r) g };
+    ghost touches = { λ r. touched_keys (class_of r) };
 
-    ghost few = { λ r g fits. touched_keys-few r.n (class_of r) r.ready g fits };
+    ghost few = { λ r. touched_keys-few r.n (class_of r) r.ready };
 
     ghost below = { λ r g fits. touched_keys-below (class_of r) g };
 
     ghost ascending = { λ r g fits. touched_keys-ascending (class_of r) g };
 
-    ghost frame = { λ r g m k fits inside lacks. br2-frame r g m k fits inside lacks };
+    ghost frame = { λ r. touched_keys-frame r.n (class_of r) };
 
     fn teams(&self) -> u16 {
         self.n

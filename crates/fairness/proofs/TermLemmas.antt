@@ -2,6 +2,7 @@
 use Rattle.std.proofs.Common.{◌≡◌, ℕ, ◌<◌, List, ap, subst, sym, ◌∙◌, Some}
 use Rattle.std.specs.Prelude.{slice_get}
 use Rattle.std.proofs.lemmas.Bool.{and_parts}
+use Rattle.std.proofs.lemmas.List.{get_or-map}
 use Rattle.std.specs.List.{All}
 use Rattle.std.specs.Ordering.{nat_cmp}
 use Rattle.league.specs.Counts.{Counts, slot_count}
@@ -14,7 +15,6 @@ use Rattle.league.proofs.FitLemmas.{are_slots-ascending, are_slots-below, are_te
 use Rattle.rule_core.specs.Ready.{entry_count}
 use Rattle.rule_core.proofs.PairLemmas.{pair_read}
 use Rattle.fairness.specs.Fa2.{class_of}
-use Rattle.fairness.specs.Fa2Laws.{entry-by_pair}
 use Rattle.fairness.specs.declared.fa2.Fa2.{Fa2}
 
 -- the teams and the slots are of the league, and the slots ascend
@@ -41,4 +41,4 @@ fa2_term r m slots key teams x y result inside same is are_slots led =
     ∙ ap (λ (xs : List ℕ). fa2_entry teams m r.intp xs (x, y)) are_slots
     ∙ ap (λ (k : ℕ). fa2_entry k m r.intp r.slots.items (x, y)) same
     ∙ ap (λ (p : ℕ × ℕ). fa2_entry r.n m r.intp r.slots.items p) (sym (pair_read r.pairs key x y is))
-    ∙ sym (entry-by_pair r m key inside)
+    ∙ sym (get_or-map (fa2_entry r.n m r.intp r.slots.items) (pairs_of r.pairs) key (0, 0) 0 inside)
