@@ -12,7 +12,6 @@ use Rattle.league.specs.declared.class.Side.TheVariants.{H, A, Both}
 use Rattle.league.specs.declared.class.Span.TheVariants.{Global, Every}
 use Rattle.league.proofs.AcceptedLemmas.{sum-from_MeetsHard}
 use Rattle.league.proofs.DoubleFour.{all_slots, all_teams, four, game}
-use Rattle.deviation.specs.Reach.{class_reach, class_touches}
 
 -- Four teams; team 0 is in every game: twice at home to 1 in slot 0, where it also plays away, and twice in slots 1 and 5.
 -- By slot it has 2 1 0 1 0 1 home games and 1 1 1 0 0 1 away games; team 1 is at home in slot 2 alone, team 3 in slots 0 and 5.
@@ -35,42 +34,42 @@ pub structure-phases : phases_wrong 4 true uneven ≡ 5
 structure-phases = refl
 
 -- in slots 0, 1 and 5 team 0 has 2 + 1 + 1 home games, 3 beyond 1, and team 1 has none
-pub ca1-home : entries (Ca1 (0 ∷ 1 ∷ []) 1 H (0 ∷ 1 ∷ 5 ∷ [])) ≡ 3 ∷ 0 ∷ []
+pub ca1-home : entries (Ca1 (0 ∷ 1 ∷ []) 0 1 H (0 ∷ 1 ∷ 5 ∷ [])) ≡ 3 ∷ 0 ∷ []
 ca1-home = refl
 
 -- team 0 is away once in each of them, team 1 twice in slot 0 and once in slot 5
-pub ca1-away : entries (Ca1 (0 ∷ 1 ∷ []) 1 A (0 ∷ 1 ∷ 5 ∷ [])) ≡ 2 ∷ 2 ∷ []
+pub ca1-away : entries (Ca1 (0 ∷ 1 ∷ []) 0 1 A (0 ∷ 1 ∷ 5 ∷ [])) ≡ 2 ∷ 2 ∷ []
 ca1-away = refl
 
 -- in slots 0 to 2, team 0 has two games and one with 1 and one with 2, and those with 3 don't count; team 2 has one with 0
-pub ca2-both : entries (Ca2 (0 ∷ 2 ∷ []) (0 ∷ 1 ∷ 2 ∷ []) 1 Both (0 ∷ 1 ∷ 2 ∷ [])) ≡ 3 ∷ 0 ∷ []
+pub ca2-both : entries (Ca2 (0 ∷ 2 ∷ []) (0 ∷ 1 ∷ 2 ∷ []) 0 1 Both (0 ∷ 1 ∷ 2 ∷ [])) ≡ 3 ∷ 0 ∷ []
 ca2-both = refl
 
 -- team 0 is away to 2 in slot 1 and to 1 in slot 2
-pub ca2-away : entries (Ca2 (0 ∷ 2 ∷ []) (0 ∷ 1 ∷ 2 ∷ []) 1 A (0 ∷ 1 ∷ 2 ∷ [])) ≡ 1 ∷ 0 ∷ []
+pub ca2-away : entries (Ca2 (0 ∷ 2 ∷ []) (0 ∷ 1 ∷ 2 ∷ []) 0 1 A (0 ∷ 1 ∷ 2 ∷ [])) ≡ 1 ∷ 0 ∷ []
 ca2-away = refl
 
 -- the slots 0 to 4 have 4 home games of team 0, 2 beyond 2, and the slots 1 to 5 have 3, 1 beyond: both windows count
-pub ca3-two_windows : entries (Ca3 (0 ∷ []) (1 ∷ 2 ∷ 3 ∷ []) 2 5 H) ≡ 3 ∷ []
+pub ca3-two_windows : entries (Ca3 (0 ∷ []) (1 ∷ 2 ∷ 3 ∷ []) 0 2 5 H) ≡ 3 ∷ []
 ca3-two_windows = refl
 
 -- windows of two slots overlap: they have 3 1 1 1 1 home games
-pub ca3-overlapping : entries (Ca3 (0 ∷ []) (1 ∷ 2 ∷ 3 ∷ []) 0 2 H) ≡ 7 ∷ []
+pub ca3-overlapping : entries (Ca3 (0 ∷ []) (1 ∷ 2 ∷ 3 ∷ []) 0 0 2 H) ≡ 7 ∷ []
 ca3-overlapping = refl
 
 -- at home 0 or 3, away 0 or 1: in slot 0 three games, in slot 1 none, in slot 5 two
-pub ca4-home : entries (Ca4 (0 ∷ 3 ∷ []) (0 ∷ 1 ∷ []) 1 H Global (0 ∷ 1 ∷ 5 ∷ [])) ≡ 4 ∷ []
+pub ca4-home : entries (Ca4 (0 ∷ 3 ∷ []) (0 ∷ 1 ∷ []) 0 1 H Global (0 ∷ 1 ∷ 5 ∷ [])) ≡ 4 ∷ []
 ca4-home = refl
 
 -- away 0 or 3, at home 0 or 1: 3 at 0 in slot 1
-pub ca4-away : entries (Ca4 (0 ∷ 3 ∷ []) (0 ∷ 1 ∷ []) 0 A Global (0 ∷ 1 ∷ 5 ∷ [])) ≡ 1 ∷ []
+pub ca4-away : entries (Ca4 (0 ∷ 3 ∷ []) (0 ∷ 1 ∷ []) 0 0 A Global (0 ∷ 1 ∷ 5 ∷ [])) ≡ 1 ∷ []
 ca4-away = refl
 
-pub ca4-both_every : entries (Ca4 (0 ∷ 3 ∷ []) (0 ∷ 1 ∷ []) 0 Both Every (0 ∷ 1 ∷ 5 ∷ [])) ≡ 3 ∷ 1 ∷ 2 ∷ []
+pub ca4-both_every : entries (Ca4 (0 ∷ 3 ∷ []) (0 ∷ 1 ∷ []) 0 0 Both Every (0 ∷ 1 ∷ 5 ∷ [])) ≡ 3 ∷ 1 ∷ 2 ∷ []
 ca4-both_every = refl
 
 -- 1 at 0 twice and 0 at 1 once: each is of both sets with both, and counts once
-pub ca4-within_one_set : entries (Ca4 (0 ∷ 1 ∷ []) (0 ∷ 1 ∷ []) 0 Both Global (0 ∷ 2 ∷ [])) ≡ 3 ∷ []
+pub ca4-within_one_set : entries (Ca4 (0 ∷ 1 ∷ []) (0 ∷ 1 ∷ []) 0 0 Both Global (0 ∷ 2 ∷ [])) ≡ 3 ∷ []
 ca4-within_one_set = refl
 
 -- 1 at 0 has 2 + 1 games and 0 at 3 has 1 + 1
@@ -105,10 +104,10 @@ demands = record {
   n = 4;
   phased = true;
   constraints =
-      record { hard = true; penalty = 3; class = Ca1 (0 ∷ 1 ∷ []) 1 H (0 ∷ 1 ∷ 5 ∷ []) }
+      record { hard = true; penalty = 3; class = Ca1 (0 ∷ 1 ∷ []) 0 1 H (0 ∷ 1 ∷ 5 ∷ []) }
       ∷ record { hard = false; penalty = 5; class = Fa2 (0 ∷ 1 ∷ 3 ∷ []) 1 (1 ∷ 2 ∷ []) }
       ∷ record { hard = true; penalty = 0; class = Br2 all_teams 1 all_slots }
-      ∷ record { hard = false; penalty = 2; class = Ca4 (0 ∷ 3 ∷ []) (0 ∷ 1 ∷ []) 0 Both Every (0 ∷ 1 ∷ 5 ∷ []) }
+      ∷ record { hard = false; penalty = 2; class = Ca4 (0 ∷ 3 ∷ []) (0 ∷ 1 ∷ []) 0 0 Both Every (0 ∷ 1 ∷ 5 ∷ []) }
       ∷ [];
 }
 
@@ -127,25 +126,3 @@ infeasibility-penalty_0 = refl
 
 pub refused-penalty_0 : IsAccepted strict four → ⊥
 refused-penalty_0 accepted = let none : 1 ≡ 0 = sum-from_MeetsHard strict four accepted.hard in absurd (omega (arith, none))
-
--- a game changes the entry of one team at CA1, those of both teams at BR1, and those of its home team's pairs at FA2
-pub reach-of_three_teams : (class_reach (Ca1 (0 ∷ 1 ∷ 3 ∷ []) 1 H all_slots) ≡ 1) × (class_reach (Br1 (0 ∷ 1 ∷ 3 ∷ []) 1 Both all_slots) ≡ 2) × (class_reach (Fa2 (0 ∷ 1 ∷ 3 ∷ []) 1 all_slots) ≡ 2)
-reach-of_three_teams = (refl, refl, refl)
-
-pub reach-no_team : class_reach (Fa2 [] 1 all_slots) ≡ 0
-reach-no_team = refl
-
--- what the game of 0 at home to 1 in slot 2 touches: 0 at home; 0 and 1, who meet; 1, away to 0; the second slot; the meeting; 1, whose
--- break at slot 3 it can make; nothing, since 3 doesn't play; the pairs 0 1 and 0 2; the pair 0 1
-pub touches-by_class : map (λ class. class_touches class (game 0 1 2))
-    (Ca1 (0 ∷ 1 ∷ []) 0 H (2 ∷ [])
-    ∷ Ca2 (0 ∷ 1 ∷ []) (0 ∷ 1 ∷ []) 0 Both (2 ∷ [])
-    ∷ Ca3 (1 ∷ 2 ∷ []) (0 ∷ []) 0 3 A
-    ∷ Ca4 (0 ∷ []) (1 ∷ []) 0 H Every (1 ∷ 2 ∷ [])
-    ∷ Ga1 ((0, 1) ∷ []) 1 1 (2 ∷ [])
-    ∷ Br1 (1 ∷ 3 ∷ []) 0 Both (3 ∷ [])
-    ∷ Br2 (3 ∷ []) 0 (2 ∷ [])
-    ∷ Fa2 (0 ∷ 1 ∷ 2 ∷ []) 0 (2 ∷ [])
-    ∷ Se1 (0 ∷ 1 ∷ 2 ∷ []) 1
-    ∷ []) ≡ (0 ∷ []) ∷ (0 ∷ 1 ∷ []) ∷ (0 ∷ []) ∷ (1 ∷ []) ∷ (0 ∷ []) ∷ (0 ∷ []) ∷ [] ∷ (0 ∷ 1 ∷ []) ∷ (0 ∷ []) ∷ []
-touches-by_class = refl

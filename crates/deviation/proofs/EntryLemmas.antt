@@ -1,5 +1,5 @@
 -- Vectors by their entries, and counts by their games.
-use Rattle.std.proofs.Common.{◌≡◌, ℕ, ◌+◌, ◌*◌, ◌<◌, ◌≤◌, zero, suc, List, [], ◌∷◌, ◌++◌, length, map, get_or, take, sum, Result, Ok, Err, IfOk, refl, ap, sym, ◌∙◌, arith}
+use Rattle.std.proofs.Common.{◌≡◌, ℕ, ◌+◌, ◌*◌, ◌<◌, ◌≤◌, zero, suc, List, [], ◌∷◌, ◌++◌, length, map, get_or, take, sum, refl, ap, sym, ◌∙◌, arith}
 use Rattle.std.proofs.lemmas.List.{take_more}
 use Rattle.std.proofs.lemmas.List.Sums.{sum_by-cons, sum_by_push}
 use Rattle.std.proofs.lemmas.List.Sums.{fold-append}
@@ -38,11 +38,6 @@ vector-by_entries n m class count entry entries many each are =
     ∙ ap (λ (k : ℕ). map entry (range_with_len 0 k)) many
     ∙ map-same entry (λ k. entry_of n m class k) each (range_with_len 0 (length (vector_of n m class)))
     ∙ listed (vector_of n m class)
-
--- what holds of a value holds of it in another form
-pub IfOk-map : {T E : Type 0} {P Q : T → Type 0} (r : Result T E) → ((x : T) → P x → Q x) → IfOk r P → IfOk r Q
-IfOk-map (Ok x) weaker p = weaker x p
-IfOk-map (Err e) weaker p = p
 
 -- what an index past the end of a list of games would read
 abbrev no_game : Game

@@ -1,3 +1,2 @@
--- What is assessed:
-pub mod Reach
+-- Kept inside (laws, and how fields are seen):
 pub mod Assess

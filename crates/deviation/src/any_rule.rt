@@ -1,16 +1,13 @@
 //! A rule of any class.
-ghost use Rattle.std.specs.Prelude.{◌≡◌, ℕ, ◌≤◌, length, IfOk, IsTrue};
-ghost use Rattle.league.specs.Counts.{Counts};
-ghost use Rattle.league.specs.Deviation.{entry_of, vector_of};
-ghost use Rattle.league.specs.Instance.{IsGame, class_fits};
-ghost use Rattle.league.specs.declared.game.Game.{Game};
-ghost use Rattle.deviation.specs.Reach.{class_reach, class_touches};
+ghost use Rattle.std.specs.Prelude.{◌≤◌, IfOk, IsTrue};
+ghost use Rattle.league.specs.Instance.{class_fits};
+ghost use Rattle.rule_core.specs.Rule.{IsRuleOf};
 
 use breaks::{Br1, Br2};
 use capacity::{Ca1, Ca2, Ca3, Ca4};
 use fairness::Fa2;
 use games::Ga1;
-use league::{Class, Constraint, Game};
+use league::{ClassName, Constraint, Game};
 use rule_core::{Cells, Entries, Keys, Rule, Steps};
 use separation::Se1;
 use std::alloc::{AllocError, Global};
@@ -37,23 +34,18 @@ impl AnyRule {
     pub fn new(alloc: Global, n: u16, constraint: &Constraint) -> Result<AnyRule, AllocError>
         requires at_most { n ≤ 40 }
         requires fits { IsTrue (class_fits n constraint.now.class) }
-        ensures teams { IfOk result (λ rule. ⟦<AnyRule as Entries>⟧.team_count rule ≡ n) }
-        ensures terms { IfOk result (λ rule. (m : Counts) → ⟦<AnyRule as Entries>⟧.term_count rule ≡ length (vector_of n m constraint.now.class)) }
-        ensures entries { IfOk result (λ rule. (k : ℕ) (m : Counts) → ⟦<AnyRule as Entries>⟧.entry rule k m ≡ entry_of n m constraint.now.class k) }
-        ensures reach { IfOk result (λ rule. ⟦<AnyRule as Entries>⟧.reach_of rule ≡ class_reach constraint.now.class) }
-        ensures short { IfOk result (λ rule. ⟦<AnyRule as Entries>⟧.term_count rule ≤ 1600) }
-        ensures touches { IfOk result (λ rule. (g : Game) → IsGame n g → ⟦<AnyRule as Entries>⟧.touches rule g ≡ class_touches constraint.now.class g) }
+        ensures rule { IfOk result (IsRuleOf ⟦<AnyRule as Entries>⟧ n constraint.now.class) }
     {
-        Ok(match &constraint.class {
-            Class::Ca1 { .. } => AnyRule::Ca1(Ca1::new(alloc, n, constraint)?),
-            Class::Ca2 { .. } => AnyRule::Ca2(Ca2::new(alloc, n, constraint)?),
-            Class::Ca3 { .. } => AnyRule::Ca3(Ca3::new(alloc, n, constraint)?),
-            Class::Ca4 { .. } => AnyRule::Ca4(Ca4::new(alloc, n, constraint)?),
-            Class::Ga1 { .. } => AnyRule::Ga1(Ga1::new(alloc, n, constraint)?),
-            Class::Br1 { .. } => AnyRule::Br1(Br1::new(alloc, n, constraint)?),
-            Class::Br2 { .. } => AnyRule::Br2(Br2::new(alloc, n, constraint)?),
-            Class::Fa2 { .. } => AnyRule::Fa2(Fa2::new(alloc, n, constraint)?),
-            Class::Se1 { .. } => AnyRule::Se1(Se1::new(alloc, n, constraint)?),
+        Ok(match constraint.class.name() {
+            ClassName::Ca1 => AnyRule::Ca1(Ca1::new(alloc, n, constraint)?),
+            ClassName::Ca2 => AnyRule::Ca2(Ca2::new(alloc, n, constraint)?),
+            ClassName::Ca3 => AnyRule::Ca3(Ca3::new(alloc, n, constraint)?),
+            ClassName::Ca4 => AnyRule::Ca4(Ca4::new(alloc, n, constraint)?),
+            ClassName::Ga1 => AnyRule::Ga1(Ga1::new(alloc, n, constraint)?),
+            ClassName::Br1 => AnyRule::Br1(Br1::new(alloc, n, constraint)?),
+            ClassName::Br2 => AnyRule::Br2(Br2::new(alloc, n, constraint)?),
+            ClassName::Fa2 => AnyRule::Fa2(Fa2::new(alloc, n, constraint)?),
+            ClassName::Se1 => AnyRule::Se1(Se1::new(alloc, n, constraint)?),
         })
     }
 }
@@ -70,23 +62,113 @@ impl Entries for AnyRule {
     ghost use Rattle.fairness.specs.contracts.fa2.Fa2Entries.TheImpl.Laws as fa2_laws;
     ghost use Rattle.separation.specs.contracts.se1.Se1Entries.TheImpl.Laws as se1_laws;
 
-    ghost team_count = { elim [ Ca1 r ↦ ⟦<Ca1 as Entries>⟧.team_count r | Ca2 r ↦ ⟦<Ca2 as Entries>⟧.team_count r | Ca3 r ↦ ⟦<Ca3 as Entries>⟧.team_count r | Ca4 r ↦ ⟦<Ca4 as Entries>⟧.team_count r | Ga1 r ↦ ⟦<Ga1 as Entries>⟧.team_count r | Br1 r ↦ ⟦<Br1 as Entries>⟧.team_count r | Br2 r ↦ ⟦<Br2 as Entries>⟧.team_count r | Fa2 r ↦ ⟦<Fa2 as Entries>⟧.team_count r | Se1 r ↦ ⟦<Se1 as Entries>⟧.team_count r ] };
+    ghost team_count = { elim [
+      | Ca1 r ↦ ⟦<Ca1 as Entries>⟧.team_count r
+      | Ca2 r ↦ ⟦<Ca2 as Entries>⟧.team_count r
+      | Ca3 r ↦ ⟦<Ca3 as Entries>⟧.team_count r
+      | Ca4 r ↦ ⟦<Ca4 as Entries>⟧.team_count r
+      | Ga1 r ↦ ⟦<Ga1 as Entries>⟧.team_count r
+      | Br1 r ↦ ⟦<Br1 as Entries>⟧.team_count r
+      | Br2 r ↦ ⟦<Br2 as Entries>⟧.team_count r
+      | Fa2 r ↦ ⟦<Fa2 as Entries>⟧.team_count r
+      | Se1 r ↦ ⟦<Se1 as Entries>⟧.team_count r
+    ] };
 
-    ghost term_count = { elim [ Ca1 r ↦ ⟦<Ca1 as Entries>⟧.term_count r | Ca2 r ↦ ⟦<Ca2 as Entries>⟧.term_count r | Ca3 r ↦ ⟦<Ca3 as Entries>⟧.term_count r | Ca4 r ↦ ⟦<Ca4 as Entries>⟧.term_count r | Ga1 r ↦ ⟦<Ga1 as Entries>⟧.term_count r | Br1 r ↦ ⟦<Br1 as Entries>⟧.term_count r | Br2 r ↦ ⟦<Br2 as Entries>⟧.term_count r | Fa2 r ↦ ⟦<Fa2 as Entries>⟧.term_count r | Se1 r ↦ ⟦<Se1 as Entries>⟧.term_count r ] };
+    ghost term_count = { elim [
+      | Ca1 r ↦ ⟦<Ca1 as Entries>⟧.term_count r
+      | Ca2 r ↦ ⟦<Ca2 as Entries>⟧.term_count r
+      | Ca3 r ↦ ⟦<Ca3 as Entries>⟧.term_count r
+      | Ca4 r ↦ ⟦<Ca4 as Entries>⟧.term_count r
+      | Ga1 r ↦ ⟦<Ga1 as Entries>⟧.term_count r
+      | Br1 r ↦ ⟦<Br1 as Entries>⟧.term_count r
+      | Br2 r ↦ ⟦<Br2 as Entries>⟧.term_count r
+      | Fa2 r ↦ ⟦<Fa2 as Entries>⟧.term_count r
+      | Se1 r ↦ ⟦<Se1 as Entries>⟧.term_count r
+    ] };
 
-    ghost reach_of = { elim [ Ca1 r ↦ ⟦<Ca1 as Entries>⟧.reach_of r | Ca2 r ↦ ⟦<Ca2 as Entries>⟧.reach_of r | Ca3 r ↦ ⟦<Ca3 as Entries>⟧.reach_of r | Ca4 r ↦ ⟦<Ca4 as Entries>⟧.reach_of r | Ga1 r ↦ ⟦<Ga1 as Entries>⟧.reach_of r | Br1 r ↦ ⟦<Br1 as Entries>⟧.reach_of r | Br2 r ↦ ⟦<Br2 as Entries>⟧.reach_of r | Fa2 r ↦ ⟦<Fa2 as Entries>⟧.reach_of r | Se1 r ↦ ⟦<Se1 as Entries>⟧.reach_of r ] };
+    ghost reach_of = { elim [
+      | Ca1 r ↦ ⟦<Ca1 as Entries>⟧.reach_of r
+      | Ca2 r ↦ ⟦<Ca2 as Entries>⟧.reach_of r
+      | Ca3 r ↦ ⟦<Ca3 as Entries>⟧.reach_of r
+      | Ca4 r ↦ ⟦<Ca4 as Entries>⟧.reach_of r
+      | Ga1 r ↦ ⟦<Ga1 as Entries>⟧.reach_of r
+      | Br1 r ↦ ⟦<Br1 as Entries>⟧.reach_of r
+      | Br2 r ↦ ⟦<Br2 as Entries>⟧.reach_of r
+      | Fa2 r ↦ ⟦<Fa2 as Entries>⟧.reach_of r
+      | Se1 r ↦ ⟦<Se1 as Entries>⟧.reach_of r
+    ] };
 
-    ghost entry = { elim [ Ca1 r ↦ ⟦<Ca1 as Entries>⟧.entry r | Ca2 r ↦ ⟦<Ca2 as Entries>⟧.entry r | Ca3 r ↦ ⟦<Ca3 as Entries>⟧.entry r | Ca4 r ↦ ⟦<Ca4 as Entries>⟧.entry r | Ga1 r ↦ ⟦<Ga1 as Entries>⟧.entry r | Br1 r ↦ ⟦<Br1 as Entries>⟧.entry r | Br2 r ↦ ⟦<Br2 as Entries>⟧.entry r | Fa2 r ↦ ⟦<Fa2 as Entries>⟧.entry r | Se1 r ↦ ⟦<Se1 as Entries>⟧.entry r ] };
+    ghost entry = { elim [
+      | Ca1 r ↦ ⟦<Ca1 as Entries>⟧.entry r
+      | Ca2 r ↦ ⟦<Ca2 as Entries>⟧.entry r
+      | Ca3 r ↦ ⟦<Ca3 as Entries>⟧.entry r
+      | Ca4 r ↦ ⟦<Ca4 as Entries>⟧.entry r
+      | Ga1 r ↦ ⟦<Ga1 as Entries>⟧.entry r
+      | Br1 r ↦ ⟦<Br1 as Entries>⟧.entry r
+      | Br2 r ↦ ⟦<Br2 as Entries>⟧.entry r
+      | Fa2 r ↦ ⟦<Fa2 as Entries>⟧.entry r
+      | Se1 r ↦ ⟦<Se1 as Entries>⟧.entry r
+    ] };
 
-    ghost touches = { elim [ Ca1 r ↦ ⟦<Ca1 as Entries>⟧.touches r | Ca2 r ↦ ⟦<Ca2 as Entries>⟧.touches r | Ca3 r ↦ ⟦<Ca3 as Entries>⟧.touches r | Ca4 r ↦ ⟦<Ca4 as Entries>⟧.touches r | Ga1 r ↦ ⟦<Ga1 as Entries>⟧.touches r | Br1 r ↦ ⟦<Br1 as Entries>⟧.touches r | Br2 r ↦ ⟦<Br2 as Entries>⟧.touches r | Fa2 r ↦ ⟦<Fa2 as Entries>⟧.touches r | Se1 r ↦ ⟦<Se1 as Entries>⟧.touches r ] };
+    ghost touches = { elim [
+      | Ca1 r ↦ ⟦<Ca1 as Entries>⟧.touches r
+      | Ca2 r ↦ ⟦<Ca2 as Entries>⟧.touches r
+      | Ca3 r ↦ ⟦<Ca3 as Entries>⟧.touches r
+      | Ca4 r ↦ ⟦<Ca4 as Entries>⟧.touches r
+      | Ga1 r ↦ ⟦<Ga1 as Entries>⟧.touches r
+      | Br1 r ↦ ⟦<Br1 as Entries>⟧.touches r
+      | Br2 r ↦ ⟦<Br2 as Entries>⟧.touches r
+      | Fa2 r ↦ ⟦<Fa2 as Entries>⟧.touches r
+      | Se1 r ↦ ⟦<Se1 as Entries>⟧.touches r
+    ] };
 
-    ghost few = { elim [ Ca1 r ↦ ca1_laws.few-law r | Ca2 r ↦ ca2_laws.few-law r | Ca3 r ↦ ca3_laws.few-law r | Ca4 r ↦ ca4_laws.few-law r | Ga1 r ↦ ga1_laws.few-law r | Br1 r ↦ br1_laws.few-law r | Br2 r ↦ br2_laws.few-law r | Fa2 r ↦ fa2_laws.few-law r | Se1 r ↦ se1_laws.few-law r ] };
+    ghost few = { elim [
+      | Ca1 r ↦ ca1_laws.few-law r
+      | Ca2 r ↦ ca2_laws.few-law r
+      | Ca3 r ↦ ca3_laws.few-law r
+      | Ca4 r ↦ ca4_laws.few-law r
+      | Ga1 r ↦ ga1_laws.few-law r
+      | Br1 r ↦ br1_laws.few-law r
+      | Br2 r ↦ br2_laws.few-law r
+      | Fa2 r ↦ fa2_laws.few-law r
+      | Se1 r ↦ se1_laws.few-law r
+    ] };
 
-    ghost below = { elim [ Ca1 r ↦ ca1_laws.below-law r | Ca2 r ↦ ca2_laws.below-law r | Ca3 r ↦ ca3_laws.below-law r | Ca4 r ↦ ca4_laws.below-law r | Ga1 r ↦ ga1_laws.below-law r | Br1 r ↦ br1_laws.below-law r | Br2 r ↦ br2_laws.below-law r | Fa2 r ↦ fa2_laws.below-law r | Se1 r ↦ se1_laws.below-law r ] };
+    ghost below = { elim [
+      | Ca1 r ↦ ca1_laws.below-law r
+      | Ca2 r ↦ ca2_laws.below-law r
+      | Ca3 r ↦ ca3_laws.below-law r
+      | Ca4 r ↦ ca4_laws.below-law r
+      | Ga1 r ↦ ga1_laws.below-law r
+      | Br1 r ↦ br1_laws.below-law r
+      | Br2 r ↦ br2_laws.below-law r
+      | Fa2 r ↦ fa2_laws.below-law r
+      | Se1 r ↦ se1_laws.below-law r
+    ] };
 
-    ghost ascending = { elim [ Ca1 r ↦ ca1_laws.ascending-law r | Ca2 r ↦ ca2_laws.ascending-law r | Ca3 r ↦ ca3_laws.ascending-law r | Ca4 r ↦ ca4_laws.ascending-law r | Ga1 r ↦ ga1_laws.ascending-law r | Br1 r ↦ br1_laws.ascending-law r | Br2 r ↦ br2_laws.ascending-law r | Fa2 r ↦ fa2_laws.ascending-law r | Se1 r ↦ se1_laws.ascending-law r ] };
+    ghost ascending = { elim [
+      | Ca1 r ↦ ca1_laws.ascending-law r
+      | Ca2 r ↦ ca2_laws.ascending-law r
+      | Ca3 r ↦ ca3_laws.ascending-law r
+      | Ca4 r ↦ ca4_laws.ascending-law r
+      | Ga1 r ↦ ga1_laws.ascending-law r
+      | Br1 r ↦ br1_laws.ascending-law r
+      | Br2 r ↦ br2_laws.ascending-law r
+      | Fa2 r ↦ fa2_laws.ascending-law r
+      | Se1 r ↦ se1_laws.ascending-law r
+    ] };
 
-    ghost frame = { elim [ Ca1 r ↦ ca1_laws.frame-law r | Ca2 r ↦ ca2_laws.frame-law r | Ca3 r ↦ ca3_laws.frame-law r | Ca4 r ↦ ca4_laws.frame-law r | Ga1 r ↦ ga1_laws.frame-law r | Br1 r ↦ br1_laws.frame-law r | Br2 r ↦ br2_laws.frame-law r | Fa2 r ↦ fa2_laws.frame-law r | Se1 r ↦ se1_laws.frame-law r ] };
+    ghost frame = { elim [
+      | Ca1 r ↦ ca1_laws.frame-law r
+      | Ca2 r ↦ ca2_laws.frame-law r
+      | Ca3 r ↦ ca3_laws.frame-law r
+      | Ca4 r ↦ ca4_laws.frame-law r
+      | Ga1 r ↦ ga1_laws.frame-law r
+      | Br1 r ↦ br1_laws.frame-law r
+      | Br2 r ↦ br2_laws.frame-law r
+      | Fa2 r ↦ fa2_laws.frame-law r
+      | Se1 r ↦ se1_laws.frame-law r
+    ] };
 
     fn teams(&self) -> u16 {
         match self {

@@ -1,8 +1,8 @@
 //! The counts of a schedule.
-ghost use Rattle.std.specs.Prelude.{◌≡◌, ◌≤◌, ◌%◌, length, IfOk};
+ghost use Rattle.std.specs.Prelude.{◌≡◌, ◌≤◌, length, IfOk};
 ghost use Rattle.std.specs.List.{All};
 ghost use Rattle.league.specs.Counts.{counts_of};
-ghost use Rattle.league.specs.Instance.{IsGame};
+ghost use Rattle.league.specs.Instance.{IsGame, IsTeamCount};
 ghost use Rattle.rule_core.specs.Table.{table_counts};
 
 use league::Game;
@@ -14,9 +14,7 @@ use std::alloc::{AllocError, Global};
 /// # Errors
 /// Only where memory runs out.
 pub(crate) fn counted(alloc: Global, n: u16, games: &[Game]) -> Result<Cells, AllocError>
-    requires even { n % 2 ≡ 0 }
-    requires at_least { 2 ≤ n }
-    requires at_most { n ≤ 40 }
+    requires teams { IsTeamCount n }
     requires few { length games.now ≤ 10000 }
     requires fit { All (IsGame n) games.now }
     ensures n { IfOk result (λ cells. cells.n ≡ n) }

@@ -1,11 +1,10 @@
 //! GA1: from so many to so many games of some meetings in some slots.
 ghost use Rattle.std.specs.Prelude.{◌≡◌, ◌≤◌, IfOk, IsTrue};
-ghost use Rattle.league.specs.Bounds as bounds;
 ghost use Rattle.league.specs.declared.class.Class.TheVariants as class;
 ghost use Rattle.rule_core.specs.Ready.{IsReady};
 
 use league::{Class, ClassName, Constraint, Game};
-use rule_core::{Cells, Entries, Keys, Listed, Meetings, Rule, Steps};
+use rule_core::{Cells, Entries, Keys, Listed, Meetings, Rule, Steps, outside};
 use std::alloc::{AllocError, Global};
 
 /// How far the games of some meetings in some slots are outside of `min` to `max`: one entry.
@@ -99,19 +98,7 @@ impl Entries for Ga1 {
 impl<L> Rule<L> for Ga1 {
     fn term(&self, _key: usize, cells: &Cells, steps: &mut Steps<L>) -> u64 {
         steps.tick();
-        outside(
-            self.min,
-            self.max,
-            self.meetings.games(cells, self.slots.numbers()),
-        )
+        let games = self.meetings.games(cells, self.slots.numbers());
+        outside(self.min, self.max, games)
     }
-}
-
-/// How far a number of games is outside of `min` to `max`: the larger of what it lacks and what it has too much.
-fn outside(min: u32, max: u32, games: u64) -> u64
-    ensures { result ≡ bounds.outside min max games }
-{
-    let lacking = u64::from(min).saturating_sub(games);
-    let beyond = games.saturating_sub(u64::from(max));
-    lacking.max(beyond)
 }

@@ -52,82 +52,82 @@ pub structure-no_phases : phases_wrong 4 false crowded ≡ 0
 structure-no_phases = refl
 
 -- team 0 has two home games in slot 0 and one in slot 4, two beyond 1; team 1 has none there, and team 2 one
-pub ca1-home : entries (Ca1 (0 ∷ 1 ∷ 2 ∷ []) 1 H (0 ∷ 4 ∷ [])) ≡ 2 ∷ 0 ∷ 0 ∷ []
+pub ca1-home : entries (Ca1 (0 ∷ 1 ∷ 2 ∷ []) 0 1 H (0 ∷ 4 ∷ [])) ≡ 2 ∷ 0 ∷ 0 ∷ []
 ca1-home = refl
 
 -- away games in slots 1 and 5: team 0 has two, team 1 none, team 2 two
-pub ca1-away : entries (Ca1 (0 ∷ 1 ∷ 2 ∷ []) 1 A (1 ∷ 5 ∷ [])) ≡ 1 ∷ 0 ∷ 1 ∷ []
+pub ca1-away : entries (Ca1 (0 ∷ 1 ∷ 2 ∷ []) 0 1 A (1 ∷ 5 ∷ [])) ≡ 1 ∷ 0 ∷ 1 ∷ []
 ca1-away = refl
 
-pub ca1-no_team : entries (Ca1 [] 0 H all_slots) ≡ []
+pub ca1-no_team : entries (Ca1 [] 0 0 H all_slots) ≡ []
 ca1-no_team = refl
 
-pub ca1-no_slot : entries (Ca1 (0 ∷ 3 ∷ []) 0 H []) ≡ 0 ∷ 0 ∷ []
+pub ca1-no_slot : entries (Ca1 (0 ∷ 3 ∷ []) 0 0 H []) ≡ 0 ∷ 0 ∷ []
 ca1-no_slot = refl
 
 -- slots 0 to 2: team 0 meets team 1 three times, two beyond 1; team 3 meets team 0 once
-pub ca2-both : entries (Ca2 (0 ∷ 3 ∷ []) (0 ∷ 1 ∷ []) 1 Both (0 ∷ 1 ∷ 2 ∷ [])) ≡ 2 ∷ 0 ∷ []
+pub ca2-both : entries (Ca2 (0 ∷ 3 ∷ []) (0 ∷ 1 ∷ []) 0 1 Both (0 ∷ 1 ∷ 2 ∷ [])) ≡ 2 ∷ 0 ∷ []
 ca2-both = refl
 
 -- team 0 is at home to 1 twice, and team 3 to 0 once
-pub ca2-home : entries (Ca2 (0 ∷ 3 ∷ []) (0 ∷ 1 ∷ []) 0 H (0 ∷ 1 ∷ 2 ∷ [])) ≡ 2 ∷ 1 ∷ []
+pub ca2-home : entries (Ca2 (0 ∷ 3 ∷ []) (0 ∷ 1 ∷ []) 0 0 H (0 ∷ 1 ∷ 2 ∷ [])) ≡ 2 ∷ 1 ∷ []
 ca2-home = refl
 
 -- team 0 is away to 1 once, and team 3 to nobody
-pub ca2-away : entries (Ca2 (0 ∷ 3 ∷ []) (0 ∷ 1 ∷ []) 0 A (0 ∷ 1 ∷ 2 ∷ [])) ≡ 1 ∷ 0 ∷ []
+pub ca2-away : entries (Ca2 (0 ∷ 3 ∷ []) (0 ∷ 1 ∷ []) 0 0 A (0 ∷ 1 ∷ 2 ∷ [])) ≡ 1 ∷ 0 ∷ []
 ca2-away = refl
 
-pub ca2-no_opponent : entries (Ca2 (0 ∷ 3 ∷ []) [] 0 Both all_slots) ≡ 0 ∷ 0 ∷ []
+pub ca2-no_opponent : entries (Ca2 (0 ∷ 3 ∷ []) [] 0 0 Both all_slots) ≡ 0 ∷ 0 ∷ []
 ca2-no_opponent = refl
 
 -- home games of team 0 by slot are 2 1 0 0 1 1. In the five windows of two slots they are 3 1 0 1 2: two and one beyond 1
-pub ca3-two_slots : entries (Ca3 (0 ∷ []) (1 ∷ 2 ∷ 3 ∷ []) 1 2 H) ≡ 3 ∷ []
+pub ca3-two_slots : entries (Ca3 (0 ∷ []) (1 ∷ 2 ∷ 3 ∷ []) 0 1 2 H) ≡ 3 ∷ []
 ca3-two_slots = refl
 
 -- in the six windows of one slot only slot 0 has more than 1
-pub ca3-one_slot : entries (Ca3 (0 ∷ []) (1 ∷ 2 ∷ 3 ∷ []) 1 1 H) ≡ 1 ∷ []
+pub ca3-one_slot : entries (Ca3 (0 ∷ []) (1 ∷ 2 ∷ 3 ∷ []) 0 1 1 H) ≡ 1 ∷ []
 ca3-one_slot = refl
 
 -- in the two windows of five slots they are 4 and 3: three and two beyond 1
-pub ca3-five_slots : entries (Ca3 (0 ∷ []) (1 ∷ 2 ∷ 3 ∷ []) 1 5 H) ≡ 5 ∷ []
+pub ca3-five_slots : entries (Ca3 (0 ∷ []) (1 ∷ 2 ∷ 3 ∷ []) 0 1 5 H) ≡ 5 ∷ []
 ca3-five_slots = refl
 
 -- in the one window of six slots they are 5
-pub ca3-six_slots : entries (Ca3 (0 ∷ []) (1 ∷ 2 ∷ 3 ∷ []) 1 6 H) ≡ 4 ∷ []
+pub ca3-six_slots : entries (Ca3 (0 ∷ []) (1 ∷ 2 ∷ 3 ∷ []) 0 1 6 H) ≡ 4 ∷ []
 ca3-six_slots = refl
 
 -- the greatest number that a file can hold
-pub ca3-longest_window : entries (Ca3 (0 ∷ []) (1 ∷ 2 ∷ 3 ∷ []) 0 4294967295 H) ≡ 0 ∷ []
+pub ca3-longest_window : entries (Ca3 (0 ∷ []) (1 ∷ 2 ∷ 3 ∷ []) 0 0 4294967295 H) ≡ 0 ∷ []
 ca3-longest_window = refl
 
 -- teams 0 and 1 meet twice in slot 0, once in 2 and once in 5. In the four windows of three slots: 3 1 1 1
-pub ca3-both : entries (Ca3 (0 ∷ []) (1 ∷ []) 0 3 Both) ≡ 6 ∷ []
+pub ca3-both : entries (Ca3 (0 ∷ []) (1 ∷ []) 0 0 3 Both) ≡ 6 ∷ []
 ca3-both = refl
 
 pub windows-last_one : windows_of 4 5 ≡ (0 ∷ 1 ∷ 2 ∷ 3 ∷ 4 ∷ []) ∷ (1 ∷ 2 ∷ 3 ∷ 4 ∷ 5 ∷ []) ∷ []
 windows-last_one = refl
 
 -- teams1 and teams2 share 0 and 1. With the home team in teams1 and the away team in teams2: 0-1, 0-1, 0-2, 1-0, 1-0, 0-2
-pub ca4-home : entries (Ca4 (0 ∷ 1 ∷ []) (0 ∷ 1 ∷ 2 ∷ []) 0 H Global all_slots) ≡ 6 ∷ []
+pub ca4-home : entries (Ca4 (0 ∷ 1 ∷ []) (0 ∷ 1 ∷ 2 ∷ []) 0 0 H Global all_slots) ≡ 6 ∷ []
 ca4-home = refl
 
 -- with the away team in teams1 and the home team in teams2: 0-1, 0-1, 1-0, 2-0, 1-0
-pub ca4-away : entries (Ca4 (0 ∷ 1 ∷ []) (0 ∷ 1 ∷ 2 ∷ []) 0 A Global all_slots) ≡ 5 ∷ []
+pub ca4-away : entries (Ca4 (0 ∷ 1 ∷ []) (0 ∷ 1 ∷ 2 ∷ []) 0 0 A Global all_slots) ≡ 5 ∷ []
 ca4-away = refl
 
 -- a game that is both counts once: all but the two of team 3
-pub ca4-both : entries (Ca4 (0 ∷ 1 ∷ []) (0 ∷ 1 ∷ 2 ∷ []) 0 Both Global all_slots) ≡ 7 ∷ []
+pub ca4-both : entries (Ca4 (0 ∷ 1 ∷ []) (0 ∷ 1 ∷ 2 ∷ []) 0 0 Both Global all_slots) ≡ 7 ∷ []
 ca4-both = refl
 
 -- one of these in each of the slots 0 (0-1 twice), 3 (none) and 5 (1-0 and 0-2), beyond 1
-pub ca4-every : entries (Ca4 (0 ∷ 1 ∷ []) (0 ∷ 1 ∷ 2 ∷ []) 1 Both Every (0 ∷ 3 ∷ 5 ∷ [])) ≡ 1 ∷ 0 ∷ 1 ∷ []
+pub ca4-every : entries (Ca4 (0 ∷ 1 ∷ []) (0 ∷ 1 ∷ 2 ∷ []) 0 1 Both Every (0 ∷ 3 ∷ 5 ∷ [])) ≡ 1 ∷ 0 ∷ 1 ∷ []
 ca4-every = refl
 
 -- without slots there is one bound on all of them together, and none on each
-pub ca4-global_no_slot : entries (Ca4 (0 ∷ 1 ∷ []) (0 ∷ 1 ∷ 2 ∷ []) 1 Both Global []) ≡ 0 ∷ []
+pub ca4-global_no_slot : entries (Ca4 (0 ∷ 1 ∷ []) (0 ∷ 1 ∷ 2 ∷ []) 0 1 Both Global []) ≡ 0 ∷ []
 ca4-global_no_slot = refl
 
-pub ca4-every_no_slot : entries (Ca4 (0 ∷ 1 ∷ []) (0 ∷ 1 ∷ 2 ∷ []) 1 Both Every []) ≡ []
+pub ca4-every_no_slot : entries (Ca4 (0 ∷ 1 ∷ []) (0 ∷ 1 ∷ 2 ∷ []) 0 1 Both Every []) ≡ []
 ca4-every_no_slot = refl
 
 -- in slots 0, 1 and 5 the meetings 0-1 and 0-2 have two games each: four lack one of 5, and are one beyond 3

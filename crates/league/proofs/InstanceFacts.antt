@@ -7,60 +7,60 @@ use Rattle.league.specs.declared.class.Span.TheVariants.{Every, Global}
 use Rattle.league.proofs.DoubleFour.{game}
 
 -- the last team and the last slot
-pub ca1-last : class_fits 4 (Ca1 (0 ∷ 3 ∷ []) 0 A (0 ∷ 5 ∷ [])) ≡ true
+pub ca1-last : class_fits 4 (Ca1 (0 ∷ 3 ∷ []) 0 0 A (0 ∷ 5 ∷ [])) ≡ true
 ca1-last = refl
 
-pub ca1-team_4 : class_fits 4 (Ca1 (0 ∷ 4 ∷ []) 0 A (0 ∷ 5 ∷ [])) ≡ false
+pub ca1-team_4 : class_fits 4 (Ca1 (0 ∷ 4 ∷ []) 0 0 A (0 ∷ 5 ∷ [])) ≡ false
 ca1-team_4 = refl
 
-pub ca1-slot_6 : class_fits 4 (Ca1 (0 ∷ 3 ∷ []) 0 A (0 ∷ 6 ∷ [])) ≡ false
+pub ca1-slot_6 : class_fits 4 (Ca1 (0 ∷ 3 ∷ []) 0 0 A (0 ∷ 6 ∷ [])) ≡ false
 ca1-slot_6 = refl
 
-pub ca1-both_sides : class_fits 4 (Ca1 [] 0 Both []) ≡ false
+pub ca1-both_sides : class_fits 4 (Ca1 [] 0 0 Both []) ≡ false
 ca1-both_sides = refl
 
 -- sets may be empty, and two sets of teams may share teams
-pub ca1-empty : class_fits 2 (Ca1 [] 0 H []) ≡ true
+pub ca1-empty : class_fits 2 (Ca1 [] 0 0 H []) ≡ true
 ca1-empty = refl
 
-pub ca2-shared : class_fits 4 (Ca2 (0 ∷ 3 ∷ []) (3 ∷ []) 0 Both (5 ∷ [])) ≡ true
+pub ca2-shared : class_fits 4 (Ca2 (0 ∷ 3 ∷ []) (3 ∷ []) 0 0 Both (5 ∷ [])) ≡ true
 ca2-shared = refl
 
-pub ca2-first_team_4 : class_fits 4 (Ca2 (4 ∷ []) (3 ∷ []) 0 Both (5 ∷ [])) ≡ false
+pub ca2-first_team_4 : class_fits 4 (Ca2 (4 ∷ []) (3 ∷ []) 0 0 Both (5 ∷ [])) ≡ false
 ca2-first_team_4 = refl
 
-pub ca2-second_team_4 : class_fits 4 (Ca2 (3 ∷ []) (4 ∷ []) 0 Both (5 ∷ [])) ≡ false
+pub ca2-second_team_4 : class_fits 4 (Ca2 (3 ∷ []) (4 ∷ []) 0 0 Both (5 ∷ [])) ≡ false
 ca2-second_team_4 = refl
 
-pub ca2-slot_6 : class_fits 4 (Ca2 (3 ∷ []) (3 ∷ []) 0 Both (6 ∷ [])) ≡ false
+pub ca2-slot_6 : class_fits 4 (Ca2 (3 ∷ []) (3 ∷ []) 0 0 Both (6 ∷ [])) ≡ false
 ca2-slot_6 = refl
 
 -- a window has a slot, and may be longer than the season
-pub ca3-no_slot : class_fits 4 (Ca3 (3 ∷ []) (3 ∷ []) 0 0 Both) ≡ false
+pub ca3-no_slot : class_fits 4 (Ca3 (3 ∷ []) (3 ∷ []) 0 0 0 Both) ≡ false
 ca3-no_slot = refl
 
-pub ca3-one_slot : class_fits 4 (Ca3 (3 ∷ []) (3 ∷ []) 0 1 Both) ≡ true
+pub ca3-one_slot : class_fits 4 (Ca3 (3 ∷ []) (3 ∷ []) 0 0 1 Both) ≡ true
 ca3-one_slot = refl
 
-pub ca3-long : class_fits 4 (Ca3 (3 ∷ []) (3 ∷ []) 0 4294967295 Both) ≡ true
+pub ca3-long : class_fits 4 (Ca3 (3 ∷ []) (3 ∷ []) 0 0 4294967295 Both) ≡ true
 ca3-long = refl
 
-pub ca3-first_team_4 : class_fits 4 (Ca3 (4 ∷ []) (3 ∷ []) 0 1 Both) ≡ false
+pub ca3-first_team_4 : class_fits 4 (Ca3 (4 ∷ []) (3 ∷ []) 0 0 1 Both) ≡ false
 ca3-first_team_4 = refl
 
-pub ca3-second_team_4 : class_fits 4 (Ca3 (3 ∷ []) (4 ∷ []) 0 1 Both) ≡ false
+pub ca3-second_team_4 : class_fits 4 (Ca3 (3 ∷ []) (4 ∷ []) 0 0 1 Both) ≡ false
 ca3-second_team_4 = refl
 
-pub ca4-last : class_fits 4 (Ca4 (3 ∷ []) (3 ∷ []) 0 Both Every (5 ∷ [])) ≡ true
+pub ca4-last : class_fits 4 (Ca4 (3 ∷ []) (3 ∷ []) 0 0 Both Every (5 ∷ [])) ≡ true
 ca4-last = refl
 
-pub ca4-first_team_4 : class_fits 4 (Ca4 (4 ∷ []) (3 ∷ []) 0 Both Every (5 ∷ [])) ≡ false
+pub ca4-first_team_4 : class_fits 4 (Ca4 (4 ∷ []) (3 ∷ []) 0 0 Both Every (5 ∷ [])) ≡ false
 ca4-first_team_4 = refl
 
-pub ca4-second_team_4 : class_fits 4 (Ca4 (3 ∷ []) (4 ∷ []) 0 Both Global (5 ∷ [])) ≡ false
+pub ca4-second_team_4 : class_fits 4 (Ca4 (3 ∷ []) (4 ∷ []) 0 0 Both Global (5 ∷ [])) ≡ false
 ca4-second_team_4 = refl
 
-pub ca4-slot_6 : class_fits 4 (Ca4 (3 ∷ []) (3 ∷ []) 0 Both Global (6 ∷ [])) ≡ false
+pub ca4-slot_6 : class_fits 4 (Ca4 (3 ∷ []) (3 ∷ []) 0 0 Both Global (6 ∷ [])) ≡ false
 ca4-slot_6 = refl
 
 -- min may be above max
@@ -145,10 +145,10 @@ pub instance-large : IsInstance (record { n = 42; phased = true; constraints = [
 instance-large h = let e : 42 ≤ 40 = h.teams.at_most in omega arith
 
 -- teams, slots and meetings ascend, and none stands twice
-pub ca1-teams_descend : class_fits 4 (Ca1 (3 ∷ 0 ∷ []) 0 A (0 ∷ 5 ∷ [])) ≡ false
+pub ca1-teams_descend : class_fits 4 (Ca1 (3 ∷ 0 ∷ []) 0 0 A (0 ∷ 5 ∷ [])) ≡ false
 ca1-teams_descend = refl
 
-pub ca2-second_team_twice : class_fits 4 (Ca2 (0 ∷ 3 ∷ []) (1 ∷ 1 ∷ []) 0 Both (5 ∷ [])) ≡ false
+pub ca2-second_team_twice : class_fits 4 (Ca2 (0 ∷ 3 ∷ []) (1 ∷ 1 ∷ []) 0 0 Both (5 ∷ [])) ≡ false
 ca2-second_team_twice = refl
 
 pub br1-slots_descend : class_fits 4 (Br1 (3 ∷ []) 0 Both (0 ∷ 5 ∷ 4 ∷ [])) ≡ false

@@ -17,7 +17,7 @@ pub name_text-others : map (λ name. codes (name_text name)) (Ga1 ∷ Br1 ∷ Br
 name_text-others = refl
 
 abbrev classes : List Class
-classes = class.Ca1 [] 0 H [] ∷ class.Ca2 [] [] 0 H [] ∷ class.Ca3 [] [] 0 1 H ∷ class.Ca4 [] [] 0 H Every [] ∷ class.Ga1 [] 0 0 []
+classes = class.Ca1 [] 0 0 H [] ∷ class.Ca2 [] [] 0 0 H [] ∷ class.Ca3 [] [] 0 0 1 H ∷ class.Ca4 [] [] 0 0 H Every [] ∷ class.Ga1 [] 0 0 []
     ∷ class.Br1 [] 0 H [] ∷ class.Br2 [] 0 [] ∷ class.Fa2 [] 0 [] ∷ class.Se1 [] 0 ∷ []
 
 pub name_of-each : map name_of classes ≡ Ca1 ∷ Ca2 ∷ Ca3 ∷ Ca4 ∷ Ga1 ∷ Br1 ∷ Br2 ∷ Fa2 ∷ Se1 ∷ []

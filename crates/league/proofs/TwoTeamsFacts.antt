@@ -71,17 +71,17 @@ pub windows-too_long : windows_of 2 3 ≡ []
 windows-too_long = refl
 
 -- one home game of team 0 in each window of one slot, two in the season; none of team 1
-pub ca3-one_slot : vector_of 2 unfair (Ca3 both both 0 1 H) ≡ 2 ∷ 0 ∷ []
+pub ca3-one_slot : vector_of 2 unfair (Ca3 both both 0 0 1 H) ≡ 2 ∷ 0 ∷ []
 ca3-one_slot = refl
 
-pub ca3-season : vector_of 2 unfair (Ca3 both both 1 2 H) ≡ 1 ∷ 0 ∷ []
+pub ca3-season : vector_of 2 unfair (Ca3 both both 0 1 2 H) ≡ 1 ∷ 0 ∷ []
 ca3-season = refl
 
 -- with one set for both sides a game at home is one away too, and counts once
-pub ca4-each_slot : vector_of 2 late (Ca4 both both 0 Both Every both) ≡ 0 ∷ 2 ∷ []
+pub ca4-each_slot : vector_of 2 late (Ca4 both both 0 0 Both Every both) ≡ 0 ∷ 2 ∷ []
 ca4-each_slot = refl
 
-pub ca4-each_slot_away : vector_of 2 late (Ca4 both both 0 A Every both) ≡ 0 ∷ 2 ∷ []
+pub ca4-each_slot_away : vector_of 2 late (Ca4 both both 0 0 A Every both) ≡ 0 ∷ 2 ∷ []
 ca4-each_slot_away = refl
 
 -- the patterns are AH and HA, and then HH and AA

@@ -19,10 +19,10 @@ name_text Se1 = "SE1"
 
 -- the name of a constraint's class
 abbrev pub name_of : Class → ClassName
-name_of (class.Ca1 teams max side slots) = Ca1
-name_of (class.Ca2 teams1 teams2 max side slots) = Ca2
-name_of (class.Ca3 teams1 teams2 max intp side) = Ca3
-name_of (class.Ca4 teams1 teams2 max side span slots) = Ca4
+name_of (class.Ca1 teams min max side slots) = Ca1
+name_of (class.Ca2 teams1 teams2 min max side slots) = Ca2
+name_of (class.Ca3 teams1 teams2 min max intp side) = Ca3
+name_of (class.Ca4 teams1 teams2 min max side span slots) = Ca4
 name_of (class.Ga1 meetings min max slots) = Ga1
 name_of (class.Br1 teams intp side slots) = Br1
 name_of (class.Br2 teams intp slots) = Br2

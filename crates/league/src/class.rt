@@ -60,17 +60,19 @@ impl ClassName {
 /// A constraint's class, with what it speaks of. `specs/Deviation.antt` says what each demands.
 #[derive(Drop)]
 pub enum Class {
-    /// At most `max` games of each team on the side in the slots.
+    /// From `min` to `max` games of each team on the side in the slots.
     Ca1 {
         teams: TeamSet,
+        min: u32,
         max: u32,
         side: Side,
         slots: SlotSet,
     },
-    /// At most `max` games of each of `teams1` against `teams2` in the slots.
+    /// From `min` to `max` games of each of `teams1` against `teams2` in the slots.
     Ca2 {
         teams1: TeamSet,
         teams2: TeamSet,
+        min: u32,
         max: u32,
         side: Side,
         slots: SlotSet,
@@ -79,14 +81,16 @@ pub enum Class {
     Ca3 {
         teams1: TeamSet,
         teams2: TeamSet,
+        min: u32,
         max: u32,
         intp: u32,
         side: Side,
     },
-    /// At most `max` games between `teams1` and `teams2` in the slots, together or each.
+    /// From `min` to `max` games between `teams1` and `teams2` in the slots, together or each.
     Ca4 {
         teams1: TeamSet,
         teams2: TeamSet,
+        min: u32,
         max: u32,
         side: Side,
         span: Span,
@@ -152,12 +156,14 @@ impl Class {
             Class::Ca3 {
                 teams1,
                 teams2,
+                min,
                 max,
                 intp,
                 side,
             } => Ok(Class::Ca3 {
                 teams1: teams1.copy()?,
                 teams2: teams2.copy()?,
+                min: *min,
                 max: *max,
                 intp: *intp,
                 side: *side,
@@ -186,12 +192,14 @@ impl Class {
             Class::Ca2 {
                 teams1,
                 teams2,
+                min,
                 max,
                 side,
                 slots,
             } => Ok(Class::Ca2 {
                 teams1: teams1.copy()?,
                 teams2: teams2.copy()?,
+                min: *min,
                 max: *max,
                 side: *side,
                 slots: slots.copy()?,
@@ -199,6 +207,7 @@ impl Class {
             Class::Ca4 {
                 teams1,
                 teams2,
+                min,
                 max,
                 side,
                 span,
@@ -206,6 +215,7 @@ impl Class {
             } => Ok(Class::Ca4 {
                 teams1: teams1.copy()?,
                 teams2: teams2.copy()?,
+                min: *min,
                 max: *max,
                 side: *side,
                 span: *span,
@@ -223,11 +233,13 @@ impl Class {
         match self {
             Class::Ca1 {
                 teams,
+                min,
                 max,
                 side,
                 slots,
             } => Ok(Class::Ca1 {
                 teams: teams.copy()?,
+                min: *min,
                 max: *max,
                 side: *side,
                 slots: slots.copy()?,

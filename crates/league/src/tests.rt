@@ -38,6 +38,7 @@ fn league_copied(rt: HostRuntime) -> Result<(), Fail> {
         penalty: 10,
         class: Class::Ca1 {
             teams: TeamSet::new(alloc),
+            min: 0,
             max: 1,
             side: Side::H,
             slots: SlotSet::new(alloc),

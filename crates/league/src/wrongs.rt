@@ -26,9 +26,9 @@ pub struct Wrongs {
     pub phases_wrong: u32,
 }
 
-/// What a schedule of at most 10,000 games, all of this league, has wrong: nothing exactly where each two teams meet once
-/// at each of their venues, each team plays once in each slot, and, in a phased league, each two teams meet once in the
-/// first half. It takes no memory.
+/// What a schedule of at most 10,000 games, all of this league, has wrong: nothing exactly where each two teams meet
+/// once at each of their venues, each team plays once in each slot, and, in a phased league, each two teams meet once
+/// in the first half. It takes no memory.
 pub fn structure(league: &League, schedule: &Schedule) -> Wrongs
     requires few { length schedule.now ≤ 10000 }
     requires fit { All (IsGame league.now.n) schedule.now }

@@ -6,7 +6,7 @@ use Rattle.std.proofs.lemmas.Bool.Decides.{nat_tests}
 use Rattle.std.proofs.lemmas.List.{get_or-map}
 use Rattle.std.proofs.lemmas.List.Elements.{All-cons, All-nil}
 use Rattle.std.specs.List.{All, filter, list_any}
-use Rattle.league.specs.Bounds.{excess, outside}
+use Rattle.league.specs.Bounds.{outside}
 use Rattle.league.specs.Breaks.{br1_entry, breaks_at}
 use Rattle.league.specs.Capacity.{ca1_entry, ca2_entry, ca3_entry, ca4_entry, is_between, windows_of}
 use Rattle.league.specs.Counts.{Counts, one_more}
@@ -92,45 +92,45 @@ passing test (x ∷ xs) =
 
 module _ (n : ℕ) (m : Counts) (g : Game) (k : ℕ) where
   -- the games of a team against others
-  ca2-same : (teams1 teams2 : List ℕ) (max : ℕ) (side : Side) (slots : List ℕ) → plays_against side teams2 g (get_or teams1 k 0) ≡ false → ca2_entry (one_more m g) teams2 max side slots (get_or teams1 k 0) ≡ ca2_entry m teams2 max side slots (get_or teams1 k 0)
-  ca2-same teams1 teams2 max side slots out =
+  ca2-same : (teams1 teams2 : List ℕ) (min max : ℕ) (side : Side) (slots : List ℕ) → plays_against side teams2 g (get_or teams1 k 0) ≡ false → ca2_entry (one_more m g) teams2 min max side slots (get_or teams1 k 0) ≡ ca2_entry m teams2 min max side slots (get_or teams1 k 0)
+  ca2-same teams1 teams2 min max side slots out =
       let i : ℕ = get_or teams1 k 0 in
-      ap (λ (c : ℕ). excess c max) (games_of-same (one_more m g) m side i teams2 slots (λ p d lt. between-not_against m side g teams2 i (get_or slots p d) out))
+      ap (λ (c : ℕ). outside min max c) (games_of-same (one_more m g) m side i teams2 slots (λ p d lt. between-not_against m side g teams2 i (get_or slots p d) out))
 
-  ca1-frame : (teams : List ℕ) (max : ℕ) (side : Side) (slots : List ℕ) → IsGame n g → k < length teams → (Contains (touched_keys (Ca1 teams max side slots) g) k → ⊥) → entry_of n (one_more m g) (Ca1 teams max side slots) k ≡ entry_of n m (Ca1 teams max side slots) k
-  ca1-frame teams max side slots fits inside lacks =
+  ca1-frame : (teams : List ℕ) (min max : ℕ) (side : Side) (slots : List ℕ) → IsGame n g → k < length teams → (Contains (touched_keys (Ca1 teams min max side slots) g) k → ⊥) → entry_of n (one_more m g) (Ca1 teams min max side slots) k ≡ entry_of n m (Ca1 teams min max side slots) k
+  ca1-frame teams min max side slots fits inside lacks =
       let i : ℕ = get_or teams k 0 in
       let same : All (λ s. games_on n (one_more m g) side i s ≡ games_on n m side i s) slots =
       elim (if_lacks (is_in g.slot.0 slots) (keys_where (plays_on side g) teams) k lacks) [
         | inl out ↦ λ p d lt. games_on-elsewhere n m side g i (get_or slots p d) fits (is_in-lacks g.slot.0 slots out p d lt)
         | inr misses ↦ λ p d lt. games_on-not_playing n m side g i (get_or slots p d) fits (keys_where-lacks (plays_on side g) teams k 0 inside misses)
       ] in
-      same_at (ca1_entry n (one_more m g) max side slots) (ca1_entry n m max side slots) teams k 0 inside
-      (ap (λ (c : ℕ). excess c max) (sum_by-same_in (λ s. games_on n (one_more m g) side i s) (λ s. games_on n m side i s) slots same))
+      same_at (ca1_entry n (one_more m g) min max side slots) (ca1_entry n m min max side slots) teams k 0 inside
+      (ap (λ (c : ℕ). outside min max c) (sum_by-same_in (λ s. games_on n (one_more m g) side i s) (λ s. games_on n m side i s) slots same))
 
-  ca2-frame : (teams1 teams2 : List ℕ) (max : ℕ) (side : Side) (slots : List ℕ) → k < length teams1 → (Contains (touched_keys (Ca2 teams1 teams2 max side slots) g) k → ⊥) → entry_of n (one_more m g) (Ca2 teams1 teams2 max side slots) k ≡ entry_of n m (Ca2 teams1 teams2 max side slots) k
-  ca2-frame teams1 teams2 max side slots inside lacks =
+  ca2-frame : (teams1 teams2 : List ℕ) (min max : ℕ) (side : Side) (slots : List ℕ) → k < length teams1 → (Contains (touched_keys (Ca2 teams1 teams2 min max side slots) g) k → ⊥) → entry_of n (one_more m g) (Ca2 teams1 teams2 min max side slots) k ≡ entry_of n m (Ca2 teams1 teams2 min max side slots) k
+  ca2-frame teams1 teams2 min max side slots inside lacks =
       let i : ℕ = get_or teams1 k 0 in
-      same_at (ca2_entry (one_more m g) teams2 max side slots) (ca2_entry m teams2 max side slots) teams1 k 0 inside
+      same_at (ca2_entry (one_more m g) teams2 min max side slots) (ca2_entry m teams2 min max side slots) teams1 k 0 inside
       (elim (if_lacks (is_in g.slot.0 slots) (keys_where (plays_against side teams2 g) teams1) k lacks) [
-        | inl out ↦ ap (λ (c : ℕ). excess c max) (games_of-same (one_more m g) m side i teams2 slots (λ p d lt. λ q c le. between-elsewhere m side g i (get_or slots p d) (get_or teams2 q c) (is_in-lacks g.slot.0 slots out p d lt)))
-        | inr misses ↦ ca2-same teams1 teams2 max side slots (keys_where-lacks (plays_against side teams2 g) teams1 k 0 inside misses)
+        | inl out ↦ ap (λ (c : ℕ). outside min max c) (games_of-same (one_more m g) m side i teams2 slots (λ p d lt. λ q c le. between-elsewhere m side g i (get_or slots p d) (get_or teams2 q c) (is_in-lacks g.slot.0 slots out p d lt)))
+        | inr misses ↦ ca2-same teams1 teams2 min max side slots (keys_where-lacks (plays_against side teams2 g) teams1 k 0 inside misses)
       ])
 
-  ca3-frame : (teams1 teams2 : List ℕ) (max intp : ℕ) (side : Side) → k < length teams1 → (Contains (touched_keys (Ca3 teams1 teams2 max intp side) g) k → ⊥) → entry_of n (one_more m g) (Ca3 teams1 teams2 max intp side) k ≡ entry_of n m (Ca3 teams1 teams2 max intp side) k
-  ca3-frame teams1 teams2 max intp side inside lacks =
+  ca3-frame : (teams1 teams2 : List ℕ) (min max intp : ℕ) (side : Side) → k < length teams1 → (Contains (touched_keys (Ca3 teams1 teams2 min max intp side) g) k → ⊥) → entry_of n (one_more m g) (Ca3 teams1 teams2 min max intp side) k ≡ entry_of n m (Ca3 teams1 teams2 min max intp side) k
+  ca3-frame teams1 teams2 min max intp side inside lacks =
       let i : ℕ = get_or teams1 k 0 in
       let out = keys_where-lacks (plays_against side teams2 g) teams1 k 0 inside lacks in
-      same_at (ca3_entry n (one_more m g) teams2 max intp side) (ca3_entry n m teams2 max intp side) teams1 k 0 inside
-      (sum_by-same (λ (window : List ℕ). ca2_entry (one_more m g) teams2 max side window i) (λ (window : List ℕ). ca2_entry m teams2 max side window i) (λ (window : List ℕ). ca2-same teams1 teams2 max side window out) (windows_of n intp))
+      same_at (ca3_entry n (one_more m g) teams2 min max intp side) (ca3_entry n m teams2 min max intp side) teams1 k 0 inside
+      (sum_by-same (λ (window : List ℕ). ca2_entry (one_more m g) teams2 min max side window i) (λ (window : List ℕ). ca2_entry m teams2 min max side window i) (λ (window : List ℕ). ca2-same teams1 teams2 min max side window out) (windows_of n intp))
 
-  ca4-frame : (teams1 teams2 : List ℕ) (max : ℕ) (side : Side) (span : Span) (slots : List ℕ) → k < length (spans span slots) → (Contains (touched_keys (Ca4 teams1 teams2 max side span slots) g) k → ⊥) → entry_of n (one_more m g) (Ca4 teams1 teams2 max side span slots) k ≡ entry_of n m (Ca4 teams1 teams2 max side span slots) k
-  ca4-frame teams1 teams2 max side span slots inside lacks =
+  ca4-frame : (teams1 teams2 : List ℕ) (min max : ℕ) (side : Side) (span : Span) (slots : List ℕ) → k < length (spans span slots) → (Contains (touched_keys (Ca4 teams1 teams2 min max side span slots) g) k → ⊥) → entry_of n (one_more m g) (Ca4 teams1 teams2 min max side span slots) k ≡ entry_of n m (Ca4 teams1 teams2 min max side span slots) k
+  ca4-frame teams1 teams2 min max side span slots inside lacks =
       let meeting : ℕ × ℕ = (g.home.0, g.away.0) in
       let meetings : List (ℕ × ℕ) = filter (is_between side teams1 teams2) (meetings_of n) in
       let some : List ℕ = get_or (spans span slots) k [] in
-      same_at (ca4_entry n (one_more m g) teams1 teams2 max side) (ca4_entry n m teams1 teams2 max side) (spans span slots) k [] inside
-      (ap (λ (c : ℕ). excess c max)
+      same_at (ca4_entry n (one_more m g) teams1 teams2 min max side) (ca4_entry n m teams1 teams2 min max side) (spans span slots) k [] inside
+      (ap (λ (c : ℕ). outside min max c)
       (elim (if_lacks (is_between side teams1 teams2 meeting) (keys_where (is_in g.slot.0) (spans span slots)) k lacks) [
         | inl out ↦ games_of-other_meeting m g meetings some (λ p d lt same. absurd (
             let passes : is_between side teams1 teams2 (get_or meetings p d) ≡ true = passing (is_between side teams1 teams2) (meetings_of n) p d lt in
@@ -202,10 +202,10 @@ module _ (n : ℕ) (m : Counts) (g : Game) (k : ℕ) where
 
 -- an entry whose key the game doesn't touch is the same
 pub touched_keys-frame : (n : ℕ) (class : Class) (g : Game) (m : Counts) (k : ℕ) → IsGame n g → k < entry_count class → (Contains (touched_keys class g) k → ⊥) → entry_of n (one_more m g) class k ≡ entry_of n m class k
-touched_keys-frame n (Ca1 teams max side slots) g m k fits = ca1-frame n m g k teams max side slots fits
-touched_keys-frame n (Ca2 teams1 teams2 max side slots) g m k fits = ca2-frame n m g k teams1 teams2 max side slots
-touched_keys-frame n (Ca3 teams1 teams2 max intp side) g m k fits = ca3-frame n m g k teams1 teams2 max intp side
-touched_keys-frame n (Ca4 teams1 teams2 max side span slots) g m k fits = ca4-frame n m g k teams1 teams2 max side span slots
+touched_keys-frame n (Ca1 teams min max side slots) g m k fits = ca1-frame n m g k teams min max side slots fits
+touched_keys-frame n (Ca2 teams1 teams2 min max side slots) g m k fits = ca2-frame n m g k teams1 teams2 min max side slots
+touched_keys-frame n (Ca3 teams1 teams2 min max intp side) g m k fits = ca3-frame n m g k teams1 teams2 min max intp side
+touched_keys-frame n (Ca4 teams1 teams2 min max side span slots) g m k fits = ca4-frame n m g k teams1 teams2 min max side span slots
 touched_keys-frame n (Ga1 meetings min max slots) g m k fits = ga1-frame n m g k meetings min max slots
 touched_keys-frame n (Br1 teams intp side slots) g m k fits = br1-frame n m g k teams intp side slots fits
 touched_keys-frame n (Br2 teams intp slots) g m k fits = br2-frame n m g k teams intp slots fits

@@ -2,7 +2,7 @@
 use Rattle.std.proofs.Common.{◌≡◌, ◌≢◌, ℕ, ◌+◌, ◌<◌, ◌≤◌, zero, suc, Bool, true, false, cond, if◌then◌else◌, List, [], ◌∷◌, ◌++◌, length, get_or, map, drop, refl, arith, ap, sym, ◌∙◌, subst, ◌⊎◌, inl, inr, Contains, add-zero, zero-add}
 use Rattle.std.proofs.lemmas.Bool.{cases_Bool, cond_both}
 use Rattle.std.proofs.lemmas.Bool.Decides.{nat_tests}
-use Rattle.std.proofs.lemmas.List.{append-nil, append_assoc, get_or_default, length-append}
+use Rattle.std.proofs.lemmas.List.{append-nil, append_assoc, length-append}
 use Rattle.std.proofs.lemmas.List.Elements.{All-cons}
 use Rattle.std.specs.List.{All, range_with_len}
 use Rattle.std.specs.List.Sorted.{IsStrictlyIncreasing}
@@ -143,37 +143,6 @@ one_passes start test (t ∷ teams) b (suc q) ascending inside is passes fails =
     skipped (test t) start (places_from (start + 1) test teams) (fails t differ)
     ∙ one_passes (start + 1) test teams b q (ascending-tail t teams ascending) (omega arith) is passes fails
     ∙ ap (λ (k : ℕ). k ∷ []) next
-
--- ---- the places of what passes a test, where one passes, and where two do
-
-further : (start k : ℕ) → start + 1 + k ≡ start + suc k
-further start k = omega arith
-
-pub places_from-one : (start : ℕ) (test : ℕ → Bool) (xs : List ℕ) (k : ℕ) → k < length xs → test (get_or xs k 0) ≡ true → ((i : ℕ) → i < length xs → i ≢ k → test (get_or xs i 0) ≡ false) → places_from start test xs ≡ (start + k) ∷ []
-places_from-one start test [] k inside passes fails = absurd (omega arith)
-places_from-one start test (x ∷ xs) zero inside passes fails =
-    let rest : All (λ y. test y ≡ false) xs = λ i d lt. ap test (get_or_default xs i d 0 lt) ∙ fails (suc i) (omega arith) (λ same. absurd (omega arith)) in
-    taken (test x) start (places_from (start + 1) test xs) passes
-    ∙ ap (λ (ks : List ℕ). start ∷ ks) (places_from-none (start + 1) test xs rest)
-    ∙ ap (λ (k : ℕ). k ∷ []) (sym (add-zero start))
-places_from-one start test (x ∷ xs) (suc k) inside passes fails =
-    skipped (test x) start (places_from (start + 1) test xs) (fails zero (omega arith) (λ same. absurd (omega arith)))
-    ∙ places_from-one (start + 1) test xs k (omega arith) passes (λ i lt differ. fails (suc i) (omega arith) (λ same. differ (omega arith)))
-    ∙ ap (λ (p : ℕ). p ∷ []) (further start k)
-
-pub places_from-two : (start : ℕ) (test : ℕ → Bool) (xs : List ℕ) (j k : ℕ) → j < k → k < length xs → test (get_or xs j 0) ≡ true → test (get_or xs k 0) ≡ true → ((i : ℕ) → i < length xs → i ≢ j → i ≢ k → test (get_or xs i 0) ≡ false) → places_from start test xs ≡ (start + j) ∷ (start + k) ∷ []
-places_from-two start test [] j k before inside first second fails = absurd (omega arith)
-places_from-two start test (x ∷ xs) j zero before inside first second fails = absurd (omega arith)
-places_from-two start test (x ∷ xs) zero (suc k) before inside first second fails =
-    taken (test x) start (places_from (start + 1) test xs) first
-    ∙ ap (λ (ks : List ℕ). start ∷ ks) (places_from-one (start + 1) test xs k (omega arith) second (λ i lt differ. fails (suc i) (omega arith) (λ same. absurd (omega arith)) (λ same. differ (omega arith))))
-    ∙ ap (λ (p : ℕ). start ∷ p ∷ []) (further start k)
-    ∙ ap (λ (p : ℕ). p ∷ (start + suc k) ∷ []) (sym (add-zero start))
-places_from-two start test (x ∷ xs) (suc j) (suc k) before inside first second fails =
-    skipped (test x) start (places_from (start + 1) test xs) (fails zero (omega arith) (λ same. absurd (omega arith)) (λ same. absurd (omega arith)))
-    ∙ places_from-two (start + 1) test xs j k (omega arith) (omega arith) first second (λ i lt not_first not_second. fails (suc i) (omega arith) (λ same. not_first (omega arith)) (λ same. not_second (omega arith)))
-    ∙ ap (λ (p : ℕ). p ∷ (start + 1 + k) ∷ []) (further start j)
-    ∙ ap (λ (p : ℕ). (start + suc j) ∷ p ∷ []) (further start k)
 
 -- two tests that agree on a list find the same places
 pub places_from-same : {X : Type 0} (start : ℕ) (test other : X → Bool) (xs : List X) → All (λ x. test x ≡ other x) xs → places_from start test xs ≡ places_from start other xs

@@ -1,26 +1,54 @@
--- What the place of a number says of a list.
-use Rattle.std.proofs.Common.{◌≡◌, ◌≢◌, ℕ, ◌+◌, ◌-◌, ◌<◌, ◌≤◌, true, false, nat_lt, ◌==◌, ◌||◌, List, [], ◌∷◌, ◌++◌, length, get_or, refl, arith, ap, sym, subst, ◌∙◌, inl, inr, zero-add}
-use Rattle.std.proofs.lemmas.Bool.{cases_lt}
+-- Where a number stands in an ascending list, and its key there.
+use Rattle.std.proofs.Common.{◌≡◌, ◌≢◌, ℕ, ◌+◌, ◌-◌, ◌<◌, ◌≤◌, true, false, nat_lt, min, max, ◌==◌, ◌||◌, List, [], ◌∷◌, ◌++◌, length, suc, get_or, Option, Some, None, refl, arith, ap, sym, ◌∙◌, inl, inr, zero-add}
+use Rattle.std.proofs.lemmas.Bool.{cases_eq, cases_lt, cond_both}
 use Rattle.std.proofs.lemmas.Bool.Decides.{nat_tests}
 use Rattle.std.proofs.lemmas.List.{get_or_default}
-use Rattle.std.proofs.lemmas.List.Folds.{list_any_at, list_any_none}
 use Rattle.std.specs.List.{All}
-use Rattle.league.specs.Sets.{is_in}
-use Rattle.rule_core.specs.Keys.{keys_where}
-use Rattle.rule_core.specs.Places.{ArePlaces}
-use Rattle.rule_core.proofs.KeyLemmas.{keys_where-none, keys_where-same, places_from-one, places_from-two}
+use Rattle.std.specs.Option.{is_some, option_to_list}
+use Rattle.std.specs.Ordering.{nat_cmp}
+use Rattle.league.specs.Sets.{IsAscending, is_in}
+use Rattle.rule_core.specs.Keys.{keys_where, places_from}
+use Rattle.rule_core.specs.Listed.{IsKeyOf}
+use Rattle.rule_core.specs.Places.{ArePlaces, place_of}
+use Rattle.rule_core.proofs.KeyLemmas.{ascending-tail, keys_where-none, less_than, one_passes, places_from-none, places_from-same, skipped, taken}
+use Rattle.rule_core.proofs.MeetingLemmas.{is_in-no, is_in-yes}
 
-equal : (x y : ℕ) → x ≡ y → (x == y) ≡ true
-equal x y same = grind (arith, nat_tests)
+equal : (x : ℕ) → (x == x) ≡ true
+equal x = grind (arith, nat_tests)
 
 unequal : (x y : ℕ) → x ≢ y → (x == y) ≡ false
 unequal x y differ = grind (arith, nat_tests)
 
-above : (x : ℕ) → 0 < x → nat_lt 0 x ≡ true
+above : (x : ℕ) → nat_lt 0 x ≡ true → 0 < x
 above x h = grind (arith, nat_tests)
 
-not_above : (x : ℕ) → x ≤ 0 → nat_lt 0 x ≡ false
+not_above : (x : ℕ) → nat_lt 0 x ≡ false → x ≡ 0
 not_above x h = grind (arith, nat_tests)
+
+-- the table gives each number's key
+pub place_of-is : (xs places : List ℕ) → ArePlaces (length xs) xs places → (t : ℕ) → IsKeyOf xs t (place_of places t)
+place_of-is xs places are t =
+    let p : ℕ = get_or places t 0 in
+    cond_both (nat_lt 0 p) (Some (p - 1)) None (λ key. IsKeyOf xs t key)
+    (λ e. (omega (arith, above p e, are.within t), are.here t (above p e)))
+    (λ e. λ k d lt same. absurd (omega (arith, are.there k lt, ap (λ (u : ℕ). get_or places u 0) (get_or_default xs k 0 d lt ∙ same), not_above p e)))
+
+-- a key is there where the number is one of the list
+pub has_key : (xs : List ℕ) (t : ℕ) (key : Option ℕ) → IsKeyOf xs t key → is_some key ≡ is_in t xs
+has_key xs t (Some k) is = sym (is_in-yes t xs k is.0 is.1)
+has_key xs t None none = sym (is_in-no t xs none)
+
+-- and it is the only one
+pub key_is : (xs : List ℕ) (t : ℕ) (key : Option ℕ) → IsAscending nat_cmp xs → IsKeyOf xs t key → option_to_list key ≡ keys_where (λ x. x == t) xs
+key_is xs t (Some k) ascending is =
+    ap (λ (p : ℕ). p ∷ []) (sym (zero-add k)) ∙ sym (one_passes 0 (λ x. x == t) xs t k ascending is.0 is.1 (equal t) (λ x differ. unequal x t differ))
+key_is xs t None ascending none = sym (keys_where-none (λ x. x == t) xs (λ k d lt. unequal (get_or xs k d) t (none k d lt)))
+
+pub option_to_list-le : (key : Option ℕ) → length (option_to_list key) ≤ 1
+option_to_list-le (Some k) = omega arith
+option_to_list-le None = omega arith
+
+-- ---- two numbers
 
 first_of : (x t u : ℕ) → x ≡ t → ((x == t) || (x == u)) ≡ true
 first_of x t u same = grind (arith, nat_tests)
@@ -37,70 +65,60 @@ second_alone x t u differ = grind (arith, nat_tests)
 either_way : (x t u : ℕ) → ((x == u) || (x == t)) ≡ ((x == t) || (x == u))
 either_way x t u = grind (arith, nat_tests)
 
--- the places of a list as it is seen
-pub seen_places : (xs places now : List ℕ) → xs ≡ now → ArePlaces (length xs) xs places → ArePlaces (length now) now places
-seen_places xs places now seen are = subst (λ (ys : List ℕ). ArePlaces (length ys) ys places) seen are
+same_number : (x t : ℕ) → x ≡ t → (x == t) ≡ true
+same_number x t same = grind (arith, nat_tests)
 
--- a list, and the table of its places: a number that has a place is there, and at no other place
-module _ (xs places : List ℕ) (are : ArePlaces (length xs) xs places) where
-  within : (t : ℕ) → 0 < get_or places t 0 → get_or places t 0 - 1 < length xs
-  within t more = omega (arith, are.within t)
+-- a later number is larger
+later_above : (x : ℕ) (xs : List ℕ) → IsAscending nat_cmp (x ∷ xs) → All (λ y. x < y) xs
+later_above x xs ascending = λ k d lt. less_than x (get_or xs k d) (ascending 0 (suc k) d (omega arith) (omega arith))
 
-  elsewhere : (t i : ℕ) → i < length xs → i ≢ get_or places t 0 - 1 → get_or xs i 0 ≢ t
-  elsewhere t i lt differ same = differ (omega (arith, are.there i lt, ap (λ (u : ℕ). get_or places u 0) same))
+-- the key of the smaller of two numbers stands before that of the larger
+ordered : (start : ℕ) (t u : ℕ) (xs : List ℕ) → t < u → IsAscending nat_cmp xs → places_from start (λ x. x == t) xs ++ places_from start (λ x. x == u) xs ≡ places_from start (λ x. (x == t) || (x == u)) xs
+ordered start t u [] before ascending = refl
+ordered start t u (x ∷ xs) before ascending =
+    let at_t : List ℕ = places_from (start + 1) (λ y. y == t) xs in
+    let at_u : List ℕ = places_from (start + 1) (λ y. y == u) xs in
+    let at_either : List ℕ = places_from (start + 1) (λ y. (y == t) || (y == u)) xs in
+    let rest : at_t ++ at_u ≡ at_either = ordered (start + 1) t u xs before (ascending-tail x xs ascending) in
+    elim (cases_eq x t) [
+      | inl first ↦
+          let other : x ≢ u = omega arith in
+          ap (λ (ks : List ℕ). ks ++ places_from start (λ y. y == u) (x ∷ xs)) (taken (x == t) start at_t (same_number x t first))
+          ∙ ap (λ (ks : List ℕ). (start ∷ at_t) ++ ks) (skipped (x == u) start at_u (unequal x u other))
+          ∙ ap (λ (ks : List ℕ). start ∷ ks) rest
+          ∙ sym (taken ((x == t) || (x == u)) start at_either (first_of x t u first))
+      | inr not_first ↦ elim (cases_eq x u) [
+        | inl second ↦
+            let none : All (λ y. y ≢ t) xs = λ k d lt same. absurd (omega (arith, later_above x xs ascending k d lt)) in
+            ap (λ (ks : List ℕ). ks ++ places_from start (λ y. y == u) (x ∷ xs)) (skipped (x == t) start at_t (unequal x t not_first) ∙ places_from-none (start + 1) (λ y. y == t) xs (λ k d lt. unequal (get_or xs k d) t (none k d lt)))
+            ∙ taken (x == u) start at_u (same_number x u second)
+            ∙ ap (λ (ks : List ℕ). start ∷ ks) (places_from-same (start + 1) (λ y. y == u) (λ y. (y == t) || (y == u)) xs (λ k d lt. second_alone (get_or xs k d) t u (none k d lt)))
+            ∙ sym (taken ((x == t) || (x == u)) start at_either (second_of x t u second))
+        | inr not_second ↦
+            ap (λ (ks : List ℕ). ks ++ places_from start (λ y. y == u) (x ∷ xs)) (skipped (x == t) start at_t (unequal x t not_first))
+            ∙ ap (λ (ks : List ℕ). at_t ++ ks) (skipped (x == u) start at_u (unequal x u not_second))
+            ∙ rest
+            ∙ sym (skipped ((x == t) || (x == u)) start at_either (neither x t u not_first not_second))
+      ]
+    ]
 
-  absent : (t : ℕ) → get_or places t 0 ≤ 0 → All (λ x. x ≢ t) xs
-  absent t none = λ k d lt same.
-      let is : get_or xs k 0 ≡ t = get_or_default xs k 0 d lt ∙ same in
-      absurd (omega (arith, are.there k lt, ap (λ (u : ℕ). get_or places u 0) is))
-
-  -- so it has a place exactly where it is one of the numbers
-  pub has_place : (t place : ℕ) → place ≡ get_or places t 0 → nat_lt 0 place ≡ is_in t xs
-  has_place t place is = elim (cases_lt 0 place) [
-    | inl more ↦
-        let there : 0 < get_or places t 0 = omega arith in
-        let k : ℕ = get_or places t 0 - 1 in
-        above place more ∙ sym (list_any_at (λ x. x == t) xs k 0 (within t there) (equal (get_or xs k 0) t (are.here t there)))
-    | inr none ↦ not_above place none ∙ sym (list_any_none (λ x. x == t) xs (λ k d lt. unequal (get_or xs k d) t (absent t (omega arith) k d lt)))
-  ]
-
-  -- its key
-  pub key_there : (t place : ℕ) → place ≡ get_or places t 0 → 0 < place → keys_where (λ x. x == t) xs ≡ (place - 1) ∷ []
-  key_there t place is more =
-      let there : 0 < get_or places t 0 = omega arith in
-      let k : ℕ = get_or places t 0 - 1 in
-      places_from-one 0 (λ x. x == t) xs k (within t there) (equal (get_or xs k 0) t (are.here t there)) (λ i lt differ. unequal (get_or xs i 0) t (elsewhere t i lt differ))
-      ∙ ap (λ (p : ℕ). p ∷ []) (omega arith)
-
-  pub key_gone : (t place : ℕ) → place ≡ get_or places t 0 → place ≤ 0 → keys_where (λ x. x == t) xs ≡ []
-  key_gone t place is none = keys_where-none (λ x. x == t) xs (λ k d lt. unequal (get_or xs k d) t (absent t (omega arith) k d lt))
-
-  pub key_few : (t : ℕ) → length (keys_where (λ x. x == t) xs) ≤ 1
-  key_few t = elim (cases_lt 0 (get_or places t 0)) [
-    | inl more ↦ omega (arith, ap (λ (ks : List ℕ). length ks) (key_there t (get_or places t 0) refl more))
-    | inr none ↦ omega (arith, ap (λ (ks : List ℕ). length ks) (key_gone t (get_or places t 0) refl none))
-  ]
-
-  -- those of two different numbers, of which the first isn't placed after the second
-  pub keys_joined : (t u : ℕ) → t ≢ u → get_or places t 0 ≤ get_or places u 0 → keys_where (λ x. x == t) xs ++ keys_where (λ x. x == u) xs ≡ keys_where (λ x. (x == t) || (x == u)) xs
-  keys_joined t u differ le = elim (cases_lt 0 (get_or places t 0)) [
-    | inl more ↦
-        let other : 0 < get_or places u 0 = omega arith in
-        let j : ℕ = get_or places t 0 - 1 in
-        let k : ℕ = get_or places u 0 - 1 in
-        let apart : get_or places t 0 ≢ get_or places u 0 = λ same. differ (sym (are.here t more) ∙ ap (λ (p : ℕ). get_or xs (p - 1) 0) same ∙ are.here u other) in
-        ap (λ (ks : List ℕ). ks ++ keys_where (λ x. x == u) xs) (key_there t (get_or places t 0) refl more)
-        ∙ ap (λ (ks : List ℕ). (j ∷ []) ++ ks) (key_there u (get_or places u 0) refl other)
-        ∙ ap (λ (p : ℕ). p ∷ k ∷ []) (sym (zero-add j))
-        ∙ ap (λ (p : ℕ). (0 + j) ∷ p ∷ []) (sym (zero-add k))
-        ∙ sym (places_from-two 0 (λ x. (x == t) || (x == u)) xs j k (omega (arith, apart)) (within u other) (first_of (get_or xs j 0) t u (are.here t more)) (second_of (get_or xs k 0) t u (are.here u other)) (λ i lt not_first not_second. neither (get_or xs i 0) t u (elsewhere t i lt not_first) (elsewhere u i lt not_second)))
-    | inr none ↦
-        ap (λ (ks : List ℕ). ks ++ keys_where (λ x. x == u) xs) (key_gone t (get_or places t 0) refl none)
-        ∙ keys_where-same (λ x. x == u) (λ x. (x == t) || (x == u)) xs (λ k d lt. second_alone (get_or xs k d) t u (absent t none k d lt))
-  ]
-
-  -- and of which it is
-  pub keys_turned : (t u : ℕ) → t ≢ u → get_or places u 0 ≤ get_or places t 0 → keys_where (λ x. x == u) xs ++ keys_where (λ x. x == t) xs ≡ keys_where (λ x. (x == t) || (x == u)) xs
-  keys_turned t u differ le =
-      keys_joined u t (λ same. differ (sym same)) le
-      ∙ keys_where-same (λ x. (x == u) || (x == t)) (λ x. (x == t) || (x == u)) xs (λ k d lt. either_way (get_or xs k d) t u)
+-- so those of two numbers are in order where the smaller comes first
+pub keys_sorted : (xs : List ℕ) (one other : ℕ) (first second : Option ℕ) → IsAscending nat_cmp xs → one ≢ other → IsKeyOf xs (min one other) first → IsKeyOf xs (max one other) second → option_to_list first ++ option_to_list second ≡ keys_where (λ x. (x == one) || (x == other)) xs
+keys_sorted xs one other first second ascending differ is_first is_second =
+    let t : ℕ = min one other in
+    let u : ℕ = max one other in
+    ap (λ (ks : List ℕ). ks ++ option_to_list second) (key_is xs t first ascending is_first)
+    ∙ ap (λ (ks : List ℕ). keys_where (λ x. x == t) xs ++ ks) (key_is xs u second ascending is_second)
+    ∙ ordered 0 t u xs (omega arith) ascending
+    ∙ elim (cases_lt one other) [
+      | inl lt ↦
+          let low : t ≡ one = omega arith in
+          let high : u ≡ other = omega arith in
+          ap (λ (v : ℕ). keys_where (λ x. (x == v) || (x == u)) xs) low ∙ ap (λ (v : ℕ). keys_where (λ x. (x == one) || (x == v)) xs) high
+      | inr ge ↦
+          let low : t ≡ other = omega arith in
+          let high : u ≡ one = omega arith in
+          ap (λ (v : ℕ). keys_where (λ x. (x == v) || (x == u)) xs) low
+          ∙ ap (λ (v : ℕ). keys_where (λ x. (x == other) || (x == v)) xs) high
+          ∙ places_from-same 0 (λ x. (x == other) || (x == one)) (λ x. (x == one) || (x == other)) xs (λ k d lt. either_way (get_or xs k d) one other)
+    ]

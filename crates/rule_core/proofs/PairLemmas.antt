@@ -1,9 +1,9 @@
 -- The pairs of teams: how many there are, and the keys of those with a team, or with two.
-use Rattle.std.proofs.Common.{◌≡◌, ◌≢◌, ℕ, ◌+◌, ◌-◌, ◌*◌, ◌/◌, ◌<◌, ◌≤◌, zero, suc, Bool, true, false, ◌&&◌, List, [], ◌∷◌, ◌++◌, length, get_or, map, drop, refl, arith, ap, sym, ◌∙◌, subst, ◌⊎◌, inl, inr, zero-add}
+use Rattle.std.proofs.Common.{◌≡◌, ◌≢◌, ℕ, ◌+◌, ◌-◌, ◌*◌, ◌/◌, ◌<◌, ◌≤◌, zero, suc, Bool, true, false, ◌&&◌, List, [], ◌∷◌, ◌++◌, length, get_or, min, max, map, drop, refl, arith, ap, sym, ◌∙◌, subst, ◌⊎◌, inl, inr, zero-add}
 use Rattle.std.proofs.Math.Nat.{mul-le-mul}
 use Rattle.std.proofs.lemmas.Bool.{cases_eq, cases_lt}
 use Rattle.std.proofs.lemmas.Bool.Decides.{nat_tests}
-use Rattle.std.proofs.lemmas.List.{append_assoc, append-nil, drop_more, get_or-drop, get_or_default, length-append, length-drop, length-map}
+use Rattle.std.proofs.lemmas.List.{append_assoc, append-nil, drop_more, get_or-drop, length-append, length-drop, length-map}
 use Rattle.std.proofs.lemmas.Option.{get_or_from_slice_get}
 use Rattle.std.specs.Prelude.{slice_get, Some}
 use Rattle.std.proofs.lemmas.List.Elements.{All-append, All-cons, All-head, All-map, All-nil, All-tail}
@@ -289,51 +289,29 @@ later_done a size before whole none so_far =
 
 -- ---- what is kept
 
-module _ (teams : List ℕ) (pairs : List (ℕ × ℕ)) (places now : List ℕ) (are : ArePairs teams pairs places) (seen : teams ≡ now) where
-  -- it is kept of the teams that are seen
-  pub seen_pairs : ArePairs now pairs places
-  seen_pairs = subst (λ (xs : List ℕ). ArePairs xs pairs places) seen are
+-- the key as it is computed
+pub key_computed : (teams : List ℕ) (pairs : List (ℕ × ℕ)) (now : List ℕ) → ArePairs teams pairs → teams ≡ now → (count total i j : ℕ) → count ≡ length teams → total ≡ length pairs → i < j → j < length now → ((count - i) * (count - i - 1) / 2 ≤ total) × (total - (count - i) * (count - i - 1) / 2 + (j - i - 1) ≡ key_at now i j)
+key_computed teams pairs now are seen count total i j teams_counted pairs_counted before inside =
+    let here : ArePairs now pairs = subst (λ (xs : List ℕ). ArePairs xs pairs) seen are in
+    let size : length teams ≡ length now = ap (λ (xs : List ℕ). length xs) seen in
+    let pair_size : length pairs ≡ length (pairs_of now) = ap (λ (xs : List (ℕ × ℕ)). length xs) here.listed in
+    let rest : (count - i) * (count - i - 1) / 2 ≡ length (pairs_of (drop i now)) = rest_count now i (count - i) (omega arith) in
+    let sum : first_key now i + length (pairs_of (drop i now)) ≡ length (pairs_of now) = first_key-rest now i (omega arith) in
+    (omega arith, omega arith)
 
-  -- the key as it is computed
-  pub key_computed : (count total i j : ℕ) → count ≡ length teams → total ≡ length pairs → i < j → j < length now → ((count - i) * (count - i - 1) / 2 ≤ total) × (total - (count - i) * (count - i - 1) / 2 + (j - i - 1) ≡ key_at now i j)
-  key_computed count total i j teams_counted pairs_counted before inside =
-      let size : length teams ≡ length now = ap (λ (xs : List ℕ). length xs) seen in
-      let pair_size : length pairs ≡ length (pairs_of now) = ap (λ (xs : List (ℕ × ℕ)). length xs) seen_pairs.listed in
-      let rest : (count - i) * (count - i - 1) / 2 ≡ length (pairs_of (drop i now)) = rest_count now i (count - i) (omega arith) in
-      let sum : first_key now i + length (pairs_of (drop i now)) ≡ length (pairs_of now) = first_key-rest now i (omega arith) in
-      (omega arith, omega arith)
-
-  -- a place that is given is the team's
-  place_there : (t p : ℕ) → p ≡ get_or places t 0 → 0 < p → (p - 1 < length now) × (get_or now (p - 1) 0 ≡ t)
-  place_there t p is more =
-      (omega (arith, seen_pairs.placed.within t), ap (λ (k : ℕ). get_or now (k - 1) 0) is ∙ seen_pairs.placed.here t (omega arith))
-
-  -- and a team with no place is none of them
-  pub place_gone : (t p : ℕ) → p ≡ get_or places t 0 → p ≤ 0 → All (λ x. x ≢ t) now
-  place_gone t p is none =
-      λ k d lt same.
-      let at : get_or now k 0 ≡ t = get_or_default now k 0 d lt ∙ same in
-      absurd (omega (arith, seen_pairs.placed.there k lt, ap (λ (u : ℕ). get_or places u 0) at))
-
-  -- the key of two teams, whose places are ordered
-  pub key_placed_before : (t u p q : ℕ) → t ≢ u → p ≡ get_or places t 0 → q ≡ get_or places u 0 → 0 < p → p < q → key_between now t u ≡ key_at now (p - 1) (q - 1) ∷ []
-  key_placed_before t u p q apart is_first is_second more before =
-      let first = place_there t p is_first more in
-      let second = place_there u q is_second (omega arith) in
-      key_between-before now t u (p - 1) (q - 1) seen_pairs.ascending apart (omega arith) second.0 first.1 second.1
-
-  pub key_placed_after : (t u p q : ℕ) → t ≢ u → p ≡ get_or places t 0 → q ≡ get_or places u 0 → 0 < q → q ≤ p → key_between now t u ≡ key_at now (q - 1) (p - 1) ∷ []
-  key_placed_after t u p q apart is_first is_second more after =
-      let first = place_there t p is_first (omega arith) in
-      let second = place_there u q is_second more in
-      elim (cases_eq q p) [
-        | inl same ↦ absurd (apart (sym first.1 ∙ ap (λ (k : ℕ). get_or now (k - 1) 0) (sym same) ∙ second.1))
-        | inr differ ↦ key_between-after now t u (p - 1) (q - 1) seen_pairs.ascending apart (omega arith) first.0 first.1 second.1
-      ]
-
-  -- a copy of the teams with the pairs as they are listed
-  pub copied_pairs : (copy : List ℕ) → copy ≡ teams → ArePairs copy pairs places
-  copied_pairs copy same = subst (λ (xs : List ℕ). ArePairs xs pairs places) (sym same) are
+-- the key of two teams, by their places in order
+pub key_between-places : (teams : List ℕ) (t u i j : ℕ) → IsAscending nat_cmp teams → t ≢ u → i < length teams → j < length teams → get_or teams i 0 ≡ t → get_or teams j 0 ≡ u → (min i j < max i j) × (max i j < length teams) × (key_between teams t u ≡ key_at teams (min i j) (max i j) ∷ [])
+key_between-places teams t u i j ascending apart inside other is_first is_second = elim (cases_lt i j) [
+  | inl lt ↦
+      let low : min i j ≡ i = omega arith in
+      let high : max i j ≡ j = omega arith in
+      (omega arith, omega arith, key_between-before teams t u i j ascending apart lt other is_first is_second ∙ ap (λ (k : ℕ). key_at teams k j ∷ []) (sym low) ∙ ap (λ (k : ℕ). key_at teams (min i j) k ∷ []) (sym high))
+  | inr ge ↦
+      let differ : i ≢ j = λ same. apart (sym is_first ∙ ap (λ (k : ℕ). get_or teams k 0) same ∙ is_second) in
+      let low : min i j ≡ j = omega arith in
+      let high : max i j ≡ i = omega arith in
+      (omega arith, omega arith, key_between-after teams t u i j ascending apart (omega arith) inside is_first is_second ∙ ap (λ (k : ℕ). key_at teams k i ∷ []) (sym low) ∙ ap (λ (k : ℕ). key_at teams (min i j) k ∷ []) (sym high))
+]
 
 -- the pair of a key
 pub pair_read : (teams : List ℕ) (k x y : ℕ) → slice_get (pairs_of teams) k ≡ Some (x, y) → get_or (pairs_of teams) k (0, 0) ≡ (x, y)

@@ -31,10 +31,10 @@ are_slots-few n slots small are = slots-few n slots small (are_slots-ascending n
 
 -- the vector has so many entries
 pub entry_count-is : (n : ℕ) (m : Counts) (class : Class) → entry_count class ≡ length (vector_of n m class)
-entry_count-is n m (Ca1 teams max side slots) = sym (length-map teams (ca1_entry n m max side slots))
-entry_count-is n m (Ca2 teams1 teams2 max side slots) = sym (length-map teams1 (ca2_entry m teams2 max side slots))
-entry_count-is n m (Ca3 teams1 teams2 max intp side) = sym (length-map teams1 (ca3_entry n m teams2 max intp side))
-entry_count-is n m (Ca4 teams1 teams2 max side span slots) = sym (length-map (spans span slots) (ca4_entry n m teams1 teams2 max side))
+entry_count-is n m (Ca1 teams min max side slots) = sym (length-map teams (ca1_entry n m min max side slots))
+entry_count-is n m (Ca2 teams1 teams2 min max side slots) = sym (length-map teams1 (ca2_entry m teams2 min max side slots))
+entry_count-is n m (Ca3 teams1 teams2 min max intp side) = sym (length-map teams1 (ca3_entry n m teams2 min max intp side))
+entry_count-is n m (Ca4 teams1 teams2 min max side span slots) = sym (length-map (spans span slots) (ca4_entry n m teams1 teams2 min max side))
 entry_count-is n m (Ga1 meetings min max slots) = refl
 entry_count-is n m (Br1 teams intp side slots) = sym (length-map teams (br1_entry n m intp side slots))
 entry_count-is n m (Br2 teams intp slots) = refl
@@ -54,10 +54,10 @@ first_of_three : (a b c : Bool) → (a && b && c) ≡ true → a ≡ true
 first_of_three a b c h = first_of_two a b (first_of_two (a && b) c h)
 
 pub entry_count-few : (n : ℕ) (class : Class) → IsReady n class → entry_count class ≤ 1600
-entry_count-few n (Ca1 teams max side slots) ready = omega (arith, are_teams-few n teams ready.at_most (first_of_three (are_teams n teams) (are_slots n slots) (is_one_side side) ready.fits))
-entry_count-few n (Ca2 teams1 teams2 max side slots) ready = omega (arith, are_teams-few n teams1 ready.at_most (first_of_three (are_teams n teams1) (are_teams n teams2) (are_slots n slots) ready.fits))
-entry_count-few n (Ca3 teams1 teams2 max intp side) ready = omega (arith, are_teams-few n teams1 ready.at_most (first_of_three (are_teams n teams1) (are_teams n teams2) (nat_lt 0 intp) ready.fits))
-entry_count-few n (Ca4 teams1 teams2 max side span slots) ready = spans-few span slots (are_slots-few n slots ready.at_most (and_parts (are_teams n teams1 && are_teams n teams2) (are_slots n slots) ready.fits).1)
+entry_count-few n (Ca1 teams min max side slots) ready = omega (arith, are_teams-few n teams ready.at_most (first_of_three (are_teams n teams) (are_slots n slots) (is_one_side side) ready.fits))
+entry_count-few n (Ca2 teams1 teams2 min max side slots) ready = omega (arith, are_teams-few n teams1 ready.at_most (first_of_three (are_teams n teams1) (are_teams n teams2) (are_slots n slots) ready.fits))
+entry_count-few n (Ca3 teams1 teams2 min max intp side) ready = omega (arith, are_teams-few n teams1 ready.at_most (first_of_three (are_teams n teams1) (are_teams n teams2) (nat_lt 0 intp) ready.fits))
+entry_count-few n (Ca4 teams1 teams2 min max side span slots) ready = spans-few span slots (are_slots-few n slots ready.at_most (and_parts (are_teams n teams1 && are_teams n teams2) (are_slots n slots) ready.fits).1)
 entry_count-few n (Ga1 meetings min max slots) ready = omega arith
 entry_count-few n (Br1 teams intp side slots) ready = omega (arith, are_teams-few n teams ready.at_most (first_of_two (are_teams n teams) (are_slots n slots) ready.fits))
 entry_count-few n (Br2 teams intp slots) ready = omega arith

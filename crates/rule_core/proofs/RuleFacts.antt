@@ -11,7 +11,7 @@ use Rattle.league.specs.Grid.{number}
 use Rattle.rule_core.specs.Table.{Table, table_counts}
 
 -- Two teams have two slots, so a row of two counts for each home team and away team: 0 with 0, 0 with 1, 1 with 0 and 1
--- with 1. Team 0 is at home to 1 three times in slot 0 and once in slot 1, and team 1 at home to 0 five times in slot 1.
+-- with 1. Team 0 is at home to 1 three times in slot 0 and once in slot 1, team 1 at home to 0 five times in slot 1.
 abbrev two_teams : Table
 two_teams = record { n = 2; list = 0 ∷ 0 ∷ 3 ∷ 1 ∷ 0 ∷ 5 ∷ 0 ∷ 0 ∷ [] }
 

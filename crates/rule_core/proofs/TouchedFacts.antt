@@ -25,51 +25,51 @@ abbrev games : List Game
 games = game 3 1 2 ∷ game 3 1 5 ∷ game 3 1 4 ∷ game 1 2 2 ∷ game 2 1 5 ∷ game 3 0 5 ∷ game 0 3 5 ∷ []
 
 -- the home team is the second, the second, in no such slot, the first, none, the second, none
-pub ca1-home : map (touched_keys (Ca1 teams 0 H slots)) games ≡ (1 ∷ []) ∷ (1 ∷ []) ∷ [] ∷ (0 ∷ []) ∷ [] ∷ (1 ∷ []) ∷ [] ∷ []
+pub ca1-home : map (touched_keys (Ca1 teams 0 0 H slots)) games ≡ (1 ∷ []) ∷ (1 ∷ []) ∷ [] ∷ (0 ∷ []) ∷ [] ∷ (1 ∷ []) ∷ [] ∷ []
 ca1-home = refl
 
 -- the away team is the first, the first, in no such slot, none, the first, none, the second
-pub ca1-away : map (touched_keys (Ca1 teams 0 A slots)) games ≡ (0 ∷ []) ∷ (0 ∷ []) ∷ [] ∷ [] ∷ (0 ∷ []) ∷ [] ∷ (1 ∷ []) ∷ []
+pub ca1-away : map (touched_keys (Ca1 teams 0 0 A slots)) games ≡ (0 ∷ []) ∷ (0 ∷ []) ∷ [] ∷ [] ∷ (0 ∷ []) ∷ [] ∷ (1 ∷ []) ∷ []
 ca1-away = refl
 
 -- Team 3 plays 1, who is one of the others, while team 1 plays 3, who isn't. Both of 1 and 2 are others: only 1 has a
 -- key. 0 is neither.
-pub ca2-either_side : map (touched_keys (Ca2 teams others 0 Both slots)) games ≡ (1 ∷ []) ∷ (1 ∷ []) ∷ [] ∷ (0 ∷ []) ∷ (0 ∷ []) ∷ [] ∷ [] ∷ []
+pub ca2-either_side : map (touched_keys (Ca2 teams others 0 0 Both slots)) games ≡ (1 ∷ []) ∷ (1 ∷ []) ∷ [] ∷ (0 ∷ []) ∷ (0 ∷ []) ∷ [] ∷ [] ∷ []
 ca2-either_side = refl
 
 -- a home game alone: not that of 1 at 2
-pub ca2-home : map (touched_keys (Ca2 teams others 0 H slots)) games ≡ (1 ∷ []) ∷ (1 ∷ []) ∷ [] ∷ (0 ∷ []) ∷ [] ∷ [] ∷ [] ∷ []
+pub ca2-home : map (touched_keys (Ca2 teams others 0 0 H slots)) games ≡ (1 ∷ []) ∷ (1 ∷ []) ∷ [] ∷ (0 ∷ []) ∷ [] ∷ [] ∷ [] ∷ []
 ca2-home = refl
 
 -- an away game alone: that of 1 at 2, and not those of 1 at 3, who isn't one of the others
-pub ca2-away : map (touched_keys (Ca2 teams others 0 A slots)) games ≡ [] ∷ [] ∷ [] ∷ [] ∷ (0 ∷ []) ∷ [] ∷ [] ∷ []
+pub ca2-away : map (touched_keys (Ca2 teams others 0 0 A slots)) games ≡ [] ∷ [] ∷ [] ∷ [] ∷ (0 ∷ []) ∷ [] ∷ [] ∷ []
 ca2-away = refl
 
 -- of teams against each other both are touched, in order of their keys, whoever is at home
-pub ca2-both_teams : map (touched_keys (Ca2 teams teams 0 Both slots)) (game 3 1 2 ∷ game 1 3 2 ∷ game 1 2 2 ∷ []) ≡ (0 ∷ 1 ∷ []) ∷ (0 ∷ 1 ∷ []) ∷ [] ∷ []
+pub ca2-both_teams : map (touched_keys (Ca2 teams teams 0 0 Both slots)) (game 3 1 2 ∷ game 1 3 2 ∷ game 1 2 2 ∷ []) ≡ (0 ∷ 1 ∷ []) ∷ (0 ∷ 1 ∷ []) ∷ [] ∷ []
 ca2-both_teams = refl
 
 -- a CA3 has no slots of its own, and the length of its windows says nothing of a game
-pub ca3-any_slot : map (touched_keys (Ca3 teams others 0 90 Both)) games ≡ (1 ∷ []) ∷ (1 ∷ []) ∷ (1 ∷ []) ∷ (0 ∷ []) ∷ (0 ∷ []) ∷ [] ∷ [] ∷ []
+pub ca3-any_slot : map (touched_keys (Ca3 teams others 0 0 90 Both)) games ≡ (1 ∷ []) ∷ (1 ∷ []) ∷ (1 ∷ []) ∷ (0 ∷ []) ∷ (0 ∷ []) ∷ [] ∷ [] ∷ []
 ca3-any_slot = refl
 
-pub ca3-away : map (touched_keys (Ca3 teams others 0 3 A)) games ≡ [] ∷ [] ∷ [] ∷ [] ∷ (0 ∷ []) ∷ [] ∷ [] ∷ []
+pub ca3-away : map (touched_keys (Ca3 teams others 0 0 3 A)) games ≡ [] ∷ [] ∷ [] ∷ [] ∷ (0 ∷ []) ∷ [] ∷ [] ∷ []
 ca3-away = refl
 
 -- 3 with 1, and 1 with 2: each by the key of its slot, and none in slot 4
-pub ca4-every : map (touched_keys (Ca4 teams others 0 Both Every slots)) games ≡ (0 ∷ []) ∷ (1 ∷ []) ∷ [] ∷ (0 ∷ []) ∷ (1 ∷ []) ∷ [] ∷ [] ∷ []
+pub ca4-every : map (touched_keys (Ca4 teams others 0 0 Both Every slots)) games ≡ (0 ∷ []) ∷ (1 ∷ []) ∷ [] ∷ (0 ∷ []) ∷ (1 ∷ []) ∷ [] ∷ [] ∷ []
 ca4-every = refl
 
 -- all slots together have one key
-pub ca4-global : map (touched_keys (Ca4 teams others 0 Both Global slots)) games ≡ (0 ∷ []) ∷ (0 ∷ []) ∷ [] ∷ (0 ∷ []) ∷ (0 ∷ []) ∷ [] ∷ [] ∷ []
+pub ca4-global : map (touched_keys (Ca4 teams others 0 0 Both Global slots)) games ≡ (0 ∷ []) ∷ (0 ∷ []) ∷ [] ∷ (0 ∷ []) ∷ (0 ∷ []) ∷ [] ∷ [] ∷ []
 ca4-global = refl
 
 -- at home the first of the teams: 3 and 1, and not 2
-pub ca4-home : map (touched_keys (Ca4 teams others 0 H Every slots)) games ≡ (0 ∷ []) ∷ (1 ∷ []) ∷ [] ∷ (0 ∷ []) ∷ [] ∷ [] ∷ [] ∷ []
+pub ca4-home : map (touched_keys (Ca4 teams others 0 0 H Every slots)) games ≡ (0 ∷ []) ∷ (1 ∷ []) ∷ [] ∷ (0 ∷ []) ∷ [] ∷ [] ∷ [] ∷ []
 ca4-home = refl
 
 -- away the first of the teams: 1 at 2 alone, since 3, at whom 1 plays, isn't one of the others
-pub ca4-away : map (touched_keys (Ca4 teams others 0 A Every slots)) games ≡ [] ∷ [] ∷ [] ∷ [] ∷ (1 ∷ []) ∷ [] ∷ [] ∷ []
+pub ca4-away : map (touched_keys (Ca4 teams others 0 0 A Every slots)) games ≡ [] ∷ [] ∷ [] ∷ [] ∷ (1 ∷ []) ∷ [] ∷ [] ∷ []
 ca4-away = refl
 
 -- ---- the game constraint
@@ -141,10 +141,10 @@ se1-each = refl
 
 -- one team on a side, two teams on both, one key, and the pairs of one of three teams, or of none
 pub most_touched-each : map most_touched
-    (Ca1 teams 1 H slots
-    ∷ Ca2 teams others 1 H slots
-    ∷ Ca3 teams others 1 3 Both
-    ∷ Ca4 teams others 1 H Every slots
+    (Ca1 teams 0 1 H slots
+    ∷ Ca2 teams others 0 1 H slots
+    ∷ Ca3 teams others 0 1 3 Both
+    ∷ Ca4 teams others 0 1 H Every slots
     ∷ Ga1 ((0, 1) ∷ []) 1 1 slots
     ∷ Br1 teams 1 Both slots
     ∷ Br2 teams 1 slots

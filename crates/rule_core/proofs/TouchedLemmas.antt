@@ -55,10 +55,10 @@ at_most most test ks few = where_passes (λ ls. length ls ≤ most) test ks few 
 
 -- each is that of an entry
 pub touched_keys-below : (class : Class) (g : Game) → All (λ k. k < entry_count class) (touched_keys class g)
-touched_keys-below (Ca1 teams max side slots) g = under (length teams) (is_in g.slot.0 slots) (keys_where (plays_on side g) teams) (keys_where-below (plays_on side g) teams)
-touched_keys-below (Ca2 teams1 teams2 max side slots) g = under (length teams1) (is_in g.slot.0 slots) (keys_where (plays_against side teams2 g) teams1) (keys_where-below (plays_against side teams2 g) teams1)
-touched_keys-below (Ca3 teams1 teams2 max intp side) g = keys_where-below (plays_against side teams2 g) teams1
-touched_keys-below (Ca4 teams1 teams2 max side span slots) g = under (length (spans span slots)) (is_between side teams1 teams2 (g.home.0, g.away.0)) (keys_where (is_in g.slot.0) (spans span slots)) (keys_where-below (is_in g.slot.0) (spans span slots))
+touched_keys-below (Ca1 teams min max side slots) g = under (length teams) (is_in g.slot.0 slots) (keys_where (plays_on side g) teams) (keys_where-below (plays_on side g) teams)
+touched_keys-below (Ca2 teams1 teams2 min max side slots) g = under (length teams1) (is_in g.slot.0 slots) (keys_where (plays_against side teams2 g) teams1) (keys_where-below (plays_against side teams2 g) teams1)
+touched_keys-below (Ca3 teams1 teams2 min max intp side) g = keys_where-below (plays_against side teams2 g) teams1
+touched_keys-below (Ca4 teams1 teams2 min max side span slots) g = under (length (spans span slots)) (is_between side teams1 teams2 (g.home.0, g.away.0)) (keys_where (is_in g.slot.0) (spans span slots)) (keys_where-below (is_in g.slot.0) (spans span slots))
 touched_keys-below (Ga1 meetings min max slots) g = under 1 (is_listed meetings g.home.0 g.away.0 && is_in g.slot.0 slots) (0 ∷ []) (all_one (λ k. k < 1) 0 (omega arith))
 touched_keys-below (Br1 teams intp side slots) g = under (length teams) (can_break slots g.slot.0) (keys_where (plays_on side g) teams) (keys_where-below (plays_on side g) teams)
 touched_keys-below (Br2 teams intp slots) g = under 1 (can_break slots g.slot.0 && (is_in g.home.0 teams || is_in g.away.0 teams)) (0 ∷ []) (all_one (λ k. k < 1) 0 (omega arith))
@@ -67,10 +67,10 @@ touched_keys-below (Se1 teams min) g = keys_where-below (λ p. has_team g.home.0
 
 -- they ascend
 pub touched_keys-ascending : (class : Class) (g : Game) → IsStrictlyIncreasing (touched_keys class g)
-touched_keys-ascending (Ca1 teams max side slots) g = rising (is_in g.slot.0 slots) (keys_where (plays_on side g) teams) (keys_where-ascending (plays_on side g) teams)
-touched_keys-ascending (Ca2 teams1 teams2 max side slots) g = rising (is_in g.slot.0 slots) (keys_where (plays_against side teams2 g) teams1) (keys_where-ascending (plays_against side teams2 g) teams1)
-touched_keys-ascending (Ca3 teams1 teams2 max intp side) g = keys_where-ascending (plays_against side teams2 g) teams1
-touched_keys-ascending (Ca4 teams1 teams2 max side span slots) g = rising (is_between side teams1 teams2 (g.home.0, g.away.0)) (keys_where (is_in g.slot.0) (spans span slots)) (keys_where-ascending (is_in g.slot.0) (spans span slots))
+touched_keys-ascending (Ca1 teams min max side slots) g = rising (is_in g.slot.0 slots) (keys_where (plays_on side g) teams) (keys_where-ascending (plays_on side g) teams)
+touched_keys-ascending (Ca2 teams1 teams2 min max side slots) g = rising (is_in g.slot.0 slots) (keys_where (plays_against side teams2 g) teams1) (keys_where-ascending (plays_against side teams2 g) teams1)
+touched_keys-ascending (Ca3 teams1 teams2 min max intp side) g = keys_where-ascending (plays_against side teams2 g) teams1
+touched_keys-ascending (Ca4 teams1 teams2 min max side span slots) g = rising (is_between side teams1 teams2 (g.home.0, g.away.0)) (keys_where (is_in g.slot.0) (spans span slots)) (keys_where-ascending (is_in g.slot.0) (spans span slots))
 touched_keys-ascending (Ga1 meetings min max slots) g = rising (is_listed meetings g.home.0 g.away.0 && is_in g.slot.0 slots) (0 ∷ []) (increasing-one 0)
 touched_keys-ascending (Br1 teams intp side slots) g = rising (can_break slots g.slot.0) (keys_where (plays_on side g) teams) (keys_where-ascending (plays_on side g) teams)
 touched_keys-ascending (Br2 teams intp slots) g = rising (can_break slots g.slot.0 && (is_in g.home.0 teams || is_in g.away.0 teams)) (0 ∷ []) (increasing-one 0)
@@ -120,15 +120,15 @@ spans-one Every slots s ascending =
 
 -- they are few
 pub touched_keys-few : (n : ℕ) (class : Class) → IsReady n class → (g : Game) → IsGame n g → length (touched_keys class g) ≤ most_touched class
-touched_keys-few n (Ca1 teams max side slots) ready g fits =
+touched_keys-few n (Ca1 teams min max side slots) ready g fits =
     let parts = and_parts (are_teams n teams && are_slots n slots) (is_one_side side) ready.fits in
     at_most 1 (is_in g.slot.0 slots) (keys_where (plays_on side g) teams) (players-one side g teams parts.1 (are_teams-ascending n teams (and_parts (are_teams n teams) (are_slots n slots) parts.0).0))
-touched_keys-few n (Ca2 teams1 teams2 max side slots) ready g fits =
+touched_keys-few n (Ca2 teams1 teams2 min max side slots) ready g fits =
     let parts = and_parts (are_teams n teams1 && are_teams n teams2) (are_slots n slots) ready.fits in
     at_most 2 (is_in g.slot.0 slots) (keys_where (plays_against side teams2 g) teams1) (opponents-two n teams1 teams2 side g parts.0)
-touched_keys-few n (Ca3 teams1 teams2 max intp side) ready g fits =
+touched_keys-few n (Ca3 teams1 teams2 min max intp side) ready g fits =
     opponents-two n teams1 teams2 side g (and_parts (are_teams n teams1 && are_teams n teams2) (nat_lt 0 intp) ready.fits).0
-touched_keys-few n (Ca4 teams1 teams2 max side span slots) ready g fits =
+touched_keys-few n (Ca4 teams1 teams2 min max side span slots) ready g fits =
     at_most 1 (is_between side teams1 teams2 (g.home.0, g.away.0)) (keys_where (is_in g.slot.0) (spans span slots))
     (spans-one span slots g.slot.0 (are_slots-ascending n slots (and_parts (are_teams n teams1 && are_teams n teams2) (are_slots n slots) ready.fits).1))
 touched_keys-few n (Ga1 meetings min max slots) ready g fits =

@@ -3,14 +3,12 @@ use Rattle.std.specs.Prelude.{◌≡◌, ℕ, zero, suc, ◌+◌, ◌-◌, ◌�
 use Rattle.std.specs.Ordering.{nat_cmp}
 use Rattle.league.specs.Meetings.{pairs_of}
 use Rattle.league.specs.Sets.{IsAscending}
-use Rattle.rule_core.specs.Places.{ArePlaces}
 
--- an ascending list of teams, with their pairs in order and the place of each team
-pub record ArePairs (teams : List ℕ) (pairs : List (ℕ × ℕ)) (places : List ℕ) : Type 0 where
+-- an ascending list of teams, with their pairs in order
+pub record ArePairs (teams : List ℕ) (pairs : List (ℕ × ℕ)) : Type 0 where
   pub ascending : IsAscending nat_cmp teams
   pub few : length teams ≤ 78
   pub listed : pairs ≡ pairs_of teams
-  pub placed : ArePlaces (length teams) teams places
 
 -- the key of the first pair of the team at place i with a later one: each earlier team has a pair with each later one
 -- before

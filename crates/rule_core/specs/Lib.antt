@@ -8,6 +8,7 @@ pub mod Rule
 -- Kept inside (laws, and how fields are seen):
 pub mod Tables
 pub mod Places
+pub mod Listed
 pub mod KeptMeetings
 pub mod KeptPairs
 pub mod Ready

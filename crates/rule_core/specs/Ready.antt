@@ -13,10 +13,10 @@ pub record IsReady (n : ℕ) (class : Class) : Type 0 where
 
 -- how many entries it has
 abbrev pub entry_count : Class → ℕ
-entry_count (Ca1 teams max side slots) = length teams
-entry_count (Ca2 teams1 teams2 max side slots) = length teams1
-entry_count (Ca3 teams1 teams2 max intp side) = length teams1
-entry_count (Ca4 teams1 teams2 max side span slots) = length (spans span slots)
+entry_count (Ca1 teams min max side slots) = length teams
+entry_count (Ca2 teams1 teams2 min max side slots) = length teams1
+entry_count (Ca3 teams1 teams2 min max intp side) = length teams1
+entry_count (Ca4 teams1 teams2 min max side span slots) = length (spans span slots)
 entry_count (Ga1 meetings min max slots) = 1
 entry_count (Br1 teams intp side slots) = length teams
 entry_count (Br2 teams intp slots) = 1

@@ -32,11 +32,11 @@ can_break slots s = is_in s slots || is_in (s + 1) slots
 
 -- the keys of the entries that a game can change: those of its teams, of their pairs, of its slot, or the one key
 abbrev pub touched_keys : Class → Game → List ℕ
-touched_keys (Ca1 teams max side slots) g = if is_in g.slot.0 slots then keys_where (plays_on side g) teams else []
-touched_keys (Ca2 teams1 teams2 max side slots) g =
+touched_keys (Ca1 teams min max side slots) g = if is_in g.slot.0 slots then keys_where (plays_on side g) teams else []
+touched_keys (Ca2 teams1 teams2 min max side slots) g =
     if is_in g.slot.0 slots then keys_where (plays_against side teams2 g) teams1 else []
-touched_keys (Ca3 teams1 teams2 max intp side) g = keys_where (plays_against side teams2 g) teams1
-touched_keys (Ca4 teams1 teams2 max side span slots) g =
+touched_keys (Ca3 teams1 teams2 min max intp side) g = keys_where (plays_against side teams2 g) teams1
+touched_keys (Ca4 teams1 teams2 min max side span slots) g =
     if is_between side teams1 teams2 (g.home.0, g.away.0) then keys_where (is_in g.slot.0) (spans span slots) else []
 touched_keys (Ga1 meetings min max slots) g =
     if is_listed meetings g.home.0 g.away.0 && is_in g.slot.0 slots then 0 ∷ [] else []
@@ -50,10 +50,10 @@ touched_keys (Se1 teams min) g = key_between teams g.home.0 g.away.0
 
 -- the most keys that one game touches: that of one team, those of its two teams, or those of its home team's pairs
 abbrev pub most_touched : Class → ℕ
-most_touched (Ca1 teams max side slots) = 1
-most_touched (Ca2 teams1 teams2 max side slots) = 2
-most_touched (Ca3 teams1 teams2 max intp side) = 2
-most_touched (Ca4 teams1 teams2 max side span slots) = 1
+most_touched (Ca1 teams min max side slots) = 1
+most_touched (Ca2 teams1 teams2 min max side slots) = 2
+most_touched (Ca3 teams1 teams2 min max intp side) = 2
+most_touched (Ca4 teams1 teams2 min max side span slots) = 1
 most_touched (Ga1 meetings min max slots) = 1
 most_touched (Br1 teams intp side slots) = 2
 most_touched (Br2 teams intp slots) = 1

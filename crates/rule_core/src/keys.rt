@@ -1,5 +1,6 @@
 //! A list of keys with a fixed room, so that adding a key takes no memory.
-ghost use Rattle.std.specs.Prelude.{◌≡◌, ◌<◌, ◌==◌, [], ◌∷◌, length, slice_get, Some, IfOk};
+ghost use Rattle.std.specs.Prelude.{◌≡◌, ◌<◌, ◌≤◌, ◌+◌, ◌==◌, [], ◌∷◌, length, slice_get, Some, IfOk};
+ghost use Rattle.std.specs.Option.{option_to_list};
 ghost use Rattle.rule_core.specs.Keys.{with_keys};
 
 use std::alloc::{AllocError, Global};
@@ -50,6 +51,16 @@ impl Keys {
         ensures { self.new ≡ with_keys self.old (key ∷ []) }
     {
         self.keys.push_reserved(key);
+    }
+
+    /// Adds a key, if there is one. It takes no memory.
+    pub(crate) fn push_some(&mut self, key: Option<usize>)
+        requires { length self.old.list + 1 ≤ self.old.room }
+        ensures { self.new ≡ with_keys self.old (option_to_list key) }
+    {
+        if let Some(key) = key {
+            self.push(key);
+        }
     }
 
     /// The number of keys.

@@ -5,6 +5,7 @@
 //! what each class promises of the rule that it makes of a constraint.
 #![tactic(auto)]
 
+mod bounds;
 mod cells;
 mod counters;
 mod keys;
@@ -14,6 +15,7 @@ mod pairs;
 mod places;
 mod rule;
 
+pub use bounds::outside;
 pub use cells::Cells;
 pub use keys::Keys;
 pub use listed::Listed;

@@ -5,6 +5,7 @@ ghost use Rattle.std.specs.Ordering.{nat_cmp};
 ghost use Rattle.league.specs.Instance.{are_slots, are_teams};
 ghost use Rattle.league.specs.Sets.{IsAscending, is_in};
 ghost use Rattle.rule_core.specs.Keys.{keys_where, with_keys};
+ghost use Rattle.rule_core.specs.Listed.{IsKeyOf};
 
 use crate::keys::Keys;
 use crate::places::Places;
@@ -58,7 +59,7 @@ impl Listed {
     }
 
     /// These numbers.
-    fn of(alloc: Global, numbers: &[u16]) -> Result<Listed, AllocError>
+    pub(crate) fn of(alloc: Global, numbers: &[u16]) -> Result<Listed, AllocError>
         requires ascending { IsAscending nat_cmp numbers.now }
         requires below { All (λ x. x < 78) numbers.now }
         ensures { IfOk result (λ listed. listed ≡ numbers.now) }
@@ -92,11 +93,19 @@ impl Listed {
         self.numbers[key]
     }
 
+    /// The key of a number, if it is one of these. It is one look-up.
+    pub(crate) fn key(&self, number: u16) -> Option<usize>
+        ensures key { IsKeyOf self.now number result }
+        ensures ascending { IsAscending nat_cmp self.now }
+    {
+        self.places.place(number)
+    }
+
     /// Whether a number is one of these. It is one look-up.
     pub fn has(&self, number: u16) -> bool
         ensures { result ≡ is_in number self.now }
     {
-        self.places.place(number) > 0
+        self.key(number).is_some()
     }
 
     /// Adds the key of a number, where it is one of these. It takes no memory.
@@ -104,25 +113,17 @@ impl Listed {
         requires { length keys.old.list + 1 ≤ keys.old.room }
         ensures { keys.new ≡ with_keys keys.old (keys_where (λ x. x == number) self.now) }
     {
-        let place = self.places.place(number);
-        if place > 0 {
-            keys.push(place - 1);
-        }
+        keys.push_some(self.key(number));
     }
 
-    /// Adds the keys of two different numbers, as far as they are of these, the smaller first. It takes no memory.
+    /// Adds the keys of two different numbers, as far as they are of these, in ascending order. It takes no memory.
     pub fn push_keys(&self, one: u16, other: u16, keys: &mut Keys)
         requires differ { one ≢ other }
         requires spare { length keys.old.list + 2 ≤ keys.old.room }
         ensures { keys.new ≡ with_keys keys.old (keys_where (λ x. (x == one) || (x == other)) self.now) }
     {
-        if self.places.place(one) <= self.places.place(other) {
-            self.push_key(one, keys);
-            self.push_key(other, keys);
-        } else {
-            self.push_key(other, keys);
-            self.push_key(one, keys);
-        }
+        keys.push_some(self.key(one.min(other)));
+        keys.push_some(self.key(one.max(other)));
     }
 }
 

@@ -11,7 +11,7 @@ ghost use Rattle.rule_core.specs.Keys.{with_keys};
 ghost use Rattle.rule_core.specs.Pairs.{key_between, keys_with};
 
 use crate::keys::Keys;
-use crate::places::Places;
+use crate::listed::Listed;
 use league::{TeamId, TeamSet};
 use std::alloc::{AllocError, Global};
 use std::marker::Model;
@@ -22,9 +22,8 @@ use std::marker::Model;
 /// A contract sees it as the ascending list of the teams.
 #[derive(Drop)]
 pub struct Pairs {
-    teams: Vec<u16>,
+    teams: Listed,
     pairs: Vec<(u16, u16)>,
-    places: Places,
 }
 
 impl Model for Pairs {
@@ -33,9 +32,9 @@ impl Model for Pairs {
 
     ghost Value = { List ℕ };
 
-    ghost view = { λ p. p.teams.items };
+    ghost view = { λ p. p.teams };
 
-    ghost invariant = { λ p. ArePairs p.teams.items p.pairs.items p.places };
+    ghost invariant = { λ p. ArePairs p.teams p.pairs.items };
 }
 
 impl Pairs {
@@ -58,9 +57,8 @@ impl Pairs {
         ensures { IfOk result (λ pairs. pairs ≡ teams.now) }
     {
         Ok(Pairs {
-            teams: Vec::from_slice(alloc, teams)?,
+            teams: Listed::of(alloc, teams)?,
             pairs: list_pairs(alloc, teams)?,
-            places: Places::of(teams),
         })
     }
 
@@ -101,15 +99,10 @@ impl Pairs {
         requires spare { length keys.old.list + 1 ≤ keys.old.room }
         ensures { keys.new ≡ with_keys keys.old (key_between self.now one other) }
     {
-        let one = self.places.place(one);
-        let other = self.places.place(other);
-        if one > 0 && other > 0 {
-            let key = if one < other {
-                self.key(one - 1, other - 1)
-            } else {
-                self.key(other - 1, one - 1)
-            };
-            keys.push(key);
+        if let Some(one) = self.teams.key(one) {
+            if let Some(other) = self.teams.key(other) {
+                keys.push(self.key(one.min(other), one.max(other)));
+            }
         }
     }
 
@@ -118,9 +111,8 @@ impl Pairs {
         requires { length keys.old.list + (length self.now - 1) ≤ keys.old.room }
         ensures { keys.new ≡ with_keys keys.old (keys_with self.now team) }
     {
-        let place = self.places.place(team);
-        if place > 0 {
-            self.push_keys_at(place - 1, keys);
+        if let Some(place) = self.teams.key(team) {
+            self.push_keys_at(place, keys);
         }
     }
 

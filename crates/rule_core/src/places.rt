@@ -1,9 +1,9 @@
 //! Where each number stands in a list: one look-up in place of a search.
-ghost use Rattle.std.specs.Prelude.{◌≡◌, ◌<◌, length, slice_index};
+ghost use Rattle.std.specs.Prelude.{◌≡◌, ◌<◌, length};
 ghost use Rattle.std.specs.List.{All};
 ghost use Rattle.std.specs.Ordering.{nat_cmp};
 ghost use Rattle.league.specs.Sets.{IsAscending};
-ghost use Rattle.rule_core.specs.Places.{ArePlaces};
+ghost use Rattle.rule_core.specs.Places.{ArePlaces, place_of};
 
 use std::marker::Model;
 
@@ -38,13 +38,13 @@ impl Places {
         Places { places }
     }
 
-    /// The place of a number, counted from 1, or 0 where it doesn't stand in the list.
-    pub(crate) fn place(&self, number: u16) -> usize
-        ensures { result ≡ slice_index self.now number }
+    /// The place of a number, counted from 0, if it stands in the list.
+    pub(crate) fn place(&self, number: u16) -> Option<usize>
+        ensures { result ≡ place_of self.now number }
     {
         match self.places.get(number as usize) {
-            Some(place) => *place as usize,
-            None => 0,
+            Some(place) if *place > 0 => Some(*place as usize - 1),
+            _ => None,
         }
     }
 }

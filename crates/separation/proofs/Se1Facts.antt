@@ -17,8 +17,8 @@ mutual_games-each = refl
 abbrev entries : ℕ → List ℕ
 entries min = vector_of 6 counts (Se1 (1 ∷ 3 ∷ 5 ∷ []) min)
 
--- Between the neighbours of 1 and 3 lie the slots 2 and 3, none, and 5 to 8: two, none and four. With min 3 they lack 1,
--- 3 and 0; 1 and 5 have no neighbours; between 3 and 5's games lies no slot.
+-- Between the neighbours of 1 and 3 lie the slots 2 and 3, none, and 5 to 8: two, none and four. With min 3 they lack
+-- 1, 3 and 0; 1 and 5 have no neighbours; between 3 and 5's games lies no slot.
 pub se1-min_3 : entries 3 ≡ 4 ∷ 0 ∷ 3 ∷ []
 se1-min_3 = refl
 

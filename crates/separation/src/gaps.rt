@@ -47,7 +47,8 @@ fn games_at(cells: &Cells, first: TeamId, second: TeamId, slot: SlotId) -> u32
     requires first { first.0 < cells.now.n }
     requires second { second.0 < cells.now.n }
     requires slot { slot.0 < slot_count cells.now.n }
-    ensures games { result ≡ table_counts cells.now first.0 second.0 slot.0 + table_counts cells.now second.0 first.0 slot.0 }
+    ensures games { result ≡ table_counts cells.now first.0 second.0 slot.0
+        + table_counts cells.now second.0 first.0 slot.0 }
     ensures at_most { result ≤ 20000 }
 {
     cells.at(first, second, slot) + cells.at(second, first, slot)

@@ -2,7 +2,7 @@
 ghost use Rattle.league.specs.Instance.{IsGame};
 
 use super::*;
-use league::{Side, SlotId, SlotSet, TeamId, TeamSet};
+use league::{Class, Side, SlotId, SlotSet, TeamId, TeamSet};
 use rule_core::Plain;
 use std::process::Abort;
 use std::test::Fail;
@@ -106,6 +106,7 @@ fn windows(rt: &impl Abort, alloc: Global) -> Result<AnyRule, Fail> {
     let class = Class::Ca3 {
         teams1,
         teams2,
+        min: 0,
         max: 2,
         intp: 3,
         side: Side::H,

@@ -1,37 +1,20 @@
-use Rattle.std.proofs.Common.{◌==◌, ◌||◌, arith}
+use Rattle.std.proofs.Common.{ℕ, subst, ◌==◌, ◌||◌}
+use Rattle.std.specs.Option.{option_to_list}
 use Rattle.rule_core.specs.Keys.{keys_where}
+use Rattle.rule_core.specs.Listed.{IsKeyOf}
 use Rattle.rule_core.proofs.KeyLemmas.{room_left, two_more}
-use Rattle.rule_core.proofs.ListedLemmas.{key_few, keys_joined, keys_turned, seen_places}
+use Rattle.rule_core.proofs.ListedLemmas.{keys_sorted, option_to_list-le}
 use Rattle.rule_core.proofs.listed.Listed.push_keys.Goals as goal
 
-pub push_key-requires-then-place : goal.push_key-requires-then-place
-push_key-requires-then-place c =
-    let inside = c.self.inside in
-    let now = c.args.self.now in
-    room_left c.args.keys.now c.push_key.new.keys (keys_where (λ x. x == c.args.one) now) c.push_key.ensures c.requires.spare
-    (key_few now inside.places (seen_places inside.numbers.items inside.places now c.self.view_is c.self.invariant.placed) c.args.one)
+pub push_some-requires-2 : goal.push_some-requires-2
+push_some-requires-2 c = room_left c.args.keys.now c.push_some.new.self (option_to_list c.key.result) c.push_some.ensures c.requires.spare (option_to_list-le c.key.result)
 
-pub push_key-requires-else-place-2 : goal.push_key-requires-else-place-2
-push_key-requires-else-place-2 c =
-    let inside = c.self.inside in
+pub returns : goal.returns
+returns c =
     let now = c.args.self.now in
-    room_left c.args.keys.now c.push_key-else-place.new.keys (keys_where (λ x. x == c.args.other) now) c.push_key-else-place.ensures c.requires.spare
-    (key_few now inside.places (seen_places inside.numbers.items inside.places now c.self.view_is c.self.invariant.placed) c.args.other)
-
-pub returns-then-place : goal.returns-then-place
-returns-then-place c =
-    let inside = c.self.inside in
-    let now = c.args.self.now in
-    two_more c.args.keys.now c.push_key.new.keys c.push_key-then-place.new.keys
-    (keys_where (λ x. x == c.args.one) now) (keys_where (λ x. x == c.args.other) now) (keys_where (λ x. (x == c.args.one) || (x == c.args.other)) now)
-    c.push_key.ensures c.push_key-then-place.ensures
-    (keys_joined now inside.places (seen_places inside.numbers.items inside.places now c.self.view_is c.self.invariant.placed) c.args.one c.args.other c.requires.differ (omega (arith, c.place.ensures, c.place-2.ensures, c.if-place.true)))
-
-pub returns-else-place : goal.returns-else-place
-returns-else-place c =
-    let inside = c.self.inside in
-    let now = c.args.self.now in
-    two_more c.args.keys.now c.push_key-else-place.new.keys c.push_key-else-place-2.new.keys
-    (keys_where (λ x. x == c.args.other) now) (keys_where (λ x. x == c.args.one) now) (keys_where (λ x. (x == c.args.one) || (x == c.args.other)) now)
-    c.push_key-else-place.ensures c.push_key-else-place-2.ensures
-    (keys_turned now inside.places (seen_places inside.numbers.items inside.places now c.self.view_is c.self.invariant.placed) c.args.one c.args.other c.requires.differ (omega (arith, c.place.ensures, c.place-2.ensures, c.if-place.false)))
+    two_more c.args.keys.now c.push_some.new.self c.push_some-2.new.self
+    (option_to_list c.key.result) (option_to_list c.key-2.result) (keys_where (λ x. (x == c.args.one) || (x == c.args.other)) now)
+    c.push_some.ensures c.push_some-2.ensures
+    (keys_sorted now c.args.one c.args.other c.key.result c.key-2.result c.key.ensures.ascending c.requires.differ
+    (subst (λ (t : ℕ). IsKeyOf now t c.key.result) c.min.ensures c.key.ensures.key)
+    (subst (λ (t : ℕ). IsKeyOf now t c.key-2.result) c.max.ensures c.key-2.ensures.key))

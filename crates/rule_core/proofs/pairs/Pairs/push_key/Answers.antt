@@ -1,36 +1,30 @@
-use Rattle.std.proofs.Common.{◌≡◌, [], ◌∷◌, ◌∙◌, sym, ap, ℕ}
+use Rattle.std.proofs.Common.{List, ℕ, [], ◌∷◌, max, min, ap, sym, ◌∙◌}
+use Rattle.rule_core.specs.KeptPairs.{key_at}
+use Rattle.rule_core.specs.Keys.{with_keys}
 use Rattle.rule_core.specs.Pairs.{key_between}
-use Rattle.rule_core.proofs.KeyLemmas.{no_more, one_more_key}
-use Rattle.rule_core.proofs.PairLemmas.{key_between-no_first, key_between-no_second, key_placed_after, key_placed_before, place_gone}
+use Rattle.rule_core.proofs.KeyLemmas.{no_more}
+use Rattle.rule_core.proofs.PairLemmas.{key_between-no_first, key_between-no_second, key_between-places}
 use Rattle.rule_core.proofs.pairs.Pairs.push_key.Goals as goal
-use Rattle.rule_core.proofs.pairs.Pairs.push_key.Goals.{then-one-other, else-one-other, else-one-gt0-via-then-one-gt0+else-other-gt0, else-one-gt0-via-else-one-gt0}
 
-pub returns-after-one-other : goal.returns-after-one-other
-returns-after-one-other c =
-    let inside = c.self.inside in
-    let teams = c.args.self.now in
-    let p = c.place-one.result in
-    let q = c.place-other.result in
-    let one : key_between teams c.args.one c.args.other ≡ c.if-one-other.key ∷ [] =
-    elim c.if-one-other.branch [
-      | then-one-other w ↦
-          key_placed_before inside.teams.items inside.pairs.items inside.places teams c.self.invariant c.self.view_is c.args.one c.args.other p q c.requires.differ c.place-one.ensures c.place-other.ensures c.if-one-gt0.true w.if-one-other.true
-          ∙ ap (λ (k : ℕ). k ∷ []) (sym (w.key-is ∙ w.key-key.ensures))
-      | else-one-other w ↦
-          key_placed_after inside.teams.items inside.pairs.items inside.places teams c.self.invariant c.self.view_is c.args.one c.args.other p q c.requires.differ c.place-one.ensures c.place-other.ensures c.if-other-gt0.true w.if-one-other.false
-          ∙ ap (λ (k : ℕ). k ∷ []) (sym (w.key-is ∙ w.key-key-else-one-other.ensures))
-    ] in
-    one_more_key c.args.keys.now c.if-one-other.key (key_between teams c.args.one c.args.other) c.push.new.self one c.push.ensures
+pub returns-in-Some-key : goal.returns-in-Some-key
+returns-in-Some-key c =
+    let teams = c.self.inside.teams in
+    let i = c.in-Some.one in
+    let j = c.in-Some-key.other in
+    let between = key_between-places teams c.args.one c.args.other i j c.self.invariant.ascending c.requires.differ c.in-Some.ensures.key.0 c.in-Some-key.ensures.key.0 c.in-Some.ensures.key.1 c.in-Some-key.ensures.key.1 in
+    c.push.ensures
+    ∙ ap (λ (k : ℕ). with_keys c.args.keys.now (k ∷ []))
+    (c.key-in-Some-key.ensures ∙ ap (λ (p : ℕ). key_at c.args.self.now p c.max.result) c.min.ensures ∙ ap (λ (p : ℕ). key_at c.args.self.now (min i j) p) c.max.ensures ∙ ap (λ (xs : List ℕ). key_at xs (min i j) (max i j)) (sym c.self.view_is))
+    ∙ ap (with_keys c.args.keys.now) (sym between.2 ∙ ap (λ (xs : List ℕ). key_between xs c.args.one c.args.other) c.self.view_is)
 
-pub returns-else-one-gt0 : goal.returns-else-one-gt0
-returns-else-one-gt0 c =
-    let inside = c.self.inside in
-    let teams = c.args.self.now in
-    let none : key_between teams c.args.one c.args.other ≡ [] =
-    elim c.else-one-gt0.branch [
-      | else-one-gt0-via-then-one-gt0+else-other-gt0 w ↦
-          key_between-no_second teams c.args.one c.args.other (place_gone inside.teams.items inside.pairs.items inside.places teams c.self.invariant c.self.view_is c.args.other c.place-other.result c.place-other.ensures w.if-other-gt0.false)
-      | else-one-gt0-via-else-one-gt0 w ↦
-          key_between-no_first teams c.args.one c.args.other (place_gone inside.teams.items inside.pairs.items inside.places teams c.self.invariant c.self.view_is c.args.one c.place-one.result c.place-one.ensures w.if-one-gt0.false)
-    ] in
-    no_more c.args.keys.now (key_between teams c.args.one c.args.other) none
+pub returns-in_default-key : goal.returns-in_default-key
+returns-in_default-key c =
+    let teams = c.self.inside.teams in
+    no_more c.args.keys.now (key_between teams c.args.one c.args.other) (key_between-no_second teams c.args.one c.args.other c.in_default-key.ensures.key)
+    ∙ ap (λ (xs : List ℕ). with_keys c.args.keys.now (key_between xs c.args.one c.args.other)) c.self.view_is
+
+pub returns-in_default : goal.returns-in_default
+returns-in_default c =
+    let teams = c.self.inside.teams in
+    no_more c.args.keys.now (key_between teams c.args.one c.args.other) (key_between-no_first teams c.args.one c.args.other c.in_default.ensures.key)
+    ∙ ap (λ (xs : List ℕ). with_keys c.args.keys.now (key_between xs c.args.one c.args.other)) c.self.view_is

@@ -1,0 +1,6 @@
+-- Lemmas on rows that lie end to end:
+pub mod FlatLemmas
+-- What a row forces:
+pub mod ForcingLemmas
+-- Worked examples, so that a wrong definition does not check:
+pub mod RowFacts
