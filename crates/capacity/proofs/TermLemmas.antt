@@ -1,8 +1,9 @@
 -- What the evaluation of a term adds up to.
-use Rattle.std.proofs.Common.{◌≡◌, ℕ, ◌-◌, ◌<◌, ◌≤◌, true, ◌&&◌, List, [], length, get_or, arith, ap, subst, sym, ◌∙◌}
+use Rattle.std.proofs.Common.{◌≡◌, ℕ, ◌<◌, ◌≤◌, true, ◌&&◌, List, [], length, get_or, arith, ap, subst, sym, ◌∙◌}
 use Rattle.std.proofs.lemmas.Bool.{and_parts}
 use Rattle.std.proofs.lemmas.List.{get_or-map}
 use Rattle.std.specs.List.{All, sum_by}
+use Rattle.league.specs.Bounds.{outside}
 use Rattle.league.specs.Capacity.{ca1_entry, ca2_entry, ca4_entry, meetings_with}
 use Rattle.league.specs.Counts.{Counts, slot_count}
 use Rattle.league.specs.Deviation.{entry_of, spans}
@@ -22,24 +23,22 @@ use Rattle.capacity.specs.declared.ca2.Ca2.{Ca2}
 use Rattle.capacity.specs.declared.ca4.Ca4.{Ca4}
 
 -- the entry of a CA1, by the games of the team that was read
-pub ca1_term : (r : Ca1) (m : Counts) (key teams team : ℕ) (slots : List ℕ) (games bound result : ℕ) → key < entry_count (ca1.class_of r) → teams ≡ r.n → team ≡ get_or r.teams key 0 → slots ≡ r.slots → games ≡ sum_by (λ s. games_on teams m r.side team s) slots → bound ≡ r.max → result ≡ games - bound → result ≡ entry_of r.n m (ca1.class_of r) key
-ca1_term r m key teams team slots games bound result inside same is_team are_slots summed is_bound less =
+pub ca1_term : (r : Ca1) (m : Counts) (key teams team : ℕ) (slots : List ℕ) (games result : ℕ) → key < entry_count (ca1.class_of r) → teams ≡ r.n → team ≡ get_or r.teams key 0 → slots ≡ r.slots → games ≡ sum_by (λ s. games_on teams m r.side team s) slots → result ≡ outside r.min r.max games → result ≡ entry_of r.n m (ca1.class_of r) key
+ca1_term r m key teams team slots games result inside same is_team are_slots summed less =
     less
-    ∙ ap (λ (b : ℕ). games - b) is_bound
-    ∙ ap (λ (g : ℕ). g - r.max)
+    ∙ ap (outside r.min r.max)
     (summed
     ∙ ap (λ (xs : List ℕ). sum_by (λ s. games_on teams m r.side team s) xs) are_slots
     ∙ ap (λ (k : ℕ). sum_by (λ s. games_on k m r.side team s) r.slots) same
     ∙ ap (λ (i : ℕ). sum_by (λ s. games_on r.n m r.side i s) r.slots) is_team)
-    ∙ sym (get_or-map (ca1_entry r.n m r.max r.side r.slots) r.teams key 0 0 inside)
+    ∙ sym (get_or-map (ca1_entry r.n m r.min r.max r.side r.slots) r.teams key 0 0 inside)
 
 -- the entry of a CA2, by the games of the team in the slots that were read
-pub ca2_term : (r : Ca2) (m : Counts) (key : ℕ) (slots : List ℕ) (games bound result : ℕ) → key < entry_count (ca2.class_of r) → slots ≡ r.slots → games ≡ games_of m (meetings_with r.opponents.side (get_or r.opponents.teams1 key 0) r.opponents.teams2) slots → bound ≡ r.max → result ≡ games - bound → result ≡ entry_of r.n m (ca2.class_of r) key
-ca2_term r m key slots games bound result inside are_slots counted is_bound less =
+pub ca2_term : (r : Ca2) (m : Counts) (key : ℕ) (slots : List ℕ) (games result : ℕ) → key < entry_count (ca2.class_of r) → slots ≡ r.slots → games ≡ games_of m (meetings_with r.opponents.side (get_or r.opponents.teams1 key 0) r.opponents.teams2) slots → result ≡ outside r.min r.max games → result ≡ entry_of r.n m (ca2.class_of r) key
+ca2_term r m key slots games result inside are_slots counted less =
     less
-    ∙ ap (λ (b : ℕ). games - b) is_bound
-    ∙ ap (λ (g : ℕ). g - r.max) (counted ∙ ap (λ (xs : List ℕ). games_of m (meetings_with r.opponents.side (get_or r.opponents.teams1 key 0) r.opponents.teams2) xs) are_slots)
-    ∙ sym (get_or-map (ca2_entry m r.opponents.teams2 r.max r.opponents.side r.slots) r.opponents.teams1 key 0 0 inside)
+    ∙ ap (outside r.min r.max) (counted ∙ ap (λ (xs : List ℕ). games_of m (meetings_with r.opponents.side (get_or r.opponents.teams1 key 0) r.opponents.teams2) xs) are_slots)
+    ∙ sym (get_or-map (ca2_entry m r.opponents.teams2 r.min r.max r.opponents.side r.slots) r.opponents.teams1 key 0 0 inside)
 
 -- the slots of an entry of a CA4 are few, and of the season
 fitting_slots : (r : Ca4) → are_slots r.n r.slots ≡ true
@@ -57,13 +56,12 @@ ca4_slots-below r key read inside is_read =
     subst P (sym is_read) (subst Q (sym r.made) of_rule)
 
 -- the entry of a CA4, by the games of its meetings in the slots that were read
-pub ca4_term : (r : Ca4) (m : Counts) (key : ℕ) (read : List ℕ) (games bound result : ℕ) → key < entry_count (ca4.class_of r) → read ≡ get_or (spans r.span r.slots) key [] → games ≡ games_of m r.meetings.list read → bound ≡ r.max → result ≡ games - bound → result ≡ entry_of r.n m (ca4.class_of r) key
-ca4_term r m key read games bound result inside is_read counted is_bound less =
+pub ca4_term : (r : Ca4) (m : Counts) (key : ℕ) (read : List ℕ) (games result : ℕ) → key < entry_count (ca4.class_of r) → read ≡ get_or (spans r.span r.slots) key [] → games ≡ games_of m r.meetings.list read → result ≡ outside r.min r.max games → result ≡ entry_of r.n m (ca4.class_of r) key
+ca4_term r m key read games result inside is_read counted less =
     let opponents = r.opponents in
     less
-    ∙ ap (λ (b : ℕ). games - b) is_bound
-    ∙ ap (λ (g : ℕ). g - r.max)
+    ∙ ap (outside r.min r.max)
     (counted
     ∙ ap (λ (xs : List ℕ). games_of m r.meetings.list xs) is_read
     ∙ ap (λ (made : MeetingList). games_of m made.list (get_or (spans r.span r.slots) key [])) r.made)
-    ∙ sym (get_or-map (ca4_entry r.n m opponents.teams1 opponents.teams2 r.max opponents.side) (spans r.span r.slots) key [] 0 inside)
+    ∙ sym (get_or-map (ca4_entry r.n m opponents.teams1 opponents.teams2 r.min r.max opponents.side) (spans r.span r.slots) key [] 0 inside)

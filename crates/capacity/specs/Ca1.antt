@@ -5,4 +5,4 @@ use Rattle.capacity.specs.declared.ca1.Ca1.{Ca1}
 
 -- the class that a rule was made of
 abbrev pub class_of : Ca1 → Class
-class_of r = class.Ca1 r.teams r.max r.side r.slots
+class_of r = class.Ca1 r.teams r.min r.max r.side r.slots

@@ -5,4 +5,4 @@ use Rattle.capacity.specs.declared.ca2.Ca2.{Ca2}
 
 -- the class that a rule was made of
 abbrev pub class_of : Ca2 → Class
-class_of r = class.Ca2 r.opponents.teams1 r.opponents.teams2 r.max r.opponents.side r.slots
+class_of r = class.Ca2 r.opponents.teams1 r.opponents.teams2 r.min r.max r.opponents.side r.slots

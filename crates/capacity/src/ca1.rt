@@ -1,22 +1,24 @@
-//! CA1: at most so many games of a team, at home or away, in some slots.
+//! CA1: from so many to so many games of a team, at home or away, in some slots.
 ghost use Rattle.std.specs.Prelude.{◌≡◌, ◌≤◌, IfOk, IsTrue};
 ghost use Rattle.league.specs.declared.class.Class.TheVariants as class;
 ghost use Rattle.rule_core.specs.Ready.{IsReady};
 
 use crate::sums::games_in;
 use league::{Class, ClassName, Constraint, Game, Side, TeamId};
-use rule_core::{Cells, Entries, Keys, Listed, Rule, Steps};
+use rule_core::{Cells, Entries, Keys, Listed, Rule, Steps, outside};
 use std::alloc::{AllocError, Global};
 
-/// The games of each of some teams, at home or away, in some slots, beyond a bound: one entry for each team.
+/// How far the games of each of some teams, at home or away, in some slots are outside of `min` to `max`: one entry for
+/// each team.
 #[derive(Drop)]
 pub struct Ca1 {
     n: u16,
     teams: Listed,
+    min: u32,
     max: u32,
     side: Side,
     slots: Listed,
-    ghost ready: { IsReady n (class.Ca1 teams max side slots) },
+    ghost ready: { IsReady n (class.Ca1 teams min max side slots) },
 }
 
 impl Ca1 {
@@ -36,6 +38,7 @@ impl Ca1 {
     {
         let Class::Ca1 {
             teams,
+            min,
             max,
             side,
             slots,
@@ -46,6 +49,7 @@ impl Ca1 {
         Ok(Ca1 {
             n,
             teams: Listed::of_teams(alloc, n, teams)?,
+            min: *min,
             max: *max,
             side: *side,
             slots: Listed::of_slots(alloc, n, slots)?,
@@ -107,6 +111,6 @@ impl<L> Rule<L> for Ca1 {
         steps.tick();
         let team = TeamId(self.teams.get(key));
         let games = games_in(cells, self.side, team, self.slots.numbers());
-        games.saturating_sub(u64::from(self.max))
+        outside(self.min, self.max, games)
     }
 }

@@ -1,22 +1,23 @@
-//! CA2: at most so many games of a team against some others, at home, away or both, in some slots.
+//! CA2: from so many to so many games of a team against some others, at home, away or both, in some slots.
 ghost use Rattle.std.specs.Prelude.{◌≡◌, ◌≤◌, IfOk, IsTrue};
 ghost use Rattle.league.specs.declared.class.Class.TheVariants as class;
 ghost use Rattle.rule_core.specs.Ready.{IsReady};
 
 use crate::opponents::Opponents;
 use league::{Class, ClassName, Constraint, Game};
-use rule_core::{Cells, Entries, Keys, Listed, Rule, Steps};
+use rule_core::{Cells, Entries, Keys, Listed, Rule, Steps, outside};
 use std::alloc::{AllocError, Global};
 
-/// The games of each of some teams against others, at home, away or both, in some slots, beyond a bound: one entry for
-/// each team.
+/// How far the games of each of some teams against others, at home, away or both, in some slots are outside of `min` to
+/// `max`: one entry for each team.
 #[derive(Drop)]
 pub struct Ca2 {
     n: u16,
     opponents: Opponents,
+    min: u32,
     max: u32,
     slots: Listed,
-    ghost ready: { IsReady n (class.Ca2 opponents.teams1 opponents.teams2 max opponents.side slots) },
+    ghost ready: { IsReady n (class.Ca2 opponents.teams1 opponents.teams2 min max opponents.side slots) },
 }
 
 impl Ca2 {
@@ -37,6 +38,7 @@ impl Ca2 {
         let Class::Ca2 {
             teams1,
             teams2,
+            min,
             max,
             side,
             slots,
@@ -47,6 +49,7 @@ impl Ca2 {
         Ok(Ca2 {
             n,
             opponents: Opponents::of(alloc, n, teams1, teams2, *side)?,
+            min: *min,
             max: *max,
             slots: Listed::of_slots(alloc, n, slots)?,
         })
@@ -102,6 +105,6 @@ impl<L> Rule<L> for Ca2 {
     fn term(&self, key: usize, cells: &Cells, steps: &mut Steps<L>) -> u64 {
         steps.tick();
         let games = self.opponents.games_in(key, cells, self.slots.numbers());
-        games.saturating_sub(u64::from(self.max))
+        outside(self.min, self.max, games)
     }
 }

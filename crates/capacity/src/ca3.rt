@@ -1,24 +1,26 @@
-//! CA3: at most so many games of a team against some others, at home, away or both, in each window of consecutive
-//! slots.
+//! CA3: from so many to so many games of a team against some others, at home, away or both, in each window of
+//! consecutive slots.
 ghost use Rattle.std.specs.Prelude.{◌≡◌, ℕ, ◌<◌, ◌≤◌, ◌+◌, ◌-◌, length, slice_index, IfOk, IsTrue};
 ghost use Rattle.std.specs.List.{range_with_len, sum_by};
+ghost use Rattle.league.specs.Bounds as bounds;
 ghost use Rattle.league.specs.declared.class.Class.TheVariants as class;
 ghost use Rattle.rule_core.specs.Ready.{IsReady};
 
 use crate::opponents::Opponents;
 use league::{Class, ClassName, Constraint, Game};
-use rule_core::{Cells, Entries, Keys, Rule, Steps};
+use rule_core::{Cells, Entries, Keys, Rule, Steps, outside};
 use std::alloc::{AllocError, Global};
 
-/// The games of each of some teams against others, at home, away or both, beyond a bound in each window of so many
-/// consecutive slots: one entry for each team, summed over the windows.
+/// How far the games of each of some teams against others, at home, away or both, are outside of `min` to `max` in each
+/// window of so many consecutive slots: one entry for each team, summed over the windows.
 #[derive(Drop)]
 pub struct Ca3 {
     n: u16,
     opponents: Opponents,
+    min: u32,
     max: u32,
     intp: u32,
-    ghost ready: { IsReady n (class.Ca3 opponents.teams1 opponents.teams2 max intp opponents.side) },
+    ghost ready: { IsReady n (class.Ca3 opponents.teams1 opponents.teams2 min max intp opponents.side) },
 }
 
 impl Ca3 {
@@ -40,6 +42,7 @@ impl Ca3 {
         let Class::Ca3 {
             teams1,
             teams2,
+            min,
             max,
             intp,
             side,
@@ -50,6 +53,7 @@ impl Ca3 {
         Ok(Ca3 {
             n,
             opponents: Opponents::of(alloc, n, teams1, teams2, *side)?,
+            min: *min,
             max: *max,
             intp: *intp,
         })
@@ -104,23 +108,24 @@ impl<L> Rule<L> for Ca3 {
         steps.tick();
         let before = self.opponents.games_before(key, cells);
         let slots = cells.slots() as usize;
-        excess_in_windows(&before, slots, self.intp as usize, self.max)
+        outside_in_windows(&before, slots, self.intp as usize, self.min, self.max)
     }
 }
 
-/// From the games before each slot, and before the end, of a season: the excess over a bound in each window, summed.
-/// The games in a window are those before its end, less those before its first slot.
-fn excess_in_windows(before: &[u64], slots: usize, intp: usize, max: u32) -> u64
+/// From the games before each slot, and before the end, of a season: how far those in each window are outside of `min`
+/// to `max`, summed. The games in a window are those before its end, less those before its first slot.
+fn outside_in_windows(before: &[u64], slots: usize, intp: usize, min: u32, max: u32) -> u64
     requires slots { slots < length before.now }
     requires few { slots ≤ 78 }
     requires at_most { (t : ℕ) → slice_index before.now t ≤ 121680000 }
-    ensures { result
-        ≡ sum_by (λ first. slice_index before.now (first + intp) - (slice_index before.now first + max))
+    ensures { result ≡ sum_by
+        (λ first. bounds.outside min max (slice_index before.now (first + intp) - slice_index before.now first))
         (range_with_len 0 (slots + 1 - intp)) }
 {
-    let mut excess = 0;
+    let mut sum = 0;
     for first in 0..(slots + 1).saturating_sub(intp) {
-        excess += before[first + intp].saturating_sub(before[first] + u64::from(max));
+        let games = before[first + intp].saturating_sub(before[first]);
+        sum += outside(min, max, games);
     }
-    excess
+    sum
 }

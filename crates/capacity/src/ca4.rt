@@ -1,4 +1,4 @@
-//! CA4: at most so many games of some teams with others in some slots, together or in each slot.
+//! CA4: from so many to so many games of some teams with others in some slots, together or in each slot.
 ghost use Rattle.std.specs.Prelude.{◌≡◌, ◌<◌, ◌≤◌, ◌+◌, [], length, slice_index_or, IfOk, IsTrue};
 ghost use Rattle.std.specs.List.{filter};
 ghost use Rattle.league.specs.Capacity.{is_between};
@@ -11,21 +11,22 @@ ghost use Rattle.rule_core.specs.Ready.{IsReady};
 
 use crate::opponents::Opponents;
 use league::{Class, ClassName, Constraint, Game, Span};
-use rule_core::{Cells, Entries, Keys, Listed, Meetings, Rule, Steps};
+use rule_core::{Cells, Entries, Keys, Listed, Meetings, Rule, Steps, outside};
 use std::alloc::{AllocError, Global};
 
-/// The games of some teams with others, on a side of the former, in some slots, beyond a bound: one entry for all the
-/// slots, or one for each.
+/// How far the games of some teams with others, on a side of the former, in some slots are outside of `min` to `max`:
+/// one entry for all the slots, or one for each.
 #[derive(Drop)]
 pub struct Ca4 {
     n: u16,
     opponents: Opponents,
     /// Those of the former teams with the latter.
     meetings: Meetings,
+    min: u32,
     max: u32,
     span: Span,
     slots: Listed,
-    ghost ready: { IsReady n (class.Ca4 opponents.teams1 opponents.teams2 max opponents.side span slots) },
+    ghost ready: { IsReady n (class.Ca4 opponents.teams1 opponents.teams2 min max opponents.side span slots) },
     ghost made: { meetings ≡ record {
       n = n;
       list = filter (is_between opponents.side opponents.teams1 opponents.teams2) (meetings_of n);
@@ -50,6 +51,7 @@ impl Ca4 {
         let Class::Ca4 {
             teams1,
             teams2,
+            min,
             max,
             side,
             span,
@@ -64,6 +66,7 @@ impl Ca4 {
             n,
             opponents,
             meetings: Meetings::of(alloc, n, &meetings)?,
+            min: *min,
             max: *max,
             span: *span,
             slots: Listed::of_slots(alloc, n, slots)?,
@@ -147,6 +150,6 @@ impl<L> Rule<L> for Ca4 {
     fn term(&self, key: usize, cells: &Cells, steps: &mut Steps<L>) -> u64 {
         steps.tick();
         let games = self.meetings.games(cells, self.slots_at(key));
-        games.saturating_sub(u64::from(self.max))
+        outside(self.min, self.max, games)
     }
 }

@@ -4,4 +4,4 @@ use Rattle.capacity.proofs.ca2.Ca2Rule.term.Goals as goal
 
 pub returns-clause-entry : goal.returns-clause-entry
 returns-clause-entry g c =
-    ca2_term c.args.self.now (table_counts c.args.cells.now) c.args.key c.numbers.result.now c.games_in-games.result c.from.result c.saturating_sub.result c.requires.key c.numbers.ensures.numbers c.games_in-games.ensures c.from.ensures c.saturating_sub.ensures
+    ca2_term c.args.self.now (table_counts c.args.cells.now) c.args.key c.numbers.result.now c.games_in-games.result c.outside.result c.requires.key c.numbers.ensures.numbers c.games_in-games.ensures c.outside.ensures

@@ -4,4 +4,4 @@ use Rattle.capacity.proofs.ca3.Ca3Rule.term.Goals as goal
 
 pub returns-clause-entry : goal.returns-clause-entry
 returns-clause-entry g c =
-    ca3_term c.args.self.now (table_counts c.args.cells.now) c.args.key c.args.cells.now.n c.games_before-before.result c.slots-slots.result c.excess_in_windows.result c.requires.key c.requires.teams c.slots-slots.ensures.slots c.games_before-before.ensures.games c.excess_in_windows.ensures
+    ca3_term c.args.self.now (table_counts c.args.cells.now) c.args.key c.args.cells.now.n c.games_before-before.result c.slots-slots.result c.outside_in_windows.result c.requires.key c.requires.teams c.slots-slots.ensures.slots c.games_before-before.ensures.games c.outside_in_windows.ensures

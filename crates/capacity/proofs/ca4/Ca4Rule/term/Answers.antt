@@ -10,4 +10,4 @@ games-games-requires-clause-few g c = ca4_slots-few c.args.self.now c.args.key c
 
 pub returns-clause-entry : goal.returns-clause-entry
 returns-clause-entry g c =
-    ca4_term c.args.self.now (table_counts c.args.cells.now) c.args.key c.slots_at.result.now c.games-games.result c.from.result c.saturating_sub.result c.requires.key c.slots_at.ensures c.games-games.ensures c.from.ensures c.saturating_sub.ensures
+    ca4_term c.args.self.now (table_counts c.args.cells.now) c.args.key c.slots_at.result.now c.games-games.result c.outside.result c.requires.key c.slots_at.ensures c.games-games.ensures c.outside.ensures
