@@ -1,25 +1,26 @@
 -- The games of some meetings before each slot: how the list is made, and what it says of windows.
 use Rattle.std.proofs.Common.{◌≡◌, ℕ, ◌+◌, ◌-◌, ◌*◌, ◌<◌, ◌≤◌, zero, suc, List, [], ◌∷◌, length, get_or, replicate, set, refl, arith, ap, sym, ◌∙◌, inl, inr}
 use Rattle.std.proofs.lemmas.Bool.{cases_eq}
-use Rattle.std.proofs.lemmas.List.{get_or-set_other, get_or-set_same, length-replicate, length-set}
+use Rattle.std.proofs.lemmas.List.{get_or-map, get_or-set_other, get_or-set_same, length-replicate, length-set}
 use Rattle.std.proofs.lemmas.List.FromFn.{get_or-range_with_len, length-range_with_len}
 use Rattle.std.specs.List.{range_with_len, sum_by}
-use Rattle.league.specs.Capacity.{ca2_entry, meetings_with}
+use Rattle.league.specs.Bounds.{outside}
+use Rattle.league.specs.Capacity.{ca2_entry, ca3_entry, meetings_with}
 use Rattle.league.specs.Counts.{Counts, slot_count}
 use Rattle.league.specs.Deviation.{entry_of}
 use Rattle.league.specs.Meetings.{games_of}
-use Rattle.league.specs.declared.class.Side.{Side}
 use Rattle.league.proofs.SumLemmas.{sum_by-map}
 use Rattle.rule_core.proofs.GameLemmas.{sum_by-same_in}
 use Rattle.rule_core.proofs.OpponentLemmas.{games_of-window}
-use Rattle.capacity.specs.Ca3Laws.{ca3-by_team}
-use Rattle.capacity.specs.Classes.{class_of_ca3}
+use Rattle.rule_core.specs.Ready.{entry_count}
+use Rattle.capacity.specs.Ca3.{class_of}
+use Rattle.capacity.specs.declared.ca3.Ca3.{Ca3}
 
 -- the games before each slot up to one
 pub record AreBefore (m : Counts) (meetings : List (ℕ × ℕ)) (slot : ℕ) (before : List ℕ) : Type 0 where
   pub size : length before ≡ 79
   pub games : (t : ℕ) → t ≤ slot → get_or before t 0 ≡ games_of m meetings (range_with_len 0 t)
-  pub at_most : (t : ℕ) → get_or before t 0 ≤ 800000 * slot
+  pub at_most : (t : ℕ) → get_or before t 0 ≤ 1560000 * slot
 
 -- a list of zeros reads 0 everywhere
 zeros : (size i : ℕ) → get_or {A = ℕ} (replicate size 0) i 0 ≡ 0
@@ -41,7 +42,7 @@ AreBefore-none m meetings = record {
 }
 
 -- with one slot more
-pub AreBefore-more : (m : Counts) (meetings : List (ℕ × ℕ)) (slot next total games : ℕ) (before : List ℕ) → slot < 78 → next ≡ slot + 1 → total ≡ get_or before slot 0 + games → games ≡ games_of m meetings (slot ∷ []) → games ≤ 800000 → AreBefore m meetings slot before → AreBefore m meetings (slot + 1) (set before next total)
+pub AreBefore-more : (m : Counts) (meetings : List (ℕ × ℕ)) (slot next total games : ℕ) (before : List ℕ) → slot < 78 → next ≡ slot + 1 → total ≡ get_or before slot 0 + games → games ≡ games_of m meetings (slot ∷ []) → games ≤ 1560000 → AreBefore m meetings slot before → AreBefore m meetings (slot + 1) (set before next total)
 AreBefore-more m meetings slot next total games before small one is counted few are =
     let inside : next < length before = omega (arith, are.size) in
     record {
@@ -61,18 +62,26 @@ AreBefore-more m meetings slot next total games before small one is counted few 
       ];
     }
 
+-- a number is at most so far outside of two bounds
+pub outside-le : (low high count : ℕ) → outside low high count ≤ low + count
+outside-le low high count = omega arith
+
+-- the games in a window, by those before its end and before its first slot
+window : (n : ℕ) (m : Counts) (meetings : List (ℕ × ℕ)) (intp : ℕ) (before : List ℕ) → ((t : ℕ) → t ≤ slot_count n → get_or before t 0 ≡ games_of m meetings (range_with_len 0 t)) → (p first : ℕ) → p < slot_count n + 1 - intp → first ≡ 0 + p → get_or before (first + intp) 0 - get_or before first 0 ≡ games_of m meetings (range_with_len first intp)
+window n m meetings intp before games p first small is = omega (arith, games (first + intp) (omega arith), games first (omega arith), games_of-window m meetings first intp)
+
 -- the entry of a CA3, by the games before each slot
-pub ca3_term : (n : ℕ) (m : Counts) (teams1 teams2 : List ℕ) (max intp : ℕ) (side : Side) (key : ℕ) (before : List ℕ) (slots result : ℕ) → key < length teams1 → slots ≡ slot_count n → ((t : ℕ) → t ≤ slot_count n → get_or before t 0 ≡ games_of m (meetings_with side (get_or teams1 key 0) teams2) (range_with_len 0 t)) → result ≡ sum_by (λ first. get_or before (first + intp) 0 - (get_or before first 0 + max)) (range_with_len 0 (slots + 1 - intp)) → result ≡ entry_of n m (class_of_ca3 teams1 teams2 max intp side) key
-ca3_term n m teams1 teams2 max intp side key before slots result inside are_slots games summed =
-    let i : ℕ = get_or teams1 key 0 in
-    let count : ℕ = slot_count n + 1 - intp in
-    let read : ℕ → ℕ = λ first. get_or before (first + intp) 0 - (get_or before first 0 + max) in
-    let wanted : ℕ → ℕ = λ first. ca2_entry m teams2 max side (range_with_len first intp) i in
+pub ca3_term : (r : Ca3) (m : Counts) (key teams : ℕ) (before : List ℕ) (slots result : ℕ) → key < entry_count (class_of r) → teams ≡ r.n → slots ≡ slot_count teams → ((t : ℕ) → t ≤ slot_count teams → get_or before t 0 ≡ games_of m (meetings_with r.opponents.side (get_or r.opponents.teams1 key 0) r.opponents.teams2) (range_with_len 0 t)) → result ≡ sum_by (λ first. outside r.min r.max (get_or before (first + r.intp) 0 - get_or before first 0)) (range_with_len 0 (slots + 1 - r.intp)) → result ≡ entry_of r.n m (class_of r) key
+ca3_term r m key teams before slots result inside same are_slots games summed =
+    let i : ℕ = get_or r.opponents.teams1 key 0 in
+    let others : List ℕ = r.opponents.teams2 in
+    let count : ℕ = slot_count teams + 1 - r.intp in
+    let read : ℕ → ℕ = λ first. outside r.min r.max (get_or before (first + r.intp) 0 - get_or before first 0) in
+    let wanted : ℕ → ℕ = λ first. ca2_entry m others r.min r.max r.opponents.side (range_with_len first r.intp) i in
     summed
-    ∙ ap (λ (k : ℕ). sum_by read (range_with_len 0 (k + 1 - intp))) are_slots
-    ∙ sum_by-same_in read wanted (range_with_len 0 count) (λ p d lt. window n m (meetings_with side i teams2) max intp before games p d (get_or (range_with_len 0 count) p d) (omega (arith, length-range_with_len 0 count)) (get_or-range_with_len 0 count p d (omega (arith, length-range_with_len 0 count))))
-    ∙ sym (sum_by-map (λ (window : List ℕ). ca2_entry m teams2 max side window i) (λ (first : ℕ). range_with_len first intp) (range_with_len 0 count))
-    ∙ sym (ca3-by_team n m teams1 teams2 max intp side key inside)
-  where
-    window : (n : ℕ) (m : Counts) (meetings : List (ℕ × ℕ)) (max intp : ℕ) (before : List ℕ) → ((t : ℕ) → t ≤ slot_count n → get_or before t 0 ≡ games_of m meetings (range_with_len 0 t)) → (p d first : ℕ) → p < slot_count n + 1 - intp → first ≡ 0 + p → get_or before (first + intp) 0 - (get_or before first 0 + max) ≡ games_of m meetings (range_with_len first intp) - max
-    window n m meetings max intp before games p d first small is = omega (arith, games (first + intp) (omega arith), games first (omega arith), games_of-window m meetings first intp)
+    ∙ ap (λ (k : ℕ). sum_by read (range_with_len 0 (k + 1 - r.intp))) are_slots
+    ∙ sum_by-same_in read wanted (range_with_len 0 count)
+    (λ p d lt. ap (outside r.min r.max) (window teams m (meetings_with r.opponents.side i others) r.intp before games p (get_or (range_with_len 0 count) p d) (omega (arith, length-range_with_len 0 count)) (get_or-range_with_len 0 count p d (omega (arith, length-range_with_len 0 count)))))
+    ∙ sym (sum_by-map (λ (window : List ℕ). ca2_entry m others r.min r.max r.opponents.side window i) (λ (first : ℕ). range_with_len first r.intp) (range_with_len 0 count))
+    ∙ ap (λ (k : ℕ). ca3_entry k m others r.min r.max r.intp r.opponents.side i) same
+    ∙ sym (get_or-map (ca3_entry r.n m others r.min r.max r.intp r.opponents.side) r.opponents.teams1 key 0 0 inside)

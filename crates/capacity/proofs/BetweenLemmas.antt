@@ -1,24 +1,19 @@
 -- The meetings of some teams with others: one more at a time, and what they are.
-use Rattle.std.proofs.Common.{◌≡◌, ◌≢◌, ℕ, ◌+◌, ◌*◌, ◌<◌, ◌≤◌, Bool, true, false, not, cond, ◌&&◌, ◌||◌, ◌==◌, nat_lt, List, [], ◌∷◌, ◌++◌, length, get_or, map, refl, arith, ap, sym, ◌∙◌, subst, IsTrue}
+use Rattle.std.proofs.Common.{◌≡◌, ◌≢◌, ℕ, ◌+◌, ◌*◌, ◌<◌, ◌≤◌, Bool, true, false, not, cond, ◌&&◌, ◌==◌, nat_lt, List, [], ◌∷◌, ◌++◌, length, get_or, map, refl, arith, ap, sym, ◌∙◌, subst, IsTrue}
 use Rattle.std.proofs.lemmas.Bool.Decides.{nat_tests}
 use Rattle.std.proofs.lemmas.Grind.{flat_map-append}
 use Rattle.std.proofs.lemmas.List.{append-nil, append_assoc, length-map, map-append}
 use Rattle.std.proofs.lemmas.List.Concat.{length-flat_map}
-use Rattle.std.proofs.lemmas.List.Elements.{All-append, All-filter, All-map, All-tail, filter-append, filter_agree, filter_passes}
+use Rattle.std.proofs.lemmas.List.Elements.{All-append, All-filter, All-map, All-tail, filter-append, filter_passes}
 use Rattle.std.proofs.lemmas.List.FromFn.{get_or-range_with_len, length-range_with_len}
 use Rattle.std.proofs.lemmas.List.Sums.{length-filter, list_all-from_AllPass, sum_by-le}
 use Rattle.std.proofs.lemmas.Nat.{mul-le}
-use Rattle.std.specs.List.{All, filter, flat_map, range_with_len}
-use Rattle.league.specs.Capacity.{is_between, is_in}
+use Rattle.std.specs.List.{All, filter, flat_map, list_all, range_with_len}
 use Rattle.league.specs.Counts.{teams_of}
-use Rattle.league.specs.Instance.{are_meetings}
+use Rattle.league.specs.Instance.{is_meeting}
 use Rattle.league.specs.Meetings.{meetings_of, others}
-use Rattle.league.specs.declared.class.Side.{Side}
-use Rattle.league.specs.declared.class.Side.TheVariants.{H, A, Both}
 use Rattle.league.proofs.RangeLemmas.{range_with_len-more}
-use Rattle.rule_core.specs.Places.{ArePlaces, stands}
-use Rattle.rule_core.proofs.MeetingLemmas.{stands-is_in}
-use Rattle.capacity.specs.Between.{have_places, meetings_at_home}
+use Rattle.capacity.specs.Between.{meetings_at_home}
 
 -- the numbers below k + 1
 below-more : (k : ℕ) → range_with_len 0 (k + 1) ≡ range_with_len 0 k ++ k ∷ []
@@ -73,29 +68,6 @@ meetings_of_first-more q n k now next so_far is =
     ∙ ap (λ (ps : List (ℕ × ℕ)). filter q ps) (sym (flat_map-append row (range_with_len 0 k) (k ∷ [])))
     ∙ ap (λ (xs : List ℕ). filter q (flat_map row xs)) (sym (below-more k))
 
--- teams have their places where they are among the teams
-have_places-is : (side : Side) (teams1 teams2 first second : List ℕ) → ArePlaces (length teams1) teams1 first → ArePlaces (length teams2) teams2 second → (p : ℕ × ℕ) → have_places side first second p ≡ is_between side teams1 teams2 p
-have_places-is side teams1 teams2 first second are1 are2 p = by_side side where
-  first_at : (t : ℕ) → stands first t ≡ is_in t teams1
-  first_at t = stands-is_in teams1 first t are1
-
-  second_at : (t : ℕ) → stands second t ≡ is_in t teams2
-  second_at t = stands-is_in teams2 second t are2
-
-  both_at : (t u : ℕ) → (stands first t && stands second u) ≡ (is_in t teams1 && is_in u teams2)
-  both_at t u = ap (λ (b : Bool). b && stands second u) (first_at t) ∙ ap (λ (c : Bool). is_in t teams1 && c) (second_at u)
-
-  by_side : (s : Side) → have_places s first second p ≡ is_between s teams1 teams2 p
-  by_side H = both_at p.0 p.1
-  by_side A = both_at p.1 p.0
-  by_side Both =
-      ap (λ (b : Bool). b || (stands first p.1 && stands second p.0)) (both_at p.0 p.1) ∙ ap (λ (c : Bool). (is_in p.0 teams1 && is_in p.1 teams2) || c) (both_at p.1 p.0)
-
--- so the meetings of all home teams are those between the teams
-pub meetings_of_first-all : (side : Side) (n : ℕ) (teams1 teams2 first second : List ℕ) → ArePlaces (length teams1) teams1 first → ArePlaces (length teams2) teams2 second → meetings_of_first (have_places side first second) n n ≡ filter (is_between side teams1 teams2) (meetings_of n)
-meetings_of_first-all side n teams1 teams2 first second are1 are2 =
-    filter_agree (have_places side first second) (is_between side teams1 teams2) (have_places-is side teams1 teams2 first second are1 are2) (meetings_of n)
-
 -- of at most 40 teams, at most 1600 meetings pass a test
 few_pass : {X : Type 0} (p : X → Bool) (xs : List X) → length (filter p xs) ≤ length xs
 few_pass p xs = omega (arith, length-filter p xs, sum_by-le (λ x. cond (p x) 1 0) 1 xs (λ k d lt. at_most_one (p (get_or xs k d)))) where
@@ -138,12 +110,11 @@ row_passes n i home =
     (λ k d lt. passes n i (get_or (others i (teams_of n)) k d) home (All-filter (λ j. not (j == i)) (λ j. j < n) (teams_of n) (teams-below n) k d lt) (filter_passes (λ j. not (j == i)) (teams_of n) k d lt))
 
 -- the meetings of a league that pass a test are meetings of it
-pub meetings-fit : (n : ℕ) (p : ℕ × ℕ → Bool) → IsTrue (are_meetings n (filter p (meetings_of n)))
+pub meetings-fit : (n : ℕ) (p : ℕ × ℕ → Bool) → IsTrue (list_all (is_meeting n) (filter p (meetings_of n)))
 meetings-fit n p =
-    let test : ℕ × ℕ → Bool = λ q. nat_lt q.0 n && nat_lt q.1 n && not (q.0 == q.1) in
-    list_all-from_AllPass test (filter p (meetings_of n))
-    (All-filter p (λ q. test q ≡ true) (meetings_of n)
-    (All-flat_map (λ q. test q ≡ true) (meetings_at_home n) (teams_of n) (λ k d lt. row_passes n (get_or (teams_of n) k d) (teams-below n k d lt))))
+    list_all-from_AllPass (is_meeting n) (filter p (meetings_of n))
+    (All-filter p (λ q. is_meeting n q ≡ true) (meetings_of n)
+    (All-flat_map (λ q. is_meeting n q ≡ true) (meetings_at_home n) (teams_of n) (λ k d lt. row_passes n (get_or (teams_of n) k d) (teams-below n k d lt))))
 
 -- a pair of one team twice, and one that fails the test, aren't added
 pub same_team : (a b : ℕ) (c : Bool) → a ≡ b → (not (a == b) && c) ≡ false
@@ -153,8 +124,8 @@ pub test_fails : (a b : ℕ) (c : Bool) → c ≡ false → (not (a == b) && c) 
 test_fails a b c fails = grind (arith, nat_tests)
 
 -- the meetings that were made are few, and meetings of the league
-pub made-fit : (n : ℕ) (p : ℕ × ℕ → Bool) (made : List (ℕ × ℕ)) → made ≡ filter p (meetings_of n) → IsTrue (are_meetings n made)
-made-fit n p made is = subst (λ (ps : List (ℕ × ℕ)). IsTrue (are_meetings n ps)) (sym is) (meetings-fit n p)
+pub made-fit : (n : ℕ) (p : ℕ × ℕ → Bool) (made : List (ℕ × ℕ)) → made ≡ filter p (meetings_of n) → IsTrue (list_all (is_meeting n) made)
+made-fit n p made is = subst (λ (ps : List (ℕ × ℕ)). IsTrue (list_all (is_meeting n) ps)) (sym is) (meetings-fit n p)
 
 pub made-few : (n : ℕ) (p : ℕ × ℕ → Bool) (made : List (ℕ × ℕ)) → n ≤ 40 → made ≡ filter p (meetings_of n) → length made ≤ 1600
 made-few n p made at_most is = omega (arith, ap length is, meetings-few n p at_most)

@@ -1,7 +1,6 @@
 pub mod BetweenLemmas
-pub mod Ca4Lemmas
-pub mod TermLemmas
-pub mod OpponentSums
 pub mod BeforeLemmas
-pub mod KeyLemmas
-mod TouchFacts
+pub mod OpponentSums
+pub mod SpanLemmas
+pub mod TermLemmas
+pub mod TouchLemmas

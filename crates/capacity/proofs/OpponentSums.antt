@@ -1,5 +1,5 @@
--- What the loops over opponents and slots add up to, and what a copy of a list is ready for.
-use Rattle.std.proofs.Common.{◌≡◌, ℕ, ◌≤◌, List, [], ◌∷◌, length, take, ap, sym, ◌∙◌, subst}
+-- What the loops over opponents and slots add up to.
+use Rattle.std.proofs.Common.{◌≡◌, ℕ, ◌≤◌, List, [], ◌∷◌, length, take, ap, sym, ◌∙◌}
 use Rattle.std.proofs.lemmas.List.{take_all}
 use Rattle.std.specs.List.{sum_by}
 use Rattle.league.specs.Capacity.{meetings_with}
@@ -7,7 +7,6 @@ use Rattle.league.specs.Counts.{Counts}
 use Rattle.league.specs.Meetings.{games_of}
 use Rattle.league.specs.declared.class.Side.{Side}
 use Rattle.rule_core.proofs.OpponentLemmas.{against, games_of-by_opponent, games_of-by_slot}
-use Rattle.capacity.specs.Opponents.{AreOpponents}
 
 -- a sum over all opponents
 pub games_of_all : (m : Counts) (side : Side) (team : ℕ) (opponents : List ℕ) (s index games : ℕ) → length opponents ≤ index → games ≡ sum_by (against m side team s) (take index opponents) → games ≡ games_of m (meetings_with side team opponents) (s ∷ [])
@@ -22,9 +21,3 @@ games_of_slots m meetings slots index games all so_far =
     so_far
     ∙ ap (sum_by (λ s. games_of m meetings (s ∷ []))) (take_all index slots all)
     ∙ sym (games_of-by_slot m meetings slots)
-
--- opponents are opponents as copies
-pub AreOpponents-copied : (n : ℕ) (teams1 copied1 teams2 copied2 places1 places2 : List ℕ) → copied1 ≡ teams1 → copied2 ≡ teams2 → AreOpponents n teams1 teams2 places1 places2 → AreOpponents n copied1 copied2 places1 places2
-AreOpponents-copied n teams1 copied1 teams2 copied2 places1 places2 same1 same2 are =
-    subst (λ (xs : List ℕ). AreOpponents n xs copied2 places1 places2) (sym same1)
-    (subst (λ (ys : List ℕ). AreOpponents n teams1 ys places1 places2) (sym same2) are)

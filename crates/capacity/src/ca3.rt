@@ -1,48 +1,48 @@
-//! CA3: at most so many games of a team against some others, at home, away or both, in each window of consecutive slots.
+//! CA3: from so many to so many games of a team against some others, at home, away or both, in each window of
+//! consecutive slots.
 ghost use Rattle.std.specs.Prelude.{◌≡◌, ℕ, ◌<◌, ◌≤◌, ◌+◌, ◌-◌, length, slice_index, IfOk, IsTrue};
-ghost use Rattle.std.specs.List.{All, range_with_len, sum_by};
+ghost use Rattle.std.specs.List.{range_with_len, sum_by};
+ghost use Rattle.league.specs.Bounds as bounds;
+ghost use Rattle.league.specs.declared.class.Class.TheVariants as class;
+ghost use Rattle.rule_core.specs.Ready.{IsReady};
 
-use crate::opponents::{Opponents, season};
-use league::{Class, Constraint, Game};
-use rule_core::{Cells, Entries, Keys, Rule, Steps};
+use crate::opponents::Opponents;
+use league::{Class, ClassName, Constraint, Game};
+use rule_core::{Cells, Entries, Keys, Rule, Steps, outside};
 use std::alloc::{AllocError, Global};
 
-/// The games of each of some teams against others, at home, away or both, beyond a bound in each window of so many
-/// consecutive slots: one entry for each team, summed over the windows.
+/// How far the games of each of some teams against others, at home, away or both, are outside of `min` to `max` in each
+/// window of so many consecutive slots: one entry for each team, summed over the windows.
 #[derive(Drop)]
 pub struct Ca3 {
+    n: u16,
     opponents: Opponents,
+    min: u32,
     max: u32,
     intp: u32,
+    ghost ready: { IsReady n (class.Ca3 opponents.teams1 opponents.teams2 min max intp opponents.side) },
 }
 
 impl Ca3 {
-    ghost use Rattle.league.specs.Counts.{Counts};
-    ghost use Rattle.league.specs.Deviation.{entry_of, vector_of};
-    ghost use Rattle.league.specs.Instance.{IsGame, class_fits};
-    ghost use Rattle.league.specs.declared.game.Game.{Game};
-    ghost use Rattle.capacity.specs.Ca3.{touches_of};
-    ghost use Rattle.capacity.specs.Classes.{is_ca3};
+    ghost use Rattle.league.specs.Instance.{class_fits};
+    ghost use Rattle.league.specs.Names.{name_of};
+    ghost use Rattle.rule_core.specs.Rule.{IsRuleOf};
 
-    /// The rule of a CA3 that fits a league of n teams. A season has no window that is longer than itself, so the entries are
-    /// then 0.
+    /// The rule of a CA3 that fits a league of n teams. A season has no window that is longer than itself, so the
+    /// entries are then 0.
     ///
     /// # Errors
     /// Only where memory runs out.
     pub fn new(alloc: Global, n: u16, constraint: &Constraint) -> Result<Ca3, AllocError>
         requires at_most { n ≤ 40 }
-        requires class { IsTrue (is_ca3 constraint.now.class) }
+        requires class { name_of constraint.now.class ≡ ClassName.Ca3 }
         requires fits { IsTrue (class_fits n constraint.now.class) }
-        ensures teams { IfOk result (λ rule. ⟦<Ca3 as Entries>⟧.team_count rule ≡ n) }
-        ensures reach { IfOk result (λ rule. ⟦<Ca3 as Entries>⟧.reach_of rule ≡ 2) }
-        ensures terms { IfOk result (λ rule. (m : Counts) → ⟦<Ca3 as Entries>⟧.term_count rule ≡ length (vector_of n m constraint.now.class)) }
-        ensures short { IfOk result (λ rule. ⟦<Ca3 as Entries>⟧.term_count rule ≤ 1600) }
-        ensures entries { IfOk result (λ rule. (k : ℕ) (m : Counts) → ⟦<Ca3 as Entries>⟧.entry rule k m ≡ entry_of n m constraint.now.class k) }
-        ensures touches { IfOk result (λ rule. (g : Game) → IsGame n g → ⟦<Ca3 as Entries>⟧.touches rule g ≡ touches_of constraint.now.class g) }
+        ensures rule { IfOk result (IsRuleOf ⟦<Ca3 as Entries>⟧ n constraint.now.class) }
     {
         let Class::Ca3 {
             teams1,
             teams2,
+            min,
             max,
             intp,
             side,
@@ -51,7 +51,9 @@ impl Ca3 {
             unreachable!()
         };
         Ok(Ca3 {
-            opponents: Opponents::of(alloc, n, teams1.numbers(), teams2.numbers(), *side)?,
+            n,
+            opponents: Opponents::of(alloc, n, teams1, teams2, *side)?,
+            min: *min,
             max: *max,
             intp: *intp,
         })
@@ -59,33 +61,33 @@ impl Ca3 {
 }
 
 impl Entries for Ca3 {
-    ghost use Rattle.std.specs.Prelude.{length};
     ghost use Rattle.league.specs.Deviation.{entry_of};
-    ghost use Rattle.capacity.specs.Classes.{class_of_ca3};
-    ghost use Rattle.capacity.specs.Opponents.{touches_between};
-    ghost use Rattle.capacity.specs.OpponentLaws.{touches_between-ascending, touches_between-below, touches_between-few};
-    ghost use Rattle.capacity.specs.Ca3Laws.{ca3-frame};
+    ghost use Rattle.rule_core.specs.Ready.{entry_count};
+    ghost use Rattle.rule_core.specs.Touched.{most_touched, touched_keys};
+    ghost use Rattle.rule_core.proofs.FrameLemmas.{touched_keys-frame};
+    ghost use Rattle.rule_core.proofs.TouchedLemmas.{touched_keys-ascending, touched_keys-below, touched_keys-few};
+    ghost use Rattle.capacity.specs.Ca3.{class_of};
 
-    ghost team_count = { λ r. r.opponents.n };
+    ghost team_count = { λ r. r.n };
 
-    ghost term_count = { λ r. length r.opponents.teams1.items };
+    ghost term_count = { λ r. entry_count (class_of r) };
 
-    ghost reach_of = { λ r. 2 };
+    ghost reach_of = { λ r. most_touched (class_of r) };
 
-    ghost entry = { λ r k m. entry_of r.opponents.n m (class_of_ca3 r.opponents.teams1.items r.opponents.teams2.items r.max r.intp r.opponents.side) k };
+    ghost entry = { λ r k m. entry_of r.n m (class_of r) k };
 
-    ghost touches = { λ r g. touches_between r.opponents.side r.opponents.places1 r.opponents.places2 g };
+    ghost touches = { λ r. touched_keys (class_of r) };
 
-    ghost few = { λ r g fits. touches_between-few r.opponents.side r.opponents.places1 r.opponents.places2 g };
+    ghost few = { λ r. touched_keys-few r.n (class_of r) r.ready };
 
-    ghost below = { λ r g fits. touches_between-below r.opponents.n r.opponents.teams1.items r.opponents.teams2.items r.opponents.places1 r.opponents.places2 r.opponents.ready r.opponents.side g };
+    ghost below = { λ r g fits. touched_keys-below (class_of r) g };
 
-    ghost ascending = { λ r g fits. touches_between-ascending r.opponents.n r.opponents.teams1.items r.opponents.teams2.items r.opponents.places1 r.opponents.places2 r.opponents.ready r.opponents.side g fits.differ };
+    ghost ascending = { λ r g fits. touched_keys-ascending (class_of r) g };
 
-    ghost frame = { λ r g m k fits inside lacks. ca3-frame r.opponents.n r.opponents.teams1.items r.opponents.teams2.items r.opponents.places1 r.opponents.places2 r.opponents.ready r.max r.intp r.opponents.side g m k inside lacks };
+    ghost frame = { λ r. touched_keys-frame r.n (class_of r) };
 
     fn teams(&self) -> u16 {
-        self.opponents.n
+        self.n
     }
 
     fn terms(&self) -> usize {
@@ -105,27 +107,25 @@ impl<L> Rule<L> for Ca3 {
     fn term(&self, key: usize, cells: &Cells, steps: &mut Steps<L>) -> u64 {
         steps.tick();
         let before = self.opponents.games_before(key, cells);
-        excess_in_windows(
-            &before,
-            season(cells) as usize,
-            self.intp as usize,
-            self.max as u64,
-        )
+        let slots = cells.slots() as usize;
+        outside_in_windows(&before, slots, self.intp as usize, self.min, self.max)
     }
 }
 
-/// From the games before each slot, and before the end, of a season: the excess over a bound in each window, summed. The games
-/// in a window are those before its end, less those before its first slot.
-fn excess_in_windows(before: &[u64], slots: usize, intp: usize, max: u64) -> u64
+/// From the games before each slot, and before the end, of a season: how far those in each window are outside of `min`
+/// to `max`, summed. The games in a window are those before its end, less those before its first slot.
+fn outside_in_windows(before: &[u64], slots: usize, intp: usize, min: u32, max: u32) -> u64
     requires slots { slots < length before.now }
     requires few { slots ≤ 78 }
-    requires at_most { (t : ℕ) → slice_index before.now t ≤ 62400000 }
-    requires max { max < 4294967296 }
-    ensures { result ≡ sum_by (λ first. slice_index before.now (first + intp) - (slice_index before.now first + max)) (range_with_len 0 (slots + 1 - intp)) }
+    requires at_most { (t : ℕ) → slice_index before.now t ≤ 121680000 }
+    ensures { result ≡ sum_by
+        (λ first. bounds.outside min max (slice_index before.now (first + intp) - slice_index before.now first))
+        (range_with_len 0 (slots + 1 - intp)) }
 {
-    let mut excess = 0;
+    let mut sum = 0;
     for first in 0..(slots + 1).saturating_sub(intp) {
-        excess += before[first + intp].saturating_sub(before[first] + max);
+        let games = before[first + intp].saturating_sub(before[first]);
+        sum += outside(min, max, games);
     }
-    excess
+    sum
 }

@@ -1,7 +1,7 @@
-//! The capacity constraints: at most so many games of some teams in some slots.
+//! The capacity constraints: from so many to so many games of some teams in some slots.
 //!
-//! Each class is made from a constraint, and is then a `Rule` for every ledger. Its entries are those of the constraint's
-//! deviation vector, as `league` defines it.
+//! Each class is made from a constraint, and is then a `Rule` for every ledger. Its entries are those of the
+//! constraint's deviation vector, as `league` defines it.
 #![tactic(auto)]
 
 mod between;

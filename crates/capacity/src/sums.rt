@@ -9,15 +9,15 @@ use league::{Side, SlotId, TeamId};
 use rule_core::Cells;
 
 /// The games of a team on a side, in some slots: as many look-ups as there are slots, or twice as many for both sides.
-pub(crate) fn games_in(cells: &Cells, side: Side, team: u16, slots: &[u16]) -> u64
-    requires team { team < cells.now.n }
+pub(crate) fn games_in(cells: &Cells, side: Side, team: TeamId, slots: &[u16]) -> u64
+    requires team { team.0 < cells.now.n }
     requires slots { All (λ s. s < slot_count cells.now.n) slots.now }
     requires few { length slots.now ≤ 78 }
-    ensures { result ≡ sum_by (λ s. games_on cells.now.n (table_counts cells.now) side team s) slots.now }
+    ensures { result ≡ sum_by (λ s. games_on cells.now.n (table_counts cells.now) side team.0 s) slots.now }
 {
     let mut games: u64 = 0;
     for slot in slots {
-        games += games_at(cells, side, TeamId(team), SlotId(*slot)) as u64;
+        games += u64::from(games_at(cells, side, team, SlotId(*slot)));
     }
     games
 }

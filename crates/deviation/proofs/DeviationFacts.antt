@@ -1,5 +1,5 @@
--- Worked examples of all classes on a schedule that is no round robin, so that a wrong definition does not check. The reasoning
--- stands beside each: it was done by hand from the table in docs/DEFINITIONS.md.
+-- Worked examples of all classes on a schedule that is no round robin, so that a wrong definition does not check. The
+-- reasoning stands beside each: it was done by hand from the table in docs/DEFINITIONS.md.
 use Rattle.std.proofs.Common.{◌≡◌, ℕ, true, false, List, [], ◌∷◌, map, refl, arith}
 use Rattle.league.specs.Accepted.{infeasibility, objective, IsAccepted}
 use Rattle.league.specs.Counts.{Counts, counts_of}
@@ -13,8 +13,9 @@ use Rattle.league.specs.declared.class.Span.TheVariants.{Global, Every}
 use Rattle.league.proofs.AcceptedLemmas.{sum-from_MeetsHard}
 use Rattle.league.proofs.DoubleFour.{all_slots, all_teams, four, game}
 
--- Four teams; team 0 is in every game: twice at home to 1 in slot 0, where it also plays away, and twice in slots 1 and 5.
--- By slot it has 2 1 0 1 0 1 home games and 1 1 1 0 0 1 away games; team 1 is at home in slot 2 alone, team 3 in slots 0 and 5.
+-- Four teams; team 0 is in every game: twice at home to 1 in slot 0, where it also plays away, and twice in slots 1
+-- and 5. By slot it has 2 1 0 1 0 1 home games and 1 1 1 0 0 1 away games; team 1 is at home in slot 2 alone, team 3
+-- in slots 0 and 5.
 abbrev uneven : Counts
 uneven = counts_of (game 0 1 0 ∷ game 0 1 0 ∷ game 3 0 0 ∷ game 2 0 1 ∷ game 0 3 1 ∷ game 1 0 2 ∷ game 0 2 3 ∷ game 3 0 5 ∷ game 0 1 5 ∷ [])
 
@@ -41,7 +42,8 @@ ca1-home = refl
 pub ca1-away : entries (Ca1 (0 ∷ 1 ∷ []) 0 1 A (0 ∷ 1 ∷ 5 ∷ [])) ≡ 2 ∷ 2 ∷ []
 ca1-away = refl
 
--- in slots 0 to 2, team 0 has two games and one with 1 and one with 2, and those with 3 don't count; team 2 has one with 0
+-- in slots 0 to 2, team 0 has two games and one with 1 and one with 2, and those with 3 don't count; team 2 has one
+-- with 0
 pub ca2-both : entries (Ca2 (0 ∷ 2 ∷ []) (0 ∷ 1 ∷ 2 ∷ []) 0 1 Both (0 ∷ 1 ∷ 2 ∷ [])) ≡ 3 ∷ 0 ∷ []
 ca2-both = refl
 
@@ -76,7 +78,8 @@ ca4-within_one_set = refl
 pub ga1-above : entries (Ga1 ((0, 1) ∷ (3, 0) ∷ []) 1 3 (0 ∷ 5 ∷ [])) ≡ 2 ∷ []
 ga1-above = refl
 
--- team 0 has one home break, at slot 1, however many home games it has there and before, and away breaks at slots 1 and 2
+-- team 0 has one home break, at slot 1, however many home games it has there and before, and away breaks at slots 1
+-- and 2
 pub br1-home : entries (Br1 (0 ∷ []) 0 H all_slots) ≡ 1 ∷ []
 br1-home = refl
 
@@ -117,7 +120,8 @@ infeasibility-uneven = refl
 pub objective-uneven : objective demands uneven ≡ 27
 objective-uneven = refl
 
--- a round robin with six breaks, one more than a hard constraint of penalty 0 allows: it costs nothing, and isn't accepted
+-- a round robin with six breaks, one more than a hard constraint of penalty 0 allows: it costs nothing, and isn't
+-- accepted
 abbrev strict : Instance
 strict = record { n = 4; phased = true; constraints = record { hard = true; penalty = 0; class = Br2 all_teams 5 all_slots } ∷ [] }
 

@@ -51,7 +51,8 @@ impl AnyRule {
 }
 
 impl Entries for AnyRule {
-    ghost use Rattle.deviation.specs.declared.any_rule.AnyRule.TheVariants.{Ca1, Ca2, Ca3, Ca4, Ga1, Br1, Br2, Fa2, Se1};
+    ghost use Rattle.deviation.specs.declared.any_rule.AnyRule.TheVariants.{Ca1, Ca2, Ca3, Ca4, Ga1};
+    ghost use Rattle.deviation.specs.declared.any_rule.AnyRule.TheVariants.{Br1, Br2, Fa2, Se1};
     ghost use Rattle.capacity.specs.contracts.ca1.Ca1Entries.TheImpl.Laws as ca1_laws;
     ghost use Rattle.capacity.specs.contracts.ca2.Ca2Entries.TheImpl.Laws as ca2_laws;
     ghost use Rattle.capacity.specs.contracts.ca3.Ca3Entries.TheImpl.Laws as ca3_laws;

@@ -36,10 +36,13 @@ pub fn assess(alloc: Global, league: &League, schedule: &Schedule) -> Result<Ass
     requires few { length schedule.now ≤ 10000 }
     requires fit { All (IsGame league.now.n) schedule.now }
     ensures structure { IfOk result (λ assessed. IsStructureOf league.now (counts_of schedule.now) assessed.structure) }
-    ensures vectors { IfOk result (λ assessed. assessed.vectors ≡ map (λ c. vector_of league.now.n (counts_of schedule.now) c.class) league.now.constraints) }
-    ensures infeasibility { IfOk result (λ assessed. assessed.infeasibility ≡ infeasibility league.now (counts_of schedule.now)) }
+    ensures vectors { IfOk result (λ assessed. assessed.vectors
+        ≡ map (λ c. vector_of league.now.n (counts_of schedule.now) c.class) league.now.constraints) }
+    ensures infeasibility { IfOk result (λ assessed. assessed.infeasibility
+        ≡ infeasibility league.now (counts_of schedule.now)) }
     ensures objective { IfOk result (λ assessed. assessed.objective ≡ objective league.now (counts_of schedule.now)) }
-    ensures feasible { IfOk result (λ assessed. IsTrue assessed.feasible ↔ IsAccepted league.now (counts_of schedule.now)) }
+    ensures feasible { IfOk result (λ assessed. IsTrue assessed.feasible
+        ↔ IsAccepted league.now (counts_of schedule.now)) }
 {
     let wrongs = structure(league, schedule);
     let cells = counted(alloc, league.n(), schedule.games())?;
@@ -58,7 +61,8 @@ pub fn assess(alloc: Global, league: &League, schedule: &Schedule) -> Result<Ass
 
 /// Whether nothing is wrong and no hard constraint deviates, whatever its penalty.
 fn is_feasible(wrongs: Wrongs, hard_deviation: u128) -> bool
-    ensures { IsTrue result ↔ ((wrongs.pairs_wrong ≡ 0) × (wrongs.cells_wrong ≡ 0) × (wrongs.phases_wrong ≡ 0) × (hard_deviation ≡ 0)) }
+    ensures { IsTrue result ↔ ((wrongs.pairs_wrong ≡ 0) × (wrongs.cells_wrong ≡ 0) × (wrongs.phases_wrong ≡ 0)
+        × (hard_deviation ≡ 0)) }
 {
     wrongs.pairs_wrong == 0
         && wrongs.cells_wrong == 0

@@ -17,7 +17,8 @@ pub(crate) fn entries_of<L, R: Rule<L>>(
     steps: &mut Steps<L>,
 ) -> Result<Vec<u64>, AllocError>
     requires teams { cells.now.n ≡ R.team_count rule.now }
-    ensures entries { IfOk result (λ entries. entries.items ≡ map (λ k. R.entry rule.now k (table_counts cells.now)) (range_with_len 0 (R.term_count rule.now))) }
+    ensures entries { IfOk result (λ entries. entries.items
+        ≡ map (λ k. R.entry rule.now k (table_counts cells.now)) (range_with_len 0 (R.term_count rule.now))) }
     ensures steps { steps.new ≤ steps.old + R.term_count rule.now }
 {
     let mut entries = Vec::new(alloc);

@@ -1,7 +1,7 @@
 //! The deviation vectors of all nine classes, and the assessment of a schedule by a league.
 //!
-//! A contract sees an assessment by the definitions of `league`: the three counts of what a schedule lacks of a double round
-//! robin, the vector of each constraint, what they cost, and whether the league accepts the schedule.
+//! A contract sees an assessment by the definitions of `league`: the three counts of what a schedule lacks of a double
+//! round robin, the vector of each constraint, what they cost, and whether the league accepts the schedule.
 #![tactic(auto)]
 
 mod any_rule;

@@ -1,5 +1,6 @@
 //! The deviation vectors of constraints, and what they cost.
-ghost use Rattle.std.specs.Prelude.{◌≡◌, ℕ, ◌+◌, ◌*◌, ◌≤◌, ◌++◌, ◌^◌, List, [], ◌∷◌, length, map, sum, IsTrue, IfOk, OnOk};
+ghost use Rattle.std.specs.Prelude.{◌≡◌, ℕ, ◌+◌, ◌*◌, ◌≤◌, ◌++◌, ◌^◌, List, [], ◌∷◌, length, map, sum, IsTrue};
+ghost use Rattle.std.specs.Prelude.{IfOk, OnOk};
 ghost use Rattle.std.specs.List.{All};
 ghost use Rattle.league.specs.Counts.{Counts, counts_of};
 ghost use Rattle.league.specs.Deviation.{vector_of};
@@ -45,8 +46,9 @@ impl Weights {
     fn add(&mut self, constraint: &Constraint, entries: Vec<u64>) -> Result<(), AllocError>
         requires few { length entries.items ≤ 1600 }
         requires room { AreAtMost (2 ^ 125) self.old }
-        ensures added { OnOk result ((n : ℕ) (m : Counts) (before : List Constraint) → entries.items ≡ vector_of n m constraint.now.class
-            → AreWeightsOf n m before self.old → AreWeightsOf n m (before ++ constraint.now ∷ []) self.new) }
+        ensures added { OnOk result ((n : ℕ) (m : Counts) (before : List Constraint)
+            → entries.items ≡ vector_of n m constraint.now.class → AreWeightsOf n m before self.old
+            → AreWeightsOf n m (before ++ constraint.now ∷ []) self.new) }
         ensures growth { (most : ℕ) → AreAtMost most self.old → AreAtMost (most + 2 ^ 107) self.new }
     {
         let deviation = total(&entries);

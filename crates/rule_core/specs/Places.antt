@@ -1,5 +1,6 @@
 -- Where each number stands in a list.
-use Rattle.std.specs.Prelude.{◌≡◌, ℕ, ◌+◌, ◌-◌, ◌<◌, ◌≤◌, nat_lt, if◌then◌else◌, List, length, slice_index, Option, Some, None}
+use Rattle.std.specs.Prelude.{◌≡◌, ℕ, ◌+◌, ◌-◌, ◌<◌, ◌≤◌, nat_lt, if◌then◌else◌, List, length, slice_index}
+use Rattle.std.specs.Prelude.{Option, Some, None}
 use Rattle.std.specs.Ordering.{nat_cmp}
 use Rattle.league.specs.Sets.{IsAscending}
 

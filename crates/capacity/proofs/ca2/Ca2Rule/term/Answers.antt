@@ -4,6 +4,4 @@ use Rattle.capacity.proofs.ca2.Ca2Rule.term.Goals as goal
 
 pub returns-clause-entry : goal.returns-clause-entry
 returns-clause-entry g c =
-    let rule = c.args.self.now in
-    let opponents = c.args.self.now.opponents in
-    ca2_term opponents.n (table_counts c.args.cells.now) opponents.teams1.items opponents.teams2.items rule.max opponents.side rule.slots.items c.args.key c.deref.result.now c.games_in.result c.saturating_sub.result c.requires.key c.deref.ensures.value c.games_in.ensures c.saturating_sub.ensures
+    ca2_term c.args.self.now (table_counts c.args.cells.now) c.args.key c.numbers.result.now c.games_in-games.result c.outside.result c.requires.key c.numbers.ensures.numbers c.games_in-games.ensures c.outside.ensures

@@ -5,4 +5,4 @@ use Rattle.capacity.proofs.BeforeLemmas.{AreBefore}
 use Rattle.capacity.proofs.opponents.Opponents.games_before.Given as goal
 
 abbrev pub invariant-loop-slot : goal.invariant-loop-slot
-invariant-loop-slot l = AreBefore (table_counts l.cells) (meetings_with l.self.side (get_or l.self.teams1.items l.key 0) l.self.teams2.items) l.slot l.before
+invariant-loop-slot l = AreBefore (table_counts l.cells) (meetings_with l.self.side (get_or l.self.teams1 l.key 0) l.self.teams2) l.slot l.before

@@ -6,4 +6,4 @@ use Rattle.capacity.proofs.opponents.Opponents.games_in.Goals as goal
 
 pub returns : goal.returns
 returns c =
-    games_of_slots (table_counts c.args.cells.now) (meetings_with c.args.self.now.side (get_or c.args.self.now.teams1.items c.args.key 0) c.args.self.now.teams2.items) c.args.slots.now c.loop-slot.slot-index c.loop-slot.games (omega arith) c.loop-slot.invariant.counted
+    games_of_slots (table_counts c.args.cells.now) (meetings_with c.args.self.now.side (get_or c.args.self.now.teams1 c.args.key 0) c.args.self.now.teams2) c.args.slots.now c.loop-slot.slot-index c.loop-slot.games (omega arith) c.loop-slot.invariant.counted

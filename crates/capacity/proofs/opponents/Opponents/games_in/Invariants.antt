@@ -7,6 +7,6 @@ use Rattle.capacity.proofs.opponents.Opponents.games_in.Given as goal
 
 abbrev pub invariant-loop-slot : goal.invariant-loop-slot
 invariant-loop-slot l = record {
-  counted : l.games ≡ sum_by (λ s. games_of (table_counts l.cells) (meetings_with l.self.side (get_or l.self.teams1.items l.key 0) l.self.teams2.items) (s ∷ [])) (take l.slot-index l.slots);
-  bounded : l.games ≤ 800000 * l.slot-index;
+  counted : l.games ≡ sum_by (λ s. games_of (table_counts l.cells) (meetings_with l.self.side (get_or l.self.teams1 l.key 0) l.self.teams2) (s ∷ [])) (take l.slot-index l.slots);
+  bounded : l.games ≤ 1560000 * l.slot-index;
 }

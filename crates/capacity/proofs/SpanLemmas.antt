@@ -1,15 +1,14 @@
--- The slots of an entry of a CA4, and what the evaluation of a term adds up to.
-use Rattle.std.proofs.Common.{◌≡◌, ℕ, ◌+◌, ◌-◌, ◌<◌, ◌≤◌, List, [], ◌∷◌, length, get_or, take, drop, ap, sym, ◌∙◌, subst, zero, suc, arith}
+-- The slots of an entry of a CA4.
+use Rattle.std.proofs.Common.{◌≡◌, ℕ, ◌+◌, ◌-◌, ◌<◌, ◌≤◌, Bool, true, false, ◌||◌, ◌==◌, refl, List, [], ◌∷◌, length, get_or, take, drop, ap, sym, ◌∙◌, subst, zero, suc, arith}
 use Rattle.std.proofs.lemmas.List.{get_or-map, length-map}
 use Rattle.std.proofs.Math.Seq.{drop-cons}
 use Rattle.std.specs.List.{All}
-use Rattle.league.specs.Counts.{Counts}
 use Rattle.league.specs.Deviation.{spans}
-use Rattle.league.specs.Meetings.{games_of}
+use Rattle.league.specs.Sets.{is_in}
 use Rattle.league.specs.declared.class.Span.{Span}
 use Rattle.league.specs.declared.class.Span.TheVariants.{Global, Every}
-use Rattle.capacity.specs.Ca4.{beyond_max}
-use Rattle.capacity.specs.Ca4Laws.{entry-by_slots}
+use Rattle.rule_core.specs.Keys.{keys_where}
+use Rattle.rule_core.proofs.KeyLemmas.{keys_where-map, keys_where-same}
 
 -- the slots of an entry, of which each slot is one of these
 one_slot : (slots : List ℕ) (k : ℕ) → k < length slots → get_or (spans Every slots) k [] ≡ get_or slots k 0 ∷ []
@@ -33,11 +32,6 @@ spans-few Every slots k inside few =
     let within : k < length slots = omega (arith, length-map slots (λ s. s ∷ [])) in
     omega (arith, ap length (one_slot slots k within))
 
--- the entry of a CA4, by the games that were counted
-pub ca4_term : (m : Counts) (meetings : List (ℕ × ℕ)) (max : ℕ) (span : Span) (slots read : List ℕ) (key games result : ℕ) → key < length (spans span slots) → read ≡ get_or (spans span slots) key [] → games ≡ games_of m meetings read → result ≡ games - max → result ≡ get_or (beyond_max m meetings max span slots) key 0
-ca4_term m meetings max span slots read key games result inside is counted less =
-    less ∙ ap (λ (g : ℕ). g - max) (counted ∙ ap (λ (xs : List ℕ). games_of m meetings xs) is) ∙ sym (entry-by_slots m meetings max span slots key inside)
-
 -- the one slot of a key, cut from the slots
 pub cut-one : (span : Span) (slots read : List ℕ) (k : ℕ) → span ≡ Every → k < length (spans span slots) → read ≡ slots → take (k + 1 - k) (drop k read) ≡ get_or (spans span slots) k []
 cut-one span slots read k every inside same =
@@ -51,7 +45,11 @@ cut-one span slots read k every inside same =
     ∙ sym (one_slot slots k here))
     inside
 
--- an entry for all the slots, or one for each
-pub length-spans : (span : Span) (slots : List ℕ) → length slots ≤ 78 → length (spans span slots) ≤ 1600
-length-spans Global slots few = omega arith
-length-spans Every slots few = omega (arith, length-map slots (λ s. s ∷ []))
+-- a slot's key is that of the spans in which it is
+pub slot_key : (slots : List ℕ) (s : ℕ) → keys_where (λ x. x == s) slots ≡ keys_where (is_in s) (spans Every slots)
+slot_key slots s =
+    keys_where-same (λ x. x == s) (λ x. is_in s (x ∷ [])) slots (λ k d lt. alone (get_or slots k d == s))
+    ∙ sym (keys_where-map (is_in s) (λ x. x ∷ []) slots) where
+      alone : (b : Bool) → b ≡ (b || false)
+      alone true = refl
+      alone false = refl
