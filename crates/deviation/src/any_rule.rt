@@ -36,17 +36,17 @@ impl AnyRule {
         requires fits { IsTrue (class_fits n constraint.now.class) }
         ensures rule { IfOk result (IsRuleOf ⟦<AnyRule as Entries>⟧ n constraint.now.class) }
     {
-        Ok(match constraint.class.name() {
-            ClassName::Ca1 => AnyRule::Ca1(Ca1::new(alloc, n, constraint)?),
-            ClassName::Ca2 => AnyRule::Ca2(Ca2::new(alloc, n, constraint)?),
-            ClassName::Ca3 => AnyRule::Ca3(Ca3::new(alloc, n, constraint)?),
-            ClassName::Ca4 => AnyRule::Ca4(Ca4::new(alloc, n, constraint)?),
-            ClassName::Ga1 => AnyRule::Ga1(Ga1::new(alloc, n, constraint)?),
-            ClassName::Br1 => AnyRule::Br1(Br1::new(alloc, n, constraint)?),
-            ClassName::Br2 => AnyRule::Br2(Br2::new(alloc, n, constraint)?),
-            ClassName::Fa2 => AnyRule::Fa2(Fa2::new(alloc, n, constraint)?),
-            ClassName::Se1 => AnyRule::Se1(Se1::new(alloc, n, constraint)?),
-        })
+        match constraint.class.name() {
+            ClassName::Ca1 => Ok(AnyRule::Ca1(Ca1::new(alloc, n, constraint)?)),
+            ClassName::Ca2 => Ok(AnyRule::Ca2(Ca2::new(alloc, n, constraint)?)),
+            ClassName::Ca3 => Ok(AnyRule::Ca3(Ca3::new(alloc, n, constraint)?)),
+            ClassName::Ca4 => Ok(AnyRule::Ca4(Ca4::new(alloc, n, constraint)?)),
+            ClassName::Ga1 => Ok(AnyRule::Ga1(Ga1::new(alloc, n, constraint)?)),
+            ClassName::Br1 => Ok(AnyRule::Br1(Br1::new(alloc, n, constraint)?)),
+            ClassName::Br2 => Ok(AnyRule::Br2(Br2::new(alloc, n, constraint)?)),
+            ClassName::Fa2 => Ok(AnyRule::Fa2(Fa2::new(alloc, n, constraint)?)),
+            ClassName::Se1 => Ok(AnyRule::Se1(Se1::new(alloc, n, constraint)?)),
+        }
     }
 }
 
