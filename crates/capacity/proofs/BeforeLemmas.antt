@@ -1,5 +1,5 @@
 -- The games of some meetings before each slot: how the list is made, and what it says of windows.
-use Rattle.std.proofs.Common.{◌≡◌, ℕ, ◌+◌, ◌-◌, ◌*◌, ◌<◌, ◌≤◌, zero, suc, List, [], ◌∷◌, length, get_or, replicate, set, refl, arith, ap, sym, ◌∙◌, inl, inr}
+use Rattle.std.proofs.Common.{◌≡◌, ℕ, ◌+◌, ◌-◌, ◌*◌, ◌<◌, ◌≤◌, List, [], ◌∷◌, length, get_or, replicate, set, refl, arith, ap, sym, ◌∙◌, inl, inr}
 use Rattle.std.proofs.lemmas.Bool.{cases_eq}
 use Rattle.std.proofs.lemmas.List.{get_or-map, get_or-set_other, get_or-set_same, length-replicate, length-set}
 use Rattle.std.proofs.lemmas.List.FromFn.{get_or-range_with_len, length-range_with_len}
@@ -12,6 +12,7 @@ use Rattle.league.specs.Meetings.{games_of}
 use Rattle.league.proofs.SumLemmas.{sum_by-map}
 use Rattle.rule_core.proofs.GameLemmas.{sum_by-same_in}
 use Rattle.rule_core.proofs.OpponentLemmas.{games_of-window}
+use Rattle.rule_core.proofs.RowLemmas.{zero_at}
 use Rattle.rule_core.specs.Ready.{entry_count}
 use Rattle.capacity.specs.Ca3.{class_of}
 use Rattle.capacity.specs.declared.ca3.Ca3.{Ca3}
@@ -22,12 +23,6 @@ pub record AreBefore (m : Counts) (meetings : List (ℕ × ℕ)) (slot : ℕ) (b
   pub games : (t : ℕ) → t ≤ slot → get_or before t 0 ≡ games_of m meetings (range_with_len 0 t)
   pub at_most : (t : ℕ) → get_or before t 0 ≤ 1560000 * slot
 
--- a list of zeros reads 0 everywhere
-zeros : (size i : ℕ) → get_or {A = ℕ} (replicate size 0) i 0 ≡ 0
-zeros zero i = refl
-zeros (suc size) zero = refl
-zeros (suc size) (suc i) = zeros size i
-
 -- a sum over no slots
 none_before : (m : Counts) (meetings : List (ℕ × ℕ)) → games_of m meetings [] ≡ 0
 none_before m [] = refl
@@ -37,8 +32,8 @@ none_before m (p ∷ ps) = omega (arith, none_before m ps)
 pub AreBefore-none : (m : Counts) (meetings : List (ℕ × ℕ)) → AreBefore m meetings 0 (replicate 79 0)
 AreBefore-none m meetings = record {
   size = length-replicate {A = ℕ} 79 0;
-  games = λ t le. let is : t ≡ 0 = omega arith in zeros 79 t ∙ sym (ap (λ (k : ℕ). games_of m meetings (range_with_len 0 k)) is ∙ none_before m meetings);
-  at_most = λ t. omega (arith, zeros 79 t);
+  games = λ t le. let is : t ≡ 0 = omega arith in zero_at 79 t ∙ sym (ap (λ (k : ℕ). games_of m meetings (range_with_len 0 k)) is ∙ none_before m meetings);
+  at_most = λ t. omega (arith, zero_at 79 t);
 }
 
 -- with one slot more

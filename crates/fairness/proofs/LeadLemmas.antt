@@ -1,5 +1,5 @@
 -- Home games that are added up from slot to slot, and the largest difference so far.
-use Rattle.std.proofs.Common.{◌≡◌, ℕ, ◌+◌, ◌-◌, ◌<◌, ◌≤◌, zero, suc, false, max, List, [], ◌∷◌, length, get_or, take, arith, ap, sym, ◌∙◌, inl, inr, Some}
+use Rattle.std.proofs.Common.{◌≡◌, ℕ, ◌+◌, ◌-◌, ◌<◌, ◌≤◌, false, max, List, [], ◌∷◌, length, get_or, take, arith, ap, sym, zero-add, ◌∙◌, inl, inr, Some}
 use Rattle.std.specs.Prelude.{nat_le, slice_get}
 use Rattle.std.proofs.lemmas.Bool.{cases_Bool, cases_lt}
 use Rattle.std.proofs.lemmas.Bool.Decides.{nat_tests}
@@ -13,6 +13,7 @@ use Rattle.league.specs.Bounds.{largest}
 use Rattle.league.specs.Sets.{IsAscending}
 use Rattle.league.proofs.RangeLemmas.{sum_by-range_more}
 use Rattle.rule_core.proofs.KeyLemmas.{less_than}
+use Rattle.rule_core.proofs.OpponentLemmas.{sum_by-range_append}
 
 -- a slot that is read has a place
 has_place : (slots : List ℕ) (last : ℕ) → slice_get slots (length slots - 1) ≡ Some last → 0 < length slots
@@ -49,28 +50,11 @@ homes_more f from slot games more le so_far now =
     let place : from + (slot - from) ≡ slot = omega arith in
     omega (arith, sum_by-range_more f from (slot - from), ap (λ (k : ℕ). sum_by f (range_with_len from k)) size, ap f place)
 
--- the slots up to one, and those from it on
-range_split : (f : ℕ → ℕ) (a k : ℕ) → sum_by f (range_with_len 0 (a + k)) ≡ sum_by f (range_with_len 0 a) + sum_by f (range_with_len a k)
-range_split f a zero = let same : a + 0 ≡ a = omega arith in omega (arith, ap (λ (x : ℕ). sum_by f (range_with_len 0 x)) same)
-range_split f a (suc k) =
-    let longer : a + k + 1 ≡ a + suc k = omega arith in
-    let next : k + 1 ≡ suc k = omega arith in
-    let place : 0 + (a + k) ≡ a + k = omega arith in
-    omega (
-      arith,
-      range_split f a k,
-      sum_by-range_more f 0 (a + k),
-      ap f place,
-      sum_by-range_more f a k,
-      ap (λ (x : ℕ). sum_by f (range_with_len 0 x)) longer,
-      ap (λ (x : ℕ). sum_by f (range_with_len a x)) next,
-    )
-
 -- games so far, with those of the next slots
 pub played_more : (f : ℕ → ℕ) (next end played more : ℕ) → next ≤ end → played ≡ sum_by f (range_with_len 0 next) → more ≡ sum_by f (range_with_len next (end - next)) → played + more ≡ sum_by f (range_with_len 0 end)
 played_more f next end played more le so_far now =
     let whole : next + (end - next) ≡ end = omega arith in
-    omega (arith, range_split f next (end - next), ap (λ (x : ℕ). sum_by f (range_with_len 0 x)) whole)
+    omega (arith, sum_by-range_append f 0 next (end - next), ap (λ (x : ℕ). sum_by f (range_with_len 0 x)) whole, ap (λ (x : ℕ). sum_by f (range_with_len x (end - next))) (zero-add next))
 
 -- the largest so far, with the next number
 pub largest_more : (f : ℕ → ℕ) (slots : List ℕ) (i most value new : ℕ) → i < length slots → most ≡ largest f (take i slots) → value ≡ f (get_or slots i 0) → new ≡ max most value → new ≡ largest f (take (i + 1) slots)

@@ -106,7 +106,7 @@ between-elsewhere m A g i s j differ = one_more-other_slot m g j i s differ
 between-elsewhere m Both g i s j differ = omega (arith, one_more-other_slot m g i j s differ, one_more-other_slot m g j i s differ)
 
 -- a sum over a range, cut in two
-sum_by-range_append : (f : ℕ → ℕ) (a k l : ℕ) → sum_by f (range_with_len a (k + l)) ≡ sum_by f (range_with_len a k) + sum_by f (range_with_len (a + k) l)
+pub sum_by-range_append : (f : ℕ → ℕ) (a k l : ℕ) → sum_by f (range_with_len a (k + l)) ≡ sum_by f (range_with_len a k) + sum_by f (range_with_len (a + k) l)
 sum_by-range_append f a zero l =
     let from_a : a + 0 ≡ a = omega arith in
     omega (arith, ap (λ (x : ℕ). sum_by f (range_with_len a x)) (zero-add l), ap (λ (x : ℕ). sum_by f (range_with_len x l)) from_a)
