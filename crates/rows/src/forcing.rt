@@ -8,8 +8,8 @@ ghost use Rattle.rows.specs.Values.{valued};
 use crate::lit::Term;
 use crate::partial::{Partial, Value};
 
-/// The slack of a row: the coefficients of its literals that aren't false, summed, less its degree. Where it is negative
-/// the row is in conflict. It takes no memory.
+/// The slack of a row: the coefficients of its literals that aren't false, summed, less its degree. Where it is
+/// negative the row is in conflict. It takes no memory.
 pub fn slack(terms: &[Term], degree: u64, partial: &Partial) -> i128
     requires { All (λ t. t.lit.var ≤ length partial.now) terms.now }
     ensures { result ≡ pos (partials.reach (valued partial.now) terms.now) -ℤ pos degree }

@@ -74,23 +74,31 @@ objective 32
 feasible yes
 "#;
 
-/// A hard CA1 of so many home games of team 0 in the season, in which it has three.
-fn home_games_demanded(rt: &impl Abort, alloc: Global, bound: &str, status: Status) -> Result<(), Fail> {
-    let instance = joined(alloc, &[HEAD, "P", FOUR, bound, NO_MORE_CONSTRAINTS])?;
+/// The bounds of a hard CA1 on the home games of team 0 in the season, which has three, decide so.
+fn home_games_bounded(
+    rt: &impl Abort,
+    alloc: Global,
+    bounds: &str,
+    status: Status,
+) -> Result<(), Fail> {
+    let start = "<CapacityConstraints>\n<CA1 teams=\"0\" ";
+    let end = " mode=\"H\" slots=\"0;1;2;3;4;5\" type=\"HARD\"/>\n</CapacityConstraints>\n";
+    let league = [HEAD, "P", FOUR, start, bounds, end, NO_MORE_CONSTRAINTS];
+    let instance = joined(alloc, &league)?;
     let solution = joined(alloc, &[GAMES, ELEVEN, LAST, NO_MORE_GAMES])?;
     let (ended, _) = validated(alloc, instance.as_bytes(), solution.as_bytes())?;
-    assert_eq!(rt; ended, status, "{bound}");
+    assert_eq!(rt; ended, status, "{bounds}");
     Ok(())
 }
 
 #[test]
 fn a_lower_bound_decides(rt: HostRuntime) -> Result<(), Fail> {
-    let three = r#"<CapacityConstraints><CA1 teams="0" min="3" max="6" mode="H" slots="0;1;2;3;4;5" type="HARD"/></CapacityConstraints>"#;
-    home_games_demanded(&rt, rt.alloc(), three, Status::Yes)?;
-    let four = r#"<CapacityConstraints><CA1 teams="0" min="4" max="6" mode="H" slots="0;1;2;3;4;5" type="HARD"/></CapacityConstraints>"#;
-    home_games_demanded(&rt, rt.alloc(), four, Status::No)?;
-    let empty = r#"<CapacityConstraints><CA1 teams="0" min="" max="6" mode="H" slots="" type="HARD"/></CapacityConstraints>"#;
-    home_games_demanded(&rt, rt.alloc(), empty, Status::File)
+    let alloc = rt.alloc();
+    home_games_bounded(&rt, alloc, "min=\"3\" max=\"6\"", Status::Yes)?;
+    home_games_bounded(&rt, alloc, "min=\"4\" max=\"6\"", Status::No)?;
+    home_games_bounded(&rt, alloc, "max=\"3\"", Status::Yes)?;
+    home_games_bounded(&rt, alloc, "min=\"\" max=\"6\"", Status::File)?;
+    home_games_bounded(&rt, alloc, "min=\"4294967296\" max=\"6\"", Status::File)
 }
 
 #[test]
