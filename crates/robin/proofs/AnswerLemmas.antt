@@ -2,9 +2,9 @@
 use Rattle.std.proofs.Common.{◌≡◌, ℕ, ◌+◌, List, length, Option, Result, Ok, Err, codes, inl, inr, subst, sym}
 use Rattle.league.specs.Instance.{Instance}
 use Rattle.robinx_tags.specs.Pieces.{pieces}
-use Rattle.robinx_read.specs.InstanceFile.{instance_of}
-use Rattle.robinx_read.specs.SolutionFile.{solution_of}
-use Rattle.robinx_read.specs.Walk.{Fault}
+use Rattle.robinx_form.specs.InstanceFile.{instance_of}
+use Rattle.robinx_form.specs.SolutionFile.{solution_of}
+use Rattle.robinx_form.specs.Walk.{Fault}
 use Rattle.robinx_read.specs.declared.instance.TheConstants.{INSTANCE_LIMIT, SOLUTION_LIMIT}
 use Rattle.robin.specs.Answer.{Outcome, IsFile, IsUnread, IsJudgement, reads, says, validated}
 use Rattle.robin.specs.Reply.{Answer}

@@ -8,9 +8,9 @@ use Rattle.league.specs.Accepted.{IsAccepted}
 use Rattle.league.specs.Counts.{counts_of}
 use Rattle.league.specs.Instance.{Instance}
 use Rattle.league.specs.declared.game.Game.{Game}
-use Rattle.robinx_read.specs.InstanceFile.{instance_of}
-use Rattle.robinx_read.specs.SolutionFile.{solution_of}
-use Rattle.robinx_read.specs.Walk.{Fault, walk}
+use Rattle.robinx_form.specs.InstanceFile.{instance_of}
+use Rattle.robinx_form.specs.SolutionFile.{solution_of}
+use Rattle.robinx_form.specs.Walk.{Fault, walk}
 use Rattle.robinx_read.specs.declared.instance.TheConstants.{SOLUTION_LIMIT}
 use Rattle.robin.specs.Answer.{IsAnswer, IsFile, IsJudged, IsJudgement, IsUnread, IsWellFormedPair, IsWritten, Outcome, reads, says}
 use Rattle.robin.specs.Circle.{circle_season}

@@ -8,9 +8,9 @@ use Rattle.league.specs.Accepted.{IsAccepted}
 use Rattle.league.specs.Counts.{counts_of}
 use Rattle.league.specs.Instance.{Instance}
 use Rattle.league.specs.declared.game.Game.{Game}
-use Rattle.robinx_read.specs.Walk.{Fault}
-use Rattle.robinx_read.specs.InstanceFile.{instance_of}
-use Rattle.robinx_read.specs.SolutionFile.{solution_of}
+use Rattle.robinx_form.specs.Walk.{Fault}
+use Rattle.robinx_form.specs.InstanceFile.{instance_of}
+use Rattle.robinx_form.specs.SolutionFile.{solution_of}
 use Rattle.robinx_read.specs.declared.instance.TheConstants.{INSTANCE_LIMIT, SOLUTION_LIMIT}
 use Rattle.robin.specs.Circle.{circle_season}
 use Rattle.robin.specs.Reply.{Answer, refused_words, read_fault, too_long, malformed}

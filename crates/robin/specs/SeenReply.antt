@@ -1,6 +1,6 @@
 -- What a contract sees of the steps of a run.
 use Rattle.std.specs.Prelude.{◌≡◌, ℕ, List, Result, Ok, Err}
-use Rattle.robinx_read.specs.Walk.{Fault}
+use Rattle.robinx_form.specs.Walk.{Fault}
 use Rattle.robin.specs.Answer.{Outcome}
 use Rattle.robin.specs.Reply.{Answer, malformed}
 use Rattle.robin.specs.declared.reply.Reply.{Reply}

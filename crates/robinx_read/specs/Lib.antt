@@ -1,15 +1,7 @@
 -- What a reader of a claim must believe:
 --
 -- What a file says is defined in robinx_form.
-pub use Rattle.robinx_form.specs.Elements
-pub use Rattle.robinx_form.specs.Walk
-pub use Rattle.robinx_form.specs.Values
-pub use Rattle.robinx_form.specs.Words
-pub use Rattle.robinx_form.specs.Demands
-pub use Rattle.robinx_form.specs.Classes
-pub use Rattle.robinx_form.specs.InstanceFile
-pub use Rattle.robinx_form.specs.SolutionFile
-pub use Rattle.robinx_form.specs.Texts
+--
 -- Faults of tags as faults of reading, and what the calls answer of what a file says:
 pub mod Tagged
 pub mod Answers
