@@ -4,7 +4,7 @@ ghost use Rattle.std.specs.List.{All};
 ghost use Rattle.league.specs.Breaks as breaks;
 ghost use Rattle.league.specs.Breaks.{breaks_among, breaks_at, is_away_break, is_home_break};
 ghost use Rattle.league.specs.Counts.{slot_count};
-ghost use Rattle.rule_core.specs.Table.{table_counts};
+ghost use Rattle.cells.specs.Table.{table_counts};
 
 use league::{Side, SlotId, TeamId};
 use rule_core::Cells;

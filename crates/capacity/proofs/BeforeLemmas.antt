@@ -10,9 +10,9 @@ use Rattle.league.specs.Counts.{Counts, slot_count}
 use Rattle.league.specs.Deviation.{entry_of}
 use Rattle.league.specs.Meetings.{games_of}
 use Rattle.league.proofs.SumLemmas.{sum_by-map}
-use Rattle.rule_core.proofs.GameLemmas.{sum_by-same_in}
+use Rattle.league.proofs.SumLemmas.{sum_by-same_in}
 use Rattle.rule_core.proofs.OpponentLemmas.{games_of-window}
-use Rattle.rule_core.proofs.RowLemmas.{zero_at}
+use Rattle.league.proofs.TableLemmas.{zero_at}
 use Rattle.rule_core.specs.Ready.{entry_count}
 use Rattle.capacity.specs.Ca3.{class_of}
 use Rattle.capacity.specs.declared.ca3.Ca3.{Ca3}

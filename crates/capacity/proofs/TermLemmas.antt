@@ -11,7 +11,7 @@ use Rattle.league.specs.Instance.{are_slots, are_teams}
 use Rattle.league.specs.Meetings.{games_of}
 use Rattle.league.specs.Venues.{games_on}
 use Rattle.league.proofs.FitLemmas.{are_slots-below}
-use Rattle.rule_core.specs.Meetings.{MeetingList}
+use Rattle.cells.specs.Meetings.{MeetingList}
 use Rattle.rule_core.specs.Ready.{entry_count}
 use Rattle.rule_core.proofs.ReadyLemmas.{are_slots-few}
 use Rattle.capacity.proofs.SpanLemmas.{spans-all, spans-few}

@@ -6,8 +6,9 @@ use Rattle.std.proofs.lemmas.List.Sums.{fold-append}
 use Rattle.std.specs.List.{range_with_len}
 use Rattle.league.specs.Counts.{Counts, counts_of, one_more, is_game}
 use Rattle.league.specs.Deviation.{entry_of, vector_of}
+use Rattle.league.proofs.ListLemmas.{map-same}
 use Rattle.league.proofs.RangeLemmas.{one_if}
-use Rattle.rule_core.proofs.TableLemmas.{same_counts}
+use Rattle.cells.proofs.TableLemmas.{same_counts}
 use Rattle.league.specs.declared.class.Class.{Class}
 use Rattle.league.specs.declared.game.Game.{Game}
 
@@ -26,10 +27,6 @@ behind x xs i = let next : i + 1 ≡ suc i = omega arith in ap (λ (k : ℕ). ge
 pub listed : (xs : List ℕ) → map (λ k. get_or xs k 0) (range_with_len 0 (length xs)) ≡ xs
 listed [] = refl
 listed (x ∷ xs) = ap (λ (l : List ℕ). x ∷ l) (shifted (λ k. get_or (x ∷ xs) k 0) (λ k. get_or xs k 0) 0 (length xs) (behind x xs) ∙ listed xs)
-
-map-same : (f g : ℕ → ℕ) → ((x : ℕ) → f x ≡ g x) → (xs : List ℕ) → map f xs ≡ map g xs
-map-same f g same [] = refl
-map-same f g same (x ∷ xs) = ap (λ (y : ℕ). y ∷ map f xs) (same x) ∙ ap (λ (l : List ℕ). g x ∷ l) (map-same f g same xs)
 
 -- a rule's entries, where each is the constraint's and there are as many, are the vector
 pub vector-by_entries : (n : ℕ) (m : Counts) (class : Class) (count : ℕ) (entry : ℕ → ℕ) (entries : List ℕ) → count ≡ length (vector_of n m class) → ((k : ℕ) → entry k ≡ entry_of n m class k) → entries ≡ map entry (range_with_len 0 count) → entries ≡ vector_of n m class

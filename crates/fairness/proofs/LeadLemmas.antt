@@ -12,7 +12,7 @@ use Rattle.std.specs.Ordering.{nat_cmp}
 use Rattle.league.specs.Bounds.{largest}
 use Rattle.league.specs.Sets.{IsAscending}
 use Rattle.league.proofs.RangeLemmas.{sum_by-range_more}
-use Rattle.rule_core.proofs.KeyLemmas.{less_than}
+use Rattle.league.proofs.SetLemmas.{less_than}
 use Rattle.rule_core.proofs.OpponentLemmas.{sum_by-range_append}
 
 -- a slot that is read has a place

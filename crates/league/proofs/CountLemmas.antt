@@ -1,9 +1,9 @@
 -- What one game more adds to the games that a definition counts.
-use Rattle.std.proofs.Common.{◌≡◌, ℕ, ◌+◌, ◌<◌, ◌≤◌, Bool, ◌&&◌, ◌==◌, nat_lt, List, [], ◌∷◌, ◌++◌, zero, suc, refl, arith, ap}
+use Rattle.std.proofs.Common.{◌≡◌, ℕ, ◌+◌, ◌<◌, ◌≤◌, Bool, ◌&&◌, ◌==◌, nat_lt, List, [], ◌∷◌, ◌++◌, zero, suc, refl, arith, ap, ◌∙◌}
 use Rattle.std.proofs.lemmas.Bool.Decides.{nat_tests}
 use Rattle.std.proofs.lemmas.List.Sums.{sum_by_push, sum_by-le}
 use Rattle.std.specs.List.{range_with_len, sum_by}
-use Rattle.league.specs.Counts.{counts_of, is_game, teams_of}
+use Rattle.league.specs.Counts.{Counts, counts_of, is_game, one_more, teams_of}
 use Rattle.league.specs.Instance.{IsGame}
 use Rattle.league.specs.Meetings.{games_of}
 use Rattle.league.specs.Venues.{away_games, games_on, home_games}
@@ -52,24 +52,6 @@ away_last a b c = grind arith
 home_last : (a b c : Bool) → (a && b && c) ≡ (b && c && a)
 home_last a b c = grind arith
 
--- home games of a team in a slot
-home_games-push : (n : ℕ) (games : List Game) (g : Game) (i s : ℕ) → home_games n (counts_of (games ++ g ∷ [])) i s ≡ home_games n (counts_of games) i s + one_if ((g.home.0 == i) && (g.slot.0 == s) && nat_lt g.away.0 n)
-home_games-push n games g i s =
-    omega (
-      arith,
-      sum_by-same (λ j. counts_of (games ++ g ∷ []) i j s) (λ j. counts_of games i j s + one_if (is_game i j s g)) (λ j. counts_of-push games g i j s) (teams_of n),
-      sum_by-one_game (λ j. counts_of games i j s) (λ j. is_game i j s g) ((g.home.0 == i) && (g.slot.0 == s)) g.away.0 n (λ j. away_last (g.home.0 == i) (g.away.0 == j) (g.slot.0 == s)),
-    )
-
--- away games of a team in a slot
-away_games-push : (n : ℕ) (games : List Game) (g : Game) (i s : ℕ) → away_games n (counts_of (games ++ g ∷ [])) i s ≡ away_games n (counts_of games) i s + one_if ((g.away.0 == i) && (g.slot.0 == s) && nat_lt g.home.0 n)
-away_games-push n games g i s =
-    omega (
-      arith,
-      sum_by-same (λ j. counts_of (games ++ g ∷ []) j i s) (λ j. counts_of games j i s + one_if (is_game j i s g)) (λ j. counts_of-push games g j i s) (teams_of n),
-      sum_by-one_game (λ j. counts_of games j i s) (λ j. is_game j i s g) ((g.away.0 == i) && (g.slot.0 == s)) g.home.0 n (λ j. home_last (g.home.0 == j) (g.away.0 == i) (g.slot.0 == s)),
-    )
-
 -- a number under a test, and below k
 and_below : (b : Bool) (x k : ℕ) → x < k → one_if (b && nat_lt x k) ≡ one_if b
 and_below b x k h = grind (arith, nat_tests)
@@ -86,17 +68,36 @@ games_of-push_in games g i j k h = omega (arith, games_of-push games g i j k, an
 pub games_of-push_out : (games : List Game) (g : Game) (i j k : ℕ) → k ≤ g.slot.0 → games_of (counts_of (games ++ g ∷ [])) ((i, j) ∷ []) (range_with_len 0 k) ≡ games_of (counts_of games) ((i, j) ∷ []) (range_with_len 0 k)
 games_of-push_out games g i j k h = omega (arith, games_of-push games g i j k, and_not_below ((g.home.0 == i) && (g.away.0 == j)) g.slot.0 k h)
 
--- home games and away games of a team in a slot, with a game of the league more
-pub home_games-push_game : (n : ℕ) (games : List Game) (g : Game) (i s : ℕ) → IsGame n g → home_games n (counts_of (games ++ g ∷ [])) i s ≡ home_games n (counts_of games) i s + one_if ((g.home.0 == i) && (g.slot.0 == s))
-home_games-push_game n games g i s fits = omega (arith, home_games-push n games g i s, and_below ((g.home.0 == i) && (g.slot.0 == s)) g.away.0 n fits.away)
+-- home games and away games of a team in a slot, with a game of the league once more
+pub home_games-one_more : (n : ℕ) (m : Counts) (g : Game) (i s : ℕ) → IsGame n g → home_games n (one_more m g) i s ≡ home_games n m i s + one_if ((g.home.0 == i) && (g.slot.0 == s))
+home_games-one_more n m g i s fits =
+    omega (
+      arith,
+      sum_by-one_game (λ j. m i j s) (λ j. is_game i j s g) ((g.home.0 == i) && (g.slot.0 == s)) g.away.0 n (λ j. away_last (g.home.0 == i) (g.away.0 == j) (g.slot.0 == s)),
+      and_below ((g.home.0 == i) && (g.slot.0 == s)) g.away.0 n fits.away,
+    )
 
-pub away_games-push_game : (n : ℕ) (games : List Game) (g : Game) (i s : ℕ) → IsGame n g → away_games n (counts_of (games ++ g ∷ [])) i s ≡ away_games n (counts_of games) i s + one_if ((g.away.0 == i) && (g.slot.0 == s))
-away_games-push_game n games g i s fits = omega (arith, away_games-push n games g i s, and_below ((g.away.0 == i) && (g.slot.0 == s)) g.home.0 n fits.home)
+pub away_games-one_more : (n : ℕ) (m : Counts) (g : Game) (i s : ℕ) → IsGame n g → away_games n (one_more m g) i s ≡ away_games n m i s + one_if ((g.away.0 == i) && (g.slot.0 == s))
+away_games-one_more n m g i s fits =
+    omega (
+      arith,
+      sum_by-one_game (λ j. m j i s) (λ j. is_game j i s g) ((g.away.0 == i) && (g.slot.0 == s)) g.home.0 n (λ j. home_last (g.home.0 == j) (g.away.0 == i) (g.slot.0 == s)),
+      and_below ((g.away.0 == i) && (g.slot.0 == s)) g.home.0 n fits.home,
+    )
+
+-- the same in a list with the game at its end
+pub home_games-push : (n : ℕ) (games : List Game) (g : Game) (i s : ℕ) → IsGame n g → home_games n (counts_of (games ++ g ∷ [])) i s ≡ home_games n (counts_of games) i s + one_if ((g.home.0 == i) && (g.slot.0 == s))
+home_games-push n games g i s fits =
+    sum_by-same (λ j. counts_of (games ++ g ∷ []) i j s) (λ j. one_more (counts_of games) g i j s) (λ j. counts_of-push games g i j s) (teams_of n) ∙ home_games-one_more n (counts_of games) g i s fits
+
+pub away_games-push : (n : ℕ) (games : List Game) (g : Game) (i s : ℕ) → IsGame n g → away_games n (counts_of (games ++ g ∷ [])) i s ≡ away_games n (counts_of games) i s + one_if ((g.away.0 == i) && (g.slot.0 == s))
+away_games-push n games g i s fits =
+    sum_by-same (λ j. counts_of (games ++ g ∷ []) j i s) (λ j. one_more (counts_of games) g j i s) (λ j. counts_of-push games g j i s) (teams_of n) ∙ away_games-one_more n (counts_of games) g i s fits
 
 -- games of a team in a slot
 pub games_on-push : (n : ℕ) (games : List Game) (g : Game) (i s : ℕ) → IsGame n g → games_on n (counts_of (games ++ g ∷ [])) Both i s ≡ games_on n (counts_of games) Both i s + one_if ((g.home.0 == i) && (g.slot.0 == s)) + one_if ((g.away.0 == i) && (g.slot.0 == s))
 games_on-push n games g i s fits =
-    omega (arith, home_games-push_game n games g i s fits, away_games-push_game n games g i s fits)
+    omega (arith, home_games-push n games g i s fits, away_games-push n games g i s fits)
 
 -- a sum of zeros
 sum_by-zeros : (xs : List ℕ) → sum_by (λ s. 0) xs ≡ 0

@@ -2,11 +2,14 @@
 pub mod AcceptedLemmas
 pub mod AscendingLemmas
 pub mod FitLemmas
+pub mod ListLemmas
 pub mod SumLemmas
 pub mod RangeLemmas
 pub mod MeetingLemmas
 pub mod CountLemmas
+pub mod MemberLemmas
 pub mod TableLemmas
+pub mod WrongLemmas
 pub mod RoundRobinLemmas
 -- Worked examples, so that a wrong definition does not check:
 pub mod DoubleFour

@@ -161,7 +161,8 @@ module _ {X : Type 0} (cmp : X → X → Ordering) (total : IsTotalOrder cmp) wh
     tells (Ok i) within found = (λ _. (i, within, same (get_or xs i x) x (found x)), λ _. refl)
     tells (Err i) within splits = let parts = splits ranks in (λ untrue. cc, λ there. absurd (absent i parts.0 parts.1 there))
 
-less_than : (a b : ℕ) → nat_cmp a b ≡ Less → a < b
+-- a number that comes before another is below it
+pub less_than : (a b : ℕ) → nat_cmp a b ≡ Less → a < b
 less_than a b h = grind (arith, nat_tests)
 
 -- in an ascending list the number at place i is at least i

@@ -1,12 +1,18 @@
 -- Sums over lists that are mapped, filtered or joined, and sums of equal or added terms.
-use Rattle.std.proofs.Common.{◌≡◌, ℕ, ◌+◌, Bool, true, false, List, [], ◌∷◌, map, cond, if◌then◌else◌, refl, arith, ◌∙◌, sym}
+use Rattle.std.proofs.Common.{◌≡◌, ℕ, suc, ◌+◌, ◌<◌, Bool, true, false, List, [], ◌∷◌, map, cond, if◌then◌else◌, refl, arith, ◌∙◌, sym}
 use Rattle.std.proofs.lemmas.List.Sums.{sum_by-cons, sum_by-append}
-use Rattle.std.specs.List.{filter, flat_map, sum_by}
+use Rattle.std.specs.List.{All, filter, flat_map, sum_by}
 
 -- the sum of equal terms
 pub sum_by-same : {X : Type 0} (f g : X → ℕ) → ((x : X) → f x ≡ g x) → (xs : List X) → sum_by f xs ≡ sum_by g xs
 sum_by-same f g same [] = refl
 sum_by-same f g same (x ∷ xs) = omega (arith, sum_by-cons f x xs, sum_by-cons g x xs, same x, sum_by-same f g same xs)
+
+-- the same where the terms are equal at the elements
+pub sum_by-same_in : {X : Type 0} (f g : X → ℕ) (xs : List X) → All (λ x. f x ≡ g x) xs → sum_by f xs ≡ sum_by g xs
+sum_by-same_in f g [] same = refl
+sum_by-same_in f g (x ∷ xs) same =
+    omega (arith, sum_by-cons f x xs, sum_by-cons g x xs, same 0 x (omega arith), sum_by-same_in f g xs (λ k d lt. same (suc k) d (omega arith)))
 
 -- a sum of sums
 pub sum_by-add : {X : Type 0} (f g : X → ℕ) (xs : List X) → sum_by (λ x. f x + g x) xs ≡ sum_by f xs + sum_by g xs

@@ -1,87 +1,80 @@
--- Tables of numbers in rows of 78 columns: what a new one holds, and what a schedule has wrong by its tables.
-use Rattle.std.proofs.Common.{◌≡◌, ◌≢◌, ℕ, ◌+◌, ◌*◌, ◌≤◌, zero, suc, Bool, true, false, not, ◌&&◌, ◌==◌, nat_lt, if◌then◌else◌, List, [], ◌∷◌, get_or, replicate, refl, arith, ap, ◌∙◌}
-use Rattle.std.proofs.lemmas.Bool.{cond_both}
+-- Numbers in rows of equal length: what a new list of them holds, and a list with one number more.
+use Rattle.std.proofs.Common.{◌≡◌, ◌≢◌, ℕ, ◌+◌, ◌*◌, ◌<◌, ◌≤◌, zero, suc, ◌&&◌, ◌==◌, nat_lt, List, length, get_or, replicate, set, refl, arith, ap, ◌∙◌, inl, inr}
+use Rattle.std.proofs.lemmas.Grind.{get_or_default_zero}
+use Rattle.std.proofs.lemmas.Bool.{cases_eq, cases_lt, cond_both}
 use Rattle.std.proofs.lemmas.Bool.Decides.{nat_tests}
-use Rattle.std.specs.Int.{from_bool}
-use Rattle.std.specs.List.{count_by, sum_by}
-use Rattle.league.specs.Counts.{counts_of, slots_of, teams_of}
-use Rattle.league.specs.Meetings.{games_of, meetings_of, pairs_of}
-use Rattle.league.specs.Structure.{cells_wrong, first_half, isnt_one, pairs_wrong, phases_wrong}
-use Rattle.league.specs.Grid.{entry}
-use Rattle.league.specs.Tables.{AreTablesOf}
-use Rattle.league.specs.Venues.{games_on}
-use Rattle.league.specs.declared.class.Side.TheVariants.{Both}
-use Rattle.league.specs.declared.game.Game.{Game}
-use Rattle.league.specs.declared.wrongs.Tables.{Tables}
-use Rattle.league.proofs.RangeLemmas.{one_if, one_if-le}
-use Rattle.league.proofs.SumLemmas.{sum_by-same}
+use Rattle.std.proofs.lemmas.List.{get_or-set_other, get_or-set_same}
+use Rattle.std.proofs.lemmas.Nat.{same_from_place}
+use Rattle.league.proofs.RangeLemmas.{one_if}
+use Rattle.league.specs.Grid.{number}
 
 -- a list of zeros reads 0 everywhere
-zero_at : (size i : ℕ) → get_or {A = ℕ} (replicate size 0) i 0 ≡ 0
+pub zero_at : (size i : ℕ) → get_or {A = ℕ} (replicate size 0) i 0 ≡ 0
 zero_at zero i = refl
 zero_at (suc size) zero = refl
 zero_at (suc size) (suc i) = zero_at size i
 
--- a table of zeros
-pub entry-replicate : (size row column : ℕ) → entry (replicate size 0) row column ≡ 0
-entry-replicate size row column =
-    cond_both (nat_lt column 78) (get_or {A = ℕ} (replicate size 0) (row * 78 + column) 0) 0 (λ x. x ≡ 0) (λ e. zero_at size (row * 78 + column)) (λ e. refl)
+-- rows of zeros
+pub number-replicate : (columns size row column : ℕ) → number columns (replicate size 0) row column ≡ 0
+number-replicate columns size row column =
+    cond_both (nat_lt column columns) (get_or {A = ℕ} (replicate size 0) (row * columns + column) 0) 0 (λ x. x ≡ 0) (λ e. zero_at size (row * columns + column)) (λ e. refl)
 
--- the number that a test makes
-from_bool-is : (b : Bool) → from_bool b ≡ one_if b
-from_bool-is true = refl
-from_bool-is false = refl
+-- a number that is read in a column that there is
+pub number-inside : (columns : ℕ) (xs : List ℕ) (row column : ℕ) → column < columns → number columns xs row column ≡ get_or xs (row * columns + column) 0
+number-inside columns xs row column h = grind (arith, nat_tests)
 
--- it is at most 1
-pub from_bool-le : (b : Bool) (found : ℕ) → found ≡ from_bool b → found ≤ 1
-from_bool-le b found e = omega (arith, from_bool-is b, one_if-le b)
+-- and in one that there isn't
+pub number-outside : (columns : ℕ) (xs : List ℕ) (row column : ℕ) → columns ≤ column → number columns xs row column ≡ 0
+number-outside columns xs row column h = grind (arith, nat_tests)
 
--- a test of a number that was read
-pub isnt_one-read : (read x found : ℕ) → read ≡ x → found ≡ from_bool (isnt_one read) → found ≡ one_if (isnt_one x)
-isnt_one-read read x found e is = is ∙ from_bool-is (isnt_one read) ∙ ap (λ (k : ℕ). one_if (isnt_one k)) e
+-- tests that pass, and tests of which one fails
+both_pass : (a b c d : ℕ) → a ≡ b → c ≡ d → one_if ((a == b) && (c == d)) ≡ 1
+both_pass a b c d first second = grind (arith, nat_tests)
 
--- a test under one that two teams differ, where they do
-pub when_different : (home away : ℕ) (b : Bool) → away ≢ home → one_if b ≡ one_if (not (away == home) && b)
-when_different home away b h = grind (arith, nat_tests)
+first_fails : (a b c d : ℕ) → a ≢ b → one_if ((a == b) && (c == d)) ≡ 0
+first_fails a b c d differ = grind (arith, nat_tests)
 
--- the same where they are one team
-pub when_same : (home away : ℕ) (b : Bool) → away ≡ home → 0 ≡ one_if (not (away == home) && b)
-when_same home away b h = grind (arith, nat_tests)
+second_fails : (a b c d : ℕ) → c ≢ d → one_if ((a == b) && (c == d)) ≡ 0
+second_fails a b c d differ = grind (arith, nat_tests)
 
--- the number of wrong meetings, by the table of meetings
-meetings_counted : (n : ℕ) (games : List Game) (tables : Tables) → AreTablesOf n games tables → count_by (λ p. isnt_one (entry tables.meetings p.0 p.1)) (meetings_of n) ≡ pairs_wrong n (counts_of games)
-meetings_counted n games tables are =
-    sum_by-same (λ p. one_if (isnt_one (entry tables.meetings p.0 p.1))) (λ p. one_if (isnt_one (games_of (counts_of games) (p ∷ []) (slots_of n))))
-    (λ p. ap (λ (k : ℕ). one_if (isnt_one k)) (are.meetings p.0 p.1)) (meetings_of n)
+-- two lists that agree at all places but one, where the second has one more
+pub number-one_more : (columns : ℕ) (xs ys : List ℕ) (row column : ℕ) → column < columns → ((q : ℕ) → q ≢ row * columns + column → get_or ys q 0 ≡ get_or xs q 0) → get_or ys (row * columns + column) 0 ≡ get_or xs (row * columns + column) 0 + 1 → (i k : ℕ) → number columns ys i k ≡ number columns xs i k + one_if ((row == i) && (column == k))
+number-one_more columns xs ys row column inside other here i k =
+    elim (cases_lt k columns) [
+      | inl lt ↦
+          elim (cases_eq (i * columns + k) (row * columns + column)) [
+            | inl same ↦
+                let parts = same_from_place i k row column columns lt inside same in
+                let at_row : row ≡ i = omega (arith, parts.0) in
+                let at_column : column ≡ k = omega (arith, parts.1) in
+                let new : get_or ys (i * columns + k) 0 ≡ get_or ys (row * columns + column) 0 = ap (λ (q : ℕ). get_or ys q 0) same in
+                let old : get_or xs (i * columns + k) 0 ≡ get_or xs (row * columns + column) 0 = ap (λ (q : ℕ). get_or xs q 0) same in
+                omega (arith, number-inside columns ys i k lt, number-inside columns xs i k lt, new, old, here, both_pass row i column k at_row at_column)
+            | inr differ ↦
+                let same_row : one_if ((row == i) && (column == k)) ≡ 0 =
+                elim (cases_eq row i) [
+                  | inl at_row ↦ second_fails row i column k (λ at_column. differ (ap (λ (r : ℕ). r * columns + k) (omega (arith, at_row)) ∙ ap (λ (c : ℕ). row * columns + c) (omega (arith, at_column))))
+                  | inr away ↦ first_fails row i column k away
+                ] in
+                omega (arith, number-inside columns ys i k lt, number-inside columns xs i k lt, other (i * columns + k) differ, same_row)
+          ]
+      | inr ge ↦
+          let apart : column ≢ k = omega arith in
+          omega (arith, number-outside columns ys i k ge, number-outside columns xs i k ge, second_fails row i column k apart)
+    ]
 
--- games of two teams in the first half, in either order
-two_halves : (n : ℕ) (games : List Game) (tables : Tables) → AreTablesOf n games tables → (i j : ℕ) → entry tables.halves i j + entry tables.halves j i ≡ games_of (counts_of games) ((i, j) ∷ (j, i) ∷ []) (first_half n)
-two_halves n games tables are i j = omega (arith, are.halves i j, are.halves j i)
+-- a list with one more at a place
+pub number-set_more : (columns : ℕ) (xs : List ℕ) (row column value : ℕ) → column < columns → row * columns + column < length xs → value ≡ get_or xs (row * columns + column) 0 + 1 → (i k : ℕ) → number columns (set xs (row * columns + column) value) i k ≡ number columns xs i k + one_if ((row == i) && (column == k))
+number-set_more columns xs row column value inside within is =
+    number-one_more columns xs (set xs (row * columns + column) value) row column inside (λ q differ. get_or-set_other xs (row * columns + column) q value 0 differ)
+    (get_or-set_same xs (row * columns + column) value 0 within ∙ is)
 
--- the number of wrong cells, by the table of teams and slots
-cells_counted : (n : ℕ) (games : List Game) (tables : Tables) → AreTablesOf n games tables → sum_by (λ i. count_by (λ s. isnt_one (entry tables.cells i s)) (slots_of n)) (teams_of n) ≡ cells_wrong n (counts_of games)
-cells_counted n games tables are =
-    sum_by-same (λ i. count_by (λ s. isnt_one (entry tables.cells i s)) (slots_of n)) (λ i. count_by (λ s. isnt_one (games_on n (counts_of games) Both i s)) (slots_of n))
-    (λ i. sum_by-same (λ s. one_if (isnt_one (entry tables.cells i s))) (λ s. one_if (isnt_one (games_on n (counts_of games) Both i s))) (λ s. ap (λ (k : ℕ). one_if (isnt_one k)) (are.cells i s)) (slots_of n)) (teams_of n)
+-- a list with one less at a place
+pub number-set_less : (columns : ℕ) (xs : List ℕ) (row column value : ℕ) → column < columns → row * columns + column < length xs → value + 1 ≡ get_or xs (row * columns + column) 0 → (i k : ℕ) → number columns xs i k ≡ number columns (set xs (row * columns + column) value) i k + one_if ((row == i) && (column == k))
+number-set_less columns xs row column value inside within is =
+    number-one_more columns (set xs (row * columns + column) value) xs row column inside (λ q differ. omega (arith, get_or-set_other xs (row * columns + column) q value 0 differ))
+    (omega (arith, get_or-set_same xs (row * columns + column) value 0 within, is))
 
--- the number of wrong pairs in the first half, by the table of meetings in it
-halves_counted : (n : ℕ) (phased : Bool) (games : List Game) (tables : Tables) → AreTablesOf n games tables → (if phased then count_by (λ p. isnt_one (entry tables.halves p.0 p.1 + entry tables.halves p.1 p.0)) (pairs_of (teams_of n)) else 0) ≡ phases_wrong n phased (counts_of games)
-halves_counted n true games tables are =
-    sum_by-same (λ p. one_if (isnt_one (entry tables.halves p.0 p.1 + entry tables.halves p.1 p.0))) (λ p. one_if (isnt_one (games_of (counts_of games) (p ∷ (p.1, p.0) ∷ []) (first_half n))))
-    (λ p. ap (λ (k : ℕ). one_if (isnt_one k)) (two_halves n games tables are p.0 p.1)) (pairs_of (teams_of n))
-halves_counted n false games tables are = refl
-
--- wrong meetings, by the tables of a number of teams and a list of games that were read
-pub pairs_wrong-read : (n k : ℕ) (games listed : List Game) (tables : Tables) (count : ℕ) → k ≡ n → listed ≡ games → AreTablesOf k listed tables → count ≡ count_by (λ p. isnt_one (entry tables.meetings p.0 p.1)) (meetings_of k) → count ≡ pairs_wrong n (counts_of games)
-pairs_wrong-read n k games listed tables count same_n same_games are is =
-    is ∙ meetings_counted k listed tables are ∙ ap (λ (x : ℕ). pairs_wrong x (counts_of listed)) same_n ∙ ap (λ (xs : List Game). pairs_wrong n (counts_of xs)) same_games
-
--- wrong cells, in the same way
-pub cells_wrong-read : (n k : ℕ) (games listed : List Game) (tables : Tables) (count : ℕ) → k ≡ n → listed ≡ games → AreTablesOf k listed tables → count ≡ sum_by (λ i. count_by (λ s. isnt_one (entry tables.cells i s)) (slots_of k)) (teams_of k) → count ≡ cells_wrong n (counts_of games)
-cells_wrong-read n k games listed tables count same_n same_games are is =
-    is ∙ cells_counted k listed tables are ∙ ap (λ (x : ℕ). cells_wrong x (counts_of listed)) same_n ∙ ap (λ (xs : List Game). cells_wrong n (counts_of xs)) same_games
-
--- wrong pairs in the first half, in the same way
-pub phases_wrong-read : (n k : ℕ) (phased said : Bool) (games listed : List Game) (tables : Tables) (count : ℕ) → k ≡ n → said ≡ phased → listed ≡ games → AreTablesOf k listed tables → count ≡ (if said then count_by (λ p. isnt_one (entry tables.halves p.0 p.1 + entry tables.halves p.1 p.0)) (pairs_of (teams_of k)) else 0) → count ≡ phases_wrong n phased (counts_of games)
-phases_wrong-read n k phased said games listed tables count same_n same_phased same_games are is =
-    is ∙ halves_counted k said listed tables are ∙ ap (λ (x : ℕ). phases_wrong x said (counts_of listed)) same_n ∙ ap (λ (b : Bool). phases_wrong n b (counts_of listed)) same_phased ∙ ap (λ (xs : List Game). phases_wrong n phased (counts_of xs)) same_games
+-- a number that was read at a place
+pub read_at : (xs : List ℕ) (place read : ℕ) → place < length xs → read ≡ get_or xs place read → read ≡ get_or xs place 0
+read_at xs place read within is = is ∙ get_or_default_zero xs place read within

@@ -14,7 +14,8 @@ use Rattle.league.specs.Venues.{home_games}
 use Rattle.league.specs.declared.class.Side.{Side}
 use Rattle.league.specs.declared.class.Side.TheVariants.{Both}
 use Rattle.league.specs.declared.game.Game.{Game}
-use Rattle.league.proofs.CountLemmas.{home_games-push_game}
+use Rattle.league.proofs.ListLemmas.{map-same}
+use Rattle.league.proofs.CountLemmas.{home_games-push}
 use Rattle.league.proofs.RangeLemmas.{one_if, one_if-le}
 use Rattle.circle_method.specs.SingleRoundRobin.{IsSingleGame, IsSingleRoundRobin}
 use Rattle.patterns.specs.Pattern.{has_break, is_repeat}
@@ -33,11 +34,6 @@ has_break-read pattern s before side again found at_before at_side is number =
     let second : get_or pattern s Both ≡ side = get_or_from_slice_get pattern s side Both at_side in
     let same : again ≡ has_break pattern s = is ∙ ap (λ (x : Side). is_repeat x side) (sym first) ∙ ap (λ (x : Side). is_repeat (get_or pattern (s - 1) Both) x) (sym second) in
     number ∙ from_bool-is again ∙ ap one_if same
-
--- lists made by equal functions
-map-same : {X Y : Type 0} (f g : X → Y) → ((x : X) → f x ≡ g x) → (xs : List X) → map f xs ≡ map g xs
-map-same f g same [] = refl
-map-same f g same (x ∷ xs) = ap (λ y. y ∷ map f xs) (same x) ∙ ap (λ ys. g x ∷ ys) (map-same f g same xs)
 
 -- the patterns of a table of home games are those of the schedule
 patterns-same : (n k : ℕ) (m : Counts) (table : List ℕ) → ((i s : ℕ) → entry table i s ≡ home_games n m i s) → map (table_pattern k table) (teams_of n) ≡ map (pattern_in n m (range_with_len 0 k)) (teams_of n)
@@ -85,7 +81,7 @@ home_table-more n k games i s before after inside fit so_far next =
       arith,
       next,
       so_far,
-      home_games-push_game n (take k games) game i s (fit k no_game inside),
+      home_games-push n (take k games) game i s (fit k no_game inside),
       ap (λ (xs : List Game). home_games n (counts_of xs) i s) (take_more games k no_game inside),
     )
 

@@ -10,7 +10,8 @@ use Rattle.league.specs.declared.game.Game.{Game}
 use Rattle.league.specs.declared.class.Side.{Side}
 use Rattle.league.specs.declared.class.Side.TheVariants.{H, A, Both}
 use Rattle.league.proofs.RangeLemmas.{one_if, one_if-le}
-use Rattle.rule_core.proofs.GameLemmas.{games_on-elsewhere, games_on-not_at_home, games_on-not_away, sum_by-same_in}
+use Rattle.league.proofs.SumLemmas.{sum_by-same_in}
+use Rattle.rule_core.proofs.GameLemmas.{games_on-elsewhere, games_on-not_at_home, games_on-not_away}
 
 -- games twice in a row, by the games of both slots
 pub twice_in_a_row-same : (f h : ℕ → ℕ) (s : ℕ) → f (s - 1) ≡ h (s - 1) → f s ≡ h s → twice_in_a_row f s ≡ twice_in_a_row h s

@@ -9,9 +9,9 @@ use Rattle.league.specs.Sets.{is_in}
 use Rattle.league.specs.Counts.{Counts, one_more}
 use Rattle.league.specs.Meetings.{games_of}
 use Rattle.league.specs.declared.game.Game.{Game}
-use Rattle.league.proofs.SumLemmas.{sum_by-same}
-use Rattle.rule_core.specs.Meetings.{is_listed}
-use Rattle.rule_core.proofs.GameLemmas.{sum_by-same_in}
+use Rattle.league.proofs.MemberLemmas.{is_in-lacks}
+use Rattle.league.proofs.SumLemmas.{sum_by-same, sum_by-same_in}
+use Rattle.cells.specs.Meetings.{is_listed}
 use Rattle.rule_core.proofs.OpponentLemmas.{one_more-other_away, one_more-other_home, one_more-other_slot}
 
 -- a game of another meeting has another home team or another away team
@@ -34,24 +34,6 @@ pub games_of-other_meeting : (m : Counts) (g : Game) (meetings : List (ℕ × �
 games_of-other_meeting m g meetings slots differ =
     sum_by-same_in (λ p. sum_by (λ s. one_more m g p.0 p.1 s) slots) (λ p. sum_by (λ s. m p.0 p.1 s) slots) meetings
     (λ k d lt. sum_by-same (λ s. one_more m g (get_or meetings k d).0 (get_or meetings k d).1 s) (λ s. m (get_or meetings k d).0 (get_or meetings k d).1 s) (λ s. one_more-other_meeting m g (get_or meetings k d) s (differ k d lt)) slots)
-
--- a team that isn't one of these
-pub is_in-no : (i : ℕ) (teams : List ℕ) → All (λ t. t ≢ i) teams → is_in i teams ≡ false
-is_in-no i teams differ = list_any_none (λ t. t == i) teams (λ k d lt. same_fails (get_or teams k d) i (differ k d lt)) where
-  same_fails : (a b : ℕ) → a ≢ b → (a == b) ≡ false
-  same_fails a b h = grind (arith, nat_tests)
-
--- a team that is one of these
-pub is_in-yes : (i : ℕ) (teams : List ℕ) (k : ℕ) → k < length teams → get_or teams k 0 ≡ i → is_in i teams ≡ true
-is_in-yes i teams k within is = list_any-from_Any (λ t. t == i) teams (k, i, within, get_or_default teams k i 0 within ∙ is, itself i) where
-  itself : (a : ℕ) → (a == a) ≡ true
-  itself a = grind (arith, nat_tests)
-
--- and one that fails the test is none of them
-pub is_in-lacks : (i : ℕ) (teams : List ℕ) → is_in i teams ≡ false → All (λ t. t ≢ i) teams
-is_in-lacks i teams out k d lt same =
-    let at : is_in i teams ≡ true = is_in-yes i teams k lt (get_or_default teams k 0 d lt ∙ same) in
-    absurd (cc)
 
 -- a meeting that isn't listed is none of these
 pub is_listed-lacks : (meetings : List (ℕ × ℕ)) (p : ℕ × ℕ) → is_listed meetings p.0 p.1 ≡ false → All (λ q. q ≢ p) meetings

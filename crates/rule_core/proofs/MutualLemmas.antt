@@ -1,12 +1,12 @@
 -- Which games leave the mutual games of two teams as they are.
-use Rattle.std.proofs.Common.{◌≡◌, ℕ, ◌+◌, Bool, false, ◌&&◌, ◌==◌, List, [], ◌∷◌, ◌++◌, replicate, refl, arith, ap, ◌∙◌}
+use Rattle.std.proofs.Common.{◌≡◌, ℕ, ◌+◌, Bool, false, ◌&&◌, ◌==◌, replicate, arith, ap}
 use Rattle.std.proofs.lemmas.Bool.Decides.{nat_tests}
-use Rattle.std.specs.List.{flat_map}
 use Rattle.league.specs.Counts.{Counts, one_more, slots_of}
 use Rattle.league.specs.Separation.{mutual_games}
 use Rattle.league.specs.declared.game.Game.{Game}
+use Rattle.league.proofs.ListLemmas.{flat_map-same}
 use Rattle.league.proofs.RangeLemmas.{one_if}
-use Rattle.rule_core.specs.Pairs.{has_team}
+use Rattle.keys.specs.Pairs.{has_team}
 
 -- whether a pair is that of the teams of a game
 abbrev pub plays : Game → ℕ × ℕ → Bool
@@ -23,11 +23,6 @@ not_played_turned h a x y c other = grind (arith, nat_tests)
 same_games : (m : Counts) (g : Game) (p : ℕ × ℕ) (s : ℕ) → plays g p ≡ false → one_more m g p.0 p.1 s + one_more m g p.1 p.0 s ≡ m p.0 p.1 s + m p.1 p.0 s
 same_games m g p s other =
     omega (arith, not_played g.home.0 g.away.0 p.0 p.1 (g.slot.0 == s) other, not_played_turned g.home.0 g.away.0 p.0 p.1 (g.slot.0 == s) other)
-
--- lists that are joined are equal where their parts are
-flat_map-same : (f h : ℕ → List ℕ) → ((x : ℕ) → f x ≡ h x) → (xs : List ℕ) → flat_map f xs ≡ flat_map h xs
-flat_map-same f h same [] = refl
-flat_map-same f h same (x ∷ xs) = ap (λ (ys : List ℕ). ys ++ flat_map f xs) (same x) ∙ ap (λ (ys : List ℕ). h x ++ ys) (flat_map-same f h same xs)
 
 -- so they have the same mutual games
 pub same_mutual_games : (n : ℕ) (m : Counts) (g : Game) (p : ℕ × ℕ) → plays g p ≡ false → mutual_games n (one_more m g) p ≡ mutual_games n m p

@@ -11,8 +11,7 @@ use Rattle.league.specs.Venues.{on_side}
 use Rattle.league.specs.declared.game.Game.{Game}
 use Rattle.league.specs.declared.class.Side.{Side}
 use Rattle.league.specs.declared.class.Side.TheVariants.{H, A, Both}
-use Rattle.league.proofs.SumLemmas.{sum_by-add, sum_by-filter, sum_by-map, sum_by-same}
-use Rattle.rule_core.proofs.GameLemmas.{sum_by-same_in}
+use Rattle.league.proofs.SumLemmas.{sum_by-add, sum_by-filter, sum_by-map, sum_by-same, sum_by-same_in}
 
 -- a sum of zeros
 sum_by-none : (xs : List ℕ) → sum_by (λ x. 0) xs ≡ 0

@@ -1,25 +1,15 @@
-//! What every class of constraints shares: the counts of a schedule's games, and the rules that are evaluated on them.
+//! What every class of constraints shares: the rules that are evaluated on the counts of a schedule's games.
 //!
-//! A contract sees `Cells` as a `Table`, the number of teams with the list of all counts. What rules say, they say of
-//! the counts as a function of home team, away team and slot, which `table_counts` makes of the table. `IsRuleOf` says
-//! what each class promises of the rule that it makes of a constraint.
+//! A rule has entries by their keys, and says which keys a game touches; `IsRuleOf` says what each class promises of
+//! the rule that it makes of a constraint. What rules are made of, the counts and the lists of keys, stands in `cells`
+//! and `keys`.
 #![tactic(auto)]
 
 mod bounds;
-mod cells;
-mod counters;
-mod keys;
-mod listed;
-mod meetings;
-mod pairs;
-mod places;
 mod rule;
 
 pub use bounds::outside;
-pub use cells::Cells;
-pub use keys::Keys;
-pub use listed::Listed;
-pub use meetings::Meetings;
-pub use pairs::Pairs;
+pub use cells::{Cells, Meetings};
+pub use keys::{Keys, Listed, Pairs};
 pub use rule::{Entries, Rule};
 pub use steps::{Plain, Steps};

@@ -5,10 +5,10 @@ ghost use Rattle.std.specs.List.Sorted.{IsStrictlyIncreasing};
 ghost use Rattle.league.specs.Counts.{Counts, one_more};
 ghost use Rattle.league.specs.Instance.{IsGame};
 ghost use Rattle.league.specs.declared.game.Game.{Game};
-ghost use Rattle.rule_core.specs.Table.{table_counts};
+ghost use Rattle.cells.specs.Table.{table_counts};
 
-use crate::cells::Cells;
-use crate::keys::Keys;
+use cells::Cells;
+use keys::Keys;
 use league::Game;
 use steps::Steps;
 

@@ -1,7 +1,7 @@
 use Rattle.std.proofs.Common.{arith}
 use Rattle.std.proofs.lemmas.List.Sums.{sum_by_more}
 use Rattle.league.specs.Breaks.{breaks_at}
-use Rattle.rule_core.specs.Table.{table_counts}
+use Rattle.cells.specs.Table.{table_counts}
 use Rattle.breaks.proofs.sums.team_breaks.Goals as goal
 
 pub slot_breaks-breaks-requires-clause-slot : goal.slot_breaks-breaks-requires-clause-slot

@@ -1,7 +1,7 @@
 use Rattle.std.proofs.Common.{◌≡◌, ◌≤◌, ◌*◌, take}
 use Rattle.std.specs.List.{sum_by}
 use Rattle.league.specs.Breaks.{breaks_at}
-use Rattle.rule_core.specs.Table.{table_counts}
+use Rattle.cells.specs.Table.{table_counts}
 use Rattle.breaks.proofs.sums.team_breaks.Given as goal
 
 abbrev pub invariant-loop-slot : goal.invariant-loop-slot

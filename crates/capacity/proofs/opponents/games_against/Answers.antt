@@ -1,5 +1,5 @@
 use Rattle.std.proofs.Common.{arith}
-use Rattle.rule_core.specs.Table.{table_counts}
+use Rattle.cells.specs.Table.{table_counts}
 use Rattle.capacity.proofs.OpponentSums.{games_of_all}
 use Rattle.capacity.proofs.opponents.games_against.Goals as goal
 

@@ -1,6 +1,6 @@
 use Rattle.std.proofs.Common.{◌≡◌, ◌≤◌, ◌*◌, take}
 use Rattle.std.specs.List.{sum_by}
-use Rattle.rule_core.specs.Table.{table_counts}
+use Rattle.cells.specs.Table.{table_counts}
 use Rattle.rule_core.proofs.OpponentLemmas.{against}
 use Rattle.capacity.proofs.opponents.games_against.Given as goal
 

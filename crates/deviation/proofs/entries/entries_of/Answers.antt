@@ -1,7 +1,7 @@
 use Rattle.std.proofs.Common.{◌++◌, ℕ, List, [], ◌∷◌, map, ap, sym, ◌∙◌, arith}
 use Rattle.std.proofs.lemmas.List.FromFn.{map-range_with_len_more}
 use Rattle.std.specs.List.{range_with_len}
-use Rattle.rule_core.specs.Table.{table_counts}
+use Rattle.cells.specs.Table.{table_counts}
 use Rattle.deviation.proofs.entries.entries_of.Goals as goal
 
 pub loop-key-preserved : goal.loop-key-preserved

@@ -1,6 +1,6 @@
 use Rattle.std.proofs.Common.{◌≡◌, ◌+◌, map}
 use Rattle.std.specs.List.{range_with_len}
-use Rattle.rule_core.specs.Table.{table_counts}
+use Rattle.cells.specs.Table.{table_counts}
 use Rattle.deviation.proofs.entries.entries_of.Given as goal
 
 abbrev pub invariant-loop-key : goal.invariant-loop-key

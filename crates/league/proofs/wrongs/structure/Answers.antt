@@ -1,4 +1,4 @@
-use Rattle.league.proofs.TableLemmas.{pairs_wrong-read, cells_wrong-read, phases_wrong-read}
+use Rattle.league.proofs.WrongLemmas.{pairs_wrong-read, cells_wrong-read, phases_wrong-read}
 use Rattle.league.proofs.RoundRobinLemmas.{none_wrong}
 use Rattle.league.proofs.wrongs.structure.Goals as goal
 

@@ -2,7 +2,7 @@ use Rattle.std.proofs.Common.{◌≡◌, ℕ, ◌+◌, ◌-◌, length, ap, ◌�
 use Rattle.std.specs.List.{count_by, range_with_len}
 use Rattle.patterns.specs.Pattern.{has_break}
 use Rattle.league.proofs.RangeLemmas.{counted}
-use Rattle.league.proofs.TableLemmas.{from_bool-le}
+use Rattle.league.proofs.WrongLemmas.{from_bool-le}
 use Rattle.patterns.proofs.PatternLemmas.{has_break-read}
 use Rattle.patterns.proofs.pattern.breaks_of.Goals as goal
 

@@ -1,4 +1,4 @@
-use Rattle.rule_core.specs.Table.{table_counts}
+use Rattle.cells.specs.Table.{table_counts}
 use Rattle.breaks.proofs.TermLemmas.{br1_term}
 use Rattle.breaks.proofs.br1.Br1Rule.term.Goals as goal
 

@@ -1,4 +1,4 @@
-use Rattle.rule_core.specs.Table.{table_counts}
+use Rattle.cells.specs.Table.{table_counts}
 use Rattle.capacity.proofs.BeforeLemmas.{ca3_term}
 use Rattle.capacity.proofs.ca3.Ca3Rule.term.Goals as goal
 

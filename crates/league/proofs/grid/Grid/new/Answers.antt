@@ -1,5 +1,5 @@
-use Rattle.league.proofs.TableLemmas.{entry-replicate}
+use Rattle.league.proofs.TableLemmas.{number-replicate}
 use Rattle.league.proofs.grid.Grid.new.Goals as goal
 
 pub returns : goal.returns
-returns c = entry-replicate 3120
+returns c = number-replicate 78 3120

@@ -2,7 +2,7 @@ use Rattle.std.proofs.Common.{ℕ, ◌+◌, ◌&&◌, ◌==◌, not, Bool, refl,
 use Rattle.league.specs.Structure.{isnt_one}
 use Rattle.league.specs.Grid.{entry}
 use Rattle.league.proofs.RangeLemmas.{counted}
-use Rattle.league.proofs.TableLemmas.{from_bool-le, isnt_one-read, when_different, when_same}
+use Rattle.league.proofs.WrongLemmas.{from_bool-le, isnt_one-read, when_different, when_same}
 use Rattle.league.proofs.grid.Grid.pairs_wrong_at.Goals as goal
 use Rattle.league.proofs.grid.Grid.pairs_wrong_at.Goals.{then-away-home, else-away-home}
 

@@ -2,7 +2,7 @@ use Rattle.std.proofs.Common.{ℕ, ◌+◌, ◌-◌, arith}
 use Rattle.league.specs.Structure.{isnt_one}
 use Rattle.league.specs.Grid.{entry}
 use Rattle.league.proofs.RangeLemmas.{counted}
-use Rattle.league.proofs.TableLemmas.{from_bool-le, isnt_one-read}
+use Rattle.league.proofs.WrongLemmas.{from_bool-le, isnt_one-read}
 use Rattle.league.proofs.grid.Grid.phases_wrong_at.Goals as goal
 
 pub loop-later-preserved : goal.loop-later-preserved

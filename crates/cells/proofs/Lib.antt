@@ -1,0 +1,4 @@
+pub mod KeptMeetingLemmas
+pub mod RowLemmas
+pub mod TableFacts
+pub mod TableLemmas

@@ -1,6 +1,0 @@
-use Rattle.std.proofs.Common.{◌-◌, refl, arith}
-use Rattle.rule_core.proofs.RowLemmas.{IsOneMore-set_less}
-use Rattle.rule_core.proofs.counters.Counters.take.Goals as goal
-
-pub returns : goal.returns
-returns c = IsOneMore-set_less _ c.args.self.now c.args.row c.args.column c.index_mut.result.now (c.index_mut.result.now - 1) refl refl (omega arith) (omega arith) c.index_mut.ensures.value refl c.requires.there
