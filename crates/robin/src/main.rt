@@ -1,18 +1,12 @@
-//! robin judges and makes schedules of sports leagues: the program, and the call `run` that it makes.
+//! robin judges and makes schedules of sports leagues: the program, which makes the call `run` over the machine's files.
 #![tactic(auto)]
 
-mod circle;
-mod judge;
-mod reply;
-mod report;
-mod run;
-mod status;
 #[cfg(test)]
 mod tests;
-mod words;
 
+use answers::{Status, code};
 use robin_io::{HostShelf, HostSink};
-use status::Status;
+use robin_run::run;
 use std::process::ExitCode;
 use std::{env, io};
 
@@ -39,15 +33,15 @@ fn main(rt: HostRuntime) -> ExitCode {
     let mut words = Vec::new(rt.alloc());
     for word in arguments.skip(1) {
         if words.push(word).is_err() {
-            return ExitCode::from(status::code(Status::Memory));
+            return ExitCode::from(code(Status::Memory));
         }
     }
     let mut shelf = HostShelf::new(&rt);
     let mut out = HostSink::new(io::writer(&rt));
-    let status = run::run(rt.alloc(), &words, &mut shelf, &mut out);
+    let status = run(rt.alloc(), &words, &mut shelf, &mut out);
     if status == Status::Words {
         // The status says it too, so it doesn't matter whether this is written.
         let _ = eprint!(&rt; "{USAGE}");
     }
-    ExitCode::from(status::code(status))
+    ExitCode::from(code(status))
 }

@@ -1,30 +1,17 @@
-//! The season of the circle method.
-use super::{FOUR, HEAD, NO_MORE_CONSTRAINTS, joined, validated, words_of};
-use crate::run::run;
-use crate::status::Status;
+//! The seasons of the circle method.
+use super::words_of;
+use answers::Status;
 use robin_io::{MemShelf, MemSink};
+use robin_run::run;
 use std::alloc::Global;
 use std::test::Fail;
 
-/// The season of four teams, in order.
-pub const FOUR_TEAMS: &str = r#"<?xml version="1.0" encoding="UTF-8"?>
+/// The front of the season of four teams.
+const FRONT: &str = r#"<?xml version="1.0" encoding="UTF-8"?>
 <Solution>
 <Games>
 <ScheduledMatch home="1" away="2" slot="0"/>
-<ScheduledMatch home="3" away="0" slot="0"/>
-<ScheduledMatch home="1" away="3" slot="1"/>
-<ScheduledMatch home="2" away="0" slot="1"/>
-<ScheduledMatch home="0" away="1" slot="2"/>
-<ScheduledMatch home="3" away="2" slot="2"/>
-<ScheduledMatch home="0" away="3" slot="3"/>
-<ScheduledMatch home="2" away="1" slot="3"/>
-<ScheduledMatch home="0" away="2" slot="4"/>
-<ScheduledMatch home="3" away="1" slot="4"/>
-<ScheduledMatch home="1" away="0" slot="5"/>
-<ScheduledMatch home="2" away="3" slot="5"/>
-</Games>
-</Solution>
-"#;
+<ScheduledMatch home="3" "#;
 
 /// How `circle` ends for so many teams, with a sink, and what the sink holds then.
 fn made(alloc: Global, teams: &str, mut out: MemSink) -> Result<(Status, Vec<u8>), Fail> {
@@ -33,18 +20,6 @@ fn made(alloc: Global, teams: &str, mut out: MemSink) -> Result<(Status, Vec<u8>
     let status = run(alloc, &words, &mut shelf, &mut out);
     let text = out.written().to_vec(alloc)?;
     Ok((status, text))
-}
-
-#[test]
-fn four_teams(rt: HostRuntime) -> Result<(), Fail> {
-    let alloc = rt.alloc();
-    let (status, text) = made(alloc, "4", MemSink::new(alloc, 4096, 16)?)?;
-    assert_eq!(rt; status, Status::Yes);
-    assert!(rt; text.as_slice() == FOUR_TEAMS.as_bytes());
-    let league = joined(alloc, &[HEAD, "P", FOUR, NO_MORE_CONSTRAINTS])?;
-    let (status, _) = validated(alloc, league.as_bytes(), &text)?;
-    assert_eq!(rt; status, Status::Yes);
-    Ok(())
 }
 
 #[test]
@@ -66,6 +41,6 @@ fn a_sink_that_fails_at_its_third_put(rt: HostRuntime) -> Result<(), Fail> {
     out.fail_at(3)?;
     let (status, text) = made(alloc, "4", out)?;
     assert_eq!(rt; status, Status::WriteFault);
-    assert!(rt; text.as_slice() == &FOUR_TEAMS.as_bytes()[..128]);
+    assert!(rt; text.as_slice() == FRONT.as_bytes());
     Ok(())
 }

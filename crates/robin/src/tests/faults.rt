@@ -1,89 +1,52 @@
-//! Words that are refused, and stores and sinks that fail.
-use super::examples::{CAPACITY, SHORT};
-use super::{
-    ELEVEN, FOUR, GAMES, HEAD, LAST, NO_MORE_CONSTRAINTS, NO_MORE_GAMES, joined, words_of,
-};
-use crate::run::run;
-use crate::status::Status;
+//! Stores and sinks that fail.
+use super::{TWELVE, league_of_four, season_of, shelf_of, validated};
+use answers::Status;
 use robin_io::{MemShelf, MemSink};
 use std::alloc::Global;
 use std::test::Fail;
 
+/// The constraint of `four-teams.xml`.
+const CAPACITY: &str = r#"<CapacityConstraints>
+<CA1 teams="0" min="0" max="0" mode="H" slots="2;3" type="HARD" penalty="1"/>
+</CapacityConstraints>
+"#;
+
+/// `four-teams-season.txt`.
+const SHORT: &str = r#"teams 4
+slots 6
+mode P
+games 12
+structure pairs 0 cells 0 phases 0
+constraint 1 CA1 HARD penalty 1 sum 2 entries 2
+infeasibility 2
+objective 0
+feasible no
+"#;
+
 /// A store with the files of `four-teams.xml` and its season.
 fn shelf_of_four(alloc: Global) -> Result<MemShelf, Fail> {
-    let league = joined(alloc, &[HEAD, "P", FOUR, CAPACITY, NO_MORE_CONSTRAINTS])?;
-    let season = joined(alloc, &[GAMES, ELEVEN, LAST, NO_MORE_GAMES])?;
-    let mut shelf = MemShelf::new(alloc);
-    shelf.add("instance.xml", league.as_bytes())?;
-    shelf.add("solution.xml", season.as_bytes())?;
-    Ok(shelf)
-}
-
-#[test]
-fn words_that_are_no_command(rt: HostRuntime) -> Result<(), Fail> {
-    let alloc = rt.alloc();
-    let none: [&str; 0] = [];
-    let lists: [&[&str]; 18] = [
-        &none,
-        &["validate"],
-        &["validate", "a.xml"],
-        &["Validate", "a", "b"],
-        &["validate", "a", "b", "c"],
-        &["validate", "-a", "b"],
-        &["validate", "a", "--b"],
-        &["circle"],
-        &["circle", "4", "4"],
-        &["circle", "7"],
-        &["circle", "42"],
-        &["circle", "0"],
-        &["circle", "06"],
-        &["circle", "-4"],
-        &["circle", "+4"],
-        &["circle", "4x"],
-        &["circle", ""],
-        // 2 ^ 64 + 4, which isn't 4.
-        &["circle", "18446744073709551620"],
-    ];
-    for list in lists {
-        let words = words_of(alloc, list)?;
-        let mut shelf = MemShelf::new(alloc);
-        let mut out = MemSink::new(alloc, 4096, 16)?;
-        assert_eq!(rt; run(alloc, &words, &mut shelf, &mut out), Status::Words);
-        assert!(rt; out.written() == b"refused words\n".as_slice());
-    }
-    Ok(())
-}
-
-#[test]
-fn an_absent_file(rt: HostRuntime) -> Result<(), Fail> {
-    let alloc = rt.alloc();
-    let words = words_of(alloc, &["validate", "instance.xml", "absent.xml"])?;
-    let mut shelf = shelf_of_four(alloc)?;
-    let mut out = MemSink::new(alloc, 4096, 16)?;
-    assert_eq!(rt; run(alloc, &words, &mut shelf, &mut out), Status::ReadFault);
-    assert!(rt; out.written() == b"read fault solution\n".as_slice());
-    Ok(())
+    let league = league_of_four(alloc, CAPACITY)?;
+    let season = season_of(alloc, TWELVE)?;
+    shelf_of(alloc, league.as_bytes(), season.as_bytes())
 }
 
 #[test]
 fn a_store_that_fails_at_each_call(rt: HostRuntime) -> Result<(), Fail> {
     let alloc = rt.alloc();
-    let words = words_of(alloc, &["validate", "instance.xml", "solution.xml"])?;
     let mut failed = 0u64;
     for call in 1..20 {
         let mut shelf = shelf_of_four(alloc)?;
         shelf.fail_at(call)?;
-        let mut out = MemSink::new(alloc, 4096, 16)?;
-        let status = run(alloc, &words, &mut shelf, &mut out);
+        let (status, text) = validated(alloc, shelf, MemSink::new(alloc, 4096, 16)?)?;
         if status == Status::No {
-            assert!(rt; out.written() == SHORT.as_bytes());
+            assert!(rt; text.as_slice() == SHORT.as_bytes());
             break;
         }
         assert_eq!(rt; status, Status::ReadFault);
-        let at_instance = out.written() == b"read fault instance\n".as_slice();
-        let at_solution = out.written() == b"read fault solution\n".as_slice();
         // Each file takes a start, a take of all its bytes and a take at its end.
-        assert!(rt; if call <= 3 { at_instance } else { at_solution });
+        let which = if call <= 3 { "instance" } else { "solution" };
+        let expected = format!(in alloc; "read fault {which}\n")?;
+        assert!(rt; text.as_slice() == expected.as_bytes());
         failed = call;
     }
     assert_eq!(rt; failed, 6);
@@ -93,21 +56,19 @@ fn a_store_that_fails_at_each_call(rt: HostRuntime) -> Result<(), Fail> {
 #[test]
 fn a_sink_that_fails_at_each_put(rt: HostRuntime) -> Result<(), Fail> {
     let alloc = rt.alloc();
-    let words = words_of(alloc, &["validate", "instance.xml", "solution.xml"])?;
     let report = SHORT.as_bytes();
     let mut written = 0usize;
     for call in 1..100 {
-        let mut shelf = shelf_of_four(alloc)?;
         let mut out = MemSink::new(alloc, 4096, 16)?;
         out.fail_at(call)?;
-        let status = run(alloc, &words, &mut shelf, &mut out);
+        let (status, text) = validated(alloc, shelf_of_four(alloc)?, out)?;
         if status == Status::No {
-            assert!(rt; out.written() == report);
+            assert!(rt; text.as_slice() == report);
             break;
         }
         assert_eq!(rt; status, Status::WriteFault);
         assert!(rt; written <= report.len());
-        assert!(rt; out.written() == &report[..written]);
+        assert!(rt; text.as_slice() == &report[..written]);
         written += 16;
     }
     // The report has 155 bytes, so ten puts of at most 16.

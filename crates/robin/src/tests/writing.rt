@@ -1,8 +1,25 @@
 //! What the writers write.
-use super::{HEAD, NO_MORE_CONSTRAINTS, TWO, joined};
+use super::{HEAD, NO_MORE_CONSTRAINTS, joined};
 use league::{Class, Constraint, Game, League, PairSet, Schedule, SlotId, SlotSet, TeamId};
 use robinx_write::{instance_text, solution_text};
 use std::test::Fail;
+
+/// An instance file from its game mode up to its constraints, for two teams.
+const TWO: &str = r#"</gameMode>
+</Format>
+</Structure>
+<Resources>
+<Teams>
+<team id="0"/>
+<team id="1"/>
+</Teams>
+<Slots>
+<slot id="0"/>
+<slot id="1"/>
+</Slots>
+</Resources>
+<Constraints>
+"#;
 
 const SEASON: &str = r#"<?xml version="1.0" encoding="UTF-8"?>
 <Solution>

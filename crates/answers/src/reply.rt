@@ -1,0 +1,102 @@
+//! What a run answers, and the answers that refuse.
+ghost use Rattle.std.specs.Prelude.{◌≡◌, IfOk};
+ghost use Rattle.answers.specs.Reply as refusals;
+ghost use Rattle.answers.specs.SeenReply.{answer_of};
+ghost use Rattle.answers.specs.declared.reply.NoValue.TheVariants.{Memory};
+
+use crate::status::Status;
+use robinx_read::FormKind;
+use std::alloc::{AllocError, Global};
+
+/// An answer: how the run ends, and the text that it writes.
+#[derive(Drop)]
+pub struct Reply {
+    pub status: Status,
+    pub text: Vec<u8>,
+}
+
+/// Why a step has no value, so that no later one is taken: the run is refused with this reply, or memory ran out.
+#[derive(Drop)]
+pub enum NoValue {
+    Refused(Reply),
+    Memory,
+}
+
+impl From<AllocError> for NoValue {
+    ghost from_gives = { λ _ e. e ≡ Memory };
+
+    fn from(_: AllocError) -> NoValue {
+        NoValue::Memory
+    }
+}
+
+/// The words are no command.
+pub fn words_refused(alloc: Global) -> Result<Reply, AllocError>
+    ensures { IfOk result (λ reply. answer_of reply ≡ refusals.refused_words) }
+{
+    let text = format!(in alloc; "refused words\n")?;
+    Ok(Reply {
+        status: Status::Words,
+        text: text.into_bytes(),
+    })
+}
+
+/// The store failed at a file.
+pub fn unreadable(alloc: Global, which: &str) -> Result<Reply, AllocError>
+    ensures { IfOk result (λ reply. answer_of reply ≡ refusals.read_fault which.now) }
+{
+    let text = format!(in alloc; "read fault {which}\n")?;
+    Ok(Reply {
+        status: Status::ReadFault,
+        text: text.into_bytes(),
+    })
+}
+
+/// A file has more bytes than its limit.
+pub fn past_limit(alloc: Global, which: &str, limit: usize) -> Result<Reply, AllocError>
+    ensures { IfOk result (λ reply. answer_of reply ≡ refusals.too_long which.now limit) }
+{
+    let text = format!(in alloc; "refused {which} TooLong limit {limit}\n")?;
+    Ok(Reply {
+        status: Status::File,
+        text: text.into_bytes(),
+    })
+}
+
+/// The name of a fault of form.
+fn kind_word(kind: FormKind) -> &'static str
+    ensures { result.now ≡ refusals.kind_word kind }
+{
+    match kind {
+        FormKind::BadTag => "BadTag",
+        FormKind::BadAttribute => "BadAttribute",
+        FormKind::RepeatedAttribute => "RepeatedAttribute",
+        FormKind::TooManyAttributes => "TooManyAttributes",
+        FormKind::Truncated => "Truncated",
+        FormKind::BadNesting => "BadNesting",
+        FormKind::MissingElement => "MissingElement",
+        FormKind::RepeatedElement => "RepeatedElement",
+        FormKind::MissingAttribute => "MissingAttribute",
+        FormKind::BadNumber => "BadNumber",
+        FormKind::NumberTooLarge => "NumberTooLarge",
+        FormKind::UnknownTeam => "UnknownTeam",
+        FormKind::UnknownSlot => "UnknownSlot",
+        FormKind::SameTeam => "SameTeam",
+        FormKind::BadChoice => "BadChoice",
+        FormKind::UnsupportedClass => "UnsupportedClass",
+        FormKind::WrongCounts => "WrongCounts",
+        FormKind::TooMany => "TooMany",
+    }
+}
+
+/// A file has a fault of form of this kind, on this line.
+pub fn malformed(alloc: Global, which: &str, kind: FormKind, line: u32) -> Result<Reply, AllocError>
+    ensures { IfOk result (λ reply. answer_of reply ≡ refusals.malformed which.now kind line) }
+{
+    let kind = kind_word(kind);
+    let text = format!(in alloc; "refused {which} {kind} line {line}\n")?;
+    Ok(Reply {
+        status: Status::File,
+        text: text.into_bytes(),
+    })
+}

@@ -1,0 +1,33 @@
+//! How a run ends, and the exit status that says so.
+ghost use Rattle.std.specs.Prelude.{◌≡◌};
+ghost use Rattle.answers.specs.Status.{status_code};
+
+/// How a run ended.
+#[derive(Clone, Copy, Debug, PartialEq, Eq)]
+pub enum Status {
+    /// The answer is yes: the schedule is accepted.
+    Yes,
+    /// The answer is no: the schedule isn't accepted.
+    No,
+    /// The words of the command line are no command.
+    Words,
+    /// A file is refused.
+    File,
+    /// No schedule meets the hard constraints. No command answers it yet.
+    Refuted,
+    /// A budget is spent. No command answers it yet.
+    Spent,
+    /// A file could not be read.
+    ReadFault,
+    /// The text could not be written whole.
+    WriteFault,
+    /// Memory ran out.
+    Memory,
+}
+
+/// The exit status of the process, from 0 to 8 in the order of `Status`.
+pub fn code(status: Status) -> u8
+    ensures { result ≡ status_code status }
+{
+    status as u8
+}

@@ -1,0 +1,89 @@
+//! The steps that commands have in common: those before the answer, and the last, which writes it.
+ghost use Rattle.std.specs.Prelude.{◌≡◌, ◌≤◌, ℕ, List, Ok, IfOk, codes, length, vec_len};
+ghost use Rattle.std.specs.List.{All};
+ghost use Rattle.robin_io.specs.Counts.{raised, Rose, TookMore};
+ghost use Rattle.robinx_tags.specs.Pieces.{pieces};
+ghost use Rattle.league.specs.Instance.{IsGame};
+ghost use Rattle.robinx_form.specs.InstanceFile.{instance_of};
+ghost use Rattle.robinx_form.specs.SolutionFile.{solution_of};
+ghost use Rattle.answers.specs.SeenReply.{answer_of, IsMalformed, MatchStep};
+ghost use Rattle.answers.specs.Steps.{IsFile, IsUnread, IsWritten};
+
+use crate::reply::{NoValue, Reply, malformed, past_limit, unreadable};
+use crate::status::Status;
+use league::{League, Schedule};
+use robin_io::{Shelf, Sink, TakeFault, put_all, read_all};
+use robinx_read::{INSTANCE_LIMIT, ReadFault, SOLUTION_LIMIT, read_instance, read_solution};
+use std::alloc::Global;
+
+/// Reads a file whole, or answers why it can't be read.
+pub fn file<S: Shelf>(
+    alloc: Global,
+    shelf: &mut S,
+    which: &str,
+    name: &str,
+    limit: usize,
+) -> Result<Vec<u8>, NoValue>
+    requires { limit ≤ 268435456 }
+    ensures step { MatchStep result
+        (λ bytes. IsFile (S.contents shelf.old name.now) limit bytes.items)
+        (IsUnread which.now (S.contents shelf.old name.now) limit
+        (TookMore limit (S.taken shelf.old) (S.taken shelf.new))
+        (Rose (S.faults shelf.old name.now) (S.faults shelf.new name.now))) }
+    ensures count { IfOk result (λ bytes. S.taken shelf.new ≡ raised (S.taken shelf.old) (vec_len bytes)) }
+    ensures risen { S.taken shelf.old ≤ S.taken shelf.new }
+    ensures contents { (n : List ℕ) → S.contents shelf.new n ≡ S.contents shelf.old n }
+    ensures later { (n : List ℕ) → S.faults shelf.old n ≤ S.faults shelf.new n }
+{
+    match read_all(alloc, shelf, name, limit) {
+        Ok(bytes) => Ok(bytes),
+        Err(TakeFault::Failed) => Err(NoValue::Refused(unreadable(alloc, which)?)),
+        Err(TakeFault::TooLong { .. }) => Err(NoValue::Refused(past_limit(alloc, which, limit)?)),
+        Err(TakeFault::Mem) => Err(NoValue::Memory),
+    }
+}
+
+/// The league that an instance file says.
+pub fn league_in(alloc: Global, bytes: &[u8]) -> Result<League, NoValue>
+    requires { length bytes.now ≤ INSTANCE_LIMIT }
+    ensures { MatchStep result
+        (λ league. instance_of (pieces bytes.now) ≡ Ok league)
+        (IsMalformed (codes "instance") (instance_of (pieces bytes.now))) }
+{
+    match read_instance(alloc, bytes) {
+        Ok(league) => Ok(league),
+        Err(ReadFault::Form(fault)) => Err(NoValue::Refused(malformed(
+            alloc, "instance", fault.kind, fault.line,
+        )?)),
+        Err(ReadFault::Mem) => Err(NoValue::Memory),
+    }
+}
+
+/// The schedule of the league that a solution file says.
+pub fn schedule_in(alloc: Global, bytes: &[u8], league: &League) -> Result<Schedule, NoValue>
+    requires { length bytes.now ≤ SOLUTION_LIMIT }
+    ensures says { MatchStep result
+        (λ games. solution_of league.now.n (pieces bytes.now) ≡ Ok games)
+        (IsMalformed (codes "solution") (solution_of league.now.n (pieces bytes.now))) }
+    ensures few { IfOk result (λ games. length games ≤ 10000) }
+    ensures fit { IfOk result (All (IsGame league.now.n)) }
+{
+    match read_solution(alloc, bytes, league) {
+        Ok(schedule) => Ok(schedule),
+        Err(ReadFault::Form(fault)) => Err(NoValue::Refused(malformed(
+            alloc, "solution", fault.kind, fault.line,
+        )?)),
+        Err(ReadFault::Mem) => Err(NoValue::Memory),
+    }
+}
+
+/// Writes the text of an answer, and says how the run ends.
+pub fn write_answer<K: Sink>(out: &mut K, reply: &Reply) -> Status
+    ensures { IsWritten (answer_of reply.now) result (K.written out.old) (K.written out.new)
+        (Rose (K.faults out.old) (K.faults out.new)) }
+{
+    match put_all(out, &reply.text) {
+        Ok(()) => reply.status,
+        Err(_) => Status::WriteFault,
+    }
+}

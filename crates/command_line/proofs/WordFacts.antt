@@ -1,0 +1,43 @@
+-- Worked readings of words, so that a wrong definition does not check.
+use Rattle.std.proofs.Common.{◌≡◌, true, false, [], ◌∷◌, Some, None, codes, refl}
+use Rattle.command_line.specs.Words.{is_file_name, is_shortest, number_in, reading, team_count_in, NeedsNoFile}
+use Rattle.command_line.specs.Words.Command.{Circle, Validate}
+
+-- a number: 0 itself, no leading zero, no sign, no blank, at most 2 ^ 64 - 1
+pub number_in-some : (number_in (codes "0") ≡ Some 0) × (number_in (codes "10") ≡ Some 10) × (number_in (codes "18446744073709551615") ≡ Some 18446744073709551615)
+number_in-some = (refl, refl, refl)
+
+pub number_in-none : (number_in [] ≡ None) × (number_in (codes "00") ≡ None) × (number_in (codes "04") ≡ None) × (number_in (codes "+4") ≡ None) × (number_in (codes "4 ") ≡ None) × (number_in (codes "18446744073709551616") ≡ None)
+number_in-none = (refl, refl, refl, refl, refl, refl)
+
+pub is_shortest-some : (is_shortest [] ≡ true) × (is_shortest (codes "0") ≡ true) × (is_shortest (codes "100") ≡ true) × (is_shortest (codes "01") ≡ false)
+is_shortest-some = (refl, refl, refl, refl)
+
+-- the least and the greatest number of teams, and their neighbours: odd, past the greatest, 0
+pub team_count_in-some : (team_count_in (codes "2") ≡ Some 2) × (team_count_in (codes "40") ≡ Some 40)
+team_count_in-some = (refl, refl)
+
+pub team_count_in-none : (team_count_in (codes "1") ≡ None) × (team_count_in (codes "39") ≡ None) × (team_count_in (codes "42") ≡ None) × (team_count_in (codes "0") ≡ None) × (team_count_in (codes "") ≡ None)
+team_count_in-none = (refl, refl, refl, refl, refl)
+
+-- a file's name is any word that doesn't begin with a hyphen, the empty word and a command's name too
+pub is_file_name-some : (is_file_name [] ≡ true) × (is_file_name (codes "a-") ≡ true) × (is_file_name (codes "-a") ≡ false) × (is_file_name (codes "-") ≡ false)
+is_file_name-some = (refl, refl, refl, refl)
+
+pub validate-names : reading (codes "validate" ∷ codes "" ∷ codes "circle" ∷ []) ≡ Some (Validate [] (codes "circle"))
+validate-names = refl
+
+pub circle-teams : (reading (codes "circle" ∷ codes "2" ∷ []) ≡ Some (Circle 2)) × (reading (codes "circle" ∷ codes "40" ∷ []) ≡ Some (Circle 40))
+circle-teams = (refl, refl)
+
+-- no words, one, too few or too many for a command, an option, another command
+pub reading-none : (reading [] ≡ None) × (reading (codes "circle" ∷ []) ≡ None) × (reading (codes "circle" ∷ codes "4" ∷ codes "4" ∷ []) ≡ None) × (reading (codes "validate" ∷ codes "a" ∷ []) ≡ None) × (reading (codes "validate" ∷ codes "a" ∷ codes "--b" ∷ []) ≡ None) × (reading (codes "validate" ∷ codes "-a" ∷ codes "b" ∷ []) ≡ None) × (reading (codes "Validate" ∷ codes "a" ∷ codes "b" ∷ []) ≡ None) × (reading (codes "Circle" ∷ codes "4" ∷ []) ≡ None)
+reading-none = (refl, refl, refl, refl, refl, refl, refl, refl)
+
+-- a fourth word and a fifth, of which the first three are a command, and a third of which the first two are one
+pub reading-longer : (reading (codes "validate" ∷ codes "a" ∷ codes "b" ∷ codes "c" ∷ []) ≡ None) × (reading (codes "validate" ∷ codes "a" ∷ codes "b" ∷ [] ∷ []) ≡ None) × (reading (codes "validate" ∷ codes "a" ∷ codes "b" ∷ codes "c" ∷ codes "d" ∷ []) ≡ None) × (reading (codes "circle" ∷ codes "4" ∷ [] ∷ []) ≡ None)
+reading-longer = (refl, refl, refl, refl)
+
+-- which words need no file
+pub needs_no_file : NeedsNoFile (reading []) × NeedsNoFile (reading (codes "circle" ∷ codes "4" ∷ [])) × (NeedsNoFile (reading (codes "validate" ∷ codes "a" ∷ codes "b" ∷ [])) → ⊥)
+needs_no_file = (tt, tt, λ h. h)

@@ -1,0 +1,8 @@
+//! The words of the command line, and what they ask for.
+//!
+//! A contract sees the words as a list of texts, of which `specs/Words.antt` has the one reading.
+#![tactic(auto)]
+
+mod words;
+
+pub use words::{Words, read_words};

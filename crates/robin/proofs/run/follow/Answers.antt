@@ -1,4 +1,0 @@
-use Rattle.robin.proofs.run.follow.Goals as goal
-
-pub returns-in-Validate-clause-answer : goal.returns-in-Validate-clause-answer
-returns-in-Validate-clause-answer g c = rw c.in-Validate.is c.validate.ensures.answer

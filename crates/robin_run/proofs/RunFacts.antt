@@ -1,0 +1,23 @@
+-- Worked runs, so that a wrong definition of what a run may answer does not check.
+use Rattle.std.proofs.Common.{◌≡◌, Some, None, codes}
+use Rattle.robinx_tags.specs.declared.fault.FormKind.TheVariants.{BadNesting}
+use Rattle.answers.specs.Reply.{Answer, malformed, refused_words}
+use Rattle.circle_answer.specs.Circle.{circle_season}
+use Rattle.command_line.specs.Words.Command.{Circle, Validate}
+use Rattle.robin_run.specs.Answer.{IsAnswer}
+use Rattle.validate_answer.proofs.ValidateFacts.{contents, never, nowhere, the_answer, validated-fault, validated-one}
+
+-- where nothing fails, the judgement is the one answer to `validate league season`
+pub validate-one : (answer : Answer) → IsAnswer (Some (Validate (codes "league") (codes "season"))) contents never nowhere answer → answer ≡ the_answer
+validate-one answer h = validated-one answer h
+
+-- where the first file has a fault, this is the one answer
+pub validate-fault : (answer : Answer) → IsAnswer (Some (Validate (codes "season") (codes "league"))) contents never nowhere answer → answer ≡ malformed (codes "instance") BadNesting 1
+validate-fault answer h = validated-fault answer h
+
+-- refused words, and `circle`
+pub words-one : (answer : Answer) → IsAnswer None contents never nowhere answer → answer ≡ refused_words
+words-one answer h = h
+
+pub circle-one : (answer : Answer) → IsAnswer (Some (Circle 2)) contents never nowhere answer → answer ≡ circle_season 2
+circle-one answer h = h

@@ -1,0 +1,4 @@
+use Rattle.robin_run.proofs.call.follow.Goals as goal
+
+pub returns-in-Validate-clause-answer : goal.returns-in-Validate-clause-answer
+returns-in-Validate-clause-answer g c = rw c.in-Validate.is c.validate.ensures.answer

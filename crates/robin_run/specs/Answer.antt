@@ -1,0 +1,15 @@
+-- What a run may answer.
+use Rattle.std.specs.Prelude.{◌≡◌, ℕ, List, Option, None, Some}
+use Rattle.answers.specs.Reply.{refused_words}
+use Rattle.answers.specs.Steps.{Outcome}
+use Rattle.circle_answer.specs.Circle.{circle_season}
+use Rattle.command_line.specs.Words.{Command}
+use Rattle.command_line.specs.Words.Command.{Validate, Circle}
+use Rattle.validate_answer.specs.Validate.{validated}
+
+-- the answer to the words
+abbrev pub IsAnswer : Option Command → (List ℕ → Option (List ℕ)) → (ℕ → Type 0) → (List ℕ → Type 0) → Outcome
+IsAnswer None contents took_more failed answer = answer ≡ refused_words
+IsAnswer (Some (Validate instance solution)) contents took_more failed answer =
+    validated contents took_more failed instance solution answer
+IsAnswer (Some (Circle n)) contents took_more failed answer = answer ≡ circle_season n

@@ -1,0 +1,100 @@
+//! The call that the program makes: the words, the command's steps, and the answer written.
+ghost use Rattle.std.specs.Prelude.{◌≡◌, ◌≢◌, ℕ, List, IfOk, map, string_bytes};
+ghost use Rattle.std.specs.Io.KnownBytes.{Keeps};
+ghost use Rattle.robin_io.specs.Counts.{Rose, TookMore};
+ghost use Rattle.league.specs.Instance.{Instance};
+ghost use Rattle.league.specs.declared.game.Game.{Game};
+ghost use Rattle.command_line.specs.SeenWords.{command_of};
+ghost use Rattle.command_line.specs.Words.{reading, HasTeams, NeedsNoFile};
+ghost use Rattle.command_line.specs.Words.Command.{Validate};
+ghost use Rattle.answers.specs.Reply.{Answer};
+ghost use Rattle.answers.specs.SeenReply.{answer_of};
+ghost use Rattle.answers.specs.Steps.{IsWritten};
+ghost use Rattle.validate_answer.specs.Validate.{IsJudged, IsWellFormedPair};
+ghost use Rattle.robin_run.specs.Answer.{IsAnswer};
+
+use answers::{Reply, Status, words_refused, write_answer};
+use circle_answer::circle;
+use command_line::{Words, read_words};
+use robin_io::{Shelf, Sink};
+use std::alloc::{AllocError, Global};
+use validate_answer::validate;
+
+/// Follows a command.
+fn follow<S: Shelf>(alloc: Global, command: Words, shelf: &mut S) -> Result<Reply, AllocError>
+    requires { HasTeams (command_of command) }
+    ensures answer { IfOk result (λ reply. IsAnswer (Some (command_of command.entry)) (S.contents shelf.old)
+        (λ limit. TookMore limit (S.taken shelf.old) (S.taken shelf.new))
+        (λ name. Rose (S.faults shelf.old name) (S.faults shelf.new name))
+        (answer_of reply)) }
+    ensures contents { (n : List ℕ) → S.contents shelf.new n ≡ S.contents shelf.old n }
+    ensures untouched { NeedsNoFile (Some (command_of command.entry)) → shelf.new ≡ shelf.old }
+{
+    match command {
+        Words::Validate { instance, solution } => validate(alloc, shelf, instance, solution),
+        Words::Circle { n } => circle(alloc, n),
+    }
+}
+
+/// The answer to the words, or want of memory.
+fn answer<S: Shelf>(alloc: Global, words: &[String], shelf: &mut S) -> Result<Reply, AllocError>
+    ensures answer { IfOk result (λ reply. IsAnswer (reading (map string_bytes words.now)) (S.contents shelf.old)
+        (λ limit. TookMore limit (S.taken shelf.old) (S.taken shelf.new))
+        (λ name. Rose (S.faults shelf.old name) (S.faults shelf.new name))
+        (answer_of reply)) }
+    ensures contents { (n : List ℕ) → S.contents shelf.new n ≡ S.contents shelf.old n }
+    ensures untouched { NeedsNoFile (reading (map string_bytes words.now)) → shelf.new ≡ shelf.old }
+{
+    match read_words(words) {
+        None => words_refused(alloc),
+        Some(command) => follow(alloc, command, shelf),
+    }
+}
+
+/// Runs the command that the words name, over a store of files, writes its text to `out`, and says how the run ends.
+///
+/// `words` are the words of the command line without the program's name. `validate INSTANCE SOLUTION` judges the
+/// season of one file by the league of the other, `circle N` makes a season, and any other words are refused. The
+/// whole text is made before its first byte is written.
+///
+/// - `answer` needs nothing of the store, of the sink or of the files: whatever they do, the answer is one of those
+///   that are allowed for the words and the files, and each refusal has its cause.
+/// - `judged` is for a store that tells the bytes of both files (one in memory does, that of the machine doesn't):
+///   where the words are `validate` and their names, both are within their limits and well-formed, and neither the
+///   store at these two names nor the sink fails in this call, the judgement is written whole.
+/// - That a count of faults rose says that it is larger after this call, or that it stands at its last value,
+///   2^64 - 1.
+/// - Memory may run out at any time, and then nothing is written. Nothing is said of which files were read then.
+pub fn run<S: Shelf, K: Sink>(alloc: Global, words: &[String], shelf: &mut S, out: &mut K) -> Status
+    // Unless memory runs out, some answer to these words over these files is written.
+    ensures answer { result ≢ Status.Memory → (answer : Answer)
+        × IsAnswer (reading (map string_bytes words.now)) (S.contents shelf.old)
+        (λ limit. TookMore limit (S.taken shelf.old) (S.taken shelf.new))
+        (λ name. Rose (S.faults shelf.old name) (S.faults shelf.new name))
+        answer
+        × IsWritten answer result (K.written out.old) (K.written out.new)
+        (Rose (K.faults out.old) (K.faults out.new)) }
+
+    // Two well-formed files, at which nothing fails, are judged, unless memory runs out.
+    ensures judged { (instance solution : List ℕ) (league : Instance) (games : List Game)
+        → reading (map string_bytes words.now) ≡ Some (Validate instance solution)
+        → IsWellFormedPair (S.contents shelf.old) (λ name. Rose (S.faults shelf.old name) (S.faults shelf.new name))
+        instance solution league games
+        → (Rose (K.faults out.old) (K.faults out.new) → ⊥)
+        → result ≢ Status.Memory
+        → IsJudged league games result (K.written out.old) (K.written out.new) }
+
+    // The files keep their contents, whatever the answer.
+    ensures contents { (n : List ℕ) → S.contents shelf.new n ≡ S.contents shelf.old n }
+
+    // Refused words, and `circle`, leave the whole store as it was.
+    ensures untouched { NeedsNoFile (reading (map string_bytes words.now)) → shelf.new ≡ shelf.old }
+
+    // Where memory ran out, nothing is written.
+    ensures memory { result ≡ Status.Memory → Keeps (K.written out.old) (K.written out.new) }
+{
+    match answer(alloc, words, shelf) {
+        Ok(reply) => write_answer(out, &reply),
+        Err(AllocError) => Status::Memory,
+    }
+}

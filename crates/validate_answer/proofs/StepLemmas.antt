@@ -1,0 +1,42 @@
+-- How the steps of `validate` make an answer.
+use Rattle.std.proofs.Common.{◌≡◌, ℕ, ◌+◌, List, length, Option, Result, Ok, Err, codes, inl, inr, subst, sym}
+use Rattle.league.specs.Instance.{Instance}
+use Rattle.robinx_tags.specs.Pieces.{pieces}
+use Rattle.robinx_form.specs.InstanceFile.{instance_of}
+use Rattle.robinx_form.specs.SolutionFile.{solution_of}
+use Rattle.robinx_form.specs.Walk.{Fault}
+use Rattle.robinx_read.specs.declared.instance.TheConstants.{INSTANCE_LIMIT, SOLUTION_LIMIT}
+use Rattle.answers.specs.Reply.{Answer}
+use Rattle.answers.specs.SeenReply.{Answers}
+use Rattle.answers.specs.Steps.{Outcome, IsFile, IsUnread, reads, says}
+use Rattle.answers.specs.declared.reply.Reply.{Reply}
+use Rattle.answers.specs.declared.reply.NoValue.{NoValue}
+use Rattle.answers.specs.declared.reply.NoValue.TheVariants.{Refused, Memory}
+use Rattle.validate_answer.specs.Validate.{IsJudgement, validated}
+
+-- answers of one kind are of another, where this follows for each
+pub Answers-wider : (narrow wide : Outcome) → ((answer : Answer) → narrow answer → wide answer) → (result : Result Reply NoValue) → Answers narrow result → Answers wide result
+Answers-wider narrow wide wider (Ok reply) given = wider _ given
+Answers-wider narrow wide wider (Err (Refused reply)) given = wider _ given
+Answers-wider narrow wide wider (Err Memory) given = tt
+
+-- what a file says is taken
+says-value : {A : Type 0} (which : List ℕ) (said : Result A Fault) (x : A) (next : A → Outcome) (answer : Answer) → said ≡ Ok x → next x answer → says which said next answer
+says-value which said x next answer is after = subst (λ r. says which r next answer) (sym is) after
+
+-- the first file is read and says a league: what is answered at the second is the answer
+after-first : (contents : List ℕ → Option (List ℕ)) (took_more : ℕ → Type 0) (failed : List ℕ → Type 0) (instance solution first : List ℕ) (league : Instance) → IsFile (contents instance) INSTANCE_LIMIT first → instance_of (pieces first) ≡ Ok league
+    → (answer : Answer) → reads (codes "solution") (contents solution) SOLUTION_LIMIT (took_more (length first + SOLUTION_LIMIT)) (failed solution) (λ bytes. says (codes "solution") (solution_of league.n (pieces bytes)) (IsJudgement league)) answer → validated contents took_more failed instance solution answer
+after-first contents took_more failed instance solution first league is_first says_league answer rest =
+    inl (first, is_first, says-value (codes "instance") (instance_of (pieces first)) league (λ l. reads (codes "solution") (contents solution) SOLUTION_LIMIT (took_more (length first + SOLUTION_LIMIT)) (failed solution) (λ bytes. says (codes "solution") (solution_of l.n (pieces bytes)) (IsJudgement l))) answer says_league rest)
+
+-- the second file isn't read
+pub validated-unread : (contents : List ℕ → Option (List ℕ)) (took_more : ℕ → Type 0) (failed : List ℕ → Type 0) (instance solution first : List ℕ) (league : Instance) → IsFile (contents instance) INSTANCE_LIMIT first → instance_of (pieces first) ≡ Ok league
+    → (answer : Answer) → IsUnread (codes "solution") (contents solution) SOLUTION_LIMIT (took_more (length first + SOLUTION_LIMIT)) (failed solution) answer → validated contents took_more failed instance solution answer
+validated-unread contents took_more failed instance solution first league is_first says_league answer unread = after-first contents took_more failed instance solution first league is_first says_league answer (inr unread)
+
+-- both files are read, and the first says a league: the rest is the answer to the second
+pub validated-last : (contents : List ℕ → Option (List ℕ)) (took_more : ℕ → Type 0) (failed : List ℕ → Type 0) (instance solution first second : List ℕ) (league : Instance) → IsFile (contents instance) INSTANCE_LIMIT first → instance_of (pieces first) ≡ Ok league → IsFile (contents solution) SOLUTION_LIMIT second
+    → (answer : Answer) → says (codes "solution") (solution_of league.n (pieces second)) (IsJudgement league) answer → validated contents took_more failed instance solution answer
+validated-last contents took_more failed instance solution first second league is_first says_league is_second answer last =
+    after-first contents took_more failed instance solution first league is_first says_league answer (inl (second, is_second, last))

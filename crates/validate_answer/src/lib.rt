@@ -1,0 +1,9 @@
+//! What `validate` answers: the judgement of a schedule by a league, as a report.
+//!
+//! A contract sees the answer by the steps of `specs/Validate.antt`, and the judgement by the definitions of `league`.
+#![tactic(auto)]
+
+mod judge;
+mod steps;
+
+pub use steps::validate;
