@@ -1,6 +1,6 @@
 -- Worked examples of all classes on a schedule that is no round robin, so that a wrong definition does not check. The
 -- reasoning stands beside each: it was done by hand from the table in docs/DEFINITIONS.md.
-use Rattle.std.proofs.Common.{◌≡◌, ℕ, true, false, List, [], ◌∷◌, map, refl, arith}
+use Rattle.std.proofs.Common.{◌≡◌, ℕ, true, false, List, [], ◌∷◌, refl, arith}
 use Rattle.league.specs.Accepted.{infeasibility, objective, IsAccepted}
 use Rattle.league.specs.Counts.{Counts, counts_of}
 use Rattle.league.specs.Deviation.{vector_of}

@@ -16,7 +16,7 @@ use Rattle.league.proofs.RangeLemmas.{one_if, one_if-le}
 use Rattle.league.proofs.SumLemmas.{sum_by-same}
 
 -- the number that a test makes
-from_bool-is : (b : Bool) → from_bool b ≡ one_if b
+pub from_bool-is : (b : Bool) → from_bool b ≡ one_if b
 from_bool-is true = refl
 from_bool-is false = refl
 

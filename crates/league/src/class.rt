@@ -2,7 +2,7 @@
 ghost use Rattle.std.specs.Prelude.{◌≡◌, IfOk, IsTrue, codes};
 ghost use Rattle.league.specs.Instance.{class_fits, are_teams, are_slots, are_meetings, is_one_side};
 ghost use Rattle.league.specs.Names.{name_of, name_text};
-ghost use Rattle.league.specs.Shapes.{has_one_set, has_opponents_in_slots};
+ghost use Rattle.league.specs.Shapes.{has_no_side, has_opponents, is_on_a_side};
 
 use crate::pair_set::PairSet;
 use crate::slot_set::SlotSet;
@@ -152,40 +152,75 @@ impl Class {
         ensures { IfOk result (λ copy. copy ≡ self.now) }
     {
         match self {
-            Class::Ca2 { .. } | Class::Ca4 { .. } => self.copy_of_opponents(),
-            Class::Ca3 {
+            Class::Ca1 { .. } | Class::Br1 { .. } => self.copy_on_a_side(),
+            Class::Ca2 { .. } | Class::Ca3 { .. } => self.copy_of_opponents(),
+            Class::Ca4 {
                 teams1,
                 teams2,
                 min,
                 max,
-                intp,
                 side,
-            } => Ok(Class::Ca3 {
-                teams1: teams1.copy()?,
-                teams2: teams2.copy()?,
-                min: *min,
-                max: *max,
-                intp: *intp,
-                side: *side,
-            }),
-            Class::Ga1 {
-                meetings,
-                min,
-                max,
+                span,
                 slots,
-            } => Ok(Class::Ga1 {
-                meetings: meetings.copy()?,
-                min: *min,
-                max: *max,
-                slots: slots.copy()?,
-            }),
-            _ => self.copy_of_one_set(),
+            } => {
+                let (teams1, teams2, slots) = copy_three(teams1, teams2, slots)?;
+                Ok(Class::Ca4 {
+                    teams1,
+                    teams2,
+                    min: *min,
+                    max: *max,
+                    side: *side,
+                    span: *span,
+                    slots,
+                })
+            }
+            _ => self.copy_without_a_side(),
         }
     }
 
-    /// An equal class, of one that sets teams against teams in some slots.
+    /// An equal class, of one that speaks of some teams on a side in some slots.
+    fn copy_on_a_side(&self) -> Result<Class, AllocError>
+        requires { IsTrue (is_on_a_side self.now) }
+        ensures { IfOk result (λ copy. copy ≡ self.now) }
+    {
+        match self {
+            Class::Ca1 {
+                teams,
+                min,
+                max,
+                side,
+                slots,
+            } => {
+                let (teams, slots) = copy_two(teams, slots)?;
+                Ok(Class::Ca1 {
+                    teams,
+                    min: *min,
+                    max: *max,
+                    side: *side,
+                    slots,
+                })
+            }
+            Class::Br1 {
+                teams,
+                intp,
+                side,
+                slots,
+            } => {
+                let (teams, slots) = copy_two(teams, slots)?;
+                Ok(Class::Br1 {
+                    teams,
+                    intp: *intp,
+                    side: *side,
+                    slots,
+                })
+            }
+            _ => unreachable!(),
+        }
+    }
+
+    /// An equal class, of one that sets teams against teams and has no span.
     fn copy_of_opponents(&self) -> Result<Class, AllocError>
-        requires { IsTrue (has_opponents_in_slots self.now) }
+        requires { IsTrue (has_opponents self.now) }
         ensures { IfOk result (λ copy. copy ≡ self.now) }
     {
         match self {
@@ -196,75 +231,69 @@ impl Class {
                 max,
                 side,
                 slots,
-            } => Ok(Class::Ca2 {
-                teams1: teams1.copy()?,
-                teams2: teams2.copy()?,
-                min: *min,
-                max: *max,
-                side: *side,
-                slots: slots.copy()?,
-            }),
-            Class::Ca4 {
+            } => {
+                let (teams1, teams2, slots) = copy_three(teams1, teams2, slots)?;
+                Ok(Class::Ca2 {
+                    teams1,
+                    teams2,
+                    min: *min,
+                    max: *max,
+                    side: *side,
+                    slots,
+                })
+            }
+            Class::Ca3 {
                 teams1,
                 teams2,
                 min,
                 max,
+                intp,
                 side,
-                span,
-                slots,
-            } => Ok(Class::Ca4 {
-                teams1: teams1.copy()?,
-                teams2: teams2.copy()?,
-                min: *min,
-                max: *max,
-                side: *side,
-                span: *span,
-                slots: slots.copy()?,
-            }),
+            } => {
+                let (teams1, teams2) = copy_teams(teams1, teams2)?;
+                Ok(Class::Ca3 {
+                    teams1,
+                    teams2,
+                    min: *min,
+                    max: *max,
+                    intp: *intp,
+                    side: *side,
+                })
+            }
             _ => unreachable!(),
         }
     }
 
-    /// An equal class, of one that speaks of one set of teams.
-    fn copy_of_one_set(&self) -> Result<Class, AllocError>
-        requires { IsTrue (has_one_set self.now) }
+    /// An equal class, of one without a side.
+    fn copy_without_a_side(&self) -> Result<Class, AllocError>
+        requires { IsTrue (has_no_side self.now) }
         ensures { IfOk result (λ copy. copy ≡ self.now) }
     {
         match self {
-            Class::Ca1 {
-                teams,
+            Class::Ga1 {
+                meetings,
                 min,
                 max,
-                side,
                 slots,
-            } => Ok(Class::Ca1 {
-                teams: teams.copy()?,
-                min: *min,
-                max: *max,
-                side: *side,
-                slots: slots.copy()?,
-            }),
-            Class::Br1 {
-                teams,
-                intp,
-                side,
-                slots,
-            } => Ok(Class::Br1 {
-                teams: teams.copy()?,
-                intp: *intp,
-                side: *side,
-                slots: slots.copy()?,
-            }),
-            Class::Br2 { teams, intp, slots } => Ok(Class::Br2 {
-                teams: teams.copy()?,
-                intp: *intp,
-                slots: slots.copy()?,
-            }),
-            Class::Fa2 { teams, intp, slots } => Ok(Class::Fa2 {
-                teams: teams.copy()?,
-                intp: *intp,
-                slots: slots.copy()?,
-            }),
+            } => {
+                let slots = slots.copy()?;
+                Ok(Class::Ga1 {
+                    meetings: meetings.copy()?,
+                    min: *min,
+                    max: *max,
+                    slots,
+                })
+            }
+            Class::Br2 { teams, intp, slots } => {
+                let (teams, slots) = copy_two(teams, slots)?;
+                let intp = *intp;
+                Ok(Class::Br2 { teams, intp, slots })
+            }
+            Class::Fa2 { teams, intp, slots } => {
+                let (teams, slots) = copy_two(teams, slots)?;
+                let intp = *intp;
+                Ok(Class::Fa2 { teams, intp, slots })
+            }
             Class::Se1 { teams, min } => Ok(Class::Se1 {
                 teams: teams.copy()?,
                 min: *min,
@@ -272,6 +301,36 @@ impl Class {
             _ => unreachable!(),
         }
     }
+}
+
+/// Equal sets of teams and of slots. A class is made of copies that are all there, so that no way out holds some.
+fn copy_two(teams: &TeamSet, slots: &SlotSet) -> Result<(TeamSet, SlotSet), AllocError>
+    ensures teams { IfOk result (λ copies. copies.0 ≡ teams.now) }
+    ensures slots { IfOk result (λ copies. copies.1 ≡ slots.now) }
+{
+    Ok((teams.copy()?, slots.copy()?))
+}
+
+/// Equal sets of teams.
+fn copy_teams(teams1: &TeamSet, teams2: &TeamSet) -> Result<(TeamSet, TeamSet), AllocError>
+    ensures teams1 { IfOk result (λ copies. copies.0 ≡ teams1.now) }
+    ensures teams2 { IfOk result (λ copies. copies.1 ≡ teams2.now) }
+{
+    Ok((teams1.copy()?, teams2.copy()?))
+}
+
+/// Equal sets of teams, and of slots.
+fn copy_three(
+    teams1: &TeamSet,
+    teams2: &TeamSet,
+    slots: &SlotSet,
+) -> Result<(TeamSet, TeamSet, SlotSet), AllocError>
+    ensures teams1 { IfOk result (λ copies. copies.0 ≡ teams1.now) }
+    ensures teams2 { IfOk result (λ copies. copies.1 ≡ teams2.now) }
+    ensures slots { IfOk result (λ copies. copies.2 ≡ slots.now) }
+{
+    let (teams1, teams2) = copy_teams(teams1, teams2)?;
+    Ok((teams1, teams2, slots.copy()?))
 }
 
 /// A constraint of a league: hard or soft, with the penalty for each unit of its deviation.

@@ -1,4 +1,5 @@
--- The fewest breaks (de Werra): two teams that meet differ in the slot of their game, and so of three teams without a break two would be one.
+-- The fewest breaks (de Werra): two teams that meet differ in the slot of their game, and so of three teams without a
+-- break two would be one.
 use Rattle.std.proofs.Common.{◌≡◌, ℕ, zero, suc, ◌+◌, ◌-◌, ◌<◌, ◌≤◌, Bool, true, ◌&&◌, ◌==◌, nat_lt, List, [], ◌∷◌, get_or, arith, ap, sym, ◌∙◌, inl, inr}
 use Rattle.std.specs.Prelude.{◌⊎◌}
 use Rattle.std.proofs.lemmas.Bool.Decides.{nat_tests}

@@ -1,5 +1,5 @@
 -- What a pattern's letters and a table of home games say.
-use Rattle.std.proofs.Common.{◌≡◌, ℕ, ◌+◌, ◌-◌, ◌<◌, ◌≤◌, Bool, true, false, ◌&&◌, ◌==◌, List, [], ◌∷◌, ◌++◌, map, length, get_or, take, Some, refl, arith, sym, ap, subst, ◌∙◌}
+use Rattle.std.proofs.Common.{◌≡◌, ℕ, ◌+◌, ◌-◌, ◌<◌, ◌≤◌, Bool, ◌&&◌, ◌==◌, List, [], ◌∷◌, ◌++◌, map, length, get_or, take, Some, arith, sym, ap, subst, ◌∙◌}
 use Rattle.std.specs.Prelude.{slice_get}
 use Rattle.std.proofs.lemmas.List.{take_all, take_more}
 use Rattle.std.proofs.lemmas.List.Elements.{All-weaker}
@@ -17,15 +17,11 @@ use Rattle.league.specs.declared.game.Game.{Game}
 use Rattle.league.proofs.ListLemmas.{map-same}
 use Rattle.league.proofs.CountLemmas.{home_games-push}
 use Rattle.league.proofs.RangeLemmas.{one_if, one_if-le}
+use Rattle.league.proofs.WrongLemmas.{from_bool-is}
 use Rattle.circle_method.specs.SingleRoundRobin.{IsSingleGame, IsSingleRoundRobin}
 use Rattle.patterns.specs.Pattern.{has_break, is_repeat}
 use Rattle.patterns.specs.PatternSet.{letter_of, pattern_in, side_with}
 use Rattle.patterns.specs.HomeTable.{table_pattern}
-
--- the number that a test makes
-from_bool-is : (b : Bool) → from_bool b ≡ one_if b
-from_bool-is true = refl
-from_bool-is false = refl
 
 -- a break, by the letters that were read
 pub has_break-read : (pattern : List Side) (s : ℕ) (before side : Side) (again : Bool) (found : ℕ) → slice_get pattern (s - 1) ≡ Some before → slice_get pattern s ≡ Some side → again ≡ is_repeat before side → found ≡ from_bool again → found ≡ one_if (has_break pattern s)

@@ -12,7 +12,7 @@ use Rattle.circle_method.specs.Circle.{single_games}
 abbrev pub side_with : ℕ → Side
 side_with home = if nat_lt 0 home then H else A
 
--- where team i plays in slot s, of a schedule in which it has exactly one game there
+-- where team i plays in slot s: at home where it has at least one home game there
 abbrev pub letter_of : ℕ → Counts → ℕ → ℕ → Side
 letter_of n m i s = side_with (home_games n m i s)
 

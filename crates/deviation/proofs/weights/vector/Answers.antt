@@ -1,6 +1,5 @@
-use Rattle.std.proofs.Common.{◌≡◌, ◌≤◌, List, ℕ, length, ap, arith}
+use Rattle.std.proofs.Common.{length, ap, arith}
 use Rattle.std.proofs.lemmas.Result.{IfOk-weaker}
-use Rattle.league.specs.Deviation.{vector_of}
 use Rattle.cells.specs.Table.{table_counts}
 use Rattle.deviation.proofs.EntryLemmas.{vector-by_entries}
 use Rattle.deviation.proofs.weights.vector.Goals as goal
