@@ -1,9 +1,6 @@
 //! robin judges and makes schedules of sports leagues: the program, which makes the call `run` over the machine's files.
 #![tactic(auto)]
 
-#[cfg(test)]
-mod tests;
-
 use answers::{Status, code};
 use robin_io::{HostShelf, HostSink};
 use robin_run::run;
@@ -25,23 +22,35 @@ status 0 accepted, or made    1 not accepted          2 these words are refused
        8 no memory           10 the words can't be read (they aren't UTF-8, say)
 "#;
 
-/// Runs robin over the machine's files and its standard output.
-fn main(rt: HostRuntime) -> ExitCode {
-    let Ok(arguments) = env::args(&rt) else {
-        return ExitCode::from(NO_ARGUMENTS);
+/// The words of the command line without the program's name, or the exit status where there are none.
+fn words_of(rt: &HostRuntime) -> Result<Vec<String>, u8> {
+    let Ok(arguments) = env::args(rt) else {
+        return Err(NO_ARGUMENTS);
     };
     let mut words = Vec::new(rt.alloc());
     for word in arguments.skip(1) {
         if words.push(word).is_err() {
-            return ExitCode::from(code(Status::Memory));
+            return Err(code(Status::Memory));
         }
     }
-    let mut shelf = HostShelf::new(&rt);
-    let mut out = HostSink::new(io::writer(&rt));
-    let status = run(rt.alloc(), &words, &mut shelf, &mut out);
+    Ok(words)
+}
+
+/// Runs the command over the machine's files and its standard output, and gives the exit status.
+fn status_of(rt: &HostRuntime, words: &[String]) -> u8 {
+    let mut shelf = HostShelf::new(rt);
+    let mut out = HostSink::new(io::writer(rt));
+    let status = run(rt.alloc(), words, &mut shelf, &mut out);
     if status == Status::Words {
         // The status says it too, so it doesn't matter whether this is written.
-        let _ = eprint!(&rt; "{USAGE}");
+        let _ = eprint!(rt; "{USAGE}");
     }
-    ExitCode::from(code(status))
+    code(status)
+}
+
+fn main(rt: HostRuntime) -> ExitCode {
+    match words_of(&rt) {
+        Ok(words) => ExitCode::from(status_of(&rt, &words)),
+        Err(status) => ExitCode::from(status),
+    }
 }
