@@ -1,8 +1,8 @@
 -- The exit status that says how a run ended.
 use Rattle.std.specs.Prelude.{ℕ}
 use Rattle.answers.specs.declared.status.Status.{Status}
-use Rattle.answers.specs.declared.status.Status.TheVariants.{Yes, No, Words, File, Refuted, Spent, ReadFault, WriteFault}
-use Rattle.answers.specs.declared.status.Status.TheVariants.{Memory}
+use Rattle.answers.specs.declared.status.Status.TheVariants.{Yes, No, Words, File, Refuted, Spent, ReadFault}
+use Rattle.answers.specs.declared.status.Status.TheVariants.{WriteFault, Memory}
 
 -- the exit status
 abbrev pub status_code : Status → ℕ

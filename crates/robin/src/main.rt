@@ -1,4 +1,4 @@
-//! robin judges and makes schedules of sports leagues: the program, which makes the call `run` over the machine's files.
+//! robin judges and makes schedules of sports leagues: the program, which calls `run` over the machine's files.
 #![tactic(auto)]
 
 use answers::{Status, code};
