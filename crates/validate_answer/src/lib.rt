@@ -4,6 +4,6 @@
 #![tactic(auto)]
 
 mod judge;
-mod steps;
+mod stages;
 
-pub use steps::validate;
+pub use stages::validate;

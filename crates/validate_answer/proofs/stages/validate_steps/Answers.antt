@@ -3,7 +3,7 @@ use Rattle.robin_io.specs.Counts.{Rose, TookMore}
 use Rattle.robinx_read.specs.declared.instance.TheConstants.{INSTANCE_LIMIT, SOLUTION_LIMIT}
 use Rattle.answers.specs.Steps.{IsFile, IsUnread}
 use Rattle.validate_answer.proofs.StepLemmas.{Answers-wider, validated-last, validated-unread}
-use Rattle.validate_answer.proofs.steps.validate_steps.Goals as goal
+use Rattle.validate_answer.proofs.stages.validate_steps.Goals as goal
 
 -- the second file has the contents that it had before the first was read
 pub returns-clause-answer : goal.returns-clause-answer
