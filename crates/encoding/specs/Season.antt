@@ -7,7 +7,7 @@ use Rattle.league.specs.Meetings.{meetings_of, pairs_of}
 use Rattle.league.specs.Structure.{first_half}
 use Rattle.league.specs.declared.class.Side.TheVariants.{H, Both}
 use Rattle.rows.specs.Cardinality.{at_least, exactly, unit}
-use Rattle.rows.specs.Literals.{negate, no, yes}
+use Rattle.rows.specs.Literals.{Literal, negate, no, yes}
 use Rattle.rows.specs.Rows.{Row}
 use Rattle.encoding.specs.Lists.{after_first, at_home_in, games_in, meetings_in_order}
 use Rattle.encoding.specs.Variables.{ab_var, h_var, hb_var}
