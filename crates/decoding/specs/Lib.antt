@@ -1,0 +1,2 @@
+-- What a reader of a claim must believe:
+-- Kept inside (laws, and how fields are seen):

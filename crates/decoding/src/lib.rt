@@ -1,0 +1,3 @@
+//! A league's encoding is faithful both ways: the shadow of an accepted schedule satisfies its rows, and an assignment
+//! that satisfies them decodes to an accepted schedule.
+#![tactic(auto)]
