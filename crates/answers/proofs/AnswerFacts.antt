@@ -1,11 +1,11 @@
--- Worked statuses, texts that refuse, and steps, so that a wrong definition does not check.
+-- Worked statuses, texts that refuse, and stages, so that a wrong definition does not check.
 use Rattle.std.proofs.Common.{◌≡◌, ℕ, ◌<◌, ◌≤◌, List, [], ◌∷◌, Some, None, codes, arith, inl, inr, refl}
 use Rattle.std.specs.Fmt.{digits}
 use Rattle.robinx_read.specs.declared.instance.TheConstants.{INSTANCE_LIMIT, SOLUTION_LIMIT}
 use Rattle.robinx_tags.specs.declared.fault.FormKind.TheVariants.{BadTag, BadAttribute, RepeatedAttribute, TooManyAttributes, Truncated, BadNesting, MissingElement, RepeatedElement, MissingAttribute, BadNumber, NumberTooLarge, UnknownTeam, UnknownSlot, SameTeam, BadChoice, UnsupportedClass, WrongCounts, TooMany}
 use Rattle.answers.specs.Reply.{Answer, kind_word, malformed, read_fault, refused_words, too_long}
 use Rattle.answers.specs.Status.{status_code}
-use Rattle.answers.specs.Steps.{IsFile, IsUnread, IsWritten}
+use Rattle.answers.specs.Stages.{IsFile, IsUnread, IsWritten}
 use Rattle.answers.specs.declared.status.Status.{Status}
 use Rattle.answers.specs.declared.status.Status.TheVariants.{Yes, No, Words, File, Refuted, Spent, ReadFault, WriteFault, Memory}
 

@@ -1,6 +1,6 @@
 -- What a reader of a claim must believe:
 pub mod Status
 pub mod Reply
-pub mod Steps
+pub mod Stages
 -- Kept inside (laws, and how fields are seen):
 pub mod SeenReply

@@ -1,13 +1,13 @@
-//! What a run answers: how it ends and the text that it writes, the answers that refuse, and the steps that commands
+//! What a run answers: how it ends and the text that it writes, the answers that refuse, and the stages that commands
 //! have in common, which read a file and write the answer.
 //!
-//! A contract sees an answer as its status and its bytes. `specs/Steps.antt` says what a step before the answer is.
+//! A contract sees an answer as its status and its bytes. `specs/Stages.antt` says what a stage before the answer is.
 #![tactic(auto)]
 
 mod reply;
 mod status;
-mod steps;
+mod stages;
 
 pub use reply::{NoValue, Reply, malformed, past_limit, unreadable, words_refused};
 pub use status::{Status, code};
-pub use steps::{file, league_in, schedule_in, write_answer};
+pub use stages::{file, league_in, schedule_in, write_answer};

@@ -15,7 +15,7 @@ pub struct Reply {
     pub text: Vec<u8>,
 }
 
-/// Why a step has no value, so that no later one is taken: the run is refused with this reply, or memory ran out.
+/// Why a stage has no value, so that no later one is taken: the run is refused with this reply, or memory ran out.
 #[derive(Drop)]
 pub enum NoValue {
     Refused(Reply),

@@ -1,7 +1,7 @@
 -- What a run may answer.
 use Rattle.std.specs.Prelude.{◌≡◌, ℕ, List, Option, None, Some}
 use Rattle.answers.specs.Reply.{refused_words}
-use Rattle.answers.specs.Steps.{Outcome}
+use Rattle.answers.specs.Stages.{Outcome}
 use Rattle.circle_answer.specs.Circle.{circle_season}
 use Rattle.command_line.specs.Words.{Command}
 use Rattle.command_line.specs.Words.Command.{Validate, Circle}

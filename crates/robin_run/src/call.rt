@@ -1,4 +1,4 @@
-//! The call that the program makes: the words, the command's steps, and the answer written.
+//! The call that the program makes: the words, the command's stages, and the answer written.
 ghost use Rattle.std.specs.Prelude.{◌≡◌, ◌≢◌, ℕ, List, IfOk, map, string_bytes};
 ghost use Rattle.std.specs.Io.KnownBytes.{Keeps};
 ghost use Rattle.robin_io.specs.Counts.{Rose, TookMore};
@@ -9,7 +9,7 @@ ghost use Rattle.command_line.specs.Words.{reading, HasTeams, NeedsNoFile};
 ghost use Rattle.command_line.specs.Words.Command.{Validate};
 ghost use Rattle.answers.specs.Reply.{Answer};
 ghost use Rattle.answers.specs.SeenReply.{answer_of};
-ghost use Rattle.answers.specs.Steps.{IsWritten};
+ghost use Rattle.answers.specs.Stages.{IsWritten};
 ghost use Rattle.validate_answer.specs.Validate.{IsJudged, IsWellFormedPair};
 ghost use Rattle.robin_run.specs.Answer.{IsAnswer};
 

@@ -1,5 +1,5 @@
--- Lemmas on the lines of the report and on the steps:
+-- Lemmas on the lines of the report and on the stages:
 mod ReportLemmas
-mod StepLemmas
+mod StageLemmas
 -- Worked examples, so that a wrong definition does not check:
 pub mod ValidateFacts

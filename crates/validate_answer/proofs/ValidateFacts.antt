@@ -13,7 +13,7 @@ use Rattle.robinx_form.specs.SolutionFile.{solution_of}
 use Rattle.robinx_form.specs.Walk.{Fault, walk}
 use Rattle.robinx_read.specs.declared.instance.TheConstants.{SOLUTION_LIMIT}
 use Rattle.answers.specs.Reply.{Answer, malformed}
-use Rattle.answers.specs.Steps.{Outcome, reads, says}
+use Rattle.answers.specs.Stages.{Outcome, reads, says}
 use Rattle.answers.specs.declared.status.Status.{Status}
 use Rattle.answers.specs.declared.status.Status.TheVariants.{Yes, No}
 use Rattle.report.specs.Report.{report_text}

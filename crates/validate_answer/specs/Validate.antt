@@ -1,4 +1,4 @@
--- What `validate` answers: its steps in their order, and the judgement of a schedule.
+-- What `validate` answers: its stages in their order, and the judgement of a schedule.
 use Rattle.std.specs.Prelude.{◌≡◌, ℕ, ◌+◌, ◌≤◌, ◌↔◌, Bool, if◌then◌else◌, List, length, codes, IsTrue, Option, Some, Ok}
 use Rattle.std.specs.Io.KnownBytes.{Appends}
 use Rattle.robinx_tags.specs.Pieces.{pieces}
@@ -10,7 +10,7 @@ use Rattle.robinx_form.specs.InstanceFile.{instance_of}
 use Rattle.robinx_form.specs.SolutionFile.{solution_of}
 use Rattle.robinx_read.specs.declared.instance.TheConstants.{INSTANCE_LIMIT, SOLUTION_LIMIT}
 use Rattle.answers.specs.Reply.{Answer}
-use Rattle.answers.specs.Steps.{◌>>=◌, Outcome, reads, says}
+use Rattle.answers.specs.Stages.{◌>>=◌, Outcome, reads, says}
 use Rattle.answers.specs.declared.status.Status.{Status}
 use Rattle.answers.specs.declared.status.Status.TheVariants.{Yes, No}
 use Rattle.report.specs.Report.{report_text}

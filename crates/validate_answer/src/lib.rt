@@ -1,6 +1,6 @@
 //! What `validate` answers: the judgement of a schedule by a league, as a report.
 //!
-//! A contract sees the answer by the steps of `specs/Validate.antt`, and the judgement by the definitions of `league`.
+//! A contract sees the answer by the stages of `specs/Validate.antt`, and the judgement by the definitions of `league`.
 #![tactic(auto)]
 
 mod judge;

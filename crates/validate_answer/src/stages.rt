@@ -1,10 +1,10 @@
-//! The steps of `validate`.
+//! The stages of `validate`.
 ghost use Rattle.std.specs.Prelude.{◌≡◌, ◌≤◌, ℕ, List, IfOk, codes, length};
 ghost use Rattle.robin_io.specs.Counts.{Rose, TookMore};
 ghost use Rattle.robinx_tags.specs.Pieces.{pieces};
 ghost use Rattle.robinx_form.specs.SolutionFile.{solution_of};
 ghost use Rattle.answers.specs.SeenReply.{answer_of, Answers};
-ghost use Rattle.answers.specs.Steps.{says};
+ghost use Rattle.answers.specs.Stages.{says};
 ghost use Rattle.validate_answer.specs.Validate.{IsJudgement, validated};
 
 use crate::judge::judge;
@@ -25,8 +25,8 @@ fn judge_file(alloc: Global, bytes: &[u8], league: &League) -> Result<Reply, NoV
     Ok(judge(alloc, league, &schedule)?)
 }
 
-/// The steps of `validate`.
-fn validate_steps<S: Shelf>(
+/// The stages of `validate`.
+fn validate_stages<S: Shelf>(
     alloc: Global,
     shelf: &mut S,
     instance: &str,
@@ -57,7 +57,7 @@ pub fn validate<S: Shelf>(
         instance.now solution.now (answer_of reply)) }
     ensures contents { (n : List ℕ) → S.contents shelf.new n ≡ S.contents shelf.old n }
 {
-    match validate_steps(alloc, shelf, instance, solution) {
+    match validate_stages(alloc, shelf, instance, solution) {
         Ok(reply) => Ok(reply),
         Err(NoValue::Refused(reply)) => Ok(reply),
         Err(NoValue::Memory) => Err(AllocError),

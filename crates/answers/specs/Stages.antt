@@ -1,4 +1,4 @@
--- The steps of a run in their order, each of which goes on or gives the answer.
+-- The stages of a run in their order, each of which goes on or gives the answer.
 use Rattle.std.specs.Prelude.{◌≡◌, ℕ, ◌<◌, ◌≤◌, ◌⊎◌, List, length, Option, IfSome, Result, Ok, Err}
 use Rattle.std.specs.Io.KnownBytes.{Appends}
 use Rattle.robin_io.specs.Written.{AppendsPrefix}
@@ -22,18 +22,18 @@ IsUnread which known limit long failed answer =
 abbrev pub Outcome : Type 1
 Outcome = Answer → Type 0
 
--- a step before an answer
+-- a stage before an answer
 infixl 10 ◌>>=◌
 abbrev pub ◌>>=◌ : {A : Type 0} → ((A → Outcome) → Outcome) → (A → Outcome) → Outcome
-step >>= next = step next
+stage >>= next = stage next
 
--- the step that reads a file
+-- the stage that reads a file
 abbrev pub reads : List ℕ → Option (List ℕ) → ℕ → Type 0 → Type 0 → (List ℕ → Outcome) → Outcome
 reads which known limit long failed next answer =
     ((bytes : List ℕ) × IsFile known limit bytes × next bytes answer)
     ⊎ IsUnread which known limit long failed answer
 
--- the step that takes what a file says: a value, or its first fault of form
+-- the stage that takes what a file says: a value, or its first fault of form
 abbrev pub says : {A : Type 0} → List ℕ → Result A Fault → (A → Outcome) → Outcome
 says which (Ok x) next answer = next x answer
 says which (Err fault) next answer = answer ≡ malformed which fault.0 fault.1

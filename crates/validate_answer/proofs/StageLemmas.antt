@@ -1,4 +1,4 @@
--- How the steps of `validate` make an answer.
+-- How the stages of `validate` make an answer.
 use Rattle.std.proofs.Common.{◌≡◌, ℕ, ◌+◌, List, length, Option, Result, Ok, Err, codes, inl, inr, subst, sym}
 use Rattle.league.specs.Instance.{Instance}
 use Rattle.robinx_tags.specs.Pieces.{pieces}
@@ -8,7 +8,7 @@ use Rattle.robinx_form.specs.Walk.{Fault}
 use Rattle.robinx_read.specs.declared.instance.TheConstants.{INSTANCE_LIMIT, SOLUTION_LIMIT}
 use Rattle.answers.specs.Reply.{Answer}
 use Rattle.answers.specs.SeenReply.{Answers}
-use Rattle.answers.specs.Steps.{Outcome, IsFile, IsUnread, reads, says}
+use Rattle.answers.specs.Stages.{Outcome, IsFile, IsUnread, reads, says}
 use Rattle.answers.specs.declared.reply.Reply.{Reply}
 use Rattle.answers.specs.declared.reply.NoValue.{NoValue}
 use Rattle.answers.specs.declared.reply.NoValue.TheVariants.{Refused, Memory}

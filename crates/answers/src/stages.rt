@@ -1,4 +1,4 @@
-//! The steps that commands have in common: those before the answer, and the last, which writes it.
+//! The stages that commands have in common: those before the answer, and the last, which writes it.
 ghost use Rattle.std.specs.Prelude.{◌≡◌, ◌≤◌, ℕ, List, Ok, IfOk, codes, length, vec_len};
 ghost use Rattle.std.specs.List.{All};
 ghost use Rattle.robin_io.specs.Counts.{raised, Rose, TookMore};
@@ -6,8 +6,8 @@ ghost use Rattle.robinx_tags.specs.Pieces.{pieces};
 ghost use Rattle.league.specs.Instance.{IsGame};
 ghost use Rattle.robinx_form.specs.InstanceFile.{instance_of};
 ghost use Rattle.robinx_form.specs.SolutionFile.{solution_of};
-ghost use Rattle.answers.specs.SeenReply.{answer_of, IsMalformed, MatchStep};
-ghost use Rattle.answers.specs.Steps.{IsFile, IsUnread, IsWritten};
+ghost use Rattle.answers.specs.SeenReply.{answer_of, IsMalformed, MatchStage};
+ghost use Rattle.answers.specs.Stages.{IsFile, IsUnread, IsWritten};
 
 use crate::reply::{NoValue, Reply, malformed, past_limit, unreadable};
 use crate::status::Status;
@@ -25,7 +25,7 @@ pub fn file<S: Shelf>(
     limit: usize,
 ) -> Result<Vec<u8>, NoValue>
     requires { limit ≤ 268435456 }
-    ensures step { MatchStep result
+    ensures stage { MatchStage result
         (λ bytes. IsFile (S.contents shelf.old name.now) limit bytes.items)
         (IsUnread which.now (S.contents shelf.old name.now) limit
         (TookMore limit (S.taken shelf.old) (S.taken shelf.new))
@@ -46,7 +46,7 @@ pub fn file<S: Shelf>(
 /// The league that an instance file says.
 pub fn league_in(alloc: Global, bytes: &[u8]) -> Result<League, NoValue>
     requires { length bytes.now ≤ INSTANCE_LIMIT }
-    ensures { MatchStep result
+    ensures { MatchStage result
         (λ league. instance_of (pieces bytes.now) ≡ Ok league)
         (IsMalformed (codes "instance") (instance_of (pieces bytes.now))) }
 {
@@ -62,7 +62,7 @@ pub fn league_in(alloc: Global, bytes: &[u8]) -> Result<League, NoValue>
 /// The schedule of the league that a solution file says.
 pub fn schedule_in(alloc: Global, bytes: &[u8], league: &League) -> Result<Schedule, NoValue>
     requires { length bytes.now ≤ SOLUTION_LIMIT }
-    ensures says { MatchStep result
+    ensures says { MatchStage result
         (λ games. solution_of league.now.n (pieces bytes.now) ≡ Ok games)
         (IsMalformed (codes "solution") (solution_of league.now.n (pieces bytes.now))) }
     ensures few { IfOk result (λ games. length games ≤ 10000) }

@@ -1,9 +1,9 @@
 use Rattle.std.proofs.Common.{List, Option, ℕ, ◌+◌, length, codes, rules, subst, sym}
 use Rattle.robin_io.specs.Counts.{Rose, TookMore}
 use Rattle.robinx_read.specs.declared.instance.TheConstants.{INSTANCE_LIMIT, SOLUTION_LIMIT}
-use Rattle.answers.specs.Steps.{IsFile, IsUnread}
-use Rattle.validate_answer.proofs.StepLemmas.{Answers-wider, validated-last, validated-unread}
-use Rattle.validate_answer.proofs.stages.validate_steps.Goals as goal
+use Rattle.answers.specs.Stages.{IsFile, IsUnread}
+use Rattle.validate_answer.proofs.StageLemmas.{Answers-wider, validated-last, validated-unread}
+use Rattle.validate_answer.proofs.stages.validate_stages.Goals as goal
 
 -- the second file has the contents that it had before the first was read
 pub returns-clause-answer : goal.returns-clause-answer
@@ -11,8 +11,8 @@ returns-clause-answer g c =
     let contents : List ℕ → Option (List ℕ) = g.S.Shelf.contents c.args.shelf.now in
     let took_more : ℕ → Type 0 = λ limit. TookMore limit (g.S.Shelf.taken c.args.shelf.now) (g.S.Shelf.taken c.file-2.new.shelf) in
     let failed : List ℕ → Type 0 = λ name. Rose (g.S.Shelf.faults c.args.shelf.now name) (g.S.Shelf.faults c.file-2.new.shelf name) in
-    let is_first : IsFile (contents c.args.instance.now) INSTANCE_LIMIT c.deref.result.now = subst (λ (bytes : List ℕ). IsFile (contents c.args.instance.now) INSTANCE_LIMIT bytes) (sym c.deref.ensures.value) c.in_ok-first.ensures.step in
-    let is_second : IsFile (contents c.args.solution.now) SOLUTION_LIMIT c.deref-2.result.now = subst (λ (bytes : List ℕ). IsFile (contents c.args.solution.now) SOLUTION_LIMIT bytes) (sym c.deref-2.ensures.value) (subst (λ (known : Option (List ℕ)). IsFile known SOLUTION_LIMIT c.in_ok-second.second.items) (c.file.ensures.contents c.args.solution.now) c.in_ok-second.ensures.step) in
+    let is_first : IsFile (contents c.args.instance.now) INSTANCE_LIMIT c.deref.result.now = subst (λ (bytes : List ℕ). IsFile (contents c.args.instance.now) INSTANCE_LIMIT bytes) (sym c.deref.ensures.value) c.in_ok-first.ensures.stage in
+    let is_second : IsFile (contents c.args.solution.now) SOLUTION_LIMIT c.deref-2.result.now = subst (λ (bytes : List ℕ). IsFile (contents c.args.solution.now) SOLUTION_LIMIT bytes) (sym c.deref-2.ensures.value) (subst (λ (known : Option (List ℕ)). IsFile known SOLUTION_LIMIT c.in_ok-second.second.items) (c.file.ensures.contents c.args.solution.now) c.in_ok-second.ensures.stage) in
     Answers-wider _ _ (validated-last contents took_more failed c.args.instance.now c.args.solution.now _ _ _ is_first c.in_ok-league.ensures is_second) _ c.judge_file.ensures
 
 -- the second file isn't read, or memory ran out
@@ -21,5 +21,5 @@ returns-in_err-second-clause-answer g c =
     let contents : List ℕ → Option (List ℕ) = g.S.Shelf.contents c.args.shelf.now in
     let took_more : ℕ → Type 0 = λ limit. TookMore limit (g.S.Shelf.taken c.args.shelf.now) (g.S.Shelf.taken c.file-2.new.shelf) in
     let failed : List ℕ → Type 0 = λ name. Rose (g.S.Shelf.faults c.args.shelf.now name) (g.S.Shelf.faults c.file-2.new.shelf name) in
-    let is_first : IsFile (contents c.args.instance.now) INSTANCE_LIMIT c.deref.result.now = subst (λ (bytes : List ℕ). IsFile (contents c.args.instance.now) INSTANCE_LIMIT bytes) (sym c.deref.ensures.value) c.in_ok-first.ensures.step in
+    let is_first : IsFile (contents c.args.instance.now) INSTANCE_LIMIT c.deref.result.now = subst (λ (bytes : List ℕ). IsFile (contents c.args.instance.now) INSTANCE_LIMIT bytes) (sym c.deref.ensures.value) c.in_ok-first.ensures.stage in
     Answers-wider (λ answer. IsUnread (codes "solution") (contents c.args.solution.now) SOLUTION_LIMIT (took_more (length c.deref.result.now + SOLUTION_LIMIT)) (failed c.args.solution.now) answer) _ (validated-unread contents took_more failed c.args.instance.now c.args.solution.now _ _ is_first c.in_ok-league.ensures) _ (search rules)
