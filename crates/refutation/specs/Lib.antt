@@ -1,0 +1,12 @@
+-- What a reader of a claim must believe:
+--
+-- Read in this order; each file needs only those above it. What a step is, and what its line and a log's text say:
+pub mod Steps
+pub mod Lines
+pub mod Logs
+-- The text of a log, and which logs are read back from it:
+pub mod Texts
+pub mod Writable
+-- A text that is read in pieces:
+pub mod Places
+-- Kept inside (laws, and how fields are seen):

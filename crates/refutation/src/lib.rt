@@ -1,0 +1,13 @@
+//! Refutation logs: their steps, and their text, written whole, read whole and in pieces.
+//!
+//! A contract sees a `Log` as its list of steps. `specs/Logs.antt` says what a text says, and `specs/Texts.antt` which
+//! text is written.
+#![tactic(auto)]
+
+mod fault;
+mod step;
+mod version;
+
+pub use fault::{LogFault, LogKind};
+pub use step::{Part, StepKind};
+pub use version::Version;
