@@ -10,3 +10,8 @@ pub mod Writable
 -- A text that is read in pieces:
 pub mod Places
 -- Kept inside (laws, and how fields are seen):
+--
+-- What stands first in a line:
+pub mod Cuts
+pub mod Tokens
+pub mod Groups

@@ -1,8 +1,9 @@
 //! What is wrong with the text of a log.
 ghost use Rattle.std.specs.Prelude.{◌≡◌};
 ghost use Rattle.refutation.specs.declared.fault.LogFault.TheVariants as faults;
+ghost use Rattle.refutation.specs.declared.fault.Stop.TheVariants as stops;
 
-use std::alloc::AllocError;
+use std::alloc::{AllocError, AllocFailed};
 use thiserror::Error;
 
 /// What is wrong with a line of a log.
@@ -38,5 +39,38 @@ impl From<AllocError> for LogFault {
 
     fn from(_error: AllocError) -> LogFault {
         LogFault::Mem
+    }
+}
+
+/// Why a line can't be read. Its number is known to the caller.
+#[derive(Debug, Drop)]
+pub(crate) enum Stop {
+    /// It has this fault.
+    Form(LogKind),
+    /// Memory ran out.
+    Mem,
+}
+
+impl From<LogKind> for Stop {
+    ghost from_gives = { λ kind stop. stop ≡ stops.Form kind };
+
+    fn from(kind: LogKind) -> Stop {
+        Stop::Form(kind)
+    }
+}
+
+impl From<AllocError> for Stop {
+    ghost from_gives = { λ _ stop. stop ≡ stops.Mem };
+
+    fn from(_error: AllocError) -> Stop {
+        Stop::Mem
+    }
+}
+
+impl<T: Drop> From<AllocFailed<T>> for Stop {
+    ghost from_gives = { λ _ stop. stop ≡ stops.Mem };
+
+    fn from(_failed: AllocFailed<T>) -> Stop {
+        Stop::Mem
     }
 }

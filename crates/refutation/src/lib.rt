@@ -5,7 +5,9 @@
 #![tactic(auto)]
 
 mod fault;
+mod group;
 mod step;
+mod token;
 mod version;
 
 pub use fault::{LogFault, LogKind};
