@@ -1,2 +1,4 @@
+-- Steps that lie end to end in flat lists:
+pub mod FlatLemmas
 -- Worked examples, so that a wrong definition does not check:
 pub mod LogFacts

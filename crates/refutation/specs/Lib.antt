@@ -10,3 +10,6 @@ pub mod Writable
 -- A text that is read in pieces:
 pub mod Places
 -- Kept inside (laws, and how fields are seen):
+--
+-- How a log keeps its steps:
+pub mod Flat

@@ -5,9 +5,11 @@
 #![tactic(auto)]
 
 mod fault;
+mod log;
 mod step;
 mod version;
 
 pub use fault::{LogFault, LogKind};
+pub use log::Log;
 pub use step::{Part, StepKind};
 pub use version::Version;
