@@ -1,11 +1,11 @@
 -- Steps that lie end to end in flat lists.
-use Rattle.std.proofs.Common.{◌≡◌, ℕ, zero, suc, ◌+◌, ◌-◌, ◌<◌, ◌≤◌, ◌==◌, Bool, true, false, List, [], ◌∷◌, ◌++◌, length, take, drop}
-use Rattle.std.proofs.Common.{Option, Some, None, refl, arith, ap, sym, subst, ◌∙◌, length-append}
+use Rattle.std.proofs.Common.{◌≡◌, ◌≢◌, ℕ, zero, suc, ◌+◌, ◌-◌, ◌<◌, ◌≤◌, ◌==◌, false, List, [], ◌∷◌, ◌++◌, length, get_or, take, drop}
+use Rattle.std.proofs.Common.{Some, refl, arith, ap, sym, subst, ◌∙◌, length-append}
 use Rattle.std.specs.Prelude.{slice_get, slice_range, if◌then◌else◌}
 use Rattle.std.specs.List.{All}
 use Rattle.std.proofs.Math.Seq.{drop-append_seam}
 use Rattle.std.proofs.lemmas.Bool.Decides.{nat_tests}
-use Rattle.std.proofs.lemmas.List.{append-nil, drop-append-le, length-drop, take-append-le, take_all}
+use Rattle.std.proofs.lemmas.List.{drop-append-le, length-drop, take-append-le, take_all}
 use Rattle.std.proofs.lemmas.List.Elements.{All-append, All-take, All-drop}
 use Rattle.rows.specs.Literals.{Literal}
 use Rattle.refutation.specs.Steps.{Step, kind_of, kind_at, clause_of, clause_at, hints_of, hints_at, parts_of, parts_at, divisor_of, divisor_at}
@@ -102,6 +102,46 @@ AreKept-push lists more ends to kept whole factors = record {
   factors = All-append (λ (part : Part). 1 ≤ part.factor) lists.parts more.parts kept.factors factors;
 }
 
+-- the lists and the ends as they are after a step was added
+pub record IsPushed (lists more now : Lists) (ends ends' : List End) (to : End) : Type 0 where
+  pub lits : now.lits ≡ lists.lits ++ more.lits
+  pub hints : now.hints ≡ lists.hints ++ more.hints
+  pub parts : now.parts ≡ lists.parts ++ more.parts
+  pub ends : ends' ≡ ends ++ to ∷ []
+  pub whole : IsWhole now to
+
+pushed : (lists more now : Lists) (ends ends' : List End) (to : End) → IsPushed lists more now ends ends' to → IsGrown lists more to
+pushed lists more now ends ends' to is = record {
+  lits = is.whole.lits ∙ ap length is.lits ∙ length-append lists.lits more.lits;
+  hints = is.whole.hints ∙ ap length is.hints ∙ length-append lists.hints more.hints;
+  parts = is.whole.parts ∙ ap length is.parts ∙ length-append lists.parts more.parts;
+}
+
+grown-pushed : (lists more now : Lists) (ends ends' : List End) (to : End) → IsPushed lists more now ends ends' to → grown lists more ≡ now
+grown-pushed lists more now ends ends' to is =
+    ap (λ (xs : List Literal). let all : Lists = record { lits = xs; hints = lists.hints ++ more.hints; parts = lists.parts ++ more.parts } in all) (sym is.lits)
+    ∙ ap (λ (xs : List ℕ). let all : Lists = record { lits = now.lits; hints = xs; parts = lists.parts ++ more.parts } in all) (sym is.hints)
+    ∙ ap (λ (xs : List Part). let all : Lists = record { lits = now.lits; hints = now.hints; parts = xs } in all) (sym is.parts)
+
+pub AreKept-pushed : (lists more now : Lists) (ends ends' : List End) (to : End) → AreKept lists ends → IsPushed lists more now ends ends' to → All (λ part. 1 ≤ part.factor) more.parts → AreKept now ends'
+AreKept-pushed lists more now ends ends' to kept is factors =
+    subst (λ (all : Lists). AreKept all ends') (grown-pushed lists more now ends ends' to is)
+    (subst (λ (es : List End). AreKept (grown lists more) es) (sym is.ends)
+    (AreKept-push lists more ends to kept (pushed lists more now ends ends' to is) factors))
+
+pub steps_from-pushed : (lists more now : Lists) (ends ends' : List End) (steps : List Step) (to : End) → AreKept lists ends → steps_from front lists ends ≡ steps → IsPushed lists more now ends ends' to
+    → steps_from front now ends' ≡ steps ++ step_made to.divisor more ∷ []
+steps_from-pushed lists more now ends ends' steps to kept seen is =
+    ap (λ (all : Lists). steps_from front all ends') (sym (grown-pushed lists more now ends ends' to is))
+    ∙ ap (λ (es : List End). steps_from front (grown lists more) es) is.ends
+    ∙ steps_from-push front lists more ends to kept.ended (pushed lists more now ends ends' to is)
+    ∙ ap (λ (xs : List Step). xs ++ step_made to.divisor more ∷ []) seen
+
+-- a step with a divisor from 1 is linear
+pub step_made-linear : (divisor : ℕ) (lists : Lists) → 1 ≤ divisor → step_made divisor lists ≡ Linear lists.parts divisor
+step_made-linear zero lists some = absurd (omega arith)
+step_made-linear (suc n) lists some = let is : (suc n == 0) ≡ false = grind (arith, nat_tests) in rw is refl
+
 -- there are as many steps as ends
 length-steps_from : (from : End) (lists : Lists) (ends : List End) → length (steps_from from lists ends) ≡ length ends
 length-steps_from from lists [] = refl
@@ -129,22 +169,93 @@ step_at from lists (e ∷ ends) (suc k) to is there =
     record { order = at.order; inside = at.inside; is = at.is }
 
 -- a step by its divisor
+positive : (n : ℕ) → (suc n == 0) ≡ false
+positive n = grind (arith, nat_tests)
+
 kind_of-made : (divisor : ℕ) (lists : Lists) → kind_of (step_made divisor lists) ≡ (if divisor == 0 then kinds.Clause else kinds.Linear)
 kind_of-made zero lists = refl
-kind_of-made (suc n) lists = refl
+kind_of-made (suc n) lists = rw (positive n) refl
 
 clause_of-made : (divisor : ℕ) (lists : Lists) → kind_of (step_made divisor lists) ≡ kinds.Clause → clause_of (step_made divisor lists) ≡ lists.lits
 clause_of-made zero lists kind = refl
-clause_of-made (suc n) lists kind = cc
+clause_of-made (suc n) lists kind = let linear = rw (positive n) at kind in cc
 
 hints_of-made : (divisor : ℕ) (lists : Lists) → kind_of (step_made divisor lists) ≡ kinds.Clause → hints_of (step_made divisor lists) ≡ lists.hints
 hints_of-made zero lists kind = refl
-hints_of-made (suc n) lists kind = cc
+hints_of-made (suc n) lists kind = let linear = rw (positive n) at kind in cc
 
 parts_of-made : (divisor : ℕ) (lists : Lists) → kind_of (step_made divisor lists) ≡ kinds.Linear → parts_of (step_made divisor lists) ≡ lists.parts
 parts_of-made zero lists kind = cc
-parts_of-made (suc n) lists kind = refl
+parts_of-made (suc n) lists kind = rw (positive n) refl
 
 divisor_of-made : (divisor : ℕ) (lists : Lists) → kind_of (step_made divisor lists) ≡ kinds.Linear → (divisor_of (step_made divisor lists) ≡ divisor) × (1 ≤ divisor)
 divisor_of-made zero lists kind = cc
-divisor_of-made (suc n) lists kind = (refl, omega arith)
+divisor_of-made (suc n) lists kind = (rw (positive n) refl, omega arith)
+
+-- ---- what is read at a place
+
+-- the step that lies between two ends
+pub record IsFound (lists : Lists) (steps : List Step) (k : ℕ) (from to : End) : Type 0 where
+  pub order : IsBehind from to
+  pub inside : IsWithin to lists
+  pub is : slice_get steps k ≡ Some (step_between lists from to)
+
+pub found : (lists : Lists) (ends shown : List End) (steps : List Step) (k : ℕ) (from to : End) → AreKept lists ends → steps_from front lists ends ≡ steps
+    → shown ≡ ends → from ≡ end_before front shown k → slice_get shown k ≡ Some to → IsFound lists steps k from to
+found lists ends shown steps k from to kept seen same begins stops =
+    let stop : slice_get ends k ≡ Some to = rw same at stops in
+    let at : IsStepAt front lists ends k to = step_at front lists ends k to kept.ended stop in
+    let begin : from ≡ end_before front ends k = rw same at begins in
+    let P : End → Type 0 = λ (x : End). IsFound lists steps k x to in
+    let Q : List Step → Type 0 = λ (xs : List Step). IsFound lists xs k (end_before front ends k) to in
+    subst P (sym begin) (subst Q seen (record { order = at.order; inside = at.inside; is = at.is }))
+
+-- the lists between the two ends
+abbrev pub lists_between : Lists → End → End → Lists
+lists_between lists from to = record {
+  lits = slice_range lists.lits from.lits to.lits;
+  hints = slice_range lists.hints from.hints to.hints;
+  parts = slice_range lists.parts from.parts to.parts;
+}
+
+pub kind-read : (lists : Lists) (steps : List Step) (k : ℕ) (from to : End) → IsFound lists steps k from to → kind_at steps k ≡ (if to.divisor == 0 then kinds.Clause else kinds.Linear)
+kind-read lists steps k from to at = rw at.is (kind_of-made to.divisor (lists_between lists from to))
+
+pub clause-read : (lists : Lists) (steps : List Step) (k : ℕ) (from to : End) → IsFound lists steps k from to → kind_at steps k ≡ kinds.Clause → slice_range lists.lits from.lits to.lits ≡ clause_at steps k
+clause-read lists steps k from to at kind =
+    let here = rw at.is at kind in
+    rw at.is (sym (clause_of-made to.divisor (lists_between lists from to) here))
+
+pub hints-read : (lists : Lists) (steps : List Step) (k : ℕ) (from to : End) → IsFound lists steps k from to → kind_at steps k ≡ kinds.Clause → slice_range lists.hints from.hints to.hints ≡ hints_at steps k
+hints-read lists steps k from to at kind =
+    let here = rw at.is at kind in
+    rw at.is (sym (hints_of-made to.divisor (lists_between lists from to) here))
+
+pub parts-read : (lists : Lists) (steps : List Step) (k : ℕ) (from to : End) → IsFound lists steps k from to → kind_at steps k ≡ kinds.Linear → slice_range lists.parts from.parts to.parts ≡ parts_at steps k
+parts-read lists steps k from to at kind =
+    let here = rw at.is at kind in
+    rw at.is (sym (parts_of-made to.divisor (lists_between lists from to) here))
+
+pub divisor-read : (lists : Lists) (steps : List Step) (k : ℕ) (from to : End) → IsFound lists steps k from to → kind_at steps k ≡ kinds.Linear → (to.divisor ≡ divisor_at steps k) × (1 ≤ to.divisor)
+divisor-read lists steps k from to at kind =
+    let here = rw at.is at kind in
+    let made = divisor_of-made to.divisor (lists_between lists from to) here in
+    (rw at.is (sym made.0), made.1)
+
+pub factors-read : (lists : Lists) (from to : End) → All (λ part. 1 ≤ part.factor) lists.parts → All (λ part. 1 ≤ part.factor) (slice_range lists.parts from.parts to.parts)
+factors-read lists from to factors =
+    All-take (λ (part : Part). 1 ≤ part.factor) (to.parts - from.parts) (drop from.parts lists.parts) (All-drop (λ (part : Part). 1 ≤ part.factor) from.parts lists.parts factors)
+
+-- ---- ends that are read
+
+end_before-suc : (from : End) (ends : List End) (k : ℕ) (d : End) → suc k < length ends → end_before from ends (suc k) ≡ get_or ends k d
+end_before-suc from [] k d there = absurd (omega arith)
+end_before-suc from (e ∷ ends) zero d there = refl
+end_before-suc from (e ∷ ends) (suc k) d there = end_before-suc e ends k d (omega arith)
+
+-- where a step begins, by the end before it
+pub end_before-get_or : (ends : List End) (k : ℕ) (d : End) → k ≢ 0 → k < length ends → get_or ends (k - 1) d ≡ end_before front ends k
+end_before-get_or ends zero d some there = absurd (some refl)
+end_before-get_or ends (suc k) d some there =
+    let one_less : suc k - 1 ≡ k = omega arith in
+    ap (λ (j : ℕ). get_or ends j d) one_less ∙ sym (end_before-suc front ends k d there)

@@ -3,7 +3,7 @@ ghost use Rattle.std.specs.Prelude.{◌≡◌, ◌<◌, ◌≤◌, ◌++◌, ◌
 ghost use Rattle.std.specs.Prelude.{Some, OnOk, OnErr, if◌then◌else◌};
 ghost use Rattle.std.specs.List.{All};
 ghost use Rattle.refutation.specs.Steps.{kind_at, clause_at, hints_at, parts_at, divisor_at};
-ghost use Rattle.refutation.specs.Steps.Step as step;
+ghost use Rattle.refutation.specs.Steps.Step.{Clause, Linear};
 ghost use Rattle.refutation.specs.Flat as flat;
 
 use crate::step::{Part, StepKind};
@@ -63,7 +63,7 @@ impl Log {
     /// # Errors
     /// Only where memory runs out.
     pub fn push(&mut self, clause: &[Lit], hints: &[u64]) -> Result<(), AllocError>
-        ensures ok { OnOk result (self.new ≡ self.old ++ step.Clause clause.now hints.now ∷ []) }
+        ensures ok { OnOk result (self.new ≡ self.old ++ Clause clause.now hints.now ∷ []) }
         ensures err { OnErr result (self.new ≡ self.old) }
     {
         // Room first, so that what comes after the hints can't fail.
@@ -87,7 +87,7 @@ impl Log {
     pub fn push_linear(&mut self, parts: &[Part], divisor: u64) -> Result<(), AllocError>
         requires factors { All (λ part. 1 ≤ part.factor) parts.now }
         requires divisor { 1 ≤ divisor }
-        ensures ok { OnOk result (self.new ≡ self.old ++ step.Linear parts.now divisor ∷ []) }
+        ensures ok { OnOk result (self.new ≡ self.old ++ Linear parts.now divisor ∷ []) }
         ensures err { OnErr result (self.new ≡ self.old) }
     {
         // Room first, so that what comes after the parts can't fail.
@@ -167,20 +167,30 @@ impl Log {
     }
 }
 
+/// Where the step at place k begins.
+fn end_before(ends: &[End], k: usize) -> End
+    requires { k < length ends.now }
+    ensures { result ≡ flat.end_before flat.front ends.now k }
+{
+    if k == 0 {
+        End {
+            lits: 0,
+            hints: 0,
+            parts: 0,
+            divisor: 0,
+        }
+    } else {
+        ends[k - 1]
+    }
+}
+
 /// The ends between which the step at place k lies.
 fn ends_of(ends: &[End], k: usize) -> (End, End)
     requires { k < length ends.now }
     ensures from { result.0 ≡ flat.end_before flat.front ends.now k }
     ensures to { slice_get ends.now k ≡ Some result.1 }
 {
-    let front = End {
-        lits: 0,
-        hints: 0,
-        parts: 0,
-        divisor: 0,
-    };
-    let from = if k == 0 { front } else { ends[k - 1] };
-    (from, ends[k])
+    (end_before(ends, k), ends[k])
 }
 
 /// The kind of the step that ends here.
