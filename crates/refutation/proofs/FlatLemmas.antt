@@ -107,7 +107,7 @@ pub record IsPushed (lists more now : Lists) (ends ends' : List End) (to : End) 
   pub lits : now.lits ≡ lists.lits ++ more.lits
   pub hints : now.hints ≡ lists.hints ++ more.hints
   pub parts : now.parts ≡ lists.parts ++ more.parts
-  pub ends : ends' ≡ ends ++ to ∷ []
+  pub added : ends' ≡ ends ++ to ∷ []
   pub whole : IsWhole now to
 
 pushed : (lists more now : Lists) (ends ends' : List End) (to : End) → IsPushed lists more now ends ends' to → IsGrown lists more to
@@ -126,14 +126,14 @@ grown-pushed lists more now ends ends' to is =
 pub AreKept-pushed : (lists more now : Lists) (ends ends' : List End) (to : End) → AreKept lists ends → IsPushed lists more now ends ends' to → All (λ part. 1 ≤ part.factor) more.parts → AreKept now ends'
 AreKept-pushed lists more now ends ends' to kept is factors =
     subst (λ (all : Lists). AreKept all ends') (grown-pushed lists more now ends ends' to is)
-    (subst (λ (es : List End). AreKept (grown lists more) es) (sym is.ends)
+    (subst (λ (es : List End). AreKept (grown lists more) es) (sym is.added)
     (AreKept-push lists more ends to kept (pushed lists more now ends ends' to is) factors))
 
 pub steps_from-pushed : (lists more now : Lists) (ends ends' : List End) (steps : List Step) (to : End) → AreKept lists ends → steps_from front lists ends ≡ steps → IsPushed lists more now ends ends' to
     → steps_from front now ends' ≡ steps ++ step_made to.divisor more ∷ []
 steps_from-pushed lists more now ends ends' steps to kept seen is =
     ap (λ (all : Lists). steps_from front all ends') (sym (grown-pushed lists more now ends ends' to is))
-    ∙ ap (λ (es : List End). steps_from front (grown lists more) es) is.ends
+    ∙ ap (λ (es : List End). steps_from front (grown lists more) es) is.added
     ∙ steps_from-push front lists more ends to kept.ended (pushed lists more now ends ends' to is)
     ∙ ap (λ (xs : List Step). xs ++ step_made to.divisor more ∷ []) seen
 

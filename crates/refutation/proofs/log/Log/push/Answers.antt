@@ -17,7 +17,7 @@ invariant_of-self-2 c =
       lits = c.in_ok-extend_from_slice-2.ensures.items ∙ ap (λ xs. xs ++ c.args.clause.now) c.in_ok-reserve-2.ensures.items;
       hints = c.in_ok-extend_from_slice.ensures.items;
       parts = sym (append-nil _);
-      ends = c.in_ok-push.ensures.items ∙ ap (λ xs. xs ++ to ∷ []) c.in_ok-reserve.ensures.items;
+      added = c.in_ok-push.ensures.items ∙ ap (λ xs. xs ++ to ∷ []) c.in_ok-reserve.ensures.items;
       whole = whole;
     } in
     AreKept-pushed lists more now c.self.inside.ends.items c.push.new.self.items to c.self.invariant is (All-nil _)
@@ -33,7 +33,7 @@ returns-clause-ok c =
       lits = c.in_ok-extend_from_slice-2.ensures.items ∙ ap (λ xs. xs ++ c.args.clause.now) c.in_ok-reserve-2.ensures.items;
       hints = c.in_ok-extend_from_slice.ensures.items;
       parts = sym (append-nil _);
-      ends = c.in_ok-push.ensures.items ∙ ap (λ xs. xs ++ to ∷ []) c.in_ok-reserve.ensures.items;
+      added = c.in_ok-push.ensures.items ∙ ap (λ xs. xs ++ to ∷ []) c.in_ok-reserve.ensures.items;
       whole = whole;
     } in
     steps_from-pushed lists more now c.self.inside.ends.items c.push.new.self.items c.args.self.now to c.self.invariant c.self.view_is is

@@ -16,7 +16,7 @@ invariant_of-self-2 c =
       lits = sym (append-nil _);
       hints = sym (append-nil _);
       parts = c.in_ok-extend_from_slice.ensures.items;
-      ends = c.in_ok-push.ensures.items ∙ ap (λ xs. xs ++ to ∷ []) c.in_ok-reserve.ensures.items;
+      added = c.in_ok-push.ensures.items ∙ ap (λ xs. xs ++ to ∷ []) c.in_ok-reserve.ensures.items;
       whole = whole;
     } in
     AreKept-pushed lists more now c.self.inside.ends.items c.push.new.self.items to c.self.invariant is c.requires.factors
@@ -32,7 +32,7 @@ returns-clause-ok c =
       lits = sym (append-nil _);
       hints = sym (append-nil _);
       parts = c.in_ok-extend_from_slice.ensures.items;
-      ends = c.in_ok-push.ensures.items ∙ ap (λ xs. xs ++ to ∷ []) c.in_ok-reserve.ensures.items;
+      added = c.in_ok-push.ensures.items ∙ ap (λ xs. xs ++ to ∷ []) c.in_ok-reserve.ensures.items;
       whole = whole;
     } in
     steps_from-pushed lists more now c.self.inside.ends.items c.push.new.self.items c.args.self.now to c.self.invariant c.self.view_is is
