@@ -1,3 +1,5 @@
+-- Steps that lie end to end in flat lists:
+pub mod FlatLemmas
 -- Worked examples, so that a wrong definition does not check:
 pub mod LogFacts
 -- Laws of cutting, of tokens, groups, lines and pieces:

@@ -9,9 +9,14 @@ pub mod Texts
 pub mod Writable
 -- A text that is read in pieces:
 pub mod Places
+pub mod Feeding
 -- Kept inside (laws, and how fields are seen):
 --
--- What stands first in a line:
+-- How a log keeps its steps:
+pub mod Flat
+-- What stands first in a line, its groups, and what is answered of it:
 pub mod Cuts
 pub mod Tokens
 pub mod Groups
+pub mod Outcomes
+pub mod SeenPlace

@@ -37,3 +37,10 @@ next_place at (outcomes.Heading version) = record { line = at.line + 1; text = [
 next_place at outcomes.End = record { line = at.line + 1; text = []; version = at.version; ended = true; fault = at.fault }
 next_place at outcomes.Step = record { line = at.line + 1; text = []; version = at.version; ended = at.ended; fault = at.fault }
 next_place at (outcomes.Fault kind) = record { line = at.line; text = []; version = at.version; ended = at.ended; fault = Some (kind, at.line) }
+
+-- only the line's bytes changed
+pub record IsSameButText (old new : Place) : Type 0 where
+  pub line : new.line ≡ old.line
+  pub version : new.version ≡ old.version
+  pub ended : new.ended ≡ old.ended
+  pub fault : new.fault ≡ old.fault

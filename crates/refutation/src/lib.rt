@@ -6,10 +6,14 @@
 
 mod fault;
 mod group;
+mod line;
+mod log;
+mod place;
 mod step;
 mod token;
 mod version;
 
 pub use fault::{LogFault, LogKind};
+pub use log::Log;
 pub use step::{Part, StepKind};
 pub use version::Version;

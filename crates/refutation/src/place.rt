@@ -6,7 +6,7 @@ ghost use Rattle.refutation.specs.Logs.{line_of};
 ghost use Rattle.refutation.specs.Places.{log_from, start_at};
 ghost use Rattle.refutation.specs.Cuts.{Lacks};
 ghost use Rattle.refutation.specs.Feeding.{IsPlace, ReadsOn, is_line_feed};
-ghost use Rattle.refutation.specs.SeenPlace.{GivesOutcome, IsInLine, place_of, next_place, outcome_of};
+ghost use Rattle.refutation.specs.SeenPlace.{GivesOutcome, IsSameButText, SaysOutcome, place_of, next_place};
 
 use crate::fault::{LogKind, Stop};
 use crate::line::{LineKind, MOST_BYTES, Room, read_line};
@@ -115,7 +115,8 @@ impl Place {
 
     /// Reads the line that these bytes end, where it lies whole in them without a copy.
     fn whole_line(&mut self, front: &[u8], room: &mut Room, steps: &mut Log) -> Result<Outcome, AllocError>
-        requires { IsPlace (place_of self.old) }
+        requires place { IsPlace (place_of self.old) }
+        requires front { Lacks is_line_feed front.now }
         ensures place { IsPlace (place_of self.new) }
         ensures kept { IsSameButText (place_of self.old) (place_of self.new) }
         ensures read { IfOk result (λ outcome.
