@@ -6,3 +6,5 @@ pub mod LogFacts
 pub mod SplitLemmas
 pub mod TokenLemmas
 pub mod GroupLemmas
+pub mod LineLemmas
+pub mod FeedLemmas

@@ -40,7 +40,7 @@ pub both_true : (a b : Bool) → (a && b) ≡ true → (a ≡ true) × (b ≡ tr
 both_true true b h = (refl, h)
 both_true false b h = absurd (false≢true h)
 
-and_false : (a : Bool) → (a && false) ≡ false
+pub and_false : (a : Bool) → (a && false) ≡ false
 and_false true = refl
 and_false false = refl
 
@@ -48,7 +48,7 @@ not_false : (b : Bool) → not b ≡ true → b ≡ false
 not_false true h = absurd (false≢true h)
 not_false false h = refl
 
-fails : (b : Bool) → (b ≡ true → ⊥) → b ≡ false
+pub fails : (b : Bool) → (b ≡ true → ⊥) → b ≡ false
 fails true h = absurd (h refl)
 fails false h = refl
 
@@ -91,7 +91,7 @@ pub long-value : (ds : List ℕ) (r : Result ℕ NumberFault) → list_all is_as
     → ((IsErrOf r number_faults.TooLarge → IsTrue (is_number ds) × (2 ^ 64 ≤ digits_value 10 ds)) × (IsTrue (is_number ds) × (2 ^ 64 ≤ digits_value 10 ds) → IsErrOf r number_faults.TooLarge))
     → SomeIff (result_ok r) (number ds < 2 ^ 64) (number ds)
 long-value ds (Ok n) digits some value bad large =
-    let not_over : 2 ^ 64 ≤ digits_value 10 ds → ⊥ = λ over. large.1 (value.0, over) in
+    let not_over : 2 ^ 64 ≤ digits_value 10 ds → ⊥ = λ over. let other = large.1 (value.0, over) in cc in
     (omega arith, value.1)
 long-value ds (Err number_faults.Bad) digits some value bad large =
     let written : is_number ds ≡ true = grind (arith, nat_tests) in
@@ -211,9 +211,81 @@ unsigned-token : (token : List ℕ) → IsUnsigned token → (without_sign token
 unsigned-token [] unsigned = (refl, refl)
 unsigned-token (b ∷ token) unsigned = (rw unsigned refl, let other : nat_eq 45 b ≡ false = grind (arith, nat_tests) in rw other refl)
 
+-- what is small enough as a literal
+small-literal : (token : List ℕ) (read : Item ℕ) (small : Bool) → read.small ≡ is_small_number token → (is_small_number token ≡ true → read.value ≡ number token)
+    → small ≡ (read.small && nat_le read.value 2147483647) → small ≡ nat_le (number token) 2147483647
+small-literal token read small is value given = elim (cases_Bool (is_small_number token)) [
+  | inl fits ↦ given ∙ rw (is, fits, value fits) refl
+  | inr over ↦ given ∙ rw (is, over) (let large : nat_le (number token) 2147483647 ≡ false = grind (arith, nat_tests) in sym large)
+]
+
+small-number : (token : List ℕ) → nat_le (number token) 2147483647 ≡ true → is_small_number token ≡ true
+small-number token h = grind (arith, nat_tests)
+
+module _ (token : List ℕ) (read : Item ℕ) (lit : Item Literal) (positive : Bool) (says : Says is_count is_small_number number (Some read) token)
+    (small : lit.small ≡ (read.small && nat_le read.value 2147483647)) (value : lit.small ≡ true → lit.value ≡ record { var = read.value; positive = positive }) where
+  literal-small : lit.small ≡ nat_le (number token) 2147483647
+  literal-small = small-literal token read lit.small says.2 says.3 small
+
+  literal-value : nat_le (number token) 2147483647 ≡ true → lit.value ≡ record { var = number token; positive = positive }
+  literal-value few = value (literal-small ∙ few) ∙ ap (λ v. let l : Literal = record { var = v; positive = positive } in l) (says.3 (small-number token few))
+
 -- a number as a literal without a sign
-pub says-unsigned : (token : List ℕ) (number_read : Item ℕ) (lit : Item Literal) → IsUnsigned token → Says is_count is_small_number number (Some number_read) token
-    → lit.small ≡ (number_read.small && nat_le number_read.value 2147483647) → (lit.small ≡ true → lit.value ≡ record { var = number_read.value; positive = true })
+pub says-unsigned : (token : List ℕ) (read : Item ℕ) (lit : Item Literal) → IsUnsigned token → Says is_count is_small_number number (Some read) token
+    → lit.small ≡ (read.small && nat_le read.value 2147483647) → (lit.small ≡ true → lit.value ≡ record { var = read.value; positive = true })
     → Says is_literal is_small_variable literal (Some lit) token
-says-unsigned token number_read lit unsigned says small value =
-    let same = unsigned-token token unsigned in ?
+says-unsigned token read lit unsigned says small value =
+    let same = unsigned-token token unsigned in
+    rw (same.0, same.1) (says.0, says.1, literal-small token read lit true says small value, literal-value token read lit true says small value)
+
+pub unsigned-item : (bytes : List ℕ) (read : Item ℕ) (lit : Item Literal) (left : Option (Bor (List ℕ))) → IsUnsigned bytes → StandsFirst is_count is_small_number number bytes (Some read) left
+    → lit.small ≡ (read.small && nat_le read.value 2147483647) → (lit.small ≡ true → lit.value ≡ record { var = read.value; positive = true })
+    → StandsFirst is_literal is_small_variable literal bytes (Some lit) left
+unsigned-item bytes read lit left unsigned first small value = record {
+  token = first.token;
+  tokens = first.tokens;
+  says = says-unsigned first.token read lit (unsigned-first bytes first.token (tokens_left left) unsigned first.tokens) first.says small value;
+}
+
+pub unsigned-zero : (bytes : List ℕ) (left : Option (Bor (List ℕ))) → StandsFirst is_count is_small_number number bytes None left
+    → StandsFirst is_literal is_small_variable literal bytes None left
+unsigned-zero bytes left first = record { token = first.token; tokens = first.tokens; says = first.says }
+
+pub unsigned-wrong : (bytes : List ℕ) → IsUnsigned bytes → StandsWrong is_count bytes → StandsWrong is_literal bytes
+unsigned-wrong bytes unsigned wrong =
+    let same = unsigned-token wrong.token (unsigned-first bytes wrong.token wrong.others unsigned wrong.tokens) in
+    record { token = wrong.token; others = wrong.others; tokens = wrong.tokens; wrong = (wrong.wrong.0, ap is_count same.0 ∙ wrong.wrong.1) }
+
+-- a number as a literal with a sign
+negated-tokens : (digits token : List ℕ) (others : List (List ℕ)) → tokens_of digits ≡ token ∷ others → tokens_of (45 ∷ digits) ≡ (45 ∷ token) ∷ others
+negated-tokens digits token others is = slice_split-cons_no is_space 45 digits refl ∙ ap (onto_first 45) is
+
+pub negated-item : (digits : List ℕ) (read : Item ℕ) (lit : Item Literal) (left : Option (Bor (List ℕ))) → StandsFirst is_count is_small_number number digits (Some read) left
+    → lit.small ≡ (read.small && nat_le read.value 2147483647) → (lit.small ≡ true → lit.value ≡ record { var = read.value; positive = false })
+    → StandsFirst is_literal is_small_variable literal (45 ∷ digits) (Some lit) left
+negated-item digits read lit left first small value = record {
+  token = 45 ∷ first.token;
+  tokens = negated-tokens digits first.token (tokens_left left) first.tokens;
+  says = (refl, first.says.1, literal-small first.token read lit false first.says small value, literal-value first.token read lit false first.says small value);
+}
+
+pub negated-wrong : (digits : List ℕ) → StandsWrong is_count digits → StandsWrong is_literal (45 ∷ digits)
+negated-wrong digits wrong = record {
+  token = 45 ∷ wrong.token;
+  others = wrong.others;
+  tokens = negated-tokens digits wrong.token wrong.others wrong.tokens;
+  wrong = (refl, wrong.wrong.1);
+}
+
+pub negated-zero : (digits : List ℕ) (left : Option (Bor (List ℕ))) → StandsFirst is_count is_small_number number digits None left → StandsWrong is_literal (45 ∷ digits)
+negated-zero digits left first = record {
+  token = 45 ∷ first.token;
+  others = tokens_left left;
+  tokens = negated-tokens digits first.token (tokens_left left) first.tokens;
+  wrong = (refl, ap is_count (zero-is first.token first.says));
+}
+
+-- a number that was read is at least 1
+pub item-positive : (bytes : List ℕ) (read : Item ℕ) (left : Option (Bor (List ℕ))) → StandsFirst is_count is_small_number number bytes (Some read) left
+    → read.small ≡ true → 1 ≤ read.value
+item-positive bytes read left first small = rw (first.says.3 (sym first.says.2 ∙ small)) (count-positive first.token first.says.1)

@@ -10,6 +10,7 @@ pub mod Writable
 -- A text that is read in pieces:
 pub mod Places
 pub mod Feeding
+pub mod Answers
 -- Kept inside (laws, and how fields are seen):
 --
 -- How a log keeps its steps:

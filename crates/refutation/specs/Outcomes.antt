@@ -6,7 +6,7 @@ use Rattle.refutation.specs.Steps.{Step}
 use Rattle.refutation.specs.Steps.Step.{Clause, Linear}
 use Rattle.refutation.specs.Lines.{is_count, is_small_number, linear_step, number}
 use Rattle.refutation.specs.Logs.{Line}
-use Rattle.refutation.specs.Logs.Line as lines
+use Rattle.refutation.specs.Logs.Line.{End, Heading, Says}
 use Rattle.refutation.specs.declared.fault.LogKind.{LogKind}
 use Rattle.refutation.specs.declared.fault.LogKind.TheVariants.{BadLine}
 use Rattle.refutation.specs.declared.fault.Stop.{Stop}
@@ -58,18 +58,18 @@ ReadsStep said (Err (Form kind)) old new = (said ≡ Err kind) × (new ≡ old)
 ReadsStep said (Err Mem) old new = Unit {0}
 
 abbrev pub Heads : Result Line LogKind → Result Version LogKind → Type 0
-Heads said (Ok version) = said ≡ Ok (lines.Heading version)
+Heads said (Ok version) = said ≡ Ok (Heading version)
 Heads said (Err kind) = said ≡ Err kind
 
 -- a line that says a step, which was added
 pub record AddsLine (said : Result Line LogKind) (old new : List Step) : Type 0 where
   pub step : Step
-  pub says : said ≡ Ok (lines.Says step)
+  pub says : said ≡ Ok (Says step)
   pub added : new ≡ old ++ step ∷ []
 
 abbrev pub ReadsLine : Result Line LogKind → Result LineKind Stop → List Step → List Step → Type 0
-ReadsLine said (Ok (kinds.Heading version)) old new = (said ≡ Ok (lines.Heading version)) × (new ≡ old)
-ReadsLine said (Ok kinds.End) old new = (said ≡ Ok lines.End) × (new ≡ old)
+ReadsLine said (Ok (kinds.Heading version)) old new = (said ≡ Ok (Heading version)) × (new ≡ old)
+ReadsLine said (Ok kinds.End) old new = (said ≡ Ok End) × (new ≡ old)
 ReadsLine said (Ok kinds.Step) old new = AddsLine said old new
 ReadsLine said (Err (Form kind)) old new = (said ≡ Err kind) × (new ≡ old)
 ReadsLine said (Err Mem) old new = Unit {0}

@@ -2,7 +2,7 @@
 use Rattle.std.specs.Prelude.{◌≡◌, ℕ, ◌+◌, Bool, true, false, List, [], Option, Some, None, Result, Ok, Err}
 use Rattle.refutation.specs.Steps.{Step}
 use Rattle.refutation.specs.Logs.{Line}
-use Rattle.refutation.specs.Logs.Line as lines
+use Rattle.refutation.specs.Logs.Line.{End, Heading, Says}
 use Rattle.refutation.specs.Places.{Place}
 use Rattle.refutation.specs.Outcomes.{AddsLine}
 use Rattle.refutation.specs.declared.fault.LogKind.{LogKind}
@@ -26,8 +26,8 @@ GivesOutcome read (outcomes.Fault kind) = read ≡ Err (Form kind)
 
 -- what a line that was read says
 abbrev pub SaysOutcome : Result Line LogKind → Outcome → List Step → List Step → Type 0
-SaysOutcome said (outcomes.Heading version) old new = (said ≡ Ok (lines.Heading version)) × (new ≡ old)
-SaysOutcome said outcomes.End old new = (said ≡ Ok lines.End) × (new ≡ old)
+SaysOutcome said (outcomes.Heading version) old new = (said ≡ Ok (Heading version)) × (new ≡ old)
+SaysOutcome said outcomes.End old new = (said ≡ Ok End) × (new ≡ old)
 SaysOutcome said outcomes.Step old new = AddsLine said old new
 SaysOutcome said (outcomes.Fault kind) old new = (said ≡ Err kind) × (new ≡ old)
 

@@ -19,7 +19,10 @@ pub(crate) fn literals_at<'a>(
     let mut rest = bytes;
     let mut all_small = true;
     'tokens: loop {
-        let (token, left) = literal_at(rest)?;
+        let (token, left) = match literal_at(rest) {
+            Ok(found) => found,
+            Err(kind) => return Err(Stop::Form(kind)),
+        };
         let Some(item) = token else {
             return Ok((all_small, left));
         };

@@ -5,6 +5,7 @@
 #![tactic(auto)]
 
 mod fault;
+mod feed;
 mod group;
 mod line;
 mod log;
@@ -14,6 +15,7 @@ mod token;
 mod version;
 
 pub use fault::{LogFault, LogKind};
+pub use feed::{LogFeed, read_log};
 pub use log::Log;
 pub use step::{Part, StepKind};
 pub use version::Version;

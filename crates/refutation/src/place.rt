@@ -5,10 +5,11 @@ ghost use Rattle.refutation.specs.Steps.{Step};
 ghost use Rattle.refutation.specs.Logs.{line_of};
 ghost use Rattle.refutation.specs.Places.{log_from, start_at};
 ghost use Rattle.refutation.specs.Cuts.{Lacks};
+ghost use Rattle.refutation.specs.Answers.{Finishes};
 ghost use Rattle.refutation.specs.Feeding.{IsPlace, ReadsOn, is_line_feed};
 ghost use Rattle.refutation.specs.SeenPlace.{GivesOutcome, IsSameButText, SaysOutcome, place_of, next_place};
 
-use crate::fault::{LogKind, Stop};
+use crate::fault::{LogFault, LogKind, Stop};
 use crate::line::{LineKind, MOST_BYTES, Room, read_line};
 use crate::log::Log;
 use crate::version::Version;
@@ -36,7 +37,7 @@ pub(crate) enum Outcome {
 }
 
 /// The outcome of a line, where memory sufficed.
-fn outcome(read: Result<LineKind, Stop>) -> Result<Outcome, AllocError>
+fn outcome_of(read: Result<LineKind, Stop>) -> Result<Outcome, AllocError>
     ensures { IfOk result (λ outcome. GivesOutcome read outcome) }
 {
     match read {
@@ -123,13 +124,13 @@ impl Place {
             SaysOutcome (line_of self.old.version (self.old.text.items ++ front.now)) outcome steps.old steps.new) }
     {
         if self.text.is_empty() {
-            return outcome(read_line(self.version, front, room, steps));
+            return outcome_of(read_line(self.version, front, room, steps));
         }
         if front.len() > MOST_BYTES - self.text.len() {
             return Ok(Outcome::Fault(LogKind::TooLong));
         }
         self.text.extend_from_slice(front)?;
-        outcome(read_line(self.version, &self.text, room, steps))
+        outcome_of(read_line(self.version, &self.text, room, steps))
     }
 
     /// Reads on over these bytes and the LF behind them.
@@ -169,5 +170,22 @@ impl Place {
             rest = &rest[at + 1..];
         }
         self.keep(rest)
+    }
+
+    /// The end of the text here.
+    pub(crate) fn finish(&self) -> Result<(), LogFault>
+        requires { IsPlace (place_of self.now) }
+        ensures { Finishes (log_from (place_of self.now) []) result }
+    {
+        if let Some((kind, line)) = self.fault {
+            return Err(LogFault::Form { kind, line });
+        }
+        if self.ended {
+            return Ok(());
+        }
+        Err(LogFault::Form {
+            kind: LogKind::NoEnd,
+            line: self.line,
+        })
     }
 }
