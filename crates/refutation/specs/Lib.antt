@@ -13,3 +13,5 @@ pub mod Places
 --
 -- How a log keeps its steps:
 pub mod Flat
+-- Which numbers a step can hold:
+pub mod Written

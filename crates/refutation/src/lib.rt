@@ -7,9 +7,11 @@
 mod fault;
 mod log;
 mod step;
+mod text;
 mod version;
 
 pub use fault::{LogFault, LogKind};
 pub use log::Log;
 pub use step::{Part, StepKind};
+pub use text::log_text;
 pub use version::Version;
