@@ -1,6 +1,6 @@
 -- Steps at places.
-use Rattle.std.proofs.Common.{◌≡◌, ℕ, zero, suc, ◌+◌, ◌<◌, ◌||◌, Bool, true, false, List, [], ◌∷◌, ◌++◌, length, take, Option, Some, refl, arith, ap, sym, subst, ◌∙◌}
-use Rattle.std.specs.Prelude.{slice_get, IfSome}
+use Rattle.std.proofs.Common.{◌≡◌, ℕ, zero, suc, ◌+◌, ◌<◌, ◌||◌, Bool, true, false, List, [], ◌∷◌, ◌++◌, length, take, Option, Some, None, refl, arith, ap, sym, subst, ◌∙◌}
+use Rattle.std.specs.Prelude.{slice_get, IfSome, IsTrue, ◌↔◌}
 use Rattle.std.specs.List.{All, flat_map, list_any}
 use Rattle.std.proofs.lemmas.List.{flat_map_more}
 use Rattle.std.proofs.lemmas.List.Elements.{All-push}
@@ -53,6 +53,11 @@ if_some {X} o x P is holds = subst (λ (p : Option X). IfSome p P) (sym is) hold
 
 from_if_some : {X : Type 0} (o : Option X) (x : X) (P : X → Type 0) → o ≡ Some x → IfSome o P → P x
 from_if_some {X} o x P is holds = subst (λ (p : Option X). IfSome p P) is holds
+
+-- what holds where a test is true
+pub if_some-true : {X : Type 0} (o : Option X) (b : Bool) (P : X → Type 0) → b ≡ true → IfSome o (λ x. IsTrue b ↔ P x) → IfSome o P
+if_some-true {X} None b P is holds = tt
+if_some-true {X} (Some x) b P is holds = holds.0 is
 
 pub All-got : {X : Type 0} (P : X → Type 0) (xs : List X) (k : ℕ) (x : X) → slice_get xs k ≡ Some x → All P (take k xs) → P x → All P (take (k + 1) xs)
 All-got {X} P xs k x is before holds = subst (All P) (sym (take-got xs k x is)) (All-push P (take k xs) x before holds)
