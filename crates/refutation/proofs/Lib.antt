@@ -1,5 +1,11 @@
 -- Steps that lie end to end in flat lists:
 pub mod FlatLemmas
+-- Steps at places:
+pub mod StepLemmas
+-- The text of a log reads back:
+pub mod NumberTexts
+pub mod StepTexts
+pub mod LogTexts
 -- Worked examples, so that a wrong definition does not check:
 pub mod LogFacts
 -- Laws of cutting, of tokens, groups, lines and pieces:

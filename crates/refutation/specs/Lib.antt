@@ -15,6 +15,8 @@ pub mod Answers
 --
 -- How a log keeps its steps:
 pub mod Flat
+-- Which numbers a step can hold:
+pub mod Written
 -- What stands first in a line, its groups, and what is answered of it:
 pub mod Cuts
 pub mod Tokens

@@ -8,14 +8,18 @@ use Rattle.refutation.specs.declared.step.Part.{Part}
 use Rattle.refutation.specs.declared.version.Version.{Version}
 use Rattle.refutation.specs.declared.version.Version.TheVariants.{One, Two}
 
--- ---- tokens, each with a space behind it
+-- ---- tokens
 
 abbrev pub sign_text : Bool → List ℕ
 sign_text true = []
 sign_text false = codes "-"
 
+abbrev pub literal_token : Literal → List ℕ
+literal_token lit = sign_text lit.positive ++ decimal lit.var
+
+-- a literal, a number and a part, with a space behind each token
 abbrev pub literal_text : Literal → List ℕ
-literal_text lit = sign_text lit.positive ++ (decimal lit.var ++ codes " ")
+literal_text lit = literal_token lit ++ codes " "
 
 abbrev pub number_text : ℕ → List ℕ
 number_text number = decimal number ++ codes " "

@@ -11,6 +11,7 @@ mod line;
 mod log;
 mod place;
 mod step;
+mod text;
 mod token;
 mod version;
 
@@ -18,4 +19,5 @@ pub use fault::{LogFault, LogKind};
 pub use feed::{LogFeed, read_log};
 pub use log::Log;
 pub use step::{Part, StepKind};
+pub use text::log_text;
 pub use version::Version;

@@ -1,8 +1,8 @@
 //! A log's steps, in flat lists.
 ghost use Rattle.std.specs.Prelude.{◌≡◌, ◌<◌, ◌≤◌, ◌++◌, ◌==◌, [], ◌∷◌, length, slice_get, slice_range};
-ghost use Rattle.std.specs.Prelude.{Some, OnOk, OnErr, if◌then◌else◌};
+ghost use Rattle.std.specs.Prelude.{Some, IfSome, OnOk, OnErr, IsTrue, ◌↔◌, if◌then◌else◌};
 ghost use Rattle.std.specs.List.{All};
-ghost use Rattle.refutation.specs.Steps.{kind_at, clause_at, hints_at, parts_at, divisor_at};
+ghost use Rattle.refutation.specs.Steps.{NamesRows, kind_at, clause_at, hints_at, parts_at, divisor_at};
 ghost use Rattle.refutation.specs.Steps.Step.{Clause, Linear};
 ghost use Rattle.refutation.specs.Flat as flat;
 
@@ -165,6 +165,43 @@ impl Log {
         let (_, to) = ends_of(&self.ends, k);
         to.divisor
     }
+
+    /// Whether each hint and each part's row is at least 1, as a log's text needs it.
+    pub fn names_rows(&self) -> bool
+        ensures { IsTrue result ↔ All NamesRows self.now }
+    {
+        for k in 0..self.len() {
+            if !self.step_names_rows(k) {
+                return false;
+            }
+        }
+        true
+    }
+
+    /// The same of the step at place k.
+    fn step_names_rows(&self, k: usize) -> bool
+        requires { k < length self.now }
+        ensures { IfSome (slice_get self.now k) (λ step. IsTrue result ↔ NamesRows step) }
+    {
+        match self.kind(k) {
+            StepKind::Clause => name_rows(self.hints(k)),
+            StepKind::Linear => parts_name_rows(self.parts(k)),
+        }
+    }
+}
+
+/// Whether each hint is at least 1.
+fn name_rows(hints: &[u64]) -> bool
+    ensures { IsTrue result ↔ All (λ hint. 1 ≤ hint) hints.now }
+{
+    hints.iter().all(|hint| *hint >= 1)
+}
+
+/// Whether each part's row is at least 1.
+fn parts_name_rows(parts: &[Part]) -> bool
+    ensures { IsTrue result ↔ All (λ part. 1 ≤ part.row) parts.now }
+{
+    parts.iter().all(|part| part.row >= 1)
 }
 
 /// Where the step at place k begins.
