@@ -13,15 +13,15 @@ use Rattle.refutation.specs.Logs.{Fault, Line, Reading, after, end_from, go_on, 
 use Rattle.refutation.specs.Logs.Line.{End, Heading, Says}
 use Rattle.refutation.specs.Places.{Place, log_from, read_at, start, start_at}
 use Rattle.refutation.specs.Cuts.{Lacks, onto_front}
-use Rattle.refutation.specs.Feeding.{IsPlace, ReadsOn, is_line_feed}
-use Rattle.refutation.specs.SeenPlace.{IsSameButText, SaysOutcome, next_place}
+use Rattle.refutation.specs.Feeding.{ReadsOn}
+use Rattle.refutation.specs.SeenPlace.{IsPlace, is_line_feed, IsSameButText, SaysOutcome, next_place}
 use Rattle.refutation.specs.declared.fault.LogKind.{LogKind}
 use Rattle.refutation.specs.declared.fault.LogKind.TheVariants.{BadLine, NoEnd, TooLong}
 use Rattle.refutation.specs.declared.place.Outcome.{Outcome}
 use Rattle.refutation.specs.declared.place.Outcome.TheVariants as outcomes
 use Rattle.refutation.specs.declared.version.Version.{Version}
 use Rattle.refutation.proofs.SplitLemmas.{split-front, split-last, split-part, split-parts}
-use Rattle.refutation.proofs.TokenLemmas.{fails}
+use Rattle.refutation.proofs.FoundLemmas.{found-none, found-some}
 
 -- ---- lines
 
@@ -162,6 +162,13 @@ module _ (at : Place) (front : List ℕ) (none : is_some at.fault ≡ false) (op
   fed-line (outcomes.Fault kind) now old new says is = reads-same at now old new (front ++ 10 ∷ []) says.1
       (λ rest. line-said (Err kind) rest says.0 ∙ rw is refl)
 
+-- where a reader goes doesn't hang on the line's bytes
+pub next-same : (a b : Place) (outcome : Outcome) → IsSameButText a b → (text : List ℕ) → next_place (with_text b text) outcome ≡ next_place a outcome
+next-same a b (outcomes.Heading version) same text = rw (same.line, same.ended, same.fault) refl
+next-same a b outcomes.End same text = rw (same.line, same.version, same.fault) refl
+next-same a b outcomes.Step same text = rw (same.line, same.version, same.ended, same.fault) refl
+next-same a b (outcomes.Fault kind) same text = rw (same.line, same.version, same.ended) refl
+
 -- ---- pieces
 
 pub ReadsOn-then : (a b c : Place) (s t u : List Step) (whole front rest : List ℕ) → whole ≡ front ++ rest → ReadsOn a s front b t → ReadsOn b t rest c u → ReadsOn a s whole c u
@@ -174,20 +181,15 @@ ReadsOn-then a b c s t u whole front rest is first second = record {
     ∙ ap (λ steps. let read : Reading = record { steps = steps; fault = (log_from c behind).fault } in read) (sym (append_assoc first.added second.added (log_from c behind).steps));
 }
 
--- the bytes before the first LF, and none
-pub found-line : (bytes : List ℕ) (at : ℕ) → IsFirstByte (is_byte 10) bytes (Some at) → (bytes ≡ (take at bytes ++ 10 ∷ []) ++ drop (at + 1) bytes) × Lacks is_line_feed (take at bytes)
-found-line bytes at found =
-    let within : at < length bytes = found.0.high in
-    let cons = drop-cons bytes at 0 within in
-    let byte : get_or bytes at 0 ≡ 10 = eqb-true (get_or bytes at 0) 10 found.1 in
-    (
-      sym (take-append-drop at bytes) ∙ ap (λ rest. take at bytes ++ rest) (cons ∙ rw (byte, ← add-one at) refl) ∙ sym (append_assoc (take at bytes) (10 ∷ []) (drop (at + 1) bytes)),
-      All-from_get_or (λ b. is_line_feed b ≡ false) (take at bytes) 0
-        (λ i below. let before : i < at = omega (arith, length-take at bytes) in rw (get_or-take at bytes i 0 before) (fails (is_line_feed (get_or bytes i 0)) (found.0.before i (omega arith) before))),
-    )
+-- the bytes before the first LF
+pub line-parts : (bytes : List ℕ) (at : ℕ) → IsFirstByte (is_byte 10) bytes (Some at) → bytes ≡ (take at bytes ++ 10 ∷ []) ++ drop (at + 1) bytes
+line-parts bytes at found = (found-some 10 bytes at found).parts ∙ sym (append_assoc (take at bytes) (10 ∷ []) (drop (at + 1) bytes))
 
-pub found-none : (bytes : List ℕ) → IsFirstByte (is_byte 10) bytes None → Lacks is_line_feed bytes
-found-none bytes none = All-from_get_or (λ b. is_line_feed b ≡ false) bytes 0 (λ i below. fails (is_line_feed (get_or bytes i 0)) (none i (omega arith) below))
+pub line-lacks : (bytes : List ℕ) (at : ℕ) → IsFirstByte (is_byte 10) bytes (Some at) → Lacks is_line_feed (take at bytes)
+line-lacks bytes at found = (found-some 10 bytes at found).lacks
+
+pub rest-lacks : (bytes : List ℕ) → IsFirstByte (is_byte 10) bytes None → Lacks is_line_feed bytes
+rest-lacks bytes none = found-none 10 bytes none
 
 -- ---- the end
 

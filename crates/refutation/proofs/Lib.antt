@@ -11,6 +11,8 @@ pub mod LogFacts
 -- Laws of cutting, of tokens, groups, lines and pieces:
 pub mod SplitLemmas
 pub mod TokenLemmas
+pub mod FoundLemmas
 pub mod GroupLemmas
 pub mod LineLemmas
 pub mod FeedLemmas
+pub mod CutLemmas

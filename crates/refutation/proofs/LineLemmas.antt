@@ -1,6 +1,6 @@
 -- Steps of groups, and what a line says.
-use Rattle.std.proofs.Common.{◌≡◌, ℕ, ◌+◌, ◌%◌, ◌*◌, ◌<◌, ◌≤◌, Bool, true, false, not, ◌&&◌, nat_eq, List, [], ◌∷◌, ◌++◌, length, map, Option, Some, None, Result, Ok, Err, refl, sym, ap, subst, ◌∙◌, arith, append_assoc, inl, inr, IsSome}
-use Rattle.std.specs.Prelude.{codes, bytes_eq}
+use Rattle.std.proofs.Common.{◌≡◌, ℕ, ◌+◌, ◌%◌, ◌*◌, ◌<◌, ◌≤◌, Bool, true, false, not, ◌&&◌, nat_eq, List, [], ◌∷◌, ◌++◌, length, map, Option, Some, None, Result, Ok, Err, refl, sym, ap, subst, ◌∙◌, arith, append_assoc, zero-add, inl, inr, IsSome}
+use Rattle.std.specs.Prelude.{codes, bytes_eq, is_some, if◌then◌else◌}
 use Rattle.std.specs.List.{All, list_all, onto_first}
 use Rattle.std.specs.Borrow.{Bor}
 use Rattle.std.proofs.lemmas.Bool.{false≢true, cases_Bool}
@@ -13,10 +13,12 @@ use Rattle.refutation.specs.Steps.{Step}
 use Rattle.refutation.specs.Steps.Step.{Clause, Linear}
 use Rattle.refutation.specs.Lines.{are_pairs, clause_step, groups_of, is_count, is_literal, is_small_number, is_small_variable, is_space, is_zero, linear_step, literal, marked_step, number, paired, tokens_of}
 use Rattle.refutation.specs.Tokens.{Says, StandsFirst, StandsWrong, tokens_left}
-use Rattle.refutation.specs.Groups.{IsBadGroup, IsGroup}
-use Rattle.refutation.specs.Outcomes.{IsLast, IsLinear}
+use Rattle.refutation.specs.Groups.{FindsGroup, IsBadGroup, IsGroup}
+use Rattle.refutation.specs.Outcomes.{EndsLine, IsLast, IsLinear, ReadsClause, ReadsLinear}
 use Rattle.refutation.specs.declared.fault.LogKind.{LogKind}
 use Rattle.refutation.specs.declared.fault.LogKind.TheVariants.{BadLine, BadNumber}
+use Rattle.refutation.specs.declared.fault.Stop.{Stop}
+use Rattle.refutation.specs.declared.fault.Stop.TheVariants.{Form, Mem}
 use Rattle.refutation.specs.declared.step.Part.{Part}
 use Rattle.refutation.specs.declared.token.Item.{Item}
 use Rattle.refutation.proofs.SplitLemmas.{AreParts, split-parts}
@@ -70,9 +72,9 @@ clause-more-at group hints token tokens false zero =
 -- something follows the hints
 pub clause-more : (groups : List (List (List ℕ))) (group hints : List (List ℕ)) (others : List (List (List ℕ))) (left : List ℕ)
     → groups ≡ group ∷ others → others ≡ hints ∷ groups_of (tokens_of left) → clause_step groups ≡ Err BadLine
-clause-more groups group hints others left is then =
+clause-more groups group hints others left is hints_are =
     let parts = split-parts is_space left in
-    ap clause_step is ∙ ap (λ rest. clause_step (group ∷ rest)) then ∙ ap (λ tokens. clause_step (group ∷ hints ∷ groups_of tokens)) parts.are
+    ap clause_step is ∙ ap (λ rest. clause_step (group ∷ rest)) hints_are ∙ ap (λ tokens. clause_step (group ∷ hints ∷ groups_of tokens)) parts.are
     ∙ clause-more-at group hints parts.first parts.others (is_zero parts.first) refl
 
 -- both are written as they have to be
@@ -86,6 +88,45 @@ module _ (groups : List (List (List ℕ))) (others : List (List (List ℕ))) (gr
 
   pub clause-says : (list_all is_small_variable group && list_all is_small_number hints) ≡ true → clause_step groups ≡ Ok (Clause (map literal group) (map number hints))
   clause-says small = clause-form ∙ rw (literals, counts, small) refl
+
+-- the exits of a clause's reader
+pub clause-first : (groups : List (List (List ℕ))) (stop : Stop) (old new literals : List Literal) (hints : List ℕ)
+    → FindsGroup is_literal is_small_variable literal groups (Err stop) old new → ReadsClause (clause_step groups) (Err stop) literals hints
+clause-first groups (Form kind) old new literals hints found = clause-first_bad groups found.1 ∙ ap Err (sym found.0)
+clause-first groups Mem old new literals hints found = tt
+
+pub clause-unfinished : (groups : List (List (List ℕ))) (small : Bool) (old new : List Literal) → IsGroup is_literal is_small_variable literal groups small None old new → clause_step groups ≡ Err BadLine
+clause-unfinished groups small old new first = clause-cut groups first.group first.found
+
+module _ (groups : List (List (List ℕ))) (small : Bool) (left : Bor (List ℕ)) (old new : List Literal) (first : IsGroup is_literal is_small_variable literal groups small (Some left) old new) where
+  pub clause-second : (stop : Stop) (before now hints : List ℕ) (literals : List Literal)
+      → FindsGroup is_count is_small_number number (groups_of (tokens_of left.now)) (Err stop) before now → ReadsClause (clause_step groups) (Err stop) literals hints
+  clause-second (Form kind) before now hints literals found =
+      clause-second_bad groups first.group (groups_of (tokens_of left.now)) first.found found.1 ∙ ap Err (sym found.0)
+  clause-second Mem before now hints literals found = tt
+
+  pub clause-behind : (hints_small : Bool) (behind : Option (Bor (List ℕ))) (before now : List ℕ)
+      → IsGroup is_count is_small_number number (groups_of (tokens_of left.now)) hints_small behind before now → is_some behind ≡ true → clause_step groups ≡ Err BadLine
+  clause-behind hints_small None before now second some = absurd (false≢true some)
+  clause-behind hints_small (Some rest) before now second some =
+      clause-more groups first.group second.group (groups_of (tokens_of left.now)) rest.now first.found second.found
+
+  pub clause-number : (hints_small : Bool) (behind : Option (Bor (List ℕ))) (before now : List ℕ)
+      → IsGroup is_count is_small_number number (groups_of (tokens_of left.now)) hints_small behind before now → is_some behind ≡ false → (small && hints_small) ≡ false
+      → clause_step groups ≡ Err BadNumber
+  clause-number hints_small None before now second none large =
+      clause-large groups (groups_of (tokens_of left.now)) first.group second.group first.found second.found first.written second.written (rw (← first.small_is, ← second.small_is) large)
+  clause-number hints_small (Some rest) before now second none large = absurd (false≢true (sym none))
+
+  pub clause-done : (hints_small : Bool) (behind : Option (Bor (List ℕ))) (before now : List ℕ)
+      → IsGroup is_count is_small_number number (groups_of (tokens_of left.now)) hints_small behind before now → is_some behind ≡ false → small ≡ true → hints_small ≡ true → old ≡ [] → before ≡ []
+      → clause_step groups ≡ Ok (Clause new now)
+  clause-done hints_small None before now second none literals_fit hints_fit empty nothing =
+      let some = sym first.small_is ∙ literals_fit in
+      let fit = sym second.small_is ∙ hints_fit in
+      clause-says groups (groups_of (tokens_of left.now)) first.group second.group first.found second.found first.written second.written (rw (some, fit) refl)
+      ∙ rw (first.values some, second.values fit, empty, nothing) refl
+  clause-done hints_small (Some rest) before now second none literals_fit hints_fit empty nothing = absurd (false≢true (sym none))
 
 -- ---- linear steps
 
@@ -206,3 +247,55 @@ module _ (groups others : List (List (List ℕ))) (group : List (List ℕ)) (rea
         factors = rw are (paired-factors (map number group) (counts-positive group counts));
         least = rw value (count-positive last.token last.written);
       }
+
+-- the exits of a linear step's reader
+pub linear-first : (groups : List (List (List ℕ))) (stop : Stop) (old new : List ℕ) (parts : List Part)
+    → FindsGroup is_count is_small_number number groups (Err stop) old new → ReadsLinear (linear_step groups) (Err stop) parts
+linear-first groups (Form kind) old new parts found = linear-first_bad groups found.1 ∙ ap Err (sym found.0)
+linear-first groups Mem old new parts found = tt
+
+pub linear-unfinished : (groups : List (List (List ℕ))) (small : Bool) (old new : List ℕ) → IsGroup is_count is_small_number number groups small None old new → linear_step groups ≡ Err BadLine
+linear-unfinished groups small old new first = linear-cut groups first.group first.found
+
+module _ (groups : List (List (List ℕ))) (small : Bool) (left : Bor (List ℕ)) (old new : List ℕ) (first : IsGroup is_count is_small_number number groups small (Some left) old new) where
+  pub linear-second : (kind : LogKind) → EndsLine (groups_of (tokens_of left.now)) (Err kind) → linear_step groups ≡ Err kind
+  linear-second kind ends = linear-second_bad groups first.group (groups_of (tokens_of left.now)) first.found ends.1 ∙ ap Err (sym ends.0)
+
+  same_count : old ≡ [] → are_pairs new ≡ are_pairs first.group
+  same_count empty = same_pairs new first.group ((rw empty at first.count) ∙ zero-add (length first.group))
+
+  pub linear-unpaired : (read : Item ℕ) → IsLast (groups_of (tokens_of left.now)) read → old ≡ [] → are_pairs new ≡ false → linear_step groups ≡ Err BadLine
+  linear-unpaired read last empty odd = linear-odd groups (groups_of (tokens_of left.now)) first.group read first.found first.written last (sym (same_count empty) ∙ odd)
+
+  pub linear-number : (read : Item ℕ) → IsLast (groups_of (tokens_of left.now)) read → old ≡ [] → are_pairs new ≡ true → (small && read.small) ≡ false → linear_step groups ≡ Err BadNumber
+  linear-number read last empty pairs large =
+      linear-large groups (groups_of (tokens_of left.now)) first.group read first.found first.written last (sym (same_count empty) ∙ pairs) (rw (← first.small_is) large)
+
+  pub linear-done : (read : Item ℕ) (parts : List Part) → IsLast (groups_of (tokens_of left.now)) read → old ≡ [] → are_pairs new ≡ true → small ≡ true → read.small ≡ true → parts ≡ paired new
+      → IsLinear (linear_step groups) parts read.value
+  linear-done read parts last empty pairs numbers_fit fits are =
+      let fit = sym first.small_is ∙ numbers_fit in
+      linear-says groups (groups_of (tokens_of left.now)) first.group read first.found first.written last parts (sym (same_count empty) ∙ pairs) (rw (fit, fits) refl)
+        (are ∙ ap paired (rw empty at (first.values fit)))
+
+-- ---- marks
+
+nothing-marked : (c l : Bool) → (if c then clause_step (groups_of []) else (if l then linear_step (groups_of []) else Err BadLine)) ≡ Err BadLine
+nothing-marked true l = refl
+nothing-marked false true = refl
+nothing-marked false false = refl
+
+-- a first token and nothing else
+pub marked-alone : (tokens : List (List ℕ)) (mark : List ℕ) → tokens ≡ mark ∷ [] → marked_step tokens ≡ Err BadLine
+marked-alone tokens mark is = ap marked_step is ∙ nothing-marked (bytes_eq mark (codes "c")) (bytes_eq mark (codes "l"))
+
+pub marked-clause : (tokens others : List (List ℕ)) (mark : List ℕ) → tokens ≡ mark ∷ others → bytes_eq mark (codes "c") ≡ true → marked_step tokens ≡ clause_step (groups_of others)
+marked-clause tokens others mark is c = ap marked_step is ∙ rw c refl
+
+pub marked-linear : (tokens others : List (List ℕ)) (mark : List ℕ) → tokens ≡ mark ∷ others → bytes_eq mark (codes "c") ≡ false → bytes_eq mark (codes "l") ≡ true
+    → marked_step tokens ≡ linear_step (groups_of others)
+marked-linear tokens others mark is c l = ap marked_step is ∙ rw (c, l) refl
+
+pub marked-other : (tokens others : List (List ℕ)) (mark : List ℕ) → tokens ≡ mark ∷ others → bytes_eq mark (codes "c") ≡ false → bytes_eq mark (codes "l") ≡ false
+    → marked_step tokens ≡ Err BadLine
+marked-other tokens others mark is c l = ap marked_step is ∙ rw (c, l) refl

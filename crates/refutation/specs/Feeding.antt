@@ -1,19 +1,8 @@
 -- What a piece of the text does to a reader.
-use Rattle.std.specs.Prelude.{◌≡◌, ◌≤◌, ℕ, Bool, true, ◌==◌, List, [], ◌++◌, length}
-use Rattle.std.specs.Str.{byte}
+use Rattle.std.specs.Prelude.{◌≡◌, ℕ, List, [], ◌∷◌, ◌++◌}
 use Rattle.refutation.specs.Steps.{Step}
-use Rattle.refutation.specs.Logs.{after, most_bytes}
+use Rattle.refutation.specs.Logs.{after}
 use Rattle.refutation.specs.Places.{Place, log_from}
-use Rattle.refutation.specs.Cuts.{Lacks}
-
-abbrev pub is_line_feed : ℕ → Bool
-is_line_feed b = b == byte "\n"
-
--- what each reader keeps: the bytes of one line, not too many, and none behind `end`
-pub record IsPlace (at : Place) : Type 0 where
-  pub one_line : Lacks is_line_feed at.text
-  pub short : length at.text ≤ most_bytes
-  pub nothing : at.ended ≡ true → at.text ≡ []
 
 -- The steps of a piece were added, and whatever comes behind it, the text is read as these steps and then as what is
 -- read from here.
@@ -21,3 +10,9 @@ pub record ReadsOn (before : Place) (old : List Step) (piece : List ℕ) (now : 
   pub added : List Step
   pub steps : new ≡ old ++ added
   pub read : (rest : List ℕ) → log_from before (piece ++ rest) ≡ after added (log_from now rest)
+
+-- Pieces that are fed in turn.
+abbrev pub FeedsAll : Place → List Step → List (List ℕ) → Place → List Step → Type 0
+FeedsAll before old [] now new = (now ≡ before) × (new ≡ old)
+FeedsAll before old (piece ∷ pieces) now new =
+    (between : Place) × ((steps : List Step) × (ReadsOn before old piece between steps × FeedsAll between steps pieces now new))

@@ -1,7 +1,9 @@
 -- How a place is kept, and where it goes.
-use Rattle.std.specs.Prelude.{◌≡◌, ℕ, ◌+◌, Bool, true, false, List, [], Option, Some, None, Result, Ok, Err}
+use Rattle.std.specs.Prelude.{◌≡◌, ℕ, ◌+◌, ◌≤◌, ◌==◌, Bool, true, List, [], length, Option, Some, None, Result, Ok, Err}
 use Rattle.refutation.specs.Steps.{Step}
-use Rattle.refutation.specs.Logs.{Line}
+use Rattle.std.specs.Str.{byte}
+use Rattle.refutation.specs.Logs.{Line, most_bytes}
+use Rattle.refutation.specs.Cuts.{Lacks}
 use Rattle.refutation.specs.Logs.Line.{End, Heading, Says}
 use Rattle.refutation.specs.Places.{Place}
 use Rattle.refutation.specs.Outcomes.{AddsLine}
@@ -13,6 +15,15 @@ use Rattle.refutation.specs.declared.line.LineKind.TheVariants as kinds
 use Rattle.refutation.specs.declared.place.Place.{Place as Kept}
 use Rattle.refutation.specs.declared.place.Outcome.{Outcome}
 use Rattle.refutation.specs.declared.place.Outcome.TheVariants as outcomes
+
+abbrev pub is_line_feed : ℕ → Bool
+is_line_feed b = b == byte "\n"
+
+-- what each reader keeps: the bytes of one line, not too many, and none behind `end`
+pub record IsPlace (at : Place) : Type 0 where
+  pub one_line : Lacks is_line_feed at.text
+  pub short : length at.text ≤ most_bytes
+  pub nothing : at.ended ≡ true → at.text ≡ []
 
 abbrev pub place_of : Kept → Place
 place_of p = record { line = p.line; text = p.text.items; version = p.version; ended = p.ended; fault = p.fault }

@@ -28,8 +28,7 @@ impl Model for LogFeed {
 
     ghost Value = { places.Place };
 
-    ghost use Rattle.refutation.specs.Feeding.{IsPlace};
-    ghost use Rattle.refutation.specs.SeenPlace.{place_of};
+    ghost use Rattle.refutation.specs.SeenPlace.{IsPlace, place_of};
 
     ghost view = { λ f. place_of f.at };
 

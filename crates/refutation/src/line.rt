@@ -4,6 +4,7 @@ ghost use Rattle.std.specs.List.{All};
 ghost use Rattle.refutation.specs.Steps.{Step};
 ghost use Rattle.refutation.specs.Lines.{are_pairs, clause_step, groups_of, linear_step, marked_step, paired, step_line, tokens_of};
 ghost use Rattle.refutation.specs.Logs.{heading_of, line_of, words_of};
+ghost use Rattle.refutation.specs.Tokens.{tokens_left};
 ghost use Rattle.refutation.specs.Outcomes.{EndsLine, Heads, ReadsClause, ReadsLine, ReadsLinear, ReadsStep};
 
 use crate::fault::{LogKind, Stop};
@@ -12,6 +13,7 @@ use crate::log::Log;
 use crate::step::Part;
 use crate::token::{Item, number_at};
 use crate::version::Version;
+use memchr::memchr;
 use rows::Lit;
 use std::alloc::{AllocError, Global};
 
@@ -144,15 +146,31 @@ fn read_linear(text: &[u8], room: &mut Room, steps: &mut Log) -> Result<(), Stop
     Ok(())
 }
 
+/// The first token, and what is left behind its space, where one follows.
+fn first_token(text: &[u8]) -> (&[u8], Option<&[u8]>)
+    ensures { tokens_of text.now ≡ result.0.now ∷ tokens_left result.1 }
+{
+    match memchr(b' ', text) {
+        Some(at) => (&text[..at], Some(&text[at + 1..])),
+        None => (text, None),
+    }
+}
+
 /// Adds the step that a line of version 2 writes.
 fn read_marked(text: &[u8], room: &mut Room, steps: &mut Log) -> Result<(), Stop>
     ensures { ReadsStep (marked_step (tokens_of text.now)) result steps.old steps.new }
 {
-    match text {
-        [b'c', b' ', rest @ ..] => read_clause(rest, room, steps),
-        [b'l', b' ', rest @ ..] => read_linear(rest, room, steps),
-        _ => Err(Stop::Form(LogKind::BadLine)),
+    let (mark, rest) = first_token(text);
+    let Some(rest) = rest else {
+        return Err(Stop::Form(LogKind::BadLine));
+    };
+    if mark == b"c".as_slice() {
+        return read_clause(rest, room, steps);
     }
+    if mark == b"l".as_slice() {
+        return read_linear(rest, room, steps);
+    }
+    Err(Stop::Form(LogKind::BadLine))
 }
 
 /// Adds the step that a line writes.
@@ -169,11 +187,13 @@ fn read_step(version: Version, text: &[u8], room: &mut Room, steps: &mut Log) ->
 fn heading(text: &[u8]) -> Result<Version, LogKind>
     ensures { Heads (heading_of text.now) result }
 {
-    match text {
-        b"refutation 1" => Ok(Version::One),
-        b"refutation 2" => Ok(Version::Two),
-        _ => Err(LogKind::BadLine),
+    if text == b"refutation 1".as_slice() {
+        return Ok(Version::One);
     }
+    if text == b"refutation 2".as_slice() {
+        return Ok(Version::Two);
+    }
+    Err(LogKind::BadLine)
 }
 
 /// What a whole line of at most so many bytes is. Its step is added.

@@ -6,8 +6,8 @@ ghost use Rattle.refutation.specs.Logs.{line_of};
 ghost use Rattle.refutation.specs.Places.{log_from, start_at};
 ghost use Rattle.refutation.specs.Cuts.{Lacks};
 ghost use Rattle.refutation.specs.Answers.{Finishes};
-ghost use Rattle.refutation.specs.Feeding.{IsPlace, ReadsOn, is_line_feed};
-ghost use Rattle.refutation.specs.SeenPlace.{GivesOutcome, IsSameButText, SaysOutcome, place_of, next_place};
+ghost use Rattle.refutation.specs.Feeding.{ReadsOn};
+ghost use Rattle.refutation.specs.SeenPlace.{IsPlace, is_line_feed, GivesOutcome, IsSameButText, SaysOutcome, place_of, next_place};
 
 use crate::fault::{LogFault, LogKind, Stop};
 use crate::line::{LineKind, MOST_BYTES, Room, read_line};
