@@ -93,9 +93,9 @@ keep-ended at now front rest none ended place lacks some is =
 
 pub keep-long : (at now : Place) (front rest : List ℕ) → is_some at.fault ≡ false → at.ended ≡ false → IsPlace at → Lacks is_line_feed front → most_bytes - length at.text < length front
     → now ≡ next_place at (outcomes.Fault TooLong) → log_from at (front ++ rest) ≡ log_from now rest
-keep-long at now front rest none open place lacks long is =
+keep-long at now front rest none within place lacks long is =
     let longer : most_bytes < length (at.text ++ front) = omega (arith, length-append at.text front, place.short) in
-    rw (is, none-is at.fault none, open, ← append_assoc at.text front rest)
+    rw (is, none-is at.fault none, within, ← append_assoc at.text front rest)
     (long_line at.version at.line (at.text ++ front) rest (All-append (λ b. is_line_feed b ≡ false) at.text front place.one_line lacks) longer)
 
 -- bytes more
@@ -106,10 +106,10 @@ pub keep-kept : (at now : Place) (front rest : List ℕ) → now ≡ with_text a
 keep-kept at now front rest is = rw is (ap (λ bytes. read_at at.fault at.ended at.version at.line (lines_of bytes)) (sym (append_assoc at.text front rest)))
 
 pub IsPlace-kept : (at now : Place) (front : List ℕ) → at.ended ≡ false → IsPlace at → Lacks is_line_feed front → length front ≤ most_bytes - length at.text → now ≡ with_text at (at.text ++ front) → IsPlace now
-IsPlace-kept at now front open place lacks short is = rw is (record {
+IsPlace-kept at now front within place lacks short is = rw is (record {
   one_line = All-append (λ b. is_line_feed b ≡ false) at.text front place.one_line lacks;
   short = omega (arith, length-append at.text front, place.short);
-  nothing = λ ended. absurd (false≢true (sym open ∙ ended));
+  nothing = λ ended. absurd (false≢true (sym within ∙ ended));
 })
 
 -- a place whose line is empty
@@ -136,11 +136,11 @@ pub end-ended : (at now : Place) (old : List Step) (front : List ℕ) → is_som
 end-ended at now old front none ended place lacks is = reads-same at now old old (front ++ 10 ∷ []) refl
     (λ rest. rw (is, none-is at.fault none, ended, place.nothing ended, append_assoc front (10 ∷ []) rest) (end-line at.line front rest lacks))
 
-module _ (at : Place) (front : List ℕ) (none : is_some at.fault ≡ false) (open : at.ended ≡ false) (place : IsPlace at) (lacks : Lacks is_line_feed front) where
+module _ (at : Place) (front : List ℕ) (none : is_some at.fault ≡ false) (within : at.ended ≡ false) (place : IsPlace at) (lacks : Lacks is_line_feed front) where
   line-read : (rest : List ℕ) → log_from at ((front ++ 10 ∷ []) ++ rest)
       ≡ go_on (line_of at.version (at.text ++ front)) at.version at.line (λ known. lines_from known (at.line + 1) (lines_of rest)) (end_from (at.line + 1) (lines_of rest))
   line-read rest =
-      rw (none-is at.fault none, open, regroup at.text front rest)
+      rw (none-is at.fault none, within, regroup at.text front rest)
       (whole_line at.version at.line (at.text ++ front) rest (All-append (λ b. is_line_feed b ≡ false) at.text front place.one_line lacks))
 
   line-said : (said : Result Line LogKind) (rest : List ℕ) → line_of at.version (at.text ++ front) ≡ said
@@ -151,13 +151,13 @@ module _ (at : Place) (front : List ℕ) (none : is_some at.fault ≡ false) (op
   pub fed-line : (outcome : Outcome) (now : Place) (old new : List Step) → SaysOutcome (line_of at.version (at.text ++ front)) outcome old new → now ≡ next_place at outcome
       → ReadsOn at old (front ++ 10 ∷ []) now new
   fed-line (outcomes.Heading version) now old new says is = reads-same at now old new (front ++ 10 ∷ []) says.1
-      (λ rest. line-said (Ok (Heading version)) rest says.0 ∙ rw (is, none-is at.fault none, open) refl)
+      (λ rest. line-said (Ok (Heading version)) rest says.0 ∙ rw (is, none-is at.fault none, within) refl)
   fed-line outcomes.End now old new says is = reads-same at now old new (front ++ 10 ∷ []) says.1
       (λ rest. line-said (Ok End) rest says.0 ∙ rw (is, none-is at.fault none) refl)
   fed-line outcomes.Step now old new says is = record {
     added = says.step ∷ [];
     steps = says.added;
-    read = λ rest. line-said (Ok (Says says.step)) rest says.says ∙ rw (is, none-is at.fault none, open) refl;
+    read = λ rest. line-said (Ok (Says says.step)) rest says.says ∙ rw (is, none-is at.fault none, within) refl;
   }
   fed-line (outcomes.Fault kind) now old new says is = reads-same at now old new (front ++ 10 ∷ []) says.1
       (λ rest. line-said (Err kind) rest says.0 ∙ rw is refl)
@@ -201,6 +201,6 @@ unfolding lines_from
 lines_from-last version line text short = let le : nat_le (length text) most_bytes ≡ true = grind (arith, nat_tests) in rw le refl
 
 pub finish-open : (at : Place) → is_some at.fault ≡ false → at.ended ≡ false → IsPlace at → log_from at [] ≡ no_steps_but NoEnd at.line
-finish-open at none open place =
-    rw (none-is at.fault none, open, append-nil at.text)
+finish-open at none within place =
+    rw (none-is at.fault none, within, append-nil at.text)
     (ap (lines_from at.version at.line) (split-last is_line_feed at.text place.one_line) ∙ lines_from-last at.version at.line at.text place.short)

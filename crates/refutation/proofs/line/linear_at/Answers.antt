@@ -25,10 +25,10 @@ returns c =
     (ap are_pairs (sym c.deref.ensures.value) ∙ sym c.is_paired.ensures ∙ c.if-not-is_paired.false)
     (elim c.if-small_numbers.branch [
       | then-small_numbers w ↦ w.if-small_numbers.true
-      | else-small_numbers w ↦ absurd (false≢true (sym w.value-is ∙ c.if-not-divisor.false))
+      | else-small_numbers w ↦ absurd (false≢true (sym w.if-small_numbers.false ∙ (sym w.value-is ∙ c.if-not-divisor.false)))
     ])
     (elim c.if-small_numbers.branch [
       | then-small_numbers w ↦ sym w.value-is ∙ c.if-not-divisor.false
-      | else-small_numbers w ↦ absurd (false≢true (sym w.value-is ∙ c.if-not-divisor.false))
+      | else-small_numbers w ↦ absurd (false≢true (sym w.if-small_numbers.false ∙ (sym w.value-is ∙ c.if-not-divisor.false)))
     ])
     (c.in_ok-pair_up.ensures ∙ rw (c.requires.parts, c.deref-2.ensures.value) refl)
