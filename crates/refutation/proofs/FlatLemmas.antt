@@ -87,12 +87,14 @@ steps_from-push from lists more (e ∷ ends) to is whole =
     ∙ ap (λ (steps : List Step). step_between lists from e ∷ steps) (steps_from-push e lists more ends to is.1 whole)
 
 pub AreEnds-push : (from : End) (lists more : Lists) (ends : List End) (to : End) → AreEnds from ends lists → IsGrown lists more to → AreEnds from (ends ++ to ∷ []) (grown lists more)
-AreEnds-push from lists more [] to is whole =
-    (record { lits = omega arith; hints = omega arith; parts = omega arith }, record {
-        lits = whole.lits ∙ sym (length-append lists.lits more.lits);
-        hints = whole.hints ∙ sym (length-append lists.hints more.hints);
-        parts = whole.parts ∙ sym (length-append lists.parts more.parts);
-    })
+AreEnds-push from lists more [] to is whole = (
+  record { lits = omega arith; hints = omega arith; parts = omega arith },
+  record {
+    lits = whole.lits ∙ sym (length-append lists.lits more.lits);
+    hints = whole.hints ∙ sym (length-append lists.hints more.hints);
+    parts = whole.parts ∙ sym (length-append lists.parts more.parts);
+  },
+)
 AreEnds-push from lists more (e ∷ ends) to is whole = (is.0, AreEnds-push e lists more ends to is.1 whole)
 
 -- a step more is kept

@@ -20,7 +20,7 @@ use Rattle.refutation.specs.declared.fault.LogKind.{LogKind}
 use Rattle.refutation.specs.declared.step.Part.{Part}
 use Rattle.refutation.specs.declared.version.Version.{Version}
 use Rattle.refutation.specs.declared.version.Version.TheVariants.{One, Two}
-use Rattle.refutation.proofs.StepLemmas.{neither}
+use Rattle.refutation.proofs.StepLemmas.{both, neither}
 use Rattle.refutation.proofs.NumberTexts.{IsToken, decimal-token, literal-token}
 use Rattle.refutation.proofs.StepTexts.{IsOf, step_line-step_text}
 
@@ -52,10 +52,6 @@ lines_from-line version line text rest is =
     ∙ lines_from-more version line text (lines_of rest) (omega (arith, length-slice_split (λ (b : ℕ). b == 10) rest))
 
 -- ---- the line of a step
-
-both : (a b : Bool) → a && b ≡ true → (a ≡ true) × (b ≡ true)
-both true b is = (refl, is)
-both false b is = cc
 
 -- the same by a test
 line-by_test : (text : List ℕ) → list_all (λ b. nat_le 32 b) text ≡ true → IsLine text

@@ -12,6 +12,7 @@ use Rattle.rows.specs.Literals.{Literal}
 use Rattle.refutation.specs.Lines.{is_count, is_literal, is_negated, is_small_number, is_small_variable, is_zero, literal, number, without_sign}
 use Rattle.refutation.specs.Texts.{literal_token, sign_text}
 use Rattle.refutation.specs.Written.{IsVariable}
+use Rattle.refutation.proofs.StepLemmas.{both}
 
 -- bytes among which there are no space and no LF
 abbrev pub IsToken : List ℕ → Type 0
@@ -21,10 +22,6 @@ IsToken token = All (λ b. 33 ≤ b) token
 
 digit-least : (b : ℕ) → is_ascii_digit b ≡ true → 48 ≤ b
 digit-least b is = grind (arith, nat_tests)
-
-both : (a b : Bool) → a && b ≡ true → (a ≡ true) × (b ≡ true)
-both true b is = (refl, is)
-both false b is = cc
 
 digits-least : (ds : List ℕ) → list_all is_ascii_digit ds ≡ true → All (λ b. 48 ≤ b) ds
 digits-least [] is = All-nil (λ (b : ℕ). 48 ≤ b)

@@ -111,7 +111,7 @@ abbrev pub numbers_of : List Part → List ℕ
 numbers_of [] = []
 numbers_of (part ∷ parts) = part.factor ∷ part.row ∷ numbers_of parts
 
-flat_map-part_text : (parts : List Part) → flat_map part_text parts ≡ flat_map number_text (numbers_of parts)
+pub flat_map-part_text : (parts : List Part) → flat_map part_text parts ≡ flat_map number_text (numbers_of parts)
 flat_map-part_text [] = refl
 flat_map-part_text (part ∷ parts) =
     append_assoc (number_text part.factor) (number_text part.row) (flat_map part_text parts)
