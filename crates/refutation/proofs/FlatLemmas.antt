@@ -13,7 +13,6 @@ use Rattle.refutation.specs.Steps.Step.{Clause, Linear}
 use Rattle.refutation.specs.Flat.{AreEnds, AreKept, IsBehind, IsWhole, Lists, end_before, front, step_between, steps_from}
 use Rattle.refutation.specs.declared.log.End.{End}
 use Rattle.refutation.specs.declared.step.Part.{Part}
-use Rattle.refutation.specs.declared.step.StepKind.{StepKind}
 use Rattle.refutation.specs.declared.step.StepKind.TheVariants as kinds
 
 -- the lists with more behind each

@@ -1,18 +1,17 @@
 -- Logs, worked out by hand: what their texts say, which faults count first, and which texts are written.
 use Prim.Native.String.{String}
 use Rattle.std.proofs.Common.{◌≡◌, ℕ, true, false, List, [], ◌∷◌, ◌++◌, Some, None, Ok, Err, refl}
-use Rattle.std.specs.Prelude.{codes, Option, Result}
+use Rattle.std.specs.Prelude.{codes, Result}
 use Rattle.std.specs.Fmt.{digits}
-use Rattle.rows.specs.Literals.{Literal, yes, no}
+use Rattle.rows.specs.Literals.{yes, no}
 use Rattle.refutation.specs.Steps.{Step, kind_at, clause_at, hints_at, parts_at, divisor_at}
 use Rattle.refutation.specs.Steps.Step.{Clause, Linear}
 use Rattle.refutation.specs.Logs.{Fault, lines_from, log_of}
 use Rattle.refutation.specs.Texts.{log_text, text_in}
-use Rattle.refutation.specs.Places.{Place, log_from, start, start_at}
-use Rattle.refutation.specs.declared.fault.LogKind.TheVariants.{BadLine, BadNumber, NoEnd, TooLong}
+use Rattle.refutation.specs.Places.{log_from, start_at}
+use Rattle.refutation.specs.declared.fault.LogKind.TheVariants.{BadLine, BadNumber, NoEnd}
 use Rattle.refutation.specs.declared.step.Part.{Part}
 use Rattle.refutation.specs.declared.step.StepKind.TheVariants as kinds
-use Rattle.refutation.specs.declared.version.Version.{Version}
 use Rattle.refutation.specs.declared.version.Version.TheVariants.{One, Two}
 
 abbrev says : String → Result (List Step) Fault

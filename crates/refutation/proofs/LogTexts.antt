@@ -1,5 +1,5 @@
 -- The text of a log reads back as the log.
-use Rattle.std.proofs.Common.{◌≡◌, ℕ, ◌+◌, ◌<◌, ◌≤◌, ◌==◌, ◌&&◌, Bool, true, false, List, [], ◌∷◌, ◌++◌, length, append_assoc, Option, Some, None, refl, arith, ap, sym, ◌∙◌, decimal}
+use Rattle.std.proofs.Common.{◌≡◌, ℕ, ◌+◌, ◌<◌, ◌≤◌, ◌==◌, Bool, true, false, List, [], ◌∷◌, ◌++◌, length, append_assoc, Option, Some, None, refl, arith, ap, sym, ◌∙◌, decimal}
 use Rattle.std.specs.Prelude.{codes, if◌then◌else◌, nat_le, bytes_eq, Result, Ok}
 use Rattle.std.specs.List.{All, flat_map, list_all, list_any}
 use Rattle.std.proofs.lemmas.Bool.{le-leb, leb-true}
@@ -12,7 +12,7 @@ use Rattle.refutation.specs.Steps.{Step, NamesRows, is_linear}
 use Rattle.refutation.specs.Steps.Step.{Clause, Linear}
 use Rattle.refutation.specs.Lines.{step_line}
 use Rattle.refutation.specs.Logs.{Line, Reading, end_from, go_on, line_of, lines_from, lines_of, log_of, most_bytes, whole}
-use Rattle.refutation.specs.Logs.Line.{Heading, End, Says}
+use Rattle.refutation.specs.Logs.Line.{Says}
 use Rattle.refutation.specs.Texts.{clause_text, heading_text, linear_text, literal_text, literal_token, log_text, number_text, part_text, step_line_text, step_text, text_in, version_of}
 use Rattle.refutation.specs.Writable.{HasShortLines}
 use Rattle.refutation.specs.Written.{HasSmallNumbers, IsFactored, IsSmall, IsVariable}

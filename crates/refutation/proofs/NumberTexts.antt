@@ -1,5 +1,5 @@
 -- The tokens that numbers and literals are written as, and what they are read as.
-use Rattle.std.proofs.Common.{◌≡◌, ℕ, ◌+◌, ◌<◌, ◌≤◌, ◌^◌, ◌==◌, ◌&&◌, Bool, true, false, not, List, [], ◌∷◌, ◌++◌, get_or, refl, arith, ap, ◌∙◌, decimal}
+use Rattle.std.proofs.Common.{◌≡◌, ℕ, ◌+◌, ◌<◌, ◌≤◌, ◌^◌, ◌==◌, Bool, true, false, not, List, [], ◌∷◌, ◌++◌, get_or, refl, arith, ap, ◌∙◌, decimal}
 use Rattle.std.specs.Prelude.{codes, nat_eq, nat_le}
 use Rattle.std.specs.List.{All, list_all, starts_with}
 use Rattle.std.specs.Char.{is_ascii_digit}

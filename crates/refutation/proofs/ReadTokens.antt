@@ -1,5 +1,5 @@
 -- A line that is read is the line of its step.
-use Rattle.std.proofs.Common.{◌≡◌, ℕ, ◌+◌, ◌<◌, ◌≤◌, ◌^◌, ◌==◌, ◌&&◌, Bool, true, false, not, List, [], ◌∷◌, ◌++◌, map, length, get_or, append_assoc, refl, arith, ap, sym, ◌∙◌, decimal}
+use Rattle.std.proofs.Common.{◌≡◌, ℕ, ◌<◌, ◌≤◌, ◌^◌, ◌==◌, ◌&&◌, Bool, true, false, not, List, [], ◌∷◌, ◌++◌, map, length, get_or, append_assoc, refl, arith, ap, sym, ◌∙◌, decimal}
 use Rattle.std.specs.Prelude.{bytes_eq, codes, nat_eq, nat_le, nat_lt, Result, Ok}
 use Rattle.std.specs.List.{flat_map, join_with_byte, list_all, onto_first, starts_with}
 use Rattle.std.specs.Char.{is_ascii_digit}
@@ -14,7 +14,7 @@ use Rattle.rows.specs.Literals.{Literal}
 use Rattle.refutation.specs.Steps.{Step}
 use Rattle.refutation.specs.Steps.Step.{Clause, Linear}
 use Rattle.refutation.specs.Lines.{◌>>=◌, are_pairs, check, clause_step, groups_of, is_count, is_literal, is_negated, is_small_number, is_small_variable, is_zero, linear_step, literal, marked_step, number, paired, step_line, step_of, tokens_of, without_sign}
-use Rattle.refutation.specs.Texts.{clause_text, linear_text, literal_text, literal_token, number_text, part_text, sign_text, step_text}
+use Rattle.refutation.specs.Texts.{clause_text, linear_text, literal_text, literal_token, number_text, step_text}
 use Rattle.refutation.specs.declared.fault.LogKind.{LogKind}
 use Rattle.refutation.specs.declared.fault.LogKind.TheVariants.{BadLine, BadNumber}
 use Rattle.refutation.specs.declared.step.Part.{Part}

@@ -4,7 +4,7 @@ use Rattle.std.specs.Prelude.{slice_get, IfSome, IsTrue, ◌↔◌}
 use Rattle.std.specs.List.{All, flat_map, list_any}
 use Rattle.std.proofs.lemmas.List.{flat_map_more}
 use Rattle.std.proofs.lemmas.List.Elements.{All-push}
-use Rattle.refutation.specs.Steps.{Step, kind_of, kind_at, clause_at, hints_at, parts_at, divisor_at}
+use Rattle.refutation.specs.Steps.{Step, kind_at, clause_at, hints_at, parts_at, divisor_at}
 use Rattle.refutation.specs.Steps.Step.{Clause, Linear}
 use Rattle.refutation.specs.declared.step.StepKind.TheVariants as kinds
 

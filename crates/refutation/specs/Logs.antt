@@ -1,5 +1,5 @@
 -- What the text of a log says (own format): its steps, line by line, and then its end or the first fault.
-use Rattle.std.specs.Prelude.{ℕ, ◌+◌, Bool, nat_le, ◌==◌, if◌then◌else◌, List, [], ◌∷◌, ◌++◌, length}
+use Rattle.std.specs.Prelude.{ℕ, ◌+◌, nat_le, ◌==◌, if◌then◌else◌, List, [], ◌∷◌, ◌++◌, length}
 use Rattle.std.specs.Prelude.{Option, Some, None, Result, Ok, Err, codes, bytes_eq}
 use Rattle.std.specs.List.{slice_split}
 use Rattle.std.specs.Str.{byte}

@@ -1,7 +1,7 @@
 use Rattle.std.proofs.Common.{arith, ap, length, ◌∙◌}
 use Rattle.std.specs.Prelude.{slice_range}
 use Rattle.refutation.specs.Flat.{Lists}
-use Rattle.refutation.proofs.FlatLemmas.{factors-read, found, length-kept, parts-read}
+use Rattle.refutation.proofs.FlatLemmas.{found, length-kept, parts-read}
 use Rattle.refutation.proofs.log.Log.parts.Goals as goal
 
 pub ends_of-requires : goal.ends_of-requires
