@@ -135,13 +135,18 @@ marks = (refl, refl, refl, refl, refl, refl, refl, refl, refl, refl, refl, refl)
 -- ---- reading on
 
 -- from the middle of a line; behind `end`; at a fault; from a log's first line that is line 2 of a file
-pub midway : (log_from (record { line = 7; text = codes "0 15"; version = Some One; ended = false; fault = None }) (codes "7 0\nend\n")
+pub midway : (log_from (record { line = 7; text = codes "0 15"; version = Some One; ended = false; fault = None })
+    (codes "7 0\nend\n")
     ≡ record { steps = Clause [] (157 ∷ []) ∷ []; fault = None })
-    × (log_from (record { line = 8; text = []; version = Some One; ended = true; fault = None }) [] ≡ record { steps = []; fault = None })
-    × (log_from (record { line = 8; text = []; version = Some One; ended = true; fault = None }) (codes " ") ≡ record { steps = []; fault = Some (BadLine, 8) })
-    × (log_from (record { line = 9; text = []; version = Some Two; ended = false; fault = Some (BadNumber, 4) }) (codes "end\n")
+    × (log_from (record { line = 8; text = []; version = Some One; ended = true; fault = None }) []
+    ≡ record { steps = []; fault = None })
+    × (log_from (record { line = 8; text = []; version = Some One; ended = true; fault = None }) (codes " ")
+    ≡ record { steps = []; fault = Some (BadLine, 8) })
+    × (log_from (record { line = 9; text = []; version = Some Two; ended = false; fault = Some (BadNumber, 4) })
+    (codes "end\n")
     ≡ record { steps = []; fault = Some (BadNumber, 4) })
-    × (log_from (start_at 2) (codes "refutation 1\n0 0\n") ≡ record { steps = Clause [] [] ∷ []; fault = Some (NoEnd, 4) })
+    × (log_from (start_at 2) (codes "refutation 1\n0 0\n")
+    ≡ record { steps = Clause [] [] ∷ []; fault = Some (NoEnd, 4) })
 unfolding lines_from
 midway = (refl, refl, refl, refl, refl)
 

@@ -1,19 +1,23 @@
 -- A line that is read is the line of its step.
-use Rattle.std.proofs.Common.{◌≡◌, ℕ, ◌<◌, ◌≤◌, ◌^◌, ◌==◌, ◌&&◌, Bool, true, false, not, List, [], ◌∷◌, ◌++◌, map, length, get_or, append_assoc, refl, arith, ap, sym, ◌∙◌, decimal}
+use Rattle.std.proofs.Common.{◌≡◌, ℕ, ◌<◌, ◌≤◌, ◌^◌, ◌==◌, ◌&&◌, Bool, true, false, not, List, [], ◌∷◌, ◌++◌, map}
+use Rattle.std.proofs.Common.{length, get_or, append_assoc, refl, arith, ap, sym, ◌∙◌, decimal}
 use Rattle.std.specs.Prelude.{bytes_eq, codes, nat_eq, nat_le, nat_lt, Result, Ok}
 use Rattle.std.specs.List.{flat_map, join_with_byte, list_all, onto_first, starts_with}
 use Rattle.std.specs.Char.{is_ascii_digit}
 use Rattle.std.proofs.lemmas.Bool.{eqb-true, le-leb, leb-true, ltb-true}
 use Rattle.std.proofs.lemmas.Bool.Decides.{nat_tests}
 use Rattle.std.proofs.lemmas.Fmt.{decimal-digits_value}
-use Rattle.std.proofs.lemmas.List.Splits.{join_with_byte-slice_split, length-slice_split, slice_split-cons_no, slice_split-cons_yes}
+use Rattle.std.proofs.lemmas.List.Splits.{join_with_byte-slice_split, length-slice_split, slice_split-cons_no}
+use Rattle.std.proofs.lemmas.List.Splits.{slice_split-cons_yes}
 use Rattle.std.proofs.lemmas.Slice.Eq.{bytes_eq-Decides}
 use Rattle.robin_io.proofs.NumberLemmas.{ascii_digits}
 use Rattle.robin_io.specs.Numbers.{is_number}
 use Rattle.rows.specs.Literals.{Literal}
 use Rattle.refutation.specs.Steps.{Step}
 use Rattle.refutation.specs.Steps.Step.{Clause, Linear}
-use Rattle.refutation.specs.Lines.{◌>>=◌, are_pairs, check, clause_step, groups_of, is_count, is_literal, is_negated, is_small_number, is_small_variable, is_zero, linear_step, literal, marked_step, number, paired, step_line, step_of, tokens_of, without_sign}
+use Rattle.refutation.specs.Lines.{◌>>=◌, are_pairs, check, clause_step, groups_of, is_count, is_literal}
+use Rattle.refutation.specs.Lines.{is_negated, is_small_number, is_small_variable, is_zero, linear_step, literal}
+use Rattle.refutation.specs.Lines.{marked_step, number, paired, step_line, step_of, tokens_of, without_sign}
 use Rattle.refutation.specs.Texts.{clause_text, linear_text, literal_text, literal_token, number_text, step_text}
 use Rattle.refutation.specs.declared.fault.LogKind.{LogKind}
 use Rattle.refutation.specs.declared.fault.LogKind.TheVariants.{BadLine, BadNumber}
@@ -56,32 +60,40 @@ number-text token is small =
     (small-lt (number token) (leb-true (number token) 18446744073709551615 small))
 
 variable-fits : (ds : List ℕ) → nat_le (number ds) 2147483647 ≡ true → is_small_number ds ≡ true
-variable-fits ds small = le-leb (number ds) 18446744073709551615 (le-more (number ds) (leb-true (number ds) 2147483647 small))
+variable-fits ds small = le-leb (number ds) 18446744073709551615
+    (le-more (number ds) (leb-true (number ds) 2147483647 small))
 
 -- the same of a literal, by its first byte
-signed-text : (first : Bool) (b : ℕ) (ds : List ℕ) → (b == 45) ≡ first → is_literal (b ∷ ds) ≡ true → is_small_variable (b ∷ ds) ≡ true → literal_token (literal (b ∷ ds)) ≡ b ∷ ds
+signed-text : (first : Bool) (b : ℕ) (ds : List ℕ) → (b == 45) ≡ first → is_literal (b ∷ ds) ≡ true
+    → is_small_variable (b ∷ ds) ≡ true → literal_token (literal (b ∷ ds)) ≡ b ∷ ds
 signed-text true b ds first is small =
     let at : b ≡ 45 = eqb-true b 45 first in
-    let negated : is_negated (b ∷ ds) ≡ true = let same : (45 == b) ≡ true = grind (arith, nat_tests) in rw same refl in
+    let negated : is_negated (b ∷ ds) ≡ true = let same : (45 == b) ≡ true = grind (arith, nat_tests) in
+    rw same refl in
     let plain : without_sign (b ∷ ds) ≡ ds = rw first refl in
     let count : is_count ds ≡ true = rw plain at is in
     let fits : is_small_number ds ≡ true = variable-fits ds (rw plain at small) in
-    rw (negated, plain) (ap (λ (c : ℕ). c ∷ decimal (number ds)) (sym at) ∙ ap (λ (xs : List ℕ). b ∷ xs) (number-text ds count fits))
+    rw (negated, plain) (ap (λ (c : ℕ). c ∷ decimal (number ds)) (sym at)
+    ∙ ap (λ (xs : List ℕ). b ∷ xs) (number-text ds count fits))
 signed-text false b ds first is small =
-    let negated : is_negated (b ∷ ds) ≡ false = let other : (45 == b) ≡ false = grind (arith, nat_tests) in rw other refl in
+    let negated : is_negated (b ∷ ds) ≡ false = let other : (45 == b) ≡ false = grind (arith, nat_tests) in
+    rw other refl in
     let plain : without_sign (b ∷ ds) ≡ b ∷ ds = rw first refl in
     let count : is_count (b ∷ ds) ≡ true = rw plain at is in
     let fits : is_small_number (b ∷ ds) ≡ true = variable-fits (b ∷ ds) (rw plain at small) in
     rw (negated, plain) (number-text (b ∷ ds) count fits)
 
-literal-text : (token : List ℕ) → is_literal token ≡ true → is_small_variable token ≡ true → literal_token (literal token) ≡ token
+literal-text : (token : List ℕ) → is_literal token ≡ true → is_small_variable token ≡ true
+    → literal_token (literal token) ≡ token
 literal-text [] is small = cc
 literal-text (b ∷ ds) is small = signed-text (b == 45) b ds refl is small
 
 -- ---- tokens
 
 -- tokens with a space behind each, and then others
-join-map : {X : Type 0} (f : X → List ℕ) (xs : List X) (token : List ℕ) (tokens : List (List ℕ)) → join_with_byte 32 (map f xs ++ token ∷ tokens) ≡ flat_map (λ x. f x ++ codes " ") xs ++ join_with_byte 32 (token ∷ tokens)
+join-map : {X : Type 0} (f : X → List ℕ) (xs : List X) (token : List ℕ) (tokens : List (List ℕ))
+    → join_with_byte 32 (map f xs ++ token ∷ tokens)
+    ≡ flat_map (λ x. f x ++ codes " ") xs ++ join_with_byte 32 (token ∷ tokens)
 join-map {X} f [] token tokens = refl
 join-map {X} f (x ∷ []) token tokens = simp append_assoc
 join-map {X} f (x ∷ y ∷ xs) token tokens =
@@ -98,7 +110,8 @@ joined-nil : (groups : List (List (List ℕ))) → 0 < length groups → joined 
 joined-nil [] some = absurd (omega arith)
 joined-nil (group ∷ groups) some = refl
 
-joined-onto : (token : List ℕ) (groups : List (List (List ℕ))) → 0 < length groups → joined (onto_first token groups) ≡ token ∷ joined groups
+joined-onto : (token : List ℕ) (groups : List (List (List ℕ))) → 0 < length groups
+    → joined (onto_first token groups) ≡ token ∷ joined groups
 joined-onto token [] some = absurd (omega arith)
 joined-onto token (group ∷ []) some = refl
 joined-onto token (group ∷ next ∷ groups) some = refl
@@ -106,7 +119,8 @@ joined-onto token (group ∷ next ∷ groups) some = refl
 some_group : (tokens : List (List ℕ)) → 0 < length (groups_of tokens)
 some_group tokens = omega (arith, length-slice_split is_zero tokens)
 
-joined-by : (zero_token : Bool) (token : List ℕ) (tokens : List (List ℕ)) → is_zero token ≡ zero_token → joined (groups_of tokens) ≡ tokens → joined (groups_of (token ∷ tokens)) ≡ token ∷ tokens
+joined-by : (zero_token : Bool) (token : List ℕ) (tokens : List (List ℕ)) → is_zero token ≡ zero_token
+    → joined (groups_of tokens) ≡ tokens → joined (groups_of (token ∷ tokens)) ≡ token ∷ tokens
 joined-by true token tokens is same =
     ap joined (slice_split-cons_yes is_zero token tokens is) ∙ joined-nil (groups_of tokens) (some_group tokens)
     ∙ ap (λ (ts : List (List ℕ)). codes "0" ∷ ts) same ∙ ap (λ (t : List ℕ). t ∷ tokens) (sym (zero-is token is))
@@ -120,7 +134,8 @@ joined-groups_of (token ∷ tokens) = joined-by (is_zero token) token tokens ref
 
 -- ---- steps
 
-passed : {A : Type 0} (test : Bool) (kind : LogKind) (others : Result A LogKind) (x : A) → check test kind >>= (λ _. others) ≡ Ok x → (test ≡ true) × (others ≡ Ok x)
+passed : {A : Type 0} (test : Bool) (kind : LogKind) (others : Result A LogKind) (x : A)
+    → check test kind >>= (λ _. others) ≡ Ok x → (test ≡ true) × (others ≡ Ok x)
 passed {A} true kind others x is = (refl, is)
 passed {A} false kind others x is = cc
 
@@ -142,41 +157,64 @@ clause-groups (a ∷ b ∷ []) step is = cc
 clause-groups (a ∷ b ∷ (x ∷ xs) ∷ cs) step is = cc
 clause-groups (a ∷ b ∷ [] ∷ c ∷ cs) step is = cc
 clause-groups (a ∷ b ∷ [] ∷ []) step is =
-    let first = passed (list_all is_literal a && list_all is_count b) BadLine (check (list_all is_small_variable a && list_all is_small_number b) BadNumber >>= (λ _. Ok (Clause (map literal a) (map number b)))) step is in
-    let second = passed (list_all is_small_variable a && list_all is_small_number b) BadNumber (Ok (Clause (map literal a) (map number b))) step first.1 in
+    let first = passed (list_all is_literal a && list_all is_count b) BadLine
+    (check (list_all is_small_variable a && list_all is_small_number b) BadNumber >>=
+    (λ _. Ok (Clause (map literal a) (map number b)))) step is in
+    let second = passed (list_all is_small_variable a && list_all is_small_number b) BadNumber
+    (Ok (Clause (map literal a) (map number b))) step first.1 in
     let written = both (list_all is_literal a) (list_all is_count b) first.0 in
     let small = both (list_all is_small_variable a) (list_all is_small_number b) second.0 in
     let same : step ≡ Clause (map literal a) (map number b) = cc in
-    record { clause = a; hints = b; are = refl; literals = written.0; counts = written.1; variables = small.0; numbers = small.1; is = same }
+    record {
+      clause = a;
+      hints = b;
+      are = refl;
+      literals = written.0;
+      counts = written.1;
+      variables =
+          small.0;
+      numbers = small.1;
+      is = same;
+    }
 
-map-text : (ts : List (List ℕ)) → list_all is_count ts ≡ true → list_all is_small_number ts ≡ true → map decimal (map number ts) ≡ ts
+map-text : (ts : List (List ℕ)) → list_all is_count ts ≡ true → list_all is_small_number ts ≡ true
+    → map decimal (map number ts) ≡ ts
 map-text [] counts small = refl
 map-text (t ∷ ts) counts small =
     let first = both (is_count t) (list_all is_count ts) counts in
     let second = both (is_small_number t) (list_all is_small_number ts) small in
-    ap (λ (u : List ℕ). u ∷ map decimal (map number ts)) (number-text t first.0 second.0) ∙ ap (λ (us : List (List ℕ)). t ∷ us) (map-text ts first.1 second.1)
+    ap (λ (u : List ℕ). u ∷ map decimal (map number ts)) (number-text t first.0 second.0)
+    ∙ ap (λ (us : List (List ℕ)). t ∷ us) (map-text ts first.1 second.1)
 
-map-literal : (ts : List (List ℕ)) → list_all is_literal ts ≡ true → list_all is_small_variable ts ≡ true → map literal_token (map literal ts) ≡ ts
+map-literal : (ts : List (List ℕ)) → list_all is_literal ts ≡ true → list_all is_small_variable ts ≡ true
+    → map literal_token (map literal ts) ≡ ts
 map-literal [] written small = refl
 map-literal (t ∷ ts) written small =
     let first = both (is_literal t) (list_all is_literal ts) written in
     let second = both (is_small_variable t) (list_all is_small_variable ts) small in
-    ap (λ (u : List ℕ). u ∷ map literal_token (map literal ts)) (literal-text t first.0 second.0) ∙ ap (λ (us : List (List ℕ)). t ∷ us) (map-literal ts first.1 second.1)
+    ap (λ (u : List ℕ). u ∷ map literal_token (map literal ts)) (literal-text t first.0 second.0)
+    ∙ ap (λ (us : List (List ℕ)). t ∷ us) (map-literal ts first.1 second.1)
 
 -- `0`, and then hints and another `0`
-zero-joined : (hints : List ℕ) → join_with_byte 32 (codes "0" ∷ (map decimal hints ++ codes "0" ∷ [])) ≡ codes "0 " ++ (flat_map number_text hints ++ codes "0")
+zero-joined : (hints : List ℕ) → join_with_byte 32 (codes "0" ∷ (map decimal hints ++ codes "0" ∷ []))
+    ≡ codes "0 " ++ (flat_map number_text hints ++ codes "0")
 zero-joined [] = refl
-zero-joined (hint ∷ hints) = ap (λ (text : List ℕ). codes "0 " ++ text) (join-map decimal (hint ∷ hints) (codes "0") [])
+zero-joined (hint ∷ hints) = ap (λ (text : List ℕ). codes "0 " ++ text)
+    (join-map decimal (hint ∷ hints) (codes "0") [])
 
-clause-tokens : (tokens : List (List ℕ)) (step : Step) → clause_step (groups_of tokens) ≡ Ok step → (clause : List Literal) × (hints : List ℕ) × (step ≡ Clause clause hints) × (join_with_byte 32 tokens ≡ clause_text clause hints)
+clause-tokens : (tokens : List (List ℕ)) (step : Step) → clause_step (groups_of tokens) ≡ Ok step
+    → (clause : List Literal) × (hints : List ℕ) × (step ≡ Clause clause hints) ×
+    (join_with_byte 32 tokens ≡ clause_text clause hints)
 clause-tokens tokens step is =
     let at : AreClause (groups_of tokens) step = clause-groups (groups_of tokens) step is in
     let lits : List Literal = map literal at.clause in
     let hints : List ℕ = map number at.hints in
     let tokens_are : tokens ≡ map literal_token lits ++ codes "0" ∷ (map decimal hints ++ codes "0" ∷ []) =
     sym (joined-groups_of tokens) ∙ ap joined at.are
-    ∙ ap (λ (ts : List (List ℕ)). ts ++ codes "0" ∷ (at.hints ++ codes "0" ∷ [])) (sym (map-literal at.clause at.literals at.variables))
-    ∙ ap (λ (ts : List (List ℕ)). map literal_token lits ++ codes "0" ∷ (ts ++ codes "0" ∷ [])) (sym (map-text at.hints at.counts at.numbers)) in (
+    ∙ ap (λ (ts : List (List ℕ)). ts ++ codes "0" ∷ (at.hints ++ codes "0" ∷ []))
+    (sym (map-literal at.clause at.literals at.variables))
+    ∙ ap (λ (ts : List (List ℕ)). map literal_token lits ++ codes "0" ∷ (ts ++ codes "0" ∷ []))
+    (sym (map-text at.hints at.counts at.numbers)) in (
       lits,
       hints,
       at.is,
@@ -204,20 +242,36 @@ linear-groups (a ∷ [] ∷ gs) step is = cc
 linear-groups (a ∷ (d ∷ e ∷ ds) ∷ gs) step is = cc
 linear-groups (a ∷ (d ∷ []) ∷ g ∷ gs) step is = cc
 linear-groups (a ∷ (d ∷ []) ∷ []) step is =
-    let first = passed (list_all is_count a && (are_pairs a && is_count d)) BadLine (check (list_all is_small_number a && is_small_number d) BadNumber >>= (λ _. Ok (Linear (paired (map number a)) (number d)))) step is in
-    let second = passed (list_all is_small_number a && is_small_number d) BadNumber (Ok (Linear (paired (map number a)) (number d))) step first.1 in
+    let first = passed (list_all is_count a && (are_pairs a && is_count d)) BadLine
+    (check (list_all is_small_number a && is_small_number d) BadNumber >>=
+    (λ _. Ok (Linear (paired (map number a)) (number d)))) step is in
+    let second = passed (list_all is_small_number a && is_small_number d) BadNumber
+    (Ok (Linear (paired (map number a)) (number d))) step first.1 in
     let written = both (list_all is_count a) (are_pairs a && is_count d) first.0 in
     let others = both (are_pairs a) (is_count d) written.1 in
     let small = both (list_all is_small_number a) (is_small_number d) second.0 in
     let same : step ≡ Linear (paired (map number a)) (number d) = cc in
-    record { parts = a; divisor = d; are = refl; counts = written.0; pairs = others.0; count = others.1; numbers = small.0; number_small = small.1; is = same }
+    record {
+      parts = a;
+      divisor = d;
+      are = refl;
+      counts = written.0;
+      pairs = others.0;
+      count = others.1;
+      numbers =
+          small.0;
+      number_small = small.1;
+      is = same;
+    }
 
 numbers_of-paired : (ts : List (List ℕ)) → are_pairs ts ≡ true → numbers_of (paired (map number ts)) ≡ map number ts
 numbers_of-paired [] pairs = refl
 numbers_of-paired (t ∷ []) pairs = cc
 numbers_of-paired (t ∷ u ∷ ts) pairs = ap (λ (ns : List ℕ). number t ∷ number u ∷ ns) (numbers_of-paired ts pairs)
 
-linear-tokens : (tokens : List (List ℕ)) (step : Step) → linear_step (groups_of tokens) ≡ Ok step → (parts : List Part) × (divisor : ℕ) × (step ≡ Linear parts divisor) × (join_with_byte 32 tokens ≡ linear_text parts divisor)
+linear-tokens : (tokens : List (List ℕ)) (step : Step) → linear_step (groups_of tokens) ≡ Ok step
+    → (parts : List Part) × (divisor : ℕ) × (step ≡ Linear parts divisor) ×
+    (join_with_byte 32 tokens ≡ linear_text parts divisor)
 linear-tokens tokens step is =
     let at : AreLinear (groups_of tokens) step = linear-groups (groups_of tokens) step is in
     let parts : List Part = paired (map number at.parts) in
@@ -227,7 +281,8 @@ linear-tokens tokens step is =
     let tokens_are : tokens ≡ map decimal (numbers_of parts) ++ codes "0" ∷ decimal divisor ∷ [] =
     sym (joined-groups_of tokens) ∙ ap joined at.are
     ∙ ap (λ (ts : List (List ℕ)). ts ++ codes "0" ∷ at.divisor ∷ []) parts_are
-    ∙ ap (λ (t : List ℕ). map decimal (numbers_of parts) ++ codes "0" ∷ t ∷ []) (sym (number-text at.divisor at.count at.number_small)) in (
+    ∙ ap (λ (t : List ℕ). map decimal (numbers_of parts) ++ codes "0" ∷ t ∷ [])
+    (sym (number-text at.divisor at.count at.number_small)) in (
       parts,
       divisor,
       at.is,
@@ -237,7 +292,8 @@ linear-tokens tokens step is =
     )
 
 -- what a mark and other tokens are
-join-mark : (mark : ℕ) (tokens : List (List ℕ)) → 0 < length tokens → join_with_byte 32 ((mark ∷ []) ∷ tokens) ≡ mark ∷ 32 ∷ join_with_byte 32 tokens
+join-mark : (mark : ℕ) (tokens : List (List ℕ)) → 0 < length tokens
+    → join_with_byte 32 ((mark ∷ []) ∷ tokens) ≡ mark ∷ 32 ∷ join_with_byte 32 tokens
 join-mark mark [] some = absurd (omega arith)
 join-mark mark (t ∷ ts) some = refl
 
@@ -250,7 +306,8 @@ some-linear : (tokens : List (List ℕ)) (step : Step) → linear_step (groups_o
 some-linear [] step is = cc
 some-linear (t ∷ ts) step is = omega arith
 
-marked-by : (c l : Bool) (mark : List ℕ) (tokens : List (List ℕ)) (step : Step) → bytes_eq mark (codes "c") ≡ c → bytes_eq mark (codes "l") ≡ l → marked_step (mark ∷ tokens) ≡ Ok step
+marked-by : (c l : Bool) (mark : List ℕ) (tokens : List (List ℕ)) (step : Step) → bytes_eq mark (codes "c") ≡ c
+    → bytes_eq mark (codes "l") ≡ l → marked_step (mark ∷ tokens) ≡ Ok step
     → join_with_byte 32 (mark ∷ tokens) ≡ step_text Two step
 marked-by true l mark tokens step is_c is_l is =
     let here : clause_step (groups_of tokens) ≡ Ok step = rw is_c at is in
@@ -266,11 +323,15 @@ marked-by false true mark tokens step is_c is_l is =
     ∙ ap (λ (text : List ℕ). codes "l " ++ text) at.3 ∙ ap (step_text Two) (sym at.2)
 marked-by false false mark tokens step is_c is_l is = let here = rw (is_c, is_l) at is in cc
 
-step-tokens : (version : Version) (tokens : List (List ℕ)) (step : Step) → step_of version tokens ≡ Ok step → join_with_byte 32 tokens ≡ step_text version step
+step-tokens : (version : Version) (tokens : List (List ℕ)) (step : Step) → step_of version tokens ≡ Ok step
+    → join_with_byte 32 tokens ≡ step_text version step
 step-tokens One tokens step is = let at = clause-tokens tokens step is in at.3 ∙ ap (step_text One) (sym at.2)
 step-tokens Two [] step is = cc
-step-tokens Two (mark ∷ tokens) step is = marked-by (bytes_eq mark (codes "c")) (bytes_eq mark (codes "l")) mark tokens step refl refl is
+step-tokens Two (mark ∷ tokens) step is = marked-by (bytes_eq mark (codes "c"))
+    (bytes_eq mark (codes "l")) mark tokens step refl refl is
 
 -- the line of a step that is read
-pub step_line-text : (version : Version) (text : List ℕ) (step : Step) → step_line version text ≡ Ok step → text ≡ step_text version step
-step_line-text version text step is = sym (join_with_byte-slice_split 32 text) ∙ step-tokens version (tokens_of text) step is
+pub step_line-text : (version : Version) (text : List ℕ) (step : Step) → step_line version text ≡ Ok step
+    → text ≡ step_text version step
+step_line-text version text step is = sym (join_with_byte-slice_split 32 text)
+    ∙ step-tokens version (tokens_of text) step is

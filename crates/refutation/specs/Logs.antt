@@ -82,7 +82,8 @@ unfoldable pub lines_from : Option Version → ℕ → List (List ℕ) → Readi
 lines_from version line [] = no_steps_but NoEnd line
 lines_from version line (text ∷ []) = no_steps_but (unfinished text) line
 lines_from version line (text ∷ next ∷ lines) =
-    go_on (line_of version text) version line (λ known. lines_from known (line + 1) (next ∷ lines)) (end_from (line + 1) (next ∷ lines))
+    go_on (line_of version text) version line (λ known. lines_from known (line + 1) (next ∷ lines))
+    (end_from (line + 1) (next ∷ lines))
 
 -- the bytes cut at each LF
 abbrev pub lines_of : List ℕ → List (List ℕ)
