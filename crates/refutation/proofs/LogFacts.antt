@@ -1,17 +1,20 @@
 -- Logs, worked out by hand: what their texts say, which faults count first, and which texts are written.
 use Prim.Native.String.{String}
-use Rattle.std.proofs.Common.{◌≡◌, ℕ, true, false, List, [], ◌∷◌, ◌++◌, Some, None, Ok, Err, refl}
-use Rattle.std.specs.Prelude.{codes, Result}
+use Rattle.std.proofs.Common.{◌≡◌, ℕ, ◌<◌, ◌≤◌, length, Option, true, false, List, [], ◌∷◌, ◌++◌, Some, None, Ok}
+use Rattle.std.proofs.Common.{Err, refl}
+use Rattle.std.specs.Prelude.{codes, nat_le, Result}
 use Rattle.std.specs.Fmt.{digits}
+use Rattle.std.proofs.lemmas.Bool.{le-leb, lt-leb}
 use Rattle.rows.specs.Literals.{yes, no}
 use Rattle.refutation.specs.Steps.{Step, kind_at, clause_at, hints_at, parts_at, divisor_at}
 use Rattle.refutation.specs.Steps.Step.{Clause, Linear}
-use Rattle.refutation.specs.Logs.{Fault, lines_from, log_of}
+use Rattle.refutation.specs.Logs.{Fault, line_of, lines_from, log_of, unfinished, words_of}
 use Rattle.refutation.specs.Texts.{log_text, text_in}
 use Rattle.refutation.specs.Places.{log_from, start_at}
-use Rattle.refutation.specs.declared.fault.LogKind.TheVariants.{BadLine, BadNumber, NoEnd}
+use Rattle.refutation.specs.declared.fault.LogKind.TheVariants.{BadLine, BadNumber, NoEnd, TooLong}
 use Rattle.refutation.specs.declared.step.Part.{Part}
 use Rattle.refutation.specs.declared.step.StepKind.TheVariants as kinds
+use Rattle.refutation.specs.declared.version.Version.{Version}
 use Rattle.refutation.specs.declared.version.Version.TheVariants.{One, Two}
 
 abbrev says : String → Result (List Step) Fault
@@ -131,6 +134,27 @@ pub marks : (two "c" ≡ Err (BadLine, 2))
     × (says "refutation 2\n" ≡ Err (NoEnd, 2))
 unfolding lines_from
 marks = (refl, refl, refl, refl, refl, refl, refl, refl, refl, refl, refl, refl)
+
+-- ---- the limit of a line
+
+-- whatever a line says, and in each version
+pub short : (version : Option Version) (text : List ℕ) → length text ≤ 16777216
+    → line_of version text ≡ words_of version text
+short version text fits = let is : nat_le (length text) 16777216 ≡ true = le-leb (length text) 16777216 fits in
+    rw is refl
+
+pub long : (version : Option Version) (text : List ℕ) → 16777216 < length text → line_of version text ≡ Err TooLong
+long version text more = let is : nat_le (length text) 16777216 ≡ false = lt-leb (length text) 16777216 more in
+    rw is refl
+
+-- the same where no LF ends it
+pub short-unfinished : (text : List ℕ) → length text ≤ 16777216 → unfinished text ≡ NoEnd
+short-unfinished text fits = let is : nat_le (length text) 16777216 ≡ true = le-leb (length text) 16777216 fits in
+    rw is refl
+
+pub long-unfinished : (text : List ℕ) → 16777216 < length text → unfinished text ≡ TooLong
+long-unfinished text more = let is : nat_le (length text) 16777216 ≡ false = lt-leb (length text) 16777216 more in
+    rw is refl
 
 -- ---- reading on
 
