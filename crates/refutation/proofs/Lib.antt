@@ -6,6 +6,9 @@ pub mod StepLemmas
 pub mod NumberTexts
 pub mod StepTexts
 pub mod LogTexts
+-- A text that is read is the text of its steps:
+pub mod ReadTokens
+pub mod ReadTexts
 -- Worked examples, so that a wrong definition does not check:
 pub mod LogFacts
 -- Laws of cutting, of tokens, groups, lines and pieces:

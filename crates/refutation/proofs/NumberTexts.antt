@@ -1,5 +1,6 @@
 -- The tokens that numbers and literals are written as, and what they are read as.
-use Rattle.std.proofs.Common.{◌≡◌, ℕ, ◌+◌, ◌<◌, ◌≤◌, ◌^◌, ◌==◌, ◌&&◌, Bool, true, false, not, List, [], ◌∷◌, ◌++◌, get_or, refl, arith, ap, ◌∙◌, decimal}
+use Rattle.std.proofs.Common.{◌≡◌, ℕ, ◌+◌, ◌<◌, ◌≤◌, ◌^◌, ◌==◌, Bool, true, false, not, List, [], ◌∷◌, ◌++◌, get_or}
+use Rattle.std.proofs.Common.{refl, arith, ap, ◌∙◌, decimal}
 use Rattle.std.specs.Prelude.{codes, nat_eq, nat_le}
 use Rattle.std.specs.List.{All, list_all, starts_with}
 use Rattle.std.specs.Char.{is_ascii_digit}
@@ -9,9 +10,11 @@ use Rattle.std.proofs.lemmas.Fmt.{first_decimal}
 use Rattle.std.proofs.lemmas.List.Elements.{All-nil, All-cons, All-weaker}
 use Rattle.robin_io.proofs.NumberLemmas.{is_number-decimal, reads-decimal}
 use Rattle.rows.specs.Literals.{Literal}
-use Rattle.refutation.specs.Lines.{is_count, is_literal, is_negated, is_small_number, is_small_variable, is_zero, literal, number, without_sign}
+use Rattle.refutation.specs.Lines.{is_count, is_literal, is_negated, is_small_number, is_small_variable, is_zero}
+use Rattle.refutation.specs.Lines.{literal, number, without_sign}
 use Rattle.refutation.specs.Texts.{literal_token, sign_text}
 use Rattle.refutation.specs.Written.{IsVariable}
+use Rattle.refutation.proofs.StepLemmas.{both}
 
 -- bytes among which there are no space and no LF
 abbrev pub IsToken : List ℕ → Type 0
@@ -21,10 +24,6 @@ IsToken token = All (λ b. 33 ≤ b) token
 
 digit-least : (b : ℕ) → is_ascii_digit b ≡ true → 48 ≤ b
 digit-least b is = grind (arith, nat_tests)
-
-both : (a b : Bool) → a && b ≡ true → (a ≡ true) × (b ≡ true)
-both true b is = (refl, is)
-both false b is = cc
 
 digits-least : (ds : List ℕ) → list_all is_ascii_digit ds ≡ true → All (λ b. 48 ≤ b) ds
 digits-least [] is = All-nil (λ (b : ℕ). 48 ≤ b)
@@ -79,12 +78,15 @@ is_small_number-decimal n small =
 variable-small : (v : ℕ) → v ≤ 2147483647 → v < 2 ^ 64
 variable-small v most = omega arith
 
-unsigned-token : (positive : Bool) (v : ℕ) → 1 ≤ v → v ≤ 2147483647 → without_sign (sign_text positive ++ decimal v) ≡ decimal v
+unsigned-token : (positive : Bool) (v : ℕ) → 1 ≤ v → v ≤ 2147483647
+    → without_sign (sign_text positive ++ decimal v) ≡ decimal v
 unsigned-token true v least most = begins-unsigned (decimal v) (first_decimal v (omega arith) (variable-small v most))
 unsigned-token false v least most = refl
 
-negated-token : (positive : Bool) (v : ℕ) → 1 ≤ v → v ≤ 2147483647 → not (is_negated (sign_text positive ++ decimal v)) ≡ positive
-negated-token true v least most = ap not (begins-negated (decimal v) (first_decimal v (omega arith) (variable-small v most)))
+negated-token : (positive : Bool) (v : ℕ) → 1 ≤ v → v ≤ 2147483647
+    → not (is_negated (sign_text positive ++ decimal v)) ≡ positive
+negated-token true v least most = ap not (begins-negated (decimal v)
+    (first_decimal v (omega arith) (variable-small v most)))
 negated-token false v least most = refl
 
 zero-token : (positive : Bool) (v : ℕ) → 1 ≤ v → v ≤ 2147483647 → is_zero (sign_text positive ++ decimal v) ≡ false
@@ -93,7 +95,8 @@ zero-token false v least most = refl
 
 signed-token : (positive : Bool) (v : ℕ) → v ≤ 2147483647 → IsToken (sign_text positive ++ decimal v)
 signed-token true v most = decimal-token v (variable-small v most)
-signed-token false v most = All-cons (λ (b : ℕ). 33 ≤ b) 45 (decimal v) (omega arith) (decimal-token v (variable-small v most))
+signed-token false v most = All-cons (λ (b : ℕ). 33 ≤ b) 45 (decimal v) (omega arith)
+    (decimal-token v (variable-small v most))
 
 pub literal-token : (lit : Literal) → IsVariable lit → IsToken (literal_token lit)
 literal-token lit is = signed-token lit.positive lit.var is.at_most
@@ -108,7 +111,8 @@ is_literal-literal_token lit is =
 
 variable-read : (lit : Literal) → IsVariable lit → number (without_sign (literal_token lit)) ≡ lit.var
 variable-read lit is =
-    ap number (unsigned-token lit.positive lit.var is.at_least is.at_most) ∙ number-decimal lit.var (variable-small lit.var is.at_most)
+    ap number (unsigned-token lit.positive lit.var is.at_least is.at_most)
+    ∙ number-decimal lit.var (variable-small lit.var is.at_most)
 
 pub is_small_variable-literal_token : (lit : Literal) → IsVariable lit → is_small_variable (literal_token lit) ≡ true
 is_small_variable-literal_token lit is =
@@ -116,5 +120,7 @@ is_small_variable-literal_token lit is =
 
 pub literal-literal_token : (lit : Literal) → IsVariable lit → literal (literal_token lit) ≡ lit
 literal-literal_token lit is =
-    ap (λ (v : ℕ). let read : Literal = record { var = v; positive = not (is_negated (literal_token lit)) } in read) (variable-read lit is)
-    ∙ ap (λ (p : Bool). let read : Literal = record { var = lit.var; positive = p } in read) (negated-token lit.positive lit.var is.at_least is.at_most)
+    ap (λ (v : ℕ). let read : Literal = record { var = v; positive = not (is_negated (literal_token lit)) } in
+    read) (variable-read lit is)
+    ∙ ap (λ (p : Bool). let read : Literal = record { var = lit.var; positive = p } in read)
+    (negated-token lit.positive lit.var is.at_least is.at_most)

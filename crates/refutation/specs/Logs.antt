@@ -1,5 +1,5 @@
 -- What the text of a log says (own format): its steps, line by line, and then its end or the first fault.
-use Rattle.std.specs.Prelude.{ℕ, ◌+◌, Bool, nat_le, ◌==◌, if◌then◌else◌, List, [], ◌∷◌, ◌++◌, length}
+use Rattle.std.specs.Prelude.{ℕ, ◌+◌, nat_le, ◌==◌, if◌then◌else◌, List, [], ◌∷◌, ◌++◌, length}
 use Rattle.std.specs.Prelude.{Option, Some, None, Result, Ok, Err, codes, bytes_eq}
 use Rattle.std.specs.List.{slice_split}
 use Rattle.std.specs.Str.{byte}
@@ -82,7 +82,8 @@ unfoldable pub lines_from : Option Version → ℕ → List (List ℕ) → Readi
 lines_from version line [] = no_steps_but NoEnd line
 lines_from version line (text ∷ []) = no_steps_but (unfinished text) line
 lines_from version line (text ∷ next ∷ lines) =
-    go_on (line_of version text) version line (λ known. lines_from known (line + 1) (next ∷ lines)) (end_from (line + 1) (next ∷ lines))
+    go_on (line_of version text) version line (λ known. lines_from known (line + 1) (next ∷ lines))
+    (end_from (line + 1) (next ∷ lines))
 
 -- the bytes cut at each LF
 abbrev pub lines_of : List ℕ → List (List ℕ)

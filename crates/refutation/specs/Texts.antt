@@ -1,5 +1,5 @@
 -- The text of a log (own format).
-use Rattle.std.specs.Prelude.{ℕ, Bool, true, false, List, [], ◌∷◌, ◌++◌, codes, decimal, if◌then◌else◌}
+use Rattle.std.specs.Prelude.{ℕ, Bool, true, false, List, [], ◌++◌, codes, decimal, if◌then◌else◌}
 use Rattle.std.specs.List.{flat_map, list_any}
 use Rattle.rows.specs.Literals.{Literal}
 use Rattle.refutation.specs.Steps.{Step, is_linear}

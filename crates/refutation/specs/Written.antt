@@ -1,5 +1,5 @@
 -- Numbers that a log can hold, and its text can say.
-use Rattle.std.specs.Prelude.{ℕ, ◌≤◌, ◌<◌, ◌^◌, List}
+use Rattle.std.specs.Prelude.{ℕ, ◌≤◌, ◌<◌, ◌^◌}
 use Rattle.std.specs.List.{All}
 use Rattle.rows.specs.Literals.{Literal}
 use Rattle.refutation.specs.Steps.{Step}

@@ -21,3 +21,6 @@ pub use log::Log;
 pub use step::{Part, StepKind};
 pub use text::log_text;
 pub use version::Version;
+
+#[cfg(test)]
+mod tests;

@@ -137,12 +137,7 @@ fn put_linear(
 }
 
 /// Adds the line of the step at place k.
-fn put_step(
-    text: &mut Vec<u8>,
-    version: Version,
-    log: &Log,
-    k: usize,
-) -> Result<(), AllocError>
+fn put_step(text: &mut Vec<u8>, version: Version, log: &Log, k: usize) -> Result<(), AllocError>
     requires { k < length log.now }
     ensures ok { OnOk result (IfSome (slice_get log.now k)
         (λ step. text.new.items ≡ text.old.items ++ texts.step_line_text version step)) }

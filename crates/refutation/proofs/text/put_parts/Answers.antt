@@ -13,6 +13,9 @@ pub loop-part-preserved : goal.loop-part-preserved
 loop-part-preserved c =
     let none : Part = record { factor = 0; row = 0 } in
     let part : Part = get_or c.args.parts.now c.loop-part.part-index none in
-    let is = slice_get-get_or c.args.parts.now c.loop-part.part-index none c.loop-part-test.true in
-    (text-got part_text c.args.parts.now c.loop-part.part-index part c.loop-part.text.items c.put_part.new.text.items c.args.text.now.items is c.in_ok-put_part.ensures.ok c.loop-part.invariant.0,
-        All-got IsFactored c.args.parts.now c.loop-part.part-index part is c.loop-part.invariant.1 c.in_ok-put_part.ensures.numbers)
+    let is = slice_get-get_or c.args.parts.now c.loop-part.part-index none c.loop-part-test.true in (
+      text-got part_text c.args.parts.now c.loop-part.part-index part c.loop-part.text.items
+          c.put_part.new.text.items c.args.text.now.items is c.in_ok-put_part.ensures.ok c.loop-part.invariant.0,
+      All-got IsFactored c.args.parts.now c.loop-part.part-index part is c.loop-part.invariant.1
+          c.in_ok-put_part.ensures.numbers,
+    )

@@ -10,7 +10,11 @@ pub loop-k-preserved : goal.loop-k-preserved
 loop-k-preserved c =
     let there : c.loop-k.k < length c.args.self.now = omega arith in
     All-at NamesRows c.args.self.now c.loop-k.k there c.loop-k.invariant
-    (if_some-true (slice_get c.args.self.now c.loop-k.k) c.step_names_rows.result NamesRows c.if-not-step_names_rows.false c.step_names_rows.ensures)
+    (if_some-true (slice_get c.args.self.now c.loop-k.k) c.step_names_rows.result NamesRows
+    c.if-not-step_names_rows.false c.step_names_rows.ensures)
 
 pub returns : goal.returns
-returns c = (λ _. subst (All NamesRows) (take_all c.loop-k.k c.args.self.now (omega arith)) c.loop-k.invariant, λ _. refl)
+returns c = (
+  λ _. subst (All NamesRows) (take_all c.loop-k.k c.args.self.now (omega arith)) c.loop-k.invariant,
+  λ _. refl,
+)
