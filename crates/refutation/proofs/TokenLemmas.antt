@@ -1,5 +1,7 @@
 -- Tokens in bytes, and what their digits say.
-use Rattle.std.proofs.Common.{◌≡◌, ◌≢◌, ℕ, ◌+◌, ◌-◌, ◌*◌, ◌%◌, ◌^◌, ◌<◌, ◌≤◌, Bool, true, false, not, ◌&&◌, nat_le, nat_lt, nat_eq, List, [], ◌∷◌, ◌++◌, length, take, drop, get_or, Option, Some, None, SomeIff, Result, Ok, Err, refl, sym, ap, subst, ◌∙◌, arith, rules, inl, inr}
+use Rattle.std.proofs.Common.{◌≡◌, ◌≢◌, ℕ, ◌+◌, ◌-◌, ◌*◌, ◌%◌, ◌^◌, ◌<◌, ◌≤◌, Bool, true, false, not, ◌&&◌, nat_le}
+use Rattle.std.proofs.Common.{nat_lt, nat_eq, List, [], ◌∷◌, ◌++◌, length, take, drop, get_or, Option, Some, None}
+use Rattle.std.proofs.Common.{SomeIff, Result, Ok, Err, refl, sym, ap, subst, ◌∙◌, arith, rules, inl, inr}
 use Rattle.std.specs.Prelude.{codes, bytes_eq, is_some, unwrap_or}
 use Rattle.std.specs.List.{All, list_all, starts_with, onto_first}
 use Rattle.std.specs.Borrow.{Bor}
@@ -26,9 +28,11 @@ use Rattle.robin_io.specs.declared.numbers.NumberFault.{NumberFault}
 use Rattle.robin_io.specs.declared.numbers.NumberFault.TheVariants as number_faults
 use Rattle.robin_io.proofs.NumberLemmas.{ascii_digits}
 use Rattle.rows.specs.Literals.{Literal}
-use Rattle.refutation.specs.Lines.{is_count, is_literal, is_negated, is_small_number, is_small_variable, is_space, is_zero, literal, number, tokens_of, without_sign}
+use Rattle.refutation.specs.Lines.{is_count, is_literal, is_negated, is_small_number, is_small_variable, is_space}
+use Rattle.refutation.specs.Lines.{is_zero, literal, number, tokens_of, without_sign}
 use Rattle.refutation.specs.Cuts.{Lacks, onto_front}
-use Rattle.refutation.specs.Tokens.{AreDigits, EndsToken, FindsToken, IsOther, IsUnsigned, IsWrong, Says, SaysCount, StandsFirst, StandsWrong, tokens_left}
+use Rattle.refutation.specs.Tokens.{AreDigits, EndsToken, FindsToken, IsOther, IsUnsigned, IsWrong, Says, SaysCount}
+use Rattle.refutation.specs.Tokens.{StandsFirst, StandsWrong, tokens_left}
 use Rattle.refutation.specs.declared.fault.LogKind.{LogKind}
 use Rattle.refutation.specs.declared.fault.LogKind.TheVariants.{BadLine}
 use Rattle.refutation.specs.declared.token.Item.{Item}
@@ -60,7 +64,8 @@ digit-range b h =
     (grind (arith, nat_tests), grind (arith, nat_tests))
 
 -- one digit more
-pub digits-more : (ds : List ℕ) (i : ℕ) → i < length ds → list_all is_ascii_digit (take i ds) ≡ true → is_ascii_digit (get_or ds i 0) ≡ true
+pub digits-more : (ds : List ℕ) (i : ℕ) → i < length ds → list_all is_ascii_digit (take i ds) ≡ true
+    → is_ascii_digit (get_or ds i 0) ≡ true
     → list_all is_ascii_digit (take (i + 1) ds) ≡ true
 digits-more ds i within so_far here = list_all_more is_ascii_digit ds i 0 within ∙ rw (so_far, here) refl
 
@@ -68,17 +73,20 @@ few-taken : (ds : List ℕ) (i : ℕ) → i < 19 → length (take (i + 1) ds) �
 few-taken ds i short = rw (length-take (i + 1) ds) (omega arith)
 
 -- its value, where there are at most 19 digits
-pub value-more : (ds : List ℕ) (i v : ℕ) → i < length ds → i + 1 ≤ 19 → list_all is_ascii_digit (take i ds) ≡ true → is_ascii_digit (get_or ds i 0) ≡ true
+pub value-more : (ds : List ℕ) (i v : ℕ) → i < length ds → i + 1 ≤ 19 → list_all is_ascii_digit (take i ds) ≡ true
+    → is_ascii_digit (get_or ds i 0) ≡ true
     → v ≡ number (take i ds) → (v * 10 + (get_or ds i 0 - 48)) % 2 ^ 64 ≡ number (take (i + 1) ds)
 value-more ds i v within short so_far here is =
     let more = digits_value_more 10 ds i within in
     let digit = digit_value_digit (get_or ds i 0) (digit-range (get_or ds i 0) here) in
-    let fits : number (take (i + 1) ds) < 10 ^ 19 = digits_value_short ascii_digits (take (i + 1) ds) 19 (digits-more ds i within so_far here) (few-taken ds i (omega arith)) in
+    let fits : number (take (i + 1) ds) < 10 ^ 19 = digits_value_short ascii_digits (take (i + 1) ds) 19
+    (digits-more ds i within so_far here) (few-taken ds i (omega arith)) in
     let same : v * 10 + (get_or ds i 0 - 48) ≡ number (take (i + 1) ds) = omega (arith, more, digit, is) in
     rw same (mod-eq_of_lt (omega (arith, fits)))
 
 -- at most 19 digits fit 64 bits
-pub short-fits : (ds : List ℕ) (i : ℕ) → i ≤ 19 → list_all is_ascii_digit (take i ds) ≡ true → number (take i ds) < 2 ^ 64
+pub short-fits : (ds : List ℕ) (i : ℕ) → i ≤ 19 → list_all is_ascii_digit (take i ds) ≡ true
+    → number (take i ds) < 2 ^ 64
 short-fits ds i short so_far =
     let few : length (take i ds) ≤ 19 = rw (length-take i ds) (omega arith) in
     let fits : number (take i ds) < 10 ^ 19 = digits_value_short ascii_digits (take i ds) 19 so_far few in
@@ -88,7 +96,8 @@ short-fits ds i short so_far =
 pub long-value : (ds : List ℕ) (r : Result ℕ NumberFault) → list_all is_ascii_digit ds ≡ true → 0 < length ds
     → IfOk r (λ n. IsTrue (is_number ds) × (n ≡ digits_value 10 ds))
     → (IsErrOf r number_faults.Bad → IsFalse (is_number ds))
-    → ((IsErrOf r number_faults.TooLarge → IsTrue (is_number ds) × (2 ^ 64 ≤ digits_value 10 ds)) × (IsTrue (is_number ds) × (2 ^ 64 ≤ digits_value 10 ds) → IsErrOf r number_faults.TooLarge))
+    → ((IsErrOf r number_faults.TooLarge → IsTrue (is_number ds) × (2 ^ 64 ≤ digits_value 10 ds)) ×
+    (IsTrue (is_number ds) × (2 ^ 64 ≤ digits_value 10 ds) → IsErrOf r number_faults.TooLarge))
     → SomeIff (result_ok r) (number ds < 2 ^ 64) (number ds)
 long-value ds (Ok n) digits some value bad large =
     let not_over : 2 ^ 64 ≤ digits_value 10 ds → ⊥ = λ over. let other = large.1 (value.0, over) in cc in
@@ -114,9 +123,9 @@ zero-is token h = (bytes_eq-Decides token (codes "0")).0 h
 
 pub other-wrong : (token : List ℕ) → list_all is_ascii_digit token ≡ false → IsWrong is_count token
 other-wrong token other = (
-    fails (is_zero token) (λ zero. false≢true (sym other ∙ ap (list_all is_ascii_digit) (zero-is token zero))),
-    rw (other, and_false (nat_lt 0 (length token))) refl,
-  )
+  fails (is_zero token) (λ zero. false≢true (sym other ∙ ap (list_all is_ascii_digit) (zero-is token zero))),
+  rw (other, and_false (nat_lt 0 (length token))) refl,
+)
 
 -- a number without leading zeros is at least 1
 pub count-positive : (ds : List ℕ) → is_count ds ≡ true → 1 ≤ number ds
@@ -128,7 +137,8 @@ count-positive (d ∷ ds) h =
     let range = digit-range d first.0 in
     let digit = digit_value_digit d range in
     let other : d ≢ 48 = λ is. false≢true (sym (not_false _ parts.1) ∙ rw is refl) in
-    let more : number (take (0 + 1) (d ∷ ds)) ≡ number (take 0 (d ∷ ds)) * 10 + _ = digits_value_more 10 (d ∷ ds) 0 (omega arith) in
+    let more : number (take (0 + 1) (d ∷ ds)) ≡ number (take 0 (d ∷ ds)) * 10 + _ =
+    digits_value_more 10 (d ∷ ds) 0 (omega arith) in
     omega (arith, more, digit, digits_value-take-le 10 (d ∷ ds) 1 (omega arith))
 
 -- ---- the token of digits in front
@@ -137,53 +147,77 @@ module _ (bytes : List ℕ) (len : ℕ) (digits : list_all is_ascii_digit (take 
   cut : (behind : List ℕ) → behind ≡ drop len bytes → bytes ≡ take len bytes ++ behind
   cut behind is = sym (take-append-drop len bytes) ∙ ap (λ rest. take len bytes ++ rest) (sym is)
 
-  pub token-ended : (left : Option (Bor (List ℕ))) (behind : List ℕ) → behind ≡ drop len bytes → EndsToken behind (Ok left) → tokens_of bytes ≡ take len bytes ∷ tokens_left left
+  pub token-ended : (left : Option (Bor (List ℕ))) (behind : List ℕ) → behind ≡ drop len bytes
+      → EndsToken behind (Ok left) → tokens_of bytes ≡ take len bytes ∷ tokens_left left
   token-ended None behind is end =
-      ap tokens_of (cut [] (sym end ∙ is) ∙ append-nil (take len bytes)) ∙ split-last is_space (take len bytes) (digits-lack (take len bytes) digits)
+      ap tokens_of (cut [] (sym end ∙ is) ∙ append-nil (take len bytes))
+      ∙ split-last is_space (take len bytes) (digits-lack (take len bytes) digits)
   token-ended (Some left) behind is end =
-      ap tokens_of (cut (32 ∷ left.now) (sym end ∙ is)) ∙ split-part is_space (take len bytes) 32 left.now (digits-lack (take len bytes) digits) refl
+      ap tokens_of (cut (32 ∷ left.now) (sym end ∙ is)) ∙ split-part is_space (take len bytes) 32 left.now
+      (digits-lack (take len bytes) digits) refl
 
-  other-end : (ds : List ℕ) (b : ℕ) (more : List ℕ) → is_ascii_digit b ≡ false → list_all is_ascii_digit ((ds ++ b ∷ []) ++ more) ≡ false
+  other-end : (ds : List ℕ) (b : ℕ) (more : List ℕ) → is_ascii_digit b ≡ false
+      → list_all is_ascii_digit ((ds ++ b ∷ []) ++ more) ≡ false
   other-end ds b more other =
-      rw (list_all-append is_ascii_digit (ds ++ b ∷ []) more, list_all-append is_ascii_digit ds (b ∷ []), other, and_false (list_all is_ascii_digit ds)) refl
+      rw (
+        list_all-append is_ascii_digit (ds ++ b ∷ []) more,
+        list_all-append is_ascii_digit ds (b ∷ []),
+        other,
+        and_false (list_all is_ascii_digit ds),
+      ) refl
 
-  pub token-other : (b : ℕ) (rest : List ℕ) → b ∷ rest ≡ drop len bytes → is_space b ≡ false → is_ascii_digit b ≡ false → StandsWrong is_count bytes
+  pub token-other : (b : ℕ) (rest : List ℕ) → b ∷ rest ≡ drop len bytes → is_space b ≡ false
+      → is_ascii_digit b ≡ false → StandsWrong is_count bytes
   token-other b rest is space other =
       let parts = split-parts is_space rest in
       record {
         token = (take len bytes ++ b ∷ []) ++ parts.first;
         others = parts.others;
         tokens =
-          ap tokens_of (cut (b ∷ rest) is) ∙ split-more is_space (take len bytes) b rest (digits-lack (take len bytes) digits) space
-          ∙ rw parts.are refl;
-        wrong = other-wrong ((take len bytes ++ b ∷ []) ++ parts.first) (other-end (take len bytes) b parts.first other);
+            ap tokens_of (cut (b ∷ rest) is) ∙ split-more is_space (take len bytes) b rest
+            (digits-lack (take len bytes) digits) space
+            ∙ rw parts.are refl;
+        wrong = other-wrong ((take len bytes ++ b ∷ []) ++ parts.first)
+            (other-end (take len bytes) b parts.first other);
       }
 
 -- ---- what stands first
 
-behind-at : (bytes rest : List ℕ) (len b : ℕ) → b ∷ rest ≡ drop len bytes → (len < length bytes) × (get_or bytes len 0 ≡ b)
+behind-at : (bytes rest : List ℕ) (len b : ℕ) → b ∷ rest ≡ drop len bytes
+    → (len < length bytes) × (get_or bytes len 0 ≡ b)
 behind-at bytes rest len b is =
     let within : len < length bytes = omega (arith, ap length is, length-drop len bytes) in
     let at = drop-cons bytes len 0 within in
     (within, cc)
 
-pub first-other : (bytes rest : List ℕ) (len : ℕ) (found : Option ℕ) (kind : LogKind) → AreDigits bytes len found → rest ≡ drop len bytes → EndsToken rest (Err kind)
+pub first-other : (bytes rest : List ℕ) (len : ℕ) (found : Option ℕ) (kind : LogKind) → AreDigits bytes len found
+    → rest ≡ drop len bytes → EndsToken rest (Err kind)
     → FindsToken is_count is_small_number number bytes (Err kind)
 first-other bytes rest len found kind run is end =
-    let at = behind-at bytes end.1.rest len end.1.byte (sym end.1.is ∙ is) in
-    (end.0, token-other bytes len run.digits end.1.byte end.1.rest (sym end.1.is ∙ is) end.1.other (ap is_ascii_digit (sym at.1) ∙ run.longest at.0))
+    let at = behind-at bytes end.1.rest len end.1.byte (sym end.1.is ∙ is) in (
+      end.0,
+      token-other bytes len run.digits end.1.byte end.1.rest (sym end.1.is ∙ is) end.1.other
+          (ap is_ascii_digit (sym at.1) ∙ run.longest at.0),
+    )
 
-pub first-wrong : (bytes rest digits : List ℕ) (len : ℕ) (found : Option ℕ) (left : Option (Bor (List ℕ))) (kind : LogKind) → AreDigits bytes len found → rest ≡ drop len bytes
-    → digits ≡ take len bytes → EndsToken rest (Ok left) → SaysCount digits (Err kind) → FindsToken is_count is_small_number number bytes (Err kind)
-first-wrong bytes rest digits len found left kind run is taken end wrong = (wrong.0, record {
-  token = digits;
-  others = tokens_left left;
-  tokens = token-ended bytes len run.digits left rest is end ∙ ap (λ token. token ∷ tokens_left left) (sym taken);
-  wrong = wrong.1;
-})
+pub first-wrong : (bytes rest digits : List ℕ) (len : ℕ) (found : Option ℕ) (left : Option (Bor (List ℕ)))
+    (kind : LogKind) → AreDigits bytes len found → rest ≡ drop len bytes
+    → digits ≡ take len bytes → EndsToken rest (Ok left) → SaysCount digits (Err kind)
+    → FindsToken is_count is_small_number number bytes (Err kind)
+first-wrong bytes rest digits len found left kind run is taken end wrong = (
+  wrong.0,
+  record {
+    token = digits;
+    others = tokens_left left;
+    tokens = token-ended bytes len run.digits left rest is end ∙ ap (λ token. token ∷ tokens_left left) (sym taken);
+    wrong = wrong.1;
+  },
+)
 
-pub first-token : (bytes rest digits : List ℕ) (len : ℕ) (found : Option ℕ) (left : Option (Bor (List ℕ))) (read : Option (Item ℕ)) → AreDigits bytes len found → rest ≡ drop len bytes
-    → digits ≡ take len bytes → EndsToken rest (Ok left) → SaysCount digits (Ok read) → StandsFirst is_count is_small_number number bytes read left
+pub first-token : (bytes rest digits : List ℕ) (len : ℕ) (found : Option ℕ) (left : Option (Bor (List ℕ)))
+    (read : Option (Item ℕ)) → AreDigits bytes len found → rest ≡ drop len bytes
+    → digits ≡ take len bytes → EndsToken rest (Ok left) → SaysCount digits (Ok read)
+    → StandsFirst is_count is_small_number number bytes read left
 first-token bytes rest digits len found left read run is taken end says = record {
   token = digits;
   tokens = token-ended bytes len run.digits left rest is end ∙ ap (λ token. token ∷ tokens_left left) (sym taken);
@@ -192,81 +226,119 @@ first-token bytes rest digits len found left read run is taken end says = record
 
 -- ---- signs
 
-unsigned-first-cons : (b : ℕ) (bytes : List ℕ) (space : Bool) (token : List ℕ) (others : List (List ℕ)) → is_space b ≡ space → IsUnsigned (b ∷ bytes) → tokens_of (b ∷ bytes) ≡ token ∷ others → IsUnsigned token
+unsigned-first-cons : (b : ℕ) (bytes : List ℕ) (space : Bool) (token : List ℕ) (others : List (List ℕ))
+    → is_space b ≡ space → IsUnsigned (b ∷ bytes) → tokens_of (b ∷ bytes) ≡ token ∷ others → IsUnsigned token
 unsigned-first-cons b bytes true token others space unsigned is =
     let first : [] ∷ tokens_of bytes ≡ token ∷ others = sym (slice_split-cons_yes is_space b bytes space) ∙ is in
     let same : [] ≡ token = cc in
     subst IsUnsigned same tt
 unsigned-first-cons b bytes false token others space unsigned is =
     let parts = split-parts is_space bytes in
-    let first : (b ∷ parts.first) ∷ parts.others ≡ token ∷ others = ap (onto_first b) (sym parts.are) ∙ sym (slice_split-cons_no is_space b bytes space) ∙ is in
+    let first : (b ∷ parts.first) ∷ parts.others ≡ token ∷ others = ap (onto_first b) (sym parts.are)
+    ∙ sym (slice_split-cons_no is_space b bytes space) ∙ is in
     let same : b ∷ parts.first ≡ token = cc in
     subst IsUnsigned same unsigned
 
-pub unsigned-first : (bytes : List ℕ) (token : List ℕ) (others : List (List ℕ)) → IsUnsigned bytes → tokens_of bytes ≡ token ∷ others → IsUnsigned token
+pub unsigned-first : (bytes : List ℕ) (token : List ℕ) (others : List (List ℕ)) → IsUnsigned bytes
+    → tokens_of bytes ≡ token ∷ others → IsUnsigned token
 unsigned-first [] token others unsigned is = let same : [] ≡ token = cc in subst IsUnsigned same tt
-unsigned-first (b ∷ bytes) token others unsigned is = unsigned-first-cons b bytes (is_space b) token others refl unsigned is
+unsigned-first (b ∷ bytes) token others unsigned is = unsigned-first-cons b bytes (is_space b) token others refl
+    unsigned is
 
 unsigned-token : (token : List ℕ) → IsUnsigned token → (without_sign token ≡ token) × (is_negated token ≡ false)
 unsigned-token [] unsigned = (refl, refl)
-unsigned-token (b ∷ token) unsigned = (rw unsigned refl, let other : nat_eq 45 b ≡ false = grind (arith, nat_tests) in rw other refl)
+unsigned-token (b ∷ token) unsigned =
+    (rw unsigned refl, let other : nat_eq 45 b ≡ false = grind (arith, nat_tests) in rw other refl)
 
 -- what is small enough as a literal
-small-literal : (token : List ℕ) (read : Item ℕ) (small : Bool) → read.small ≡ is_small_number token → (is_small_number token ≡ true → read.value ≡ number token)
+small-literal : (token : List ℕ) (read : Item ℕ) (small : Bool) → read.small ≡ is_small_number token
+    → (is_small_number token ≡ true → read.value ≡ number token)
     → small ≡ (read.small && nat_le read.value 2147483647) → small ≡ nat_le (number token) 2147483647
 small-literal token read small is value given = elim (cases_Bool (is_small_number token)) [
   | inl fits ↦ given ∙ rw (is, fits, value fits) refl
-  | inr over ↦ given ∙ rw (is, over) (let large : nat_le (number token) 2147483647 ≡ false = grind (arith, nat_tests) in sym large)
+  | inr over ↦ given ∙ rw (is, over) (let large : nat_le (number token) 2147483647 ≡ false =
+      grind (arith, nat_tests) in sym large)
 ]
 
 small-number : (token : List ℕ) → nat_le (number token) 2147483647 ≡ true → is_small_number token ≡ true
 small-number token h = grind (arith, nat_tests)
 
-module _ (token : List ℕ) (read : Item ℕ) (lit : Item Literal) (positive : Bool) (says : Says is_count is_small_number number (Some read) token)
-    (small : lit.small ≡ (read.small && nat_le read.value 2147483647)) (value : lit.small ≡ true → lit.value ≡ record { var = read.value; positive = positive }) where
+module _ (token : List ℕ) (read : Item ℕ) (lit : Item Literal) (positive : Bool)
+    (says : Says is_count is_small_number number (Some read) token)
+    (small : lit.small ≡ (read.small && nat_le read.value 2147483647))
+    (value : lit.small ≡ true → lit.value ≡ record { var = read.value; positive = positive }) where
   literal-small : lit.small ≡ nat_le (number token) 2147483647
   literal-small = small-literal token read lit.small says.2 says.3 small
 
-  literal-value : nat_le (number token) 2147483647 ≡ true → lit.value ≡ record { var = number token; positive = positive }
-  literal-value few = value (literal-small ∙ few) ∙ ap (λ v. let l : Literal = record { var = v; positive = positive } in l) (says.3 (small-number token few))
+  literal-value : nat_le (number token) 2147483647 ≡ true
+      → lit.value ≡ record { var = number token; positive = positive }
+  literal-value few = value (literal-small ∙ few)
+      ∙ ap (λ v. let l : Literal = record { var = v; positive = positive } in l) (says.3 (small-number token few))
 
 -- a number as a literal without a sign
-pub says-unsigned : (token : List ℕ) (read : Item ℕ) (lit : Item Literal) → IsUnsigned token → Says is_count is_small_number number (Some read) token
-    → lit.small ≡ (read.small && nat_le read.value 2147483647) → (lit.small ≡ true → lit.value ≡ record { var = read.value; positive = true })
+pub says-unsigned : (token : List ℕ) (read : Item ℕ) (lit : Item Literal) → IsUnsigned token
+    → Says is_count is_small_number number (Some read) token
+    → lit.small ≡ (read.small && nat_le read.value 2147483647)
+    → (lit.small ≡ true → lit.value ≡ record { var = read.value; positive = true })
     → Says is_literal is_small_variable literal (Some lit) token
 says-unsigned token read lit unsigned says small value =
     let same = unsigned-token token unsigned in
-    rw (same.0, same.1) (says.0, says.1, literal-small token read lit true says small value, literal-value token read lit true says small value)
+    rw (same.0, same.1) (
+      says.0,
+      says.1,
+      literal-small token read lit true says small value,
+      literal-value token read
+          lit true says small value,
+    )
 
-pub unsigned-item : (bytes : List ℕ) (read : Item ℕ) (lit : Item Literal) (left : Option (Bor (List ℕ))) → IsUnsigned bytes → StandsFirst is_count is_small_number number bytes (Some read) left
-    → lit.small ≡ (read.small && nat_le read.value 2147483647) → (lit.small ≡ true → lit.value ≡ record { var = read.value; positive = true })
+pub unsigned-item : (bytes : List ℕ) (read : Item ℕ) (lit : Item Literal) (left : Option (Bor (List ℕ)))
+    → IsUnsigned bytes → StandsFirst is_count is_small_number number bytes (Some read) left
+    → lit.small ≡ (read.small && nat_le read.value 2147483647)
+    → (lit.small ≡ true → lit.value ≡ record { var = read.value; positive = true })
     → StandsFirst is_literal is_small_variable literal bytes (Some lit) left
 unsigned-item bytes read lit left unsigned first small value = record {
   token = first.token;
   tokens = first.tokens;
-  says = says-unsigned first.token read lit (unsigned-first bytes first.token (tokens_left left) unsigned first.tokens) first.says small value;
+  says = says-unsigned first.token read lit
+      (unsigned-first bytes first.token (tokens_left left) unsigned first.tokens) first.says small value;
 }
 
-pub unsigned-zero : (bytes : List ℕ) (left : Option (Bor (List ℕ))) → StandsFirst is_count is_small_number number bytes None left
+pub unsigned-zero : (bytes : List ℕ) (left : Option (Bor (List ℕ)))
+    → StandsFirst is_count is_small_number number bytes None left
     → StandsFirst is_literal is_small_variable literal bytes None left
 unsigned-zero bytes left first = record { token = first.token; tokens = first.tokens; says = first.says }
 
 pub unsigned-wrong : (bytes : List ℕ) → IsUnsigned bytes → StandsWrong is_count bytes → StandsWrong is_literal bytes
 unsigned-wrong bytes unsigned wrong =
     let same = unsigned-token wrong.token (unsigned-first bytes wrong.token wrong.others unsigned wrong.tokens) in
-    record { token = wrong.token; others = wrong.others; tokens = wrong.tokens; wrong = (wrong.wrong.0, ap is_count same.0 ∙ wrong.wrong.1) }
+    record {
+      token = wrong.token;
+      others = wrong.others;
+      tokens = wrong.tokens;
+      wrong =
+          (wrong.wrong.0, ap is_count same.0 ∙ wrong.wrong.1);
+    }
 
 -- a number as a literal with a sign
-negated-tokens : (digits token : List ℕ) (others : List (List ℕ)) → tokens_of digits ≡ token ∷ others → tokens_of (45 ∷ digits) ≡ (45 ∷ token) ∷ others
+negated-tokens : (digits token : List ℕ) (others : List (List ℕ)) → tokens_of digits ≡ token ∷ others
+    → tokens_of (45 ∷ digits) ≡ (45 ∷ token) ∷ others
 negated-tokens digits token others is = slice_split-cons_no is_space 45 digits refl ∙ ap (onto_first 45) is
 
-pub negated-item : (digits : List ℕ) (read : Item ℕ) (lit : Item Literal) (left : Option (Bor (List ℕ))) → StandsFirst is_count is_small_number number digits (Some read) left
-    → lit.small ≡ (read.small && nat_le read.value 2147483647) → (lit.small ≡ true → lit.value ≡ record { var = read.value; positive = false })
+pub negated-item : (digits : List ℕ) (read : Item ℕ) (lit : Item Literal) (left : Option (Bor (List ℕ)))
+    → StandsFirst is_count is_small_number number digits (Some read) left
+    → lit.small ≡ (read.small && nat_le read.value 2147483647)
+    → (lit.small ≡ true → lit.value ≡ record { var = read.value; positive = false })
     → StandsFirst is_literal is_small_variable literal (45 ∷ digits) (Some lit) left
 negated-item digits read lit left first small value = record {
   token = 45 ∷ first.token;
   tokens = negated-tokens digits first.token (tokens_left left) first.tokens;
-  says = (refl, first.says.1, literal-small first.token read lit false first.says small value, literal-value first.token read lit false first.says small value);
+  says = (
+    refl,
+    first.says.1,
+    literal-small first.token read lit false first.says small value,
+    literal-value
+        first.token read lit false first.says small value,
+  );
 }
 
 pub negated-wrong : (digits : List ℕ) → StandsWrong is_count digits → StandsWrong is_literal (45 ∷ digits)
@@ -277,7 +349,8 @@ negated-wrong digits wrong = record {
   wrong = (refl, wrong.wrong.1);
 }
 
-pub negated-zero : (digits : List ℕ) (left : Option (Bor (List ℕ))) → StandsFirst is_count is_small_number number digits None left → StandsWrong is_literal (45 ∷ digits)
+pub negated-zero : (digits : List ℕ) (left : Option (Bor (List ℕ)))
+    → StandsFirst is_count is_small_number number digits None left → StandsWrong is_literal (45 ∷ digits)
 negated-zero digits left first = record {
   token = 45 ∷ first.token;
   others = tokens_left left;
@@ -286,6 +359,8 @@ negated-zero digits left first = record {
 }
 
 -- a number that was read is at least 1
-pub item-positive : (bytes : List ℕ) (read : Item ℕ) (left : Option (Bor (List ℕ))) → StandsFirst is_count is_small_number number bytes (Some read) left
+pub item-positive : (bytes : List ℕ) (read : Item ℕ) (left : Option (Bor (List ℕ)))
+    → StandsFirst is_count is_small_number number bytes (Some read) left
     → read.small ≡ true → 1 ≤ read.value
-item-positive bytes read left first small = rw (first.says.3 (sym first.says.2 ∙ small)) (count-positive first.token first.says.1)
+item-positive bytes read left first small = rw (first.says.3 (sym first.says.2 ∙ small))
+    (count-positive first.token first.says.1)

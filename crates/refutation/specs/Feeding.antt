@@ -15,4 +15,5 @@ pub record ReadsOn (before : Place) (old : List Step) (piece : List ℕ) (now : 
 abbrev pub FeedsAll : Place → List Step → List (List ℕ) → Place → List Step → Type 0
 FeedsAll before old [] now new = (now ≡ before) × (new ≡ old)
 FeedsAll before old (piece ∷ pieces) now new =
-    (between : Place) × ((steps : List Step) × (ReadsOn before old piece between steps × FeedsAll between steps pieces now new))
+    (between : Place) × ((steps : List Step) ×
+    (ReadsOn before old piece between steps × FeedsAll between steps pieces now new))

@@ -1,5 +1,6 @@
 -- Groups of tokens, up to each `0`.
-use Rattle.std.specs.Prelude.{◌≡◌, ◌⊎◌, ℕ, ◌+◌, Bool, true, false, List, [], ◌∷◌, ◌++◌, length, map, Option, Some, None, Result, Ok, Err}
+use Rattle.std.specs.Prelude.{◌≡◌, ◌⊎◌, ℕ, ◌+◌, Bool, true, false, List, [], ◌∷◌, ◌++◌, length, map, Option, Some}
+use Rattle.std.specs.Prelude.{None, Result, Ok, Err}
 use Rattle.std.specs.List.{list_all}
 use Rattle.std.specs.Borrow.{Bor}
 use Rattle.refutation.specs.Lines.{groups_of, tokens_of}
@@ -10,7 +11,8 @@ use Rattle.refutation.specs.declared.fault.Stop.{Stop}
 use Rattle.refutation.specs.declared.fault.Stop.TheVariants as stops
 
 -- A group that ends with `0`: its tokens are as the test asks, and where all are small their values were added.
-pub record IsGroup {T : Type 0} (test small : List ℕ → Bool) (value : List ℕ → T) (groups : List (List (List ℕ))) (all_small : Bool) (left : Option (Bor (List ℕ))) (old new : List T) : Type 0 where
+pub record IsGroup {T : Type 0} (test small : List ℕ → Bool) (value : List ℕ → T) (groups : List (List (List ℕ)))
+    (all_small : Bool) (left : Option (Bor (List ℕ))) (old new : List T) : Type 0 where
   pub group : List (List ℕ)
   pub found : groups ≡ group ∷ groups_of (tokens_left left)
   pub written : list_all test group ≡ true
@@ -25,13 +27,16 @@ pub record IsBadGroup (test : List ℕ → Bool) (groups : List (List (List ℕ)
   pub found : groups ≡ group ∷ others
   pub bad : (list_all test group ≡ false) ⊎ (others ≡ [])
 
-abbrev pub FindsGroup : {T : Type 0} → (List ℕ → Bool) → (List ℕ → Bool) → (List ℕ → T) → List (List (List ℕ)) → Result (Bool × Option (Bor (List ℕ))) Stop → List T → List T → Type 0
+-- the group that stands first
+abbrev pub FindsGroup : {T : Type 0} → (List ℕ → Bool) → (List ℕ → Bool) → (List ℕ → T) → List (List (List ℕ))
+    → Result (Bool × Option (Bor (List ℕ))) Stop → List T → List T → Type 0
 FindsGroup test small value groups (Ok r) old new = IsGroup test small value groups r.0 r.1 old new
 FindsGroup test small value groups (Err (stops.Form kind)) old new = (kind ≡ BadLine) × IsBadGroup test groups
 FindsGroup test small value groups (Err stops.Mem) old new = Unit {0}
 
 -- the tokens that a loop has taken, and what is left
-pub record IsSoFar {T : Type 0} (test small : List ℕ → Bool) (value : List ℕ → T) (groups : List (List (List ℕ))) (rest : List ℕ) (all_small : Bool) (old new : List T) : Type 0 where
+pub record IsSoFar {T : Type 0} (test small : List ℕ → Bool) (value : List ℕ → T) (groups : List (List (List ℕ)))
+    (rest : List ℕ) (all_small : Bool) (old new : List T) : Type 0 where
   pub done : List (List ℕ)
   pub found : groups ≡ onto_front done (groups_of (tokens_of rest))
   pub written : list_all test done ≡ true

@@ -29,6 +29,7 @@ pub record IsLinear (said : Result Step LogKind) (parts : List Part) (divisor : 
   pub factors : All (λ part. 1 ≤ part.factor) parts
   pub least : 1 ≤ divisor
 
+-- what a linear step's reader answers
 abbrev pub ReadsLinear : Result Step LogKind → Result ℕ Stop → List Part → Type 0
 ReadsLinear said (Ok divisor) parts = IsLinear said parts divisor
 ReadsLinear said (Err (Form kind)) parts = said ≡ Err kind
@@ -42,6 +43,7 @@ pub record IsLast (groups : List (List (List ℕ))) (item : Item ℕ) : Type 0 w
   pub small_is : item.small ≡ is_small_number token
   pub value_is : is_small_number token ≡ true → item.value ≡ number token
 
+-- what stands behind the parts of a linear step
 abbrev pub EndsLine : List (List (List ℕ)) → Result (Item ℕ) LogKind → Type 0
 EndsLine groups (Ok item) = IsLast groups item
 EndsLine groups (Err kind) = (kind ≡ BadLine) × ((parts : List (List ℕ)) → linear_step (parts ∷ groups) ≡ Err BadLine)
@@ -52,11 +54,13 @@ pub record AddsStep (said : Result Step LogKind) (old new : List Step) : Type 0 
   pub says : said ≡ Ok step
   pub added : new ≡ old ++ step ∷ []
 
+-- what a step's reader answers, and the steps that are there then
 abbrev pub ReadsStep : Result Step LogKind → Result (Unit {0}) Stop → List Step → List Step → Type 0
 ReadsStep said (Ok _) old new = AddsStep said old new
 ReadsStep said (Err (Form kind)) old new = (said ≡ Err kind) × (new ≡ old)
 ReadsStep said (Err Mem) old new = Unit {0}
 
+-- the version that the first line names
 abbrev pub Heads : Result Line LogKind → Result Version LogKind → Type 0
 Heads said (Ok version) = said ≡ Ok (Heading version)
 Heads said (Err kind) = said ≡ Err kind
@@ -67,6 +71,7 @@ pub record AddsLine (said : Result Line LogKind) (old new : List Step) : Type 0 
   pub says : said ≡ Ok (Says step)
   pub added : new ≡ old ++ step ∷ []
 
+-- what a line's reader answers, and the steps that are there then
 abbrev pub ReadsLine : Result Line LogKind → Result LineKind Stop → List Step → List Step → Type 0
 ReadsLine said (Ok (kinds.Heading version)) old new = (said ≡ Ok (Heading version)) × (new ≡ old)
 ReadsLine said (Ok kinds.End) old new = (said ≡ Ok End) × (new ≡ old)

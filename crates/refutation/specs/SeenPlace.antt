@@ -1,5 +1,6 @@
 -- How a place is kept, and where it goes.
-use Rattle.std.specs.Prelude.{◌≡◌, ℕ, ◌+◌, ◌≤◌, ◌==◌, Bool, true, List, [], length, Option, Some, None, Result, Ok, Err}
+use Rattle.std.specs.Prelude.{◌≡◌, ℕ, ◌+◌, ◌≤◌, ◌==◌, Bool, true, List, [], length, Option, Some, None, Result, Ok}
+use Rattle.std.specs.Prelude.{Err}
 use Rattle.refutation.specs.Steps.{Step}
 use Rattle.std.specs.Str.{byte}
 use Rattle.refutation.specs.Logs.{Line, most_bytes}
@@ -25,6 +26,7 @@ pub record IsPlace (at : Place) : Type 0 where
   pub short : length at.text ≤ most_bytes
   pub nothing : at.ended ≡ true → at.text ≡ []
 
+-- a place as contracts see it
 abbrev pub place_of : Kept → Place
 place_of p = record { line = p.line; text = p.text.items; version = p.version; ended = p.ended; fault = p.fault }
 
@@ -44,10 +46,14 @@ SaysOutcome said (outcomes.Fault kind) old new = (said ≡ Err kind) × (new ≡
 
 -- where a reader is behind a line
 abbrev pub next_place : Place → Outcome → Place
-next_place at (outcomes.Heading version) = record { line = at.line + 1; text = []; version = Some version; ended = at.ended; fault = at.fault }
-next_place at outcomes.End = record { line = at.line + 1; text = []; version = at.version; ended = true; fault = at.fault }
-next_place at outcomes.Step = record { line = at.line + 1; text = []; version = at.version; ended = at.ended; fault = at.fault }
-next_place at (outcomes.Fault kind) = record { line = at.line; text = []; version = at.version; ended = at.ended; fault = Some (kind, at.line) }
+next_place at (outcomes.Heading version) =
+    record { line = at.line + 1; text = []; version = Some version; ended = at.ended; fault = at.fault }
+next_place at outcomes.End =
+    record { line = at.line + 1; text = []; version = at.version; ended = true; fault = at.fault }
+next_place at outcomes.Step =
+    record { line = at.line + 1; text = []; version = at.version; ended = at.ended; fault = at.fault }
+next_place at (outcomes.Fault kind) =
+    record { line = at.line; text = []; version = at.version; ended = at.ended; fault = Some (kind, at.line) }
 
 -- only the line's bytes changed
 pub record IsSameButText (old new : Place) : Type 0 where

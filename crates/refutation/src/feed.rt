@@ -1,9 +1,10 @@
 //! A log's text, read in pieces and whole.
-ghost use Rattle.std.specs.Prelude.{◌≡◌, ◌+◌, ◌<◌, ◌≤◌, ◌^◌, [], ℕ, List, OnOk, length};
+ghost use Rattle.std.specs.Prelude.{◌≡◌, ◌+◌, ◌<◌, ◌≤◌, ◌^◌, [], ℕ, List, IfOk, OnOk, length};
 ghost use Rattle.refutation.specs.Logs.{log_of};
 ghost use Rattle.refutation.specs.Places.{log_from, start, start_at};
 ghost use Rattle.refutation.specs.Feeding.{ReadsOn};
 ghost use Rattle.refutation.specs.Answers.{Finishes, SaysLog};
+ghost use Rattle.refutation.specs.Writable.{IsLogText};
 
 use crate::fault::LogFault;
 use crate::line::Room;
@@ -91,7 +92,10 @@ impl LogFeed {
 /// # Errors
 /// `Form` with the kind and the line of the text's first fault, or `Mem` where memory runs out.
 pub fn read_log(alloc: Global, bytes: &[u8]) -> Result<Log, LogFault>
-    ensures { SaysLog (log_of bytes.now) result }
+    ensures read { SaysLog (log_of bytes.now) result }
+
+    // No text but one that is written so is a log.
+    ensures one_text { IfOk result (λ log. IsLogText bytes.now log) }
 {
     let mut reader = LogFeed::new(alloc);
     let mut steps = Log::new(alloc);

@@ -2,7 +2,8 @@
 ghost use Rattle.std.specs.Prelude.{◌≡◌, ◌≤◌, ◌++◌, [], ◌∷◌, None, Some, IfOk, OnOk, IsTrue};
 ghost use Rattle.std.specs.List.{All};
 ghost use Rattle.refutation.specs.Steps.{Step};
-ghost use Rattle.refutation.specs.Lines.{are_pairs, clause_step, groups_of, linear_step, marked_step, paired, step_line, tokens_of};
+ghost use Rattle.refutation.specs.Lines.{are_pairs, clause_step, groups_of, linear_step, marked_step, paired};
+ghost use Rattle.refutation.specs.Lines.{step_line, tokens_of};
 ghost use Rattle.refutation.specs.Logs.{heading_of, line_of, words_of};
 ghost use Rattle.refutation.specs.Tokens.{tokens_left};
 ghost use Rattle.refutation.specs.Outcomes.{EndsLine, Heads, ReadsClause, ReadsLine, ReadsLinear, ReadsStep};

@@ -7,7 +7,8 @@ ghost use Rattle.refutation.specs.Places.{log_from, start_at};
 ghost use Rattle.refutation.specs.Cuts.{Lacks};
 ghost use Rattle.refutation.specs.Answers.{Finishes};
 ghost use Rattle.refutation.specs.Feeding.{ReadsOn};
-ghost use Rattle.refutation.specs.SeenPlace.{IsPlace, is_line_feed, GivesOutcome, IsSameButText, SaysOutcome, place_of, next_place};
+ghost use Rattle.refutation.specs.SeenPlace.{GivesOutcome, IsPlace, IsSameButText, SaysOutcome};
+ghost use Rattle.refutation.specs.SeenPlace.{is_line_feed, next_place, place_of};
 
 use crate::fault::{LogFault, LogKind, Stop};
 use crate::line::{LineKind, MOST_BYTES, Room, read_line};
@@ -115,7 +116,12 @@ impl Place {
     }
 
     /// Reads the line that these bytes end, where it lies whole in them without a copy.
-    fn whole_line(&mut self, front: &[u8], room: &mut Room, steps: &mut Log) -> Result<Outcome, AllocError>
+    fn whole_line(
+        &mut self,
+        front: &[u8],
+        room: &mut Room,
+        steps: &mut Log,
+    ) -> Result<Outcome, AllocError>
         requires place { IsPlace (place_of self.old) }
         requires front { Lacks is_line_feed front.now }
         ensures place { IsPlace (place_of self.new) }
@@ -157,7 +163,12 @@ impl Place {
     }
 
     /// Reads on over a piece.
-    pub(crate) fn feed(&mut self, piece: &[u8], room: &mut Room, steps: &mut Log) -> Result<(), AllocError>
+    pub(crate) fn feed(
+        &mut self,
+        piece: &[u8],
+        room: &mut Room,
+        steps: &mut Log,
+    ) -> Result<(), AllocError>
         requires line { self.old.line + length piece.now < 2 ^ 64 }
         requires place { IsPlace (place_of self.old) }
         ensures place { IsPlace (place_of self.new) }

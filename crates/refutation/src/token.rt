@@ -1,5 +1,6 @@
 // Tokens: what stands between the spaces of a line.
-ghost use Rattle.std.specs.Prelude.{◌≡◌, ◌∷◌, ◌&&◌, nat_le, ◌+◌, ◌*◌, ◌-◌, ◌%◌, ◌^◌, ◌<◌, ◌≤◌, IsTrue, IfOk, IfSome, SomeIff, length, take, drop};
+ghost use Rattle.std.specs.Prelude.{◌≡◌, ◌∷◌, ◌&&◌, ◌+◌, ◌*◌, ◌-◌, ◌%◌, ◌^◌, ◌<◌, ◌≤◌, nat_le, length};
+ghost use Rattle.std.specs.Prelude.{IsTrue, IfOk, IfSome, SomeIff};
 ghost use Rattle.std.specs.List.{list_all};
 ghost use Rattle.std.specs.Char.{is_ascii_digit};
 ghost use Rattle.refutation.specs.Lines.{is_count, is_literal, is_small_number, is_small_variable, literal, number};
@@ -39,6 +40,7 @@ fn long_number(digits: &[u8]) -> Option<u64>
 }
 
 /// How many digits stand in front, and their number where it fits.
+#[inline]
 fn digits_at(bytes: &[u8]) -> (usize, Option<u64>)
     ensures { AreDigits bytes.now result.0 result.1 }
 {
@@ -56,6 +58,7 @@ fn digits_at(bytes: &[u8]) -> (usize, Option<u64>)
 }
 
 /// What is left behind a token and its space, where one follows.
+#[inline]
 fn behind(rest: &[u8]) -> Result<Option<&[u8]>, LogKind>
     ensures token { EndsToken rest.now result }
     ensures shorter { IfOk result (λ left. IfSome left (λ left. length left.now < length rest.now)) }
@@ -68,6 +71,7 @@ fn behind(rest: &[u8]) -> Result<Option<&[u8]>, LogKind>
 }
 
 /// What digits say, with their number where it fits.
+#[inline]
 fn count_of(digits: &[u8], value: Option<u64>) -> Result<Option<Item<u64>>, LogKind>
     requires digits { IsTrue (list_all is_ascii_digit digits.now) }
     requires value { SomeIff value (number digits.now < 2 ^ 64) (number digits.now) }
@@ -76,11 +80,15 @@ fn count_of(digits: &[u8], value: Option<u64>) -> Result<Option<Item<u64>>, LogK
     match digits {
         [b'0'] => Ok(None),
         [] | [b'0', ..] => Err(LogKind::BadLine),
-        _ => Ok(Some(Item { value: value.unwrap_or(0), small: value.is_some() })),
+        _ => Ok(Some(Item {
+            value: value.unwrap_or(0),
+            small: value.is_some(),
+        })),
     }
 }
 
 /// The number in front, or None at `0`, and what is left behind its space.
+#[inline]
 pub(crate) fn number_at(bytes: &[u8]) -> Result<(Option<Item<u64>>, Option<&[u8]>), LogKind>
     ensures token { FindsToken is_count is_small_number number bytes.now result }
     ensures shorter { IfOk result (λ r. IfSome r.1 (λ left. length left.now < length bytes.now)) }
@@ -95,6 +103,7 @@ pub(crate) fn number_at(bytes: &[u8]) -> Result<(Option<Item<u64>>, Option<&[u8]
 const MOST_VARIABLES: u64 = 2_147_483_647;
 
 /// The literal of a number that is at least 1 where it is small.
+#[inline]
 fn literal_of(number: Item<u64>, positive: bool) -> Item<Lit>
     requires { IsTrue number.small → 1 ≤ number.value }
     ensures small { result.small ≡ (number.small && nat_le number.value 2147483647) }
@@ -114,6 +123,7 @@ fn literal_of(number: Item<u64>, positive: bool) -> Item<Lit>
 }
 
 /// The literal in front that has no sign, or None at `0`, and what is left behind its space.
+#[inline]
 fn positive_at(bytes: &[u8]) -> Result<(Option<Item<Lit>>, Option<&[u8]>), LogKind>
     requires { IsUnsigned bytes.now }
     ensures token { FindsToken is_literal is_small_variable literal bytes.now result }
@@ -127,6 +137,7 @@ fn positive_at(bytes: &[u8]) -> Result<(Option<Item<Lit>>, Option<&[u8]>), LogKi
 }
 
 /// The literal whose sign stands in front of these bytes, and what is left behind its space.
+#[inline]
 fn negated_at(digits: &[u8]) -> Result<(Option<Item<Lit>>, Option<&[u8]>), LogKind>
     ensures token { FindsToken is_literal is_small_variable literal (45 ∷ digits.now) result }
     ensures shorter { IfOk result (λ r. IfSome r.1 (λ left. length left.now < length digits.now)) }
@@ -139,6 +150,7 @@ fn negated_at(digits: &[u8]) -> Result<(Option<Item<Lit>>, Option<&[u8]>), LogKi
 }
 
 /// The literal in front, or None at `0`, and what is left behind its space.
+#[inline]
 pub(crate) fn literal_at(bytes: &[u8]) -> Result<(Option<Item<Lit>>, Option<&[u8]>), LogKind>
     ensures token { FindsToken is_literal is_small_variable literal bytes.now result }
     ensures shorter { IfOk result (λ r. IfSome r.1 (λ left. length left.now < length bytes.now)) }

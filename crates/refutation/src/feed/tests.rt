@@ -56,7 +56,8 @@ fn long_line(alloc: Global, spaces: usize) -> Result<LogFault, Fail> {
             reader.feed(piece, &mut steps)?;
         }
     }
-    reader.finish().err().ok_or("a line of spaces was read")
+    let fault = reader.finish().err().ok_or("a line of spaces was read")?;
+    Ok(fault)
 }
 
 #[test]

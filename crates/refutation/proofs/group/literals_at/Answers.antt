@@ -9,5 +9,6 @@ tokens-init c = so_far-start is_literal is_small_variable literal c.args.bytes.n
 pub tokens-preserved : goal.tokens-preserved
 tokens-preserved c =
     rw c.in_ok-push.ensures.items
-    (so_far-more is_literal is_small_variable literal _ c.tokens.rest.now c.tokens.all_small _ c.tokens.literals.items c.in-Some.item c.in-Some-left.left c.tokens.invariant
-      (rw (c.in-Some.is, c.in-Some-left.is) at c.in-Ok.ensures.token))
+    (so_far-more is_literal is_small_variable literal _ c.tokens.rest.now c.tokens.all_small _
+    c.tokens.literals.items c.in-Some.item c.in-Some-left.left c.tokens.invariant
+    (rw (c.in-Some.is, c.in-Some-left.is) at c.in-Ok.ensures.token))

@@ -9,11 +9,13 @@ loop-len-preserved c =
     let i = c.loop-len.invariant in
     let bytes = c.args.bytes.now in
     let len = c.loop-len.len in
-    let digit : is_ascii_digit (get_or bytes len 0) ≡ true = sym c.is_ascii_digit.ensures.value ∙ c.if-is_ascii_digit.true in
+    let digit : is_ascii_digit (get_or bytes len 0) ≡ true = sym c.is_ascii_digit.ensures.value
+    ∙ c.if-is_ascii_digit.true in
     record {
       within = omega arith;
       digits = digits-more bytes len c.loop-len-test.true i.digits digit;
-      value = λ short. c.followed_by-value.ensures ∙ value-more bytes len c.loop-len.value c.loop-len-test.true short i.digits digit (i.value (omega arith));
+      value = λ short. c.followed_by-value.ensures ∙ value-more bytes len c.loop-len.value c.loop-len-test.true short
+          i.digits digit (i.value (omega arith));
     }
 
 pub returns-then-len-le-SHORT : goal.returns-then-len-le-SHORT

@@ -9,9 +9,17 @@ lines-preserved c =
     let at = c.in-Some.at in
     record {
       place = c.in_ok-end_line.ensures.place;
-      line = rw take_rest (omega (arith, c.in_ok-end_line.ensures.line, c.lines.invariant.line, length-drop (at + 1) rest, c.in-Some.ensures.0.high));
+      line = rw take_rest (omega (
+        arith,
+        c.in_ok-end_line.ensures.line,
+        c.lines.invariant.line,
+        length-drop (at + 1) rest,
+        c.in-Some.ensures.0.high,
+      ));
       read = λ now new next. c.lines.invariant.read now new
-        (ReadsOn-then _ _ _ _ _ _ rest (take at rest ++ 10 ∷ []) _ (line-parts rest at c.in-Some.ensures ∙ ap (λ behind. (take at rest ++ 10 ∷ []) ++ behind) (sym (take_rest rest (at + 1))))
+          (ReadsOn-then _ _ _ _ _ _ rest (take at rest ++ 10 ∷ []) _
+          (line-parts rest at c.in-Some.ensures ∙ ap (λ behind. (take at rest ++ 10 ∷ []) ++ behind)
+          (sym (take_rest rest (at + 1))))
           c.in_ok-end_line.ensures.read next);
     }
 

@@ -10,7 +10,8 @@ abbrev pub invariant-lines : goal.invariant-lines
 invariant-lines l = record {
   place : IsPlace (place_of l.self);
   line : l.self.line + length l.rest ≤ l.fn.self.line + length l.fn.piece;
-  read : (now : Place) (new : List Step) → ReadsOn (place_of l.self) l.steps l.rest now new → ReadsOn (place_of l.fn.self) l.fn.steps l.fn.piece now new;
+  read : (now : Place) (new : List Step) → ReadsOn (place_of l.self) l.steps l.rest now new
+      → ReadsOn (place_of l.fn.self) l.fn.steps l.fn.piece now new;
 }
 
 abbrev pub decreases-lines : goal.decreases-lines
