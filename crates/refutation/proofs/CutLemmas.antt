@@ -34,3 +34,10 @@ pub cut-fault : (pieces : List (List ℕ)) (now : Place) (steps : List Step) (ki
     → FeedsAll start [] pieces now steps → log_from now [] ≡ no_steps_but kind line
     → log_of (concat pieces) ≡ Err (kind, line)
 cut-fault pieces now steps kind line fed end = cut_as_whole pieces now steps fed ∙ rw end refl
+
+-- a text that is fed whole
+pub whole-log : (bytes : List ℕ) (now : Place) (steps : List Step) → ReadsOn start [] bytes now steps
+    → log_from now [] ≡ nothing_more → log_of bytes ≡ Ok steps
+whole-log bytes now steps read end =
+    ap (λ b. whole (log_from start b)) (sym (append-nil bytes)) ∙ ap whole (read.read [])
+    ∙ rw end (ap Ok (append-nil read.added ∙ sym read.steps))

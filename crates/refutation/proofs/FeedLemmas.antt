@@ -41,7 +41,7 @@ whole_line : (version : Option Version) (line : ℕ) (text rest : List ℕ) → 
 whole_line version line text rest lacks =
     let parts = split-parts is_line_feed rest in
     ap (lines_from version line) (split-part is_line_feed text 10 rest lacks refl)
-        ∙ rw parts.are (lines_from-more version line text parts.first parts.others)
+    ∙ rw parts.are (lines_from-more version line text parts.first parts.others)
 
 too_long : (version : Option Version) (text : List ℕ) → nat_le (length text) most_bytes ≡ false
     → line_of version text ≡ Err TooLong
@@ -64,7 +64,7 @@ long_line version line text rest lacks long =
     let parts = split-parts is_line_feed rest in
     let longer : most_bytes < length (text ++ parts.first) = omega (arith, length-append text parts.first) in
     ap (lines_from version line) (split-front is_line_feed text rest lacks)
-        ∙ rw parts.are (long-at version line (text ++ parts.first) parts.others
+    ∙ rw parts.are (long-at version line (text ++ parts.first) parts.others
     (over (length (text ++ parts.first)) most_bytes longer))
 
 -- a byte behind `end`, whatever follows
@@ -115,7 +115,7 @@ keep-long at now front rest none within place lacks long is =
     let longer : most_bytes < length (at.text ++ front) = omega (arith, length-append at.text front, place.short) in
     rw (is, none-is at.fault none, within, ← append_assoc at.text front rest)
     (long_line at.version at.line (at.text ++ front) rest
-        (All-append (λ b. is_line_feed b ≡ false) at.text front place.one_line lacks) longer)
+    (All-append (λ b. is_line_feed b ≡ false) at.text front place.one_line lacks) longer)
 
 -- bytes more
 abbrev pub with_text : Place → List ℕ → Place
@@ -162,24 +162,28 @@ pub end-ended : (at now : Place) (old : List Step) (front : List ℕ) → is_som
     → now ≡ next_place at (outcomes.Fault BadLine) → ReadsOn at old (front ++ 10 ∷ []) now old
 end-ended at now old front none ended place lacks is = reads-same at now old old (front ++ 10 ∷ []) refl
     (λ rest. rw (is, none-is at.fault none, ended, place.nothing ended, append_assoc front (10 ∷ []) rest)
-        (end-line at.line front rest lacks))
+    (end-line at.line front rest lacks))
 
 module _ (at : Place) (front : List ℕ) (none : is_some at.fault ≡ false) (within : at.ended ≡ false)
     (place : IsPlace at) (lacks : Lacks is_line_feed front) where
   line-read : (rest : List ℕ) → log_from at ((front ++ 10 ∷ []) ++ rest)
       ≡ go_on (line_of at.version (at.text ++ front)) at.version at.line
-          (λ known. lines_from known (at.line + 1) (lines_of rest)) (end_from (at.line + 1) (lines_of rest))
+      (λ known. lines_from known (at.line + 1) (lines_of rest)) (end_from (at.line + 1) (lines_of rest))
   line-read rest =
       rw (none-is at.fault none, within, regroup at.text front rest)
       (whole_line at.version at.line (at.text ++ front) rest
-          (All-append (λ b. is_line_feed b ≡ false) at.text front place.one_line lacks))
+      (All-append (λ b. is_line_feed b ≡ false) at.text front place.one_line lacks))
 
   line-said : (said : Result Line LogKind) (rest : List ℕ) → line_of at.version (at.text ++ front) ≡ said
-      → log_from at ((front ++ 10 ∷ []) ++ rest) ≡ go_on said at.version at.line
-      (λ known. lines_from known (at.line + 1) (lines_of rest)) (end_from (at.line + 1) (lines_of rest))
-  line-said said rest is = line-read rest
-      ∙ ap (λ it. go_on it at.version at.line (λ known. lines_from known (at.line + 1) (lines_of rest))
-  (end_from (at.line + 1) (lines_of rest))) is
+      → log_from at ((front ++ 10 ∷ []) ++ rest)
+      ≡ go_on said at.version at.line (λ known. lines_from known (at.line + 1) (lines_of rest))
+      (end_from (at.line + 1) (lines_of rest))
+  line-said said rest is =
+      line-read rest
+      ∙ ap
+      (λ it. go_on it at.version at.line (λ known. lines_from known (at.line + 1) (lines_of rest))
+      (end_from (at.line + 1) (lines_of rest)))
+      is
 
   -- what a line did
   pub fed-line : (outcome : Outcome) (now : Place) (old new : List Step)
@@ -213,11 +217,11 @@ ReadsOn-then a b c s t u whole front rest is first second = record {
   added = first.added ++ second.added;
   steps = second.steps ∙ ap (λ steps. steps ++ second.added) first.steps ∙ append_assoc s first.added second.added;
   read = λ behind.
-    ap (λ bytes. log_from a (bytes ++ behind)) is ∙ ap (log_from a) (append_assoc front rest behind)
-        ∙ first.read (rest ++ behind)
-    ∙ ap (after first.added) (second.read behind)
-    ∙ ap (λ steps. let read : Reading = record { steps = steps; fault = (log_from c behind).fault } in read)
-    (sym (append_assoc first.added second.added (log_from c behind).steps));
+      ap (λ bytes. log_from a (bytes ++ behind)) is ∙ ap (log_from a) (append_assoc front rest behind)
+      ∙ first.read (rest ++ behind)
+      ∙ ap (after first.added) (second.read behind)
+      ∙ ap (λ steps. let read : Reading = record { steps = steps; fault = (log_from c behind).fault } in read)
+      (sym (append_assoc first.added second.added (log_from c behind).steps));
 }
 
 -- the bytes before the first LF
@@ -250,4 +254,4 @@ pub finish-open : (at : Place) → is_some at.fault ≡ false → at.ended ≡ f
 finish-open at none within place =
     rw (none-is at.fault none, within, append-nil at.text)
     (ap (lines_from at.version at.line) (split-last is_line_feed at.text place.one_line)
-        ∙ lines_from-last at.version at.line at.text place.short)
+    ∙ lines_from-last at.version at.line at.text place.short)

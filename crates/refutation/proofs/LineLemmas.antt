@@ -29,7 +29,6 @@ use Rattle.refutation.proofs.SplitLemmas.{AreParts, split-parts}
 use Rattle.refutation.proofs.TokenLemmas.{and_false, both_true, count-positive}
 use Rattle.refutation.proofs.GroupLemmas.{onto_group}
 
-
 -- ---- clause steps
 
 clause-bad : (group : List (List ℕ)) (others : List (List (List ℕ))) → list_all is_literal group ≡ false
@@ -75,11 +74,11 @@ clause-more-at : (group hints : List (List ℕ)) (token : List ℕ) (tokens : Li
 clause-more-at group hints token tokens true zero =
     let parts = split-parts is_zero tokens in
     ap (λ rest. clause_step (group ∷ hints ∷ rest)) (slice_split-cons_yes is_zero token tokens zero)
-        ∙ ap (λ rest. clause_step (group ∷ hints ∷ [] ∷ rest)) parts.are
+    ∙ ap (λ rest. clause_step (group ∷ hints ∷ [] ∷ rest)) parts.are
 clause-more-at group hints token tokens false zero =
     let parts = split-parts is_zero tokens in
     ap (λ rest. clause_step (group ∷ hints ∷ rest)) (slice_split-cons_no is_zero token tokens zero)
-        ∙ ap (λ rest. clause_step (group ∷ hints ∷ onto_first token rest)) parts.are
+    ∙ ap (λ rest. clause_step (group ∷ hints ∷ onto_first token rest)) parts.are
 
 -- something follows the hints
 pub clause-more : (groups : List (List (List ℕ))) (group hints : List (List ℕ)) (others : List (List (List ℕ)))
@@ -88,7 +87,7 @@ pub clause-more : (groups : List (List (List ℕ))) (group hints : List (List �
 clause-more groups group hints others left is hints_are =
     let parts = split-parts is_space left in
     ap clause_step is ∙ ap (λ rest. clause_step (group ∷ rest)) hints_are
-        ∙ ap (λ tokens. clause_step (group ∷ hints ∷ groups_of tokens)) parts.are
+    ∙ ap (λ tokens. clause_step (group ∷ hints ∷ groups_of tokens)) parts.are
     ∙ clause-more-at group hints parts.first parts.others (is_zero parts.first) refl
 
 -- both are written as they have to be
@@ -139,7 +138,7 @@ module _ (groups : List (List (List ℕ))) (small : Bool) (left : Bor (List ℕ)
       → clause_step groups ≡ Err BadNumber
   clause-number hints_small None before now second none large =
       clause-large groups (groups_of (tokens_of left.now)) first.group second.group first.found second.found
-          first.written second.written (rw (← first.small_is, ← second.small_is) large)
+      first.written second.written (rw (← first.small_is, ← second.small_is) large)
   clause-number hints_small (Some rest) before now second none large = absurd (false≢true (sym none))
 
   pub clause-done : (hints_small : Bool) (behind : Option (Bor (List ℕ))) (before now : List ℕ)
@@ -150,7 +149,7 @@ module _ (groups : List (List (List ℕ))) (small : Bool) (left : Bor (List ℕ)
       let some = sym first.small_is ∙ literals_fit in
       let fit = sym second.small_is ∙ hints_fit in
       clause-says groups (groups_of (tokens_of left.now)) first.group second.group first.found second.found
-          first.written second.written (rw (some, fit) refl)
+      first.written second.written (rw (some, fit) refl)
       ∙ rw (first.values some, second.values fit, empty, nothing) refl
   clause-done hints_small (Some rest) before now second none literals_fit hints_fit empty nothing =
       absurd (false≢true (sym none))
@@ -196,7 +195,7 @@ pub last-wrong : (left : List ℕ) → StandsWrong is_count left → (parts : Li
 last-wrong left wrong parts =
     let groups = split-parts is_zero wrong.others in
     ap (λ tokens. linear_step (parts ∷ groups_of tokens)) wrong.tokens
-        ∙ ap (λ rest. linear_step (parts ∷ rest)) (slice_split-cons_no is_zero wrong.token wrong.others wrong.wrong.0)
+    ∙ ap (λ rest. linear_step (parts ∷ rest)) (slice_split-cons_no is_zero wrong.token wrong.others wrong.wrong.0)
     ∙ ap (λ rest. linear_step (parts ∷ onto_first wrong.token rest)) groups.are
     ∙ wrong-divisor parts wrong.token groups.first groups.others wrong.wrong.1
 
@@ -206,7 +205,7 @@ pub last-zero : (left : List ℕ) (behind : Option (Bor (List ℕ)))
     → (parts : List (List ℕ)) → linear_step (parts ∷ groups_of (tokens_of left)) ≡ Err BadLine
 last-zero left behind first parts =
     ap (λ tokens. linear_step (parts ∷ groups_of tokens)) first.tokens
-        ∙ ap (λ rest. linear_step (parts ∷ rest))
+    ∙ ap (λ rest. linear_step (parts ∷ rest))
     (slice_split-cons_yes is_zero first.token (tokens_left behind) first.says)
 
 more-behind : (parts : List (List ℕ)) (token next : List ℕ) (tokens : List (List ℕ)) (zero : Bool)
@@ -214,11 +213,11 @@ more-behind : (parts : List (List ℕ)) (token next : List ℕ) (tokens : List (
 more-behind parts token next tokens true zero =
     let groups = split-parts is_zero tokens in
     ap (λ rest. linear_step (parts ∷ onto_first token rest)) (slice_split-cons_yes is_zero next tokens zero)
-        ∙ ap (λ rest. linear_step (parts ∷ (token ∷ []) ∷ rest)) groups.are
+    ∙ ap (λ rest. linear_step (parts ∷ (token ∷ []) ∷ rest)) groups.are
 more-behind parts token next tokens false zero =
     let groups = split-parts is_zero tokens in
     ap (λ rest. linear_step (parts ∷ onto_first token rest)) (slice_split-cons_no is_zero next tokens zero)
-        ∙ ap (λ rest. linear_step (parts ∷ onto_first token (onto_first next rest))) groups.are
+    ∙ ap (λ rest. linear_step (parts ∷ onto_first token (onto_first next rest))) groups.are
 
 -- something behind the divisor
 pub last-more : (left : List ℕ) (read : Item ℕ) (behind : Bor (List ℕ))
@@ -227,7 +226,7 @@ pub last-more : (left : List ℕ) (read : Item ℕ) (behind : Bor (List ℕ))
 last-more left read behind first parts =
     let next = split-parts is_space behind.now in
     ap (λ tokens. linear_step (parts ∷ groups_of tokens)) first.tokens
-        ∙ ap (λ rest. linear_step (parts ∷ rest))
+    ∙ ap (λ rest. linear_step (parts ∷ rest))
     (slice_split-cons_no is_zero first.token (tokens_of behind.now) first.says.0)
     ∙ ap (λ tokens. linear_step (parts ∷ onto_first first.token (groups_of tokens))) next.are
     ∙ more-behind parts first.token next.first next.others (is_zero next.first) refl
@@ -274,7 +273,7 @@ counts-positive [] h = All-nil (λ n. 1 ≤ n)
 counts-positive (token ∷ tokens) h =
     let parts = both_true (is_count token) (list_all is_count tokens) h in
     All-cons (λ n. 1 ≤ n) (number token) (map number tokens) (count-positive token parts.0)
-        (counts-positive tokens parts.1)
+    (counts-positive tokens parts.1)
 
 -- both are written as they have to be
 module _ (groups others : List (List (List ℕ))) (group : List (List ℕ)) (read : Item ℕ)
@@ -331,7 +330,7 @@ module _ (groups : List (List (List ℕ))) (small : Bool) (left : Bor (List ℕ)
       → are_pairs new ≡ true → (small && read.small) ≡ false → linear_step groups ≡ Err BadNumber
   linear-number read last empty pairs large =
       linear-large groups (groups_of (tokens_of left.now)) first.group read first.found first.written last
-          (sym (same_count empty) ∙ pairs) (rw (← first.small_is) large)
+      (sym (same_count empty) ∙ pairs) (rw (← first.small_is) large)
 
   pub linear-done : (read : Item ℕ) (parts : List Part) → IsLast (groups_of (tokens_of left.now)) read → old ≡ []
       → are_pairs new ≡ true → small ≡ true → read.small ≡ true → parts ≡ paired new
@@ -339,14 +338,14 @@ module _ (groups : List (List (List ℕ))) (small : Bool) (left : Bor (List ℕ)
   linear-done read parts last empty pairs numbers_fit fits are =
       let fit = sym first.small_is ∙ numbers_fit in
       linear-says groups (groups_of (tokens_of left.now)) first.group read first.found first.written last parts
-          (sym (same_count empty) ∙ pairs) (rw (fit, fits) refl)
-        (are ∙ ap paired (rw empty at (first.values fit)))
+      (sym (same_count empty) ∙ pairs) (rw (fit, fits) refl)
+      (are ∙ ap paired (rw empty at (first.values fit)))
 
 -- ---- marks
 
 nothing-marked : (c l : Bool)
     → (if c then clause_step (groups_of []) else (if l then linear_step (groups_of []) else Err BadLine))
-        ≡ Err BadLine
+    ≡ Err BadLine
 nothing-marked true l = refl
 nothing-marked false true = refl
 nothing-marked false false = refl
