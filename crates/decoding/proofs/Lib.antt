@@ -2,3 +2,8 @@
 pub mod DecodedCounts
 pub mod Places
 pub mod SomeShadow
+-- What the rows of a season say:
+pub mod SeasonLaws
+pub mod VenueLaws
+pub mod HomeCounts
+pub mod SeasonRows
