@@ -2,3 +2,7 @@
 pub mod EncodingFacts
 pub mod ClassRowFacts
 pub mod SizeFacts
+-- The rows of a class key by key, and how many terms they have:
+pub mod KeyRowLemmas
+pub mod SizeLemmas
+pub mod ClassSizeLemmas

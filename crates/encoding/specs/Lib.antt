@@ -10,3 +10,5 @@ pub mod Encoding
 -- Which assignment stands for a schedule, and which schedule for an assignment:
 pub mod Shadow
 -- Kept inside (laws, and how fields are seen):
+-- How many terms the rows of a key have:
+pub mod Terms
