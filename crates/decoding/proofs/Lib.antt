@@ -1,0 +1,9 @@
+-- Lists of literals and what they count:
+pub mod MeetingLists
+pub mod VenueLists
+-- What rows lack:
+pub mod ShortfallLemmas
+-- The law of each class of constraints:
+pub mod CapacityLaws
+pub mod BreakLaws
+pub mod FairnessLaw
