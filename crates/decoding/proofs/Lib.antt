@@ -1,3 +1,12 @@
+-- Lists of literals and what they count:
+pub mod MeetingLists
+pub mod VenueLists
+-- What rows lack:
+pub mod ShortfallLemmas
+-- The law of each class of constraints:
+pub mod CapacityLaws
+pub mod BreakLaws
+pub mod FairnessLaw
 -- Decoding an assignment, and the shadow of a schedule:
 pub mod DecodedCounts
 pub mod Places
