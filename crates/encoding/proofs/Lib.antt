@@ -6,3 +6,5 @@ pub mod SizeFacts
 pub mod KeyRowLemmas
 pub mod SizeLemmas
 pub mod ClassSizeLemmas
+-- The numbers of variables, read back:
+pub mod Places

@@ -12,3 +12,5 @@ pub mod Shadow
 -- Kept inside (laws, and how fields are seen):
 -- How many terms the rows of a key have:
 pub mod Terms
+-- What an encoding keeps:
+pub mod Encoded
