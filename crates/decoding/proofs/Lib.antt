@@ -7,3 +7,8 @@ pub mod ShortfallLemmas
 pub mod CapacityLaws
 pub mod BreakLaws
 pub mod FairnessLaw
+pub mod GapLemmas
+pub mod SeparationLaw
+pub mod ClassLaws
+-- All rows of the hard constraints:
+pub mod ConstraintLaws
