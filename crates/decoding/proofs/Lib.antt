@@ -7,9 +7,13 @@ pub mod ShortfallLemmas
 pub mod CapacityLaws
 pub mod BreakLaws
 pub mod FairnessLaw
+pub mod GapLemmas
+pub mod SeparationLaw
+pub mod ClassLaws
+-- All rows of the hard constraints:
+pub mod ConstraintLaws
 -- Decoding an assignment, and the shadow of a schedule:
 pub mod DecodedCounts
-pub mod Places
 pub mod SomeShadow
 -- What the rows of a season say:
 pub mod SeasonLaws
