@@ -7,3 +7,9 @@ pub mod NumberLemmas
 pub mod EncodingFacts
 pub mod ClassRowFacts
 pub mod SizeFacts
+-- The rows of a class key by key, and how many terms they have:
+pub mod KeyRowLemmas
+pub mod SizeLemmas
+pub mod ClassSizeLemmas
+-- The numbers of variables, read back:
+pub mod Places

@@ -13,3 +13,7 @@ pub mod Shadow
 --
 -- Lists in ascending order, so that the variables of a row differ:
 pub mod Ascending
+-- How many terms the rows of a key have:
+pub mod Terms
+-- What an encoding keeps:
+pub mod Encoded

@@ -6,7 +6,10 @@
 #![tactic(auto)]
 
 mod draft;
+mod encoding;
 mod literals;
 mod meetings;
-mod numbering;
 mod season;
+mod variables;
+
+pub use encoding::Encoding;

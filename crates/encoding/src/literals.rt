@@ -7,7 +7,7 @@ ghost use Rattle.encoding.specs.Ascending.{IsMeeting};
 ghost use Rattle.encoding.specs.Lists.{at_home_in, away_in, games_in};
 ghost use Rattle.encoding.specs.Variables.{h_var, x_var};
 
-use crate::numbering::{h_at, x_at};
+use crate::variables::{h_at, x_at};
 use rows::Lit;
 use std::alloc::AllocError;
 

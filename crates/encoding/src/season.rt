@@ -1,5 +1,5 @@
 //! The teams, slots and meetings of a season.
-ghost use Rattle.std.specs.Prelude.{◌≡◌, ◌+◌, ◌*◌, ◌-◌, ◌<◌, ◌≤◌, length, IfOk};
+ghost use Rattle.std.specs.Prelude.{◌≡◌, ◌+◌, ◌*◌, ◌-◌, ◌<◌, ◌≤◌, length, take, drop, IfOk};
 ghost use Rattle.std.specs.List.{All, range_with_len};
 ghost use Rattle.league.specs.Counts as counts;
 ghost use Rattle.league.specs.Instance.{IsTeamCount};
@@ -91,9 +91,17 @@ impl Season {
         ensures slots { result.now ≡ range_with_len first count }
         ensures ascend { AreSlots self.now result.now }
     {
-        let first = first as usize;
-        &self.slots[first..first + count as usize]
+        part(self.slots(), first as usize, (first + count) as usize)
     }
+}
+
+/// The numbers from one place to another.
+fn part(numbers: &[u16], first: usize, end: usize) -> &[u16]
+    requires order { first ≤ end }
+    requires within { end ≤ length numbers.now }
+    ensures { result.now ≡ take (end - first) (drop first numbers.now) }
+{
+    &numbers[first..end]
 }
 
 /// The numbers below a bound in order.
