@@ -91,7 +91,8 @@ impl Season {
         ensures slots { result.now ≡ range_with_len first count }
         ensures ascend { AreSlots self.now result.now }
     {
-        part(self.slots(), first as usize, (first + count) as usize)
+        let first = first as usize;
+        part(self.slots(), first, first + count as usize)
     }
 }
 
