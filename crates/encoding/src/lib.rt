@@ -10,6 +10,7 @@ mod encoding;
 mod literals;
 mod meetings;
 mod season;
+mod season_rows;
 mod variables;
 
 pub use encoding::Encoding;
