@@ -4,5 +4,7 @@ pub mod ClassRowFacts
 pub mod SizeFacts
 -- The rows of a class key by key, and how many terms they have:
 pub mod KeyRowLemmas
+pub mod FewLemmas
+pub mod MemberLemmas
 pub mod SizeLemmas
 pub mod ClassSizeLemmas

@@ -4,3 +4,5 @@
 //! `specs/Variables.antt` numbers what can be true of a schedule, `specs/Season.antt` and `specs/Demands.antt` have the
 //! rows group by group, and `specs/Encoding.antt` has all of them in order.
 #![tactic(auto)]
+
+mod sizes;
