@@ -241,6 +241,7 @@ half pairs (suc y) h =
 pub length-pairs_of : (teams : List ℕ) → length teams * (length teams - 1) / 2 ≡ length (pairs_of teams)
 length-pairs_of teams = half (length (pairs_of teams)) (length teams) (pair_count teams)
 
--- at most 40 teams have at most 800 pairs
-pub pairs_few : (teams : List ℕ) → length teams ≤ 40 → length (pairs_of teams) ≤ 800
-pairs_few teams few = omega (arith, pair_count teams, mul-le (length teams) (length teams) 40 40 few few)
+-- at most 40 teams have at most 780 pairs
+pub pairs_few : (teams : List ℕ) → length teams ≤ 40 → length (pairs_of teams) ≤ 780
+pairs_few teams few =
+    omega (arith, length-pairs_of teams, mul-le (length teams) (length teams - 1) 40 39 few (omega arith))

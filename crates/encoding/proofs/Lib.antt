@@ -1,3 +1,5 @@
+-- Lists in ascending order, so that the variables of a row differ:
+pub mod AscendLemmas
 -- Worked examples, so that a wrong definition does not check:
 pub mod EncodingFacts
 pub mod ClassRowFacts

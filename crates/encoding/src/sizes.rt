@@ -448,7 +448,7 @@ fn pair_total(n: u16, teams: &TeamSet) -> u64
     requires n { n ≤ 40 }
     requires teams { IsTrue (are_teams n teams.now) }
     ensures count { result ≡ length (pairs_of teams.now) }
-    ensures few { result ≤ 800 }
+    ensures few { result ≤ 780 }
 {
     let total = team_total(n, teams);
     total * total.saturating_sub(1) / 2

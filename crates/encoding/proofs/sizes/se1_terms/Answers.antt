@@ -14,4 +14,4 @@ pub returns-clause-most : goal.returns-clause-most
 returns-clause-most c =
     let windows : ℕ = c.from-season.result + 1 - c.min-window.result in
     let games : ℕ = 2 * c.min-window.result in
-    omega (arith, mul-le c.pair_total.result (windows * games) 800 12324 c.pair_total.ensures.few (omega (arith, mul-le windows games 79 156 (omega arith) (omega arith))))
+    omega (arith, mul-le c.pair_total.result (windows * games) 780 12324 c.pair_total.ensures.few (omega (arith, mul-le windows games 79 156 (omega arith) (omega arith))))
