@@ -5,13 +5,13 @@ ghost use Rattle.league.specs.Capacity as capacity;
 ghost use Rattle.league.specs.Counts.{teams_of};
 ghost use Rattle.league.specs.Instance.{IsTeamCount, are_meetings, are_slots, are_teams, class_fits};
 ghost use Rattle.league.specs.Meetings.{meetings_of, others, pairs_of};
-ghost use Rattle.league.specs.Sets.{is_in};
 ghost use Rattle.rows.specs.Rows.{size_of};
 ghost use Rattle.encoding.specs.Encoding.{class_rows};
 ghost use Rattle.encoding.specs.Lists.{after_first};
 ghost use Rattle.encoding.specs.Terms as terms;
 
-use league::{Class, PairSet, Side, SlotSet, Span, TeamId, TeamSet, slot_count};
+use crate::sets::{is_between, meeting_numbers, slot_numbers, team_numbers};
+use league::{Class, PairSet, Side, SlotSet, Span, TeamSet, slot_count};
 
 /// How many terms the rows of a class have that fits a league of n teams. It takes no memory, and no longer where there
 /// are more of them.
@@ -125,7 +125,6 @@ fn ca3_terms(
     (season + 1 - window) * opponent_terms(n, teams1, teams2, min, max, games)
 }
 
-#[tactic(auto, using(crate::proofs::FewLemmas::teams_few))]
 /// The terms of the rows that bound the games of each of some teams against others, each of whom it meets so often.
 fn opponent_terms(n: u16, teams1: &TeamSet, teams2: &TeamSet, min: u32, max: u32, games: u64) -> u64
     requires n { n ≤ 40 }
@@ -136,7 +135,9 @@ fn opponent_terms(n: u16, teams1: &TeamSet, teams2: &TeamSet, min: u32, max: u32
         ≡ sum_by (λ i. terms.between_terms min max (length (others i teams2.now) * games)) teams1.now }
     ensures most { result ≤ 499200 }
 {
-    terms_against(teams1.numbers(), teams2.numbers(), min, max, games)
+    let teams1 = team_numbers(n, teams1);
+    let teams2 = team_numbers(n, teams2);
+    terms_against(teams1, teams2, min, max, games)
 }
 
 /// The same of their numbers.
@@ -238,33 +239,6 @@ fn one_between(side: Side, teams1: &TeamSet, teams2: &TeamSet, home: u16, away: 
     }
 }
 
-/// Whether a meeting is one of some teams with others, where the side is that of the first: two look-ups, or four for
-/// both sides.
-pub(crate) fn is_between(
-    side: Side,
-    teams1: &TeamSet,
-    teams2: &TeamSet,
-    home: u16,
-    away: u16,
-) -> bool
-    ensures { result ≡ capacity.is_between side teams1.now teams2.now (home, away) }
-{
-    match side {
-        Side::H => has(teams1, home) && has(teams2, away),
-        Side::A => has(teams1, away) && has(teams2, home),
-        Side::Both => {
-            (has(teams1, home) && has(teams2, away)) || (has(teams1, away) && has(teams2, home))
-        }
-    }
-}
-
-/// Whether a team is one of these.
-fn has(teams: &TeamSet, team: u16) -> bool
-    ensures { result ≡ is_in team teams.now }
-{
-    teams.contains(TeamId(team))
-}
-
 /// Those of a GA1.
 fn ga1_terms(n: u16, meetings: &PairSet, min: u32, max: u32, slots: &SlotSet) -> u64
     requires n { n ≤ 40 }
@@ -312,7 +286,7 @@ fn lead_terms_of(n: u16, intp: u32, slots: &SlotSet) -> u64
     ensures terms { result ≡ sum_by (terms.fa2_terms intp) slots.now }
     ensures most { result ≤ 24336 }
 {
-    lead_terms(intp, slots.numbers())
+    lead_terms(intp, slot_numbers(n, slots))
 }
 
 /// The same of their numbers.
@@ -391,7 +365,6 @@ fn side_total(side: Side) -> u64
     }
 }
 
-#[tactic(auto, using(crate::proofs::FewLemmas::teams_few))]
 /// How many teams a set has.
 fn team_total(n: u16, teams: &TeamSet) -> u64
     requires n { n ≤ 40 }
@@ -399,10 +372,9 @@ fn team_total(n: u16, teams: &TeamSet) -> u64
     ensures count { result ≡ length teams.now }
     ensures few { result ≤ 40 }
 {
-    teams.len() as u64
+    team_numbers(n, teams).len() as u64
 }
 
-#[tactic(auto, using(crate::proofs::FewLemmas::slots_few))]
 /// How many slots a set has.
 fn slot_total(n: u16, slots: &SlotSet) -> u64
     requires n { n ≤ 40 }
@@ -410,10 +382,9 @@ fn slot_total(n: u16, slots: &SlotSet) -> u64
     ensures count { result ≡ length slots.now }
     ensures few { result ≤ 78 }
 {
-    slots.len() as u64
+    slot_numbers(n, slots).len() as u64
 }
 
-#[tactic(auto, using(crate::proofs::FewLemmas::slots_few))]
 /// How many of them have a slot before them.
 fn later_total(n: u16, slots: &SlotSet) -> u64
     requires n { n ≤ 40 }
@@ -421,7 +392,7 @@ fn later_total(n: u16, slots: &SlotSet) -> u64
     ensures count { result ≡ length (after_first slots.now) }
     ensures few { result ≤ 78 }
 {
-    later_count(slots.numbers())
+    later_count(slot_numbers(n, slots))
 }
 
 /// The same of their numbers.
@@ -432,15 +403,14 @@ fn later_count(slots: &[u16]) -> u64
     slots.iter().filter(|slot| **slot > 0).count() as u64
 }
 
-#[tactic(auto, using(crate::proofs::FewLemmas::meetings_few))]
 /// How many meetings a set has.
 fn meeting_total(n: u16, meetings: &PairSet) -> u64
     requires n { n ≤ 40 }
     requires meetings { IsTrue (are_meetings n meetings.now) }
     ensures count { result ≡ length meetings.now }
-    ensures few { result ≤ 1600 }
+    ensures few { result ≤ 1560 }
 {
-    meetings.len() as u64
+    meeting_numbers(n, meetings).len() as u64
 }
 
 /// How many pairs some teams have.
