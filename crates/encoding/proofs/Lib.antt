@@ -1,5 +1,7 @@
 -- Lists in ascending order, so that the variables of a row differ:
 pub mod AscendLemmas
+pub mod MeetingOrder
+pub mod LiteralOrder
 -- Worked examples, so that a wrong definition does not check:
 pub mod EncodingFacts
 pub mod ClassRowFacts
