@@ -8,6 +8,7 @@ pub mod ClassRowFacts
 pub mod SizeFacts
 -- The rows of a class key by key, and how many terms they have:
 pub mod KeyRowLemmas
+pub mod ListedRows
 pub mod FewLemmas
 pub mod MemberLemmas
 pub mod SizeLemmas

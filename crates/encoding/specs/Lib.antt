@@ -15,3 +15,5 @@ pub mod Shadow
 pub mod Ascending
 -- How many terms the rows of a key have:
 pub mod Terms
+-- Pairs of teams:
+pub mod Pairs

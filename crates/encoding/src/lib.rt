@@ -5,4 +5,11 @@
 //! rows group by group, and `specs/Encoding.antt` has all of them in order.
 #![tactic(auto)]
 
+mod demands;
+mod draft;
+mod literals;
+mod meetings;
+mod numbering;
+mod season;
+mod sets;
 mod sizes;

@@ -1,15 +1,18 @@
 //! The sets of a constraint that fits a league: what their numbers are, and which meetings two of them have.
-ghost use Rattle.std.specs.Prelude.{◌≡◌, ◌<◌, ◌≤◌, length, IsTrue};
+ghost use Rattle.std.specs.Prelude.{◌≡◌, ◌<◌, ◌≤◌, length, IfOk, IsTrue};
 ghost use Rattle.std.specs.List.{All};
 ghost use Rattle.league.specs.Capacity as capacity;
 ghost use Rattle.league.specs.Counts.{slot_count};
 ghost use Rattle.league.specs.Instance.{are_meetings, are_slots, are_teams};
+ghost use Rattle.league.specs.Meetings as meetings;
 ghost use Rattle.league.specs.Sets.{is_in};
 ghost use Rattle.encoding.specs.Ascending.{AreMeetings, AreSlots, AreTeams};
+ghost use Rattle.encoding.specs.Pairs.{IsPair};
 
+use crate::meetings::pairs_of;
 use league::{PairSet, Side, SlotSet, TeamId, TeamSet};
+use std::alloc::{AllocError, Global};
 
-#[tactic(auto, using(crate::proofs::FewLemmas::teams_few, crate::proofs::FewLemmas::teams_order))]
 /// The numbers of some teams of a league of n teams, at most 40.
 pub(crate) fn team_numbers(n: u16, teams: &TeamSet) -> &[u16]
     requires n { n ≤ 40 }
@@ -22,7 +25,6 @@ pub(crate) fn team_numbers(n: u16, teams: &TeamSet) -> &[u16]
     teams.numbers()
 }
 
-#[tactic(auto, using(crate::proofs::FewLemmas::slots_few, crate::proofs::FewLemmas::slots_order))]
 /// The numbers of some slots of its season, at most 78.
 pub(crate) fn slot_numbers(n: u16, slots: &SlotSet) -> &[u16]
     requires n { n ≤ 40 }
@@ -35,7 +37,6 @@ pub(crate) fn slot_numbers(n: u16, slots: &SlotSet) -> &[u16]
     slots.numbers()
 }
 
-#[tactic(auto, using(crate::proofs::FewLemmas::meetings_few, crate::proofs::FewLemmas::meetings_order))]
 /// The home and away teams of some meetings, at most 1,560.
 pub(crate) fn meeting_numbers(n: u16, meetings: &PairSet) -> &[(u16, u16)]
     requires n { n ≤ 40 }
@@ -45,6 +46,21 @@ pub(crate) fn meeting_numbers(n: u16, meetings: &PairSet) -> &[(u16, u16)]
     ensures few { length result.now ≤ 1560 }
 {
     meetings.numbers()
+}
+
+/// The pairs of some teams, at most 780.
+pub(crate) fn team_pairs(
+    alloc: Global,
+    n: u16,
+    teams: &TeamSet,
+) -> Result<Vec<(u16, u16)>, AllocError>
+    requires n { n ≤ 40 }
+    requires teams { IsTrue (are_teams n teams.now) }
+    ensures pairs { IfOk result (λ pairs. pairs.items ≡ meetings.pairs_of teams.now) }
+    ensures fit { IfOk result (λ pairs. All (IsPair n) pairs.items) }
+    ensures few { IfOk result (λ pairs. length pairs.items ≤ 780) }
+{
+    pairs_of(alloc, teams.numbers())
 }
 
 /// Whether a meeting is one of some teams with others, where the side is that of the first: two look-ups, or four for

@@ -7,11 +7,10 @@ ghost use Rattle.encoding.specs.Ascending.{AreSlots};
 ghost use Rattle.encoding.specs.Demands.{br1_rows};
 ghost use Rattle.encoding.specs.Encoding.{class_rows, demands};
 ghost use Rattle.encoding.specs.Lists.{away_breaks_at, breaks_in, home_breaks_at};
-ghost use Rattle.encoding.specs.Variables as variables;
 
 use crate::draft::Draft;
+use crate::numbering::{ab_at, hb_at};
 use crate::sets::{slot_numbers, team_numbers};
-use crate::variables::{ab_at, hb_at};
 use league::{Side, SlotSet, TeamSet};
 use rows::Lit;
 use std::alloc::AllocError;

@@ -2,7 +2,7 @@
 ghost use Rattle.std.specs.Prelude.{◌≡◌, ◌+◌, ◌*◌, ◌-◌, ◌^◌, ◌<◌, ◌≤◌, [], ◌∷◌, ◌++◌, length, IsTrue, IfOk, OnOk};
 ghost use Rattle.std.specs.List.{All, filter, flat_map, range_with_len};
 ghost use Rattle.league.specs.Capacity as capacity;
-ghost use Rattle.league.specs.Counts.{slot_count};
+ghost use Rattle.league.specs.Counts as counts;
 ghost use Rattle.league.specs.Instance.{are_teams, class_fits};
 ghost use Rattle.league.specs.Meetings.{meetings_of};
 ghost use Rattle.rows.specs.Cardinality.{between};
@@ -17,7 +17,7 @@ use crate::literals::{add_away, add_home};
 use crate::meetings::meetings_in_order;
 use crate::season::Season;
 use crate::sets::{is_between, meeting_numbers, slot_numbers, team_numbers};
-use league::{PairSet, Side, SlotSet, Span, TeamSet};
+use league::{PairSet, Side, SlotSet, Span, TeamSet, slot_count};
 use rows::Lit;
 use std::alloc::{AllocError, Global};
 
@@ -101,8 +101,7 @@ impl Draft {
         slots: &SlotSet,
     ) -> Result<(), AllocError>
         requires n { n ≤ 40 }
-        requires fits {
-            IsTrue (class_fits n (Class.Ca2 teams1.now teams2.now bounds.min bounds.max side slots.now)) }
+        requires fits { IsTrue (class_fits n (Class.Ca2 teams1.now teams2.now bounds.min bounds.max side slots.now)) }
         requires room { length self.old.rows + 121680 < 2 ^ 32 }
         ensures rows { OnOk result (self.new.rows ≡ self.old.rows
             ++ class_rows n (Class.Ca2 teams1.now teams2.now bounds.min bounds.max side slots.now)) }
@@ -154,8 +153,7 @@ impl Draft {
         side: Side,
     ) -> Result<(), AllocError>
         requires n { season.now ≤ 40 }
-        requires fits {
-            IsTrue (class_fits season.now (Class.Ca3 teams1.now teams2.now bounds.min bounds.max intp side)) }
+        requires fits { IsTrue (class_fits season.now (Class.Ca3 teams1.now teams2.now bounds.min bounds.max intp side)) }
         requires room { length self.old.rows + 121680 < 2 ^ 32 }
         ensures rows { OnOk result (self.new.rows ≡ self.old.rows
             ++ class_rows season.now (Class.Ca3 teams1.now teams2.now bounds.min bounds.max intp side)) }
@@ -186,7 +184,7 @@ impl Draft {
         side: Side,
     ) -> Result<(), AllocError>
         requires n { season.now ≤ 40 }
-        requires firsts { All (λ first. first + window ≤ slot_count season.now) firsts.now }
+        requires firsts { All (λ first. first + window ≤ counts.slot_count season.now) firsts.now }
         requires windows { length firsts.now ≤ 78 }
         requires teams1 { All (λ i. i < season.now) teams1.now }
         requires few { length teams1.now ≤ 40 }
@@ -214,7 +212,7 @@ impl Draft {
         bounds: Bounds,
     ) -> Result<(), AllocError>
         requires n { season.now ≤ 40 }
-        requires firsts { All (λ first. first + window ≤ slot_count season.now) firsts.now }
+        requires firsts { All (λ first. first + window ≤ counts.slot_count season.now) firsts.now }
         requires windows { length firsts.now ≤ 78 }
         requires meetings { AreMeetings season.now meetings.now }
         requires room { length self.old.rows + 156 < 2 ^ 32 }
@@ -243,8 +241,7 @@ impl Draft {
         slots: &SlotSet,
     ) -> Result<(), AllocError>
         requires n { season.now ≤ 40 }
-        requires fits {
-            IsTrue (class_fits season.now (Class.Ca4 teams1.now teams2.now bounds.min bounds.max side span slots.now)) }
+        requires fits { IsTrue (class_fits season.now (Class.Ca4 teams1.now teams2.now bounds.min bounds.max side span slots.now)) }
         requires room { length self.old.rows + 121680 < 2 ^ 32 }
         ensures rows { OnOk result (self.new.rows ≡ self.old.rows
             ++ class_rows season.now (Class.Ca4 teams1.now teams2.now bounds.min bounds.max side span slots.now)) }
@@ -269,7 +266,7 @@ impl Draft {
     ) -> Result<(), AllocError>
         requires n { n ≤ 40 }
         requires meetings { AreMeetings n meetings.now }
-        requires slots { All (λ s. s < slot_count n) slots.now }
+        requires slots { All (λ s. s < counts.slot_count n) slots.now }
         requires few { length slots.now ≤ 78 }
         requires room { length self.old.rows + 156 < 2 ^ 32 }
         ensures rows { OnOk result (self.new.rows ≡ self.old.rows ++ flat_map (λ s.
@@ -313,7 +310,7 @@ fn add_venues(
 ) -> Result<(), AllocError>
     requires n { n ≤ 40 }
     requires team { team < n }
-    requires slots { All (λ s. s < slot_count n) slots.now }
+    requires slots { All (λ s. s < counts.slot_count n) slots.now }
     ensures { OnOk result (literals.new.items ≡ literals.old.items ++ venues_in side n team slots.now) }
 {
     match side {

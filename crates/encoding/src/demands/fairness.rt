@@ -10,7 +10,7 @@ ghost use Rattle.encoding.specs.Pairs.{IsPair};
 use crate::draft::Draft;
 use crate::literals::{add_away, add_home};
 use crate::season::Season;
-use crate::sets::{slot_numbers, team_numbers, team_pairs};
+use crate::sets::{slot_numbers, team_pairs};
 use league::{SlotSet, TeamSet};
 use std::alloc::{AllocError, Global};
 
@@ -32,7 +32,7 @@ impl Draft {
         ensures few { OnOk result (length self.new.rows ≤ length self.old.rows + 121680) }
     {
         let n = season.n();
-        let pairs = team_pairs(alloc, n, team_numbers(n, teams))?;
+        let pairs = team_pairs(alloc, n, teams)?;
         let slots = slot_numbers(n, slots);
         self.bound_leads(season, &pairs, intp, slots)
     }

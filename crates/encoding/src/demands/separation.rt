@@ -1,7 +1,7 @@
 //! The rows of SE1, which keep the games of two teams apart.
 ghost use Rattle.std.specs.Prelude.{◌≡◌, ◌+◌, ◌*◌, ◌-◌, ◌^◌, ◌<◌, ◌≤◌, [], ◌∷◌, ◌++◌, length, IsTrue, OnOk};
 ghost use Rattle.std.specs.List.{All, filter, flat_map, range_with_len};
-ghost use Rattle.league.specs.Counts.{slot_count};
+ghost use Rattle.league.specs.Counts as counts;
 ghost use Rattle.league.specs.Instance.{IsTeamCount, class_fits};
 ghost use Rattle.rows.specs.Cardinality.{at_most};
 ghost use Rattle.encoding.specs.Encoding.{class_rows, demands};
@@ -10,7 +10,7 @@ ghost use Rattle.encoding.specs.Pairs.{IsPair, both_meetings};
 
 use crate::draft::Draft;
 use crate::season::Season;
-use crate::sets::{team_numbers, team_pairs};
+use crate::sets::team_pairs;
 use league::{TeamSet, slot_count};
 use std::alloc::{AllocError, Global};
 
@@ -31,7 +31,7 @@ impl Draft {
         ensures few { OnOk result (length self.new.rows ≤ length self.old.rows + 121680) }
     {
         let n = season.n();
-        let pairs = team_pairs(alloc, n, team_numbers(n, teams))?;
+        let pairs = team_pairs(alloc, n, teams)?;
         let slots = slot_count(n);
         let window = (u64::from(min) + 1).min(u64::from(slots)) as u16;
         let firsts = season.run(0, slots + 1 - window);
@@ -49,7 +49,7 @@ impl Draft {
         requires n { season.now ≤ 40 }
         requires pairs { All (IsPair season.now) pairs.now }
         requires few { length pairs.now ≤ 780 }
-        requires firsts { All (λ first. first + window ≤ slot_count season.now) firsts.now }
+        requires firsts { All (λ first. first + window ≤ counts.slot_count season.now) firsts.now }
         requires windows { length firsts.now ≤ 78 }
         requires room { length self.old.rows + 60840 < 2 ^ 32 }
         ensures rows { OnOk result (self.new.rows ≡ self.old.rows ++ flat_map (λ p. flat_map (λ first.
@@ -74,7 +74,7 @@ impl Draft {
     ) -> Result<(), AllocError>
         requires n { season.now ≤ 40 }
         requires pair { IsPair season.now (first, second) }
-        requires firsts { All (λ first. first + window ≤ slot_count season.now) firsts.now }
+        requires firsts { All (λ first. first + window ≤ counts.slot_count season.now) firsts.now }
         requires windows { length firsts.now ≤ 78 }
         requires room { length self.old.rows + 78 < 2 ^ 32 }
         ensures rows { OnOk result (self.new.rows ≡ self.old.rows ++ flat_map (λ begin. filter demands
