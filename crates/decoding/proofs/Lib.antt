@@ -1,0 +1,22 @@
+-- Lists of literals and what they count:
+pub mod MeetingLists
+pub mod VenueLists
+-- What rows lack:
+pub mod ShortfallLemmas
+-- The law of each class of constraints:
+pub mod CapacityLaws
+pub mod BreakLaws
+pub mod FairnessLaw
+pub mod GapLemmas
+pub mod SeparationLaw
+pub mod ClassLaws
+-- All rows of the hard constraints:
+pub mod ConstraintLaws
+-- Decoding an assignment, and the shadow of a schedule:
+pub mod DecodedCounts
+pub mod SomeShadow
+-- What the rows of a season say:
+pub mod SeasonLaws
+pub mod VenueLaws
+pub mod HomeCounts
+pub mod SeasonRows

@@ -2,6 +2,7 @@
 pub mod AscendLemmas
 pub mod MeetingOrder
 pub mod LiteralOrder
+pub mod NumberLemmas
 -- Worked examples, so that a wrong definition does not check:
 pub mod EncodingFacts
 pub mod ClassRowFacts
@@ -13,3 +14,5 @@ pub mod FewLemmas
 pub mod MemberLemmas
 pub mod SizeLemmas
 pub mod ClassSizeLemmas
+-- The numbers of variables, read back:
+pub mod Places

@@ -1,7 +1,9 @@
 -- Lists whose keys ascend: teams, slots, meetings and literals in their order.
-use Rattle.std.specs.Prelude.{◌≢◌, ℕ, ◌+◌, ◌-◌, ◌*◌, ◌<◌, ◌≤◌, List, [], ◌∷◌}
+use Rattle.std.specs.Prelude.{◌≡◌, ◌≢◌, ℕ, ◌+◌, ◌-◌, ◌*◌, ◌<◌, ◌≤◌, List, [], ◌∷◌}
 use Rattle.std.specs.List.{All}
-use Rattle.league.specs.Counts.{slot_count}
+use Rattle.league.specs.Counts.{slot_count, slots_of, teams_of}
+use Rattle.league.specs.Instance.{IsTeamCount}
+use Rattle.league.specs.Meetings.{meetings_of}
 use Rattle.encoding.specs.Variables.{place_beside}
 
 -- the keys of the elements ascend strictly, from low on and below high
@@ -31,3 +33,10 @@ place_of n p = p.0 * (n - 1) + place_beside p.0 p.1
 pub record AreMeetings (n : ℕ) (meetings : List (ℕ × ℕ)) : Type 0 where
   pub fit : All (IsMeeting n) meetings
   pub ascend : AscendsBy (place_of n) 0 meetings (n * (n - 1))
+
+-- the teams, slots and meetings of a season of n teams, listed
+pub record IsListed (n : ℕ) (team_list slot_list : List ℕ) (meeting_list : List (ℕ × ℕ)) : Type 0 where
+  pub count : IsTeamCount n
+  pub teams : team_list ≡ teams_of n
+  pub slots : slot_list ≡ slots_of n
+  pub meetings : meeting_list ≡ meetings_of n

@@ -15,5 +15,7 @@ pub mod Shadow
 pub mod Ascending
 -- How many terms the rows of a key have:
 pub mod Terms
+-- What an encoding keeps:
+pub mod Encoded
 -- Pairs of teams:
 pub mod Pairs

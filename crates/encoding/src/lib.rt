@@ -7,9 +7,12 @@
 
 mod demands;
 mod draft;
+mod encoding;
 mod literals;
 mod meetings;
-mod numbering;
 mod season;
 mod sets;
 mod sizes;
+mod variables;
+
+pub use encoding::Encoding;

@@ -4,5 +4,8 @@ pub mod FlatLemmas
 pub mod UnitLemmas
 -- What a row forces:
 pub mod ForcingLemmas
+-- Lists as tests, and rows as tests:
+pub mod ListLemmas
+pub mod TestLemmas
 -- Worked examples, so that a wrong definition does not check:
 pub mod RowFacts
