@@ -6,6 +6,7 @@ use Rattle.std.proofs.lemmas.List.{length-append, length-map}
 use Rattle.std.proofs.lemmas.List.Elements.{All-append, All-map, All-nil, All-tail}
 use Rattle.std.proofs.lemmas.List.FromFn.{length-range_with_len}
 use Rattle.std.proofs.lemmas.List.Sums.{sum_by-cons}
+use Rattle.std.proofs.lemmas.Nat.{mul-le}
 use Rattle.std.specs.List.{All, filter, flat_map, range_with_len, sum_by}
 use Rattle.std.specs.Ordering.{nat_cmp}
 use Rattle.std.specs.declared.cmp.Ordering.TheVariants.{Less}
@@ -26,9 +27,9 @@ use Rattle.rows.specs.Rows.{Row, size_of}
 use Rattle.encoding.specs.Demands.{br1_rows, br2_rows, ca1_rows, ca2_rows, ca3_rows, ca4_rows, fa2_rows, fa2_rows_at, ga1_rows, se1_rows, separation_windows}
 use Rattle.encoding.specs.Encoding.{class_rows, demands}
 use Rattle.encoding.specs.Lists.{after_first, at_home_in, away_breaks_at, away_in, breaks_in, games_in, home_breaks_at, meetings_in_order, slots_up_to, venues_in}
-use Rattle.encoding.specs.Terms.{between_terms, fa2_terms, most_terms, side_count}
+use Rattle.encoding.specs.Terms.{between_terms, fa2_terms, most_terms, side_count, span_terms}
 use Rattle.encoding.proofs.KeyRowLemmas.{filter-flat_map}
-use Rattle.encoding.proofs.SizeLemmas.{least-terms, length-all_breaks, length-at_home, length-away, length-breaks, length-games_in, length-meetings, length-venues, size_of-between, size_of-cons, size_of-key, size_of-keys, size_of-most, sum_by-constant, sum_by-same_at}
+use Rattle.encoding.proofs.SizeLemmas.{least-terms, length-all_breaks, length-at_home, length-away, length-breaks, length-games_in, length-meetings, length-venues, size_of-between, size_of-cons, size_of-key, size_of-keys, size_of-most, sum_by-constant, sum_by-same_at, sum_by-times}
 
 -- the sum over one element
 sum_by-one : {X : Type 0} (f : X → ℕ) (x : X) → sum_by f (x ∷ []) ≡ f x
@@ -43,23 +44,27 @@ size_of-ca1 n teams min max side slots one =
     ∙ sum_by-constant (between_terms min max (length slots)) teams
 
 -- the literals of a team against others in some slots
-opponent_literals : (n : ℕ) (side : Side) (i : ℕ) (teams slots : List ℕ) → length (games_in n (meetings_in_order side i teams) slots) ≡ side_count side * length (others i teams) * length slots
+opponent_literals : (n : ℕ) (side : Side) (i : ℕ) (teams slots : List ℕ) → length (games_in n (meetings_in_order side i teams) slots) ≡ length (others i teams) * (side_count side * length slots)
 opponent_literals n side i teams slots =
-    length-games_in n (meetings_in_order side i teams) slots ∙ ap (λ (k : ℕ). k * length slots) (length-meetings side i teams)
+    length-games_in n (meetings_in_order side i teams) slots
+    ∙ ap (λ (k : ℕ). k * length slots) (length-meetings side i teams)
+    ∙ regrouped (side_count side) (length (others i teams)) (length slots) where
+      regrouped : (a b c : ℕ) → a * b * c ≡ b * (a * c)
+      regrouped a b c = grind arith
 
-ca2-key : (n : ℕ) (teams2 : List ℕ) (min max : ℕ) (side : Side) (slots : List ℕ) (i : ℕ) → size_of (filter demands (ca2_rows n teams2 min max side slots i)) ≡ between_terms min max (side_count side * length (others i teams2) * length slots)
+ca2-key : (n : ℕ) (teams2 : List ℕ) (min max : ℕ) (side : Side) (slots : List ℕ) (i : ℕ) → size_of (filter demands (ca2_rows n teams2 min max side slots i)) ≡ between_terms min max (length (others i teams2) * (side_count side * length slots))
 ca2-key n teams2 min max side slots i =
     size_of-between min max (games_in n (meetings_in_order side i teams2) slots) ∙ ap (between_terms min max) (opponent_literals n side i teams2 slots)
 
-pub size_of-ca2 : (n : ℕ) (teams1 teams2 : List ℕ) (min max : ℕ) (side : Side) (slots : List ℕ) → size_of (class_rows n (Ca2 teams1 teams2 min max side slots)) ≡ sum_by (λ i. between_terms min max (side_count side * length (others i teams2) * length slots)) teams1
+pub size_of-ca2 : (n : ℕ) (teams1 teams2 : List ℕ) (min max : ℕ) (side : Side) (slots : List ℕ) → size_of (class_rows n (Ca2 teams1 teams2 min max side slots)) ≡ sum_by (λ i. between_terms min max (length (others i teams2) * (side_count side * length slots))) teams1
 size_of-ca2 n teams1 teams2 min max side slots =
     size_of-keys (ca2_rows n teams2 min max side slots) teams1
-    ∙ sum_by-same (λ i. size_of (filter demands (ca2_rows n teams2 min max side slots i))) (λ i. between_terms min max (side_count side * length (others i teams2) * length slots)) (ca2-key n teams2 min max side slots) teams1
+    ∙ sum_by-same (λ i. size_of (filter demands (ca2_rows n teams2 min max side slots i))) (λ i. between_terms min max (length (others i teams2) * (side_count side * length slots))) (ca2-key n teams2 min max side slots) teams1
 
-ca3-key : (n : ℕ) (teams2 : List ℕ) (min max intp : ℕ) (side : Side) (i : ℕ) → size_of (filter demands (ca3_rows n teams2 min max intp side i)) ≡ (slot_count n + 1 - intp) * between_terms min max (side_count side * length (others i teams2) * intp)
+ca3-key : (n : ℕ) (teams2 : List ℕ) (min max intp : ℕ) (side : Side) (i : ℕ) → size_of (filter demands (ca3_rows n teams2 min max intp side i)) ≡ (slot_count n + 1 - intp) * between_terms min max (length (others i teams2) * (side_count side * intp))
 ca3-key n teams2 min max intp side i =
     let rows_in : List ℕ → List Row = λ window. ca2_rows n teams2 min max side window i in
-    let literals : ℕ → ℕ = λ slots. side_count side * length (others i teams2) * slots in
+    let literals : ℕ → ℕ = λ slots. length (others i teams2) * (side_count side * slots) in
     let firsts : List ℕ = range_with_len 0 (slot_count n + 1 - intp) in
     ap size_of (filter-flat_map demands rows_in (windows_of n intp))
     ∙ sum_by-flat_map (λ (r : Row). length r.terms) (λ window. filter demands (rows_in window)) (windows_of n intp)
@@ -68,24 +73,31 @@ ca3-key n teams2 min max intp side i =
     ∙ sum_by-constant (between_terms min max (literals intp)) firsts
     ∙ ap (λ (k : ℕ). k * between_terms min max (literals intp)) (length-range_with_len 0 (slot_count n + 1 - intp))
 
-pub size_of-ca3 : (n : ℕ) (teams1 teams2 : List ℕ) (min max intp : ℕ) (side : Side) → size_of (class_rows n (Ca3 teams1 teams2 min max intp side)) ≡ sum_by (λ i. (slot_count n + 1 - intp) * between_terms min max (side_count side * length (others i teams2) * intp)) teams1
+pub size_of-ca3 : (n : ℕ) (teams1 teams2 : List ℕ) (min max intp : ℕ) (side : Side) → size_of (class_rows n (Ca3 teams1 teams2 min max intp side)) ≡ (slot_count n + 1 - intp) * sum_by (λ i. between_terms min max (length (others i teams2) * (side_count side * intp))) teams1
 size_of-ca3 n teams1 teams2 min max intp side =
+    let each : ℕ → ℕ = λ i. between_terms min max (length (others i teams2) * (side_count side * intp)) in
     size_of-keys (ca3_rows n teams2 min max intp side) teams1
-    ∙ sum_by-same (λ i. size_of (filter demands (ca3_rows n teams2 min max intp side i))) (λ i. (slot_count n + 1 - intp) * between_terms min max (side_count side * length (others i teams2) * intp)) (ca3-key n teams2 min max intp side) teams1
+    ∙ sum_by-same (λ i. size_of (filter demands (ca3_rows n teams2 min max intp side i))) (λ i. (slot_count n + 1 - intp) * each i) (ca3-key n teams2 min max intp side) teams1
+    ∙ sum_by-times (slot_count n + 1 - intp) each teams1
+
+-- windows that are longer than the season
+pub size_of-no_window : (n : ℕ) (teams1 teams2 : List ℕ) (min max intp : ℕ) (side : Side) → slot_count n < intp → size_of (class_rows n (Ca3 teams1 teams2 min max intp side)) ≡ 0
+size_of-no_window n teams1 teams2 min max intp side longer =
+    let each : ℕ = sum_by (λ i. between_terms min max (length (others i teams2) * (side_count side * intp))) teams1 in
+    let none : slot_count n + 1 - intp ≡ 0 = omega arith in
+    omega (arith, size_of-ca3 n teams1 teams2 min max intp side, ap (λ (k : ℕ). k * each) none)
 
 ca4-key : (n : ℕ) (teams1 teams2 : List ℕ) (min max : ℕ) (side : Side) (slots : List ℕ) → size_of (filter demands (ca4_rows n teams1 teams2 min max side slots)) ≡ between_terms min max (length (filter (is_between side teams1 teams2) (meetings_of n)) * length slots)
 ca4-key n teams1 teams2 min max side slots =
     let meetings : List (ℕ × ℕ) = filter (is_between side teams1 teams2) (meetings_of n) in
     size_of-between min max (games_in n meetings slots) ∙ ap (between_terms min max) (length-games_in n meetings slots)
 
-pub size_of-ca4_global : (n : ℕ) (teams1 teams2 : List ℕ) (min max : ℕ) (side : Side) (slots : List ℕ) → size_of (class_rows n (Ca4 teams1 teams2 min max side Global slots)) ≡ between_terms min max (length (filter (is_between side teams1 teams2) (meetings_of n)) * length slots)
-size_of-ca4_global n teams1 teams2 min max side slots =
+pub size_of-ca4 : (n : ℕ) (teams1 teams2 : List ℕ) (min max : ℕ) (side : Side) (span : Span) (slots : List ℕ) → size_of (class_rows n (Ca4 teams1 teams2 min max side span slots)) ≡ span_terms span min max (length (filter (is_between side teams1 teams2) (meetings_of n))) (length slots)
+size_of-ca4 n teams1 teams2 min max side Global slots =
     size_of-keys (ca4_rows n teams1 teams2 min max side) (slots ∷ [])
     ∙ sum_by-one (λ span. size_of (filter demands (ca4_rows n teams1 teams2 min max side span))) slots
     ∙ ca4-key n teams1 teams2 min max side slots
-
-pub size_of-ca4_every : (n : ℕ) (teams1 teams2 : List ℕ) (min max : ℕ) (side : Side) (slots : List ℕ) → size_of (class_rows n (Ca4 teams1 teams2 min max side Every slots)) ≡ length slots * between_terms min max (length (filter (is_between side teams1 teams2) (meetings_of n)))
-size_of-ca4_every n teams1 teams2 min max side slots =
+size_of-ca4 n teams1 teams2 min max side Every slots =
     let meetings : List (ℕ × ℕ) = filter (is_between side teams1 teams2) (meetings_of n) in
     let size : List ℕ → ℕ = λ span. size_of (filter demands (ca4_rows n teams1 teams2 min max side span)) in
     let each : ℕ = between_terms min max (length meetings) in
@@ -228,3 +240,8 @@ half pairs (suc y) h =
 
 pub length-pairs_of : (teams : List ℕ) → length teams * (length teams - 1) / 2 ≡ length (pairs_of teams)
 length-pairs_of teams = half (length (pairs_of teams)) (length teams) (pair_count teams)
+
+-- at most 40 teams have at most 780 pairs
+pub pairs_few : (teams : List ℕ) → length teams ≤ 40 → length (pairs_of teams) ≤ 780
+pairs_few teams few =
+    omega (arith, length-pairs_of teams, mul-le (length teams) (length teams - 1) 40 39 few (omega arith))

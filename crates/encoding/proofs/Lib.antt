@@ -10,6 +10,9 @@ pub mod ClassRowFacts
 pub mod SizeFacts
 -- The rows of a class key by key, and how many terms they have:
 pub mod KeyRowLemmas
+pub mod ListedRows
+pub mod FewLemmas
+pub mod MemberLemmas
 pub mod SizeLemmas
 pub mod ClassSizeLemmas
 -- The numbers of variables, read back:

@@ -29,6 +29,12 @@ pub sum_by-constant : {X : Type 0} (k : ℕ) (xs : List X) → sum_by (λ x. k) 
 sum_by-constant k [] = omega arith
 sum_by-constant k (x ∷ xs) = omega (arith, sum_by-cons (λ y. k) x xs, sum_by-constant k xs, suc-mul (length xs) k)
 
+-- each term so many times
+pub sum_by-times : {X : Type 0} (k : ℕ) (f : X → ℕ) (xs : List X) → sum_by (λ x. k * f x) xs ≡ k * sum_by f xs
+sum_by-times k f [] = omega arith
+sum_by-times k f (x ∷ xs) =
+    omega (arith, sum_by-cons (λ y. k * f y) x xs, ap (λ (m : ℕ). k * m) (sum_by-cons f x xs), sum_by-times k f xs)
+
 -- terms that are equal at the elements
 pub sum_by-same_at : {X : Type 0} (f g : X → ℕ) (xs : List X) → All (λ x. f x ≡ g x) xs → sum_by f xs ≡ sum_by g xs
 sum_by-same_at f g [] same = refl

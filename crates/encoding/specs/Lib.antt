@@ -17,3 +17,5 @@ pub mod Ascending
 pub mod Terms
 -- What an encoding keeps:
 pub mod Encoded
+-- Pairs of teams:
+pub mod Pairs
