@@ -8,7 +8,9 @@
 mod break_rows;
 mod demands;
 mod draft;
+mod encoder;
 mod encoding;
+mod encoding_size;
 mod literals;
 mod meetings;
 mod season;
@@ -18,4 +20,5 @@ mod sizes;
 mod variables;
 mod venue_rows;
 
+pub use encoder::{EncodeFault, encode};
 pub use encoding::Encoding;
