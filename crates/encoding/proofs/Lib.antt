@@ -3,6 +3,7 @@ pub mod AscendLemmas
 pub mod MeetingOrder
 pub mod LiteralOrder
 pub mod NumberLemmas
+pub mod TieLemmas
 -- Worked examples, so that a wrong definition does not check:
 pub mod EncodingFacts
 pub mod ClassRowFacts

@@ -76,6 +76,9 @@ teams_ascend n s teams within are =
     AscendsBy-map var_of home (home_base n 0) teams (home_base n n)
     (AscendsBy-blocks (λ i. i) (λ i. s) (1 + x_count n) (slot_count n) 0 teams n (λ k d inside. within) are)
 
+pub teams_differ : (n s : ℕ) (teams : List ℕ) → s < slot_count n → AreTeams n teams → AllPairs (λ l m. l.var ≢ m.var) (map (λ i. yes (h_var n i s)) teams)
+teams_differ n s teams within are = differ (home_base n 0) (map (λ i. yes (h_var n i s)) teams) (home_base n n) (teams_ascend n s teams within are)
+
 -- where an earlier team's h stand before a later one's
 home_base-le : (n i j : ℕ) → i < j → home_base n (i + 1) ≤ home_base n j
 home_base-le n i j before =

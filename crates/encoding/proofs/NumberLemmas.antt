@@ -40,8 +40,11 @@ slots_are n slots is = subst (λ (xs : List ℕ). AreSlots n xs) (sym is) (AreSl
 pub meetings_are : (n : ℕ) (meetings : List (ℕ × ℕ)) → meetings ≡ meetings_of n → AreMeetings n meetings
 meetings_are n meetings is = subst (λ (xs : List (ℕ × ℕ)). AreMeetings n xs) (sym is) (AreMeetings-all n)
 
-pub meetings_few : (n : ℕ) (meetings : List (ℕ × ℕ)) → AreMeetings n meetings → length meetings ≤ n * (n - 1)
-meetings_few n meetings are = omega (arith, AscendsBy-few (place_of n) 0 meetings (n * (n - 1)) are.ascend)
+pub meetings_few : (n : ℕ) (meetings : List (ℕ × ℕ)) → n ≤ 40 → AreMeetings n meetings → length meetings ≤ 1560
+meetings_few n meetings small are =
+    let others : n - 1 ≤ 39 = omega (arith, small) in
+    let most : n * (n - 1) ≤ 40 * 39 = mul-le-mul small others in
+    omega (arith, AscendsBy-few (place_of n) 0 meetings (n * (n - 1)) are.ascend, most)
 
 -- ---- consecutive slots
 

@@ -5,14 +5,17 @@
 //! rows group by group, and `specs/Encoding.antt` has all of them in order.
 #![tactic(auto)]
 
+mod break_rows;
 mod demands;
 mod draft;
 mod encoding;
 mod literals;
 mod meetings;
 mod season;
+mod season_rows;
 mod sets;
 mod sizes;
 mod variables;
+mod venue_rows;
 
 pub use encoding::Encoding;

@@ -62,6 +62,7 @@ impl Season {
         ensures ascend { AreTeams self.now result.now }
         ensures below { All (λ t. t < self.now) result.now }
         ensures few { length result.now ≡ self.now }
+        ensures at_most { length result.now ≤ 40 }
     {
         &self.teams
     }
@@ -72,6 +73,7 @@ impl Season {
         ensures ascend { AreSlots self.now result.now }
         ensures below { All (λ s. s < counts.slot_count self.now) result.now }
         ensures few { length result.now ≡ counts.slot_count self.now }
+        ensures at_most { length result.now ≤ 78 }
     {
         &self.slots
     }
@@ -80,7 +82,7 @@ impl Season {
     pub(crate) fn meetings(&self) -> &[(u16, u16)]
         ensures meetings { result.now ≡ meetings_of self.now }
         ensures are { AreMeetings self.now result.now }
-        ensures few { length result.now ≤ self.now * (self.now - 1) }
+        ensures at_most { length result.now ≤ 1560 }
     {
         &self.meetings
     }
@@ -91,7 +93,8 @@ impl Season {
         ensures slots { result.now ≡ range_with_len first count }
         ensures ascend { AreSlots self.now result.now }
     {
-        part(self.slots(), first as usize, (first + count) as usize)
+        let first = first as usize;
+        part(self.slots(), first, first + count as usize)
     }
 }
 

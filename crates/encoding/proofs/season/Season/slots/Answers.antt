@@ -1,4 +1,4 @@
-use Rattle.std.proofs.Common.{ℕ, length, ap, ◌∙◌}
+use Rattle.std.proofs.Common.{◌≡◌, ℕ, length, arith, ap, ◌∙◌}
 use Rattle.std.proofs.lemmas.List.FromFn.{length-range_with_len}
 use Rattle.league.specs.Counts.{slot_count, slots_of}
 use Rattle.encoding.proofs.AscendLemmas.{AscendsBy-below}
@@ -18,3 +18,8 @@ pub returns-clause-few : goal.returns-clause-few
 returns-clause-few c =
     ap length (c.deref.ensures.value ∙ c.self.invariant.slots ∙ ap (λ (n : ℕ). slots_of n) c.self.view_is)
     ∙ length-range_with_len 0 (slot_count c.args.self.now)
+
+pub returns-clause-at_most : goal.returns-clause-at_most
+returns-clause-at_most c =
+    let counted : length c.deref.result.now ≡ slot_count c.self.inside.n = ap length (c.deref.ensures.value ∙ c.self.invariant.slots) ∙ length-range_with_len 0 (slot_count c.self.inside.n) in
+    omega (arith, counted, c.self.invariant.count.at_most)
