@@ -72,7 +72,8 @@ impl Draft {
         ensures few { OnOk result (length self.new.rows ≤ length self.old.rows + 2) }
     {
         self.demand_at_least(u64::from(bounds.min))?;
-        self.demand_at_most(u64::from(bounds.max))
+        self.demand_at_most(u64::from(bounds.max))?;
+        Ok(())
     }
 
     /// Adds what bounds the games of some meetings in some slots.
@@ -92,7 +93,8 @@ impl Draft {
         ensures few { OnOk result (length self.new.rows ≤ length self.old.rows + 2) }
     {
         self.list_games(n, meetings, slots)?;
-        self.demand_between(bounds)
+        self.demand_between(bounds)?;
+        Ok(())
     }
 
     /// Adds what allows at most one of these games.
@@ -111,7 +113,8 @@ impl Draft {
         ensures few { OnOk result (length self.new.rows ≤ length self.old.rows + 1) }
     {
         self.list_games(n, meetings, slots)?;
-        self.demand_at_most(1)
+        self.demand_at_most(1)?;
+        Ok(())
     }
 }
 

@@ -2,6 +2,7 @@
 ghost use Rattle.std.specs.Prelude.{◌≡◌, ◌+◌, ◌*◌, ◌^◌, ◌<◌, ◌≤◌, [], ◌∷◌, ◌++◌, length, IsTrue, OnOk};
 ghost use Rattle.std.specs.List.{All, filter, flat_map};
 ghost use Rattle.league.specs.Counts.{slot_count};
+ghost use Rattle.league.specs.declared.class.Class.TheVariants as class;
 ghost use Rattle.league.specs.Instance.{class_fits};
 ghost use Rattle.encoding.specs.Ascending.{AreSlots};
 ghost use Rattle.encoding.specs.Demands.{br1_rows};
@@ -26,15 +27,16 @@ impl Draft {
         slots: &SlotSet,
     ) -> Result<(), AllocError>
         requires n { n ≤ 40 }
-        requires fits { IsTrue (class_fits n (Class.Br1 teams.now intp side slots.now)) }
+        requires fits { IsTrue (class_fits n (class.Br1 teams.now intp side slots.now)) }
         requires room { length self.old.rows + 121680 < 2 ^ 32 }
         ensures rows { OnOk result (self.new.rows
-            ≡ self.old.rows ++ class_rows n (Class.Br1 teams.now intp side slots.now)) }
+            ≡ self.old.rows ++ class_rows n (class.Br1 teams.now intp side slots.now)) }
         ensures few { OnOk result (length self.new.rows ≤ length self.old.rows + 121680) }
     {
         let teams = team_numbers(n, teams);
         let slots = slot_numbers(n, slots);
-        self.bound_breaks(n, teams, intp, side, slots)
+        self.bound_breaks(n, teams, intp, side, slots)?;
+        Ok(())
     }
 
     /// Adds, team by team, what bounds its breaks on a side at some slots.
@@ -82,7 +84,8 @@ impl Draft {
     {
         self.literals.clear();
         add_breaks(&mut self.literals, n, team, side, slots)?;
-        self.demand_at_most(u64::from(intp))
+        self.demand_at_most(u64::from(intp))?;
+        Ok(())
     }
 
     /// Adds the rows of a BR2.
@@ -94,10 +97,10 @@ impl Draft {
         slots: &SlotSet,
     ) -> Result<(), AllocError>
         requires n { n ≤ 40 }
-        requires fits { IsTrue (class_fits n (Class.Br2 teams.now intp slots.now)) }
+        requires fits { IsTrue (class_fits n (class.Br2 teams.now intp slots.now)) }
         requires room { length self.old.rows + 121680 < 2 ^ 32 }
         ensures rows { OnOk result (self.new.rows
-            ≡ self.old.rows ++ class_rows n (Class.Br2 teams.now intp slots.now)) }
+            ≡ self.old.rows ++ class_rows n (class.Br2 teams.now intp slots.now)) }
         ensures few { OnOk result (length self.new.rows ≤ length self.old.rows + 121680) }
     {
         let teams = team_numbers(n, teams);
@@ -105,7 +108,8 @@ impl Draft {
         self.literals.clear();
         add_home_breaks(&mut self.literals, n, teams, slots)?;
         add_away_breaks(&mut self.literals, n, teams, slots)?;
-        self.demand_at_most(u64::from(intp))
+        self.demand_at_most(u64::from(intp))?;
+        Ok(())
     }
 }
 

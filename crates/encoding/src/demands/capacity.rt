@@ -3,6 +3,7 @@ ghost use Rattle.std.specs.Prelude.{◌≡◌, ◌+◌, ◌*◌, ◌-◌, ◌^�
 ghost use Rattle.std.specs.List.{All, filter, flat_map, range_with_len};
 ghost use Rattle.league.specs.Capacity as capacity;
 ghost use Rattle.league.specs.Counts as counts;
+ghost use Rattle.league.specs.declared.class.Class.TheVariants as class;
 ghost use Rattle.league.specs.Instance.{are_teams, class_fits};
 ghost use Rattle.league.specs.Meetings.{meetings_of};
 ghost use Rattle.rows.specs.Cardinality.{between};
@@ -32,15 +33,16 @@ impl Draft {
         slots: &SlotSet,
     ) -> Result<(), AllocError>
         requires n { n ≤ 40 }
-        requires fits { IsTrue (class_fits n (Class.Ca1 teams.now bounds.min bounds.max side slots.now)) }
+        requires fits { IsTrue (class_fits n (class.Ca1 teams.now bounds.min bounds.max side slots.now)) }
         requires room { length self.old.rows + 121680 < 2 ^ 32 }
         ensures rows { OnOk result (self.new.rows
-            ≡ self.old.rows ++ class_rows n (Class.Ca1 teams.now bounds.min bounds.max side slots.now)) }
+            ≡ self.old.rows ++ class_rows n (class.Ca1 teams.now bounds.min bounds.max side slots.now)) }
         ensures few { OnOk result (length self.new.rows ≤ length self.old.rows + 121680) }
     {
         let teams = team_numbers(n, teams);
         let slots = slot_numbers(n, slots);
-        self.bound_venues(n, teams, bounds, side, slots)
+        self.bound_venues(n, teams, bounds, side, slots)?;
+        Ok(())
     }
 
     /// Adds, team by team, what bounds its games on a side in some slots.
@@ -56,6 +58,7 @@ impl Draft {
         requires teams { All (λ i. i < n) teams.now }
         requires few { length teams.now ≤ 40 }
         requires slots { AreSlots n slots.now }
+        requires below { All (λ s. s < counts.slot_count n) slots.now }
         requires room { length self.old.rows + 80 < 2 ^ 32 }
         ensures rows { OnOk result (self.new.rows ≡ self.old.rows
             ++ flat_map (λ i. filter demands (ca1_rows n bounds.min bounds.max side slots.now i)) teams.now) }
@@ -79,6 +82,7 @@ impl Draft {
         requires n { n ≤ 40 }
         requires team { team < n }
         requires slots { AreSlots n slots.now }
+        requires below { All (λ s. s < counts.slot_count n) slots.now }
         requires room { length self.old.rows + 2 < 2 ^ 32 }
         ensures rows { OnOk result (self.new.rows ≡ self.old.rows
             ++ filter demands (ca1_rows n bounds.min bounds.max side slots.now team)) }
@@ -86,7 +90,8 @@ impl Draft {
     {
         self.literals.clear();
         add_venues(&mut self.literals, n, team, side, slots)?;
-        self.demand_between(bounds)
+        self.demand_between(bounds)?;
+        Ok(())
     }
 
     /// Adds the rows of a CA2.
@@ -101,16 +106,17 @@ impl Draft {
         slots: &SlotSet,
     ) -> Result<(), AllocError>
         requires n { n ≤ 40 }
-        requires fits { IsTrue (class_fits n (Class.Ca2 teams1.now teams2.now bounds.min bounds.max side slots.now)) }
+        requires fits { IsTrue (class_fits n (class.Ca2 teams1.now teams2.now bounds.min bounds.max side slots.now)) }
         requires room { length self.old.rows + 121680 < 2 ^ 32 }
         ensures rows { OnOk result (self.new.rows ≡ self.old.rows
-            ++ class_rows n (Class.Ca2 teams1.now teams2.now bounds.min bounds.max side slots.now)) }
+            ++ class_rows n (class.Ca2 teams1.now teams2.now bounds.min bounds.max side slots.now)) }
         ensures few { OnOk result (length self.new.rows ≤ length self.old.rows + 121680) }
     {
         let teams1 = team_numbers(n, teams1);
         let teams2 = team_numbers(n, teams2);
         let slots = slot_numbers(n, slots);
-        self.bound_opponents(alloc, n, teams1, teams2, bounds, side, slots)
+        self.bound_opponents(alloc, n, teams1, teams2, bounds, side, slots)?;
+        Ok(())
     }
 
     /// Adds, team by team, what bounds its games on a side against others in some slots.
@@ -153,10 +159,10 @@ impl Draft {
         side: Side,
     ) -> Result<(), AllocError>
         requires n { season.now ≤ 40 }
-        requires fits { IsTrue (class_fits season.now (Class.Ca3 teams1.now teams2.now bounds.min bounds.max intp side)) }
+        requires fits { IsTrue (class_fits season.now (class.Ca3 teams1.now teams2.now bounds.min bounds.max intp side)) }
         requires room { length self.old.rows + 121680 < 2 ^ 32 }
         ensures rows { OnOk result (self.new.rows ≡ self.old.rows
-            ++ class_rows season.now (Class.Ca3 teams1.now teams2.now bounds.min bounds.max intp side)) }
+            ++ class_rows season.now (class.Ca3 teams1.now teams2.now bounds.min bounds.max intp side)) }
         ensures few { OnOk result (length self.new.rows ≤ length self.old.rows + 121680) }
     {
         let n = season.n();
@@ -168,7 +174,8 @@ impl Draft {
         let firsts = season.run(0, slots + 1 - window);
         let teams1 = team_numbers(n, teams1);
         let teams2 = team_numbers(n, teams2);
-        self.bound_windows(alloc, season, firsts, window, teams1, teams2, bounds, side)
+        self.bound_windows(alloc, season, firsts, window, teams1, teams2, bounds, side)?;
+        Ok(())
     }
 
     /// Adds, team by team, what bounds its games on a side against others in each window of so many slots.
@@ -241,10 +248,10 @@ impl Draft {
         slots: &SlotSet,
     ) -> Result<(), AllocError>
         requires n { season.now ≤ 40 }
-        requires fits { IsTrue (class_fits season.now (Class.Ca4 teams1.now teams2.now bounds.min bounds.max side span slots.now)) }
+        requires fits { IsTrue (class_fits season.now (class.Ca4 teams1.now teams2.now bounds.min bounds.max side span slots.now)) }
         requires room { length self.old.rows + 121680 < 2 ^ 32 }
         ensures rows { OnOk result (self.new.rows ≡ self.old.rows
-            ++ class_rows season.now (Class.Ca4 teams1.now teams2.now bounds.min bounds.max side span slots.now)) }
+            ++ class_rows season.now (class.Ca4 teams1.now teams2.now bounds.min bounds.max side span slots.now)) }
         ensures few { OnOk result (length self.new.rows ≤ length self.old.rows + 121680) }
     {
         let n = season.n();
@@ -288,15 +295,16 @@ impl Draft {
         slots: &SlotSet,
     ) -> Result<(), AllocError>
         requires n { n ≤ 40 }
-        requires fits { IsTrue (class_fits n (Class.Ga1 meetings.now bounds.min bounds.max slots.now)) }
+        requires fits { IsTrue (class_fits n (class.Ga1 meetings.now bounds.min bounds.max slots.now)) }
         requires room { length self.old.rows + 121680 < 2 ^ 32 }
         ensures rows { OnOk result (self.new.rows
-            ≡ self.old.rows ++ class_rows n (Class.Ga1 meetings.now bounds.min bounds.max slots.now)) }
+            ≡ self.old.rows ++ class_rows n (class.Ga1 meetings.now bounds.min bounds.max slots.now)) }
         ensures few { OnOk result (length self.new.rows ≤ length self.old.rows + 121680) }
     {
         let meetings = meeting_numbers(n, meetings);
         let slots = slot_numbers(n, slots);
-        self.demand_games(n, meetings, slots, bounds)
+        self.demand_games(n, meetings, slots, bounds)?;
+        Ok(())
     }
 }
 

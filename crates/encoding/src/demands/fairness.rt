@@ -2,6 +2,7 @@
 ghost use Rattle.std.specs.Prelude.{◌≡◌, ◌+◌, ◌*◌, ◌-◌, ◌^◌, ◌<◌, ◌≤◌, [], ◌∷◌, ◌++◌, length, IsTrue, OnOk};
 ghost use Rattle.std.specs.List.{All, filter, flat_map};
 ghost use Rattle.league.specs.Counts.{slot_count};
+ghost use Rattle.league.specs.declared.class.Class.TheVariants as class;
 ghost use Rattle.league.specs.Instance.{class_fits};
 ghost use Rattle.encoding.specs.Demands.{fa2_rows_at};
 ghost use Rattle.encoding.specs.Encoding.{class_rows, demands};
@@ -25,16 +26,17 @@ impl Draft {
         slots: &SlotSet,
     ) -> Result<(), AllocError>
         requires n { season.now ≤ 40 }
-        requires fits { IsTrue (class_fits season.now (Class.Fa2 teams.now intp slots.now)) }
+        requires fits { IsTrue (class_fits season.now (class.Fa2 teams.now intp slots.now)) }
         requires room { length self.old.rows + 121680 < 2 ^ 32 }
         ensures rows { OnOk result (self.new.rows
-            ≡ self.old.rows ++ class_rows season.now (Class.Fa2 teams.now intp slots.now)) }
+            ≡ self.old.rows ++ class_rows season.now (class.Fa2 teams.now intp slots.now)) }
         ensures few { OnOk result (length self.new.rows ≤ length self.old.rows + 121680) }
     {
         let n = season.n();
         let pairs = team_pairs(alloc, n, teams)?;
         let slots = slot_numbers(n, slots);
-        self.bound_leads(season, &pairs, intp, slots)
+        self.bound_leads(season, &pairs, intp, slots)?;
+        Ok(())
     }
 
     /// Adds, pair by pair, what bounds by how much their home games differ after each of some slots.
@@ -112,6 +114,7 @@ impl Draft {
         self.literals.clear();
         add_home(&mut self.literals, n, first, so_far)?;
         add_away(&mut self.literals, n, second, so_far)?;
-        self.demand_at_least(degree)
+        self.demand_at_least(degree)?;
+        Ok(())
     }
 }

@@ -2,6 +2,7 @@
 ghost use Rattle.std.specs.Prelude.{◌≡◌, ◌+◌, ◌*◌, ◌-◌, ◌^◌, ◌<◌, ◌≤◌, [], ◌∷◌, ◌++◌, length, IsTrue, OnOk};
 ghost use Rattle.std.specs.List.{All, filter, flat_map, range_with_len};
 ghost use Rattle.league.specs.Counts as counts;
+ghost use Rattle.league.specs.declared.class.Class.TheVariants as class;
 ghost use Rattle.league.specs.Instance.{IsTeamCount, class_fits};
 ghost use Rattle.rows.specs.Cardinality.{at_most};
 ghost use Rattle.encoding.specs.Encoding.{class_rows, demands};
@@ -24,10 +25,10 @@ impl Draft {
         min: u32,
     ) -> Result<(), AllocError>
         requires n { IsTeamCount season.now }
-        requires fits { IsTrue (class_fits season.now (Class.Se1 teams.now min)) }
+        requires fits { IsTrue (class_fits season.now (class.Se1 teams.now min)) }
         requires room { length self.old.rows + 121680 < 2 ^ 32 }
         ensures rows { OnOk result (self.new.rows
-            ≡ self.old.rows ++ class_rows season.now (Class.Se1 teams.now min)) }
+            ≡ self.old.rows ++ class_rows season.now (class.Se1 teams.now min)) }
         ensures few { OnOk result (length self.new.rows ≤ length self.old.rows + 121680) }
     {
         let n = season.n();
@@ -35,7 +36,8 @@ impl Draft {
         let slots = slot_count(n);
         let window = (u64::from(min) + 1).min(u64::from(slots)) as u16;
         let firsts = season.run(0, slots + 1 - window);
-        self.part_pairs(season, &pairs, firsts, window)
+        self.part_pairs(season, &pairs, firsts, window)?;
+        Ok(())
     }
 
     /// Adds, pair by pair, what allows at most one of their games in each window of so many slots.
