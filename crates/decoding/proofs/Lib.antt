@@ -20,3 +20,11 @@ pub mod SeasonLaws
 pub mod VenueLaws
 pub mod HomeCounts
 pub mod SeasonRows
+-- The encoding is faithful both ways:
+pub mod Faithful
+-- Decoding as a walk through the slots, the home teams and the away teams, in order:
+pub mod OrderOfGames
+pub mod DecodeLemmas
+-- The shadow of a schedule as marks of its games:
+pub mod ShadowLemmas
+pub mod ShadowLaw

@@ -64,6 +64,11 @@ same_game n i j s a b t home away differ slot home' away' differ' slot' same =
         sym (team_at-place_beside i j differ) ∙ ap (λ (k : ℕ). team_at i k) inner.1 ∙ ap (λ (k : ℕ). team_at k (place_beside a b)) inner.0 ∙ team_at-place_beside a b differ' in
     (inner.0, away_is, outer.1)
 
--- two teams in slots with one place are one
+-- two teams in slots with one place are one, and so are two breaks
 pub same_venue : (n i s a t : ℕ) → s < slot_count n → t < slot_count n → h_place n i s ≡ h_place n a t → (i ≡ a) × (s ≡ t)
 same_venue n i s a t slot slot' same = same_from_place i s a t (slot_count n) slot slot' same
+
+pub same_break : (n i s a t : ℕ) → 0 < s → s < slot_count n → 0 < t → t < slot_count n → b_place n i s ≡ b_place n a t → (i ≡ a) × (s ≡ t)
+same_break n i s a t later slot later' slot' same =
+    let both = same_from_place i (s - 1) a (t - 1) (slot_count n - 1) (omega arith) (omega arith) same in
+    (both.0, omega (arith, both.1))
