@@ -5,6 +5,7 @@ pub mod Faithful
 -- Kept inside (laws, and how fields are seen):
 --
 -- Values that say the same as counts, and what rows lack:
+pub mod Below
 pub mod Mirrors
 pub mod Shortfalls
 -- How the games are gone through, and which variables each makes true:
