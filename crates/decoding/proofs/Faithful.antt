@@ -21,7 +21,7 @@ use Rattle.decoding.proofs.DecodedCounts.{counts_of-decoded_game}
 use Rattle.decoding.proofs.SeasonRows.{IsMirroredSeason, MirrorsGames-from_shadow, both_satisfied, break_rows-met_by, mirrored-from_shadow, satisfied_both}
 use Rattle.decoding.proofs.SeasonRows.{season-from_rows, season_rows-met}
 use Rattle.decoding.proofs.SomeShadow.{shadow_values, some_shadow}
-use Rattle.decoding.proofs.VenueLaws.{home_value}
+use Rattle.decoding.proofs.BreakRows.{home_value}
 
 -- the rows of a league but for those of its constraints, where all are satisfied
 season_of : (league : Instance) (values : ℕ → Bool) → SatisfiesAll values (rows_of league) →

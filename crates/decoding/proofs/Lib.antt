@@ -18,6 +18,7 @@ pub mod SomeShadow
 -- What the rows of a season say:
 pub mod SeasonLaws
 pub mod VenueLaws
+pub mod BreakRows
 pub mod HomeCounts
 pub mod SeasonRows
 -- The encoding is faithful both ways:
@@ -26,5 +27,6 @@ pub mod Faithful
 pub mod OrderOfGames
 pub mod DecodeLemmas
 -- The shadow of a schedule as marks of its games:
+pub mod MarkLemmas
 pub mod ShadowLemmas
 pub mod ShadowLaw

@@ -21,10 +21,11 @@ use Rattle.encoding.specs.Encoding.{season_rows}
 use Rattle.encoding.specs.Shadow.{IsShadow, decoded}
 use Rattle.encoding.specs.Variables.{h_var, x_var}
 use Rattle.decoding.specs.Mirrors.{Mirrors, MirrorsBreaks, MirrorsGames}
+use Rattle.decoding.proofs.BreakRows.{MirrorsBreaks-from_rows, break_rows-met}
 use Rattle.decoding.proofs.DecodedCounts.{counts_of-decoded_game, counts_of-decoded_itself}
 use Rattle.decoding.proofs.HomeCounts.{slot_rows-met, team_rows-met}
 use Rattle.decoding.proofs.SeasonLaws.{PlaysOthers, cell_rows-law, half_rows-law, meeting_rows-law}
-use Rattle.decoding.proofs.VenueLaws.{MirrorsBreaks-from_rows, agree, agree-true, all_cells, break_rows-met, each_cell, true-agree, venue_rows-law}
+use Rattle.decoding.proofs.VenueLaws.{agree, agree-true, all_cells, each_cell, true-agree, venue_rows-law}
 
 -- two lists of rows are satisfied where both together are
 pub both_satisfied : (values : ℕ → Bool) (rows more : List Row) → all_satisfied values (rows ++ more) ≡ true → (all_satisfied values rows ≡ true) × (all_satisfied values more ≡ true)

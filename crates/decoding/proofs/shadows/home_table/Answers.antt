@@ -2,7 +2,7 @@
 use Rattle.std.proofs.Common.{ℕ, Bool, false, ap, ◌∙◌, replicate}
 use Rattle.rows.specs.Values.{assigned}
 use Rattle.decoding.proofs.ShadowLaw.{home_told}
-use Rattle.decoding.proofs.ShadowLemmas.{assigned-empty}
+use Rattle.decoding.proofs.MarkLemmas.{assigned-empty}
 use Rattle.decoding.proofs.shadows.home_table.Goals as goal
 
 pub returns-clause-told : goal.returns-clause-told

@@ -3,7 +3,7 @@ use Rattle.std.proofs.Common.{◌<◌, Bool, length, arith, ◌∙◌}
 use Rattle.rows.specs.Values.{assigned}
 use Rattle.league.specs.declared.game.Game.{Game}
 use Rattle.decoding.specs.Marks.{marks_away_break}
-use Rattle.decoding.proofs.ShadowLemmas.{marked_more}
+use Rattle.decoding.proofs.MarkLemmas.{marked_more}
 use Rattle.decoding.proofs.shadows.mark_away_breaks.Goals as goal
 
 pub loop-game-preserved : goal.loop-game-preserved

@@ -9,7 +9,7 @@ use Rattle.encoding.specs.Shadow.{IsShadow}
 use Rattle.encoding.specs.Variables.{has_breaks}
 use Rattle.decoding.proofs.Faithful.{rows-from_accepted}
 use Rattle.decoding.proofs.ShadowLaw.{IsShadow-from_marks}
-use Rattle.decoding.proofs.ShadowLemmas.{assigned-empty}
+use Rattle.decoding.proofs.MarkLemmas.{assigned-empty}
 use Rattle.decoding.proofs.shadows.shadow.Goals as goal
 
 pub returns-clause-shadow : goal.returns-clause-shadow
