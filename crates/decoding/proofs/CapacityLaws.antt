@@ -57,8 +57,9 @@ module _ (n : ℕ) (m : Counts) (values : ℕ → Bool) (mirrors : Mirrors n m v
 
   -- CA3: what the windows' rows lack, summed
   pub units_needed-ca3 : (teams2 : List ℕ) (min max intp : ℕ) (side : Side) (i : ℕ) → i < n
-      → all_below n teams2 ≡ true → sum_by (λ window. units_needed values (ca2_rows n teams2 min max side window i))
-      (windows_of n intp) ≡ ca3_entry n m teams2 min max intp side i
+      → all_below n teams2 ≡ true
+      → sum_by (λ window. units_needed values (ca2_rows n teams2 min max side window i)) (windows_of n intp)
+      ≡ ca3_entry n m teams2 min max intp side i
   units_needed-ca3 teams2 min max intp side i team teams_fit =
       sum_by-agree (all_below (slot_count n))
       (λ window. units_needed values (ca2_rows n teams2 min max side window i))

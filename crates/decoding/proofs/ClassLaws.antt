@@ -74,8 +74,8 @@ by_key values fits rows entry law keys fit =
 
 module _ (n : ℕ) (m : Counts) (values : ℕ → Bool) (mirrors : Mirrors n m values) where
   pub class_law : (class : Class) → (bounds_breaks class ≡ true → MirrorsBreaks n m values)
-      → class_fits n class ≡ true → list_all (all_satisfied values) (rows_by_key n class)
-      ≡ all_zero (vector_of n m class)
+      → class_fits n class ≡ true
+      → list_all (all_satisfied values) (rows_by_key n class) ≡ all_zero (vector_of n m class)
   class_law (Ca1 teams min max side slots) breaks fits =
       let both = and_parts (are_teams n teams && are_slots n slots) (is_one_side side) fits in
       let sets = and_parts (are_teams n teams) (are_slots n slots) both.0 in
