@@ -96,9 +96,7 @@ fn add_if_true(
     ensures { OnOk result
         (schedule.new ≡ schedule.old ++ true_game encoding.now.n (assigned assignment.now) game) }
 {
-    if game.away.0 != game.home.0
-        && assignment.value(encoding.x(game.home, game.away, game.slot))
-    {
+    if game.away.0 != game.home.0 && assignment.value(encoding.x(game.home, game.away, game.slot)) {
         schedule.push(game)?;
     }
     Ok(())

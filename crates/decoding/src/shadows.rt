@@ -59,11 +59,11 @@ fn mark_breaks(
     ensures home { OnOk result (has_breaks encoding.now.constraints ≡ true →
         (i s : ℕ) → i < encoding.now.n → 0 < s → s < slot_count encoding.now.n →
         assigned values.new (hb_var encoding.now.n i s) ≡ (is_home_break encoding.now.n (counts_of games.now) i s
-            || assigned values.old (hb_var encoding.now.n i s))) }
+        || assigned values.old (hb_var encoding.now.n i s))) }
     ensures away { OnOk result (has_breaks encoding.now.constraints ≡ true →
         (i s : ℕ) → i < encoding.now.n → 0 < s → s < slot_count encoding.now.n →
         assigned values.new (ab_var encoding.now.n i s) ≡ (is_away_break encoding.now.n (counts_of games.now) i s
-            || assigned values.old (ab_var encoding.now.n i s))) }
+        || assigned values.old (ab_var encoding.now.n i s))) }
 {
     if !encoding.has_breaks() {
         return Ok(());

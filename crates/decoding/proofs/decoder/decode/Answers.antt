@@ -4,7 +4,6 @@ use Rattle.std.specs.List.{flat_map, range_with_len}
 use Rattle.league.specs.Counts.{slot_count}
 use Rattle.league.specs.declared.game.Game.{Game}
 use Rattle.rows.specs.Values.{assigned}
-use Rattle.encoding.specs.Shadow.{decoded}
 use Rattle.decoding.specs.TrueGames.{true_games_in}
 use Rattle.decoding.proofs.DecodeLemmas.{accepted, flat_map-range_more, in_order, season-true}
 use Rattle.decoding.proofs.decoder.decode.Goals as goal
@@ -30,4 +29,5 @@ returns-clause-in_order c =
 
 pub returns-clause-accepted : goal.returns-clause-accepted
 returns-clause-accepted c =
-    accepted c.args.encoding.now (assigned c.args.assignment.now) c.loop-slot.schedule c.n-n.ensures.instance (returns-clause-games c)
+    accepted c.args.encoding.now (assigned c.args.assignment.now) c.loop-slot.schedule c.n-n.ensures.instance
+    (returns-clause-games c)

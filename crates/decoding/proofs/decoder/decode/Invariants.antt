@@ -5,4 +5,5 @@ use Rattle.decoding.specs.TrueGames.{true_games_in}
 use Rattle.decoding.proofs.decoder.decode.Given as goal
 
 abbrev pub invariant-loop-slot : goal.invariant-loop-slot
-invariant-loop-slot l = l.schedule ≡ flat_map (true_games_in l.encoding.n (assigned l.assignment)) (range_with_len 0 l.slot)
+invariant-loop-slot l = l.schedule ≡ flat_map (true_games_in l.encoding.n (assigned l.assignment))
+    (range_with_len 0 l.slot)

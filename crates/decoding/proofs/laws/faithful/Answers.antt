@@ -1,5 +1,6 @@
 -- Each law is a theorem about the definitions.
-use Rattle.decoding.proofs.Faithful.{accepted-from_rows, decoded-shadow, rows-from_accepted, shadow-decoded, shadow-from_accepted}
+use Rattle.decoding.proofs.Faithful.{accepted-from_rows, decoded-shadow, rows-from_accepted, shadow-decoded}
+use Rattle.decoding.proofs.Faithful.{shadow-from_accepted}
 use Rattle.decoding.proofs.laws.faithful.Goals as goal
 
 pub returns-clause-shadows : goal.returns-clause-shadows

@@ -7,5 +7,6 @@ use Rattle.decoding.proofs.shadows.mark_away_games.Given as goal
 abbrev pub invariant-loop-game : goal.invariant-loop-game
 invariant-loop-game l = record {
   kept : length l.away ≡ length l.fn.away;
-  marked : (v : ℕ) → 1 ≤ v → assigned l.away v ≡ (list_any (marks_away l.encoding.n v) (take l.game-index l.games) || assigned l.fn.away v);
+  marked : (v : ℕ) → 1 ≤ v → assigned l.away v ≡ (list_any (marks_away l.encoding.n v)
+      (take l.game-index l.games) || assigned l.fn.away v);
 }

@@ -10,7 +10,8 @@ pub loop-game-preserved : goal.loop-game-preserved
 loop-game-preserved c = record {
   kept = c.mark_home_break.ensures.length ∙ c.loop-game.invariant.kept;
   marked = λ v first.
-    let marks : Game → Bool = marks_home_break c.args.encoding.now.n (assigned c.args.home.now) v in
-    let within : c.loop-game.game-index < length c.args.games.now = omega arith in
-    marked_more marks c.args.games.now c.loop-game.game-index _ _ _ _ within (c.loop-game.invariant.marked v first) (c.mark_home_break.ensures.marked v first);
+      let marks : Game → Bool = marks_home_break c.args.encoding.now.n (assigned c.args.home.now) v in
+      let within : c.loop-game.game-index < length c.args.games.now = omega arith in
+      marked_more marks c.args.games.now c.loop-game.game-index _ _ _ _ within (c.loop-game.invariant.marked v first)
+      (c.mark_home_break.ensures.marked v first);
 }

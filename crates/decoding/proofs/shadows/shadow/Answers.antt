@@ -18,11 +18,15 @@ returns-clause-shadow c =
     let games = c.games-games.result.now in
     let breaks = has_breaks league.constraints in
     let fit = All-same (IsGame league.n) games c.args.schedule.now c.games-games.ensures c.requires.fit in
-    subst (λ (listed : List Game). IsShadow league.n breaks (counts_of listed) (assigned c.mark_breaks.new.values)) c.games-games.ensures
-    (IsShadow-from_marks league.n games fit breaks (assigned c.in_ok-values.values) (assigned c.mark_games.new.values) (assigned c.mark_home_games.new.values) (assigned c.mark_breaks.new.values)
-    (assigned-empty c.vars.result c.in_ok-values.values c.in_ok-values.ensures) c.mark_games.ensures.marked c.mark_home_games.ensures.marked
+    subst (λ (listed : List Game). IsShadow league.n breaks (counts_of listed) (assigned c.mark_breaks.new.values))
+    c.games-games.ensures
+    (IsShadow-from_marks league.n games fit breaks (assigned c.in_ok-values.values)
+    (assigned c.mark_games.new.values) (assigned c.mark_home_games.new.values) (assigned c.mark_breaks.new.values)
+    (assigned-empty c.vars.result c.in_ok-values.values c.in_ok-values.ensures) c.mark_games.ensures.marked
+    c.mark_home_games.ensures.marked
     c.in_ok-mark_breaks.ensures.kept c.in_ok-mark_breaks.ensures.home c.in_ok-mark_breaks.ensures.away)
 
 pub returns-clause-satisfies : goal.returns-clause-satisfies
 returns-clause-satisfies c = λ accepted.
-    rows-from_accepted c.args.encoding.now (counts_of c.args.schedule.now) (assigned c.mark_breaks.new.values) c.n-n.ensures.instance accepted (returns-clause-shadow c)
+    rows-from_accepted c.args.encoding.now (counts_of c.args.schedule.now) (assigned c.mark_breaks.new.values)
+    c.n-n.ensures.instance accepted (returns-clause-shadow c)
