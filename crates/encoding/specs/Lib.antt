@@ -10,6 +10,9 @@ pub mod Encoding
 -- Which assignment stands for a schedule, and which schedule for an assignment:
 pub mod Shadow
 -- Kept inside (laws, and how fields are seen):
+--
+-- Lists in ascending order, so that the variables of a row differ:
+pub mod Ascending
 -- How many terms the rows of a key have:
 pub mod Terms
 -- What an encoding keeps:

@@ -5,7 +5,11 @@
 //! rows group by group, and `specs/Encoding.antt` has all of them in order.
 #![tactic(auto)]
 
+mod draft;
 mod encoding;
+mod literals;
+mod meetings;
+mod season;
 mod variables;
 
 pub use encoding::Encoding;

@@ -10,7 +10,7 @@ use league::slot_count;
 pub(crate) fn x_count(n: u16) -> u32
     requires { n ≤ 40 }
     ensures count { result ≡ variables.x_count n }
-    ensures at_most { result ≤ 124800 }
+    ensures at_most { result ≤ 121680 }
 {
     u32::from(n) * u32::from(n.saturating_sub(1)) * u32::from(slot_count(n))
 }
@@ -25,6 +25,7 @@ pub(crate) fn x_at(n: u16, home: u16, away: u16, slot: u16) -> u32
     ensures var { result ≡ x_var n home away slot }
     ensures at_least { 1 ≤ result }
     ensures at_most { result ≤ variables.x_count n }
+    ensures few { result ≤ 121680 }
 {
     let place = place_beside(home, away);
     let meeting = u32::from(home) * u32::from(n - 1) + u32::from(place);
@@ -47,6 +48,7 @@ pub(crate) fn h_at(n: u16, team: u16, slot: u16) -> u32
     ensures var { result ≡ h_var n team slot }
     ensures at_least { 1 ≤ result }
     ensures at_most { result ≤ variables.x_count n + variables.h_count n }
+    ensures few { result ≤ 124800 }
 {
     1 + x_count(n) + u32::from(team) * u32::from(slot_count(n)) + u32::from(slot)
 }
@@ -60,6 +62,7 @@ pub(crate) fn hb_at(n: u16, team: u16, slot: u16) -> u32
     ensures var { result ≡ hb_var n team slot }
     ensures at_least { 1 ≤ result }
     ensures at_most { result ≤ variables.x_count n + variables.h_count n + variables.hb_count n }
+    ensures few { result ≤ 127880 }
 {
     let slots = u32::from(slot_count(n));
     let venues = u32::from(n) * slots;
@@ -75,6 +78,7 @@ pub(crate) fn ab_at(n: u16, team: u16, slot: u16) -> u32
     ensures var { result ≡ ab_var n team slot }
     ensures at_least { 1 ≤ result }
     ensures at_most { result ≤ variables.x_count n + variables.h_count n + 2 * variables.hb_count n }
+    ensures few { result ≤ 130960 }
 {
     let breaks = u32::from(n) * (u32::from(slot_count(n)) - 1);
     hb_at(n, team, slot) + breaks

@@ -1,5 +1,7 @@
 -- Lemmas on rows that lie end to end:
 pub mod FlatLemmas
+-- Rows of literals that are counted:
+pub mod UnitLemmas
 -- What a row forces:
 pub mod ForcingLemmas
 -- Lists as tests, and rows as tests:
