@@ -31,7 +31,6 @@ pub fn decode(
     ensures accepted { SatisfiesAll (assigned assignment.now) (rows_of encoding.now) →
         IfOk result (λ schedule. IsAccepted encoding.now (counts_of schedule)) }
 {
-    let _n = encoding.n();
     let mut schedule = Schedule::new(alloc);
     for slot in 0..encoding.slots() {
         add_slot(&mut schedule, encoding, assignment, slot)?;

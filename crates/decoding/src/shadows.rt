@@ -35,7 +35,6 @@ pub fn shadow(
     ensures satisfies { IsAccepted encoding.now (counts_of schedule.now) →
         IfOk result (λ values. SatisfiesAll (assigned values) (rows_of encoding.now)) }
 {
-    let _n = encoding.n();
     let games = schedule.games();
     let mut values = Assignment::new(alloc, encoding.vars())?;
     mark_games(&mut values, encoding, games);

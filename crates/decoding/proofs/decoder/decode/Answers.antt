@@ -18,7 +18,7 @@ loop-slot-preserved c =
 pub returns-clause-games : goal.returns-clause-games
 returns-clause-games c =
     let games : ℕ → List Game = true_games_in c.args.encoding.now.n (assigned c.args.assignment.now) in
-    let at_end : c.loop-slot.slot ≡ slot_count c.args.encoding.now.n = omega (arith, c.slots-slot-end.ensures) in
+    let at_end : c.loop-slot.slot ≡ slot_count c.args.encoding.now.n = omega (arith, c.slots-slot-end.ensures.slots) in
     c.loop-slot.invariant
     ∙ ap (λ (k : ℕ). flat_map games (range_with_len 0 k)) at_end
     ∙ season-true c.args.encoding.now.n (assigned c.args.assignment.now)
@@ -29,5 +29,5 @@ returns-clause-in_order c =
 
 pub returns-clause-accepted : goal.returns-clause-accepted
 returns-clause-accepted c =
-    accepted c.args.encoding.now (assigned c.args.assignment.now) c.loop-slot.schedule c.n-n.ensures.instance
+    accepted c.args.encoding.now (assigned c.args.assignment.now) c.loop-slot.schedule c.slots-slot-end.ensures.instance
     (returns-clause-games c)

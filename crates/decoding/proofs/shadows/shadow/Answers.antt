@@ -29,4 +29,4 @@ returns-clause-shadow c =
 pub returns-clause-satisfies : goal.returns-clause-satisfies
 returns-clause-satisfies c = λ accepted.
     rows-from_accepted c.args.encoding.now (counts_of c.args.schedule.now) (assigned c.mark_breaks.new.values)
-    c.n-n.ensures.instance accepted (returns-clause-shadow c)
+    c.vars.ensures.instance accepted (returns-clause-shadow c)
