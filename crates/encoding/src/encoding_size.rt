@@ -44,10 +44,11 @@ fn half_terms(n: u64, phased: bool) -> u64
     ensures terms { result ≡ size_of (season_rows.half_rows n phased) }
     ensures at_most { result ≤ 121680 }
 {
-    if !phased {
-        return 0;
+    if phased {
+        n * (n - 1) / 2 * (4 * (n - 1))
+    } else {
+        0
     }
-    n * (n - 1) / 2 * (4 * (n - 1))
 }
 
 /// Those of group 7.
@@ -56,11 +57,12 @@ fn break_terms(n: u64, breaks: bool) -> u64
     ensures terms { result ≡ size_of (season_rows.break_rows n breaks) }
     ensures at_most { result ≤ 50000 }
 {
-    if !breaks {
-        return 0;
+    if breaks {
+        let slots = 2 * (n - 1);
+        n * ((slots - 1) * 14)
+    } else {
+        0
     }
-    let slots = 2 * (n - 1);
-    n * ((slots - 1) * 14)
 }
 
 /// Those of the hard constraints.
