@@ -1,6 +1,6 @@
 -- How many terms the rows of a season have.
-use Rattle.std.proofs.Common.{◌≡◌, ◌≢◌, ℕ, zero, suc, ◌+◌, ◌-◌, ◌*◌, ◌/◌, ◌<◌, ◌≤◌, Bool, true, false, not, ◌==◌, if◌then◌else◌, List, [], ◌∷◌, ◌++◌, length, get_or, map, refl, arith, ap, sym, ◌∙◌, inl, inr}
-use Rattle.std.proofs.lemmas.Bool.{cases_eq}
+use Rattle.std.proofs.Common.{◌≡◌, ◌≢◌, ℕ, zero, suc, ◌+◌, ◌-◌, ◌*◌, ◌/◌, ◌<◌, ◌≤◌, Bool, true, false, not, ◌==◌, nat_lt, if◌then◌else◌, List, [], ◌∷◌, ◌++◌, length, get_or, map, refl, arith, ap, sym, ◌∙◌, inl, inr}
+use Rattle.std.proofs.lemmas.Bool.{cases_eq, lt-ltb}
 use Rattle.std.proofs.lemmas.Bool.Decides.{nat_tests}
 use Rattle.std.proofs.lemmas.List.{length-append, length-map}
 use Rattle.std.proofs.lemmas.List.Concat.{length-flat_map}
@@ -83,8 +83,9 @@ length-meetings_of n =
 
 later_slots : (a k : ℕ) → 0 < a → length (after_first (range_with_len a k)) ≡ k
 later_slots a zero later = refl
-later_slots (suc a) (suc k) later = ap suc (later_slots (suc a + 1) k (omega arith))
-later_slots zero (suc k) later = absurd (omega arith)
+later_slots a (suc k) later =
+    let passes : nat_lt 0 a ≡ true = lt-ltb 0 a later in
+    rw passes (ap suc (later_slots (a + 1) k (omega arith)))
 
 length-later : (k : ℕ) → length (after_first (range_with_len 0 k)) ≡ k - 1
 length-later zero = omega arith

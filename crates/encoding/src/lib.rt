@@ -22,3 +22,6 @@ mod venue_rows;
 
 pub use encoder::{EncodeFault, encode};
 pub use encoding::Encoding;
+
+#[cfg(test)]
+mod tests;
