@@ -1,7 +1,7 @@
 -- The rows of each class as they are listed: key by key, and each key's in order, without those that demand nothing.
-use Rattle.std.proofs.Common.{◌≡◌, ℕ, ◌+◌, ◌-◌, ◌<◌, ◌≤◌, zero, suc, Bool, true, false, cond, List, [], ◌∷◌, ◌++◌, length, get_or, min as smaller, map, refl, ap, sym, ◌∙◌, arith}
+use Rattle.std.proofs.Common.{◌≡◌, ℕ, ◌+◌, ◌-◌, ◌<◌, ◌≤◌, zero, suc, Bool, true, false, cond, List, [], ◌∷◌, ◌++◌, length, get_or, min as smaller, map, take, refl, ap, sym, ◌∙◌, arith}
 use Rattle.std.proofs.lemmas.Bool.{le-ltb, lt-ltb}
-use Rattle.std.proofs.lemmas.List.{append_assoc, append-nil}
+use Rattle.std.proofs.lemmas.List.{append_assoc, append-nil, flat_map_more, take_more}
 use Rattle.std.proofs.lemmas.List.Elements.{All-head, All-tail, filter-append}
 use Rattle.std.proofs.lemmas.List.Folds.{flat_map-map}
 use Rattle.std.proofs.lemmas.List.FromFn.{get_or-range_with_len, length-range_with_len}
@@ -18,7 +18,7 @@ use Rattle.rows.specs.Literals.{Literal}
 use Rattle.rows.specs.Rows.{Row}
 use Rattle.encoding.specs.Demands.{br1_rows, br2_rows, ca1_rows, ca2_rows, ca3_rows, ca4_rows, fa2_rows, fa2_rows_at, ga1_rows, se1_rows, separation_windows}
 use Rattle.encoding.specs.Encoding.{class_rows, demands}
-use Rattle.encoding.specs.Lists.{away_breaks_at, games_in, home_breaks_at}
+use Rattle.encoding.specs.Lists.{at_home_in, away_breaks_at, away_in, games_in, home_breaks_at}
 use Rattle.encoding.specs.Pairs.{IsPair, both_meetings}
 use Rattle.encoding.proofs.KeyRowLemmas.{filter-flat_map, flat_map-same, key_rows, one_key_rows}
 use Rattle.encoding.proofs.MeetingOrder.{meetings_with-both}
@@ -40,6 +40,15 @@ both_listed rows first second =
     ∙ ap (λ (more : List Row). rows ++ more) (sym (filter-append demands (first ∷ []) (second ∷ [])))
 
 -- ---- joined lists
+
+-- rows that have grown by those of the next element
+pub grown : {X : Type 0} (f : X → List Row) (old now next more : List Row) (xs : List X) (k : ℕ) (d : X) → k < length xs → now ≡ old ++ flat_map f (take k xs) → next ≡ now ++ more → more ≡ f (get_or xs k d) → next ≡ old ++ flat_map f (take (k + 1) xs)
+grown f old now next more xs k d lt so_far is same =
+    is
+    ∙ ap (λ (rows : List Row). rows ++ more) so_far
+    ∙ ap (λ (rows : List Row). (old ++ flat_map f (take k xs)) ++ rows) same
+    ∙ flat_map_more f old (take k xs) (get_or xs k d)
+    ∙ ap (λ ys. old ++ flat_map f ys) (sym (take_more xs k d lt))
 
 -- of lists that are equal at the elements
 flat_map-same_at : {X Y : Type 0} (f g : X → List Y) (xs : List X) → All (λ x. f x ≡ g x) xs → flat_map f xs ≡ flat_map g xs
@@ -152,6 +161,24 @@ br2_listed n intp literals ts ss teams slots are same_teams same_slots =
     ∙ sym (one_key_rows (br2_rows n teams intp slots))
 
 -- ---- fairness
+
+-- that i is away and j at home at least so often in all, and the other way round
+abbrev lead_row : ℕ → ℕ → ℕ → ℕ → List ℕ → Row
+lead_row n i j degree slots = at_least degree (away_in n i slots ++ at_home_in n j slots)
+
+abbrev lag_row : ℕ → ℕ → ℕ → ℕ → List ℕ → Row
+lag_row n i j degree slots = at_least degree (at_home_in n i slots ++ away_in n j slots)
+
+-- both rows of two teams at a slot
+pub leads_listed : (n m intp degree i j slot : ℕ) (slots : List ℕ) (old mid next : List Row) → m ≡ n → degree ≡ slot + 1 - intp → slots ≡ range_with_len 0 (slot + 1) → mid ≡ old ++ filter demands (lead_row m i j degree slots ∷ []) → next ≡ mid ++ filter demands (lag_row m i j degree slots ∷ []) → next ≡ old ++ filter demands (fa2_rows_at n intp (i, j) slot)
+leads_listed n m intp degree i j slot slots old mid next same degree_is slots_are first second =
+    let rows : ℕ → ℕ → List ℕ → List Row = λ k d ss. old ++ filter demands (lead_row k i j d ss ∷ lag_row k i j d ss ∷ []) in
+    second
+    ∙ ap (λ (so_far : List Row). so_far ++ filter demands (lag_row m i j degree slots ∷ [])) first
+    ∙ both_listed old (lead_row m i j degree slots) (lag_row m i j degree slots)
+    ∙ ap (λ (k : ℕ). rows k degree slots) same
+    ∙ ap (λ (d : ℕ). rows n d slots) degree_is
+    ∙ ap (λ (ss : List ℕ). rows n (slot + 1 - intp) ss) slots_are
 
 pub fa2_listed : (n intp : ℕ) (pairs : List (ℕ × ℕ)) (ss teams slots : List ℕ) → pairs ≡ pairs_of teams → ss ≡ slots → flat_map (λ p. flat_map (λ s. filter demands (fa2_rows_at n intp p s)) ss) pairs ≡ class_rows n (Fa2 teams intp slots)
 fa2_listed n intp pairs ss teams slots are same_slots =

@@ -4,8 +4,11 @@ ghost use Rattle.std.specs.List.{All, filter, flat_map};
 ghost use Rattle.league.specs.Counts.{slot_count};
 ghost use Rattle.league.specs.declared.class.Class.TheVariants as class;
 ghost use Rattle.league.specs.Instance.{class_fits};
+ghost use Rattle.rows.specs.Cardinality.{at_least};
+ghost use Rattle.encoding.specs.Ascending.{AreSlots};
 ghost use Rattle.encoding.specs.Demands.{fa2_rows_at};
 ghost use Rattle.encoding.specs.Encoding.{class_rows, demands};
+ghost use Rattle.encoding.specs.Lists.{at_home_in, away_in};
 ghost use Rattle.encoding.specs.Pairs.{IsPair};
 
 use crate::draft::Draft;
@@ -107,13 +110,55 @@ impl Draft {
         let n = season.n();
         let so_far = season.run(0, slot + 1);
         let degree = (u64::from(slot) + 1).saturating_sub(u64::from(intp));
+        self.demand_lead(n, first, second, so_far, degree)?;
+        self.demand_lag(n, first, second, so_far, degree)?;
+        Ok(())
+    }
+
+    /// Adds that in some slots an earlier team is away and a later one at home at least so often in all.
+    fn demand_lead(
+        &mut self,
+        n: u16,
+        first: u16,
+        second: u16,
+        slots: &[u16],
+        degree: u64,
+    ) -> Result<(), AllocError>
+        requires n { n ≤ 40 }
+        requires pair { IsPair n (first, second) }
+        requires slots { AreSlots n slots.now }
+        requires room { length self.old.rows + 1 < 2 ^ 32 }
+        ensures rows { OnOk result (self.new.rows ≡ self.old.rows ++ filter demands
+            (at_least degree (away_in n first slots.now ++ at_home_in n second slots.now) ∷ [])) }
+        ensures few { OnOk result (length self.new.rows ≤ length self.old.rows + 1) }
+    {
         self.literals.clear();
-        add_away(&mut self.literals, n, first, so_far)?;
-        add_home(&mut self.literals, n, second, so_far)?;
+        add_away(&mut self.literals, n, first, slots)?;
+        add_home(&mut self.literals, n, second, slots)?;
         self.demand_at_least(degree)?;
+        Ok(())
+    }
+
+    /// Adds that in some slots an earlier team is at home and a later one away at least so often in all.
+    fn demand_lag(
+        &mut self,
+        n: u16,
+        first: u16,
+        second: u16,
+        slots: &[u16],
+        degree: u64,
+    ) -> Result<(), AllocError>
+        requires n { n ≤ 40 }
+        requires pair { IsPair n (first, second) }
+        requires slots { AreSlots n slots.now }
+        requires room { length self.old.rows + 1 < 2 ^ 32 }
+        ensures rows { OnOk result (self.new.rows ≡ self.old.rows ++ filter demands
+            (at_least degree (at_home_in n first slots.now ++ away_in n second slots.now) ∷ [])) }
+        ensures few { OnOk result (length self.new.rows ≤ length self.old.rows + 1) }
+    {
         self.literals.clear();
-        add_home(&mut self.literals, n, first, so_far)?;
-        add_away(&mut self.literals, n, second, so_far)?;
+        add_home(&mut self.literals, n, first, slots)?;
+        add_away(&mut self.literals, n, second, slots)?;
         self.demand_at_least(degree)?;
         Ok(())
     }
