@@ -20,3 +20,5 @@ pub mod SeasonSizes
 pub mod Places
 -- The variables of the rows are those that a league has:
 pub mod KnownLemmas
+-- The rows of a league, group after group:
+pub mod EncodeLemmas

@@ -10,6 +10,7 @@ use crate::demands::add_class_rows;
 use crate::draft::Draft;
 use crate::encoding::Encoding;
 use crate::encoding_size::{encoding_size, has_breaks};
+use crate::room::rows_at_most;
 use crate::season::Season;
 use crate::season_rows::{
     add_cell_rows, add_half_rows, add_meeting_rows, add_slot_rows, add_team_rows,
@@ -61,7 +62,7 @@ pub fn encode(alloc: Global, league: &League) -> Result<Encoding, EncodeFault>
     if terms > MOST_TERMS {
         return Err(EncodeFault::TooLarge { terms });
     }
-    let rows = write_rows(alloc, league)?;
+    let rows = write_rows(alloc, league, terms)?;
     let breaks = has_breaks(league.constraints());
     let league = league.copy()?;
     Ok(Encoding {
@@ -71,12 +72,12 @@ pub fn encode(alloc: Global, league: &League) -> Result<Encoding, EncodeFault>
     })
 }
 
-/// The rows of a league.
-fn write_rows(alloc: Global, league: &League) -> Result<RowStore, AllocError>
+/// The rows of a league, which have so many terms.
+fn write_rows(alloc: Global, league: &League, terms: u64) -> Result<RowStore, AllocError>
     ensures { IfOk result (λ rows. rows ≡ rows_of league.now) }
 {
     let mut draft = Draft {
-        rows: RowStore::new(alloc),
+        rows: RowStore::with_room(alloc, rows_at_most(league, terms), terms as usize)?,
         literals: Vec::new(alloc),
         terms: Vec::new(alloc),
     };

@@ -3,6 +3,7 @@ ghost use Rattle.std.specs.Prelude.{◌≡◌, ◌≢◌, ◌<◌, ◌≤◌, �
 ghost use Rattle.league.specs.Counts as counts;
 ghost use Rattle.league.specs.Instance.{IsInstance};
 ghost use Rattle.encoding.specs.Encoding.{rows_of};
+ghost use Rattle.encoding.specs.Known.{AreKnown};
 ghost use Rattle.encoding.specs.Variables.{ab_var, h_var, has_breaks, hb_var, var_count, x_var};
 
 use crate::variables::{ab_at, h_at, hb_at, x_at, x_count};
@@ -65,6 +66,9 @@ impl Encoding {
         ensures vars { result ≡ var_count self.now }
         ensures at_most { result ≤ 134160 }
         ensures instance { IsInstance self.now }
+
+        // The rows speak of no other variables.
+        ensures known { AreKnown (var_count self.now) (rows_of self.now) }
     {
         let n = self.league.n();
         let slots = u32::from(self.league.slots());

@@ -13,6 +13,7 @@ mod encoding;
 mod encoding_size;
 mod literals;
 mod meetings;
+mod room;
 mod season;
 mod season_rows;
 mod sets;
