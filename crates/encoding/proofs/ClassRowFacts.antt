@@ -129,10 +129,10 @@ pub venues-four : take 2 (venue_rows 4)
     ≡ at_least 1 (p 1 ∷ p 7 ∷ p 13 ∷ n 73 ∷ [])
     ∷ record {
       terms = record { coef = 1; lit = n 1 }
-        ∷ record { coef = 1; lit = n 7 }
-        ∷ record { coef = 1; lit = n 13 }
-        ∷ record { coef = 3; lit = p 73 }
-        ∷ [];
+          ∷ record { coef = 1; lit = n 7 }
+          ∷ record { coef = 1; lit = n 13 }
+          ∷ record { coef = 3; lit = p 73 }
+          ∷ [];
       degree = 3;
     }
     ∷ []

@@ -45,7 +45,7 @@ br1_rows n intp side slots i = at_most intp (breaks_in side n i slots) ∷ []
 abbrev pub br2_rows : ℕ → List ℕ → ℕ → List ℕ → List Row
 br2_rows n teams intp slots =
     at_most intp
-        (flat_map (λ i. home_breaks_at n i slots) teams ++ flat_map (λ i. away_breaks_at n i slots) teams) ∷ []
+    (flat_map (λ i. home_breaks_at n i slots) teams ++ flat_map (λ i. away_breaks_at n i slots) teams) ∷ []
 
 -- FA2, teams i and j at slot s: of the s + 1 slots so far, those in which i is away and those in which j is at home are
 -- together at least s + 1 - intp, so that i has at most intp home games more than j; and the other way round

@@ -7,6 +7,16 @@ pub mod Lists
 pub mod Season
 pub mod Demands
 pub mod Encoding
+pub mod Known
 -- Which assignment stands for a schedule, and which schedule for an assignment:
 pub mod Shadow
 -- Kept inside (laws, and how fields are seen):
+--
+-- Lists in ascending order, so that the variables of a row differ:
+pub mod Ascending
+-- How many terms the rows of a key have:
+pub mod Terms
+-- What an encoding keeps:
+pub mod Encoded
+-- Pairs of teams:
+pub mod Pairs

@@ -14,9 +14,9 @@ pub record IsShadow (n : ℕ) (breaks : Bool) (m : Counts) (values : ℕ → Boo
   pub games : (i j s : ℕ) → i < n → j < n → i ≢ j → s < slot_count n → values (x_var n i j s) ≡ nat_lt 0 (m i j s)
   pub venues : (i s : ℕ) → i < n → s < slot_count n → values (h_var n i s) ≡ nat_lt 0 (home_games n m i s)
   pub home_breaks : breaks ≡ true → (i s : ℕ) → i < n → 0 < s → s < slot_count n →
-    values (hb_var n i s) ≡ is_home_break n m i s
+      values (hb_var n i s) ≡ is_home_break n m i s
   pub away_breaks : breaks ≡ true → (i s : ℕ) → i < n → 0 < s → s < slot_count n →
-    values (ab_var n i s) ≡ is_away_break n m i s
+      values (ab_var n i s) ≡ is_away_break n m i s
 
 -- a game from its parts
 abbrev pub game_of : ℕ × ℕ → ℕ → Game

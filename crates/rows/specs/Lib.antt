@@ -15,3 +15,5 @@ pub mod Codes
 pub mod LitLaws
 -- How a store keeps its rows:
 pub mod Flat
+-- Rows as tests:
+pub mod Tests

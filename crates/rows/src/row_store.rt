@@ -1,12 +1,14 @@
 //! Rows, end to end in one list of terms.
-ghost use Rattle.std.specs.Prelude.{◌≡◌, ◌+◌, ◌-◌, ◌^◌, ◌<◌, ◌≤◌, ◌++◌, ◌==◌, [], ◌∷◌, length, take, drop, slice_get};
-ghost use Rattle.std.specs.Prelude.{IfSome, IfOk, OnOk, OnErr, vec_len};
-ghost use Rattle.std.specs.List.{All};
+ghost use Rattle.std.specs.Prelude.{◌≡◌, ◌≢◌, ◌+◌, ◌-◌, ◌^◌, ◌<◌, ◌≤◌, ◌++◌, ◌==◌, [], ◌∷◌, length, map, take, drop};
+ghost use Rattle.std.specs.Prelude.{IfSome, IfOk, OnOk, OnErr, slice_get, vec_len};
+ghost use Rattle.std.specs.List.{All, AllPairs};
+ghost use Rattle.rows.specs.Cardinality.{at_least, at_most, unit};
+ghost use Rattle.rows.specs.Literals.{negate};
 ghost use Rattle.rows.specs.Rows.{IsRow};
 ghost use Rattle.rows.specs.Flat as flat;
 ghost use Rattle.rows.specs.Flat.{AreEnds};
 
-use crate::lit::Term;
+use crate::lit::{Lit, Term};
 use std::alloc::{AllocError, Global};
 use std::marker::Model;
 
@@ -79,6 +81,42 @@ impl RowStore {
         Ok(())
     }
 
+    /// Adds the row "at least `degree` of these literals are true" at the end.
+    ///
+    /// # Errors
+    /// Only where memory runs out.
+    pub fn push_at_least(&mut self, literals: &[Lit], degree: u64) -> Result<(), AllocError>
+        requires variables { AllPairs (λ l m. l.var ≢ m.var) literals.now }
+        requires room { length self.old < 2 ^ 32 - 1 }
+        ensures ok { OnOk result (self.new ≡ self.old ++ at_least degree literals.now ∷ []) }
+        ensures err { OnErr result (self.new ≡ self.old) }
+    {
+        self.ends.reserve(1)?;
+        add_units(&mut self.terms, literals)?;
+        let end = self.terms.len();
+        self.ends.push(End { end, degree })?;
+        Ok(())
+    }
+
+    /// Adds the row "at most `bound` of these literals are true" at the end: at least all but so many are false. Where
+    /// the bound isn't below their number its degree is 0.
+    ///
+    /// # Errors
+    /// Only where memory runs out.
+    pub fn push_at_most(&mut self, literals: &[Lit], bound: u64) -> Result<(), AllocError>
+        requires variables { AllPairs (λ l m. l.var ≢ m.var) literals.now }
+        requires room { length self.old < 2 ^ 32 - 1 }
+        ensures ok { OnOk result (self.new ≡ self.old ++ at_most bound literals.now ∷ []) }
+        ensures err { OnErr result (self.new ≡ self.old) }
+    {
+        self.ends.reserve(1)?;
+        add_negated(&mut self.terms, literals)?;
+        let end = self.terms.len();
+        let degree = (literals.len() as u64).saturating_sub(bound);
+        self.ends.push(End { end, degree })?;
+        Ok(())
+    }
+
     /// The number of rows, below 2^32.
     pub fn len(&self) -> usize
         ensures len { result ≡ length self.now }
@@ -110,6 +148,36 @@ impl RowStore {
     {
         self.ends[k].degree
     }
+}
+
+/// Adds these literals, each with coefficient 1, or where memory runs out nothing.
+fn add_units(terms: &mut Vec<Term>, literals: &[Lit]) -> Result<(), AllocError>
+    ensures ok { OnOk result (terms.new.items ≡ terms.old.items ++ map unit literals.now) }
+    ensures err { OnErr result (terms.new.items ≡ terms.old.items) }
+{
+    terms.reserve(literals.len())?;
+    for literal in literals {
+        terms.push(Term {
+            coef: 1,
+            lit: *literal,
+        })?;
+    }
+    Ok(())
+}
+
+/// Adds the negations of these literals, each with coefficient 1, or where memory runs out nothing.
+fn add_negated(terms: &mut Vec<Term>, literals: &[Lit]) -> Result<(), AllocError>
+    ensures ok { OnOk result (terms.new.items ≡ terms.old.items ++ map unit (map negate literals.now)) }
+    ensures err { OnErr result (terms.new.items ≡ terms.old.items) }
+{
+    terms.reserve(literals.len())?;
+    for literal in literals {
+        terms.push(Term {
+            coef: 1,
+            lit: literal.negate(),
+        })?;
+    }
+    Ok(())
 }
 
 /// Where the row at place k begins.

@@ -1,0 +1,33 @@
+-- How many terms the rows of a key have, by the number of its literals: a row that demands nothing isn't listed.
+use Rattle.std.specs.Prelude.{ℕ, ◌+◌, ◌*◌, nat_lt, if◌then◌else◌}
+use Rattle.league.specs.declared.class.Side.{Side}
+use Rattle.league.specs.declared.class.Side.TheVariants.{H, A, Both}
+use Rattle.league.specs.declared.class.Span.{Span}
+use Rattle.league.specs.declared.class.Span.TheVariants.{Global, Every}
+
+-- of "at least low", which demands nothing where low is 0
+abbrev pub least_terms : ℕ → ℕ → ℕ
+least_terms low count = if nat_lt 0 low then count else 0
+
+-- of "at most high", which demands nothing of high literals or fewer
+abbrev pub most_terms : ℕ → ℕ → ℕ
+most_terms high count = if nat_lt high count then count else 0
+
+-- of both
+abbrev pub between_terms : ℕ → ℕ → ℕ → ℕ
+between_terms low high count = least_terms low count + most_terms high count
+
+-- of a CA4 with so many meetings and slots: of all slots together, or of each
+abbrev pub span_terms : Span → ℕ → ℕ → ℕ → ℕ → ℕ
+span_terms Global low high meetings slots = between_terms low high (meetings * slots)
+span_terms Every low high meetings slots = slots * between_terms low high meetings
+
+-- of the two rows of an FA2 at slot s: each has two literals for each slot so far
+abbrev pub fa2_terms : ℕ → ℕ → ℕ
+fa2_terms intp s = if nat_lt intp (s + 1) then 4 * (s + 1) else 0
+
+-- on how many sides games are counted
+abbrev pub side_count : Side → ℕ
+side_count H = 1
+side_count A = 1
+side_count Both = 2

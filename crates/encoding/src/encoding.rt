@@ -1,0 +1,139 @@
+//! Encodings.
+ghost use Rattle.std.specs.Prelude.{◌≡◌, ◌≢◌, ◌<◌, ◌≤◌, ◌↔◌, true, IsSome, IfSome};
+ghost use Rattle.league.specs.Counts as counts;
+ghost use Rattle.league.specs.Instance.{IsInstance};
+ghost use Rattle.encoding.specs.Encoding.{rows_of};
+ghost use Rattle.encoding.specs.Known.{AreKnown};
+ghost use Rattle.encoding.specs.Variables.{ab_var, h_var, has_breaks, hb_var, var_count, x_var};
+
+use crate::variables::{ab_at, h_at, hb_at, x_at, x_count};
+use league::{League, SlotId, TeamId, slot_count};
+use rows::RowStore;
+use std::marker::Model;
+
+/// A league's rows and variables: seen as the league. It keeps a copy of the league.
+#[derive(Drop)]
+pub struct Encoding {
+    pub(crate) league: League,
+    pub(crate) rows: RowStore,
+    pub(crate) breaks: bool,
+}
+
+impl Model for Encoding {
+    ghost use Rattle.league.specs.Instance.{Instance};
+    ghost use Rattle.encoding.specs.Encoded.{IsEncoded};
+
+    ghost Value = { Instance };
+
+    ghost view = { λ e. e.league };
+
+    ghost invariant = { λ e. IsEncoded e.league e.rows e.breaks };
+}
+
+impl Encoding {
+    /// The rows of the league, in order.
+    pub fn rows(&self) -> &RowStore
+        ensures { result.now ≡ rows_of self.now }
+    {
+        &self.rows
+    }
+
+    /// The number of teams: even, from 2 to 40.
+    pub fn n(&self) -> u16
+        ensures n { result ≡ self.now.n }
+        ensures instance { IsInstance self.now }
+    {
+        self.league.n()
+    }
+
+    /// The number of slots of the season: 2(n - 1).
+    pub fn slots(&self) -> u16
+        ensures slots { result ≡ counts.slot_count self.now.n }
+        ensures instance { IsInstance self.now }
+    {
+        slot_count(self.league.n())
+    }
+
+    /// Whether breaks have variables: some hard constraint bounds them.
+    pub fn has_breaks(&self) -> bool
+        ensures { result ≡ has_breaks self.now.constraints }
+    {
+        self.breaks
+    }
+
+    /// The number of variables.
+    pub fn vars(&self) -> u32
+        ensures vars { result ≡ var_count self.now }
+        ensures at_most { result ≤ 134160 }
+        ensures instance { IsInstance self.now }
+
+        // The rows speak of no other variables.
+        ensures known { AreKnown (var_count self.now) (rows_of self.now) }
+    {
+        let n = self.league.n();
+        let slots = u32::from(self.league.slots());
+        let venues = u32::from(n) * slots;
+        let breaks = if self.breaks {
+            2 * u32::from(n) * (slots - 1)
+        } else {
+            0
+        };
+        x_count(n) + venues + breaks
+    }
+
+    /// The variable that is true where the game of `home` at home to `away` takes place in the slot.
+    pub fn x(&self, home: TeamId, away: TeamId, slot: SlotId) -> u32
+        requires home { home.0 < self.now.n }
+        requires away { away.0 < self.now.n }
+        requires differ { home.0 ≢ away.0 }
+        requires slot { slot.0 < counts.slot_count self.now.n }
+        ensures var { result ≡ x_var self.now.n home.0 away.0 slot.0 }
+        ensures at_least { 1 ≤ result }
+        ensures at_most { result ≤ var_count self.now }
+    {
+        x_at(self.league.n(), home.0, away.0, slot.0)
+    }
+
+    /// The variable that is true where the team plays at home in the slot.
+    pub fn h(&self, team: TeamId, slot: SlotId) -> u32
+        requires team { team.0 < self.now.n }
+        requires slot { slot.0 < counts.slot_count self.now.n }
+        ensures var { result ≡ h_var self.now.n team.0 slot.0 }
+        ensures at_least { 1 ≤ result }
+        ensures at_most { result ≤ var_count self.now }
+    {
+        h_at(self.league.n(), team.0, slot.0)
+    }
+
+    /// The variable that is true where the team has a home break at the slot: none at slot 0, or where breaks have no
+    /// variables.
+    pub fn hb(&self, team: TeamId, slot: SlotId) -> Option<u32>
+        requires team { team.0 < self.now.n }
+        requires slot { slot.0 < counts.slot_count self.now.n }
+        ensures some { IsSome result ↔ (0 < slot.0) × (has_breaks self.now.constraints ≡ true) }
+        ensures var { IfSome result (λ var. var ≡ hb_var self.now.n team.0 slot.0) }
+        ensures at_least { IfSome result (λ var. 1 ≤ var) }
+        ensures at_most { IfSome result (λ var. var ≤ var_count self.now) }
+    {
+        if slot.0 == 0 || !self.breaks {
+            return None;
+        }
+        Some(hb_at(self.league.n(), team.0, slot.0))
+    }
+
+    /// The variable that is true where the team has an away break at the slot: none at slot 0, or where breaks have no
+    /// variables.
+    pub fn ab(&self, team: TeamId, slot: SlotId) -> Option<u32>
+        requires team { team.0 < self.now.n }
+        requires slot { slot.0 < counts.slot_count self.now.n }
+        ensures some { IsSome result ↔ (0 < slot.0) × (has_breaks self.now.constraints ≡ true) }
+        ensures var { IfSome result (λ var. var ≡ ab_var self.now.n team.0 slot.0) }
+        ensures at_least { IfSome result (λ var. 1 ≤ var) }
+        ensures at_most { IfSome result (λ var. var ≤ var_count self.now) }
+    {
+        if slot.0 == 0 || !self.breaks {
+            return None;
+        }
+        Some(ab_at(self.league.n(), team.0, slot.0))
+    }
+}
