@@ -1,9 +1,9 @@
 -- However a text is cut into pieces, it reads as the whole.
-use Rattle.std.proofs.Common.{◌≡◌, ℕ, List, [], ◌∷◌, ◌++◌, None, Ok, Err, refl, sym, ap, ◌∙◌}
+use Rattle.std.proofs.Common.{◌≡◌, ℕ, List, [], ◌∷◌, ◌++◌, Ok, Err, refl, sym, ap, ◌∙◌}
 use Rattle.std.specs.List.{concat}
 use Rattle.std.proofs.lemmas.List.{append-nil}
 use Rattle.refutation.specs.Steps.{Step}
-use Rattle.refutation.specs.Logs.{Reading, after, log_of, no_steps_but, nothing_more, whole}
+use Rattle.refutation.specs.Logs.{after, log_of, no_steps_but, nothing_more, whole}
 use Rattle.refutation.specs.Places.{Place, log_from, start}
 use Rattle.refutation.specs.Feeding.{FeedsAll, ReadsOn}
 use Rattle.refutation.proofs.FeedLemmas.{ReadsOn-then, reads-same}

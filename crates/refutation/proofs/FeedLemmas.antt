@@ -1,21 +1,19 @@
 -- Lines of a log, taken from the front, and pieces of it.
-use Rattle.std.proofs.Common.{◌≡◌, ℕ, ◌+◌, ◌-◌, ◌<◌, ◌≤◌, Bool, true, false, nat_le, add-one, List, [], ◌∷◌, ◌++◌}
-use Rattle.std.proofs.Common.{length, take, drop, get_or, Option, Some, None, Result, Ok, Err, refl, sym, ap, subst}
+use Rattle.std.proofs.Common.{◌≡◌, ℕ, ◌+◌, ◌-◌, ◌<◌, ◌≤◌, Bool, true, false, nat_le, List, [], ◌∷◌, ◌++◌}
+use Rattle.std.proofs.Common.{length, take, drop, Option, Some, None, Result, Ok, Err, refl, sym, ap}
 use Rattle.std.proofs.Common.{◌∙◌, arith, append_assoc, length-append}
 use Rattle.std.specs.Prelude.{is_some}
-use Rattle.std.specs.List.{All, slice_split}
-use Rattle.std.proofs.lemmas.Bool.{false≢true, eqb-true}
+use Rattle.std.proofs.lemmas.Bool.{false≢true}
 use Rattle.std.proofs.lemmas.Bool.Decides.{nat_tests}
-use Rattle.std.proofs.lemmas.List.{append-nil, take-append-drop, get_or-take, length-take}
-use Rattle.std.proofs.lemmas.List.Elements.{All-append, All-from_get_or}
-use Rattle.std.proofs.Math.Seq.{drop-cons}
+use Rattle.std.proofs.lemmas.List.{append-nil}
+use Rattle.std.proofs.lemmas.List.Elements.{All-append}
 use Rattle.memchr.specs.Find.{IsFirstByte, is_byte}
 use Rattle.refutation.specs.Steps.{Step}
-use Rattle.refutation.specs.Logs.{Fault, Line, Reading, after, end_from, go_on, line_of, lines_from, lines_of, log_of}
-use Rattle.refutation.specs.Logs.{most_bytes, no_steps_but, nothing_more, unfinished, whole, words_of}
+use Rattle.refutation.specs.Logs.{Fault, Line, Reading, after, end_from, go_on, line_of, lines_from, lines_of}
+use Rattle.refutation.specs.Logs.{most_bytes, no_steps_but, nothing_more, whole}
 use Rattle.refutation.specs.Logs.Line.{End, Heading, Says}
-use Rattle.refutation.specs.Places.{Place, log_from, read_at, start, start_at}
-use Rattle.refutation.specs.Cuts.{Lacks, onto_front}
+use Rattle.refutation.specs.Places.{Place, log_from, read_at}
+use Rattle.refutation.specs.Cuts.{Lacks}
 use Rattle.refutation.specs.Feeding.{ReadsOn}
 use Rattle.refutation.specs.SeenPlace.{IsPlace, is_line_feed, IsSameButText, SaysOutcome, next_place}
 use Rattle.refutation.specs.declared.fault.LogKind.{LogKind}

@@ -1,5 +1,5 @@
 -- What a search for a byte found.
-use Rattle.std.proofs.Common.{◌≡◌, ℕ, ◌+◌, ◌<◌, List, [], ◌∷◌, ◌++◌, take, drop, get_or, Option, Some, None, Bool}
+use Rattle.std.proofs.Common.{◌≡◌, ℕ, ◌+◌, ◌<◌, List, [], ◌∷◌, ◌++◌, take, drop, get_or, Some, None}
 use Rattle.std.proofs.Common.{false, refl, sym, ap, ◌∙◌, arith, add-one}
 use Rattle.std.proofs.lemmas.Bool.{eqb-true}
 use Rattle.std.proofs.lemmas.List.{take-append-drop, get_or-take, length-take}

@@ -1,17 +1,17 @@
 -- Groups of tokens, taken token by token.
-use Rattle.std.proofs.Common.{◌≡◌, ℕ, ◌+◌, Bool, true, false, ◌&&◌, List, [], ◌∷◌, ◌++◌, length, map, Option, Some}
+use Rattle.std.proofs.Common.{◌≡◌, ℕ, Bool, true, false, ◌&&◌, List, [], ◌∷◌, ◌++◌, map, Option, Some}
 use Rattle.std.proofs.Common.{None, refl, sym, ap, ◌∙◌, arith, append_assoc, length-append, inl, inr}
-use Rattle.std.specs.List.{list_all, onto_first, slice_split}
+use Rattle.std.specs.List.{list_all}
 use Rattle.std.specs.Borrow.{Bor}
 use Rattle.std.proofs.lemmas.List.{append-nil}
 use Rattle.std.proofs.lemmas.List.Folds.{list_all-append}
 use Rattle.std.proofs.lemmas.List.Splits.{slice_split-cons_yes, slice_split-cons_no}
 use Rattle.refutation.specs.Lines.{groups_of, is_zero, tokens_of}
 use Rattle.refutation.specs.Cuts.{onto_front}
-use Rattle.refutation.specs.Tokens.{IsWrong, StandsFirst, StandsWrong, tokens_left}
+use Rattle.refutation.specs.Tokens.{StandsFirst, StandsWrong, tokens_left}
 use Rattle.refutation.specs.Groups.{IsBadGroup, IsGroup, IsSoFar}
 use Rattle.refutation.specs.declared.token.Item.{Item}
-use Rattle.refutation.proofs.SplitLemmas.{AreParts, front-front, split-parts}
+use Rattle.refutation.proofs.SplitLemmas.{front-front, split-parts}
 use Rattle.refutation.proofs.TokenLemmas.{both_true}
 
 -- a token that isn't `0` in front of groups

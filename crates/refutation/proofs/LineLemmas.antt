@@ -1,22 +1,19 @@
 -- Steps of groups, and what a line says.
-use Rattle.std.proofs.Common.{◌≡◌, ℕ, ◌+◌, ◌%◌, ◌*◌, ◌<◌, ◌≤◌, Bool, true, false, not, ◌&&◌, nat_eq, List, [], ◌∷◌}
-use Rattle.std.proofs.Common.{◌++◌, length, map, Option, Some, None, Result, Ok, Err, refl, sym, ap, subst, ◌∙◌}
-use Rattle.std.proofs.Common.{arith, append_assoc, zero-add, inl, inr, IsSome}
+use Rattle.std.proofs.Common.{◌≡◌, ℕ, ◌%◌, ◌≤◌, Bool, true, false, ◌&&◌, nat_eq, List, [], ◌∷◌}
+use Rattle.std.proofs.Common.{length, map, Option, Some, None, Ok, Err, refl, sym, ap, ◌∙◌}
+use Rattle.std.proofs.Common.{arith, zero-add, inl, inr, IsSome}
 use Rattle.std.specs.Prelude.{codes, bytes_eq, is_some, if◌then◌else◌}
 use Rattle.std.specs.List.{All, list_all, onto_first}
 use Rattle.std.specs.Borrow.{Bor}
-use Rattle.std.proofs.lemmas.Bool.{false≢true, cases_Bool}
-use Rattle.std.proofs.lemmas.Bool.Decides.{nat_tests}
-use Rattle.std.proofs.lemmas.List.{append-nil}
+use Rattle.std.proofs.lemmas.Bool.{false≢true}
 use Rattle.std.proofs.lemmas.List.Elements.{All-cons, All-head, All-nil, All-tail}
 use Rattle.std.proofs.lemmas.List.Splits.{slice_split-cons_no, slice_split-cons_yes}
 use Rattle.rows.specs.Literals.{Literal}
-use Rattle.refutation.specs.Steps.{Step}
-use Rattle.refutation.specs.Steps.Step.{Clause, Linear}
+use Rattle.refutation.specs.Steps.Step.{Clause}
 use Rattle.refutation.specs.Lines.{are_pairs, clause_step, groups_of, is_count, is_literal, is_small_number}
 use Rattle.refutation.specs.Lines.{is_small_variable, is_space, is_zero, linear_step, literal, marked_step, number}
 use Rattle.refutation.specs.Lines.{paired, tokens_of}
-use Rattle.refutation.specs.Tokens.{Says, StandsFirst, StandsWrong, tokens_left}
+use Rattle.refutation.specs.Tokens.{StandsFirst, StandsWrong, tokens_left}
 use Rattle.refutation.specs.Groups.{FindsGroup, IsBadGroup, IsGroup}
 use Rattle.refutation.specs.Outcomes.{EndsLine, IsLast, IsLinear, ReadsClause, ReadsLinear}
 use Rattle.refutation.specs.declared.fault.LogKind.{LogKind}
@@ -25,9 +22,8 @@ use Rattle.refutation.specs.declared.fault.Stop.{Stop}
 use Rattle.refutation.specs.declared.fault.Stop.TheVariants.{Form, Mem}
 use Rattle.refutation.specs.declared.step.Part.{Part}
 use Rattle.refutation.specs.declared.token.Item.{Item}
-use Rattle.refutation.proofs.SplitLemmas.{AreParts, split-parts}
+use Rattle.refutation.proofs.SplitLemmas.{split-parts}
 use Rattle.refutation.proofs.TokenLemmas.{and_false, both_true, count-positive}
-use Rattle.refutation.proofs.GroupLemmas.{onto_group}
 
 -- ---- clause steps
 

@@ -1,9 +1,9 @@
 -- Tokens in bytes, and what their digits say.
 use Rattle.std.proofs.Common.{◌≡◌, ◌≢◌, ℕ, ◌+◌, ◌-◌, ◌*◌, ◌%◌, ◌^◌, ◌<◌, ◌≤◌, Bool, true, false, not, ◌&&◌, nat_le}
 use Rattle.std.proofs.Common.{nat_lt, nat_eq, List, [], ◌∷◌, ◌++◌, length, take, drop, get_or, Option, Some, None}
-use Rattle.std.proofs.Common.{SomeIff, Result, Ok, Err, refl, sym, ap, subst, ◌∙◌, arith, rules, inl, inr}
-use Rattle.std.specs.Prelude.{codes, bytes_eq, is_some, unwrap_or}
-use Rattle.std.specs.List.{All, list_all, starts_with, onto_first}
+use Rattle.std.proofs.Common.{SomeIff, Result, Ok, Err, refl, sym, ap, subst, ◌∙◌, arith, inl, inr}
+use Rattle.std.specs.Prelude.{codes}
+use Rattle.std.specs.List.{list_all, starts_with, onto_first}
 use Rattle.std.specs.Borrow.{Bor}
 use Rattle.std.specs.Char.{is_ascii_digit}
 use Rattle.std.specs.Int.{IsInRange}
@@ -30,11 +30,10 @@ use Rattle.robin_io.proofs.NumberLemmas.{ascii_digits}
 use Rattle.rows.specs.Literals.{Literal}
 use Rattle.refutation.specs.Lines.{is_count, is_literal, is_negated, is_small_number, is_small_variable, is_space}
 use Rattle.refutation.specs.Lines.{is_zero, literal, number, tokens_of, without_sign}
-use Rattle.refutation.specs.Cuts.{Lacks, onto_front}
-use Rattle.refutation.specs.Tokens.{AreDigits, EndsToken, FindsToken, IsOther, IsUnsigned, IsWrong, Says, SaysCount}
+use Rattle.refutation.specs.Cuts.{Lacks}
+use Rattle.refutation.specs.Tokens.{AreDigits, EndsToken, FindsToken, IsUnsigned, IsWrong, Says, SaysCount}
 use Rattle.refutation.specs.Tokens.{StandsFirst, StandsWrong, tokens_left}
 use Rattle.refutation.specs.declared.fault.LogKind.{LogKind}
-use Rattle.refutation.specs.declared.fault.LogKind.TheVariants.{BadLine}
 use Rattle.refutation.specs.declared.token.Item.{Item}
 use Rattle.refutation.proofs.SplitLemmas.{split-last, split-part, split-more, split-parts}
 

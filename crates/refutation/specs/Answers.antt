@@ -1,5 +1,5 @@
 -- What a reader answers of what is read. Want of memory says nothing of it.
-use Rattle.std.specs.Prelude.{◌≡◌, List, [], Result, Ok, Err}
+use Rattle.std.specs.Prelude.{◌≡◌, List, Result, Ok, Err}
 use Rattle.refutation.specs.Steps.{Step}
 use Rattle.refutation.specs.Logs.{Fault, Reading, no_steps_but, nothing_more}
 use Rattle.refutation.specs.declared.fault.LogFault.{LogFault}

@@ -1,5 +1,5 @@
 -- What the parts of a line's reader answer.
-use Rattle.std.specs.Prelude.{◌≡◌, ℕ, ◌≤◌, Bool, true, false, List, [], ◌∷◌, ◌++◌, Result, Ok, Err}
+use Rattle.std.specs.Prelude.{◌≡◌, ℕ, ◌≤◌, true, List, [], ◌∷◌, ◌++◌, Result, Ok, Err}
 use Rattle.std.specs.List.{All}
 use Rattle.rows.specs.Literals.{Literal}
 use Rattle.refutation.specs.Steps.{Step}

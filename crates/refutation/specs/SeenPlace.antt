@@ -1,16 +1,16 @@
 -- How a place is kept, and where it goes.
-use Rattle.std.specs.Prelude.{◌≡◌, ℕ, ◌+◌, ◌≤◌, ◌==◌, Bool, true, List, [], length, Option, Some, None, Result, Ok}
+use Rattle.std.specs.Prelude.{◌≡◌, ℕ, ◌+◌, ◌≤◌, ◌==◌, Bool, true, List, [], length, Some, Result, Ok}
 use Rattle.std.specs.Prelude.{Err}
 use Rattle.refutation.specs.Steps.{Step}
 use Rattle.std.specs.Str.{byte}
 use Rattle.refutation.specs.Logs.{Line, most_bytes}
 use Rattle.refutation.specs.Cuts.{Lacks}
-use Rattle.refutation.specs.Logs.Line.{End, Heading, Says}
+use Rattle.refutation.specs.Logs.Line.{End, Heading}
 use Rattle.refutation.specs.Places.{Place}
 use Rattle.refutation.specs.Outcomes.{AddsLine}
 use Rattle.refutation.specs.declared.fault.LogKind.{LogKind}
 use Rattle.refutation.specs.declared.fault.Stop.{Stop}
-use Rattle.refutation.specs.declared.fault.Stop.TheVariants.{Form, Mem}
+use Rattle.refutation.specs.declared.fault.Stop.TheVariants.{Form}
 use Rattle.refutation.specs.declared.line.LineKind.{LineKind}
 use Rattle.refutation.specs.declared.line.LineKind.TheVariants as kinds
 use Rattle.refutation.specs.declared.place.Place.{Place as Kept}

@@ -1,6 +1,6 @@
 //! A log's text, read in pieces and whole.
 ghost use Rattle.std.specs.Prelude.{◌≡◌, ◌+◌, ◌<◌, ◌≤◌, ◌^◌, [], ℕ, List, IfOk, OnOk, length};
-ghost use Rattle.refutation.specs.Logs.{log_of};
+ghost use Rattle.refutation.specs.Logs.{log_of, most_bytes};
 ghost use Rattle.refutation.specs.Places.{log_from, start, start_at};
 ghost use Rattle.refutation.specs.Feeding.{ReadsOn};
 ghost use Rattle.refutation.specs.Answers.{Finishes, SaysLog};
@@ -72,6 +72,7 @@ impl LogFeed {
         requires { self.old.line + length piece.now < 2 ^ 64 }
         ensures read { OnOk result (ReadsOn self.old steps.old piece.now self.new steps.new) }
         ensures line { self.new.line ≤ self.old.line + length piece.now }
+        ensures kept { length self.new.text ≤ most_bytes }
     {
         self.at.feed(piece, &mut self.room, steps)
     }

@@ -1,5 +1,4 @@
-use Rattle.std.proofs.Common.{sym}
-use Rattle.refutation.specs.Lines.{groups_of, is_literal, is_small_variable, literal, tokens_of}
+use Rattle.refutation.specs.Lines.{is_literal, is_small_variable, literal}
 use Rattle.refutation.proofs.GroupLemmas.{so_far-more, so_far-start}
 use Rattle.refutation.proofs.group.literals_at.Goals as goal
 

@@ -1,5 +1,4 @@
-use Rattle.std.proofs.Common.{sym}
-use Rattle.refutation.specs.Lines.{groups_of, is_count, is_small_number, number, tokens_of}
+use Rattle.refutation.specs.Lines.{is_count, is_small_number, number}
 use Rattle.refutation.proofs.GroupLemmas.{so_far-more, so_far-start}
 use Rattle.refutation.proofs.group.numbers_at.Goals as goal
 

@@ -1,4 +1,4 @@
-use Rattle.std.proofs.Common.{◌≡◌, true, false, refl, sym, ap, ◌∙◌}
+use Rattle.std.proofs.Common.{refl, sym, ap, ◌∙◌}
 use Rattle.std.proofs.lemmas.Bool.{false≢true}
 use Rattle.refutation.specs.Lines.{are_pairs}
 use Rattle.refutation.proofs.LineLemmas.{linear-done, linear-number, linear-unpaired}
