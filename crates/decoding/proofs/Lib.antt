@@ -18,5 +18,15 @@ pub mod SomeShadow
 -- What the rows of a season say:
 pub mod SeasonLaws
 pub mod VenueLaws
+pub mod BreakRows
 pub mod HomeCounts
 pub mod SeasonRows
+-- The encoding is faithful both ways:
+pub mod Faithful
+-- Decoding as a walk through the slots, the home teams and the away teams, in order:
+pub mod OrderOfGames
+pub mod DecodeLemmas
+-- The shadow of a schedule as marks of its games:
+pub mod MarkLemmas
+pub mod ShadowLemmas
+pub mod ShadowLaw

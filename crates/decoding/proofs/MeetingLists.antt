@@ -1,6 +1,6 @@
 -- Lists of meetings: they fit, and the literals of their games are true as often as the games are played.
-use Rattle.std.proofs.Common.{◌≡◌, ◌≢◌, ℕ, ◌+◌, ◌-◌, ◌<◌, Bool, true, not, ◌&&◌, ◌==◌, cond, nat_lt, List, [], ◌∷◌, ◌++◌, map}
-use Rattle.std.proofs.Common.{refl, arith, ◌∙◌}
+use Rattle.std.proofs.Common.{◌≡◌, ◌≢◌, ℕ, ◌+◌, ◌-◌, ◌<◌, Bool, true, not, ◌&&◌, ◌==◌, cond, nat_lt, List, [], ◌∷◌}
+use Rattle.std.proofs.Common.{◌++◌, map, refl, arith, ◌∙◌}
 use Rattle.std.proofs.lemmas.Bool.{and_from, and_parts, eqb-false, lt-ltb, ltb-true, not-true}
 use Rattle.std.proofs.lemmas.Bool.Decides.{nat_tests}
 use Rattle.std.proofs.lemmas.List.Folds.{list_all-append, list_all-map}
@@ -16,9 +16,11 @@ use Rattle.league.proofs.SumLemmas.{sum_by-add, sum_by-filter, sum_by-flat_map, 
 use Rattle.rows.specs.Literals.{Literal, yes}
 use Rattle.rows.specs.Rows.{is_true}
 use Rattle.rows.specs.Tests.{true_count}
-use Rattle.rows.proofs.ListLemmas.{list_all-flat_map, list_all-map-filter, list_all-range, list_all-weaker, sum_by-agree}
+use Rattle.rows.proofs.ListLemmas.{list_all-flat_map, list_all-map-filter, list_all-range, list_all-weaker}
+use Rattle.rows.proofs.ListLemmas.{sum_by-agree}
 use Rattle.encoding.specs.Lists.{games_in, meetings_in_order}
 use Rattle.encoding.specs.Variables.{x_var}
+use Rattle.decoding.specs.Below.{all_below}
 use Rattle.decoding.specs.Mirrors.{MirrorsGames}
 
 -- two different teams
@@ -40,14 +42,16 @@ before_meeting n i j team other differ = grind (arith, nat_tests)
 after_meeting : (n i j : ℕ) → i < n → nat_lt j n ≡ true → nat_lt i j ≡ true → is_meeting n (j, i) ≡ true
 after_meeting n i j team other differ = grind (arith, nat_tests)
 
-module _ (n i : ℕ) (team : i < n) (teams : List ℕ) (fit : list_all (λ j. nat_lt j n) teams ≡ true) where
+module _ (n i : ℕ) (team : i < n) (teams : List ℕ) (fit : all_below n teams ≡ true) where
   home_meetings-fit : list_all (is_meeting n) (meetings_with H i teams) ≡ true
   home_meetings-fit =
-      list_all-map-filter (is_meeting n) (λ j. (i, j)) (λ j. not (j == i)) (λ j. nat_lt j n) (λ j. home_meeting n i j team) teams fit
+      list_all-map-filter (is_meeting n) (λ j. (i, j)) (λ j. not (j == i)) (λ j. nat_lt j n)
+      (λ j. home_meeting n i j team) teams fit
 
   away_meetings-fit : list_all (is_meeting n) (meetings_with A i teams) ≡ true
   away_meetings-fit =
-      list_all-map-filter (is_meeting n) (λ j. (j, i)) (λ j. not (j == i)) (λ j. nat_lt j n) (λ j. away_meeting n i j team) teams fit
+      list_all-map-filter (is_meeting n) (λ j. (j, i)) (λ j. not (j == i)) (λ j. nat_lt j n)
+      (λ j. away_meeting n i j team) teams fit
 
   -- the meetings of a team with some teams
   pub meetings_with-fit : (side : Side) → list_all (is_meeting n) (meetings_with side i teams) ≡ true
@@ -57,7 +61,8 @@ module _ (n i : ℕ) (team : i < n) (teams : List ℕ) (fit : list_all (λ j. na
       list_all-append (is_meeting n) (meetings_with H i teams) (meetings_with A i teams)
       ∙ and_from _ _ home_meetings-fit away_meetings-fit
 
-  visits-fit : (q : ℕ → Bool) → ((j : ℕ) → nat_lt j n ≡ true → q j ≡ true → is_meeting n (j, i) ≡ true) → list_all (is_meeting n) (map (λ j. (j, i)) (filter q teams)) ≡ true
+  visits-fit : (q : ℕ → Bool) → ((j : ℕ) → nat_lt j n ≡ true → q j ≡ true → is_meeting n (j, i) ≡ true)
+      → list_all (is_meeting n) (map (λ j. (j, i)) (filter q teams)) ≡ true
   visits-fit q meet = list_all-map-filter (is_meeting n) (λ j. (j, i)) q (λ j. nat_lt j n) meet teams fit
 
   pub meetings_in_order-fit : (side : Side) → list_all (is_meeting n) (meetings_in_order side i teams) ≡ true
@@ -73,37 +78,45 @@ module _ (n i : ℕ) (team : i < n) (teams : List ℕ) (fit : list_all (λ j. na
       (visits-fit (λ j. nat_lt i j) (λ j. after_meeting n i j team))
 
 -- a league's teams, and all its meetings
-pub teams_of-fit : (n : ℕ) → list_all (λ i. nat_lt i n) (teams_of n) ≡ true
+pub teams_of-fit : (n : ℕ) → all_below n (teams_of n) ≡ true
 teams_of-fit n = list_all-range (λ i. nat_lt i n) 0 n (λ i from within. lt-ltb i n (omega arith))
 
 pub meetings_of-fit : (n : ℕ) → list_all (is_meeting n) (meetings_of n) ≡ true
 meetings_of-fit n =
     list_all-flat_map (is_meeting n) (λ i. map (λ j. (i, j)) (others i (teams_of n))) (teams_of n)
     ∙ list_all-weaker (λ i. nat_lt i n) (λ i. list_all (is_meeting n) (meetings_with H i (teams_of n)))
-    (λ i team. meetings_with-fit n i (ltb-true i n team) (teams_of n) (teams_of-fit n) H) (teams_of n) (teams_of-fit n)
+    (λ i team. meetings_with-fit n i (ltb-true i n team) (teams_of n) (teams_of-fit n) H) (teams_of n)
+    (teams_of-fit n)
 
 -- the windows of a season
-pub windows_of-fit : (n width : ℕ) → list_all (λ window. list_all (λ s. nat_lt s (slot_count n)) window) (windows_of n width) ≡ true
+pub windows_of-fit : (n width : ℕ) → list_all (all_below (slot_count n)) (windows_of n width) ≡ true
 windows_of-fit n width =
-    list_all-map (λ window. list_all (λ s. nat_lt s (slot_count n)) window) (λ first. range_with_len first width) (range_with_len 0 (slot_count n + 1 - width))
-    ∙ list_all-range (λ first. list_all (λ s. nat_lt s (slot_count n)) (range_with_len first width)) 0 (slot_count n + 1 - width)
+    list_all-map (all_below (slot_count n)) (λ first. range_with_len first width)
+    (range_with_len 0 (slot_count n + 1 - width))
+    ∙ list_all-range (λ first. all_below (slot_count n) (range_with_len first width)) 0 (slot_count n + 1 - width)
     (λ first from within.
-    list_all-range (λ s. nat_lt s (slot_count n)) first width (λ s after before. lt-ltb s (slot_count n) (omega arith)))
+    list_all-range (λ s. nat_lt s (slot_count n)) first width
+    (λ s after before. lt-ltb s (slot_count n) (omega arith)))
 
 -- pairs of teams
-pub pairs_of-fit : (n : ℕ) (teams : List ℕ) → list_all (λ i. nat_lt i n) teams ≡ true → list_all (λ p. nat_lt p.0 n && nat_lt p.1 n) (pairs_of teams) ≡ true
+pub pairs_of-fit : (n : ℕ) (teams : List ℕ) → all_below n teams ≡ true
+    → list_all (λ p. nat_lt p.0 n && nat_lt p.1 n) (pairs_of teams) ≡ true
 pairs_of-fit n [] fit = refl
 pairs_of-fit n (i ∷ teams) fit =
-    let both = and_parts (nat_lt i n) (list_all (λ j. nat_lt j n) teams) fit in
+    let both = and_parts (nat_lt i n) (all_below n teams) fit in
     let teams_fit : ℕ × ℕ → Bool = λ p. nat_lt p.0 n && nat_lt p.1 n in
     let pair : ℕ → ℕ × ℕ = λ j. (i, j) in
     list_all-append teams_fit (map pair teams) (pairs_of teams)
     ∙ and_from _ _
-    (list_all-map teams_fit pair teams ∙ list_all-weaker (λ j. nat_lt j n) (λ j. nat_lt i n && nat_lt j n) (λ j other. and_from (nat_lt i n) (nat_lt j n) both.0 other) teams both.1)
+    (list_all-map teams_fit pair teams
+    ∙ list_all-weaker (λ j. nat_lt j n) (λ j. nat_lt i n && nat_lt j n)
+    (λ j other. and_from (nat_lt i n) (nat_lt j n) both.0 other) teams both.1)
     (pairs_of-fit n teams both.1)
 
 -- the literals of some meetings in some slots are true as often as their games are played
-pub games_listed : (n : ℕ) (m : Counts) (values : ℕ → Bool) (meetings : List (ℕ × ℕ)) (slots : List ℕ) → MirrorsGames n m values → list_all (is_meeting n) meetings ≡ true → list_all (λ s. nat_lt s (slot_count n)) slots ≡ true → true_count values (games_in n meetings slots) ≡ games_of m meetings slots
+pub games_listed : (n : ℕ) (m : Counts) (values : ℕ → Bool) (meetings : List (ℕ × ℕ)) (slots : List ℕ)
+    → MirrorsGames n m values → list_all (is_meeting n) meetings ≡ true → all_below (slot_count n) slots ≡ true
+    → true_count values (games_in n meetings slots) ≡ games_of m meetings slots
 games_listed n m values meetings slots mirrors fit slots_fit =
     let one : Literal → ℕ = λ l. cond (is_true values l) 1 0 in
     let row : ℕ × ℕ → List Literal = λ p. map (λ s. yes (x_var n p.0 p.1 s)) slots in
@@ -113,14 +126,16 @@ games_listed n m values meetings slots mirrors fit slots_fit =
     let parts = meeting_parts n p meet in
     sum_by-map one (λ s. yes (x_var n p.0 p.1 s)) slots
     ∙ sum_by-agree (λ s. nat_lt s (slot_count n)) (λ s. one (yes (x_var n p.0 p.1 s))) (λ s. m p.0 p.1 s)
-    (λ s slot. mirrors p.0 p.1 s parts.0 parts.1 parts.2 (ltb-true s (slot_count n) slot)) slots slots_fit) meetings fit
+    (λ s slot. mirrors p.0 p.1 s parts.0 parts.1 parts.2
+    (ltb-true s (slot_count n) slot)) slots slots_fit) meetings fit
 
 -- another team comes before or after
 before_or_after : (i j x : ℕ) → cond (nat_lt j i) x 0 + cond (nat_lt i j) x 0 ≡ cond (not (j == i)) x 0
 before_or_after i j x = grind (arith, nat_tests)
 
 -- the order in which meetings are listed doesn't matter to a sum
-pub sum_by-in_order : (f : ℕ × ℕ → ℕ) (side : Side) (i : ℕ) (teams : List ℕ) → sum_by f (meetings_in_order side i teams) ≡ sum_by f (meetings_with side i teams)
+pub sum_by-in_order : (f : ℕ × ℕ → ℕ) (side : Side) (i : ℕ) (teams : List ℕ)
+    → sum_by f (meetings_in_order side i teams) ≡ sum_by f (meetings_with side i teams)
 sum_by-in_order f H i teams = refl
 sum_by-in_order f A i teams = refl
 sum_by-in_order f Both i teams =
@@ -140,5 +155,6 @@ sum_by-in_order f Both i teams =
       sum_by-filter away (λ j. nat_lt i j) teams,
       sum_by-filter away (λ j. not (j == i)) teams,
       sum_by-add (λ j. cond (nat_lt j i) (away j) 0) (λ j. cond (nat_lt i j) (away j) 0) teams,
-      sum_by-same (λ j. cond (nat_lt j i) (away j) 0 + cond (nat_lt i j) (away j) 0) (λ j. cond (not (j == i)) (away j) 0) (λ j. before_or_after i j (away j)) teams,
+      sum_by-same (λ j. cond (nat_lt j i) (away j) 0 + cond (nat_lt i j) (away j) 0)
+          (λ j. cond (not (j == i)) (away j) 0) (λ j. before_or_after i j (away j)) teams,
     )

@@ -1,6 +1,6 @@
 -- What rows lack, and the largest of some numbers.
-use Rattle.std.proofs.Common.{◌≡◌, ℕ, ◌-◌, Bool, true, ◌&&◌, ◌==◌, max, List, [], ◌∷◌, ◌++◌, map}
-use Rattle.std.proofs.Common.{refl, arith, ap, ◌∙◌}
+use Rattle.std.proofs.Common.{◌≡◌, ℕ, ◌-◌, Bool, true, ◌&&◌, ◌==◌, max, List, [], ◌∷◌, ◌++◌, map, refl, arith, ap}
+use Rattle.std.proofs.Common.{◌∙◌}
 use Rattle.std.specs.Prelude.{nat_le}
 use Rattle.std.proofs.lemmas.Bool.{and_parts}
 use Rattle.std.proofs.lemmas.Bool.Decides.{nat_tests}
@@ -21,18 +21,26 @@ largest_from f a (x ∷ xs) = omega (arith, largest_from f (max a (f x)) xs, lar
 pub largest-cons : {X : Type 0} (f : X → ℕ) (x : X) (xs : List X) → largest f (x ∷ xs) ≡ max (f x) (largest f xs)
 largest-cons f x xs = omega (arith, largest_from f (max 0 (f x)) xs)
 
-pub largest-append : {X : Type 0} (f : X → ℕ) (xs ys : List X) → largest f (xs ++ ys) ≡ max (largest f xs) (largest f ys)
+pub largest-append : {X : Type 0} (f : X → ℕ) (xs ys : List X)
+    → largest f (xs ++ ys) ≡ max (largest f xs) (largest f ys)
 largest-append f [] ys = omega arith
 largest-append f (x ∷ xs) ys = omega (arith, largest-cons f x (xs ++ ys), largest-cons f x xs, largest-append f xs ys)
 
 -- the largest of joined lists is the largest of their largest
-pub largest-flat_map : {X Y : Type 0} (f : X → ℕ) (g : Y → List X) (ys : List Y) → largest f (flat_map g ys) ≡ largest (λ y. largest f (g y)) ys
+pub largest-flat_map : {X Y : Type 0} (f : X → ℕ) (g : Y → List X) (ys : List Y)
+    → largest f (flat_map g ys) ≡ largest (λ y. largest f (g y)) ys
 largest-flat_map f g [] = refl
 largest-flat_map f g (y ∷ ys) =
-    omega (arith, largest-append f (g y) (flat_map g ys), largest-cons (λ y. largest f (g y)) y ys, largest-flat_map f g ys)
+    omega (
+      arith,
+      largest-append f (g y) (flat_map g ys),
+      largest-cons (λ y. largest f (g y)) y ys,
+      largest-flat_map f g ys,
+    )
 
 -- numbers that agree where a test passes
-pub largest-agree : {X : Type 0} (p : X → Bool) (f g : X → ℕ) → ((x : X) → p x ≡ true → f x ≡ g x) → (xs : List X) → list_all p xs ≡ true → largest f xs ≡ largest g xs
+pub largest-agree : {X : Type 0} (p : X → Bool) (f g : X → ℕ) → ((x : X) → p x ≡ true → f x ≡ g x) → (xs : List X)
+    → list_all p xs ≡ true → largest f xs ≡ largest g xs
 largest-agree p f g same [] pass = refl
 largest-agree p f g same (x ∷ xs) pass =
     let both = and_parts (p x) (list_all p xs) pass in
@@ -52,14 +60,16 @@ largest-zero f (x ∷ xs) =
 enough : (degree reached : ℕ) → nat_le degree reached ≡ (degree - reached == 0)
 enough degree reached = grind (arith, nat_tests)
 
-all_enough : (values : ℕ → Bool) (rows : List Row) → all_satisfied values rows ≡ list_all (λ row. shortfall values row == 0) rows
+all_enough : (values : ℕ → Bool) (rows : List Row)
+    → all_satisfied values rows ≡ list_all (λ row. shortfall values row == 0) rows
 all_enough values [] = refl
 all_enough values (row ∷ rows) =
     ap (λ (b : Bool). b && all_satisfied values rows) (enough row.degree (weight values row.terms))
     ∙ ap (λ (b : Bool). (shortfall values row == 0) && b) (all_enough values rows)
 
 -- all rows are satisfied exactly where the worst of them lacks nothing
-pub satisfied-needs : (values : ℕ → Bool) (rows : List Row) → all_satisfied values rows ≡ (units_needed values rows == 0)
+pub satisfied-needs : (values : ℕ → Bool) (rows : List Row)
+    → all_satisfied values rows ≡ (units_needed values rows == 0)
 satisfied-needs values rows = all_enough values rows ∙ largest-zero (shortfall values) rows
 
 module _ (values : ℕ → Bool) (literals : List Literal) where
@@ -71,9 +81,11 @@ module _ (values : ℕ → Bool) (literals : List Literal) where
       omega (arith, weight-units values (map negate literals), true_count-negate values literals)
 
   -- what two rows lack that hold a count between two numbers, and what one row that bounds it
-  pub needs_between : (low high c : ℕ) → true_count values literals ≡ c → units_needed values (between low high literals) ≡ outside low high c
+  pub needs_between : (low high c : ℕ) → true_count values literals ≡ c
+      → units_needed values (between low high literals) ≡ outside low high c
   needs_between low high c counted =
       omega (arith, shortfall-at_least low, shortfall-at_most high)
 
-  pub needs_most : (b c : ℕ) → true_count values literals ≡ c → units_needed values (at_most b literals ∷ []) ≡ excess c b
+  pub needs_most : (b c : ℕ) → true_count values literals ≡ c
+      → units_needed values (at_most b literals ∷ []) ≡ excess c b
   needs_most b c counted = omega (arith, shortfall-at_most b)

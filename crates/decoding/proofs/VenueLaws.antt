@@ -1,18 +1,18 @@
--- Group 4 says that h(i,s) is true exactly where team i has a home game in slot s, and group 7 that breaks are where venues repeat.
-use Rattle.std.proofs.Common.{◌≡◌, ◌≢◌, ℕ, zero, suc, ◌+◌, ◌-◌, ◌<◌, ◌≤◌, Bool, true, false, not, ◌&&◌, ◌||◌, ◌==◌, nat_lt, List, [], ◌∷◌, ◌++◌, length, map, cond, if◌then◌else◌}
-use Rattle.std.proofs.Common.{refl, arith, ap, ◌∙◌, sym}
+-- Group 4 says that h(i,s) is true exactly where team i has a home game in slot s.
+use Rattle.std.proofs.Common.{◌≡◌, ◌≢◌, ℕ, zero, suc, ◌+◌, ◌-◌, ◌<◌, Bool, true, false, not, ◌&&◌, ◌==◌}
+use Rattle.std.proofs.Common.{nat_lt, List, [], ◌∷◌, ◌++◌, length, map, cond, if◌then◌else◌}
+use Rattle.std.proofs.Common.{refl, arith, ap, ◌∙◌}
 use Rattle.std.specs.Prelude.{nat_le}
-use Rattle.std.proofs.lemmas.Bool.{and_from, and_parts, false≢true, lt-ltb, ltb-true}
+use Rattle.std.proofs.lemmas.Bool.{and_from, lt-ltb, ltb-true}
 use Rattle.std.proofs.lemmas.Bool.Decides.{nat_tests}
 use Rattle.std.proofs.lemmas.List.{length-map}
 use Rattle.std.proofs.lemmas.List.Concat.{flat_map_single}
 use Rattle.std.proofs.lemmas.List.Sums.{length-filter, sum_by-append, sum_by-cons}
-use Rattle.std.specs.List.{count_by, filter, flat_map, list_all, range_with_len, sum_by}
-use Rattle.league.specs.Breaks.{is_away_break, is_home_break}
+use Rattle.std.specs.List.{flat_map, list_all, range_with_len, sum_by}
 use Rattle.league.specs.Capacity.{meetings_with}
 use Rattle.league.specs.Counts.{Counts, slot_count, slots_of, teams_of}
 use Rattle.league.specs.Meetings.{others}
-use Rattle.league.specs.Venues.{away_games, home_games}
+use Rattle.league.specs.Venues.{home_games}
 use Rattle.league.specs.declared.class.Side.TheVariants.{H}
 use Rattle.league.proofs.RangeLemmas.{one_if}
 use Rattle.league.proofs.SumLemmas.{sum_by-add, sum_by-same}
@@ -21,12 +21,12 @@ use Rattle.rows.specs.Literals.{Literal, negate, no, yes}
 use Rattle.rows.specs.Rows.{Row, is_true, weight}
 use Rattle.rows.specs.Tests.{all_satisfied, satisfied, true_count}
 use Rattle.rows.specs.declared.lit.Term.{Term}
-use Rattle.rows.proofs.ListLemmas.{list_all-agree, list_all-at, list_all-flat_map, list_all-range, list_all-same}
+use Rattle.rows.proofs.ListLemmas.{list_all-agree, list_all-at, list_all-flat_map, list_all-range}
 use Rattle.rows.proofs.TestLemmas.{satisfied-at_least, true_count-append, true_count-negate, weight-units}
-use Rattle.encoding.specs.Lists.{after_first, games_in}
-use Rattle.encoding.specs.Season.{break_rows, break_rows_at, game_needs_home, home_games_in, home_needs_game, venue_rows}
-use Rattle.encoding.specs.Variables.{ab_var, h_var, hb_var, x_var}
-use Rattle.decoding.specs.Mirrors.{Mirrors, MirrorsBreaks, MirrorsGames}
+use Rattle.encoding.specs.Season.{game_needs_home, home_games_in, home_needs_game}
+use Rattle.encoding.specs.Season.{venue_rows}
+use Rattle.encoding.specs.Variables.{h_var, x_var}
+use Rattle.decoding.specs.Mirrors.{MirrorsGames}
 use Rattle.decoding.proofs.DecodedCounts.{pick}
 use Rattle.decoding.proofs.MeetingLists.{games_listed, meetings_with-fit, teams_of-fit}
 use Rattle.decoding.proofs.SeasonLaws.{PlaysOthers, home_listed, slots_of-fit}
@@ -92,20 +92,26 @@ length-home_games_in n i s team =
     )
 
 -- of its home games in a slot one is true where it has one
-true_count-home_games_in : (n : ℕ) (m : Counts) (values : ℕ → Bool) (i s : ℕ) → MirrorsGames n m values → PlaysOthers n m → i < n → s < slot_count n → true_count values (home_games_in n i s) ≡ home_games n m i s
+true_count-home_games_in : (n : ℕ) (m : Counts) (values : ℕ → Bool) (i s : ℕ) → MirrorsGames n m values →
+    PlaysOthers n m → i < n → s < slot_count n → true_count values (home_games_in n i s) ≡ home_games n m i s
 true_count-home_games_in n m values i s mirrors others team slot =
-    games_listed n m values (meetings_with H i (teams_of n)) (s ∷ []) mirrors (meetings_with-fit n i team (teams_of n) (teams_of-fit n) H) (and_from (nat_lt s (slot_count n)) true (lt-ltb s (slot_count n) slot) refl)
+    games_listed n m values (meetings_with H i (teams_of n)) (s ∷ []) mirrors
+    (meetings_with-fit n i team (teams_of n) (teams_of-fit n) H)
+    (and_from (nat_lt s (slot_count n)) true (lt-ltb s (slot_count n) slot) refl)
     ∙ home_listed n m i s (others i s team slot)
 
 -- the two rows that tie h to the home games, in numbers
 tied : (h : Bool) (home length n negated : ℕ) → negated + home ≡ length → length + 1 ≡ n →
-    (nat_le 1 (home + (0 + (if not h then 1 else 0))) && (nat_le (n - 1) (negated + (0 + (if h then n - 1 else 0))) && true)) ≡ agree h (nat_lt 0 home)
+    (nat_le 1 (home + (0 + (if not h then 1 else 0)))
+    && (nat_le (n - 1) (negated + (0 + (if h then n - 1 else 0))) && true)) ≡ agree h (nat_lt 0 home)
 tied true home length n negated all fewer = grind (arith, nat_tests)
 tied false home length n negated all fewer = grind (arith, nat_tests)
 
 -- group 4, of one team and slot
-venue_law : (n : ℕ) (m : Counts) (values : ℕ → Bool) (i s : ℕ) → MirrorsGames n m values → PlaysOthers n m → i < n → s < slot_count n →
-    all_satisfied values (home_needs_game n i s ∷ game_needs_home n i s ∷ []) ≡ agree (values (h_var n i s)) (nat_lt 0 (home_games n m i s))
+venue_law : (n : ℕ) (m : Counts) (values : ℕ → Bool) (i s : ℕ) → MirrorsGames n m values → PlaysOthers n m → i < n →
+    s < slot_count n →
+    all_satisfied values (home_needs_game n i s ∷ game_needs_home n i s ∷ []) ≡ agree (values (h_var n i s))
+    (nat_lt 0 (home_games n m i s))
 venue_law n m values i s mirrors others team slot =
     let games : List Literal = home_games_in n i s in
     let h : ℕ = h_var n i s in
@@ -114,149 +120,42 @@ venue_law n m values i s mirrors others team slot =
     let weight_of : Term → ℕ = λ t. cond (is_true values t.lit) t.coef 0 in
     let home_is : true_count values games ≡ home = true_count-home_games_in n m values i s mirrors others team slot in
     let first : true_count values (games ++ no h ∷ []) ≡ home + (0 + (if not (values h) then 1 else 0)) =
-        true_count-append values games (no h ∷ []) ∙ ap (λ (c : ℕ). c + (0 + (if not (values h) then 1 else 0))) home_is in
+    true_count-append values games (no h ∷ []) ∙ ap (λ (c : ℕ). c + (0 + (if not (values h) then 1 else 0)))
+    home_is in
     let second : weight values (game_needs_home n i s).terms ≡ negated + (0 + (if values h then n - 1 else 0)) =
-        sum_by-append weight_of (map unit (map negate games)) (record { coef = n - 1; lit = yes h } ∷ [])
-        ∙ ap (λ (c : ℕ). c + (0 + (if values h then n - 1 else 0))) (weight-units values (map negate games)) in
-    ap (λ (b : Bool). b && (satisfied values (game_needs_home n i s) && true)) (satisfied-at_least values 1 (games ++ no h ∷ []) ∙ ap (λ (c : ℕ). nat_le 1 c) first)
+    sum_by-append weight_of (map unit (map negate games)) (record { coef = n - 1; lit = yes h } ∷ [])
+    ∙ ap (λ (c : ℕ). c + (0 + (if values h then n - 1 else 0))) (weight-units values (map negate games)) in
+    ap (λ (b : Bool). b && (satisfied values (game_needs_home n i s) && true))
+    (satisfied-at_least values 1 (games ++ no h ∷ []) ∙ ap (λ (c : ℕ). nat_le 1 c) first)
     ∙ ap (λ (c : ℕ). nat_le 1 (home + (0 + (if not (values h) then 1 else 0))) && (nat_le (n - 1) c && true)) second
-    ∙ tied (values h) home (length games) n negated (omega (arith, true_count-negate values games, home_is)) (length-home_games_in n i s team)
+    ∙ tied (values h) home (length games) n negated (omega (arith, true_count-negate values games, home_is))
+    (length-home_games_in n i s team)
 
 -- group 4
 pub venue_rows-law : (n : ℕ) (m : Counts) (values : ℕ → Bool) → MirrorsGames n m values → PlaysOthers n m →
-    all_satisfied values (venue_rows n) ≡ list_all (λ i. list_all (λ s. agree (values (h_var n i s)) (nat_lt 0 (home_games n m i s))) (slots_of n)) (teams_of n)
+    all_satisfied values (venue_rows n) ≡ list_all
+    (λ i. list_all (λ s. agree (values (h_var n i s)) (nat_lt 0 (home_games n m i s))) (slots_of n)) (teams_of n)
 venue_rows-law n m values mirrors others =
     let tie : ℕ → ℕ → List Row = λ i s. home_needs_game n i s ∷ game_needs_home n i s ∷ [] in
     let agrees : ℕ → ℕ → Bool = λ i s. agree (values (h_var n i s)) (nat_lt 0 (home_games n m i s)) in
     list_all-flat_map (satisfied values) (λ i. flat_map (tie i) (slots_of n)) (teams_of n)
-    ∙ list_all-agree (λ i. nat_lt i n) (λ i. all_satisfied values (flat_map (tie i) (slots_of n))) (λ i. list_all (agrees i) (slots_of n))
+    ∙ list_all-agree (λ i. nat_lt i n) (λ i. all_satisfied values (flat_map (tie i) (slots_of n)))
+    (λ i. list_all (agrees i) (slots_of n))
     (λ i team.
     list_all-flat_map (satisfied values) (tie i) (slots_of n)
     ∙ list_all-agree (λ s. nat_lt s (slot_count n)) (λ s. all_satisfied values (tie i s)) (agrees i)
-    (λ s slot. venue_law n m values i s mirrors others (ltb-true i n team) (ltb-true s (slot_count n) slot)) (slots_of n) (slots_of-fit n)) (teams_of n) (teams_of-fit n)
+    (λ s slot. venue_law n m values i s mirrors others (ltb-true i n team) (ltb-true s (slot_count n) slot))
+    (slots_of n) (slots_of-fit n)) (teams_of n) (teams_of-fit n)
 
 -- a test of each team and slot
-pub each_cell : (n : ℕ) (p : ℕ → ℕ → Bool) → list_all (λ i. list_all (p i) (slots_of n)) (teams_of n) ≡ true → (i s : ℕ) → i < n → s < slot_count n → p i s ≡ true
+pub each_cell : (n : ℕ) (p : ℕ → ℕ → Bool) → list_all (λ i. list_all (p i) (slots_of n)) (teams_of n) ≡ true →
+    (i s : ℕ) → i < n → s < slot_count n → p i s ≡ true
 each_cell n p pass i s team slot =
-    list_all-at (p i) 0 (slot_count n) s (list_all-at (λ i. list_all (p i) (slots_of n)) 0 n i pass (omega arith) (omega arith)) (omega arith) (omega arith)
+    list_all-at (p i) 0 (slot_count n) s (list_all-at (λ i. list_all (p i) (slots_of n)) 0 n i pass (omega arith)
+    (omega arith)) (omega arith) (omega arith)
 
-pub all_cells : (n : ℕ) (p : ℕ → ℕ → Bool) → ((i s : ℕ) → i < n → s < slot_count n → p i s ≡ true) → list_all (λ i. list_all (p i) (slots_of n)) (teams_of n) ≡ true
+pub all_cells : (n : ℕ) (p : ℕ → ℕ → Bool) → ((i s : ℕ) → i < n → s < slot_count n → p i s ≡ true) →
+    list_all (λ i. list_all (p i) (slots_of n)) (teams_of n) ≡ true
 all_cells n p pass =
     list_all-range (λ i. list_all (p i) (slots_of n)) 0 n
     (λ i from team. list_all-range (p i) 0 (slot_count n) (λ s from' slot. pass i s (omega arith) (omega arith)))
-
--- the six clauses about breaks, over the values of h in the slot before and in the slot, and of hb and ab
-abbrev clauses : Bool → Bool → Bool → Bool → Bool
-clauses p q b a =
-    nat_le 1 (0 + one_if p + one_if (not b))
-    && (nat_le 1 (0 + one_if q + one_if (not b))
-    && (nat_le 1 (0 + one_if (not p) + one_if (not q) + one_if b)
-    && (nat_le 1 (0 + one_if (not p) + one_if (not a))
-    && (nat_le 1 (0 + one_if (not q) + one_if (not a))
-    && (nat_le 1 (0 + one_if p + one_if q + one_if a)
-    && true)))))
-
-six_law : (p q b a : Bool) → clauses p q b a ≡ (agree b (p && q) && agree a (not p && not q))
-six_law true true true true = refl
-six_law true true true false = refl
-six_law true true false true = refl
-six_law true true false false = refl
-six_law true false true true = refl
-six_law true false true false = refl
-six_law true false false true = refl
-six_law true false false false = refl
-six_law false true true true = refl
-six_law false true true false = refl
-six_law false true false true = refl
-six_law false true false false = refl
-six_law false false true true = refl
-six_law false false true false = refl
-six_law false false false true = refl
-six_law false false false false = refl
-
--- whether hb and ab at slot s are what h says in s and in the slot before
-abbrev pub breaks_agree : ℕ → (ℕ → Bool) → ℕ → ℕ → Bool
-breaks_agree n values i s =
-    agree (values (hb_var n i s)) (values (h_var n i (s - 1)) && values (h_var n i s))
-    && agree (values (ab_var n i s)) (not (values (h_var n i (s - 1))) && not (values (h_var n i s)))
-
--- group 7, of one team and slot
-break_law : (n : ℕ) (values : ℕ → Bool) (i s : ℕ) → all_satisfied values (break_rows_at n i s) ≡ breaks_agree n values i s
-break_law n values i s = six_law (values (h_var n i (s - 1))) (values (h_var n i s)) (values (hb_var n i s)) (values (ab_var n i s))
-
--- a test of those that pass another
-list_all-filter_or : {X : Type 0} (p q : X → Bool) (xs : List X) → list_all p (filter q xs) ≡ list_all (λ x. not (q x) || p x) xs
-list_all-filter_or p q [] = refl
-list_all-filter_or p q (x ∷ xs) = by (list_all-filter_or p q xs) (q x) where
-  by : list_all p (filter q xs) ≡ list_all (λ y. not (q y) || p y) xs → (b : Bool) → list_all p (cond b (x ∷ filter q xs) (filter q xs)) ≡ ((not b || p x) && list_all (λ y. not (q y) || p y) xs)
-  by rest true = ap (λ (c : Bool). p x && c) rest
-  by rest false = rest
-
--- group 7, where breaks have variables
-pub break_rows-law : (n : ℕ) (values : ℕ → Bool) → all_satisfied values (break_rows n true) ≡ list_all (λ i. list_all (λ s. not (nat_lt 0 s) || breaks_agree n values i s) (slots_of n)) (teams_of n)
-break_rows-law n values =
-    list_all-flat_map (satisfied values) (λ i. flat_map (break_rows_at n i) (after_first (slots_of n))) (teams_of n)
-    ∙ list_all-same (λ i. all_satisfied values (flat_map (break_rows_at n i) (after_first (slots_of n)))) (λ i. list_all (λ s. not (nat_lt 0 s) || breaks_agree n values i s) (slots_of n))
-    (λ i.
-    list_all-flat_map (satisfied values) (break_rows_at n i) (after_first (slots_of n))
-    ∙ list_all-same (λ s. all_satisfied values (break_rows_at n i s)) (breaks_agree n values i) (break_law n values i) (after_first (slots_of n))
-    ∙ list_all-filter_or (breaks_agree n values i) (λ s. nat_lt 0 s) (slots_of n)) (teams_of n)
-
--- h is whether there is a home game, and its negation whether there is an away game
-pub home_value : (n : ℕ) (m : Counts) (values : ℕ → Bool) (i s : ℕ) → Mirrors n m values → i < n → s < slot_count n → values (h_var n i s) ≡ nat_lt 0 (home_games n m i s)
-home_value n m values i s mirrors team slot = one_is (values (h_var n i s)) (home_games n m i s) (mirrors.home i s team slot) where
-  one_is : (b : Bool) (count : ℕ) → one_if b ≡ count → b ≡ nat_lt 0 count
-  one_is true count is = grind (arith, nat_tests)
-  one_is false count is = grind (arith, nat_tests)
-
-pub away_value : (n : ℕ) (m : Counts) (values : ℕ → Bool) (i s : ℕ) → Mirrors n m values → i < n → s < slot_count n → not (values (h_var n i s)) ≡ nat_lt 0 (away_games n m i s)
-away_value n m values i s mirrors team slot = one_is (not (values (h_var n i s))) (away_games n m i s) (mirrors.away i s team slot) where
-  one_is : (b : Bool) (count : ℕ) → one_if b ≡ count → b ≡ nat_lt 0 count
-  one_is true count is = grind (arith, nat_tests)
-  one_is false count is = grind (arith, nat_tests)
-
-later_slot : (s : ℕ) (a b : Bool) → 0 < s → (a && b) ≡ (nat_lt 0 s && a && b)
-later_slot s a b later = grind (arith, nat_tests)
-
--- a home break is a home game in the slot before and in the slot, and an away break none in both
-pub home_break_value : (n : ℕ) (m : Counts) (values : ℕ → Bool) (i s : ℕ) → Mirrors n m values → i < n → 0 < s → s < slot_count n → (values (h_var n i (s - 1)) && values (h_var n i s)) ≡ is_home_break n m i s
-home_break_value n m values i s mirrors team later slot =
-    ap (λ (b : Bool). b && values (h_var n i s)) (home_value n m values i (s - 1) mirrors team (omega arith))
-    ∙ ap (λ (b : Bool). nat_lt 0 (home_games n m i (s - 1)) && b) (home_value n m values i s mirrors team slot)
-    ∙ later_slot s (nat_lt 0 (home_games n m i (s - 1))) (nat_lt 0 (home_games n m i s)) later
-
-pub away_break_value : (n : ℕ) (m : Counts) (values : ℕ → Bool) (i s : ℕ) → Mirrors n m values → i < n → 0 < s → s < slot_count n → (not (values (h_var n i (s - 1))) && not (values (h_var n i s))) ≡ is_away_break n m i s
-away_break_value n m values i s mirrors team later slot =
-    ap (λ (b : Bool). b && not (values (h_var n i s))) (away_value n m values i (s - 1) mirrors team (omega arith))
-    ∙ ap (λ (b : Bool). nat_lt 0 (away_games n m i (s - 1)) && b) (away_value n m values i s mirrors team slot)
-    ∙ later_slot s (nat_lt 0 (away_games n m i (s - 1))) (nat_lt 0 (away_games n m i s)) later
-
-after_first_passes : (s : ℕ) (b : Bool) → 0 < s → (not (nat_lt 0 s) || b) ≡ true → b ≡ true
-after_first_passes s b later pass = grind (arith, nat_tests)
-
--- where group 7 is satisfied, hb and ab are the breaks
-pub MirrorsBreaks-from_rows : (n : ℕ) (m : Counts) (values : ℕ → Bool) → Mirrors n m values → all_satisfied values (break_rows n true) ≡ true → MirrorsBreaks n m values
-MirrorsBreaks-from_rows n m values mirrors pass =
-    let test : ℕ → ℕ → Bool = λ i s. not (nat_lt 0 s) || breaks_agree n values i s in
-    let each : list_all (λ i. list_all (test i) (slots_of n)) (teams_of n) ≡ true = sym (break_rows-law n values) ∙ pass in
-    let both = λ (i : ℕ) (s : ℕ) (team : i < n) (later : 0 < s) (slot : s < slot_count n).
-        and_parts _ _ (after_first_passes s (breaks_agree n values i s) later (each_cell n test each i s team slot)) in
-    record {
-      home = λ i s team later slot. agree-true _ _ (both i s team later slot).0 ∙ home_break_value n m values i s mirrors team later slot;
-      away = λ i s team later slot. agree-true _ _ (both i s team later slot).1 ∙ away_break_value n m values i s mirrors team later slot;
-    }
-
-first_or_passes : (s : ℕ) (b : Bool) → (0 < s → b ≡ true) → (not (nat_lt 0 s) || b) ≡ true
-first_or_passes s true pass = grind (arith, nat_tests)
-first_or_passes zero false pass = grind (arith, nat_tests)
-first_or_passes (suc s) false pass = absurd (false≢true (pass (omega arith)))
-
--- and where they are the breaks, it is satisfied
-pub break_rows-met : (n : ℕ) (m : Counts) (values : ℕ → Bool) → Mirrors n m values → MirrorsBreaks n m values → all_satisfied values (break_rows n true) ≡ true
-break_rows-met n m values mirrors breaks =
-    break_rows-law n values
-    ∙ all_cells n (λ i s. not (nat_lt 0 s) || breaks_agree n values i s)
-    (λ i s team slot. first_or_passes s (breaks_agree n values i s) (λ later.
-    and_from _ _
-    (true-agree _ _ (breaks.home i s team later slot ∙ sym (home_break_value n m values i s mirrors team later slot)))
-    (true-agree _ _ (breaks.away i s team later slot ∙ sym (away_break_value n m values i s mirrors team later slot)))))

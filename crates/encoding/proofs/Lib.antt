@@ -15,5 +15,10 @@ pub mod FewLemmas
 pub mod MemberLemmas
 pub mod SizeLemmas
 pub mod ClassSizeLemmas
+pub mod SeasonSizes
 -- The numbers of variables, read back:
 pub mod Places
+-- The variables of the rows are those that a league has:
+pub mod KnownLemmas
+-- The rows of a league, group after group:
+pub mod EncodeLemmas

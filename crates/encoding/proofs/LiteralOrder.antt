@@ -86,17 +86,21 @@ home_base-le n i j before =
     omega (arith, mul-le-mul_right (slot_count n) next)
 
 -- team i away and team j at home, and the other way round
+pub lead_ascend : (n i j : ℕ) (slots : List ℕ) → i < j → AreSlots n slots → AscendsBy (λ l. l.var) (home_base n i) (away_in n i slots ++ at_home_in n j slots) (home_base n (j + 1))
+lead_ascend n i j slots before are =
+    AscendsBy-append var_of (home_base n i) (away_in n i slots) (home_base n (i + 1)) (at_home_in n j slots) (home_base n (j + 1)) (away_ascend n i slots are)
+    (AscendsBy-low var_of (home_base n (i + 1)) (home_base n j) (at_home_in n j slots) (home_base n (j + 1)) (home_base-le n i j before) (home_ascend n j slots are))
+
+pub lead_back_ascend : (n i j : ℕ) (slots : List ℕ) → i < j → AreSlots n slots → AscendsBy (λ l. l.var) (home_base n i) (at_home_in n i slots ++ away_in n j slots) (home_base n (j + 1))
+lead_back_ascend n i j slots before are =
+    AscendsBy-append var_of (home_base n i) (at_home_in n i slots) (home_base n (i + 1)) (away_in n j slots) (home_base n (j + 1)) (home_ascend n i slots are)
+    (AscendsBy-low var_of (home_base n (i + 1)) (home_base n j) (away_in n j slots) (home_base n (j + 1)) (home_base-le n i j before) (away_ascend n j slots are))
+
 pub lead_differ : (n i j : ℕ) (slots : List ℕ) → i < j → AreSlots n slots → AllPairs (λ l m. l.var ≢ m.var) (away_in n i slots ++ at_home_in n j slots)
-lead_differ n i j slots before are =
-    differ (home_base n i) (away_in n i slots ++ at_home_in n j slots) (home_base n (j + 1))
-    (AscendsBy-append var_of (home_base n i) (away_in n i slots) (home_base n (i + 1)) (at_home_in n j slots) (home_base n (j + 1)) (away_ascend n i slots are)
-    (AscendsBy-low var_of (home_base n (i + 1)) (home_base n j) (at_home_in n j slots) (home_base n (j + 1)) (home_base-le n i j before) (home_ascend n j slots are)))
+lead_differ n i j slots before are = differ (home_base n i) (away_in n i slots ++ at_home_in n j slots) (home_base n (j + 1)) (lead_ascend n i j slots before are)
 
 pub lead_back_differ : (n i j : ℕ) (slots : List ℕ) → i < j → AreSlots n slots → AllPairs (λ l m. l.var ≢ m.var) (at_home_in n i slots ++ away_in n j slots)
-lead_back_differ n i j slots before are =
-    differ (home_base n i) (at_home_in n i slots ++ away_in n j slots) (home_base n (j + 1))
-    (AscendsBy-append var_of (home_base n i) (at_home_in n i slots) (home_base n (i + 1)) (away_in n j slots) (home_base n (j + 1)) (home_ascend n i slots are)
-    (AscendsBy-low var_of (home_base n (i + 1)) (home_base n j) (away_in n j slots) (home_base n (j + 1)) (home_base-le n i j before) (away_ascend n j slots are)))
+lead_back_differ n i j slots before are = differ (home_base n i) (at_home_in n i slots ++ away_in n j slots) (home_base n (j + 1)) (lead_back_ascend n i j slots before are)
 
 -- ---- breaks
 

@@ -1,5 +1,6 @@
 -- The numbers of variables, read back: two games have two variables, and so have two teams or slots.
-use Rattle.std.proofs.Common.{◌≡◌, ◌≢◌, ℕ, ◌+◌, ◌-◌, ◌*◌, ◌/◌, ◌%◌, ◌<◌, ◌≤◌, Bool, ◌&&◌, ◌==◌, nat_lt, if◌then◌else◌, arith, ap, ◌∙◌, sym}
+use Rattle.std.proofs.Common.{◌≡◌, ◌≢◌, ℕ, ◌+◌, ◌-◌, ◌*◌, ◌/◌, ◌%◌, ◌<◌, ◌≤◌, Bool, ◌&&◌, ◌==◌, nat_lt, if◌then◌else◌}
+use Rattle.std.proofs.Common.{arith, ap, ◌∙◌, sym}
 use Rattle.std.proofs.lemmas.Bool.Decides.{nat_tests}
 use Rattle.std.proofs.lemmas.Nat.{mul-add-lt, same_from_place}
 use Rattle.league.specs.Counts.{slot_count}
@@ -46,7 +47,8 @@ two_factors n w i s row column = omega (arith, mul-add-lt i w s n row column)
 -- they are below their numbers
 pub x_place-below : (n i j s : ℕ) → i < n → j < n → i ≢ j → s < slot_count n → x_place n i j s < x_count n
 x_place-below n i j s home away differ slot =
-    three_factors n (n - 1) (slot_count n) (i * (n - 1) + place_beside i j) s (mul-add-lt i (n - 1) (place_beside i j) n home (place_beside-below n i j home away differ)) slot
+    three_factors n (n - 1) (slot_count n) (i * (n - 1) + place_beside i j) s
+    (mul-add-lt i (n - 1) (place_beside i j) n home (place_beside-below n i j home away differ)) slot
 
 pub h_place-below : (n i s : ℕ) → i < n → s < slot_count n → h_place n i s < h_count n
 h_place-below n i s team slot = two_factors n (slot_count n) i s team slot
@@ -55,15 +57,26 @@ pub b_place-below : (n i s : ℕ) → i < n → 0 < s → s < slot_count n → b
 b_place-below n i s team later slot = two_factors n (slot_count n - 1) i (s - 1) team (omega arith)
 
 -- two games with one place are one game
-pub same_game : (n i j s a b t : ℕ) → i < n → j < n → i ≢ j → s < slot_count n → a < n → b < n → a ≢ b → t < slot_count n →
+pub same_game : (n i j s a b t : ℕ) → i < n → j < n → i ≢ j → s < slot_count n → a < n → b < n → a ≢ b →
+    t < slot_count n →
     x_place n i j s ≡ x_place n a b t → (i ≡ a) × (j ≡ b) × (s ≡ t)
 same_game n i j s a b t home away differ slot home' away' differ' slot' same =
-    let outer = same_from_place (i * (n - 1) + place_beside i j) s (a * (n - 1) + place_beside a b) t (slot_count n) slot slot' same in
-    let inner = same_from_place i (place_beside i j) a (place_beside a b) (n - 1) (place_beside-below n i j home away differ) (place_beside-below n a b home' away' differ') outer.0 in
+    let outer = same_from_place (i * (n - 1) + place_beside i j) s (a * (n - 1) + place_beside a b) t (slot_count n)
+    slot slot' same in
+    let inner = same_from_place i (place_beside i j) a (place_beside a b) (n - 1)
+    (place_beside-below n i j home away differ) (place_beside-below n a b home' away' differ') outer.0 in
     let away_is : j ≡ b =
-        sym (team_at-place_beside i j differ) ∙ ap (λ (k : ℕ). team_at i k) inner.1 ∙ ap (λ (k : ℕ). team_at k (place_beside a b)) inner.0 ∙ team_at-place_beside a b differ' in
+    sym (team_at-place_beside i j differ) ∙ ap (λ (k : ℕ). team_at i k) inner.1 ∙ ap
+    (λ (k : ℕ). team_at k (place_beside a b)) inner.0 ∙ team_at-place_beside a b differ' in
     (inner.0, away_is, outer.1)
 
--- two teams in slots with one place are one
-pub same_venue : (n i s a t : ℕ) → s < slot_count n → t < slot_count n → h_place n i s ≡ h_place n a t → (i ≡ a) × (s ≡ t)
+-- two teams in slots with one place are one, and so are two breaks
+pub same_venue : (n i s a t : ℕ) → s < slot_count n → t < slot_count n → h_place n i s ≡ h_place n a t →
+    (i ≡ a) × (s ≡ t)
 same_venue n i s a t slot slot' same = same_from_place i s a t (slot_count n) slot slot' same
+
+pub same_break : (n i s a t : ℕ) → 0 < s → s < slot_count n → 0 < t → t < slot_count n →
+    b_place n i s ≡ b_place n a t → (i ≡ a) × (s ≡ t)
+same_break n i s a t later slot later' slot' same =
+    let both = same_from_place i (s - 1) a (t - 1) (slot_count n - 1) (omega arith) (omega arith) same in
+    (both.0, omega (arith, both.1))

@@ -1,5 +1,5 @@
 -- The rows that tie a venue to games are rows, and so are clauses whose variables ascend.
-use Rattle.std.proofs.Common.{◌≡◌, ◌≢◌, ℕ, ◌+◌, ◌-◌, ◌*◌, ◌<◌, ◌≤◌, List, [], ◌∷◌, ◌++◌, map, arith}
+use Rattle.std.proofs.Common.{◌≡◌, ◌≢◌, ℕ, ◌+◌, ◌-◌, ◌*◌, ◌<◌, ◌≤◌, List, [], ◌∷◌, ◌++◌, map, arith, ap, ◌∙◌}
 use Rattle.std.proofs.lemmas.List.Elements.{All-append, All-cons, All-map, All-nil}
 use Rattle.std.specs.List.{All, AllPairs}
 use Rattle.league.specs.Capacity.{meetings_with}
@@ -10,6 +10,7 @@ use Rattle.rows.specs.Literals.{Literal, negate, no, yes}
 use Rattle.rows.specs.Rows.{IsRow}
 use Rattle.rows.specs.declared.lit.Term.{Term}
 use Rattle.encoding.specs.Ascending.{AreMeetings, AreSlots, AscendsBy}
+use Rattle.encoding.specs.Lists.{games_in}
 use Rattle.encoding.specs.Season.{game_needs_home, home_games_in}
 use Rattle.encoding.specs.Variables.{h_var, x_count}
 use Rattle.encoding.proofs.AscendLemmas.{AllPairs-ascending, AscendsBy-append, AscendsBy-map}
@@ -63,3 +64,25 @@ two_differ a b first = differ 0 (a ∷ b ∷ []) (b.var + 1) (omega arith, (omeg
 
 pub three_differ : (a b c : Literal) → a.var < b.var → b.var < c.var → AllPairs (λ l m. l.var ≢ m.var) (a ∷ b ∷ c ∷ [])
 three_differ a b c first second = differ 0 (a ∷ b ∷ c ∷ []) (c.var + 1) (omega arith, (omega (arith, first), (omega (arith, second), omega arith)))
+
+-- what is listed for the two rows
+module _ (n m i s v : ℕ) (meetings : List (ℕ × ℕ)) (games : List Literal) (home : Literal) (same : m ≡ n) (are : meetings ≡ meetings_with H i (teams_of n)) (listed : games ≡ games_in m meetings (s ∷ [])) (var : v ≡ h_var m i s) (is : home ≡ yes v) where
+  games_listed : games ≡ home_games_in n i s
+  games_listed = listed ∙ ap (λ (k : ℕ). games_in k meetings (s ∷ [])) same ∙ ap (λ (ms : List (ℕ × ℕ)). games_in n ms (s ∷ [])) are
+
+  var_is : v ≡ h_var n i s
+  var_is = var ∙ ap (λ (k : ℕ). h_var k i s) same
+
+  pub tie_literals : (made : List Literal) (last : Literal) → last ≡ negate home → made ≡ games ++ last ∷ [] → made ≡ home_games_in n i s ++ no (h_var n i s) ∷ []
+  tie_literals made last negated whole =
+      whole
+      ∙ ap (λ (gs : List Literal). gs ++ last ∷ []) games_listed
+      ∙ ap (λ (l : Literal). home_games_in n i s ++ l ∷ []) (negated ∙ ap negate is ∙ ap no var_is)
+
+  pub tie_terms : (read : List Literal) (made : List Term) (coef : ℕ) → read ≡ games → coef ≡ m - 1 → made ≡ map unit (map negate read) ++ record { coef = coef; lit = home } ∷ [] → made ≡ (game_needs_home n i s).terms
+  tie_terms read made coef seen weight whole =
+      let term : ℕ → Literal → Term = λ c l. record { coef = c; lit = l } in
+      whole
+      ∙ ap (λ (gs : List Literal). map unit (map negate gs) ++ term coef home ∷ []) (seen ∙ games_listed)
+      ∙ ap (λ (c : ℕ). map unit (map negate (home_games_in n i s)) ++ term c home ∷ []) (weight ∙ ap (λ (k : ℕ). k - 1) same)
+      ∙ ap (λ (l : Literal). map unit (map negate (home_games_in n i s)) ++ term (n - 1) l ∷ []) (is ∙ ap yes var_is)

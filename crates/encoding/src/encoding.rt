@@ -3,10 +3,11 @@ ghost use Rattle.std.specs.Prelude.{◌≡◌, ◌≢◌, ◌<◌, ◌≤◌, �
 ghost use Rattle.league.specs.Counts as counts;
 ghost use Rattle.league.specs.Instance.{IsInstance};
 ghost use Rattle.encoding.specs.Encoding.{rows_of};
+ghost use Rattle.encoding.specs.Known.{AreKnown};
 ghost use Rattle.encoding.specs.Variables.{ab_var, h_var, has_breaks, hb_var, var_count, x_var};
 
 use crate::variables::{ab_at, h_at, hb_at, x_at, x_count};
-use league::{League, SlotId, TeamId};
+use league::{League, SlotId, TeamId, slot_count};
 use rows::RowStore;
 use std::marker::Model;
 
@@ -47,9 +48,10 @@ impl Encoding {
 
     /// The number of slots of the season: 2(n - 1).
     pub fn slots(&self) -> u16
-        ensures { result ≡ counts.slot_count self.now.n }
+        ensures slots { result ≡ counts.slot_count self.now.n }
+        ensures instance { IsInstance self.now }
     {
-        self.league.slots()
+        slot_count(self.league.n())
     }
 
     /// Whether breaks have variables: some hard constraint bounds them.
@@ -63,6 +65,10 @@ impl Encoding {
     pub fn vars(&self) -> u32
         ensures vars { result ≡ var_count self.now }
         ensures at_most { result ≤ 134160 }
+        ensures instance { IsInstance self.now }
+
+        // The rows speak of no other variables.
+        ensures known { AreKnown (var_count self.now) (rows_of self.now) }
     {
         let n = self.league.n();
         let slots = u32::from(self.league.slots());

@@ -8,9 +8,12 @@
 mod break_rows;
 mod demands;
 mod draft;
+mod encoder;
 mod encoding;
+mod encoding_size;
 mod literals;
 mod meetings;
+mod room;
 mod season;
 mod season_rows;
 mod sets;
@@ -18,4 +21,8 @@ mod sizes;
 mod variables;
 mod venue_rows;
 
+pub use encoder::{EncodeFault, encode};
 pub use encoding::Encoding;
+
+#[cfg(test)]
+mod tests;
