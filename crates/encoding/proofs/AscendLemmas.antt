@@ -74,9 +74,9 @@ module _ {X : Type 0} (key : X → ℕ) where
   AscendsBy-shift base low [] high ascends = omega (arith, ascends)
   AscendsBy-shift base low (x ∷ xs) high ascends =
       (omega (arith, ascends.0), AscendsBy-low' (base + key x + 1) (base + (key x + 1)) xs (base + high) (omega arith) (AscendsBy-shift base (key x + 1) xs high ascends.1)) where
-    AscendsBy-low' : (lower low : ℕ) (xs : List X) (high : ℕ) → lower ≤ low → AscendsBy (λ x. base + key x) low xs high → AscendsBy (λ x. base + key x) lower xs high
-    AscendsBy-low' lower low [] high below ascends = omega (arith, ascends)
-    AscendsBy-low' lower low (x ∷ xs) high below ascends = (omega (arith, ascends.0), ascends.1)
+        AscendsBy-low' : (lower low : ℕ) (xs : List X) (high : ℕ) → lower ≤ low → AscendsBy (λ x. base + key x) low xs high → AscendsBy (λ x. base + key x) lower xs high
+        AscendsBy-low' lower low [] high below ascends = omega (arith, ascends)
+        AscendsBy-low' lower low (x ∷ xs) high below ascends = (omega (arith, ascends.0), ascends.1)
 
 -- keys that are the same ascend alike
 pub AscendsBy-same : {X : Type 0} (f g : X → ℕ) → ((x : X) → f x ≡ g x) → (low : ℕ) (xs : List X) (high : ℕ) → AscendsBy f low xs high → AscendsBy g low xs high
@@ -89,11 +89,10 @@ pub AscendsBy-blocks : {X : Type 0} (key off : X → ℕ) (base size low : ℕ) 
 AscendsBy-blocks key off base size low [] high within ascends = omega (arith, mul-le-mul_right size ascends)
 AscendsBy-blocks {X} key off base size low (x ∷ xs) high within ascends =
     let spread : X → ℕ = λ x. base + key x * size + off x in
-    let here : off x < size = All-head (λ x. off x < size) x xs within in
-    (
+    let here : off x < size = All-head (λ x. off x < size) x xs within in (
       omega (arith, mul-le-mul_right size ascends.0),
       AscendsBy-low spread (base + key x * size + off x + 1) (base + (key x + 1) * size) xs (base + high * size) (omega (arith, here))
-      (AscendsBy-blocks key off base size (key x + 1) xs high (All-tail (λ x. off x < size) x xs within) ascends.1),
+          (AscendsBy-blocks key off base size (key x + 1) xs high (All-tail (λ x. off x < size) x xs within) ascends.1),
     )
 
 -- lists of which each is in a block of its own
@@ -143,12 +142,11 @@ pub AscendsBy-from_ascending : {X : Type 0} (cmp : X → X → Ordering) (key : 
 AscendsBy-from_ascending cmp key P rises low [] high order ascending all above below = order
 AscendsBy-from_ascending cmp key P rises low (x ∷ xs) high order ascending all above below =
     let here : P x = All-head P x xs all in
-    let last : key x < high = All-head (λ x. key x < high) x xs below in
-    (
+    let last : key x < high = All-head (λ x. key x < high) x xs below in (
       All-head (λ x. low ≤ key x) x xs above,
       AscendsBy-from_ascending cmp key P rises (key x + 1) xs high (omega (arith, last))
-      (λ i j d before within. ascending (suc i) (suc j) d (omega arith) (omega arith))
-      (All-tail P x xs all)
-      (λ k d within. omega (arith, rises x (get_or xs k d) here (All-tail P x xs all k d within) (ascending 0 (suc k) d (omega arith) (omega arith))))
-      (All-tail (λ x. key x < high) x xs below),
+          (λ i j d before within. ascending (suc i) (suc j) d (omega arith) (omega arith))
+          (All-tail P x xs all)
+          (λ k d within. omega (arith, rises x (get_or xs k d) here (All-tail P x xs all k d within) (ascending 0 (suc k) d (omega arith) (omega arith))))
+          (All-tail (λ x. key x < high) x xs below),
     )

@@ -104,21 +104,21 @@ module _ (vars : ℕ) where
     cells f known =
         All-flat_map (IsKnown vars) (λ i. flat_map (f i) (slots_of n)) (teams_of n)
         (λ k d within. All-flat_map (IsKnown vars) (f (get_or (teams_of n) k d)) (slots_of n)
-          (λ l e inside. known (get_or (teams_of n) k d) (get_or (slots_of n) l e) (team_below k d within) (slot_below l e inside)))
+        (λ l e inside. known (get_or (teams_of n) k d) (get_or (slots_of n) l e) (team_below k d within) (slot_below l e inside)))
 
     meeting_rows-known : AreKnown vars (meeting_rows n)
     meeting_rows-known =
         let f : ℕ × ℕ → List Row = λ p. exactly 1 (games_in n (p ∷ []) (slots_of n)) in
         All-flat_map (IsKnown vars) f (meetings_of n)
         (λ k d within.
-          let p : ℕ × ℕ = get_or (meetings_of n) k d in
-          let all = AreMeetings-all n in
-          both 1 1 (games_in n (p ∷ []) (slots_of n)) (games (p ∷ []) (slots_of n) (AreMeetings-one n p (all.fit k d within)) (AreSlots-all n)))
+        let p : ℕ × ℕ = get_or (meetings_of n) k d in
+        let all = AreMeetings-all n in
+        both 1 1 (games_in n (p ∷ []) (slots_of n)) (games (p ∷ []) (slots_of n) (AreMeetings-one n p (all.fit k d within)) (AreSlots-all n)))
 
     cell_rows-known : AreKnown vars (cell_rows n)
     cell_rows-known = cells (cell_rows_at n) (λ i s team slot.
-      let meetings : List (ℕ × ℕ) = meetings_in_order Both i (teams_of n) in
-      both 1 1 (games_in n meetings (s ∷ [])) (games meetings (s ∷ []) (AreMeetings-in_order n Both i (teams_of n) team (AreTeams-all n)) (AreSlots-one n s slot)))
+        let meetings : List (ℕ × ℕ) = meetings_in_order Both i (teams_of n) in
+        both 1 1 (games_in n meetings (s ∷ [])) (games meetings (s ∷ []) (AreMeetings-in_order n Both i (teams_of n) team (AreTeams-all n)) (AreSlots-one n s slot)))
 
     half_rows-known : (phased : Bool) → AreKnown vars (half_rows n phased)
     half_rows-known false = All-nil (IsKnown vars)
@@ -126,33 +126,33 @@ module _ (vars : ℕ) where
         let f : ℕ × ℕ → List Row = λ p. exactly 1 (games_in n (p ∷ (p.1, p.0) ∷ []) (first_half n)) in
         All-flat_map (IsKnown vars) f (pairs_of (teams_of n))
         (λ k d within.
-          let p : ℕ × ℕ = get_or (pairs_of (teams_of n)) k d in
-          let order = pairs_of-in_order n 0 (teams_of n) (AreTeams-all n) k d within in
-          both 1 1 (games_in n (p ∷ (p.1, p.0) ∷ []) (first_half n))
-          (games (p ∷ (p.1, p.0) ∷ []) (first_half n) (AreMeetings-both n p.0 p.1 order.0 order.1) (AscendsBy-range 0 (n - 1) (slot_count n) (omega arith))))
+        let p : ℕ × ℕ = get_or (pairs_of (teams_of n)) k d in
+        let order = pairs_of-in_order n 0 (teams_of n) (AreTeams-all n) k d within in
+        both 1 1 (games_in n (p ∷ (p.1, p.0) ∷ []) (first_half n))
+        (games (p ∷ (p.1, p.0) ∷ []) (first_half n) (AreMeetings-both n p.0 p.1 order.0 order.1) (AscendsBy-range 0 (n - 1) (slot_count n) (omega arith))))
 
     venue_rows-known : AreKnown vars (venue_rows n)
     venue_rows-known = cells (λ i s. home_needs_game n i s ∷ game_needs_home n i s ∷ []) (λ i s team slot.
-      let terms : List Term = (game_needs_home n i s).terms in
-      let ascends : AscendsBy (λ t. t.lit.var) 1 terms (h_var n i s + 1) = game_tie_ascend n i s team slot in
-      two (home_needs_game n i s) (game_needs_home n i s)
-      (least 1 (home_games_in n i s ++ no (h_var n i s) ∷ []) (among vars 1 (home_games_in n i s ++ no (h_var n i s) ∷ []) (h_var n i s + 1) (omega arith) (omega (arith, h-known i s team slot)) (home_tie_ascend n i s team slot)))
-      (λ k d within. (AscendsBy-above term_var 1 terms (h_var n i s + 1) ascends k d within, omega (arith, AscendsBy-below term_var 1 terms (h_var n i s + 1) ascends k d within, h-known i s team slot))))
+        let terms : List Term = (game_needs_home n i s).terms in
+        let ascends : AscendsBy (λ t. t.lit.var) 1 terms (h_var n i s + 1) = game_tie_ascend n i s team slot in
+        two (home_needs_game n i s) (game_needs_home n i s)
+        (least 1 (home_games_in n i s ++ no (h_var n i s) ∷ []) (among vars 1 (home_games_in n i s ++ no (h_var n i s) ∷ []) (h_var n i s + 1) (omega arith) (omega (arith, h-known i s team slot)) (home_tie_ascend n i s team slot)))
+        (λ k d within. (AscendsBy-above term_var 1 terms (h_var n i s + 1) ascends k d within, omega (arith, AscendsBy-below term_var 1 terms (h_var n i s + 1) ascends k d within, h-known i s team slot))))
 
     slot_rows-known : AreKnown vars (slot_rows n)
     slot_rows-known =
         let literals : ℕ → List Literal = λ s. map (λ i. yes (h_var n i s)) (teams_of n) in
         All-flat_map (IsKnown vars) (λ s. exactly (n / 2) (literals s)) (slots_of n)
         (λ k d within.
-          let s : ℕ = get_or (slots_of n) k d in
-          both (n / 2) (n / 2) (literals s) (among vars (home_base n 0) (literals s) (home_base n n) (omega arith) (omega (arith, wide)) (teams_ascend n s (teams_of n) (slot_below k d within) (AreTeams-all n))))
+        let s : ℕ = get_or (slots_of n) k d in
+        both (n / 2) (n / 2) (literals s) (among vars (home_base n 0) (literals s) (home_base n n) (omega arith) (omega (arith, wide)) (teams_ascend n s (teams_of n) (slot_below k d within) (AreTeams-all n))))
 
     team_rows-known : AreKnown vars (team_rows n)
     team_rows-known =
         All-flat_map (IsKnown vars) (λ i. exactly (n - 1) (at_home_in n i (slots_of n))) (teams_of n)
         (λ k d within.
-          let i : ℕ = get_or (teams_of n) k d in
-          both (n - 1) (n - 1) (at_home_in n i (slots_of n)) (home i (slots_of n) (team_below k d within) (AreSlots-all n)))
+        let i : ℕ = get_or (teams_of n) k d in
+        both (n - 1) (n - 1) (at_home_in n i (slots_of n)) (home i (slots_of n) (team_below k d within) (AreSlots-all n)))
 
     pub season_rows-known : (phased : Bool) → AreKnown vars (season_rows n phased)
     season_rows-known phased =
@@ -202,9 +202,9 @@ module _ (vars : ℕ) where
           let slots : List ℕ = after_first (slots_of n) in
           All-flat_map (IsKnown vars) (λ i. flat_map (break_rows_at n i) slots) (teams_of n)
           (λ k d within. All-flat_map (IsKnown vars) (break_rows_at n (get_or (teams_of n) k d)) slots
-            (λ l e inside. break_rows_at-known (get_or (teams_of n) k d) (get_or slots l e) (team_below k d within)
-              (ltb-true 0 (get_or slots l e) (filter_passes (λ s. nat_lt 0 s) (slots_of n) l e inside))
-              (All-filter (λ s. nat_lt 0 s) (λ s. s < slot_count n) (slots_of n) (AscendsBy-below (λ s. s) 0 (slots_of n) (slot_count n) (AreSlots-all n)) l e inside)))
+          (λ l e inside. break_rows_at-known (get_or (teams_of n) k d) (get_or slots l e) (team_below k d within)
+          (ltb-true 0 (get_or slots l e) (filter_passes (λ s. nat_lt 0 s) (slots_of n) l e inside))
+          (All-filter (λ s. nat_lt 0 s) (λ s. s < slot_count n) (slots_of n) (AscendsBy-below (λ s. s) 0 (slots_of n) (slot_count n) (AreSlots-all n)) l e inside)))
 
       breaks_among : (side : Side) (i : ℕ) (slots : List ℕ) → i < n → AreSlots n slots → AreAmong vars (breaks_in side n i slots)
       breaks_among side i slots within are =
@@ -239,9 +239,9 @@ module _ (vars : ℕ) where
         let firsts : List ℕ = range_with_len 0 (slot_count n + 1 - intp) in
         All-map (AreSlots n) (λ first. range_with_len first intp) firsts
         (λ k d within.
-          let first : ℕ = get_or firsts k d in
-          let small : first < slot_count n + 1 - intp = AscendsBy-below (λ s. s) 0 firsts (slot_count n + 1 - intp) (AscendsBy-range 0 (slot_count n + 1 - intp) (slot_count n + 1 - intp) (omega arith)) k d within in
-          AscendsBy-low (λ s. s) 0 first (range_with_len first intp) (slot_count n) (omega arith) (AscendsBy-range first intp (slot_count n) (omega (arith, small))))
+        let first : ℕ = get_or firsts k d in
+        let small : first < slot_count n + 1 - intp = AscendsBy-below (λ s. s) 0 firsts (slot_count n + 1 - intp) (AscendsBy-range 0 (slot_count n + 1 - intp) (slot_count n + 1 - intp) (omega arith)) k d within in
+        AscendsBy-low (λ s. s) 0 first (range_with_len first intp) (slot_count n) (omega arith) (AscendsBy-range first intp (slot_count n) (omega (arith, small))))
 
     spans_fit : (span : Span) (slots : List ℕ) → AreSlots n slots → All (AreSlots n) (spans span slots)
     spans_fit Global slots are = All-cons (AreSlots n) slots [] are (All-nil (AreSlots n))
@@ -282,9 +282,9 @@ module _ (vars : ℕ) where
         let us = AreTeams-from_test n teams2 (second_true (are_teams n teams1) (are_teams n teams2) sets) in
         each_key (ca3_rows n teams2 min max intp side) teams1
         (λ k d within.
-          let i : ℕ = get_or teams1 k d in
-          All-flat_map (IsKnown vars) (λ window. ca2_rows n teams2 min max side window i) (windows_of n intp)
-          (λ l e inside. against teams2 min max side (get_or (windows_of n intp) l e) i us (windows_fit intp l e inside) (team_in teams1 k d ts within)))
+        let i : ℕ = get_or teams1 k d in
+        All-flat_map (IsKnown vars) (λ window. ca2_rows n teams2 min max side window i) (windows_of n intp)
+        (λ l e inside. against teams2 min max side (get_or (windows_of n intp) l e) i us (windows_fit intp l e inside) (team_in teams1 k d ts within)))
     class_rows-known (Ca4 teams1 teams2 min max side span slots) fits breaks =
         let ss = AreSlots-from_test n slots (second_true (are_teams n teams1 && are_teams n teams2) (are_slots n slots) fits) in
         let meetings : List (ℕ × ℕ) = filter (is_between side teams1 teams2) (meetings_of n) in
@@ -300,8 +300,8 @@ module _ (vars : ℕ) where
         let ss = AreSlots-from_test n slots (second_true (are_teams n teams) (are_slots n slots) fits) in
         each_key (br1_rows n intp side slots) teams
         (λ k d within.
-          let i : ℕ = get_or teams k d in
-          one (at_most intp (breaks_in side n i slots)) (most intp (breaks_in side n i slots) (breaks_among (breaks refl) side i slots (team_in teams k d ts within) ss)))
+        let i : ℕ = get_or teams k d in
+        one (at_most intp (breaks_in side n i slots)) (most intp (breaks_in side n i slots) (breaks_among (breaks refl) side i slots (team_in teams k d ts within) ss)))
     class_rows-known (Br2 teams intp slots) fits breaks =
         let ts = AreTeams-from_test n teams (first_true (are_teams n teams) (are_slots n slots) fits) in
         let ss = AreSlots-from_test n slots (second_true (are_teams n teams) (are_slots n slots) fits) in
@@ -313,19 +313,19 @@ module _ (vars : ℕ) where
         let ss = AreSlots-from_test n slots (second_true (are_teams n teams) (are_slots n slots) fits) in
         each_key (fa2_rows n intp slots) (pairs_of teams)
         (λ k d within.
-          let p : ℕ × ℕ = get_or (pairs_of teams) k d in
-          let order = pairs_of-in_order n 0 teams ts k d within in
-          All-flat_map (IsKnown vars) (fa2_rows_at n intp p) slots
-          (λ l e inside. lead_rows intp (get_or slots l e) p order.0 order.1 (AscendsBy-below (λ s. s) 0 slots (slot_count n) ss l e inside)))
+        let p : ℕ × ℕ = get_or (pairs_of teams) k d in
+        let order = pairs_of-in_order n 0 teams ts k d within in
+        All-flat_map (IsKnown vars) (fa2_rows_at n intp p) slots
+        (λ l e inside. lead_rows intp (get_or slots l e) p order.0 order.1 (AscendsBy-below (λ s. s) 0 slots (slot_count n) ss l e inside)))
     class_rows-known (Se1 teams min) fits breaks =
         let ts = AreTeams-from_test n teams fits in
         each_key (se1_rows n min) (pairs_of teams)
         (λ k d within.
-          let p : ℕ × ℕ = get_or (pairs_of teams) k d in
-          let order = pairs_of-in_order n 0 teams ts k d within in
-          let row : List ℕ → Row = λ window. at_most 1 (games_in n (meetings_with Both p.0 (p.1 ∷ [])) window) in
-          All-map (IsKnown vars) row (separation_windows n min)
-          (λ l e inside. mutual_row p (get_or (separation_windows n min) l e) order.0 order.1 (windows_fit (smaller (min + 1) (slot_count n)) l e inside)))
+        let p : ℕ × ℕ = get_or (pairs_of teams) k d in
+        let order = pairs_of-in_order n 0 teams ts k d within in
+        let row : List ℕ → Row = λ window. at_most 1 (games_in n (meetings_with Both p.0 (p.1 ∷ [])) window) in
+        All-map (IsKnown vars) row (separation_windows n min)
+        (λ l e inside. mutual_row p (get_or (separation_windows n min) l e) order.0 order.1 (windows_fit (smaller (min + 1) (slot_count n)) l e inside)))
 
 -- ---- the hard constraints
 
@@ -336,6 +336,7 @@ none_passes p (x ∷ xs) none = All-cons (λ x. p x ≡ false) x xs (first_fails
   first_fails : (a b : Bool) → (a || b) ≡ false → a ≡ false
   first_fails true b h = absurd (cc)
   first_fails false b h = refl
+
   rest_fails : (a b : Bool) → (a || b) ≡ false → b ≡ false
   rest_fails true b h = absurd (cc)
   rest_fails false b h = h
@@ -349,16 +350,16 @@ pub constraint_rows-known : (vars n : ℕ) (constraints : List Constraint) → x
 constraint_rows-known vars n constraints wide fit breaks =
     All-flat_map (IsKnown vars) (λ c. class_rows n c.class) (hard_of constraints)
     (λ k d within.
-      let c : Constraint = get_or (hard_of constraints) k d in
-      class_rows-known vars n wide c.class (All-filter (λ c. c.hard) (λ c. class_fits n c.class ≡ true) constraints fit k d within)
-      (λ bounds. by (has_breaks constraints) refl k d within bounds)) where
-  by : (b : Bool) → has_breaks constraints ≡ b → (k : ℕ) (d : Constraint) → k < length (hard_of constraints) → bounds_breaks (get_or (hard_of constraints) k d).class ≡ true → x_count n + h_count n + 2 * hb_count n ≤ vars
-  by true some k d within bounds = breaks some
-  by false none k d within bounds =
-      let c : Constraint = get_or (hard_of constraints) k d in
-      absurd (soft_or_other c.hard (bounds_breaks c.class)
-        (All-filter (λ c. c.hard) (λ c. (c.hard && bounds_breaks c.class) ≡ false) constraints (none_passes (λ c. c.hard && bounds_breaks c.class) constraints none) k d within)
-        (filter_passes (λ c. c.hard) constraints k d within) bounds)
+    let c : Constraint = get_or (hard_of constraints) k d in
+    class_rows-known vars n wide c.class (All-filter (λ c. c.hard) (λ c. class_fits n c.class ≡ true) constraints fit k d within)
+    (λ bounds. by (has_breaks constraints) refl k d within bounds)) where
+      by : (b : Bool) → has_breaks constraints ≡ b → (k : ℕ) (d : Constraint) → k < length (hard_of constraints) → bounds_breaks (get_or (hard_of constraints) k d).class ≡ true → x_count n + h_count n + 2 * hb_count n ≤ vars
+      by true some k d within bounds = breaks some
+      by false none k d within bounds =
+          let c : Constraint = get_or (hard_of constraints) k d in
+          absurd (soft_or_other c.hard (bounds_breaks c.class)
+          (All-filter (λ c. c.hard) (λ c. (c.hard && bounds_breaks c.class) ≡ false) constraints (none_passes (λ c. c.hard && bounds_breaks c.class) constraints none) k d within)
+          (filter_passes (λ c. c.hard) constraints k d within) bounds)
 
 -- ---- all rows of a league
 
@@ -372,7 +373,7 @@ rows_of-known league is =
     let vars : ℕ = var_count league in
     let wide : x_count n + h_count n ≤ vars = omega arith in
     let some : has_breaks league.constraints ≡ true → x_count n + h_count n + 2 * hb_count n ≤ vars = λ breaks.
-      omega (arith, ap (λ (b : Bool). cond b (2 * hb_count n) 0) breaks) in
+    omega (arith, ap (λ (b : Bool). cond b (2 * hb_count n) 0) breaks) in
     All-append (IsKnown vars) (season_rows n league.phased ++ break_rows n (has_breaks league.constraints)) (constraint_rows n league.constraints)
     (All-append (IsKnown vars) (season_rows n league.phased) (break_rows n (has_breaks league.constraints))
     (season_rows-known vars n wide league.phased)

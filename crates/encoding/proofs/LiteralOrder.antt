@@ -171,9 +171,9 @@ all_breaks_ascend n teams slots are_teams are_slots =
     (AscendsBy-high var_of (base + 0 * (slot_count n - 1)) (flat_map away teams) (base + n * (slot_count n - 1)) (away_break_base n n) (omega arith)
     (AscendsBy-flat_map (λ i. i) var_of away base (slot_count n - 1) 0 teams n
     (λ k d within.
-      let i : ℕ = get_or teams k d in
-      AscendsBy-high var_of (base + i * (slot_count n - 1)) (away i) (away_break_base n (i + 1)) (base + (i + 1) * (slot_count n - 1)) (omega arith)
-      (AscendsBy-low var_of (base + i * (slot_count n - 1)) (away_break_base n i) (away i) (away_break_base n (i + 1)) (omega arith) (away_breaks_ascend n i slots are_slots)))
+    let i : ℕ = get_or teams k d in
+    AscendsBy-high var_of (base + i * (slot_count n - 1)) (away i) (away_break_base n (i + 1)) (base + (i + 1) * (slot_count n - 1)) (omega arith)
+    (AscendsBy-low var_of (base + i * (slot_count n - 1)) (away_break_base n i) (away i) (away_break_base n (i + 1)) (omega arith) (away_breaks_ascend n i slots are_slots)))
     are_teams)))
 
 pub breaks_differ : (n : ℕ) (side : Side) (i : ℕ) (slots : List ℕ) → i < n → AreSlots n slots → AllPairs (λ l m. l.var ≢ m.var) (breaks_in side n i slots)

@@ -145,9 +145,10 @@ beside_ascends n i from low (j ∷ teams) within early late ascends =
     ]
 
 others_all : (n i : ℕ) (teams : List ℕ) → AreTeams n teams → All (λ j. (j < n) × (j ≢ i)) (others i teams)
-others_all n i teams are = λ k d within.
-    (All-filter (λ j. not (j == i)) (λ j. j < n) teams (AscendsBy-below (λ t. t) 0 teams n are) k d within,
-    other_team (get_or (others i teams) k d) i (filter_passes (λ j. not (j == i)) teams k d within))
+others_all n i teams are = λ k d within. (
+  All-filter (λ j. not (j == i)) (λ j. j < n) teams (AscendsBy-below (λ t. t) 0 teams n are) k d within,
+  other_team (get_or (others i teams) k d) i (filter_passes (λ j. not (j == i)) teams k d within),
+)
 
 -- at home
 home_ascends : (n i : ℕ) (teams : List ℕ) → i < n → AreTeams n teams → AscendsBy (place_of n) (i * (n - 1)) (meetings_with H i teams) ((i + 1) * (n - 1))
@@ -163,8 +164,8 @@ home_fits : (n i : ℕ) (teams : List ℕ) → i < n → AreTeams n teams → Al
 home_fits n i teams within are =
     let at_home : ℕ → ℕ × ℕ = λ j. (i, j) in
     All-map (IsMeeting n) at_home (others i teams) (λ k d inside.
-      let other = others_all n i teams are k d inside in
-      record { home = within; away = other.0; differ = λ same. other.1 (sym same) })
+    let other = others_all n i teams are k d inside in
+    record { home = within; away = other.0; differ = λ same. other.1 (sym same) })
 
 -- away, with any of the other teams that ascend
 away_ascends : (n i low : ℕ) (teams : List ℕ) (high : ℕ) → i < n → All (λ j. (j < n) × (j ≢ i)) teams → AscendsBy (λ t. t) low teams high → AscendsBy (place_of n) (low * (n - 1)) (map (λ j. (j, i)) teams) (high * (n - 1))
@@ -255,9 +256,9 @@ AreMeetings-all n =
           (AscendsBy-low (place_of n) 0 (0 + 0 * (n - 1)) (meetings_of n) (0 + n * (n - 1)) (omega arith)
           (AscendsBy-flat_map (λ t. t) (place_of n) of_team 0 (n - 1) 0 (teams_of n) n
           (λ k d within.
-            let i : ℕ = get_or (teams_of n) k d in
-            AscendsBy-high (place_of n) (0 + i * (n - 1)) (of_team i) ((i + 1) * (n - 1)) (0 + (i + 1) * (n - 1)) (omega arith)
-            (AscendsBy-low (place_of n) (0 + i * (n - 1)) (i * (n - 1)) (of_team i) ((i + 1) * (n - 1)) (omega arith) (home_ascends n i (teams_of n) (below k d within) teams)))
+          let i : ℕ = get_or (teams_of n) k d in
+          AscendsBy-high (place_of n) (0 + i * (n - 1)) (of_team i) ((i + 1) * (n - 1)) (0 + (i + 1) * (n - 1)) (omega arith)
+          (AscendsBy-low (place_of n) (0 + i * (n - 1)) (i * (n - 1)) (of_team i) ((i + 1) * (n - 1)) (omega arith) (home_ascends n i (teams_of n) (below k d within) teams)))
           teams));
     }
 

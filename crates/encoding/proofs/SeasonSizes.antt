@@ -75,9 +75,9 @@ length-meetings_of n =
     length-flat_map of_team (teams_of n)
     ∙ sum_by-same_at (λ i. length (of_team i)) (λ i. n - 1) (teams_of n)
     (λ k d within.
-      let i : ℕ = get_or (teams_of n) k d in
-      let pair : ℕ → ℕ × ℕ = λ j. (i, j) in
-      length-map (others i (teams_of n)) pair ∙ length-others n i (AscendsBy-below (λ t. t) 0 (teams_of n) n (AreTeams-all n) k d within))
+    let i : ℕ = get_or (teams_of n) k d in
+    let pair : ℕ → ℕ × ℕ = λ j. (i, j) in
+    length-map (others i (teams_of n)) pair ∙ length-others n i (AscendsBy-below (λ t. t) 0 (teams_of n) n (AreTeams-all n) k d within))
     ∙ sum_by-constant (n - 1) (teams_of n)
     ∙ ap (λ (k : ℕ). k * (n - 1)) (length-teams n)
 
@@ -106,22 +106,22 @@ meeting_terms n =
 cell_terms : (n : ℕ) → size_of (cell_rows n) ≡ n * (slot_count n * (4 * (n - 1)))
 cell_terms n =
     let each : (i s : ℕ) → i < n → size_of (cell_rows_at n i s) ≡ 4 * (n - 1) = λ i s within.
-      let meetings : List (ℕ × ℕ) = meetings_in_order Both i (teams_of n) in
-      omega (arith, size_of-exactly 1 (games_in n meetings (s ∷ [])), length-games_in n meetings (s ∷ []), length-meetings Both i (teams_of n), length-others n i within) in
+    let meetings : List (ℕ × ℕ) = meetings_in_order Both i (teams_of n) in
+    omega (arith, size_of-exactly 1 (games_in n meetings (s ∷ [])), length-games_in n meetings (s ∷ []), length-meetings Both i (teams_of n), length-others n i within) in
     let of_team : ℕ → List Row = λ i. flat_map (cell_rows_at n i) (slots_of n) in
     size_of-each of_team (slot_count n * (4 * (n - 1))) (teams_of n)
     (λ k d within.
-      let i : ℕ = get_or (teams_of n) k d in
-      size_of-each (cell_rows_at n i) (4 * (n - 1)) (slots_of n) (λ l e inside. each i (get_or (slots_of n) l e) (below n k d within))
-      ∙ ap (λ (m : ℕ). m * (4 * (n - 1))) (length-slots n))
+    let i : ℕ = get_or (teams_of n) k d in
+    size_of-each (cell_rows_at n i) (4 * (n - 1)) (slots_of n) (λ l e inside. each i (get_or (slots_of n) l e) (below n k d within))
+    ∙ ap (λ (m : ℕ). m * (4 * (n - 1))) (length-slots n))
     ∙ ap (λ (k : ℕ). k * (slot_count n * (4 * (n - 1)))) (length-teams n)
 
 pub half_terms : (n : ℕ) → size_of (half_rows n true) ≡ n * (n - 1) / 2 * (4 * (n - 1))
 half_terms n =
     let rows : ℕ × ℕ → List Row = λ p. exactly 1 (games_in n (p ∷ (p.1, p.0) ∷ []) (first_half n)) in
     let each : (p : ℕ × ℕ) → size_of (rows p) ≡ 4 * (n - 1) = λ p.
-      let both : List (ℕ × ℕ) = p ∷ (p.1, p.0) ∷ [] in
-      omega (arith, size_of-exactly 1 (games_in n both (first_half n)), length-games_in n both (first_half n), length-range_with_len 0 (n - 1)) in
+    let both : List (ℕ × ℕ) = p ∷ (p.1, p.0) ∷ [] in
+    omega (arith, size_of-exactly 1 (games_in n both (first_half n)), length-games_in n both (first_half n), length-range_with_len 0 (n - 1)) in
     size_of-each rows (4 * (n - 1)) (pairs_of (teams_of n)) (λ k d within. each (get_or (pairs_of (teams_of n)) k d))
     ∙ ap (λ (k : ℕ). k * (4 * (n - 1))) (sym (length-pairs_of (teams_of n)) ∙ ap (λ (k : ℕ). k * (k - 1) / 2) (length-teams n))
 
@@ -129,31 +129,38 @@ venue_terms : (n : ℕ) → size_of (venue_rows n) ≡ n * (slot_count n * (2 * 
 venue_terms n =
     let rows : ℕ → ℕ → List Row = λ i s. home_needs_game n i s ∷ game_needs_home n i s ∷ [] in
     let each : (i s : ℕ) → i < n → size_of (rows i s) ≡ 2 * n = λ i s within.
-      let games : List Literal = home_games_in n i s in
-      let counted : length games ≡ n - 1 = length-games_in n (meetings_with H i (teams_of n)) (s ∷ []) ∙ omega (arith, length-meetings H i (teams_of n), length-others n i within) in
-      omega (arith, counted, length-map (games ++ no (h_var n i s) ∷ []) unit, length-append games (no (h_var n i s) ∷ []),
-        length-append (map unit (map negate games)) (record { coef = n - 1; lit = yes (h_var n i s) } ∷ []), length-map (map negate games) unit, length-map games negate) in
+    let games : List Literal = home_games_in n i s in
+    let counted : length games ≡ n - 1 = length-games_in n (meetings_with H i (teams_of n)) (s ∷ []) ∙ omega (arith, length-meetings H i (teams_of n), length-others n i within) in
+    omega (
+      arith,
+      counted,
+      length-map (games ++ no (h_var n i s) ∷ []) unit,
+      length-append games (no (h_var n i s) ∷ []),
+      length-append (map unit (map negate games)) (record { coef = n - 1; lit = yes (h_var n i s) } ∷ []),
+      length-map (map negate games) unit,
+      length-map games negate,
+    ) in
     let of_team : ℕ → List Row = λ i. flat_map (rows i) (slots_of n) in
     size_of-each of_team (slot_count n * (2 * n)) (teams_of n)
     (λ k d within.
-      let i : ℕ = get_or (teams_of n) k d in
-      size_of-each (rows i) (2 * n) (slots_of n) (λ l e inside. each i (get_or (slots_of n) l e) (below n k d within))
-      ∙ ap (λ (m : ℕ). m * (2 * n)) (length-slots n))
+    let i : ℕ = get_or (teams_of n) k d in
+    size_of-each (rows i) (2 * n) (slots_of n) (λ l e inside. each i (get_or (slots_of n) l e) (below n k d within))
+    ∙ ap (λ (m : ℕ). m * (2 * n)) (length-slots n))
     ∙ ap (λ (k : ℕ). k * (slot_count n * (2 * n))) (length-teams n)
 
 slot_terms : (n : ℕ) → size_of (slot_rows n) ≡ slot_count n * (2 * n)
 slot_terms n =
     let home : ℕ → List Literal = λ s. map (λ i. yes (h_var n i s)) (teams_of n) in
     let each : (s : ℕ) → size_of (exactly (n / 2) (home s)) ≡ 2 * n = λ s.
-      let at_home : ℕ → Literal = λ i. yes (h_var n i s) in
-      omega (arith, size_of-exactly (n / 2) (home s), length-map (teams_of n) at_home, length-teams n) in
+    let at_home : ℕ → Literal = λ i. yes (h_var n i s) in
+    omega (arith, size_of-exactly (n / 2) (home s), length-map (teams_of n) at_home, length-teams n) in
     size_of-each (λ s. exactly (n / 2) (home s)) (2 * n) (slots_of n) (λ k d within. each (get_or (slots_of n) k d))
     ∙ ap (λ (k : ℕ). k * (2 * n)) (length-slots n)
 
 team_terms : (n : ℕ) → size_of (team_rows n) ≡ n * (2 * slot_count n)
 team_terms n =
     let each : (i : ℕ) → size_of (exactly (n - 1) (at_home_in n i (slots_of n))) ≡ 2 * slot_count n = λ i.
-      omega (arith, size_of-exactly (n - 1) (at_home_in n i (slots_of n)), length-at_home n i (slots_of n), length-slots n) in
+    omega (arith, size_of-exactly (n - 1) (at_home_in n i (slots_of n)), length-at_home n i (slots_of n), length-slots n) in
     size_of-each (λ i. exactly (n - 1) (at_home_in n i (slots_of n))) (2 * slot_count n) (teams_of n) (λ k d within. each (get_or (teams_of n) k d))
     ∙ ap (λ (k : ℕ). k * (2 * slot_count n)) (length-teams n)
 
@@ -163,8 +170,8 @@ size_of-breaks n =
     let of_team : ℕ → List Row = λ i. flat_map (break_rows_at n i) (after_first (slots_of n)) in
     size_of-each of_team ((slot_count n - 1) * 14) (teams_of n)
     (λ k d within.
-      size_of-each (break_rows_at n (get_or (teams_of n) k d)) 14 (after_first (slots_of n)) (λ l e inside. refl)
-      ∙ ap (λ (m : ℕ). m * 14) (length-later (slot_count n)))
+    size_of-each (break_rows_at n (get_or (teams_of n) k d)) 14 (after_first (slots_of n)) (λ l e inside. refl)
+    ∙ ap (λ (m : ℕ). m * 14) (length-later (slot_count n)))
     ∙ ap (λ (k : ℕ). k * ((slot_count n - 1) * 14)) (length-teams n)
 
 -- ---- all of a season
@@ -188,7 +195,12 @@ size_of-season n phased =
       size_of-append (meeting_rows n ++ cell_rows n ++ half_rows n phased) (venue_rows n),
       size_of-append (meeting_rows n ++ cell_rows n) (half_rows n phased),
       size_of-append (meeting_rows n) (cell_rows n),
-      meeting_terms n, cell_terms n, size_of-halves n phased, venue_terms n, slot_terms n, team_terms n,
+      meeting_terms n,
+      cell_terms n,
+      size_of-halves n phased,
+      venue_terms n,
+      slot_terms n,
+      team_terms n,
     )
 
 -- ---- all of a league
@@ -206,7 +218,9 @@ total_size league n teams phased breaks constraints season tied hard same_n same
     is_hard ∙ ap (λ (k : ℕ). size_of (constraint_rows k constraints)) same_n ∙ ap (λ (cs : List Constraint). size_of (constraint_rows league.n cs)) same_constraints in
     omega (
       arith,
-      first, second, third,
+      first,
+      second,
+      third,
       size_of-append (season_rows league.n league.phased ++ break_rows league.n (has_breaks league.constraints)) (constraint_rows league.n league.constraints),
       size_of-append (season_rows league.n league.phased) (break_rows league.n (has_breaks league.constraints)),
     )

@@ -33,8 +33,8 @@ fn add_rows_of_teams(draft: &mut Draft, season: &Season) -> Result<(), AllocErro
     requires room { length draft.old.rows + 18720 < 2 ^ 32 }
     ensures rows { OnOk result (draft.new.rows ≡ draft.old.rows
         ++ flat_map
-            (λ i. flat_map (season_rows.break_rows_at season.now i) (after_first (counts.slots_of season.now)))
-            (counts.teams_of season.now)) }
+        (λ i. flat_map (season_rows.break_rows_at season.now i) (after_first (counts.slots_of season.now)))
+        (counts.teams_of season.now)) }
     ensures few { OnOk result (length draft.new.rows ≤ length draft.old.rows + 18720) }
 {
     let teams = season.teams();
@@ -62,12 +62,7 @@ fn add_rows_of_slots(draft: &mut Draft, season: &Season, team: u16) -> Result<()
 }
 
 /// Adds those of a team and a slot.
-fn add_rows_at(
-    draft: &mut Draft,
-    season: &Season,
-    team: u16,
-    slot: u16,
-) -> Result<(), AllocError>
+fn add_rows_at(draft: &mut Draft, season: &Season, team: u16, slot: u16) -> Result<(), AllocError>
     requires team { team < season.now }
     requires later { 0 < slot }
     requires slot { slot < counts.slot_count season.now }
@@ -98,7 +93,12 @@ fn add_both_needed(rows: &mut RowStore, p: u32, q: u32, both: u32) -> Result<(),
 {
     add_two(rows, Lit::new(p, true), Lit::new(both, false))?;
     add_two(rows, Lit::new(q, true), Lit::new(both, false))?;
-    add_three(rows, Lit::new(p, false), Lit::new(q, false), Lit::new(both, true))?;
+    add_three(
+        rows,
+        Lit::new(p, false),
+        Lit::new(q, false),
+        Lit::new(both, true),
+    )?;
     Ok(())
 }
 
@@ -114,7 +114,12 @@ fn add_neither_needed(rows: &mut RowStore, p: u32, q: u32, neither: u32) -> Resu
 {
     add_two(rows, Lit::new(p, false), Lit::new(neither, false))?;
     add_two(rows, Lit::new(q, false), Lit::new(neither, false))?;
-    add_three(rows, Lit::new(p, true), Lit::new(q, true), Lit::new(neither, true))?;
+    add_three(
+        rows,
+        Lit::new(p, true),
+        Lit::new(q, true),
+        Lit::new(neither, true),
+    )?;
     Ok(())
 }
 

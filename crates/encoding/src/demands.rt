@@ -150,7 +150,15 @@ pub(crate) fn add_class_rows(
             max,
             side,
             slots,
-        } => draft.add_ca2_rows(alloc, n, teams1, teams2, Bounds::new(*min, *max), *side, slots),
+        } => draft.add_ca2_rows(
+            alloc,
+            n,
+            teams1,
+            teams2,
+            Bounds::new(*min, *max),
+            *side,
+            slots,
+        ),
         Class::Ca3 {
             teams1,
             teams2,

@@ -86,9 +86,7 @@ fn hard_terms(n: u16, constraints: &[Constraint]) -> u64
 pub(crate) fn has_breaks(constraints: &[Constraint]) -> bool
     ensures { result ≡ variables.has_breaks constraints.now }
 {
-    constraints
-        .iter()
-        .any(|constraint| constraint.hard && bounds_breaks(&constraint.class))
+    constraints.iter().any(|constraint| constraint.hard && bounds_breaks(&constraint.class))
 }
 
 /// Whether a class bounds breaks.

@@ -133,11 +133,7 @@ pub(crate) fn pairs_of(alloc: Global, teams: &[u16]) -> Result<Vec<(u16, u16)>, 
 }
 
 /// Adds the pairs of a team with each of these.
-fn add_pairs_with(
-    pairs: &mut Vec<(u16, u16)>,
-    first: u16,
-    later: &[u16],
-) -> Result<(), AllocError>
+fn add_pairs_with(pairs: &mut Vec<(u16, u16)>, first: u16, later: &[u16]) -> Result<(), AllocError>
     ensures { OnOk result (pairs.new.items ≡ pairs.old.items ++ map (λ j. (first, j)) later.now) }
 {
     for second in later {

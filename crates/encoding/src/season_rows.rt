@@ -140,7 +140,7 @@ fn add_half_rows_of(
     requires room { length draft.old.rows + 1560 < 2 ^ 32 }
     ensures rows { OnOk result (draft.new.rows ≡ draft.old.rows
         ++ flat_map (λ p. exactly 1 (games_in season.now (p ∷ (p.1, p.0) ∷ []) (structure.first_half season.now)))
-            pairs.now) }
+        pairs.now) }
     ensures few { OnOk result (length draft.new.rows ≤ length draft.old.rows + 1560) }
 {
     let half = season.run(0, season.n() - 1);

@@ -47,7 +47,7 @@ fn add_venue_rows_of(
     requires room { length draft.old.rows + 156 < 2 ^ 32 }
     ensures rows { OnOk result (draft.new.rows ≡ draft.old.rows
         ++ flat_map (λ s. home_needs_game season.now team s ∷ game_needs_home season.now team s ∷ [])
-            (counts.slots_of season.now)) }
+        (counts.slots_of season.now)) }
     ensures few { OnOk result (length draft.new.rows ≤ length draft.old.rows + 156) }
 {
     let slots = season.slots();
@@ -104,12 +104,7 @@ fn list_tie(
 }
 
 /// Lists the negations of some literals, each with coefficient 1, and a last literal with a coefficient of its own.
-fn weigh(
-    terms: &mut Vec<Term>,
-    literals: &[Lit],
-    coef: u32,
-    last: Lit,
-) -> Result<(), AllocError>
+fn weigh(terms: &mut Vec<Term>, literals: &[Lit], coef: u32, last: Lit) -> Result<(), AllocError>
     ensures { OnOk result
         (terms.new.items ≡ map unit (map negate literals.now) ++ record { coef = coef; lit = last } ∷ []) }
 {

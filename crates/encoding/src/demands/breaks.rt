@@ -10,8 +10,8 @@ ghost use Rattle.encoding.specs.Encoding.{class_rows, demands};
 ghost use Rattle.encoding.specs.Lists.{away_breaks_at, breaks_in, home_breaks_at};
 
 use crate::draft::Draft;
-use crate::variables::{ab_at, hb_at};
 use crate::sets::{slot_numbers, team_numbers};
+use crate::variables::{ab_at, hb_at};
 use league::{Side, SlotSet, TeamSet};
 use rows::Lit;
 use std::alloc::AllocError;

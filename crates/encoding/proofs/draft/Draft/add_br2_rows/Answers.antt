@@ -1,7 +1,9 @@
-use Rattle.std.proofs.Common.{◌≡◌, ◌≢◌, List, ◌++◌, ap, sym, subst, ◌∙◌}
-use Rattle.std.specs.List.{AllPairs, flat_map}
+use Rattle.std.proofs.Common.{◌≡◌, ◌≢◌, ℕ, List, [], ◌∷◌, ◌++◌, ap, sym, subst, ◌∙◌}
+use Rattle.std.specs.List.{AllPairs, filter, flat_map}
+use Rattle.rows.specs.Cardinality.{at_most}
 use Rattle.rows.specs.Literals.{Literal}
 use Rattle.rows.specs.Rows.{Row}
+use Rattle.encoding.specs.Encoding.{demands}
 use Rattle.encoding.specs.Lists.{away_breaks_at, home_breaks_at}
 use Rattle.encoding.proofs.ListedRows.{br2_listed}
 use Rattle.encoding.proofs.LiteralOrder.{all_breaks_differ}
@@ -30,4 +32,5 @@ returns-clause-rows c =
     c.in_ok-add_away_breaks.ensures
     ∙ ap (λ (ls : List Literal). ls ++ away) (c.in_ok-add_home_breaks.ensures ∙ ap (λ (ls : List Literal). ls ++ home) c.clear.ensures.items) in
     c.in_ok-demand_at_most.ensures.rows
+    ∙ ap (λ (b : ℕ). c.args.self.now.rows ++ filter demands (at_most b c.add_away_breaks.new.literals.items ∷ [])) c.from.ensures
     ∙ ap (λ (rows : List Row). c.args.self.now.rows ++ rows) (br2_listed n c.args.intp c.add_away_breaks.new.literals.items teams slots c.args.teams.now c.args.slots.now listed c.team_numbers-teams.ensures.numbers c.slot_numbers-slots.ensures.numbers)
