@@ -5,9 +5,9 @@
 #![tactic(auto)]
 
 mod reply;
-mod status;
 mod stages;
+mod status;
 
 pub use reply::{NoValue, Reply, malformed, past_limit, unreadable, words_refused};
-pub use status::{Status, code};
 pub use stages::{file, league_in, schedule_in, write_answer};
+pub use status::{Status, code};
