@@ -137,7 +137,8 @@ impl Draft {
         requires slots { AreSlots n slots.now }
         requires room { length self.old.rows + 80 < 2 ^ 32 }
         ensures rows { OnOk result (self.new.rows ≡ self.old.rows
-            ++ flat_map (λ i. filter demands (ca2_rows n teams2.now bounds.min bounds.max side slots.now i)) teams1.now) }
+            ++ flat_map (λ i. filter demands (ca2_rows n teams2.now bounds.min bounds.max side slots.now i))
+            teams1.now) }
         ensures few { OnOk result (length self.new.rows ≤ length self.old.rows + 2 * length teams1.now) }
     {
         for team in teams1 {
@@ -159,7 +160,8 @@ impl Draft {
         side: Side,
     ) -> Result<(), AllocError>
         requires n { season.now ≤ 40 }
-        requires fits { IsTrue (class_fits season.now (class.Ca3 teams1.now teams2.now bounds.min bounds.max intp side)) }
+        requires fits { IsTrue (class_fits season.now
+            (class.Ca3 teams1.now teams2.now bounds.min bounds.max intp side)) }
         requires room { length self.old.rows + 121680 < 2 ^ 32 }
         ensures rows { OnOk result (self.new.rows ≡ self.old.rows
             ++ class_rows season.now (class.Ca3 teams1.now teams2.now bounds.min bounds.max intp side)) }
@@ -198,7 +200,8 @@ impl Draft {
         requires teams2 { AreTeams season.now teams2.now }
         requires room { length self.old.rows + 6240 < 2 ^ 32 }
         ensures rows { OnOk result (self.new.rows ≡ self.old.rows ++ flat_map (λ i. flat_map (λ first.
-            filter demands (ca2_rows season.now teams2.now bounds.min bounds.max side (range_with_len first window) i))
+            filter demands
+            (ca2_rows season.now teams2.now bounds.min bounds.max side (range_with_len first window) i))
             firsts.now) teams1.now) }
         ensures few { OnOk result (length self.new.rows ≤ length self.old.rows + 156 * length teams1.now) }
     {
@@ -248,7 +251,8 @@ impl Draft {
         slots: &SlotSet,
     ) -> Result<(), AllocError>
         requires n { season.now ≤ 40 }
-        requires fits { IsTrue (class_fits season.now (class.Ca4 teams1.now teams2.now bounds.min bounds.max side span slots.now)) }
+        requires fits { IsTrue (class_fits season.now
+            (class.Ca4 teams1.now teams2.now bounds.min bounds.max side span slots.now)) }
         requires room { length self.old.rows + 121680 < 2 ^ 32 }
         ensures rows { OnOk result (self.new.rows ≡ self.old.rows
             ++ class_rows season.now (class.Ca4 teams1.now teams2.now bounds.min bounds.max side span slots.now)) }
