@@ -9,21 +9,31 @@ use Rattle.encoding.specs.Encoding.{constraint_rows, rows_of, season_rows}
 use Rattle.encoding.specs.Season.{both_needed, break_rows, break_rows_at, neither_needed}
 use Rattle.encoding.specs.Variables.{ab_var, h_var, has_breaks, hb_var}
 
-pub made_rows : (league : Instance) (n : ℕ) (phased breaks : Bool) (constraints : List Constraint) (start season tied all : List Row)
-    → start ≡ [] → n ≡ league.n → phased ≡ league.phased → constraints ≡ league.constraints → breaks ≡ has_breaks constraints
-    → season ≡ start ++ season_rows n phased → tied ≡ season ++ break_rows n breaks → all ≡ tied ++ constraint_rows n constraints → all ≡ rows_of league
-made_rows league n phased breaks constraints start season tied all none same_n same_phased same_constraints are_breaks is_season is_tied is_all =
+pub made_rows : (league : Instance) (n : ℕ) (phased breaks : Bool) (constraints : List Constraint)
+    (start season tied all : List Row)
+    → start ≡ [] → n ≡ league.n → phased ≡ league.phased → constraints ≡ league.constraints
+    → breaks ≡ has_breaks constraints
+    → season ≡ start ++ season_rows n phased → tied ≡ season ++ break_rows n breaks
+    → all ≡ tied ++ constraint_rows n constraints → all ≡ rows_of league
+made_rows league n phased breaks constraints start season tied all none same_n same_phased same_constraints are_breaks
+    is_season is_tied is_all =
     is_all
     ∙ ap (λ (rows : List Row). rows ++ constraint_rows n constraints) is_tied
     ∙ ap (λ (rows : List Row). rows ++ break_rows n breaks ++ constraint_rows n constraints) is_season
-    ∙ ap (λ (rows : List Row). rows ++ season_rows n phased ++ break_rows n breaks ++ constraint_rows n constraints) none
+    ∙ ap (λ (rows : List Row). rows ++ season_rows n phased ++ break_rows n breaks ++ constraint_rows n constraints)
+    none
     ∙ ap (λ (b : Bool). season_rows n phased ++ break_rows n b ++ constraint_rows n constraints) are_breaks
-    ∙ ap (λ (k : ℕ). season_rows k phased ++ break_rows k (has_breaks constraints) ++ constraint_rows k constraints) same_n
-    ∙ ap (λ (b : Bool). season_rows league.n b ++ break_rows league.n (has_breaks constraints) ++ constraint_rows league.n constraints) same_phased
-    ∙ ap (λ (cs : List Constraint). season_rows league.n league.phased ++ break_rows league.n (has_breaks cs) ++ constraint_rows league.n cs) same_constraints
+    ∙ ap (λ (k : ℕ). season_rows k phased ++ break_rows k (has_breaks constraints) ++ constraint_rows k constraints)
+    same_n
+    ∙ ap (λ (b : Bool). season_rows league.n b ++ break_rows league.n (has_breaks constraints) ++ constraint_rows
+    league.n constraints) same_phased
+    ∙ ap (λ (cs : List Constraint). season_rows league.n league.phased ++ break_rows league.n
+    (has_breaks cs) ++ constraint_rows league.n cs) same_constraints
 
 -- the same constraints fit
-pub fit_alike : (league : Instance) (n : ℕ) (constraints : List Constraint) → n ≡ league.n → constraints ≡ league.constraints → All (λ c. IsTrue (class_fits league.n c.class)) league.constraints → All (λ c. IsTrue (class_fits n c.class)) constraints
+pub fit_alike : (league : Instance) (n : ℕ) (constraints : List Constraint) → n ≡ league.n
+    → constraints ≡ league.constraints → All (λ c. IsTrue (class_fits league.n c.class)) league.constraints
+    → All (λ c. IsTrue (class_fits n c.class)) constraints
 fit_alike league n constraints same_n same_constraints fit =
     subst (λ (cs : List Constraint). All (λ c. IsTrue (class_fits n c.class)) cs) (sym same_constraints)
     (subst (λ (k : ℕ). All (λ c. IsTrue (class_fits k c.class)) league.constraints) (sym same_n) fit)
@@ -31,7 +41,8 @@ fit_alike league n constraints same_n same_constraints fit =
 -- the rows of a break, clause after clause
 pub break_rows_made : (n m i s p q home away : ℕ) (start first all : List Row)
     → m ≡ n → p ≡ h_var m i (s - 1) → q ≡ h_var m i s → home ≡ hb_var m i s → away ≡ ab_var m i s
-    → first ≡ start ++ both_needed p q home → all ≡ first ++ neither_needed p q away → all ≡ start ++ break_rows_at n i s
+    → first ≡ start ++ both_needed p q home → all ≡ first ++ neither_needed p q away
+    → all ≡ start ++ break_rows_at n i s
 break_rows_made n m i s p q home away start first all same is_p is_q is_home is_away is_first is_all =
     let before : ℕ = h_var m i (s - 1) in
     let now : ℕ = h_var m i s in

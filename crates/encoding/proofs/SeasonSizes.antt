@@ -1,5 +1,7 @@
 -- How many terms the rows of a season have.
-use Rattle.std.proofs.Common.{◌≡◌, ◌≢◌, ℕ, zero, suc, ◌+◌, ◌-◌, ◌*◌, ◌/◌, ◌<◌, ◌≤◌, Bool, true, false, not, ◌==◌, nat_lt, if◌then◌else◌, List, [], ◌∷◌, ◌++◌, length, get_or, map, refl, arith, ap, sym, ◌∙◌, inl, inr}
+use Rattle.std.proofs.Common.{◌≡◌, ◌≢◌, ℕ, zero, suc, ◌+◌, ◌-◌, ◌*◌, ◌/◌, ◌<◌, ◌≤◌, Bool, true, false, not, ◌==◌}
+use Rattle.std.proofs.Common.{nat_lt, if◌then◌else◌, List, [], ◌∷◌, ◌++◌, length, get_or, map, refl, arith, ap, sym}
+use Rattle.std.proofs.Common.{◌∙◌, inl, inr}
 use Rattle.std.proofs.lemmas.Bool.{cases_eq, lt-ltb}
 use Rattle.std.proofs.lemmas.Bool.Decides.{nat_tests}
 use Rattle.std.proofs.lemmas.List.{length-append, length-map}
@@ -20,22 +22,27 @@ use Rattle.rows.specs.Literals.{Literal, negate, no, yes}
 use Rattle.rows.specs.Rows.{Row, size_of}
 use Rattle.encoding.specs.Encoding.{constraint_rows, rows_of, season_rows}
 use Rattle.encoding.specs.Lists.{after_first, at_home_in, games_in, meetings_in_order}
-use Rattle.encoding.specs.Season.{break_rows, break_rows_at, cell_rows, cell_rows_at, game_needs_home, half_rows, home_games_in, home_needs_game, meeting_rows, slot_rows, team_rows, venue_rows}
+use Rattle.encoding.specs.Season.{break_rows, break_rows_at, cell_rows, cell_rows_at, game_needs_home, half_rows}
+use Rattle.encoding.specs.Season.{home_games_in, home_needs_game, meeting_rows, slot_rows, team_rows, venue_rows}
 use Rattle.encoding.specs.Variables.{h_var, has_breaks}
 use Rattle.encoding.proofs.AscendLemmas.{AscendsBy-below}
 use Rattle.encoding.proofs.ClassSizeLemmas.{length-pairs_of}
 use Rattle.encoding.proofs.MeetingOrder.{AreTeams-all}
-use Rattle.encoding.proofs.SizeLemmas.{length-at_home, length-games_in, length-meetings, sum_by-constant, sum_by-same_at}
+use Rattle.encoding.proofs.SizeLemmas.{length-at_home, length-games_in, length-meetings, sum_by-constant}
+use Rattle.encoding.proofs.SizeLemmas.{sum_by-same_at}
 
 -- ---- rows that are alike
 
 size_of-exactly : (d : ℕ) (literals : List Literal) → size_of (exactly d literals) ≡ 2 * length literals
-size_of-exactly d literals = omega (arith, length-map literals unit, length-map (map negate literals) unit, length-map literals negate)
+size_of-exactly d literals = omega
+    (arith, length-map literals unit, length-map (map negate literals) unit, length-map literals negate)
 
 -- so many keys, with so many terms each
-size_of-each : {K : Type 0} (f : K → List Row) (k : ℕ) (keys : List K) → All (λ x. size_of (f x) ≡ k) keys → size_of (flat_map f keys) ≡ length keys * k
+size_of-each : {K : Type 0} (f : K → List Row) (k : ℕ) (keys : List K) → All (λ x. size_of (f x) ≡ k) keys
+    → size_of (flat_map f keys) ≡ length keys * k
 size_of-each f k keys each =
-    sum_by-flat_map (λ r. length r.terms) f keys ∙ sum_by-same_at (λ x. size_of (f x)) (λ x. k) keys each ∙ sum_by-constant k keys
+    sum_by-flat_map (λ r. length r.terms) f keys ∙ sum_by-same_at (λ x. size_of (f x)) (λ x. k) keys each
+    ∙ sum_by-constant k keys
 
 size_of-append : (xs ys : List Row) → size_of (xs ++ ys) ≡ size_of xs + size_of ys
 size_of-append xs ys = sum_by-append (λ r. length r.terms) xs ys
@@ -77,7 +84,8 @@ length-meetings_of n =
     (λ k d within.
     let i : ℕ = get_or (teams_of n) k d in
     let pair : ℕ → ℕ × ℕ = λ j. (i, j) in
-    length-map (others i (teams_of n)) pair ∙ length-others n i (AscendsBy-below (λ t. t) 0 (teams_of n) n (AreTeams-all n) k d within))
+    length-map (others i (teams_of n)) pair
+    ∙ length-others n i (AscendsBy-below (λ t. t) 0 (teams_of n) n (AreTeams-all n) k d within))
     ∙ sum_by-constant (n - 1) (teams_of n)
     ∙ ap (λ (k : ℕ). k * (n - 1)) (length-teams n)
 
@@ -99,7 +107,13 @@ below n k d within = AscendsBy-below (λ t. t) 0 (teams_of n) n (AreTeams-all n)
 meeting_terms : (n : ℕ) → size_of (meeting_rows n) ≡ n * (n - 1) * (2 * slot_count n)
 meeting_terms n =
     let rows : ℕ × ℕ → List Row = λ p. exactly 1 (games_in n (p ∷ []) (slots_of n)) in
-    let each : (p : ℕ × ℕ) → size_of (rows p) ≡ 2 * slot_count n = λ p. omega (arith, size_of-exactly 1 (games_in n (p ∷ []) (slots_of n)), length-games_in n (p ∷ []) (slots_of n), length-slots n) in
+    let each : (p : ℕ × ℕ) → size_of (rows p) ≡ 2 * slot_count n = λ p. omega (
+      arith,
+      size_of-exactly 1 (games_in n (p ∷ []) (slots_of n)),
+      length-games_in n (p ∷ [])
+          (slots_of n),
+      length-slots n,
+    ) in
     size_of-each rows (2 * slot_count n) (meetings_of n) (λ k d within. each (get_or (meetings_of n) k d))
     ∙ ap (λ (k : ℕ). k * (2 * slot_count n)) (length-meetings_of n)
 
@@ -107,12 +121,20 @@ cell_terms : (n : ℕ) → size_of (cell_rows n) ≡ n * (slot_count n * (4 * (n
 cell_terms n =
     let each : (i s : ℕ) → i < n → size_of (cell_rows_at n i s) ≡ 4 * (n - 1) = λ i s within.
     let meetings : List (ℕ × ℕ) = meetings_in_order Both i (teams_of n) in
-    omega (arith, size_of-exactly 1 (games_in n meetings (s ∷ [])), length-games_in n meetings (s ∷ []), length-meetings Both i (teams_of n), length-others n i within) in
+    omega (
+      arith,
+      size_of-exactly 1 (games_in n meetings (s ∷ [])),
+      length-games_in n meetings
+          (s ∷ []),
+      length-meetings Both i (teams_of n),
+      length-others n i within,
+    ) in
     let of_team : ℕ → List Row = λ i. flat_map (cell_rows_at n i) (slots_of n) in
     size_of-each of_team (slot_count n * (4 * (n - 1))) (teams_of n)
     (λ k d within.
     let i : ℕ = get_or (teams_of n) k d in
-    size_of-each (cell_rows_at n i) (4 * (n - 1)) (slots_of n) (λ l e inside. each i (get_or (slots_of n) l e) (below n k d within))
+    size_of-each (cell_rows_at n i) (4 * (n - 1)) (slots_of n)
+    (λ l e inside. each i (get_or (slots_of n) l e) (below n k d within))
     ∙ ap (λ (m : ℕ). m * (4 * (n - 1))) (length-slots n))
     ∙ ap (λ (k : ℕ). k * (slot_count n * (4 * (n - 1)))) (length-teams n)
 
@@ -121,16 +143,24 @@ half_terms n =
     let rows : ℕ × ℕ → List Row = λ p. exactly 1 (games_in n (p ∷ (p.1, p.0) ∷ []) (first_half n)) in
     let each : (p : ℕ × ℕ) → size_of (rows p) ≡ 4 * (n - 1) = λ p.
     let both : List (ℕ × ℕ) = p ∷ (p.1, p.0) ∷ [] in
-    omega (arith, size_of-exactly 1 (games_in n both (first_half n)), length-games_in n both (first_half n), length-range_with_len 0 (n - 1)) in
+    omega (
+      arith,
+      size_of-exactly 1 (games_in n both (first_half n)),
+      length-games_in n both
+          (first_half n),
+      length-range_with_len 0 (n - 1),
+    ) in
     size_of-each rows (4 * (n - 1)) (pairs_of (teams_of n)) (λ k d within. each (get_or (pairs_of (teams_of n)) k d))
-    ∙ ap (λ (k : ℕ). k * (4 * (n - 1))) (sym (length-pairs_of (teams_of n)) ∙ ap (λ (k : ℕ). k * (k - 1) / 2) (length-teams n))
+    ∙ ap (λ (k : ℕ). k * (4 * (n - 1)))
+    (sym (length-pairs_of (teams_of n)) ∙ ap (λ (k : ℕ). k * (k - 1) / 2) (length-teams n))
 
 venue_terms : (n : ℕ) → size_of (venue_rows n) ≡ n * (slot_count n * (2 * n))
 venue_terms n =
     let rows : ℕ → ℕ → List Row = λ i s. home_needs_game n i s ∷ game_needs_home n i s ∷ [] in
     let each : (i s : ℕ) → i < n → size_of (rows i s) ≡ 2 * n = λ i s within.
     let games : List Literal = home_games_in n i s in
-    let counted : length games ≡ n - 1 = length-games_in n (meetings_with H i (teams_of n)) (s ∷ []) ∙ omega (arith, length-meetings H i (teams_of n), length-others n i within) in
+    let counted : length games ≡ n - 1 = length-games_in n (meetings_with H i (teams_of n)) (s ∷ [])
+    ∙ omega (arith, length-meetings H i (teams_of n), length-others n i within) in
     omega (
       arith,
       counted,
@@ -160,8 +190,15 @@ slot_terms n =
 team_terms : (n : ℕ) → size_of (team_rows n) ≡ n * (2 * slot_count n)
 team_terms n =
     let each : (i : ℕ) → size_of (exactly (n - 1) (at_home_in n i (slots_of n))) ≡ 2 * slot_count n = λ i.
-    omega (arith, size_of-exactly (n - 1) (at_home_in n i (slots_of n)), length-at_home n i (slots_of n), length-slots n) in
-    size_of-each (λ i. exactly (n - 1) (at_home_in n i (slots_of n))) (2 * slot_count n) (teams_of n) (λ k d within. each (get_or (teams_of n) k d))
+    omega (
+      arith,
+      size_of-exactly (n - 1) (at_home_in n i (slots_of n)),
+      length-at_home n i (slots_of n),
+      length-slots
+          n,
+    ) in
+    size_of-each (λ i. exactly (n - 1) (at_home_in n i (slots_of n))) (2 * slot_count n) (teams_of n)
+    (λ k d within. each (get_or (teams_of n) k d))
     ∙ ap (λ (k : ℕ). k * (2 * slot_count n)) (length-teams n)
 
 -- where breaks have variables
@@ -179,10 +216,12 @@ size_of-breaks n =
 -- as it is computed
 abbrev pub season_terms : ℕ → Bool → ℕ
 season_terms n phased =
-    n * (n - 1) * (2 * slot_count n) + n * (slot_count n * (4 * (n - 1))) + (if phased then n * (n - 1) / 2 * (4 * (n - 1)) else 0)
+    n * (n - 1) * (2 * slot_count n) + n * (slot_count n * (4 * (n - 1))) +
+    (if phased then n * (n - 1) / 2 * (4 * (n - 1)) else 0)
     + n * (slot_count n * (2 * n)) + slot_count n * (2 * n) + n * (2 * slot_count n)
 
-pub size_of-halves : (n : ℕ) (phased : Bool) → size_of (half_rows n phased) ≡ (if phased then n * (n - 1) / 2 * (4 * (n - 1)) else 0)
+pub size_of-halves : (n : ℕ) (phased : Bool)
+    → size_of (half_rows n phased) ≡ (if phased then n * (n - 1) / 2 * (4 * (n - 1)) else 0)
 size_of-halves n true = half_terms n
 size_of-halves n false = refl
 
@@ -190,7 +229,8 @@ pub size_of-season : (n : ℕ) (phased : Bool) → size_of (season_rows n phased
 size_of-season n phased =
     omega (
       arith,
-      size_of-append (meeting_rows n ++ cell_rows n ++ half_rows n phased ++ venue_rows n ++ slot_rows n) (team_rows n),
+      size_of-append (meeting_rows n ++ cell_rows n ++ half_rows n phased ++ venue_rows n ++ slot_rows n)
+          (team_rows n),
       size_of-append (meeting_rows n ++ cell_rows n ++ half_rows n phased ++ venue_rows n) (slot_rows n),
       size_of-append (meeting_rows n ++ cell_rows n ++ half_rows n phased) (venue_rows n),
       size_of-append (meeting_rows n ++ cell_rows n) (half_rows n phased),
@@ -205,22 +245,31 @@ size_of-season n phased =
 
 -- ---- all of a league
 
-pub total_size : (league : Instance) (n teams : ℕ) (phased breaks : Bool) (constraints : List Constraint) (season tied hard : ℕ)
-    → n ≡ league.n → teams ≡ n → phased ≡ league.phased → constraints ≡ league.constraints → breaks ≡ has_breaks constraints
-    → season ≡ size_of (season_rows teams phased) → tied ≡ size_of (break_rows teams breaks) → hard ≡ size_of (constraint_rows n constraints)
+pub total_size : (league : Instance) (n teams : ℕ) (phased breaks : Bool) (constraints : List Constraint)
+    (season tied hard : ℕ)
+    → n ≡ league.n → teams ≡ n → phased ≡ league.phased → constraints ≡ league.constraints
+    → breaks ≡ has_breaks constraints
+    → season ≡ size_of (season_rows teams phased) → tied ≡ size_of (break_rows teams breaks)
+    → hard ≡ size_of (constraint_rows n constraints)
     → season + tied + hard ≡ size_of (rows_of league)
-total_size league n teams phased breaks constraints season tied hard same_n same_teams same_phased same_constraints are_breaks is_season is_tied is_hard =
+total_size league n teams phased breaks constraints season tied hard same_n same_teams same_phased same_constraints
+    are_breaks is_season is_tied is_hard =
     let whole : teams ≡ league.n = same_teams ∙ same_n in
-    let first : season ≡ size_of (season_rows league.n league.phased) = is_season ∙ ap (λ (k : ℕ). size_of (season_rows k phased)) whole ∙ ap (λ (b : Bool). size_of (season_rows league.n b)) same_phased in
+    let first : season ≡ size_of (season_rows league.n league.phased) = is_season
+    ∙ ap (λ (k : ℕ). size_of (season_rows k phased)) whole
+    ∙ ap (λ (b : Bool). size_of (season_rows league.n b)) same_phased in
     let second : tied ≡ size_of (break_rows league.n (has_breaks league.constraints)) =
-    is_tied ∙ ap (λ (k : ℕ). size_of (break_rows k breaks)) whole ∙ ap (λ (b : Bool). size_of (break_rows league.n b)) (are_breaks ∙ ap (λ (cs : List Constraint). has_breaks cs) same_constraints) in
+    is_tied ∙ ap (λ (k : ℕ). size_of (break_rows k breaks)) whole ∙ ap (λ (b : Bool). size_of (break_rows league.n b))
+    (are_breaks ∙ ap (λ (cs : List Constraint). has_breaks cs) same_constraints) in
     let third : hard ≡ size_of (constraint_rows league.n league.constraints) =
-    is_hard ∙ ap (λ (k : ℕ). size_of (constraint_rows k constraints)) same_n ∙ ap (λ (cs : List Constraint). size_of (constraint_rows league.n cs)) same_constraints in
+    is_hard ∙ ap (λ (k : ℕ). size_of (constraint_rows k constraints)) same_n
+    ∙ ap (λ (cs : List Constraint). size_of (constraint_rows league.n cs)) same_constraints in
     omega (
       arith,
       first,
       second,
       third,
-      size_of-append (season_rows league.n league.phased ++ break_rows league.n (has_breaks league.constraints)) (constraint_rows league.n league.constraints),
+      size_of-append (season_rows league.n league.phased ++ break_rows league.n (has_breaks league.constraints))
+          (constraint_rows league.n league.constraints),
       size_of-append (season_rows league.n league.phased) (break_rows league.n (has_breaks league.constraints)),
     )

@@ -4,4 +4,5 @@ use Rattle.encoding.specs.Variables.{h_var}
 use Rattle.encoding.proofs.literals.add_teams_at_home.Given as goal
 
 abbrev pub invariant-loop-team : goal.invariant-loop-team
-invariant-loop-team l = l.literals.items ≡ l.fn.literals.items ++ map (λ i. yes (h_var l.n i l.slot)) (take l.team-index l.teams)
+invariant-loop-team l = l.literals.items ≡ l.fn.literals.items ++ map (λ i. yes (h_var l.n i l.slot))
+    (take l.team-index l.teams)

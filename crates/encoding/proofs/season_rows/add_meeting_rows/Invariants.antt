@@ -7,6 +7,7 @@ use Rattle.encoding.proofs.season_rows.add_meeting_rows.Given as goal
 
 abbrev pub invariant-loop-meeting : goal.invariant-loop-meeting
 invariant-loop-meeting l = record {
-  so_far : l.draft.rows ≡ l.fn.draft.rows ++ flat_map (λ p. exactly 1 (games_in l.season (p ∷ []) (slots_of l.season))) (take l.meeting-index l.meetings);
+  so_far : l.draft.rows ≡ l.fn.draft.rows ++ flat_map
+      (λ p. exactly 1 (games_in l.season (p ∷ []) (slots_of l.season))) (take l.meeting-index l.meetings);
   few : length l.draft.rows ≤ length l.fn.draft.rows + 2 * l.meeting-index;
 }

@@ -10,5 +10,6 @@ returns-clause-variables c =
     let home : List Literal = map (λ i. yes (h_var c.n.result i c.args.slot)) c.teams.result.now in
     subst (λ (ls : List Literal). AllPairs (λ l m. l.var ≢ m.var) ls)
     (sym (c.in_ok-add_teams_at_home.ensures ∙ ap (λ (ls : List Literal). ls ++ home) c.clear.ensures.items))
-    (subst (λ (n : ℕ). AllPairs (λ l m. l.var ≢ m.var) (map (λ i. yes (h_var n i c.args.slot)) c.teams.result.now)) (sym c.n.ensures.n)
+    (subst (λ (n : ℕ). AllPairs (λ l m. l.var ≢ m.var) (map (λ i. yes (h_var n i c.args.slot)) c.teams.result.now))
+    (sym c.n.ensures.n)
     (teams_differ c.args.season.now c.args.slot c.teams.result.now c.requires c.teams.ensures.ascend))

@@ -11,18 +11,26 @@ invariant_of-self-2 c =
     let whole : c.len-end.result ≡ length c.add_negated.new.terms.items = omega (arith, c.add_negated.new.terms.ok) in
     let room : length c.self.inside.ends.items < 2 ^ 32 - 1 =
     omega (arith, length-kept c.self.inside.terms.items c.self.inside.ends.items c.args.self.now c.self.view_is) in
-    AreKept-grown c.self.inside.terms.items (map unit (map negate c.args.literals.now)) c.add_negated.new.terms.items c.self.inside.ends.items c.push.new.self.items
+    AreKept-grown c.self.inside.terms.items (map unit (map negate c.args.literals.now)) c.add_negated.new.terms.items
+    c.self.inside.ends.items c.push.new.self.items
     (record { end = c.len-end.result; degree = c.saturating_sub-degree.result })
     c.self.invariant c.in_ok-add_negated.ensures.ok
-    (c.in_ok-push.ensures.items ∙ ap (λ xs. xs ++ record { end = c.len-end.result; degree = c.saturating_sub-degree.result } ∷ []) c.in_ok-reserve.ensures.items)
+    (c.in_ok-push.ensures.items
+    ∙ ap (λ xs. xs ++ record { end = c.len-end.result; degree = c.saturating_sub-degree.result } ∷ [])
+    c.in_ok-reserve.ensures.items)
     whole room (IsRow-negated c.saturating_sub-degree.result c.args.literals.now c.requires.variables)
 
 pub returns-clause-ok : goal.returns-clause-ok
 returns-clause-ok c =
     let whole : c.len-end.result ≡ length c.add_negated.new.terms.items = omega (arith, c.add_negated.new.terms.ok) in
-    cut-grown c.self.inside.terms.items (map unit (map negate c.args.literals.now)) c.add_negated.new.terms.items c.self.inside.ends.items c.push.new.self.items c.args.self.now
+    cut-grown c.self.inside.terms.items (map unit (map negate c.args.literals.now)) c.add_negated.new.terms.items
+    c.self.inside.ends.items c.push.new.self.items c.args.self.now
     (record { end = c.len-end.result; degree = c.saturating_sub-degree.result })
     c.self.invariant c.in_ok-add_negated.ensures.ok
-    (c.in_ok-push.ensures.items ∙ ap (λ xs. xs ++ record { end = c.len-end.result; degree = c.saturating_sub-degree.result } ∷ []) c.in_ok-reserve.ensures.items)
+    (c.in_ok-push.ensures.items
+    ∙ ap (λ xs. xs ++ record { end = c.len-end.result; degree = c.saturating_sub-degree.result } ∷ [])
+    c.in_ok-reserve.ensures.items)
     whole c.self.view_is
-    ∙ ap (λ (degree : ℕ). let row : Row = record { terms = map unit (map negate c.args.literals.now); degree = degree } in c.args.self.now ++ row ∷ []) c.saturating_sub-degree.ensures
+    ∙ ap (λ (degree : ℕ). let row : Row = record
+    { terms = map unit (map negate c.args.literals.now); degree = degree } in c.args.self.now ++ row ∷ [])
+    c.saturating_sub-degree.ensures
