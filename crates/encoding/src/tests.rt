@@ -1,4 +1,4 @@
-//! Encodings of small leagues, counted, and the edge of what is too large.
+//! An encoding that has variables for breaks, and one that is too large.
 use crate::{EncodeFault, encode};
 use league::{Class, Constraint, League, Side, SlotId, SlotSet, TeamId, TeamSet};
 use std::alloc::{AllocError, Global};
@@ -34,55 +34,6 @@ fn four_with(alloc: Global, class: Class) -> Result<Option<League>, AllocError> 
         return Ok(None);
     }
     Ok(Some(League::new(4, true, constraints)))
-}
-
-#[test]
-fn four_teams(rt: HostRuntime) -> Result<(), Fail> {
-    let league = League::new(4, true, Vec::new(rt.alloc()));
-    let encoding = encode(rt.alloc(), &league)?;
-    assert_eq!(rt; encoding.vars(), 96);
-    let rows = encoding.rows();
-    assert_eq!(rt; rows.len(), 152);
-    assert_eq!(rt; rows.degree(132), 2);
-    let vars = [73, 79, 85, 91];
-    assert!(rt; rows.terms(132).iter().map(|term| term.lit.var()).eq(vars));
-    assert!(rt; encoding.hb(TeamId(0), SlotId(1)).is_none());
-    Ok(())
-}
-
-#[test]
-fn no_home_game_in_the_first_slot(rt: HostRuntime) -> Result<(), Fail> {
-    let alloc = rt.alloc();
-    let class = Class::Ca1 {
-        teams: teams_below(alloc, 4)?,
-        min: 0,
-        max: 0,
-        side: Side::H,
-        slots: slots_below(alloc, 1)?,
-    };
-    let league = four_with(alloc, class)?.ok_or("misfit")?;
-    let encoding = encode(alloc, &league)?;
-    assert_eq!(rt; encoding.rows().len(), 156);
-    Ok(())
-}
-
-#[test]
-fn seven_home_games_in_six_slots(rt: HostRuntime) -> Result<(), Fail> {
-    let alloc = rt.alloc();
-    let class = Class::Ca1 {
-        teams: teams_below(alloc, 1)?,
-        min: 7,
-        max: 7,
-        side: Side::H,
-        slots: slots_below(alloc, 6)?,
-    };
-    let league = four_with(alloc, class)?.ok_or("misfit")?;
-    let encoding = encode(alloc, &league)?;
-    let rows = encoding.rows();
-    assert_eq!(rt; rows.len(), 153);
-    assert_eq!(rt; rows.degree(152), 7);
-    assert_eq!(rt; rows.terms(152).len(), 6);
-    Ok(())
 }
 
 #[test]
