@@ -11,3 +11,5 @@ pub mod ReadTokens
 pub mod ReadTexts
 -- Worked examples, so that a wrong definition does not check:
 pub mod LogFacts
+pub mod ClauseFacts
+pub mod LinearFacts

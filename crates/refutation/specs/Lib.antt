@@ -9,6 +9,9 @@ pub mod Texts
 pub mod Writable
 -- A text that is read in pieces:
 pub mod Places
+-- When a step follows from rows, and what is said of a log:
+pub mod Following
+pub mod Verdict
 -- Kept inside (laws, and how fields are seen):
 --
 -- How a log keeps its steps:
