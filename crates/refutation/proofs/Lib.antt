@@ -19,3 +19,5 @@ pub mod GroupLemmas
 pub mod LineLemmas
 pub mod FeedLemmas
 pub mod CutLemmas
+pub mod ClauseFacts
+pub mod LinearFacts

@@ -11,6 +11,9 @@ pub mod Writable
 pub mod Places
 pub mod Feeding
 pub mod Answers
+-- When a step follows from rows, and what is said of a log:
+pub mod Following
+pub mod Verdict
 -- Kept inside (laws, and how fields are seen):
 --
 -- How a log keeps its steps:

@@ -1,7 +1,7 @@
 //! Refutation logs: their steps, and their text, written whole, read whole and in pieces.
 //!
 //! A contract sees a `Log` as its list of steps. `specs/Logs.antt` says what a text says, and `specs/Texts.antt` which
-//! text is written.
+//! text is written. `specs/Following.antt` and `specs/Verdict.antt` say what a log proves of rows.
 #![tactic(auto)]
 
 mod fault;
@@ -13,6 +13,7 @@ mod place;
 mod step;
 mod text;
 mod token;
+mod verdict;
 mod version;
 
 pub use fault::{LogFault, LogKind};
@@ -20,6 +21,7 @@ pub use feed::{LogFeed, read_log};
 pub use log::Log;
 pub use step::{Part, StepKind};
 pub use text::log_text;
+pub use verdict::{Cause, Verdict};
 pub use version::Version;
 
 #[cfg(test)]

@@ -7,5 +7,6 @@ pub mod ForcingLemmas
 -- Lists as tests, and rows as tests:
 pub mod ListLemmas
 pub mod TestLemmas
+pub mod TrailLemmas
 -- Worked examples, so that a wrong definition does not check:
 pub mod RowFacts

@@ -1,0 +1,54 @@
+use Rattle.std.proofs.Common.{◌≡◌, ◌+◌, List, [], ◌∷◌, ◌++◌, map, take, ap, sym, ◌∙◌}
+use Rattle.rows.specs.Literals.{Literal}
+use Rattle.rows.specs.Cardinality.{unit}
+use Rattle.rows.specs.Forcing.{set_true}
+use Rattle.rows.specs.Values.{valued}
+use Rattle.rows.specs.declared.lit.Term.{Term}
+use Rattle.refutation.specs.Following.{denied}
+use Rattle.refutation_check.proofs.ClauseLemmas.{came_next, denied_next, fresh_next, opposed_next}
+use Rattle.refutation_check.proofs.clause.deny.Goals as goal
+use Rattle.refutation_check.proofs.clause.deny.Goals.{in-False, in-Free+in_ok-push-in-Free}
+
+pub returns-in-True-clause-opposites : goal.returns-in-True-clause-opposites
+returns-in-True-clause-opposites c =
+    sym
+    (opposed_next c.args.clause.now c.loop-lit.lit-index c.lit-item.result (valued c.loop-lit.partial)
+    c.loop-lit-test.true c.lit-item.is c.loop-lit.invariant.values (sym c.value.ensures ∙ c.in-True.is))
+
+pub loop-lit-preserved : goal.loop-lit-preserved
+loop-lit-preserved c =
+    let next : valued c.make_true.new.partial ≡ denied (take (c.loop-lit.lit-index + 1) c.args.clause.now) =
+    denied_next c.args.clause.now c.loop-lit.lit-index c.lit-item.result (valued c.loop-lit.partial)
+    (valued c.make_true.new.partial) c.loop-lit-test.true c.lit-item.is c.loop-lit.invariant.values
+    (c.in_ok-make_true.ensures.values
+    ∙ ap (λ (l : Literal). set_true (valued c.loop-lit.partial) l) c.negate.ensures) in
+    elim c.match-value.branch [
+      | in-False w ↦
+          let came =
+          came_next c.args.clause.now c.loop-lit.lit-index c.lit-item.result (valued c.loop-lit.partial)
+          c.loop-lit-test.true c.lit-item.is c.loop-lit.invariant.values c.loop-lit.invariant.plain
+          (sym c.value.ensures ∙ w.in-False.is) in
+          record {
+            plain = came.0;
+            terms = rw w.terms-is
+                (c.loop-lit.invariant.terms ∙ ap (λ (ls : List Literal). map unit ls) (sym came.1));
+            values = next;
+            kept = c.in_ok-make_true.ensures.length ∙ c.loop-lit.invariant.kept;
+            listed = c.in_ok-make_true.ensures.listed;
+          }
+      | in-Free+in_ok-push-in-Free w ↦
+          let fresh =
+          fresh_next c.args.clause.now c.loop-lit.lit-index c.lit-item.result (valued c.loop-lit.partial)
+          c.loop-lit-test.true c.lit-item.is c.loop-lit.invariant.values c.loop-lit.invariant.plain
+          (sym c.value.ensures ∙ w.in-Free.is) in
+          record {
+            plain = fresh.0;
+            terms = rw w.terms-is
+                (w.in_ok-push-in-Free.ensures.items
+                ∙ (ap (λ (ts : List Term). ts ++ unit c.lit-item.result ∷ []) c.loop-lit.invariant.terms
+                ∙ sym fresh.1));
+            values = next;
+            kept = c.in_ok-make_true.ensures.length ∙ c.loop-lit.invariant.kept;
+            listed = c.in_ok-make_true.ensures.listed;
+          }
+    ]

@@ -1,0 +1,2 @@
+//! Sums of rows.
+#![tactic(auto)]
