@@ -8,6 +8,9 @@ pub mod Cardinality
 pub mod Partials
 -- How lists of values are read as assignments:
 pub mod Values
+-- What a row makes of a partial assignment, and where its variables are listed:
+pub mod Forcing
+pub mod Trails
 -- Kept inside (laws, and how fields are seen):
 --
 -- The number that stands for a literal:

@@ -1,12 +1,16 @@
 //! What a row says of the variables that have no value yet.
-ghost use Rattle.std.specs.Prelude.{◌≡◌, ℕ, ◌+◌, ◌*◌, ◌^◌, ◌<◌, ◌≤◌, ◌-ℤ◌, pos, length, drop, slice_get, IfSome, None};
+ghost use Rattle.std.specs.Prelude.{◌≡◌, ℕ, ◌+◌, ◌*◌, ◌^◌, ◌<◌, ◌≤◌, ◌-ℤ◌, pos, length, drop, slice_get};
+ghost use Rattle.std.specs.Prelude.{IfSome, None, OnOk, OnErr};
 ghost use Rattle.std.specs.List.{All, position_from};
 ghost use Rattle.rows.specs.Partials as partials;
 ghost use Rattle.rows.specs.Partials.{Forces, IsQuietRow};
+ghost use Rattle.rows.specs.Forcing.{set_true, with_forced};
+ghost use Rattle.rows.specs.Trails.{IsListed, set_if};
 ghost use Rattle.rows.specs.Values.{valued};
 
-use crate::lit::Term;
+use crate::lit::{Lit, Term};
 use crate::partial::{Partial, Value};
+use std::alloc::AllocError;
 
 /// The slack of a row: the coefficients of its literals that aren't false, summed, less its degree. Where it is
 /// negative the row is in conflict. It takes no memory.
@@ -45,8 +49,69 @@ pub fn forced(terms: &[Term], degree: u64, partial: &Partial, from: usize) -> Op
     None
 }
 
-/// The coefficients of the literals that aren't false, summed.
-fn reach(terms: &[Term], partial: &Partial) -> u128
+/// Makes all literals true at once that the row forces, and lists their variables. `reached`
+/// is the row's reach, which the row has before and after; a row in conflict forces each of its free literals.
+///
+/// # Errors
+/// Only where memory runs out: then some of these literals are true.
+pub fn force(
+    terms: &[Term],
+    degree: u64,
+    reached: u128,
+    partial: &mut Partial,
+    trail: &mut Vec<u32>,
+) -> Result<(), AllocError>
+    requires known { All (λ t. t.lit.var ≤ length partial.old) terms.now }
+    requires reached { reached ≡ partials.reach (valued partial.old) terms.now }
+    requires listed { IsListed partial.old trail.old.items }
+    ensures values { OnOk result
+        (valued partial.new ≡ with_forced (valued partial.old) (record { terms = terms.now; degree = degree })) }
+
+    // These also hold where memory ran out.
+    ensures length { length partial.new ≡ length partial.old }
+    ensures listed { IsListed partial.new trail.new.items }
+{
+    for term in terms {
+        let needed = reached < u128::from(degree) + u128::from(term.coef);
+        make_true_if(needed, term.lit, partial, trail)?;
+    }
+    Ok(())
+}
+
+/// Makes a free literal true and lists its variable; any other literal stays as it is.
+///
+/// # Errors
+/// Only where memory runs out: then nothing changes.
+pub fn make_true(lit: Lit, partial: &mut Partial, trail: &mut Vec<u32>) -> Result<(), AllocError>
+    requires known { lit.var ≤ length partial.old }
+    requires listed { IsListed partial.old trail.old.items }
+    ensures values { OnOk result (valued partial.new ≡ set_true (valued partial.old) lit) }
+    ensures length { length partial.new ≡ length partial.old }
+    ensures listed { IsListed partial.new trail.new.items }
+    ensures err { OnErr result (partial.new ≡ partial.old) }
+{
+    if partial.value(lit) != Value::Free {
+        return Ok(());
+    }
+    trail.push(lit.var())?;
+    partial.set(lit);
+    Ok(())
+}
+
+/// The same where a test says so.
+pub fn make_true_if(test: bool, lit: Lit, partial: &mut Partial, trail: &mut Vec<u32>) -> Result<(), AllocError>
+    requires known { lit.var ≤ length partial.old }
+    requires listed { IsListed partial.old trail.old.items }
+    ensures values { OnOk result (valued partial.new ≡ set_if test (valued partial.old) lit) }
+    ensures length { length partial.new ≡ length partial.old }
+    ensures listed { IsListed partial.new trail.new.items }
+{
+    if test { make_true(lit, partial, trail) } else { Ok(()) }
+}
+
+/// The reach of a row: the coefficients of its literals that aren't false, summed. Where it is below the degree the row
+/// is in conflict. It takes no memory.
+pub fn reach(terms: &[Term], partial: &Partial) -> u128
     requires { All (λ t. t.lit.var ≤ length partial.now) terms.now }
     ensures reach { result ≡ partials.reach (valued partial.now) terms.now }
     ensures at_most { result ≤ 2 ^ 32 * length terms.now }

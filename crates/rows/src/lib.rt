@@ -11,7 +11,7 @@ mod partial;
 mod row_store;
 
 pub use assignment::Assignment;
-pub use forcing::{forced, slack};
+pub use forcing::{force, forced, make_true, make_true_if, reach, slack};
 pub use lit::{Lit, Term};
 pub use partial::{Partial, Value};
 pub use row_store::RowStore;
