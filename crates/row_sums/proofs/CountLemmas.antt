@@ -115,18 +115,31 @@ counted-covered [] top =
     omega arith
 counted-covered (t ∷ terms) top =
     let split : sum_by (count_both (count_in (t ∷ terms))) (variables_to top) ≤ sum_by (λ v. count_both (alone t.lit t.coef) v + count_both (count_in terms) v) (variables_to top) =
-        sum_by-le-sum_by (count_both (count_in (t ∷ terms))) (λ v. count_both (alone t.lit t.coef) v + count_both (count_in terms) v) (variables_to top)
-        (λ v. omega (arith, count_in-cons t terms (yes v), count_in-cons t terms (no v))) in
-    omega (arith, split, sum_by-add (count_both (alone t.lit t.coef)) (count_both (count_in terms)) (variables_to top), alone-to t.lit t.coef (top + 1), cond-le (nat_lt t.lit.var (top + 1)) t.coef,
-      counted-covered terms top, sum_by-cons (λ (u : Term). u.coef) t terms)
+    sum_by-le-sum_by (count_both (count_in (t ∷ terms))) (λ v. count_both (alone t.lit t.coef) v + count_both (count_in terms) v) (variables_to top)
+    (λ v. omega (arith, count_in-cons t terms (yes v), count_in-cons t terms (no v))) in
+    omega (
+      arith,
+      split,
+      sum_by-add (count_both (alone t.lit t.coef)) (count_both (count_in terms)) (variables_to top),
+      alone-to t.lit t.coef (top + 1),
+      cond-le (nat_lt t.lit.var (top + 1)) t.coef,
+      counted-covered terms top,
+      sum_by-cons (λ (u : Term). u.coef) t terms,
+    )
 
 -- a row more, times a factor
 pub covered-plus : (count : Literal → ℕ) (total factor : ℕ) (terms : List Term) → IsCovered count total → IsCovered (λ m. count m + factor * count_in terms m) (total + factor * weight_of terms)
 covered-plus count total factor terms covered top =
     let split : sum_by (count_both (λ m. count m + factor * count_in terms m)) (variables_to top) ≤ sum_by (λ v. count_both count v + factor * count_both (count_in terms) v) (variables_to top) =
-        sum_by-le-sum_by (count_both (λ m. count m + factor * count_in terms m)) (λ v. count_both count v + factor * count_both (count_in terms) v) (variables_to top) (λ v. omega arith) in
-    omega (arith, split, sum_by-add (count_both count) (λ v. factor * count_both (count_in terms) v) (variables_to top), sum_by-times factor (count_both (count_in terms)) (variables_to top),
-      covered top, mul-le-mul_left factor (counted-covered terms top))
+    sum_by-le-sum_by (count_both (λ m. count m + factor * count_in terms m)) (λ v. count_both count v + factor * count_both (count_in terms) v) (variables_to top) (λ v. omega arith) in
+    omega (
+      arith,
+      split,
+      sum_by-add (count_both count) (λ v. factor * count_both (count_in terms) v) (variables_to top),
+      sum_by-times factor (count_both (count_in terms)) (variables_to top),
+      covered top,
+      mul-le-mul_left factor (counted-covered terms top),
+    )
 
 most_by_sign : (count : Literal → ℕ) (total v : ℕ) (positive : Bool) → count_both count v ≤ total → count (record { var = v; positive = positive }) ≤ total
 most_by_sign count total v true both = omega arith

@@ -65,11 +65,18 @@ weight-le-count values (t ∷ terms) n above =
     let head : ℕ → ℕ = λ v. alone t.lit t.coef (true_literal values v) in
     let rest : ℕ → ℕ = λ v. count_in terms (true_literal values v) in
     let split : sum_by (λ v. head v + rest v) (range_with_len 0 n) ≤ sum_by (λ v. count_in (t ∷ terms) (true_literal values v)) (range_with_len 0 n) =
-        sum_by-le-sum_by (λ v. head v + rest v) (λ v. count_in (t ∷ terms) (true_literal values v)) (range_with_len 0 n)
-        (λ v. omega (arith, count_in-cons t terms (true_literal values v))) in
+    sum_by-le-sum_by (λ v. head v + rest v) (λ v. count_in (t ∷ terms) (true_literal values v)) (range_with_len 0 n)
+    (λ v. omega (arith, count_in-cons t terms (true_literal values v))) in
     let first : head t.lit.var ≡ cond (is_true values t.lit) t.coef 0 = ap (λ (b : Bool). cond b t.coef 0) (is_same-true values t.lit) in
-    omega (arith, split, first, sum_by-add head rest (range_with_len 0 n), element-le head t.lit.var n (omega arith), weight-le-count values terms n (omega arith),
-      sum_by-cons (λ (u : Term). cond (is_true values u.lit) u.coef 0) t terms)
+    omega (
+      arith,
+      split,
+      first,
+      sum_by-add head rest (range_with_len 0 n),
+      element-le head t.lit.var n (omega arith),
+      weight-le-count values terms n (omega arith),
+      sum_by-cons (λ (u : Term). cond (is_true values u.lit) u.coef 0) t terms,
+    )
 
 -- no row
 pub no_totals_met : (values : ℕ → Bool) → IsMet values no_totals
@@ -82,8 +89,14 @@ plus_met values sum factor row met holds =
     let old : ℕ → ℕ = λ v. sum.count (true_literal values v) in
     let more : ℕ → ℕ = λ v. count_in row.terms (true_literal values v) in
     let reached : row.degree ≤ sum_by more (variables_to top) = omega (arith, holds, weight-le-count values row.terms (top + 1) (omega arith)) in
-    omega (arith, met, longer-le old (sum.top + 1) (top + 1) (omega arith), mul-le-mul_left factor reached,
-      sum_by-add old (λ v. factor * more v) (variables_to top), sum_by-times factor more (variables_to top))
+    omega (
+      arith,
+      met,
+      longer-le old (sum.top + 1) (top + 1) (omega arith),
+      mul-le-mul_left factor reached,
+      sum_by-add old (λ v. factor * more v) (variables_to top),
+      sum_by-times factor more (variables_to top),
+    )
 
 -- ---- cancelling
 
@@ -109,17 +122,24 @@ left_holds values v a b =
     (λ (ts : List Term). cond (values v) a b ≤ weight values ts + min a b)
     (λ above. yes_left (values v) a b (ltb-true b a above))
     (λ low. cond_both (nat_lt a b) (record { coef = b - a; lit = no v } ∷ []) [] (λ (ts : List Term). cond (values v) a b ≤ weight values ts + min a b)
-      (λ above. no_left (values v) a b (ltb-true a b above))
-      (λ high. none_left (values v) a b (λ lt. omega (arith, ltb-false b a low)) (λ lt. omega (arith, ltb-false a b high))))
+    (λ above. no_left (values v) a b (ltb-true a b above))
+    (λ high. none_left (values v) a b (λ lt. omega (arith, ltb-false b a low)) (λ lt. omega (arith, ltb-false a b high))))
 
 all_left_hold : (values : ℕ → Bool) (count : Literal → ℕ) (n : ℕ) → sum_by (λ v. count (true_literal values v)) (range_with_len 0 n)
     ≤ weight values (flat_map (left_at count) (range_with_len 0 n)) + sum_by (common_at count) (range_with_len 0 n)
 all_left_hold values count zero = omega arith
 all_left_hold values count (suc n) =
     let left : List Term = flat_map (left_at count) (range_with_len 0 n) in
-    omega (arith, all_left_hold values count n, sum_to-more (λ v. count (true_literal values v)) n, sum_to-more (common_at count) n, by_value count n (values n),
-      left_holds values n (count (yes n)) (count (no n)), ap (weight values) (list_to-more (left_at count) n),
-      sum_by-append (λ (u : Term). cond (is_true values u.lit) u.coef 0) left (left_at count n))
+    omega (
+      arith,
+      all_left_hold values count n,
+      sum_to-more (λ v. count (true_literal values v)) n,
+      sum_to-more (common_at count) n,
+      by_value count n (values n),
+      left_holds values n (count (yes n)) (count (no n)),
+      ap (weight values) (list_to-more (left_at count) n),
+      sum_by-append (λ (u : Term). cond (is_true values u.lit) u.coef 0) left (left_at count n),
+    )
 
 pub cancelled_holds : (values : ℕ → Bool) (sum : Totals) → IsMet values sum → Satisfies values (cancelled sum)
 cancelled_holds values sum met = omega (arith, met, all_left_hold values sum.count (sum.top + 1))
@@ -136,8 +156,13 @@ div_ceil-mono a b d positive order =
 div_ceil-add : (a b d : ℕ) → 1 ≤ d → div_ceil (a + b) d ≤ div_ceil a d + div_ceil b d
 div_ceil-add a b d positive =
     elim (cases_lt (div_ceil a d + div_ceil b d) (div_ceil (a + b) d)) [
-      | inl above ↦ absurd (omega (arith, mul-le (div_ceil a d + div_ceil b d + 1) d (div_ceil (a + b) d) d (omega arith) (omega arith),
-          (div_ceil_times (a + b) d (omega arith)).1, (div_ceil_times a d (omega arith)).0, (div_ceil_times b d (omega arith)).0))
+      | inl above ↦ absurd (omega (
+        arith,
+        mul-le (div_ceil a d + div_ceil b d + 1) d (div_ceil (a + b) d) d (omega arith) (omega arith),
+        (div_ceil_times (a + b) d (omega arith)).1,
+        (div_ceil_times a d (omega arith)).0,
+        (div_ceil_times b d (omega arith)).0,
+      ))
       | inr within ↦ within
     ]
 
@@ -149,9 +174,15 @@ weight-divided : (values : ℕ → Bool) (divisor : ℕ) (terms : List Term) →
 weight-divided values divisor [] positive = div_ceil-le 0 divisor positive
 weight-divided values divisor (t ∷ terms) positive =
     let whole : div_ceil (weight values (t ∷ terms)) divisor ≡ div_ceil (cond (is_true values t.lit) t.coef 0 + weight values terms) divisor =
-        ap (λ (n : ℕ). div_ceil n divisor) (sum_by-cons (λ (u : Term). cond (is_true values u.lit) u.coef 0) t terms) in
-    omega (arith, whole, div_ceil-add (cond (is_true values t.lit) t.coef 0) (weight values terms) divisor positive, div_ceil-cond (is_true values t.lit) t.coef divisor positive,
-      weight-divided values divisor terms positive, sum_by-cons (λ (u : Term). cond (is_true values u.lit) u.coef 0) (divided_term divisor t) (map (divided_term divisor) terms))
+    ap (λ (n : ℕ). div_ceil n divisor) (sum_by-cons (λ (u : Term). cond (is_true values u.lit) u.coef 0) t terms) in
+    omega (
+      arith,
+      whole,
+      div_ceil-add (cond (is_true values t.lit) t.coef 0) (weight values terms) divisor positive,
+      div_ceil-cond (is_true values t.lit) t.coef divisor positive,
+      weight-divided values divisor terms positive,
+      sum_by-cons (λ (u : Term). cond (is_true values u.lit) u.coef 0) (divided_term divisor t) (map (divided_term divisor) terms),
+    )
 
 pub divided_holds : (values : ℕ → Bool) (divisor : ℕ) (row : Row) → 1 ≤ divisor → Satisfies values row → Satisfies values (divided divisor row)
 divided_holds values divisor row positive holds =

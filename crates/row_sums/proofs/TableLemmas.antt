@@ -95,8 +95,8 @@ pub up_to_more : (touched next : List ℕ) (counted v top : ℕ) → 1 ≤ v →
 up_to_more touched next counted v top from_one within all is =
     subst (λ (xs : List ℕ). AreUpTo top xs) (sym is)
     (cond_both (counted == 0) (touched ++ v ∷ []) touched (λ (xs : List ℕ). AreUpTo top xs)
-      (λ none. All-push (λ w. (1 ≤ w) × (w ≤ top)) touched v all (from_one, within))
-      (λ some. all))
+    (λ none. All-push (λ w. (1 ≤ w) × (w ≤ top)) touched v all (from_one, within))
+    (λ some. all))
 
 -- ---- more places
 
@@ -134,9 +134,13 @@ pub fits_step : (terms : List Term) (factor i : ℕ) (t : Term) (start before : 
 fits_step terms factor i t start before there is so_far fits =
     let alone : cond (is_same t.lit t.lit) t.coef 0 ≡ t.coef = ap (λ (b : Bool). cond b t.coef 0) (is_same-refl t.lit) in
     let more : count_in (take (i + 1) terms) t.lit ≡ count_in (take i terms) t.lit + t.coef =
-        count_in-more terms i t t.lit there is ∙ ap (λ (n : ℕ). count_in (take i terms) t.lit + n) alone in
-    omega (arith, so_far, ap (λ (n : ℕ). factor * n) more,
-      mul-le-mul_left factor (sum_by-take-le (λ (u : Term). cond (is_same u.lit t.lit) u.coef 0) terms (i + 1)))
+    count_in-more terms i t t.lit there is ∙ ap (λ (n : ℕ). count_in (take i terms) t.lit + n) alone in
+    omega (
+      arith,
+      so_far,
+      ap (λ (n : ℕ). factor * n) more,
+      mul-le-mul_left factor (sum_by-take-le (λ (u : Term). cond (is_same u.lit t.lit) u.coef 0) terms (i + 1)),
+    )
 
 -- a table that reaches a variable has places for those up to it
 pub places_all : (terms : List Term) (top places : ℕ) → 2 * top + 1 < places → All (λ t. t.lit.var ≤ top) terms → All (λ t. code_of t.lit < places) terms
@@ -184,8 +188,11 @@ IsKept-added before after noted next factor row kept is touched up_to top total 
 -- a narrow sum counts what fits
 pub fits_all : (before : Table) (noted : List ℕ) (factor : ℕ) (row : Row) → IsKept before noted → before.weight + factor * weight_of row.terms ≤ widest → (m : Literal) → count_at before.counts m + factor * count_in row.terms m < 2 ^ 128
 fits_all before noted factor row kept narrow m =
-    omega (arith, covered-most (λ l. count_at before.counts l + factor * count_in row.terms l) (before.weight + factor * weight_of row.terms)
-      (covered-plus (count_at before.counts) before.weight factor row.terms kept.covered) m)
+    omega (
+      arith,
+      covered-most (λ l. count_at before.counts l + factor * count_in row.terms l) (before.weight + factor * weight_of row.terms)
+          (covered-plus (count_at before.counts) before.weight factor row.terms kept.covered) m,
+    )
 
 -- nothing was added
 pub totals_of-same : (before after : Table) → after.top ≡ before.top → count_at after.counts ≡ count_at before.counts → after.weight ≡ before.weight → after.degree ≡ before.degree → totals_of after ≡ totals_of before

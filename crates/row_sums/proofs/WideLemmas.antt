@@ -41,8 +41,8 @@ left_over-cases P v a b none one =
     cond_both (nat_lt b a) (record { coef = a - b; lit = yes v } ∷ []) (cond (nat_lt a b) (record { coef = b - a; lit = no v } ∷ []) []) P
     (λ above. one (record { coef = a - b; lit = yes v }) refl (omega (arith, ltb-true b a above)))
     (λ other. cond_both (nat_lt a b) (record { coef = b - a; lit = no v } ∷ []) [] P
-      (λ below. one (record { coef = b - a; lit = no v }) refl (omega (arith, ltb-true a b below)))
-      (λ same. none))
+    (λ below. one (record { coef = b - a; lit = no v }) refl (omega (arith, ltb-true a b below)))
+    (λ same. none))
 
 -- coefficients from 1, variables that ascend up to a number
 pub record IsOrdered (terms : List Term) (n : ℕ) : Type 0 where
@@ -87,16 +87,21 @@ divided-ascending : (divisor : ℕ) (terms : List Term) → AllPairs (λ t u. t.
 divided-ascending divisor terms ascending i j d order there =
     let within : j < length terms = omega (arith, length-map terms (divided_term divisor)) in
     let first : (get_or (map (divided_term divisor) terms) i d).lit.var ≡ (get_or terms i d).lit.var =
-        ap (λ (t : Term). t.lit.var) (get_or-map (divided_term divisor) terms i d d (omega arith)) in
+    ap (λ (t : Term). t.lit.var) (get_or-map (divided_term divisor) terms i d d (omega arith)) in
     let second : (get_or (map (divided_term divisor) terms) j d).lit.var ≡ (get_or terms j d).lit.var =
-        ap (λ (t : Term). t.lit.var) (get_or-map (divided_term divisor) terms j d d within) in
+    ap (λ (t : Term). t.lit.var) (get_or-map (divided_term divisor) terms j d d within) in
     omega (arith, first, second, ascending i j d order within)
 
 weight_of-divided : (divisor : ℕ) (terms : List Term) → 1 ≤ divisor → weight_of (map (divided_term divisor) terms) ≤ weight_of terms
 weight_of-divided divisor [] positive = omega arith
 weight_of-divided divisor (t ∷ terms) positive =
-    omega (arith, sum_by-cons (λ (u : Term). u.coef) t terms, sum_by-cons (λ (u : Term). u.coef) (divided_term divisor t) (map (divided_term divisor) terms), div_ceil-le t.coef divisor positive,
-      weight_of-divided divisor terms positive)
+    omega (
+      arith,
+      sum_by-cons (λ (u : Term). u.coef) t terms,
+      sum_by-cons (λ (u : Term). u.coef) (divided_term divisor t) (map (divided_term divisor) terms),
+      div_ceil-le t.coef divisor positive,
+      weight_of-divided divisor terms positive,
+    )
 
 -- ---- what is left is no more than was counted
 
@@ -105,17 +110,23 @@ weight_of-left_over v a b =
     cond_both (nat_lt b a) (record { coef = a - b; lit = yes v } ∷ []) (cond (nat_lt a b) (record { coef = b - a; lit = no v } ∷ []) []) (λ (ts : List Term). weight_of ts ≤ a + b)
     (λ above. omega (arith, zero-add (a - b)))
     (λ other. cond_both (nat_lt a b) (record { coef = b - a; lit = no v } ∷ []) [] (λ (ts : List Term). weight_of ts ≤ a + b)
-      (λ below. omega (arith, zero-add (b - a)))
-      (λ same. omega arith))
+    (λ below. omega (arith, zero-add (b - a)))
+    (λ same. omega arith))
 
 weight_of-left : (count : Literal → ℕ) (n : ℕ) → weight_of (flat_map (λ v. left_over v (count (yes v)) (count (no v))) (range_with_len 0 n)) ≤ sum_by (count_both count) (range_with_len 0 n)
 weight_of-left count zero = omega arith
 weight_of-left count (suc n) =
     let left : List Term = flat_map (λ v. left_over v (count (yes v)) (count (no v))) (range_with_len 0 n) in
     let more : weight_of (flat_map (λ v. left_over v (count (yes v)) (count (no v))) (range_with_len 0 (suc n))) ≡ weight_of (left ++ left_over n (count (yes n)) (count (no n))) =
-        ap weight_of (list_to-more (λ v. left_over v (count (yes v)) (count (no v))) n) in
-    omega (arith, more, sum_by-append (λ (u : Term). u.coef) left (left_over n (count (yes n)) (count (no n))), sum_to-more (count_both count) n, weight_of-left_over n (count (yes n)) (count (no n)),
-      weight_of-left count n)
+    ap weight_of (list_to-more (λ v. left_over v (count (yes v)) (count (no v))) n) in
+    omega (
+      arith,
+      more,
+      sum_by-append (λ (u : Term). u.coef) left (left_over n (count (yes n)) (count (no n))),
+      sum_to-more (count_both count) n,
+      weight_of-left_over n (count (yes n)) (count (no n)),
+      weight_of-left count n,
+    )
 
 -- the row of a sum
 pub IsWide-divided : (sum : Totals) (divisor : ℕ) → 1 ≤ divisor → IsCovered sum.count sum.weight → sum.weight ≤ widest → sum.degree ≤ widest → IsWide (divided divisor (cancelled sum))

@@ -201,7 +201,12 @@ fn add_terms(
 }
 
 /// Room for the literals of variables up to `top` in the table, and for so many touched variables more.
-fn make_room(counts: &mut Vec<u128>, touched: &mut Vec<u32>, top: u32, more: usize) -> Result<(), AllocError>
+fn make_room(
+    counts: &mut Vec<u128>,
+    touched: &mut Vec<u32>,
+    top: u32,
+    more: usize,
+) -> Result<(), AllocError>
     requires { top ≤ 2147483647 }
     ensures counts { count_at counts.new.items ≡ count_at counts.old.items }
     ensures touched { touched.new.items ≡ touched.old.items }
@@ -238,7 +243,12 @@ fn add_counts(counts: &mut [u128], touched: &mut Vec<u32>, factor: u64, terms: &
         → AreUpTo top touched.new.items }
 {
     for term in terms {
-        add_count(counts, touched, term.lit, u128::from(factor) * u128::from(term.coef));
+        add_count(
+            counts,
+            touched,
+            term.lit,
+            u128::from(factor) * u128::from(term.coef),
+        );
     }
 }
 
@@ -341,7 +351,13 @@ fn cancel_from(
 }
 
 /// What is left of one variable, divided, and the degree less what cancels.
-fn cancel(counts: &[u128], var: u32, left: u128, divisor: u128, terms: &mut Vec<WideTerm>) -> Result<u128, AllocError>
+fn cancel(
+    counts: &[u128],
+    var: u32,
+    left: u128,
+    divisor: u128,
+    terms: &mut Vec<WideTerm>,
+) -> Result<u128, AllocError>
     requires divisor { 1 ≤ divisor }
     requires at_least { 1 ≤ var }
     requires at_most { var ≤ 2147483647 }
@@ -357,7 +373,13 @@ fn cancel(counts: &[u128], var: u32, left: u128, divisor: u128, terms: &mut Vec<
 }
 
 /// What is left of a literal that counts more than its negation, divided.
-fn push_left(lit: Lit, count: u128, other: u128, divisor: u128, terms: &mut Vec<WideTerm>) -> Result<(), AllocError>
+fn push_left(
+    lit: Lit,
+    count: u128,
+    other: u128,
+    divisor: u128,
+    terms: &mut Vec<WideTerm>,
+) -> Result<(), AllocError>
     requires { 1 ≤ divisor }
     ensures { OnOk result (terms.new.items ≡ (if nat_lt other count
         then terms.old.items ++ record { coef = div_ceil (count - other) divisor; lit = lit } ∷ []

@@ -105,7 +105,12 @@ pub fn wide_slack(terms: &[WideTerm], degree: u128, partial: &Partial) -> i128
 
 /// The first place at or after `from` whose literal the wide row forces: it is free, and its coefficient is above the
 /// slack. None exactly where there is none. It takes no memory.
-pub fn wide_forced(terms: &[WideTerm], degree: u128, partial: &Partial, from: usize) -> Option<usize>
+pub fn wide_forced(
+    terms: &[WideTerm],
+    degree: u128,
+    partial: &Partial,
+    from: usize,
+) -> Option<usize>
     requires known { All (λ t. t.lit.var ≤ length partial.now) terms.now }
     requires total { weight_of terms.now ≤ widest }
     requires no_conflict { degree ≤ partials.reach (valued partial.now) terms.now }

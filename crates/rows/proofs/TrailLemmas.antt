@@ -138,7 +138,7 @@ one_more values front t false false is = ap (λ (ts : List Term). all_set values
 -- a term more
 pub forced_so_far-more : (values : ℕ → Value) (terms : List Term) (degree k : ℕ) (d : Term) → k < length terms
     → set_if (nat_lt (reach values terms) (degree + (get_or terms k d).coef)) (forced_so_far values terms degree (take k terms)) (get_or terms k d).lit
-        ≡ forced_so_far values terms degree (take (k + 1) terms)
+    ≡ forced_so_far values terms degree (take (k + 1) terms)
 forced_so_far-more values terms degree k d there =
     one_more values (filter (is_forced values terms degree) (take k terms)) (get_or terms k d) (is_free (value_of values (get_or terms k d).lit)) (nat_lt (reach values terms) (degree + (get_or terms k d).coef)) refl
     ∙ ap (λ (ts : List Term). all_set values (map (λ t. t.lit) ts)) (sym (filter_more (is_forced values terms degree) terms k d there))

@@ -11,7 +11,7 @@ add_count-requires-clause-fits c =
     let lit = c.term-item.result.lit in
     rw (c.from.ensures, c.from-in-loop-term.ensures)
     (fits_step c.args.terms.now c.args.factor c.loop-term.term-index c.term-item.result (count_at c.args.counts.now lit) (count_at c.loop-term.counts lit)
-      (omega arith) c.term-item.is (c.loop-term.invariant.counts lit) (c.requires.fits lit))
+    (omega arith) c.term-item.is (c.loop-term.invariant.counts lit) (c.requires.fits lit))
 
 pub loop-term-preserved : goal.loop-term-preserved
 loop-term-preserved c =

@@ -11,7 +11,7 @@ loop-term-preserved c =
     let t : Term = record { coef = c.term.inside.coef; lit = c.term.inside.lit } in
     let there : c.loop-term.term-index < length c.args.terms.now = omega arith in
     let is : t ≡ get_or c.args.terms.now c.loop-term.term-index t =
-        c.term.view_is ∙ get_or_read c.args.terms.now c.loop-term.term-index c.term-item.result there c.term-item.is t in
+    c.term.view_is ∙ get_or_read c.args.terms.now c.loop-term.term-index c.term-item.result there c.term-item.is t in
     let next =
     c.in_ok-make_true_if.ensures.values
     ∙ ap (λ (b : Bool). set_if b (valued c.loop-term.partial) t.lit) c.is_needed-needed.ensures in

@@ -18,8 +18,8 @@ returns-then-not-are_narrow-clause-too_wide c =
     let row : Row = record { terms = c.args.terms.now; degree = c.args.degree } in
     let no = c.are_narrow.ensures.no c.if-not-are_narrow.true in
     let above : (widest < c.self.inside.total + c.args.factor * weight_of c.args.terms.now) ⊎ (widest < c.self.inside.degree + c.args.factor * c.args.degree) =
-        subst (λ (n : ℕ). (widest < c.self.inside.total + c.args.factor * n) ⊎ (widest < c.self.inside.degree + c.args.factor * c.args.degree)) c.measure-more.ensures.total
-        (subst (λ (n : ℕ). (widest < c.self.inside.total + c.args.factor * c.measure-more.result.0) ⊎ (widest < c.self.inside.degree + c.args.factor * n)) c.from.ensures no) in
+    subst (λ (n : ℕ). (widest < c.self.inside.total + c.args.factor * n) ⊎ (widest < c.self.inside.degree + c.args.factor * c.args.degree)) c.measure-more.ensures.total
+    (subst (λ (n : ℕ). (widest < c.self.inside.total + c.args.factor * c.measure-more.result.0) ⊎ (widest < c.self.inside.degree + c.args.factor * n)) c.from.ensures no) in
     λ wide. plus-wide before c.args.self.now c.args.factor row c.self.view_is above
 
 pub add_terms-requires-clause-known : goal.add_terms-requires-clause-known
@@ -32,9 +32,9 @@ add_terms-requires-clause-fits c =
     let row : Row = record { terms = c.args.terms.now; degree = c.args.degree } in
     let is = c.are_narrow.ensures.yes c.if-not-are_narrow.false in
     let weight : c.self.inside.total + c.args.factor * weight_of c.args.terms.now ≤ widest =
-        subst (λ (n : ℕ). c.self.inside.total + c.args.factor * n ≤ widest) c.measure-more.ensures.total is.0 in
+    subst (λ (n : ℕ). c.self.inside.total + c.args.factor * n ≤ widest) c.measure-more.ensures.total is.0 in
     let degree : c.self.inside.degree + c.args.factor * c.args.degree ≤ widest =
-        subst (λ (n : ℕ). c.self.inside.degree + c.args.factor * n ≤ widest) c.from.ensures is.1 in
+    subst (λ (n : ℕ). c.self.inside.degree + c.args.factor * n ≤ widest) c.from.ensures is.1 in
     fits_all before c.self.inside.touched.items c.args.factor row c.self.invariant weight
 
 pub add_terms-requires-clause-touched : goal.add_terms-requires-clause-touched
@@ -68,9 +68,9 @@ returns-in_err-add_terms-clause-mem c =
     let row : Row = record { terms = c.args.terms.now; degree = c.args.degree } in
     let is = c.are_narrow.ensures.yes c.if-not-are_narrow.false in
     let weight : c.self.inside.total + c.args.factor * weight_of c.args.terms.now ≤ widest =
-        subst (λ (n : ℕ). c.self.inside.total + c.args.factor * n ≤ widest) c.measure-more.ensures.total is.0 in
+    subst (λ (n : ℕ). c.self.inside.total + c.args.factor * n ≤ widest) c.measure-more.ensures.total is.0 in
     let degree : c.self.inside.degree + c.args.factor * c.args.degree ≤ widest =
-        subst (λ (n : ℕ). c.self.inside.degree + c.args.factor * n ≤ widest) c.from.ensures is.1 in
+    subst (λ (n : ℕ). c.self.inside.degree + c.args.factor * n ≤ widest) c.from.ensures is.1 in
     λ mem. plus-narrow before c.args.self.now c.args.factor row c.self.view_is weight degree
 
 pub returns-in_err-add_terms-clause-err : goal.returns-in_err-add_terms-clause-err
@@ -88,9 +88,9 @@ pub raised-self-inside-requires-2 : goal.raised-self-inside-requires-2
 raised-self-inside-requires-2 c =
     let is = c.are_narrow.ensures.yes c.if-not-are_narrow.false in
     let weight : c.self.inside.total + c.args.factor * weight_of c.args.terms.now ≤ widest =
-        subst (λ (n : ℕ). c.self.inside.total + c.args.factor * n ≤ widest) c.measure-more.ensures.total is.0 in
+    subst (λ (n : ℕ). c.self.inside.total + c.args.factor * n ≤ widest) c.measure-more.ensures.total is.0 in
     let degree : c.self.inside.degree + c.args.factor * c.args.degree ≤ widest =
-        subst (λ (n : ℕ). c.self.inside.degree + c.args.factor * n ≤ widest) c.from.ensures is.1 in
+    subst (λ (n : ℕ). c.self.inside.degree + c.args.factor * n ≤ widest) c.from.ensures is.1 in
     subst (λ (n : ℕ). c.self.inside.degree + c.args.factor * n ≤ widest) (sym c.from-2.ensures) degree
 
 pub invariant_of-self-2 : goal.invariant_of-self-2
@@ -99,9 +99,9 @@ invariant_of-self-2 c =
     let row : Row = record { terms = c.args.terms.now; degree = c.args.degree } in
     let is = c.are_narrow.ensures.yes c.if-not-are_narrow.false in
     let weight : c.self.inside.total + c.args.factor * weight_of c.args.terms.now ≤ widest =
-        subst (λ (n : ℕ). c.self.inside.total + c.args.factor * n ≤ widest) c.measure-more.ensures.total is.0 in
+    subst (λ (n : ℕ). c.self.inside.total + c.args.factor * n ≤ widest) c.measure-more.ensures.total is.0 in
     let degree : c.self.inside.degree + c.args.factor * c.args.degree ≤ widest =
-        subst (λ (n : ℕ). c.self.inside.degree + c.args.factor * n ≤ widest) c.from.ensures is.1 in
+    subst (λ (n : ℕ). c.self.inside.degree + c.args.factor * n ≤ widest) c.from.ensures is.1 in
     let after : Table = record { top = c.max-self-inside.result; counts = c.add_terms.new.counts.items; weight = c.raised-self-inside.result; degree = c.raised-self-inside-2.result } in
     let grown : after.top ≡ max before.top (top_of c.args.terms.now) = c.max-self-inside.ensures ∙ ap (λ (n : ℕ). max before.top n) c.measure-more.ensures.top in
     let added : IsAdded before after c.args.factor row = record {
@@ -135,7 +135,7 @@ returns-clause-narrow c =
     let row : Row = record { terms = c.args.terms.now; degree = c.args.degree } in
     let is = c.are_narrow.ensures.yes c.if-not-are_narrow.false in
     let weight : c.self.inside.total + c.args.factor * weight_of c.args.terms.now ≤ widest =
-        subst (λ (n : ℕ). c.self.inside.total + c.args.factor * n ≤ widest) c.measure-more.ensures.total is.0 in
+    subst (λ (n : ℕ). c.self.inside.total + c.args.factor * n ≤ widest) c.measure-more.ensures.total is.0 in
     let degree : c.self.inside.degree + c.args.factor * c.args.degree ≤ widest =
-        subst (λ (n : ℕ). c.self.inside.degree + c.args.factor * n ≤ widest) c.from.ensures is.1 in
+    subst (λ (n : ℕ). c.self.inside.degree + c.args.factor * n ≤ widest) c.from.ensures is.1 in
     plus-narrow before c.args.self.now c.args.factor row c.self.view_is weight degree

@@ -28,7 +28,7 @@ new-requires c =
     let start = c.in_ok-order.ensures.items ∙ c.deref.ensures.value in
     let before : Table = record { top = c.self.inside.top; counts = c.self.inside.counts.items; weight = c.self.inside.total; degree = c.self.inside.degree } in
     let up_to : AreUpTo c.self.inside.top c.deref-3.result.now =
-        All-sorted (λ v. (1 ≤ v) × (v ≤ c.self.inside.top)) c.self.inside.touched.items c.in_ok-order.order.items c.sort_unstable.new.self.items c.deref-3.result.now start c.sort_unstable.ensures.permutation c.deref-3.ensures.value c.self.invariant.up_to in
+    All-sorted (λ v. (1 ≤ v) × (v ≤ c.self.inside.top)) c.self.inside.touched.items c.in_ok-order.order.items c.sort_unstable.new.self.items c.deref-3.result.now start c.sort_unstable.ensures.permutation c.deref-3.ensures.value c.self.invariant.up_to in
     let made =
     row_of-table before c.deref-2.result.now c.from-divisor.result c.args.divisor c.cancel_all.new.terms.items c.in_ok-left.left c.div_ceil.result c.deref-2.ensures.value c.from-divisor.ensures
     (c.in_ok-left.ensures c.self.inside.top up_to) c.div_ceil.ensures in
@@ -39,7 +39,7 @@ returns c =
     let start = c.in_ok-order.ensures.items ∙ c.deref.ensures.value in
     let before : Table = record { top = c.self.inside.top; counts = c.self.inside.counts.items; weight = c.self.inside.total; degree = c.self.inside.degree } in
     let up_to : AreUpTo c.self.inside.top c.deref-3.result.now =
-        All-sorted (λ v. (1 ≤ v) × (v ≤ c.self.inside.top)) c.self.inside.touched.items c.in_ok-order.order.items c.sort_unstable.new.self.items c.deref-3.result.now start c.sort_unstable.ensures.permutation c.deref-3.ensures.value c.self.invariant.up_to in
+    All-sorted (λ v. (1 ≤ v) × (v ≤ c.self.inside.top)) c.self.inside.touched.items c.in_ok-order.order.items c.sort_unstable.new.self.items c.deref-3.result.now start c.sort_unstable.ensures.permutation c.deref-3.ensures.value c.self.invariant.up_to in
     let made =
     row_of-table before c.deref-2.result.now c.from-divisor.result c.args.divisor c.cancel_all.new.terms.items c.in_ok-left.left c.div_ceil.result c.deref-2.ensures.value c.from-divisor.ensures
     (c.in_ok-left.ensures c.self.inside.top up_to) c.div_ceil.ensures in
