@@ -1,5 +1,8 @@
 -- What a reader of a claim must believe:
 --
--- What rows add up to, and the row that a sum stands for:
+-- How rows are added up, and what row a sum stands for:
 pub mod Sums
 -- Kept inside (laws, and how fields are seen):
+--
+-- How a sum keeps what its literals count:
+pub mod Tables

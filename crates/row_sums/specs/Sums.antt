@@ -9,6 +9,10 @@ use Rattle.rows.specs.declared.lit.Term.{Term}
 
 -- ---- what terms add up to
 
+-- a variable with a sign
+abbrev pub literal : ℕ → Bool → Literal
+literal v positive = record { var = v; positive = positive }
+
 -- whether two literals are one
 abbrev pub is_same : Literal → Literal → Bool
 is_same l m = l.var == m.var && beq l.positive m.positive
@@ -18,8 +22,8 @@ abbrev pub count_in : List Term → Literal → ℕ
 count_in terms l = sum_by (λ t. if is_same t.lit l then t.coef else 0) terms
 
 -- all coefficients
-abbrev pub total_of : List Term → ℕ
-total_of terms = sum_by (λ t. t.coef) terms
+abbrev pub weight_of : List Term → ℕ
+weight_of terms = sum_by (λ t. t.coef) terms
 
 -- the greatest variable, or 0
 abbrev pub top_of : List Term → ℕ
@@ -32,18 +36,18 @@ top_of (t ∷ terms) = max t.lit.var (top_of terms)
 pub record Totals : Type 0 where
   pub top : ℕ
   pub count : Literal → ℕ
-  pub total : ℕ
+  pub weight : ℕ
   pub degree : ℕ
 
 abbrev pub no_totals : Totals
-no_totals = record { top = 0; count = λ l. 0; total = 0; degree = 0 }
+no_totals = record { top = 0; count = λ l. 0; weight = 0; degree = 0 }
 
 -- a row more, times a factor
 abbrev pub plus : Totals → ℕ → Row → Totals
 plus sum factor row = record {
   top = max sum.top (top_of row.terms);
   count = λ l. sum.count l + factor * count_in row.terms l;
-  total = sum.total + factor * total_of row.terms;
+  weight = sum.weight + factor * weight_of row.terms;
   degree = sum.degree + factor * row.degree;
 }
 
@@ -53,7 +57,7 @@ widest = 170141183460469231731687303715884105727
 
 -- All coefficients together count, also those of a literal and its negation, which cancel later.
 abbrev pub is_too_wide : Totals → Bool
-is_too_wide sum = nat_lt widest sum.total || nat_lt widest sum.degree
+is_too_wide sum = nat_lt widest sum.weight || nat_lt widest sum.degree
 
 -- ---- the row of a sum
 
@@ -88,5 +92,5 @@ divided divisor row = record { terms = map (divided_term divisor) row.terms; deg
 pub record IsWide (row : Row) : Type 0 where
   pub coefs : All (λ t. 1 ≤ t.coef) row.terms
   pub ascending : AllPairs (λ t u. t.lit.var < u.lit.var) row.terms
-  pub total : total_of row.terms ≤ widest
+  pub weight : weight_of row.terms ≤ widest
   pub degree : row.degree ≤ widest

@@ -1,11 +1,11 @@
 -- Literals that are made true, one after the other.
-use Rattle.std.proofs.Common.{◌≡◌, ◌≢◌, ℕ, zero, suc, ◌+◌, ◌-◌, ◌<◌, ◌≤◌, ◌==◌, Bool, true, false, ◌&&◌, nat_lt, cond, List, [], ◌∷◌, ◌++◌, length, get_or, take, map}
+use Rattle.std.proofs.Common.{◌≡◌, ◌≢◌, ℕ, zero, suc, ◌+◌, ◌-◌, ◌<◌, ◌≤◌, ◌==◌, Bool, true, false, ◌&&◌, nat_lt, cond, List, [], ◌∷◌, ◌++◌, length, get_or, replicate, take, map}
 use Rattle.std.proofs.Common.{refl, inl, inr, arith, ap, sym, subst, ◌∙◌, get_or-set_same, get_or-set_other}
 use Rattle.std.specs.Prelude.{Contains, slice_set}
 use Rattle.std.specs.List.{All, filter, fold}
-use Rattle.std.proofs.lemmas.Bool.{cases_eq, eq-eqb, false≢true, ne_eqb}
-use Rattle.std.proofs.lemmas.List.{append-nil, length-set, map-append}
-use Rattle.std.proofs.lemmas.List.Elements.{All-push, All-weaker, Contains-append_left, Contains-push, filter_more}
+use Rattle.std.proofs.lemmas.Bool.{cases_eq, cases_lt, eq-eqb, false≢true, ne_eqb}
+use Rattle.std.proofs.lemmas.List.{append-nil, get_or_past, get_or-replicate, length-replicate, length-set, map-append}
+use Rattle.std.proofs.lemmas.List.Elements.{All-nil, All-push, All-weaker, Contains-append_left, Contains-push, filter_more}
 use Rattle.std.proofs.lemmas.List.Sums.{fold_push}
 use mathlib.Core.Path.{fun_ext}
 use Rattle.rows.specs.Forcing.{all_set, set_true}
@@ -138,7 +138,7 @@ one_more values front t false false is = ap (λ (ts : List Term). all_set values
 -- a term more
 pub forced_so_far-more : (values : ℕ → Value) (terms : List Term) (degree k : ℕ) (d : Term) → k < length terms
     → set_if (nat_lt (reach values terms) (degree + (get_or terms k d).coef)) (forced_so_far values terms degree (take k terms)) (get_or terms k d).lit
-        ≡ forced_so_far values terms degree (take (k + 1) terms)
+    ≡ forced_so_far values terms degree (take (k + 1) terms)
 forced_so_far-more values terms degree k d there =
     one_more values (filter (is_forced values terms degree) (take k terms)) (get_or terms k d) (is_free (value_of values (get_or terms k d).lit)) (nat_lt (reach values terms) (degree + (get_or terms k d).coef)) refl
     ∙ ap (λ (ts : List Term). all_set values (map (λ t. t.lit) ts)) (sym (filter_more (is_forced values terms degree) terms k d there))
@@ -152,3 +152,23 @@ force_step values terms degree reached k t now next there is counted so_far is_n
     ∙ ap (λ (w : ℕ → Value). set_if (nat_lt (reach values terms) (degree + t.coef)) w t.lit) so_far
     ∙ ap (λ (u : Term). set_if (nat_lt (reach values terms) (degree + u.coef)) (forced_so_far values terms degree (take k terms)) u.lit) is
     ∙ forced_so_far-more values terms degree k t there
+
+-- ---- nothing set
+
+free_at : (n v : ℕ) → valued (replicate n Free) v ≡ Free
+free_at n zero = refl
+free_at n (suc v) =
+    elim (cases_lt v n) [
+      | inl there ↦ get_or-replicate n v Free Free there
+      | inr past ↦ get_or_past (replicate n Free) v Free (omega (arith, length-replicate n Free))
+    ]
+
+-- no variable has a value
+pub valued-none : (n : ℕ) → valued (replicate n Free) ≡ (λ v. Free)
+valued-none n = fun_ext (free_at n)
+
+pub IsListed-none : (n : ℕ) → IsListed (replicate n Free) []
+IsListed-none n = record {
+  set = λ v taken. absurd (taken (free_at n v));
+  within = All-nil (λ v. (1 ≤ v) × (v ≤ length (replicate n Free)));
+}

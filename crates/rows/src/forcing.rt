@@ -99,14 +99,23 @@ pub fn make_true(lit: Lit, partial: &mut Partial, trail: &mut Vec<u32>) -> Resul
 }
 
 /// The same where a test says so.
-pub fn make_true_if(test: bool, lit: Lit, partial: &mut Partial, trail: &mut Vec<u32>) -> Result<(), AllocError>
+pub fn make_true_if(
+    test: bool,
+    lit: Lit,
+    partial: &mut Partial,
+    trail: &mut Vec<u32>,
+) -> Result<(), AllocError>
     requires known { lit.var ≤ length partial.old }
     requires listed { IsListed partial.old trail.old.items }
     ensures values { OnOk result (valued partial.new ≡ set_if test (valued partial.old) lit) }
     ensures length { length partial.new ≡ length partial.old }
     ensures listed { IsListed partial.new trail.new.items }
 {
-    if test { make_true(lit, partial, trail) } else { Ok(()) }
+    if test {
+        make_true(lit, partial, trail)
+    } else {
+        Ok(())
+    }
 }
 
 /// The reach of a row: the coefficients of its literals that aren't false, summed. Where it is below the degree the row

@@ -1,5 +1,5 @@
 //! What no clause says: that memory is found, and how much a literal and a term take.
-use crate::{Assignment, Lit, Partial, RowStore, Term, Value, forced, slack};
+use crate::{Assignment, Lit, Partial, RowStore, Term, Value, force, forced, reach, slack};
 use std::test::Fail;
 
 #[test]
@@ -33,6 +33,28 @@ fn a_row_forces(rt: HostRuntime) -> Result<(), Fail> {
     assert_eq!(rt; forced(&terms, 2, &partial, 1), None);
     partial.unset(2);
     assert!(rt; partial.value(Lit::new(2, false)) == Value::Free);
+    Ok(())
+}
+
+#[test]
+fn forced_literals_are_made_true(rt: HostRuntime) -> Result<(), Fail> {
+    let alloc = rt.alloc();
+    let terms = [
+        Term {
+            coef: 1,
+            lit: Lit::new(1, true),
+        },
+        Term {
+            coef: 3,
+            lit: Lit::new(2, false),
+        },
+    ];
+    let mut partial = Partial::new(alloc, 2)?;
+    let mut trail = Vec::new(alloc);
+    let reached = reach(&terms, &partial);
+    force(&terms, 2, reached, &mut partial, &mut trail)?;
+    assert_eq!(rt; trail.as_slice(), [2].as_slice());
+    assert!(rt; partial.value(Lit::new(2, false)) == Value::True);
     Ok(())
 }
 

@@ -1,0 +1,13 @@
+-- What terms count, variable by variable:
+pub mod CountLemmas
+pub mod WideLemmas
+-- How a table keeps what literals count:
+pub mod TableLemmas
+-- The row of a sum, variable by variable:
+pub mod CancelLemmas
+pub mod ClearLemmas
+pub mod AddLemmas
+-- What a sum's row says:
+pub mod SumLaws
+-- Worked examples, so that a wrong definition does not check:
+pub mod SumFacts
