@@ -1,12 +1,14 @@
 -- What a sum says where a row is added, or refused.
-use Rattle.std.proofs.Common.{◌≡◌, ℕ, ◌+◌, ◌*◌, ◌<◌, ◌≤◌, true, false, ◌⊎◌, nat_lt, max, List, map, inl, inr, arith, ap, subst, sym, ◌∙◌}
+use Rattle.std.proofs.Common.{◌≡◌, ℕ, ◌+◌, ◌-◌, ◌*◌, ◌^◌, ◌<◌, ◌≤◌, true, false, ◌⊎◌, nat_lt, max, min, List, map, inl, inr, arith, ap, subst, sym, ◌∙◌}
 use Rattle.std.specs.Prelude.{Contains}
 use Rattle.std.specs.Int.{div_ceil}
 use Rattle.std.specs.List.{All}
 use Rattle.std.specs.List.Sorted.{IsPermutation}
 use Rattle.std.proofs.lemmas.Bool.{le-ltb, lt-ltb, or_from, or_left, or_right}
+use Rattle.std.proofs.Math.Nat.{mul-le-mul_left}
 use Rattle.std.proofs.lemmas.List.Elements.{All-weaker}
 use Rattle.std.proofs.lemmas.List.Sorted.{All-permutation, Contains-permutation}
+use Rattle.std.proofs.lemmas.Nat.{mul-le}
 use Rattle.rows.specs.Rows.{Row}
 use Rattle.rows.specs.declared.lit.Term.{Term}
 use Rattle.row_sums.specs.Sums.{IsWide, cancelled, divided, divided_term, is_too_wide, plus, top_of, weight_of, widest}
@@ -67,3 +69,19 @@ row_of-table t shown divisor by done left degree same is cancels rounded =
 
 pub IsWide-table : (t : Table) (touched : List ℕ) (by : ℕ) (made : Row) → IsKept t touched → 1 ≤ by → made ≡ divided by (cancelled (totals_of t)) → IsWide made
 IsWide-table t touched by made kept positive is = subst (λ (r : Row). IsWide r) (sym is) (IsWide-divided (totals_of t) by positive kept.covered kept.weight kept.degree)
+
+-- ---- a weight that is only known up to the greatest number
+
+-- where the sum stays narrow it is exact
+pub narrow_weight : (total factor more weight : ℕ) → 1 ≤ factor → more ≡ min weight (2 ^ 128 - 1) → total + factor * more ≤ widest → more ≡ weight
+narrow_weight total factor more weight positive is narrow =
+    let small : more ≤ widest = omega (arith, mul-le 1 more factor more positive (omega arith)) in
+    omega arith
+
+-- and where it doesn't, the weight is too wide too
+pub wide_weight : (total factor more weight : ℕ) (other : Type 0) → more ≡ min weight (2 ^ 128 - 1) → (widest < total + factor * more) ⊎ other → (widest < total + factor * weight) ⊎ other
+wide_weight total factor more weight other is above =
+    elim above [
+      | inl wide ↦ inl (omega (arith, wide, mul-le-mul_left factor (let most : more ≤ weight = omega arith in most)))
+      | inr rest ↦ inr rest
+    ]

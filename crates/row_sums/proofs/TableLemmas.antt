@@ -27,76 +27,12 @@ same_code v w true false same = absurd (omega arith)
 same_code v w false true same = absurd (omega arith)
 same_code v w false false same = ap (λ (b : Bool). b && true) (eq-eqb v w (omega arith))
 
-other_code : (v w : ℕ) (p q : Bool) → v * 2 + cond p 0 1 ≢ w * 2 + cond q 0 1 → (v == w && beq p q) ≡ false
-other_code v w true true other = ap (λ (b : Bool). b && true) (ne_eqb v w (λ same. other (ap (λ (u : ℕ). u * 2 + 0) same)))
-other_code v w true false other = and_right (v == w) false refl
-other_code v w false true other = and_right (v == w) false refl
-other_code v w false false other = ap (λ (b : Bool). b && true) (ne_eqb v w (λ same. other (ap (λ (u : ℕ). u * 2 + 1) same)))
-
-same_var : (v w : ℕ) (p q : Bool) → v * 2 + cond p 0 1 ≡ w * 2 + cond q 0 1 → v ≡ w
-same_var v w true true same = omega arith
-same_var v w true false same = absurd (omega arith)
-same_var v w false true same = absurd (omega arith)
-same_var v w false false same = omega arith
-
 code_by_sign : (v : ℕ) (p : Bool) (top : ℕ) → v ≤ top → v * 2 + cond p 0 1 ≤ 2 * top + 1
 code_by_sign v true top within = omega arith
 code_by_sign v false top within = omega arith
 
 pub code_of-le : (l : Literal) (top : ℕ) → l.var ≤ top → code_of l ≤ 2 * top + 1
 code_of-le l top within = code_by_sign l.var l.positive top within
-
--- ---- one literal counts more
-
-pub count_at-set : (counts : List ℕ) (l : Literal) (more : ℕ) → code_of l < length counts → (m : Literal) → count_at (slice_set counts (code_of l) (count_at counts l + more)) m ≡ count_at counts m + cond (is_same l m) more 0
-count_at-set counts l more there m =
-    elim (cases_eq (code_of m) (code_of l)) [
-      | inl same ↦
-          let new : get_or (slice_set counts (code_of l) (count_at counts l + more)) (code_of l) 0 ≡ count_at counts l + more = get_or-set_same counts (code_of l) (count_at counts l + more) 0 there in
-          ap (λ (k : ℕ). get_or (slice_set counts (code_of l) (count_at counts l + more)) k 0) same
-          ∙ new
-          ∙ ap (λ (k : ℕ). get_or counts k 0 + more) (sym same)
-          ∙ ap (λ (b : Bool). count_at counts m + cond b more 0) (sym (same_code l.var m.var l.positive m.positive (sym same)))
-      | inr other ↦
-          let nothing : count_at counts m ≡ count_at counts m + 0 = omega arith in
-          get_or-set_other counts (code_of l) (code_of m) (count_at counts l + more) 0 other
-          ∙ nothing
-          ∙ ap (λ (b : Bool). count_at counts m + cond b more 0) (sym (other_code l.var m.var l.positive m.positive (λ same. other (sym same))))
-    ]
-
--- and its variable is listed, if it wasn't
-pub touched_more : (counts : List ℕ) (touched : List ℕ) (l : Literal) (more : ℕ) (next : List ℕ) → code_of l < length counts → AreTouched (count_at counts) touched
-    → next ≡ cond (count_at counts l == 0) (touched ++ l.var ∷ []) touched → AreTouched (count_at (slice_set counts (code_of l) (count_at counts l + more))) next
-touched_more counts touched l more next there all is m counts_now =
-    elim (cases_eq (count_at counts l) 0) [
-      | inl none ↦
-          subst (λ (xs : List ℕ). Contains xs m.var) (sym (is ∙ ap (λ (b : Bool). cond b (touched ++ l.var ∷ []) touched) (eq-eqb (count_at counts l) 0 none)))
-          (elim (cases_eq (count_at counts m) 0) [
-            | inl new ↦
-                elim (cases_eq (code_of m) (code_of l)) [
-                  | inl same ↦ subst (λ (v : ℕ). Contains (touched ++ l.var ∷ []) v) (same_var l.var m.var l.positive m.positive (sym same)) (Contains-push touched l.var)
-                  | inr other ↦ absurd (counts_now (get_or-set_other counts (code_of l) (code_of m) (count_at counts l + more) 0 other ∙ new))
-                ]
-            | inr old ↦ Contains-append_left touched (l.var ∷ []) m.var (all m old)
-          ])
-      | inr some ↦
-          subst (λ (xs : List ℕ). Contains xs m.var) (sym (is ∙ ap (λ (b : Bool). cond b (touched ++ l.var ∷ []) touched) (ne_eqb (count_at counts l) 0 some)))
-          (elim (cases_eq (count_at counts m) 0) [
-            | inl new ↦
-                elim (cases_eq (code_of m) (code_of l)) [
-                  | inl same ↦ absurd (some (ap (λ (k : ℕ). get_or counts k 0) (sym same) ∙ new))
-                  | inr other ↦ absurd (counts_now (get_or-set_other counts (code_of l) (code_of m) (count_at counts l + more) 0 other ∙ new))
-                ]
-            | inr old ↦ all m old
-          ])
-    ]
-
-pub up_to_more : (touched next : List ℕ) (counted v top : ℕ) → 1 ≤ v → v ≤ top → AreUpTo top touched → next ≡ cond (counted == 0) (touched ++ v ∷ []) touched → AreUpTo top next
-up_to_more touched next counted v top from_one within all is =
-    subst (λ (xs : List ℕ). AreUpTo top xs) (sym is)
-    (cond_both (counted == 0) (touched ++ v ∷ []) touched (λ (xs : List ℕ). AreUpTo top xs)
-    (λ none. All-push (λ w. (1 ≤ w) × (w ≤ top)) touched v all (from_one, within))
-    (λ some. all))
 
 -- ---- more places
 

@@ -1,5 +1,5 @@
 //! Rows added up.
-ghost use Rattle.std.specs.Prelude.{◌≡◌, ℕ, ◌+◌, ◌-◌, ◌*◌, ◌^◌, ◌<◌, ◌≤◌, ◌==◌, ◌⊎◌, [], ◌∷◌, ◌++◌, true, false, nat_lt, length, map};
+ghost use Rattle.std.specs.Prelude.{◌≡◌, ℕ, ◌+◌, ◌-◌, ◌*◌, ◌^◌, ◌<◌, ◌≤◌, ◌==◌, ◌⊎◌, [], ◌∷◌, ◌++◌, true, false, min, nat_lt, length, map};
 ghost use Rattle.std.specs.Prelude.{if◌then◌else◌, slice_set, IfOk, OnOk, OnErr, vec_len, vec_capacity};
 ghost use Rattle.std.specs.Int.{div_ceil};
 ghost use Rattle.std.specs.List.{All};
@@ -103,6 +103,36 @@ impl Sum {
         Ok(())
     }
 
+    /// Adds a wide row, times a factor from 1.
+    ///
+    /// # Errors
+    /// `TooWide` exactly where a total would be above 2^127 - 1, and `Mem` where memory runs out. The sum is then as it
+    /// was.
+    pub fn add_wide(&mut self, factor: u64, terms: &[WideTerm], degree: u128) -> Result<(), SumFault>
+        requires { 1 ≤ factor }
+        ensures ok { OnOk result (totals_of self.new
+            ≡ plus (totals_of self.old) factor (record { terms = terms.now; degree = degree })) }
+        ensures narrow { OnOk result
+            (is_too_wide (plus (totals_of self.old) factor (record { terms = terms.now; degree = degree })) ≡ false) }
+
+        // What each error says.
+        ensures too_wide { result ≡ Err SumFault.TooWide
+            → is_too_wide (plus (totals_of self.old) factor (record { terms = terms.now; degree = degree })) ≡ true }
+        ensures mem { result ≡ Err SumFault.Mem
+            → is_too_wide (plus (totals_of self.old) factor (record { terms = terms.now; degree = degree })) ≡ false }
+        ensures err { OnErr result (totals_of self.new ≡ totals_of self.old) }
+    {
+        let (more, top) = measure_wide(terms);
+        if !are_narrow(self.total, self.degree, factor, more, degree) {
+            return Err(SumFault::TooWide);
+        }
+        add_wide_terms(&mut self.counts, &mut self.touched, factor, terms, top)?;
+        self.top = self.top.max(top);
+        self.total = raised(self.total, factor, more);
+        self.degree = raised(self.degree, factor, degree);
+        Ok(())
+    }
+
     /// The row of the sum: each literal against its negation, then each number divided by a divisor from 1, rounding up.
     ///
     /// # Errors
@@ -141,6 +171,22 @@ fn measure(terms: &[Term]) -> (u128, u32)
     let mut top = 0;
     for term in terms {
         total += u128::from(term.coef);
+        top = term.lit.var().max(top);
+    }
+    (total, top)
+}
+
+/// The total of the coefficients, or the greatest number of 128 bits where it is above that, and the greatest variable,
+/// or 0.
+fn measure_wide(terms: &[WideTerm]) -> (u128, u32)
+    ensures total { result.0 ≡ min (weight_of terms.now) (2 ^ 128 - 1) }
+    ensures top { result.1 ≡ top_of terms.now }
+    ensures few { result.1 ≤ 2147483647 }
+{
+    let mut total: u128 = 0;
+    let mut top = 0;
+    for term in terms {
+        total = total.saturating_add(term.coef);
         top = term.lit.var().max(top);
     }
     (total, top)
@@ -200,6 +246,31 @@ fn add_terms(
     Ok(())
 }
 
+/// Adds wide terms, times a factor, to a table and its touched variables, of which none is above `top`.
+fn add_wide_terms(
+    counts: &mut Vec<u128>,
+    touched: &mut Vec<u32>,
+    factor: u64,
+    terms: &[WideTerm],
+    top: u32,
+) -> Result<(), AllocError>
+    requires top { top ≤ 2147483647 }
+    requires known { All (λ t. t.lit.var ≤ top) terms.now }
+    requires fits { (l : Literal) → count_at counts.old.items l + factor * count_in terms.now l < 2 ^ 128 }
+    requires touched { AreTouched (count_at counts.old.items) touched.old.items }
+    ensures counts { OnOk result
+        ((l : Literal) → count_at counts.new.items l ≡ count_at counts.old.items l + factor * count_in terms.now l) }
+    ensures touched { OnOk result (AreTouched (count_at counts.new.items) touched.new.items) }
+    ensures up_to { OnOk result ((limit : ℕ) → AreUpTo limit touched.old.items → All (λ t. t.lit.var ≤ limit) terms.now
+        → AreUpTo limit touched.new.items) }
+    ensures same_counts { OnErr result (count_at counts.new.items ≡ count_at counts.old.items) }
+    ensures same_touched { OnErr result (touched.new.items ≡ touched.old.items) }
+{
+    make_room(counts, touched, top, terms.len())?;
+    add_wide_counts(counts, touched, factor, terms);
+    Ok(())
+}
+
 /// Room for the literals of variables up to `top` in the table, and for so many touched variables more.
 fn make_room(
     counts: &mut Vec<u128>,
@@ -249,6 +320,22 @@ fn add_counts(counts: &mut [u128], touched: &mut Vec<u32>, factor: u64, terms: &
             term.lit,
             u128::from(factor) * u128::from(term.coef),
         );
+    }
+}
+
+/// Adds each wide coefficient, times the factor, to what its literal counts, and lists the variables for which that was 0.
+fn add_wide_counts(counts: &mut [u128], touched: &mut Vec<u32>, factor: u64, terms: &[WideTerm])
+    requires places { All (λ t. code_of t.lit < length counts.old) terms.now }
+    requires fits { (l : Literal) → count_at counts.old l + factor * count_in terms.now l < 2 ^ 128 }
+    requires room { vec_len touched.old + length terms.now ≤ vec_capacity touched.old }
+    requires touched { AreTouched (count_at counts.old) touched.old.items }
+    ensures counts { (l : Literal) → count_at counts.new l ≡ count_at counts.old l + factor * count_in terms.now l }
+    ensures touched { AreTouched (count_at counts.new) touched.new.items }
+    ensures up_to { (top : ℕ) → AreUpTo top touched.old.items → All (λ t. t.lit.var ≤ top) terms.now
+        → AreUpTo top touched.new.items }
+{
+    for term in terms {
+        add_count(counts, touched, term.lit, u128::from(factor) * term.coef);
     }
 }
 
