@@ -108,7 +108,12 @@ impl Sum {
     /// # Errors
     /// `TooWide` exactly where a total would be above 2^127 - 1, and `Mem` where memory runs out. The sum is then as it
     /// was.
-    pub fn add_wide(&mut self, factor: u64, terms: &[WideTerm], degree: u128) -> Result<(), SumFault>
+    pub fn add_wide(
+        &mut self,
+        factor: u64,
+        terms: &[WideTerm],
+        degree: u128,
+    ) -> Result<(), SumFault>
         requires { 1 ≤ factor }
         ensures ok { OnOk result (totals_of self.new
             ≡ plus (totals_of self.old) factor (record { terms = terms.now; degree = degree })) }

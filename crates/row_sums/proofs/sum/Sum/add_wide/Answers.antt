@@ -18,7 +18,7 @@ returns-then-not-are_narrow-clause-too_wide c =
     let row : Row = record { terms = c.args.terms.now; degree = c.args.degree } in
     let no = c.are_narrow.ensures.no c.if-not-are_narrow.true in
     let above : (widest < c.self.inside.total + c.args.factor * weight_of c.args.terms.now) ⊎ (widest < c.self.inside.degree + c.args.factor * c.args.degree) =
-        wide_weight c.self.inside.total c.args.factor c.measure_wide-more.result.0 (weight_of c.args.terms.now) (widest < c.self.inside.degree + c.args.factor * c.args.degree) c.measure_wide-more.ensures.total no in
+    wide_weight c.self.inside.total c.args.factor c.measure_wide-more.result.0 (weight_of c.args.terms.now) (widest < c.self.inside.degree + c.args.factor * c.args.degree) c.measure_wide-more.ensures.total no in
     λ wide. plus-wide before c.args.self.now c.args.factor row c.self.view_is above
 
 pub add_wide_terms-requires-clause-known : goal.add_wide_terms-requires-clause-known
@@ -32,7 +32,7 @@ add_wide_terms-requires-clause-fits c =
     let is = c.are_narrow.ensures.yes c.if-not-are_narrow.false in
     let exact : c.measure_wide-more.result.0 ≡ weight_of c.args.terms.now = narrow_weight c.self.inside.total c.args.factor c.measure_wide-more.result.0 (weight_of c.args.terms.now) c.requires c.measure_wide-more.ensures.total is.0 in
     let weight : c.self.inside.total + c.args.factor * weight_of c.args.terms.now ≤ widest =
-        subst (λ (n : ℕ). c.self.inside.total + c.args.factor * n ≤ widest) exact is.0 in
+    subst (λ (n : ℕ). c.self.inside.total + c.args.factor * n ≤ widest) exact is.0 in
     let degree : c.self.inside.degree + c.args.factor * c.args.degree ≤ widest = is.1 in
     fits_all before c.self.inside.touched.items c.args.factor row c.self.invariant weight
 
@@ -68,7 +68,7 @@ returns-in_err-add_wide_terms-clause-mem c =
     let is = c.are_narrow.ensures.yes c.if-not-are_narrow.false in
     let exact : c.measure_wide-more.result.0 ≡ weight_of c.args.terms.now = narrow_weight c.self.inside.total c.args.factor c.measure_wide-more.result.0 (weight_of c.args.terms.now) c.requires c.measure_wide-more.ensures.total is.0 in
     let weight : c.self.inside.total + c.args.factor * weight_of c.args.terms.now ≤ widest =
-        subst (λ (n : ℕ). c.self.inside.total + c.args.factor * n ≤ widest) exact is.0 in
+    subst (λ (n : ℕ). c.self.inside.total + c.args.factor * n ≤ widest) exact is.0 in
     let degree : c.self.inside.degree + c.args.factor * c.args.degree ≤ widest = is.1 in
     λ mem. plus-narrow before c.args.self.now c.args.factor row c.self.view_is weight degree
 
@@ -94,7 +94,7 @@ invariant_of-self-2 c =
     let is = c.are_narrow.ensures.yes c.if-not-are_narrow.false in
     let exact : c.measure_wide-more.result.0 ≡ weight_of c.args.terms.now = narrow_weight c.self.inside.total c.args.factor c.measure_wide-more.result.0 (weight_of c.args.terms.now) c.requires c.measure_wide-more.ensures.total is.0 in
     let weight : c.self.inside.total + c.args.factor * weight_of c.args.terms.now ≤ widest =
-        subst (λ (n : ℕ). c.self.inside.total + c.args.factor * n ≤ widest) exact is.0 in
+    subst (λ (n : ℕ). c.self.inside.total + c.args.factor * n ≤ widest) exact is.0 in
     let degree : c.self.inside.degree + c.args.factor * c.args.degree ≤ widest = is.1 in
     let after : Table = record { top = c.max-self-inside.result; counts = c.add_wide_terms.new.counts.items; weight = c.raised-self-inside.result; degree = c.raised-self-inside-2.result } in
     let grown : after.top ≡ max before.top (top_of c.args.terms.now) = c.max-self-inside.ensures ∙ ap (λ (n : ℕ). max before.top n) c.measure_wide-more.ensures.top in
@@ -132,6 +132,6 @@ returns-clause-narrow c =
     let is = c.are_narrow.ensures.yes c.if-not-are_narrow.false in
     let exact : c.measure_wide-more.result.0 ≡ weight_of c.args.terms.now = narrow_weight c.self.inside.total c.args.factor c.measure_wide-more.result.0 (weight_of c.args.terms.now) c.requires c.measure_wide-more.ensures.total is.0 in
     let weight : c.self.inside.total + c.args.factor * weight_of c.args.terms.now ≤ widest =
-        subst (λ (n : ℕ). c.self.inside.total + c.args.factor * n ≤ widest) exact is.0 in
+    subst (λ (n : ℕ). c.self.inside.total + c.args.factor * n ≤ widest) exact is.0 in
     let degree : c.self.inside.degree + c.args.factor * c.args.degree ≤ widest = is.1 in
     plus-narrow before c.args.self.now c.args.factor row c.self.view_is weight degree
