@@ -1,21 +1,18 @@
 -- A walk over the variables that count, in their order.
-use Rattle.std.proofs.Common.{◌≡◌, ◌≢◌, ℕ, zero, suc, ◌+◌, ◌-◌, ◌*◌, ◌<◌, ◌≤◌, Bool, true, false, cond, ◌⊎◌, List, [], ◌∷◌, ◌++◌, length, get_or, take, drop, map, min, nat_lt}
-use Rattle.std.proofs.Common.{refl, inl, inr, arith, ap, sym, subst, ◌∙◌, get_or-set_same, get_or-set_other}
-use Rattle.std.specs.Prelude.{Contains, slice_set}
+use Rattle.std.proofs.Common.{◌≡◌, ℕ, suc, ◌+◌, ◌-◌, ◌<◌, ◌≤◌, Bool, true, false, cond, List, [], ◌∷◌, ◌++◌, length, get_or, take, map, nat_lt}
+use Rattle.std.proofs.Common.{refl, inl, inr, arith, ap, sym, subst, ◌∙◌}
 use Rattle.std.specs.Int.{div_ceil}
-use Rattle.std.specs.List.{All, flat_map, range_with_len, sum_by}
+use Rattle.std.specs.List.{All, flat_map, range_with_len}
 use Rattle.std.specs.List.Sorted.{IsSorted}
 use Rattle.std.specs.Ordering.{nat_cmp}
 use Rattle.std.proofs.lemmas.Bool.{cases_eq, cases_lt, le-ltb, lt-ltb}
-use Rattle.std.proofs.lemmas.List.{append-nil, drop_all, drop_more, get_or-take, get_or_past, get_or_read, length-set, length-take-le, map-append, take_all}
+use Rattle.std.proofs.lemmas.List.{append-nil, get_or-take, get_or_read, length-take-le, map-append, take_all}
 use Rattle.std.proofs.lemmas.List.Elements.{All-contains, All-get_or, All-more, All-nil, All-weaker}
 use Rattle.std.proofs.lemmas.List.Sorted.{IsNonDecreasingBy-from_sort}
-use mathlib.Core.Path.{fun_ext}
-use Rattle.rows.specs.Codes.{code_of}
 use Rattle.rows.specs.Literals.{Literal, yes, no}
 use Rattle.rows.specs.declared.lit.Term.{Term}
 use Rattle.row_sums.specs.Sums.{divided_term, left_over}
-use Rattle.row_sums.specs.Tables.{AreCancelled, AreTouched, AreUpTo, common_at, count_at, left_at}
+use Rattle.row_sums.specs.Tables.{AreCancelled, AreTouched, AreUpTo, common_at, left_at}
 use Rattle.row_sums.proofs.CountLemmas.{list_to-more, list_to-same, sum_to-more, sum_to-same}
 
 -- ---- where nothing counts

@@ -1,18 +1,17 @@
 -- The table of what literals count.
-use Rattle.std.proofs.Common.{◌≡◌, ◌≢◌, ℕ, zero, suc, ◌+◌, ◌-◌, ◌*◌, ◌^◌, ◌<◌, ◌≤◌, ◌==◌, Bool, true, false, ◌&&◌, cond, List, [], ◌∷◌, ◌++◌, length, drop, get_or, replicate, take, max}
-use Rattle.std.proofs.Common.{refl, inl, inr, arith, ap, sym, subst, ◌∙◌, get_or-set_same, get_or-set_other}
-use Rattle.std.specs.Prelude.{Contains, slice_set}
+use Rattle.std.proofs.Common.{◌≡◌, ℕ, zero, ◌+◌, ◌-◌, ◌*◌, ◌^◌, ◌<◌, ◌≤◌, ◌==◌, Bool, true, false, ◌&&◌, cond, List, [], ◌∷◌, ◌++◌, length, drop, get_or, replicate, take, max}
+use Rattle.std.proofs.Common.{refl, inl, inr, arith, ap, sym, subst, ◌∙◌}
 use Rattle.std.specs.Bool.{beq}
-use Rattle.std.specs.List.{All, AppendsClonesOf, sum_by}
-use Rattle.std.proofs.lemmas.Bool.{and_right, cases_eq, cases_lt, cond_both, eq-eqb, ne_eqb}
+use Rattle.std.specs.List.{All, sum_by}
+use Rattle.std.proofs.lemmas.Bool.{cases_lt, eq-eqb}
 use Rattle.std.proofs.lemmas.List.{append-nil, drop_all, get_or_append_left, get_or-append_right, get_or_past, get_or-replicate, length-replicate, take_all}
-use Rattle.std.proofs.lemmas.List.Elements.{All-cons, All-get_or, All-nil, All-push, All-weaker, Contains-append_left, Contains-push}
+use Rattle.std.proofs.lemmas.List.Elements.{All-cons, All-nil, All-weaker}
 use Rattle.std.proofs.lemmas.List.Folds.{fold_stays}
 use Rattle.std.proofs.lemmas.List.Sums.{sum_by-take-le, sum_by_more}
 use Rattle.std.proofs.Math.Nat.{mul-le-mul_left}
 use mathlib.Core.Path.{fun_ext}
 use Rattle.rows.specs.Codes.{code_of}
-use Rattle.rows.specs.Literals.{Literal, yes, no}
+use Rattle.rows.specs.Literals.{Literal}
 use Rattle.rows.specs.Rows.{Row}
 use Rattle.rows.specs.declared.lit.Term.{Term}
 use Rattle.row_sums.specs.Sums.{Totals, count_in, is_same, no_totals, plus, top_of, weight_of, variables_to, widest}

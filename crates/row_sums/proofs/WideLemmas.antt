@@ -1,5 +1,5 @@
 -- The row of a sum is wide: its coefficients are from 1, its variables ascend, and it is no wider than the sum.
-use Rattle.std.proofs.Common.{◌≡◌, ℕ, zero, suc, ◌+◌, ◌-◌, ◌*◌, ◌<◌, ◌≤◌, ◌/◌, ◌%◌, Bool, true, false, cond, List, [], ◌∷◌, ◌++◌, length, get_or, map, min, nat_lt}
+use Rattle.std.proofs.Common.{◌≡◌, ℕ, zero, suc, ◌+◌, ◌-◌, ◌*◌, ◌<◌, ◌≤◌, cond, List, [], ◌∷◌, ◌++◌, length, get_or, map, nat_lt}
 use Rattle.std.proofs.Common.{refl, inl, inr, arith, ap, sym, subst, zero-add}
 use Rattle.std.specs.Int.{div_ceil}
 use Rattle.std.specs.List.{All, AllPairs, flat_map, range_with_len, sum_by}
@@ -8,12 +8,11 @@ use Rattle.std.proofs.lemmas.Grind.{div_ceil_times}
 use Rattle.std.proofs.lemmas.List.{append-nil, get_or-map, length-map}
 use Rattle.std.proofs.lemmas.List.Elements.{All-get_or, All-map, All-nil, All-push, All-weaker}
 use Rattle.std.proofs.lemmas.List.Quantifiers.{all_pairs_push}
-use Rattle.std.proofs.lemmas.List.Sums.{sum_by-append, sum_by-cons, sum_by-le-sum_by}
+use Rattle.std.proofs.lemmas.List.Sums.{sum_by-append, sum_by-cons}
 use Rattle.std.proofs.lemmas.Nat.{mul-le}
 use Rattle.rows.specs.Literals.{Literal, yes, no}
-use Rattle.rows.specs.Rows.{Row}
 use Rattle.rows.specs.declared.lit.Term.{Term}
-use Rattle.row_sums.specs.Sums.{IsWide, Totals, cancelled, divided, divided_term, left_over, weight_of, variables_to, widest}
+use Rattle.row_sums.specs.Sums.{IsWide, Totals, cancelled, divided, divided_term, left_over, weight_of, widest}
 use Rattle.row_sums.specs.Tables.{IsCovered}
 use Rattle.row_sums.proofs.CountLemmas.{count_both, list_to-more, sum_to-more}
 

@@ -1,6 +1,7 @@
 //! Rows added up.
-ghost use Rattle.std.specs.Prelude.{◌≡◌, ℕ, ◌+◌, ◌-◌, ◌*◌, ◌^◌, ◌<◌, ◌≤◌, ◌==◌, ◌⊎◌, [], ◌∷◌, ◌++◌, true, false, min, nat_lt, length, map};
-ghost use Rattle.std.specs.Prelude.{if◌then◌else◌, slice_set, IfOk, OnOk, OnErr, vec_len, vec_capacity};
+ghost use Rattle.std.specs.Prelude.{◌≡◌, ℕ, ◌+◌, ◌-◌, ◌*◌, ◌^◌, ◌<◌, ◌≤◌, ◌==◌, ◌⊎◌, [], ◌∷◌, ◌++◌, length, map};
+ghost use Rattle.std.specs.Prelude.{true, false, if◌then◌else◌, min, nat_lt, slice_set, IfOk, OnOk, OnErr, vec_len};
+ghost use Rattle.std.specs.Prelude.{vec_capacity};
 ghost use Rattle.std.specs.Int.{div_ceil};
 ghost use Rattle.std.specs.List.{All};
 ghost use Rattle.std.specs.List.Sorted.{IsSorted};
@@ -37,8 +38,8 @@ impl From<AllocError> for SumFault {
     }
 }
 
-/// Rows that were added up, each with a factor: seen as the table of what their literals count. The table takes 32 bytes
-/// for each variable up to the greatest one.
+/// Rows that were added up, each with a factor: seen as the table of what their literals count. The table takes
+/// 32 bytes for each variable up to the greatest one.
 #[derive(Drop)]
 pub struct Sum {
     counts: Vec<u128>,
@@ -138,7 +139,8 @@ impl Sum {
         Ok(())
     }
 
-    /// The row of the sum: each literal against its negation, then each number divided by a divisor from 1, rounding up.
+    /// The row of the sum: each literal against its negation, then each number divided by a divisor from 1, rounding
+    /// up.
     ///
     /// # Errors
     /// Only where memory runs out.
@@ -328,7 +330,8 @@ fn add_counts(counts: &mut [u128], touched: &mut Vec<u32>, factor: u64, terms: &
     }
 }
 
-/// Adds each wide coefficient, times the factor, to what its literal counts, and lists the variables for which that was 0.
+/// Adds each wide coefficient, times the factor, to what its literal counts, and lists the variables for which that
+/// was 0.
 fn add_wide_counts(counts: &mut [u128], touched: &mut Vec<u32>, factor: u64, terms: &[WideTerm])
     requires places { All (λ t. code_of t.lit < length counts.old) terms.now }
     requires fits { (l : Literal) → count_at counts.old l + factor * count_in terms.now l < 2 ^ 128 }
@@ -350,7 +353,8 @@ fn add_count(counts: &mut [u128], touched: &mut Vec<u32>, lit: Lit, more: u128)
     requires fits { count_at counts.old lit + more < 2 ^ 128 }
     requires room { vec_len touched.old < vec_capacity touched.old }
     requires touched { AreTouched (count_at counts.old) touched.old.items }
-    ensures counts { (l : Literal) → count_at counts.new l ≡ count_at counts.old l + (if is_same lit l then more else 0) }
+    ensures counts { (l : Literal)
+        → count_at counts.new l ≡ count_at counts.old l + (if is_same lit l then more else 0) }
     ensures touched { AreTouched (count_at counts.new) touched.new.items }
     ensures up_to { (top : ℕ) → AreUpTo top touched.old.items → lit.var ≤ top → AreUpTo top touched.new.items }
     ensures len { vec_len touched.new ≤ vec_len touched.old + 1 }
@@ -432,7 +436,8 @@ fn cancel_from(
     requires at_most { var ≤ 2147483647 }
     ensures passed { var < next
         → IfOk result (λ r. (r.0 ≡ left) × (r.1 ≡ next) × (terms.new.items ≡ terms.old.items)) }
-    ensures cancelled { next ≤ var → IfOk result (λ r. (r.0 ≡ left - common_at (count_at counts.now) var) × (r.1 ≡ var + 1)
+    ensures cancelled { next ≤ var → IfOk result (λ r. (r.0 ≡ left - common_at (count_at counts.now) var)
+        × (r.1 ≡ var + 1)
         × (terms.new.items ≡ terms.old.items ++ map (divided_term divisor) (left_at (count_at counts.now) var))) }
 {
     if u64::from(var) < next {

@@ -1,4 +1,4 @@
-use Rattle.std.proofs.Common.{◌≡◌, ◌+◌, ◌<◌, Bool, List, length, get_or, arith, rules, ap, ◌∙◌}
+use Rattle.std.proofs.Common.{◌≡◌, ◌<◌, Bool, List, length, get_or, arith, rules, ap, ◌∙◌}
 use Rattle.std.proofs.lemmas.List.{get_or_read, take_all}
 use Rattle.rows.specs.Trails.{set_if}
 use Rattle.rows.specs.Values.{valued}
