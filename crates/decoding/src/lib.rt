@@ -8,3 +8,6 @@ mod shadows;
 
 pub use decoder::decode;
 pub use shadows::shadow;
+
+#[cfg(test)]
+mod tests;
