@@ -8,6 +8,3 @@ mod shadows;
 
 pub use decoder::decode;
 pub use shadows::shadow;
-
-#[cfg(test)]
-mod tests;

@@ -1,13 +1,14 @@
 //! Rows that are being written.
-ghost use Rattle.std.specs.Prelude.{◌≡◌, ◌≢◌, ◌+◌, ◌^◌, ◌<◌, ◌≤◌, ◌++◌, length, OnOk};
+ghost use Rattle.std.specs.Prelude.{◌≡◌, ◌≢◌, ◌+◌, ◌^◌, ◌<◌, ◌≤◌, ◌++◌, length, IfOk, OnOk};
 ghost use Rattle.std.specs.List.{AllPairs};
 ghost use Rattle.rows.specs.Cardinality.{exactly};
 ghost use Rattle.encoding.specs.Ascending.{AreMeetings, AreSlots};
 ghost use Rattle.encoding.specs.Lists.{games_in};
 
 use crate::literals::add_games;
+use crate::variables::x_count;
 use rows::{Lit, RowStore, Term};
-use std::alloc::AllocError;
+use std::alloc::{AllocError, Global};
 
 /// The rows so far, and room to list what one row is made of.
 #[derive(Drop)]
@@ -18,6 +19,18 @@ pub(crate) struct Draft {
 }
 
 impl Draft {
+    /// Some rows, with room for the longest list of a league of n teams: none is longer than that of all its games.
+    pub(crate) fn with_room(alloc: Global, rows: RowStore, n: u16) -> Result<Draft, AllocError>
+        requires { n ≤ 40 }
+        ensures { IfOk result (λ draft. draft.rows ≡ rows) }
+    {
+        Ok(Draft {
+            rows,
+            literals: Vec::with_capacity(alloc, x_count(n) as usize)?,
+            terms: Vec::with_capacity(alloc, n as usize)?,
+        })
+    }
+
     /// Lists the games of some meetings in some slots.
     pub(crate) fn list_games(
         &mut self,

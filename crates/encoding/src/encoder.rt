@@ -76,12 +76,10 @@ pub fn encode(alloc: Global, league: &League) -> Result<Encoding, EncodeFault>
 fn write_rows(alloc: Global, league: &League, terms: u64) -> Result<RowStore, AllocError>
     ensures { IfOk result (λ rows. rows ≡ rows_of league.now) }
 {
-    let mut draft = Draft {
-        rows: RowStore::with_room(alloc, rows_at_most(league, terms), terms as usize)?,
-        literals: Vec::new(alloc),
-        terms: Vec::new(alloc),
-    };
-    let season = Season::new(alloc, league.n())?;
+    let n = league.n();
+    let rows = RowStore::with_room(alloc, rows_at_most(league, terms), terms as usize)?;
+    let mut draft = Draft::with_room(alloc, rows, n)?;
+    let season = Season::new(alloc, n)?;
     add_season_rows(&mut draft, alloc, &season, league.phased())?;
     let constraints = league.constraints();
     add_break_rows(&mut draft, &season, has_breaks(constraints))?;

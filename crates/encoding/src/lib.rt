@@ -23,6 +23,3 @@ mod venue_rows;
 
 pub use encoder::{EncodeFault, encode};
 pub use encoding::Encoding;
-
-#[cfg(test)]
-mod tests;

@@ -6,6 +6,7 @@ ghost use Rattle.league.specs.Meetings as meetings;
 ghost use Rattle.league.specs.declared.class.Side.TheVariants as side;
 ghost use Rattle.encoding.specs.Lists as lists;
 
+use crate::room::pairs_at_most;
 use league::Side;
 use std::alloc::{AllocError, Global};
 
@@ -18,8 +19,7 @@ pub(crate) fn meetings_in_order(
 ) -> Result<Vec<(u16, u16)>, AllocError>
     ensures { IfOk result (λ meetings. meetings.items ≡ lists.meetings_in_order side team teams.now) }
 {
-    let mut meetings = Vec::new(alloc);
-    meetings.reserve(teams.len())?;
+    let mut meetings = Vec::with_capacity(alloc, teams.len().saturating_mul(2))?;
     match side {
         Side::H => add_home_meetings(&mut meetings, team, teams)?,
         Side::A => add_away_meetings(&mut meetings, team, teams)?,
@@ -33,7 +33,6 @@ fn add_both(meetings: &mut Vec<(u16, u16)>, team: u16, teams: &[u16]) -> Result<
     ensures { OnOk result
         (meetings.new.items ≡ meetings.old.items ++ lists.meetings_in_order side.Both team teams.now) }
 {
-    meetings.reserve(teams.len())?;
     add_visits_to_earlier(meetings, team, teams)?;
     add_home_meetings(meetings, team, teams)?;
     add_visits_to_later(meetings, team, teams)
@@ -112,7 +111,7 @@ pub(crate) fn all_meetings(alloc: Global, teams: &[u16]) -> Result<Vec<(u16, u16
     ensures { IfOk result (λ meetings. meetings.items
         ≡ flat_map (λ i. meetings_with side.H i teams.now) teams.now) }
 {
-    let mut meetings = Vec::new(alloc);
+    let mut meetings = Vec::with_capacity(alloc, teams.len().saturating_mul(teams.len()))?;
     for team in teams {
         add_home_meetings(&mut meetings, *team, teams)?;
     }
@@ -123,7 +122,7 @@ pub(crate) fn all_meetings(alloc: Global, teams: &[u16]) -> Result<Vec<(u16, u16
 pub(crate) fn pairs_of(alloc: Global, teams: &[u16]) -> Result<Vec<(u16, u16)>, AllocError>
     ensures { IfOk result (λ pairs. pairs.items ≡ meetings.pairs_of teams.now) }
 {
-    let mut pairs = Vec::new(alloc);
+    let mut pairs = Vec::with_capacity(alloc, pairs_at_most(teams.len()))?;
     let mut left = teams;
     while let Some((first, later)) = left.split_first() {
         add_pairs_with(&mut pairs, *first, later)?;

@@ -42,6 +42,6 @@ fn class_rows_at_most(n: u16, class: &Class) -> u64
 }
 
 /// How many pairs so many teams have.
-fn pairs_at_most(teams: usize) -> usize {
+pub(crate) fn pairs_at_most(teams: usize) -> usize {
     teams.saturating_mul(teams.saturating_sub(1)) / 2
 }

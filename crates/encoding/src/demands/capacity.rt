@@ -360,7 +360,7 @@ fn meetings_between(
         ≡ filter (capacity.is_between side teams1.now teams2.now) (meetings_of season.now)) }
     ensures fit { IfOk result (λ made. AreMeetings season.now made.items) }
 {
-    let mut made = Vec::new(alloc);
+    let mut made = Vec::with_capacity(alloc, season.meetings().len())?;
     for (home, away) in season.meetings() {
         if is_between(side, teams1, teams2, *home, *away) {
             made.push((*home, *away))?;
