@@ -5,9 +5,9 @@ ghost use Rattle.league.specs.Counts.{counts_of, slot_count};
 ghost use Rattle.league.specs.Order.{IsInOrder};
 ghost use Rattle.rows.specs.Rows.{SatisfiesAll};
 ghost use Rattle.rows.specs.Values.{assigned};
-ghost use Rattle.encoding.specs.Encoding.{rows_of};
-ghost use Rattle.encoding.specs.Shadow.{decoded};
-ghost use Rattle.encoding.specs.Variables.{var_count};
+ghost use Rattle.encoding_base.specs.Encoding.{rows_of};
+ghost use Rattle.encoding_base.specs.Shadow.{decoded};
+ghost use Rattle.encoding_base.specs.Variables.{var_count};
 ghost use Rattle.decoding.specs.TrueGames.{true_game, true_games_in, true_home_games};
 
 use encoding::Encoding;

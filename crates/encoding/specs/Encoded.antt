@@ -2,8 +2,8 @@
 use Rattle.std.specs.Prelude.{◌≡◌, Bool, List}
 use Rattle.league.specs.Instance.{Instance}
 use Rattle.rows.specs.Rows.{Row}
-use Rattle.encoding.specs.Encoding.{rows_of}
-use Rattle.encoding.specs.Variables.{has_breaks}
+use Rattle.encoding_base.specs.Encoding.{rows_of}
+use Rattle.encoding_base.specs.Variables.{has_breaks}
 
 -- the league's rows, and whether its breaks have variables
 pub record IsEncoded (league : Instance) (rows : List Row) (breaks : Bool) : Type 0 where

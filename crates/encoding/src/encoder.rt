@@ -1,23 +1,12 @@
 //! From a league to its encoding.
-ghost use Rattle.std.specs.Prelude.{◌≡◌, ℕ, ◌+◌, ◌*◌, ◌^◌, ◌<◌, ◌≤◌, ◌++◌, [], length, IfOk, IsOk, IsTrue, OnErr, OnOk, Err};
-ghost use Rattle.std.specs.List.{All};
-ghost use Rattle.league.specs.Instance.{IsTeamCount, class_fits};
-ghost use Rattle.encoding.specs.Encoding as encoding;
-ghost use Rattle.encoding.specs.Encoding.{constraint_rows, encoding_size, rows_of};
+ghost use Rattle.std.specs.Prelude.{◌≡◌, ℕ, ◌<◌, ◌≤◌, IfOk, IsOk, Err};
+ghost use Rattle.encoding_base.specs.Encoding.{encoding_size};
 
-use crate::break_rows::add_break_rows;
-use crate::demands::add_class_rows;
-use crate::draft::Draft;
 use crate::encoding::Encoding;
-use crate::encoding_size::{encoding_size, has_breaks};
-use crate::room::rows_at_most;
-use crate::season::Season;
-use crate::season_rows::{
-    add_cell_rows, add_half_rows, add_meeting_rows, add_slot_rows, add_team_rows,
-};
-use crate::venue_rows::add_venue_rows;
-use league::{Constraint, League};
-use rows::RowStore;
+use encoding_base::has_breaks;
+use encoding_rows::write_rows;
+use encoding_sizes::encoding_size;
+use league::League;
 use std::alloc::{AllocError, Global};
 use thiserror::Error;
 
@@ -70,66 +59,4 @@ pub fn encode(alloc: Global, league: &League) -> Result<Encoding, EncodeFault>
         rows,
         breaks,
     })
-}
-
-/// The rows of a league, which have so many terms.
-fn write_rows(alloc: Global, league: &League, terms: u64) -> Result<RowStore, AllocError>
-    ensures { IfOk result (λ rows. rows ≡ rows_of league.now) }
-{
-    let n = league.n();
-    let rows = RowStore::with_room(alloc, rows_at_most(league, terms), terms as usize)?;
-    let mut draft = Draft::with_room(alloc, rows, n)?;
-    let season = Season::new(alloc, n)?;
-    add_season_rows(&mut draft, alloc, &season, league.phased())?;
-    let constraints = league.constraints();
-    add_break_rows(&mut draft, &season, has_breaks(constraints))?;
-    add_constraint_rows(&mut draft, alloc, &season, constraints)?;
-    let Draft {
-        rows,
-        literals: _literals,
-        terms: _terms,
-    } = draft;
-    Ok(rows)
-}
-
-/// Adds groups 1 to 6.
-fn add_season_rows(
-    draft: &mut Draft,
-    alloc: Global,
-    season: &Season,
-    phased: bool,
-) -> Result<(), AllocError>
-    requires { length draft.old.rows ≡ 0 }
-    ensures rows { OnOk result (draft.new.rows ≡ draft.old.rows ++ encoding.season_rows season.now phased) }
-    ensures few { OnOk result (length draft.new.rows ≤ 20000) }
-{
-    add_meeting_rows(draft, season)?;
-    add_cell_rows(draft, alloc, season)?;
-    add_half_rows(draft, alloc, season, phased)?;
-    add_venue_rows(draft, alloc, season)?;
-    add_slot_rows(draft, season)?;
-    add_team_rows(draft, season)?;
-    Ok(())
-}
-
-/// Adds those of the hard constraints.
-fn add_constraint_rows(
-    draft: &mut Draft,
-    alloc: Global,
-    season: &Season,
-    constraints: &[Constraint],
-) -> Result<(), AllocError>
-    requires n { IsTeamCount season.now }
-    requires fit { All (λ c. IsTrue (class_fits season.now c.class)) constraints.now }
-    requires few { length constraints.now ≤ 20000 }
-    requires room { length draft.old.rows ≤ 40000 }
-    ensures { OnOk result
-        (draft.new.rows ≡ draft.old.rows ++ constraint_rows season.now constraints.now) }
-{
-    for constraint in constraints {
-        if constraint.hard {
-            add_class_rows(draft, alloc, season, &constraint.class)?;
-        }
-    }
-    Ok(())
 }

@@ -2,11 +2,11 @@
 ghost use Rattle.std.specs.Prelude.{◌≡◌, ◌≢◌, ◌<◌, ◌≤◌, ◌↔◌, true, IsSome, IfSome};
 ghost use Rattle.league.specs.Counts as counts;
 ghost use Rattle.league.specs.Instance.{IsInstance};
-ghost use Rattle.encoding.specs.Encoding.{rows_of};
-ghost use Rattle.encoding.specs.Known.{AreKnown};
-ghost use Rattle.encoding.specs.Variables.{ab_var, h_var, has_breaks, hb_var, var_count, x_var};
+ghost use Rattle.encoding_base.specs.Encoding.{rows_of};
+ghost use Rattle.encoding_base.specs.Known.{AreKnown};
+ghost use Rattle.encoding_base.specs.Variables.{ab_var, h_var, has_breaks, hb_var, var_count, x_var};
 
-use crate::variables::{ab_at, h_at, hb_at, x_at, x_count};
+use encoding_base::{ab_at, h_at, h_count, hb_at, hb_count, x_at, x_count};
 use league::{League, SlotId, TeamId, slot_count};
 use rows::RowStore;
 use std::marker::Model;
@@ -64,21 +64,15 @@ impl Encoding {
     /// The number of variables.
     pub fn vars(&self) -> u32
         ensures vars { result ≡ var_count self.now }
-        ensures at_most { result ≤ 134160 }
+        ensures at_most { result ≤ 130960 }
         ensures instance { IsInstance self.now }
 
         // The rows speak of no other variables.
         ensures known { AreKnown (var_count self.now) (rows_of self.now) }
     {
         let n = self.league.n();
-        let slots = u32::from(self.league.slots());
-        let venues = u32::from(n) * slots;
-        let breaks = if self.breaks {
-            2 * u32::from(n) * (slots - 1)
-        } else {
-            0
-        };
-        x_count(n) + venues + breaks
+        let breaks = if self.breaks { 2 * hb_count(n) } else { 0 };
+        x_count(n) + h_count(n) + breaks
     }
 
     /// The variable that is true where the game of `home` at home to `away` takes place in the slot.

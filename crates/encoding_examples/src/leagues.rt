@@ -20,7 +20,10 @@ fn league_with(alloc: Global, n: u16, classes: Vec<Class>) -> Result<League>
         })?;
     }
     ensure!(constraints.len() <= 20_000, "too many constraints");
-    ensure!(constraints.iter().all(|constraint| constraint.fits(n)), "a constraint doesn't fit");
+    ensure!(
+        constraints.iter().all(|constraint| constraint.fits(n)),
+        "a constraint doesn't fit"
+    );
     Ok(League::new(n, true, constraints))
 }
 

@@ -16,7 +16,10 @@ pub fn show_size(rt: &impl Print, encoding: &Encoding) -> io::Result<()> {
 /// Shows the row of a number, from 1 on.
 pub fn show_row(rt: &impl Print, alloc: Global, encoding: &Encoding, number: usize) -> Result<()> {
     let rows = encoding.rows();
-    ensure!(1 <= number && number <= rows.len(), "there is no row {number}");
+    ensure!(
+        1 <= number && number <= rows.len(),
+        "there is no row {number}"
+    );
     print!(rt; "row {number}: ")?;
     show_sum(rt, alloc, encoding, rows.terms(number - 1))?;
     let degree = rows.degree(number - 1);
@@ -78,7 +81,10 @@ pub fn show_conflicts(rt: &impl Print, alloc: Global, encoding: &Encoding) -> Re
     let rows = encoding.rows();
     for place in 0..rows.len() {
         let terms = rows.terms(place);
-        ensure!(terms.iter().all(|term| term.lit.var() <= vars), "an unknown variable");
+        ensure!(
+            terms.iter().all(|term| term.lit.var() <= vars),
+            "an unknown variable"
+        );
         let slack = slack(terms, rows.degree(place), &free);
         if slack < 0 {
             let number = place + 1;

@@ -8,7 +8,9 @@ mod leagues;
 mod lines;
 mod seasons;
 
-use leagues::{at_home_seven_times, four_with, never_at_home_first, no_breaks_bounded, too_many_terms};
+use leagues::{
+    at_home_seven_times, four_with, never_at_home_first, no_breaks_bounded, too_many_terms,
+};
 use lines::{show_conflicts, show_row, show_size, show_variable};
 use std::alloc::Global;
 

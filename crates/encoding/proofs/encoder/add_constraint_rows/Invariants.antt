@@ -1,9 +1,0 @@
-use Rattle.std.proofs.Common.{◌≡◌, ◌+◌, ◌*◌, ◌≤◌, ◌++◌, length, take}
-use Rattle.encoding.specs.Encoding.{constraint_rows}
-use Rattle.encoding.proofs.encoder.add_constraint_rows.Given as goal
-
-abbrev pub invariant-loop-constraint : goal.invariant-loop-constraint
-invariant-loop-constraint l = record {
-  so_far : l.draft.rows ≡ l.fn.draft.rows ++ constraint_rows l.season (take l.constraint-index l.constraints);
-  few : length l.draft.rows ≤ length l.fn.draft.rows + 121680 * l.constraint-index;
-}

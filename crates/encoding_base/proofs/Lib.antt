@@ -1,0 +1,14 @@
+-- Lists in ascending order, so that the variables of a row differ:
+pub mod AscendLemmas
+pub mod MeetingOrder
+pub mod NumberLemmas
+-- Worked examples, so that a wrong definition does not check:
+pub mod EncodingFacts
+pub mod ClassRowFacts
+-- The rows of a class key by key, and what its sets are:
+pub mod KeyRowLemmas
+pub mod PairLemmas
+pub mod FewLemmas
+pub mod MemberLemmas
+-- The numbers of variables, read back:
+pub mod Places

@@ -1,0 +1,14 @@
+//! The rows and variables of a league: what each row is, in `specs/`, and the numbers, sets and lists that those who write
+//! the rows and those who count their terms share.
+//!
+//! `specs/Variables.antt` numbers what can be true of a schedule, `specs/Season.antt` and `specs/Demands.antt` have the
+//! rows group by group, and `specs/Encoding.antt` has all of them in order.
+#![tactic(auto)]
+
+mod meetings;
+mod sets;
+mod variables;
+
+pub use meetings::{all_meetings, meetings_in_order, pairs_at_most, pairs_of};
+pub use sets::{is_between, meeting_numbers, slot_numbers, team_numbers, team_pairs};
+pub use variables::{ab_at, h_at, h_count, has_breaks, hb_at, hb_count, x_at, x_count};

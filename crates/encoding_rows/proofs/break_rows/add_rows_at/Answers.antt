@@ -1,0 +1,10 @@
+use Rattle.encoding_rows.proofs.EncodeLemmas.{break_rows_made}
+use Rattle.encoding_rows.proofs.break_rows.add_rows_at.Goals as goal
+
+pub returns-clause-rows : goal.returns-clause-rows
+returns-clause-rows c =
+    break_rows_made c.args.season.now c.n-n.result c.args.team c.args.slot c.h_at-before.result c.h_at-now.result
+    c.hb_at-home.result c.ab_at-away.result
+    c.args.draft.now.rows c.add_both_needed.new.rows c.add_neither_needed.new.rows
+    c.n-n.ensures.n c.h_at-before.ensures.var c.h_at-now.ensures.var c.hb_at-home.ensures.var c.ab_at-away.ensures.var
+    c.in_ok-add_both_needed.ensures.rows c.in_ok-add_neither_needed.ensures.rows

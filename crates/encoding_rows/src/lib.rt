@@ -1,0 +1,15 @@
+//! The rows of a league, written group after group: those that make a double round robin, those that tie breaks to venues,
+//! and those of each hard constraint. `encoding_base` has their definitions.
+#![tactic(auto)]
+
+mod break_rows;
+mod demands;
+mod draft;
+mod literals;
+mod room;
+mod season;
+mod season_rows;
+mod venue_rows;
+mod writer;
+
+pub use writer::write_rows;

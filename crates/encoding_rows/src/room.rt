@@ -1,0 +1,43 @@
+//! How many rows to make room for. No claim rests on it: where it is too small, the rows' vector grows.
+ghost use Rattle.std.specs.Prelude.{◌≤◌};
+
+use encoding_base::pairs_at_most;
+use league::{Class, League, slot_count};
+
+/// At least as many as a league has rows, but for rows without terms, and at most as many as its rows have terms.
+pub(crate) fn rows_at_most(league: &League, terms: u64) -> usize {
+    let n = league.n();
+    let mut rows = season_rows_at_most(n);
+    for constraint in league.constraints() {
+        if constraint.hard {
+            rows = rows.saturating_add(class_rows_at_most(n, &constraint.class));
+        }
+    }
+    rows.min(terms) as usize
+}
+
+/// Those of groups 1 to 7: three for each meeting, ten for each team and slot, two for each team and for each slot.
+fn season_rows_at_most(n: u16) -> u64
+    requires { n ≤ 40 }
+{
+    let teams = u64::from(n);
+    let slots = u64::from(slot_count(n));
+    3 * teams * teams + 10 * teams * slots + 2 * teams + 2 * slots
+}
+
+/// Those of a class: two for each of its keys, and of CA3 and SE1 for each window.
+fn class_rows_at_most(n: u16, class: &Class) -> u64
+    requires { n ≤ 40 }
+{
+    let windows = usize::from(slot_count(n));
+    let keys = match class {
+        Class::Ca1 { teams, .. } | Class::Br1 { teams, .. } => teams.len(),
+        Class::Ca2 { teams1, .. } => teams1.len(),
+        Class::Ca3 { teams1, .. } => teams1.len().saturating_mul(windows),
+        Class::Ca4 { slots, .. } => slots.len().max(1),
+        Class::Ga1 { .. } | Class::Br2 { .. } => 1,
+        Class::Fa2 { teams, slots, .. } => pairs_at_most(teams.len()).saturating_mul(slots.len()),
+        Class::Se1 { teams, .. } => pairs_at_most(teams.len()).saturating_mul(windows),
+    };
+    (keys as u64).saturating_mul(2)
+}

@@ -1,0 +1,5 @@
+use Rattle.encoding_sizes.proofs.ClassSizeLemmas.{size_of-fa2}
+use Rattle.encoding_sizes.proofs.sizes.fa2_terms.Goals as goal
+
+pub returns-clause-terms : goal.returns-clause-terms
+returns-clause-terms c = cc (size_of-fa2 c.args.n c.args.teams.now c.args.intp c.args.slots.now)
