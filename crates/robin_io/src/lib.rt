@@ -19,6 +19,3 @@ pub use mem_sink::MemSink;
 pub use numbers::{NumberFault, decimal, put_decimal};
 pub use shelf::{Shelf, TakeFault, read_all};
 pub use sink::{Sink, put_all};
-
-#[cfg(test)]
-mod tests;

@@ -19,6 +19,3 @@ pub use fault::{FormKind, Stop, TagFault};
 pub use fronts::trimmed;
 pub use reader::TagReader;
 pub use tag::{Tag, TagKind};
-
-#[cfg(test)]
-mod tests;

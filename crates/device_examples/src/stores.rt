@@ -1,0 +1,75 @@
+//! Files of a store in memory: up to the limit, above it, absent, and at each call that is planned to fail.
+use crate::telling::{TEXT, reading, tell};
+use robin_io::{MemShelf, read_all};
+use std::alloc::{AllocError, Global};
+use std::io;
+
+/// Reads the files of a store, and then one whose calls fail in turn.
+pub fn show(rt: &(impl AllocGlobal + Print)) -> io::Result<()> {
+    let mut shelf = shelf_of(rt.alloc())?;
+    read(
+        rt,
+        &mut shelf,
+        "a file that was set twice",
+        "a",
+        27,
+        "'seven bytes, and a few more'",
+    )?;
+    read(
+        rt,
+        &mut shelf,
+        "a file above the limit",
+        "a",
+        26,
+        "TooLong 26",
+    )?;
+    read(rt, &mut shelf, "an empty file", "b", 0, "''")?;
+    read(rt, &mut shelf, "an absent file", "c", 9, "Failed")?;
+    for call in 1..5 {
+        show_planned(rt, call)?;
+    }
+    Ok(())
+}
+
+/// A store of two files, one of which was set twice.
+fn shelf_of(alloc: Global) -> Result<MemShelf, AllocError> {
+    let mut shelf = MemShelf::new(alloc);
+    shelf.add("a", b"old")?;
+    shelf.add("b", b"")?;
+    shelf.add("a", TEXT)?;
+    Ok(shelf)
+}
+
+/// Reads a file of the store up to a limit, and tells what came out.
+fn read(
+    rt: &(impl AllocGlobal + Print),
+    shelf: &mut MemShelf,
+    what: &str,
+    name: &str,
+    limit: u8,
+    wanted: &str,
+) -> io::Result<()> {
+    let read = read_all(rt.alloc(), shelf, name, usize::from(limit));
+    let got = reading(rt.alloc(), &read)?;
+    tell(rt, what, &got, wanted)
+}
+
+/// A reading takes three calls: a start, a take of all the bytes, and a take that finds the end. After a planned one
+/// failed, the next reading gives the file.
+fn show_planned(rt: &(impl AllocGlobal + Print), call: u64) -> io::Result<()> {
+    let mut shelf = shelf_of(rt.alloc())?;
+    shelf.fail_at(call)?;
+    let first = if call < 4 {
+        "Failed"
+    } else {
+        "'seven bytes, and a few more'"
+    };
+    let second = if call < 4 {
+        "'seven bytes, and a few more'"
+    } else {
+        "Failed"
+    };
+    println!(rt; "the store fails at its call {call}")?;
+    read(rt, &mut shelf, "the first reading", "a", 27, first)?;
+    read(rt, &mut shelf, "the second reading", "a", 27, second)
+}
