@@ -19,5 +19,8 @@ pub mod GroupLemmas
 pub mod LineLemmas
 pub mod FeedLemmas
 pub mod CutLemmas
+-- Clause steps in front of bytes:
+pub mod FrontLemmas
+pub mod PlainLemmas
 pub mod ClauseFacts
 pub mod LinearFacts

@@ -33,7 +33,7 @@ use Rattle.refutation.proofs.StepTexts.{IsOf, step_line-step_text}
 abbrev pub IsLine : List ℕ → Type 0
 IsLine text = All (λ b. 32 ≤ b) text
 
-line_feed-apart : (b : ℕ) → 32 ≤ b → (b == 10) ≡ false
+pub line_feed-apart : (b : ℕ) → 32 ≤ b → (b == 10) ≡ false
 line_feed-apart b least = grind (arith, nat_tests)
 
 lines_of-line : (text rest : List ℕ) → IsLine text → lines_of (text ++ 10 ∷ rest) ≡ text ∷ lines_of rest
@@ -106,7 +106,7 @@ linear-line parts divisor are small =
     (All-weaker (λ (b : ℕ). 33 ≤ b) P (λ b least. omega arith) (decimal divisor) (decimal-token divisor small)))
 
 -- the line of a step has no LF
-step-line : (version : Version) (step : Step) → HasSmallNumbers step → IsLine (step_text version step)
+pub step-line : (version : Version) (step : Step) → HasSmallNumbers step → IsLine (step_text version step)
 step-line One (Clause clause hints) small = clause-line clause hints small.0 small.1
 step-line Two (Clause clause hints) small =
     All-append (λ (b : ℕ). 32 ≤ b) (codes "c ") (clause_text clause hints) (line-by_test (codes "c ") refl)
@@ -131,7 +131,7 @@ isnt_end : (version : Version) (text : List ℕ) (step : Step) → step_line ver
     → bytes_eq text (codes "end") ≡ false
 isnt_end version text step is = isnt_end-by version text step (bytes_eq text (codes "end")) refl is
 
-line_of-step : (version : Version) (text : List ℕ) (step : Step) → step_line version text ≡ Ok step
+pub line_of-step : (version : Version) (text : List ℕ) (step : Step) → step_line version text ≡ Ok step
     → length text ≤ most_bytes → line_of (Some version) text ≡ Ok (Says step)
 line_of-step version text step is short =
     let fits : nat_le (length text) most_bytes ≡ true = le-leb (length text) most_bytes short in

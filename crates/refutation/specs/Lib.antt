@@ -25,4 +25,6 @@ pub mod Cuts
 pub mod Tokens
 pub mod Groups
 pub mod Outcomes
+-- Lines of clause steps that stand in front of bytes:
+pub mod Fronts
 pub mod SeenPlace

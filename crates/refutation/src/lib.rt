@@ -6,6 +6,7 @@
 
 mod fault;
 mod feed;
+mod front;
 mod group;
 mod line;
 mod log;

@@ -1,12 +1,15 @@
 //! A log's steps, in flat lists.
 ghost use Rattle.std.specs.Prelude.{◌≡◌, ◌<◌, ◌≤◌, ◌++◌, ◌==◌, [], ◌∷◌, length, slice_get, slice_range};
-ghost use Rattle.std.specs.Prelude.{Some, IfSome, OnOk, OnErr, IsTrue, ◌↔◌, if◌then◌else◌};
+ghost use Rattle.std.specs.Prelude.{Some, IfOk, IfSome, OnOk, OnErr, IsTrue, ◌↔◌, if◌then◌else◌};
 ghost use Rattle.std.specs.List.{All};
 ghost use Rattle.refutation.specs.Steps.{NamesRows, kind_at, clause_at, hints_at, parts_at, divisor_at};
 ghost use Rattle.refutation.specs.Steps.Step.{Clause, Linear};
 ghost use Rattle.refutation.specs.Flat as flat;
+ghost use Rattle.refutation.specs.Fronts.{TakesStep};
 
+use crate::front::clause_in_front;
 use crate::step::{Part, StepKind};
+use crate::version::Version;
 use rows::Lit;
 use std::alloc::{AllocError, Global};
 use std::marker::Model;
@@ -78,6 +81,36 @@ impl Log {
             divisor: 0,
         })?;
         Ok(())
+    }
+
+    /// Adds the clause step whose line in this version stands in front of these bytes, and gives what is behind its LF.
+    /// None where another line, or part of one, stands there.
+    ///
+    /// # Errors
+    /// Only where memory runs out.
+    pub(crate) fn push_line<'a>(
+        &mut self,
+        version: Version,
+        bytes: &'a [u8],
+    ) -> Result<Option<&'a [u8]>, AllocError>
+        ensures { IfOk result (λ read. TakesStep version bytes.now read self.old self.new) }
+    {
+        // Room first, so that what comes after the hints can't fail.
+        self.ends.reserve(1)?;
+        let lits = self.lits.len();
+        let hints = self.hints.len();
+        let Some(left) = clause_in_front(version, bytes, &mut self.lits, &mut self.hints) else {
+            self.lits.truncate(lits);
+            self.hints.truncate(hints);
+            return Ok(None);
+        };
+        self.ends.push(End {
+            lits: self.lits.len(),
+            hints: self.hints.len(),
+            parts: self.parts.len(),
+            divisor: 0,
+        })?;
+        Ok(Some(left))
     }
 
     /// Adds a linear step: the sum of these rows, each with its factor, divided by a divisor.

@@ -7,6 +7,7 @@ ghost use Rattle.refutation.specs.Places.{log_from, start_at};
 ghost use Rattle.refutation.specs.Cuts.{Lacks};
 ghost use Rattle.refutation.specs.Answers.{Finishes};
 ghost use Rattle.refutation.specs.Feeding.{ReadsOn};
+ghost use Rattle.refutation.specs.Fronts.{ReadsFront};
 ghost use Rattle.refutation.specs.SeenPlace.{GivesOutcome, IsPlace, IsSameButText, SaysOutcome};
 ghost use Rattle.refutation.specs.SeenPlace.{is_line_feed, next_place, place_of};
 
@@ -162,6 +163,35 @@ impl Place {
         Ok(())
     }
 
+    /// Reads on over the lines in front that are clause steps as a log's text has them, and gives what is behind them.
+    fn plain_lines<'a>(
+        &mut self,
+        bytes: &'a [u8],
+        steps: &mut Log,
+    ) -> Result<&'a [u8], AllocError>
+        requires line { self.old.line + length bytes.now < 2 ^ 64 }
+        requires place { IsPlace (place_of self.old) }
+        ensures place { IsPlace (place_of self.new) }
+        ensures line { self.new.line ≤ self.old.line + length bytes.now }
+        ensures read { IfOk result (λ left.
+            ReadsFront (place_of self.old) steps.old bytes.now left.now (place_of self.new) steps.new) }
+    {
+        if self.fault.is_some() || self.ended || !self.text.is_empty() {
+            return Ok(bytes);
+        }
+        let Some(version) = self.version else {
+            return Ok(bytes);
+        };
+        let mut rest = bytes;
+        'lines: loop {
+            let Some(left) = steps.push_line(version, rest)? else {
+                return Ok(rest);
+            };
+            self.line += 1;
+            rest = left;
+        }
+    }
+
     /// Reads on over a piece.
     pub(crate) fn feed(
         &mut self,
@@ -175,10 +205,10 @@ impl Place {
         ensures line { self.new.line ≤ self.old.line + length piece.now }
         ensures read { OnOk result (ReadsOn (place_of self.old) steps.old piece.now (place_of self.new) steps.new) }
     {
-        let mut rest = piece;
+        let mut rest = self.plain_lines(piece, steps)?;
         'lines: while let Some(at) = memchr(b'\n', rest) {
             self.end_line(&rest[..at], room, steps)?;
-            rest = &rest[at + 1..];
+            rest = self.plain_lines(&rest[at + 1..], steps)?;
         }
         self.keep(rest)
     }

@@ -18,11 +18,11 @@ pub(crate) struct Item<T> {
 }
 
 /// The most digits that never pass 64 bits.
-const SHORT: usize = 19;
+pub(crate) const SHORT: usize = 19;
 
 /// The number with one digit more, where that fits.
 #[inline]
-fn followed_by(value: u64, digit: u8) -> u64
+pub(crate) fn followed_by(value: u64, digit: u8) -> u64
     requires { 48 ≤ digit }
     ensures { result ≡ (value * 10 + (digit - 48)) % 2 ^ 64 }
 {
@@ -100,7 +100,7 @@ pub(crate) fn number_at(bytes: &[u8]) -> Result<(Option<Item<u64>>, Option<&[u8]
 }
 
 /// The greatest variable of a literal.
-const MOST_VARIABLES: u64 = 2_147_483_647;
+pub(crate) const MOST_VARIABLES: u64 = 2_147_483_647;
 
 /// The literal of a number that is at least 1 where it is small.
 #[inline]
