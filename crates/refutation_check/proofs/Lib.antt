@@ -10,3 +10,9 @@ pub mod ClauseLemmas
 pub mod UndoLemmas
 -- Steps that are judged one after another:
 pub mod VerdictLemmas
+-- The rows that numbers name, and the variables of a step's row:
+pub mod KeptLemmas
+-- What a step changes, and how steps end:
+pub mod StateLemmas
+-- Hints, one after another:
+pub mod ReplayLemmas

@@ -4,5 +4,11 @@
 pub mod Soundness
 -- What a log's steps come to, one after another:
 pub mod Judged
-
+-- Which variables rows speak of:
+pub mod Within
 -- Kept inside (laws, and how fields are seen):
+--
+-- How steps are kept, and what a hint and a part come to:
+pub mod Kept
+pub mod Named
+pub mod Checkers

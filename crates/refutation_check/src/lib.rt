@@ -1,9 +1,22 @@
 //! What a refutation log proves: its verdict over rows, and the law that an accepted log refutes them.
+//!
+//! A `Checker` takes a log's steps one after another, and `check` a whole log. `specs/Judged.antt` says what steps come
+//! to, and `specs/Soundness.antt` what an accepted log proves.
 #![tactic(auto)]
 
+mod adding;
+mod checker;
 mod clause;
+mod judge;
+mod keep;
+mod kept;
 mod laws;
+mod named;
+mod replay;
 mod trail;
+mod whole;
 
+pub use checker::Checker;
 pub use laws::{accepted_logs_refute, steps_give_verdict};
 pub use refutation::{Cause, Verdict};
+pub use whole::{check, give_all};

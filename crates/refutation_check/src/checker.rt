@@ -1,0 +1,130 @@
+//! A checker, to which the steps of a log are given one after another.
+ghost use Rattle.std.specs.Prelude.{◌≡◌, ◌+◌, ◌≤◌, ◌<◌, ◌^◌, length, IfOk, OnOk, OnErr, None};
+ghost use Rattle.std.specs.List.{All};
+ghost use Rattle.refutation.specs.Steps.Step.{Clause, Linear};
+ghost use Rattle.refutation_check.specs.Judged.{after_step, no_step_of, verdict_so_far};
+ghost use Rattle.refutation_check.specs.Within.{AreWithin};
+
+use crate::judge::{judge_clause, judge_linear};
+use crate::keep::keep;
+use crate::kept::{KeptStep, Rejection, verdict_on};
+use crate::trail::undo;
+use refutation::{Part, Verdict};
+use row_sums::Sum;
+use rows::{Lit, Partial, RowStore};
+use std::alloc::{AllocError, Global};
+use std::marker::Model;
+
+/// What the steps of a log have proved of rows: seen as the rows, their number of variables, the row and the kind of
+/// each step that followed, and the number and the fault of the first step that didn't.
+///
+/// It borrows the rows, and keeps each step as its row, in 8 bytes a term, or 32 where a number of a sum doesn't fit
+/// that. A step costs no more than its clause and the rows that it names, each read at most twice.
+#[derive(Drop)]
+pub struct Checker<'a> {
+    alloc: Global,
+    rows: &'a RowStore,
+    vars: u32,
+    steps: Vec<KeptStep>,
+    partial: Partial,
+    trail: Vec<u32>,
+    sum: Sum,
+    rejection: Option<Rejection>,
+}
+
+impl<'a> Model for Checker<'a> {
+    ghost use Rattle.refutation_check.specs.Judged.{Judged};
+
+    ghost Value = { Judged };
+
+    ghost use Rattle.refutation_check.specs.Checkers.{IsKept, judged_of};
+
+    ghost view = { judged_of };
+
+    ghost invariant = { IsKept };
+}
+
+impl<'a> Checker<'a> {
+    /// No step yet. It takes 1 byte for each variable.
+    ///
+    /// # Errors
+    /// Only where memory runs out.
+    pub fn new(alloc: Global, rows: &'a RowStore, vars: u32) -> Result<Checker<'a>, AllocError>
+        requires { AreWithin vars rows.now }
+        ensures { IfOk result (λ checker. checker ≡ no_step_of rows.now vars) }
+    {
+        let partial = Partial::new(alloc, vars)?;
+        Ok(Checker {
+            alloc,
+            rows,
+            vars,
+            steps: Vec::new(alloc),
+            partial,
+            trail: Vec::new(alloc),
+            sum: Sum::new(alloc),
+            rejection: None,
+        })
+    }
+
+    /// Judges a clause step: where it follows its row is added, and else it is rejected. Behind a rejection nothing
+    /// changes.
+    ///
+    /// # Errors
+    /// Only where memory runs out: then nothing changes.
+    pub fn step(&mut self, clause: &[Lit], hints: &[u64]) -> Result<(), AllocError>
+        ensures ok { OnOk result (self.new ≡ after_step self.old (Clause clause.now hints.now)) }
+        ensures err { OnErr result (self.new ≡ self.old) }
+    {
+        if self.rejection.is_some() {
+            return Ok(());
+        }
+        let found = judge_clause(
+            self.alloc,
+            self.rows,
+            &self.steps,
+            self.vars,
+            clause,
+            hints,
+            &mut self.partial,
+            &mut self.trail,
+        );
+        undo(&mut self.partial, &mut self.trail);
+        keep(found?, &mut self.steps, &mut self.rejection)
+    }
+
+    /// Judges a linear step: the sum of these rows, each with its factor, divided by a divisor. Where it follows its
+    /// row is added, and else it is rejected. Behind a rejection nothing changes.
+    ///
+    /// # Errors
+    /// Only where memory runs out: then nothing changes.
+    pub fn linear(&mut self, parts: &[Part], divisor: u64) -> Result<(), AllocError>
+        requires factors { All (λ part. 1 ≤ part.factor) parts.now }
+        requires divisor { 1 ≤ divisor }
+        ensures ok { OnOk result (self.new ≡ after_step self.old (Linear parts.now divisor)) }
+        ensures err { OnErr result (self.new ≡ self.old) }
+    {
+        if self.rejection.is_some() {
+            return Ok(());
+        }
+        let found = judge_linear(
+            self.alloc,
+            self.rows,
+            &self.steps,
+            parts,
+            divisor,
+            &mut self.sum,
+        );
+        self.sum.clear();
+        keep(found?, &mut self.steps, &mut self.rejection)
+    }
+
+    /// The verdict on the steps that have come. It takes no memory.
+    pub fn verdict(&self) -> Verdict
+        ensures { result ≡ verdict_so_far self.now }
+    {
+        match self.rejection {
+            Some(Rejection { step, cause }) => Verdict::Rejected { step, cause },
+            None => verdict_on(&self.steps),
+        }
+    }
+}

@@ -1,0 +1,130 @@
+//! Steps that followed, kept as their rows.
+ghost use Rattle.std.specs.Prelude.{◌≡◌, ◌<◌, ◌^◌, true, map, length, IfOk, None};
+ghost use Rattle.std.specs.List.{All};
+ghost use Rattle.refutation.specs.Verdict.{verdict_by};
+ghost use Rattle.refutation.specs.declared.step.StepKind.TheVariants as kinds;
+ghost use Rattle.refutation_check.specs.Judged as judged;
+ghost use Rattle.refutation_check.specs.Judged.{ends_false};
+ghost use Rattle.refutation_check.specs.Kept.{judged_step};
+
+use refutation::{Cause, StepKind, Verdict};
+use row_sums::{WideRow, WideTerm};
+use rows::Term;
+use std::alloc::{AllocError, Global};
+
+/// The row of a step that followed.
+#[derive(Drop)]
+pub(crate) enum KeptStep {
+    /// A clause, or a sum whose numbers fit. A term takes 8 bytes.
+    Narrow {
+        kind: StepKind,
+        terms: Vec<Term>,
+        degree: u64,
+    },
+    /// A sum with a number that doesn't fit.
+    Wide {
+        row: WideRow,
+    },
+}
+
+/// The number of the first step that doesn't follow, from 1, and why.
+#[derive(Clone, Copy)]
+pub(crate) struct Rejection {
+    pub step: u64,
+    pub cause: Cause,
+}
+
+/// The step whose row is a sum's: narrow where its numbers fit.
+///
+/// # Errors
+/// Only where memory runs out.
+pub(crate) fn kept_sum(alloc: Global, row: WideRow) -> Result<KeptStep, AllocError>
+    ensures { IfOk result (λ step. judged_step step ≡ record { row = row; kind = kinds.Linear }) }
+{
+    if !is_narrow(row.terms(), row.degree()) {
+        return Ok(KeptStep::Wide { row });
+    }
+    let terms = narrowed(alloc, row.terms())?;
+    let degree = row.degree() as u64;
+    Ok(KeptStep::Narrow {
+        kind: StepKind::Linear,
+        terms,
+        degree,
+    })
+}
+
+/// Whether the coefficients fit 32 bits, and the degree 64.
+fn is_narrow(terms: &[WideTerm], degree: u128) -> bool
+    ensures terms { result ≡ true → All (λ t. t.coef < 2 ^ 32) terms.now }
+    ensures degree { result ≡ true → degree < 2 ^ 64 }
+{
+    degree <= u128::from(u64::MAX) && are_narrow(terms)
+}
+
+/// Whether the coefficients fit 32 bits.
+fn are_narrow(terms: &[WideTerm]) -> bool
+    ensures { result ≡ true → All (λ t. t.coef < 2 ^ 32) terms.now }
+{
+    for term in terms {
+        if term.coef > u128::from(u32::MAX) {
+            return false;
+        }
+    }
+    true
+}
+
+/// The same terms, with coefficients of 32 bits.
+///
+/// # Errors
+/// Only where memory runs out.
+fn narrowed(alloc: Global, terms: &[WideTerm]) -> Result<Vec<Term>, AllocError>
+    requires { All (λ t. t.coef < 2 ^ 32) terms.now }
+    ensures { IfOk result (λ narrow. narrow.items ≡ terms.now) }
+{
+    let mut narrow = Vec::with_capacity(alloc, terms.len())?;
+    for term in terms {
+        narrow.push(Term {
+            coef: term.coef as u32,
+            lit: term.lit,
+        })?;
+    }
+    Ok(narrow)
+}
+
+/// The verdict where each of these steps followed.
+pub(crate) fn verdict_on(steps: &[KeptStep]) -> Verdict
+    ensures { result ≡ verdict_by None (ends_false (map judged_step steps.now)) (length steps.now) }
+{
+    if end_false(steps) {
+        Verdict::Accepted
+    } else {
+        Verdict::Rejected {
+            step: steps.len() as u64,
+            cause: Cause::NoEmptyClause,
+        }
+    }
+}
+
+/// Whether there is a step, and the last one is the empty clause.
+fn end_false(steps: &[KeptStep]) -> bool
+    ensures { result ≡ ends_false (map judged_step steps.now) }
+{
+    match steps.last() {
+        Some(step) => is_falsum(step),
+        None => false,
+    }
+}
+
+/// Whether the step is the empty clause.
+fn is_falsum(step: &KeptStep) -> bool
+    ensures { result ≡ judged.is_falsum (judged_step step.now) }
+{
+    match step {
+        KeptStep::Narrow {
+            kind,
+            terms,
+            degree,
+        } => *kind == StepKind::Clause && terms.is_empty() && *degree == 1,
+        KeptStep::Wide { .. } => false,
+    }
+}

@@ -1,0 +1,2 @@
+-- An accepted log excludes every schedule:
+pub mod SeasonLemmas

@@ -1,0 +1,4 @@
+-- What a reader of a claim must believe:
+--
+-- What an accepted log proves of a league:
+pub mod Excluded
