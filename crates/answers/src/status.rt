@@ -5,13 +5,13 @@ ghost use Rattle.answers.specs.Status.{status_code};
 /// How a run ended.
 #[derive(Clone, Copy, Debug, PartialEq, Eq)]
 pub enum Status {
-    /// The answer is yes: the schedule is accepted.
+    /// The answer is yes: the schedule or the log is accepted, or a schedule was made.
     Yes,
-    /// The answer is no: the schedule isn't accepted.
+    /// The answer is no: the schedule or the log isn't accepted.
     No,
     /// The words of the command line are no command.
     Words,
-    /// A file is refused.
+    /// A file is refused, or the rows of its league are too many.
     File,
     /// No schedule meets the hard constraints. No command answers it yet.
     Refuted,

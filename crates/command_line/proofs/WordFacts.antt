@@ -1,7 +1,7 @@
 -- Worked readings of words, so that a wrong definition does not check.
 use Rattle.std.proofs.Common.{◌≡◌, true, false, [], ◌∷◌, Some, None, codes, refl}
 use Rattle.command_line.specs.Words.{is_file_name, is_shortest, number_in, reading, team_count_in, NeedsNoFile}
-use Rattle.command_line.specs.Words.Command.{Circle, Validate}
+use Rattle.command_line.specs.Words.Command.{Check, Circle, Validate}
 
 -- a number: 0 itself, no leading zero, no sign, no blank, at most 2 ^ 64 - 1
 pub number_in-some : (number_in (codes "0") ≡ Some 0) × (number_in (codes "10") ≡ Some 10) × (number_in (codes "18446744073709551615") ≡ Some 18446744073709551615)
@@ -27,6 +27,13 @@ is_file_name-some = (refl, refl, refl, refl)
 pub validate-names : reading (codes "validate" ∷ codes "" ∷ codes "circle" ∷ []) ≡ Some (Validate [] (codes "circle"))
 validate-names = refl
 
+pub check-names : (reading (codes "check" ∷ codes "a" ∷ codes "" ∷ []) ≡ Some (Check (codes "a") [])) × (reading (codes "check" ∷ codes "a" ∷ codes "b" ∷ []) ≡ Some (Check (codes "a") (codes "b")))
+check-names = (refl, refl)
+
+-- one file or three, an option in place of a file's name, another spelling
+pub check-none : (reading (codes "check" ∷ codes "a" ∷ []) ≡ None) × (reading (codes "check" ∷ codes "a" ∷ codes "b" ∷ codes "c" ∷ []) ≡ None) × (reading (codes "check" ∷ codes "a" ∷ codes "-" ∷ []) ≡ None) × (reading (codes "check" ∷ codes "-a" ∷ codes "b" ∷ []) ≡ None) × (reading (codes "Check" ∷ codes "a" ∷ codes "b" ∷ []) ≡ None) × (reading (codes "checks" ∷ codes "a" ∷ codes "b" ∷ []) ≡ None)
+check-none = (refl, refl, refl, refl, refl, refl)
+
 pub circle-teams : (reading (codes "circle" ∷ codes "2" ∷ []) ≡ Some (Circle 2)) × (reading (codes "circle" ∷ codes "40" ∷ []) ≡ Some (Circle 40))
 circle-teams = (refl, refl)
 
@@ -39,5 +46,5 @@ pub reading-longer : (reading (codes "validate" ∷ codes "a" ∷ codes "b" ∷ 
 reading-longer = (refl, refl, refl, refl)
 
 -- which words need no file
-pub needs_no_file : NeedsNoFile (reading []) × NeedsNoFile (reading (codes "circle" ∷ codes "4" ∷ [])) × (NeedsNoFile (reading (codes "validate" ∷ codes "a" ∷ codes "b" ∷ [])) → ⊥)
-needs_no_file = (tt, tt, λ h. h)
+pub needs_no_file : NeedsNoFile (reading []) × NeedsNoFile (reading (codes "circle" ∷ codes "4" ∷ [])) × (NeedsNoFile (reading (codes "validate" ∷ codes "a" ∷ codes "b" ∷ [])) → ⊥) × (NeedsNoFile (reading (codes "check" ∷ codes "a" ∷ codes "b" ∷ [])) → ⊥)
+needs_no_file = (tt, tt, λ h. h, λ h. h)

@@ -9,6 +9,7 @@ use Rattle.robin_io.specs.Numbers.{is_number}
 -- a command with its arguments
 pub data Command : Type 0 where
   Validate : (instance solution : List ℕ) → Command
+  Check : (instance log : List ℕ) → Command
   Circle : (n : ℕ) → Command
 
 -- whether a word names a file: any word that doesn't begin with `-`
@@ -32,12 +33,16 @@ number_in word =
 abbrev pub team_count_in : List ℕ → Option ℕ
 team_count_in word = option_and_then (λ n. if is_team_count n then Some n else None) (number_in word)
 
+-- the command of this name over two files
+abbrev pub over_files : List ℕ → List ℕ → List ℕ → Option Command
+over_files command first second =
+    if bytes_eq command (codes "validate") then Some (Validate first second)
+    else (if bytes_eq command (codes "check") then Some (Check first second) else None)
+
 -- the one reading of the words, or none
 abbrev pub reading : List (List ℕ) → Option Command
-reading (command ∷ instance ∷ solution ∷ []) =
-    if bytes_eq command (codes "validate") && (is_file_name instance && is_file_name solution)
-    then Some (Validate instance solution)
-    else None
+reading (command ∷ first ∷ second ∷ []) =
+    if is_file_name first && is_file_name second then over_files command first second else None
 reading (command ∷ teams ∷ []) =
     if bytes_eq command (codes "circle") then option_map Circle (team_count_in teams) else None
 reading _ = None
@@ -45,6 +50,7 @@ reading _ = None
 -- a league may have the teams of a command, where it names a number of them
 abbrev pub HasTeams : Command → Type 0
 HasTeams (Validate instance solution) = Unit {0}
+HasTeams (Check instance log) = Unit {0}
 HasTeams (Circle n) = IsTeamCount n
 
 -- whether the words need no file: they are refused, or ask for a schedule that is made
@@ -52,3 +58,4 @@ abbrev pub NeedsNoFile : Option Command → Type 0
 NeedsNoFile None = Unit {0}
 NeedsNoFile (Some (Circle n)) = Unit {0}
 NeedsNoFile (Some (Validate instance solution)) = ⊥
+NeedsNoFile (Some (Check instance log)) = ⊥

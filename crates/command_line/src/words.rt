@@ -15,6 +15,11 @@ pub enum Words<'a> {
         instance: &'a str,
         solution: &'a str,
     },
+    /// Check the refutation log of one file over the rows of the league of an instance file.
+    Check {
+        instance: &'a str,
+        log: &'a str,
+    },
     /// Write the double round robin of the circle method for n teams, n even and from 2 to 40.
     Circle {
         n: u16,
@@ -28,8 +33,8 @@ pub fn read_words(words: &[String]) -> Option<Words<'_>>
     ensures teams { IfSome result (λ command. HasTeams (command_of command)) }
 {
     match words {
-        [command, instance, solution] => {
-            with_two(command.as_str(), instance.as_str(), solution.as_str())
+        [command, first, second] => {
+            with_two(command.as_str(), first.as_str(), second.as_str())
         }
         [command, teams] => with_one(command.as_str(), teams.as_str()),
         _ => None,
@@ -37,12 +42,22 @@ pub fn read_words(words: &[String]) -> Option<Words<'_>>
 }
 
 /// The command of this name with two arguments.
-fn with_two<'a>(command: &str, instance: &'a str, solution: &'a str) -> Option<Words<'a>>
-    ensures reading { option_map command_of result ≡ reading (command.now ∷ instance.now ∷ solution.now ∷ []) }
+fn with_two<'a>(command: &str, first: &'a str, second: &'a str) -> Option<Words<'a>>
+    ensures reading { option_map command_of result ≡ reading (command.now ∷ first.now ∷ second.now ∷ []) }
     ensures teams { IfSome result (λ command. HasTeams (command_of command)) }
 {
-    if command == "validate" && is_name(instance) && is_name(solution) {
-        Some(Words::Validate { instance, solution })
+    if !is_name(first) || !is_name(second) {
+        None
+    } else if command == "validate" {
+        Some(Words::Validate {
+            instance: first,
+            solution: second,
+        })
+    } else if command == "check" {
+        Some(Words::Check {
+            instance: first,
+            log: second,
+        })
     } else {
         None
     }

@@ -1,0 +1,134 @@
+-- What `check` answers: its stages in their order, and the verdict on a log.
+use Rattle.std.specs.Prelude.{◌≡◌, ℕ, ◌+◌, ◌<◌, ◌≤◌, ◌⊎◌, List, ◌++◌, length, codes, decimal, Option, Some, Result, Ok, Err}
+use Rattle.std.specs.Io.KnownBytes.{Appends}
+use Rattle.robinx_tags.specs.Pieces.{pieces}
+use Rattle.league.specs.Instance.{Instance}
+use Rattle.robinx_form.specs.InstanceFile.{instance_of}
+use Rattle.robinx_read.specs.declared.instance.TheConstants.{INSTANCE_LIMIT}
+use Rattle.answers.specs.Reply.{Answer}
+use Rattle.answers.specs.Stages.{◌>>=◌, Outcome, reads, says}
+use Rattle.answers.specs.declared.status.Status.{Status}
+use Rattle.answers.specs.declared.status.Status.TheVariants.{Yes, No, File}
+use Rattle.rows.specs.Rows.{Row}
+use Rattle.encoding.specs.Encoding.{encoding_size, rows_of}
+use Rattle.encoding.specs.Variables.{var_count}
+use Rattle.refutation.specs.Steps.{Step}
+use Rattle.refutation.specs.Logs.{Fault, log_of}
+use Rattle.refutation.specs.Verdict.{verdict_of}
+use Rattle.refutation.specs.declared.fault.LogKind.{LogKind}
+use Rattle.refutation.specs.declared.fault.LogKind.TheVariants.{BadLine, BadNumber, NoEnd, TooLong}
+use Rattle.refutation.specs.declared.verdict.Cause.{Cause}
+use Rattle.refutation.specs.declared.verdict.Cause.TheVariants.{UnknownRow, UnknownVariable, NoConflict, NoEmptyClause}
+use Rattle.refutation.specs.declared.verdict.Cause.TheVariants.{TooWide}
+use Rattle.refutation.specs.declared.verdict.Verdict.{Verdict}
+use Rattle.refutation.specs.declared.verdict.Verdict.TheVariants.{Accepted, Rejected}
+use Rattle.season_check.specs.Excluded.{NoneAccepted}
+
+-- the most bytes of a log (own limit)
+abbrev pub most_log_bytes : ℕ
+most_log_bytes = 268435456
+
+-- the most terms of a league's rows (own limit)
+abbrev pub most_terms : ℕ
+most_terms = 40000000
+
+-- ---- texts
+
+-- the name of a fault of a log's form
+abbrev pub kind_word : LogKind → List ℕ
+kind_word BadLine = codes "BadLine"
+kind_word BadNumber = codes "BadNumber"
+kind_word NoEnd = codes "NoEnd"
+kind_word TooLong = codes "TooLong"
+
+-- the log has this fault of form on this line, and none before it
+abbrev pub log_malformed : LogKind → ℕ → Answer
+log_malformed kind line = record {
+  status = File;
+  text = codes "refused log " ++ (kind_word kind ++ (codes " line " ++ (decimal line ++ codes "\n")));
+}
+
+-- the rows of the league have so many terms, which are too many
+abbrev pub too_large : ℕ → Answer
+too_large terms = record {
+  status = File;
+  text = codes "refused rows TooLarge terms " ++ (decimal terms ++ codes "\n");
+}
+
+-- the name of a cause
+abbrev pub cause_word : Cause → List ℕ
+cause_word UnknownRow = codes "UnknownRow"
+cause_word UnknownVariable = codes "UnknownVariable"
+cause_word NoConflict = codes "NoConflict"
+cause_word NoEmptyClause = codes "NoEmptyClause"
+cause_word TooWide = codes "TooWide"
+
+-- the verdict on a log of so many steps
+abbrev pub verdict_answer : ℕ → Verdict → Answer
+verdict_answer steps Accepted =
+    record { status = Yes; text = codes "accepted steps " ++ (decimal steps ++ codes "\n") }
+verdict_answer steps (Rejected step cause) = record {
+  status = No;
+  text = codes "rejected step " ++ (decimal step ++ (codes " cause " ++ (cause_word cause ++ codes "\n")));
+}
+
+-- ---- stages
+
+-- the stage that makes the rows of the league, unless they have too many terms
+abbrev pub encodes : Instance → (List Row → Outcome) → Outcome
+encodes league next answer =
+    ((encoding_size league ≤ most_terms) × next (rows_of league) answer)
+    ⊎ ((most_terms < encoding_size league) × (answer ≡ too_large (encoding_size league)))
+
+-- the stage that takes what a log's text says: its steps, or its first fault of form
+abbrev pub says_log : Result (List Step) Fault → (List Step → Outcome) → Outcome
+says_log (Ok steps) next answer = next steps answer
+says_log (Err fault) next answer = answer ≡ log_malformed fault.0 fault.1
+
+-- The verdict on a log over the rows of the league. Where it says yes, the league accepts no list of games, of whatever
+-- length.
+pub record IsVerdict (league : Instance) (rows : List Row) (steps : List Step) (answer : Answer) : Type 0 where
+  pub verdict : answer ≡ verdict_answer (length steps) (verdict_of rows (var_count league) steps)
+  pub refuted : answer.status ≡ Yes → NoneAccepted league
+
+-- `check`, over the contents of the store's files where they are known, how many bytes it gave more than, and the files
+-- at which it failed: the whole log is read before it is judged, so a fault of form comes before any verdict
+abbrev pub checked : (List ℕ → Option (List ℕ)) → (ℕ → Type 0) → (List ℕ → Type 0) → List ℕ → List ℕ → Outcome
+checked contents took_more failed instance log = do
+  first ← reads (codes "instance") (contents instance) INSTANCE_LIMIT (took_more INSTANCE_LIMIT) (failed instance)
+  league ← says (codes "instance") (instance_of (pieces first))
+  rows ← encodes league
+  let long = took_more (length first + most_log_bytes)
+  second ← reads (codes "log") (contents log) most_log_bytes long (failed log)
+  steps ← says_log (log_of second)
+  IsVerdict league rows steps
+
+-- ---- a run
+
+-- two files within their limits whose bytes are known and at which the store didn't fail, which say a league whose rows
+-- aren't too many and the steps of a log
+pub record IsWellFormedLog
+    (contents : List ℕ → Option (List ℕ))
+    (failed : List ℕ → Type 0)
+    (instance log : List ℕ)
+    (league : Instance)
+    (steps : List Step)
+    : Type 0 where
+  pub first : List ℕ
+  pub second : List ℕ
+  pub first_known : contents instance ≡ Some first
+  pub second_known : contents log ≡ Some second
+  pub first_within : length first ≤ INSTANCE_LIMIT
+  pub second_within : length second ≤ most_log_bytes
+  pub says_league : instance_of (pieces first) ≡ Ok league
+  pub small : encoding_size league ≤ most_terms
+  pub says_steps : log_of second ≡ Ok steps
+  pub first_works : failed instance → ⊥
+  pub second_works : failed log → ⊥
+
+-- the verdict is written whole
+pub record IsChecked (league : Instance) (steps : List Step) (ended : Status) (old new : Option (List ℕ)) : Type 0 where
+  pub answer : Answer
+  pub verdict : IsVerdict league (rows_of league) steps answer
+  pub status : ended ≡ answer.status
+  pub written : Appends old new answer.text

@@ -1,0 +1,6 @@
+-- What a reader of a claim must believe:
+pub mod Check
+-- Kept inside (laws, and how fields are seen):
+--
+-- A log that is checked while it is read:
+pub mod Feeding

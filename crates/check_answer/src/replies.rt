@@ -1,0 +1,93 @@
+//! The answers of `check`.
+ghost use Rattle.std.specs.Prelude.{◌≡◌, IfOk};
+ghost use Rattle.answers.specs.SeenReply.{answer_of};
+ghost use Rattle.check_answer.specs.Check as texts;
+
+use answers::{Reply, Status};
+use refutation::{Cause, LogKind, Verdict};
+use std::alloc::{AllocError, Global};
+
+/// The rows of the league have so many terms, which are too many.
+pub(crate) fn rows_refused(alloc: Global, terms: u64) -> Result<Reply, AllocError>
+    ensures { IfOk result (λ reply. answer_of reply ≡ texts.too_large terms) }
+{
+    let text = format!(in alloc; "refused rows TooLarge terms {terms}\n")?;
+    Ok(Reply {
+        status: Status::File,
+        text: text.into_bytes(),
+    })
+}
+
+/// The name of a fault of a log's form.
+fn kind_word(kind: LogKind) -> &'static str
+    ensures { result.now ≡ texts.kind_word kind }
+{
+    match kind {
+        LogKind::BadLine => "BadLine",
+        LogKind::BadNumber => "BadNumber",
+        LogKind::NoEnd => "NoEnd",
+        LogKind::TooLong => "TooLong",
+    }
+}
+
+/// The log has a fault of form of this kind, on this line.
+pub(crate) fn log_refused(alloc: Global, kind: LogKind, line: u64) -> Result<Reply, AllocError>
+    ensures { IfOk result (λ reply. answer_of reply ≡ texts.log_malformed kind line) }
+{
+    let kind = kind_word(kind);
+    let text = format!(in alloc; "refused log {kind} line {line}\n")?;
+    Ok(Reply {
+        status: Status::File,
+        text: text.into_bytes(),
+    })
+}
+
+/// The name of a cause.
+fn cause_word(cause: Cause) -> &'static str
+    ensures { result.now ≡ texts.cause_word cause }
+{
+    match cause {
+        Cause::UnknownRow => "UnknownRow",
+        Cause::UnknownVariable => "UnknownVariable",
+        Cause::NoConflict => "NoConflict",
+        Cause::NoEmptyClause => "NoEmptyClause",
+        Cause::TooWide => "TooWide",
+    }
+}
+
+/// The log of so many steps is accepted.
+fn accepted(alloc: Global, steps: usize) -> Result<Reply, AllocError>
+    ensures { IfOk result (λ reply. answer_of reply ≡ texts.verdict_answer steps Verdict.Accepted) }
+{
+    let text = format!(in alloc; "accepted steps {steps}\n")?;
+    Ok(Reply {
+        status: Status::Yes,
+        text: text.into_bytes(),
+    })
+}
+
+/// The log is rejected at this step.
+fn rejected(alloc: Global, step: u64, cause: Cause) -> Result<Reply, AllocError>
+    ensures { IfOk result (λ reply. answer_of reply ≡ texts.verdict_answer 0 (Verdict.Rejected step cause)) }
+{
+    let cause = cause_word(cause);
+    let text = format!(in alloc; "rejected step {step} cause {cause}\n")?;
+    Ok(Reply {
+        status: Status::No,
+        text: text.into_bytes(),
+    })
+}
+
+/// The verdict on a log of so many steps.
+pub(crate) fn verdict_reply(
+    alloc: Global,
+    steps: usize,
+    verdict: Verdict,
+) -> Result<Reply, AllocError>
+    ensures { IfOk result (λ reply. answer_of reply ≡ texts.verdict_answer steps verdict) }
+{
+    match verdict {
+        Verdict::Accepted => accepted(alloc, steps),
+        Verdict::Rejected { step, cause } => rejected(alloc, step, cause),
+    }
+}

@@ -1,0 +1,157 @@
+//! The stages of `check`.
+ghost use Rattle.std.specs.Prelude.{◌≡◌, ◌<◌, ◌≤◌, ℕ, List, IfOk, codes, vec_len};
+ghost use Rattle.robin_io.specs.Counts.{Rose, TookMore};
+ghost use Rattle.league.specs.Instance.{Instance, IsInstance};
+ghost use Rattle.encoding.specs.Encoding.{encoding_size, rows_of};
+ghost use Rattle.encoding.specs.Variables.{var_count};
+ghost use Rattle.refutation.specs.Logs.{log_of};
+ghost use Rattle.refutation.specs.Places.{start};
+ghost use Rattle.refutation_check.specs.Judged.{no_step_of};
+ghost use Rattle.answers.specs.SeenReply.{answer_of, Answers, MatchStage};
+ghost use Rattle.answers.specs.Stages.{IsUnread, reads};
+ghost use Rattle.check_answer.specs.Check.{IsVerdict, checked, most_log_bytes, most_terms, says_log, too_large};
+ghost use Rattle.check_answer.specs.Feeding.{ChecksFile, ChecksOn};
+
+use crate::feeding::{LOG_LIMIT, check_file};
+use crate::replies::{log_refused, rows_refused, verdict_reply};
+use answers::{NoValue, Reply, file, league_in, past_limit, unreadable};
+use encoding::{EncodeFault, Encoding, encode};
+use league::League;
+use refutation::{LogFault, LogFeed};
+use refutation_check::Checker;
+use robin_io::{Shelf, TakeFault};
+use robinx_read::INSTANCE_LIMIT;
+use season_check::checker_of;
+use std::alloc::{AllocError, Global};
+
+/// The rows of a league, or why there are none.
+fn encoding_of(alloc: Global, league: &League) -> Result<Encoding, NoValue>
+    ensures stage { MatchStage result
+        (λ encoding. (encoding ≡ league.now) × (encoding_size league.now ≤ most_terms))
+        (λ answer. (most_terms < encoding_size league.now) × (answer ≡ too_large (encoding_size league.now))) }
+{
+    match encode(alloc, league) {
+        Ok(encoding) => Ok(encoding),
+        Err(EncodeFault::TooLarge { terms }) => Err(NoValue::Refused(rows_refused(alloc, terms)?)),
+        Err(EncodeFault::Mem) => Err(NoValue::Memory),
+    }
+}
+
+/// How many bytes of a log one take asks for at most.
+const PIECE: usize = 65_536;
+
+/// Room for so many bytes.
+fn room_of(alloc: Global, len: usize) -> Result<Vec<u8>, AllocError>
+    ensures { IfOk result (λ room. vec_len room ≡ len) }
+{
+    vec![in alloc; 0u8; len]
+}
+
+/// Reads the log and judges its steps, or answers why it can't be read.
+fn log_in<S: Shelf>(
+    alloc: Global,
+    shelf: &mut S,
+    name: &str,
+    feed: &mut LogFeed,
+    checker: &mut Checker,
+) -> Result<usize, NoValue>
+    requires { feed.old ≡ start }
+    ensures stage { MatchStage result
+        (ChecksFile (S.contents shelf.old name.now) feed.old checker.old feed.new checker.new)
+        (IsUnread (codes "log") (S.contents shelf.old name.now) most_log_bytes
+        (TookMore most_log_bytes (S.taken shelf.old) (S.taken shelf.new))
+        (Rose (S.faults shelf.old name.now) (S.faults shelf.new name.now))) }
+    ensures contents { (n : List ℕ) → S.contents shelf.new n ≡ S.contents shelf.old n }
+{
+    let mut room = room_of(alloc, PIECE)?;
+    match check_file(alloc, shelf, name, &mut room, feed, checker) {
+        Ok(steps) => Ok(steps),
+        Err(TakeFault::Failed) => Err(NoValue::Refused(unreadable(alloc, "log")?)),
+        Err(TakeFault::TooLong { .. }) => {
+            Err(NoValue::Refused(past_limit(alloc, "log", LOG_LIMIT)?))
+        }
+        Err(TakeFault::Mem) => Err(NoValue::Memory),
+    }
+}
+
+/// The answer at the end of the log, whose steps the checker has judged.
+fn verdict_on(
+    alloc: Global,
+    feed: LogFeed,
+    checker: &Checker,
+    steps: usize,
+) -> Result<Reply, NoValue>
+    ensures { (league : Instance) (bytes : List ℕ) → IsInstance league
+        → ChecksOn start (no_step_of (rows_of league) (var_count league)) bytes feed checker.now steps
+        → Answers (says_log (log_of bytes) (IsVerdict league (rows_of league))) result }
+{
+    match feed.finish() {
+        Ok(()) => Ok(verdict_reply(alloc, steps, checker.verdict())?),
+        Err(LogFault::Form { kind, line }) => {
+            Err(NoValue::Refused(log_refused(alloc, kind, line)?))
+        }
+        Err(LogFault::Mem) => Err(NoValue::Memory),
+    }
+}
+
+/// Checks a log over the rows of a league.
+fn check_log<S: Shelf>(
+    alloc: Global,
+    shelf: &mut S,
+    name: &str,
+    encoding: &Encoding,
+) -> Result<Reply, NoValue>
+    ensures answer { Answers (reads (codes "log") (S.contents shelf.old name.now) most_log_bytes
+        (TookMore most_log_bytes (S.taken shelf.old) (S.taken shelf.new))
+        (Rose (S.faults shelf.old name.now) (S.faults shelf.new name.now))
+        (λ bytes. says_log (log_of bytes) (IsVerdict encoding.now (rows_of encoding.now)))) result }
+    ensures contents { (n : List ℕ) → S.contents shelf.new n ≡ S.contents shelf.old n }
+{
+    // For its contract: what is encoded is a league, of which accepted logs exclude every schedule.
+    let _vars = encoding.vars();
+    let mut checker = checker_of(alloc, encoding)?;
+    let mut feed = LogFeed::new(alloc);
+    let steps = log_in(alloc, shelf, name, &mut feed, &mut checker)?;
+    verdict_on(alloc, feed, &checker, steps)
+}
+
+/// The stages of `check`.
+fn check_stages<S: Shelf>(
+    alloc: Global,
+    shelf: &mut S,
+    instance: &str,
+    log: &str,
+) -> Result<Reply, NoValue>
+    ensures answer { Answers (checked (S.contents shelf.old)
+        (λ limit. TookMore limit (S.taken shelf.old) (S.taken shelf.new))
+        (λ name. Rose (S.faults shelf.old name) (S.faults shelf.new name))
+        instance.now log.now) result }
+    ensures contents { (n : List ℕ) → S.contents shelf.new n ≡ S.contents shelf.old n }
+{
+    let first = file(alloc, shelf, "instance", instance, INSTANCE_LIMIT)?;
+    let league = league_in(alloc, &first)?;
+    let encoding = encoding_of(alloc, &league)?;
+    check_log(alloc, shelf, log, &encoding)
+}
+
+/// Checks the log of one file over the rows of the league of the other.
+///
+/// The log is read in pieces and its steps are judged as they come; it is read to its end before the answer.
+pub fn check<S: Shelf>(
+    alloc: Global,
+    shelf: &mut S,
+    instance: &str,
+    log: &str,
+) -> Result<Reply, AllocError>
+    ensures answer { IfOk result (λ reply. checked (S.contents shelf.old)
+        (λ limit. TookMore limit (S.taken shelf.old) (S.taken shelf.new))
+        (λ name. Rose (S.faults shelf.old name) (S.faults shelf.new name))
+        instance.now log.now (answer_of reply)) }
+    ensures contents { (n : List ℕ) → S.contents shelf.new n ≡ S.contents shelf.old n }
+{
+    match check_stages(alloc, shelf, instance, log) {
+        Ok(reply) => Ok(reply),
+        Err(NoValue::Refused(reply)) => Ok(reply),
+        Err(NoValue::Memory) => Err(AllocError),
+    }
+}
