@@ -104,6 +104,3 @@ pub fn read_log(alloc: Global, bytes: &[u8]) -> Result<Log, LogFault>
     reader.finish()?;
     Ok(steps)
 }
-
-#[cfg(test)]
-mod tests;

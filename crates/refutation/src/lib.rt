@@ -24,6 +24,3 @@ pub use step::{Part, StepKind};
 pub use text::log_text;
 pub use verdict::{Cause, Verdict};
 pub use version::Version;
-
-#[cfg(test)]
-mod tests;

@@ -16,3 +16,5 @@ pub struct Part {
     /// The row's number, from 1.
     pub row: u64,
 }
+
+const _: () = prove!(size_of::<Part>() == 16);
