@@ -39,7 +39,8 @@ impl From<AllocError> for EncodeFault {
 /// many, that is the answer.
 ///
 /// # Errors
-/// `TooLarge` exactly where the rows have more than 40,000,000 terms, with their number; else only where memory runs out.
+/// `TooLarge` exactly where the rows have more than 40,000,000 terms, with their number; else only where memory runs
+/// out.
 pub fn encode(alloc: Global, league: &League) -> Result<Encoding, EncodeFault>
     ensures league { IfOk result (λ encoding. encoding ≡ league.now) }
     ensures within { IsOk result → encoding_size league.now ≤ 40000000 }

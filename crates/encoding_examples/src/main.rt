@@ -1,5 +1,5 @@
-//! Worked runs of the encoding, whose transcript is compared with the file `stdout`: rows of leagues of four teams, as the
-//! rules of the encoding give them, a league whose rows have too many terms, and a season read back from its shadow.
+//! Worked runs of the encoding, whose transcript is compared with the file `stdout`: rows of leagues of four teams, as
+//! its rules give them, a league whose rows have too many terms, and a season read back from its shadow.
 //!
 //! A variable is shown by its name, with its teams and slot, and a row as its sum and what that is at least.
 #![tactic(auto)]
@@ -8,6 +8,7 @@ mod leagues;
 mod lines;
 mod seasons;
 
+use decoding::laws;
 use leagues::{
     at_home_seven_times, four_with, never_at_home_first, no_breaks_bounded, too_many_terms,
 };
@@ -16,6 +17,7 @@ use std::alloc::Global;
 
 /// Shows the encodings of leagues, and then a season.
 fn main(rt: HostRuntime) -> anyhow::Result<()> {
+    laws::faithful();
     show_plain(&rt, rt.alloc())?;
     show_bounds(&rt, rt.alloc())?;
     show_breaks(&rt, rt.alloc())?;

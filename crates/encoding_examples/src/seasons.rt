@@ -7,7 +7,7 @@ ghost use Rattle.encoding.specs.Variables.{var_count};
 use crate::leagues::no_breaks_bounded;
 use crate::lines::show_variable;
 use anyhow::{Result, ensure};
-use decoding::{decode, laws, shadow};
+use decoding::{decode, shadow};
 use encoding::{Encoding, encode};
 use league::{Game, Schedule, SlotId, TeamId};
 use rows::Assignment;
@@ -31,29 +31,45 @@ const FOUR: [(u16, u16, u16); 12] = [
 
 /// Shows which breaks the shadow of the season has, which games are decoded from it, and which from nothing true.
 pub fn show(rt: &impl Print, alloc: Global) -> Result<()> {
-    laws::faithful();
     let encoding = encode(alloc, &no_breaks_bounded(alloc)?)?;
-    let schedule = schedule_of(alloc, &FOUR)?;
-    ensure!(encoding.n() == 4, "four teams");
-    let values = shadow(alloc, &encoding, &schedule)?;
-    println!(rt; "the breaks of a season's shadow")?;
-    show_breaks(rt, alloc, &encoding, &values)?;
-    println!(rt; "the games decoded from it")?;
-    show_games(rt, decode(alloc, &encoding, &values)?.games())?;
-    println!(rt; "the games decoded from nothing true")?;
-    let nothing = Assignment::new(alloc, encoding.vars())?;
-    show_games(rt, decode(alloc, &encoding, &nothing)?.games())
+    let schedule = schedule_of(alloc, &encoding, &FOUR)?;
+    show_shadow(rt, alloc, &encoding, &schedule)?;
+    show_nothing(rt, alloc, &encoding)
 }
 
-/// The schedule of these games of four teams.
-fn schedule_of(alloc: Global, games: &[(u16, u16, u16)]) -> Result<Schedule>
-    ensures { IfOk result (λ schedule. All (IsGame 4) schedule) }
+/// Shows the shadow of a schedule, and what is decoded from it.
+fn show_shadow(
+    rt: &impl Print,
+    alloc: Global,
+    encoding: &Encoding,
+    schedule: &Schedule,
+) -> Result<()>
+    requires { All (IsGame encoding.now.n) schedule.now }
 {
+    let values = shadow(alloc, encoding, schedule)?;
+    println!(rt; "the breaks of a season's shadow")?;
+    show_breaks(rt, alloc, encoding, &values)?;
+    println!(rt; "the games decoded from it")?;
+    show_games(rt, &decode(alloc, encoding, &values)?)
+}
+
+/// Shows what is decoded where nothing is true.
+fn show_nothing(rt: &impl Print, alloc: Global, encoding: &Encoding) -> Result<()> {
+    println!(rt; "the games decoded from nothing true")?;
+    let nothing = Assignment::new(alloc, encoding.vars())?;
+    show_games(rt, &decode(alloc, encoding, &nothing)?)
+}
+
+/// The schedule of these games, if they fit the encoding's league.
+fn schedule_of(alloc: Global, encoding: &Encoding, games: &[(u16, u16, u16)]) -> Result<Schedule>
+    ensures { IfOk result (λ schedule. All (IsGame encoding.now.n) schedule) }
+{
+    let (teams, slots) = (encoding.n(), encoding.slots());
     let mut schedule = Schedule::new(alloc);
     for &(home, away, slot) in games {
-        ensure!(home < 4 && away < 4, "an unknown team");
+        ensure!(home < teams && away < teams, "an unknown team");
         ensure!(home != away, "one team");
-        ensure!(slot < 6, "an unknown slot");
+        ensure!(slot < slots, "an unknown slot");
         schedule.push(Game {
             home: TeamId(home),
             away: TeamId(away),
@@ -64,8 +80,8 @@ fn schedule_of(alloc: Global, games: &[(u16, u16, u16)]) -> Result<Schedule>
 }
 
 /// Shows games, one a line.
-fn show_games(rt: &impl Print, games: &[Game]) -> Result<()> {
-    for game in games {
+fn show_games(rt: &impl Print, schedule: &Schedule) -> Result<()> {
+    for game in schedule.games() {
         let (home, away, slot) = (game.home.0, game.away.0, game.slot.0);
         println!(rt; "{home} {away} {slot}")?;
     }

@@ -1,5 +1,5 @@
-//! The rows of a league, written group after group: those that make a double round robin, those that tie breaks to venues,
-//! and those of each hard constraint. `encoding_base` has their definitions.
+//! The rows of a league, written group after group: those that make a double round robin, those that tie breaks to
+//! venues, and those of each hard constraint. `encoding_base` has their definitions.
 #![tactic(auto)]
 
 mod break_rows;
