@@ -1,4 +1,4 @@
--- Clause steps that stand in front of bytes.
+-- Steps that stand in front of bytes.
 use Rattle.std.proofs.Common.{◌≡◌, ℕ, ◌+◌, ◌-◌, ◌*◌, ◌%◌, ◌^◌, ◌<◌, ◌≤◌, Bool, true, false, not, ◌&&◌, nat_eq, nat_lt}
 use Rattle.std.proofs.Common.{List, [], ◌∷◌, ◌++◌, length, take, drop, get_or, Option, Some, None, Ok}
 use Rattle.std.proofs.Common.{refl, arith, ap, sym, ◌∙◌, append_assoc, length-append, decimal}
@@ -15,14 +15,18 @@ use Rattle.robin_io.proofs.NumberLemmas.{ascii_digits}
 use Rattle.robin_io.specs.Numbers.{is_number}
 use Rattle.rows.specs.Literals.{Literal}
 use Rattle.refutation.specs.Steps.{Step}
-use Rattle.refutation.specs.Steps.Step.{Clause}
+use Rattle.refutation.specs.Steps.Step.{Clause, Linear}
 use Rattle.refutation.specs.Lines.{is_count, number}
 use Rattle.refutation.specs.Logs.{most_bytes}
-use Rattle.refutation.specs.Texts.{clause_mark, literal_text, literal_token, number_text, step_line_text, step_text}
-use Rattle.refutation.specs.Written.{IsVariable}
-use Rattle.refutation.specs.Fronts.{AddsBoth, AreFewDigits, BeginsNumber, IsClauseLine, IsHint, IsHintInFront}
-use Rattle.refutation.specs.Fronts.{IsLiteralInFront, IsLonger, IsVariableInFront, StandInFront, TakesItems}
+use Rattle.refutation.specs.Texts.{clause_mark, literal_text, literal_token, number_text, part_text, step_line_text}
+use Rattle.refutation.specs.Texts.{step_text}
+use Rattle.refutation.specs.Written.{IsFactored, IsOf, IsSmall, IsVariable}
+use Rattle.refutation.specs.Fronts.{AddsBoth, AddsParts, AddsStepLine, AreFewDigits, ArePartHints, BeginsNumber}
+use Rattle.refutation.specs.Fronts.{IsHint, IsHintInFront, IsLiteralInFront, IsLonger, IsNumberBefore, IsPartInFront}
+use Rattle.refutation.specs.Fronts.{IsVariableInFront, StandInFront, TakesItems, TakesStep}
+use Rattle.refutation.specs.declared.step.Part.{Part}
 use Rattle.refutation.specs.declared.version.Version.{Version}
+use Rattle.refutation.specs.declared.version.Version.TheVariants.{One, Two}
 use Rattle.refutation.proofs.TokenLemmas.{count-positive, digits-more, fails, short-fits, value-more}
 
 -- ---- one number
@@ -83,13 +87,33 @@ module _ (bytes : List ℕ) (len hint : ℕ) (begins : BeginsNumber bytes) (run 
     small = short-fits bytes len few run.digits;
   })
 
-  pub hint-front : (left : List ℕ) → drop len bytes ≡ 32 ∷ left → IsHintInFront bytes hint left
-  hint-front left is = record {
+  pub number-front : (end : ℕ) (left : List ℕ) → drop len bytes ≡ end ∷ left → IsNumberBefore end bytes hint left
+  number-front end left is = record {
     written =
         sym (take-append-drop len bytes) ∙ ap (λ (bs : List ℕ). take len bytes ++ bs) is
-        ∙ ap (λ (bs : List ℕ). bs ++ 32 ∷ left) (sym few-text) ∙ sym (append_assoc (decimal hint) (codes " ") left);
+        ∙ ap (λ (bs : List ℕ). bs ++ end ∷ left) (sym few-text);
     is = few-hint;
   }
+
+pub hint-front : (bytes : List ℕ) (found : Option (ℕ × Bor (List ℕ)))
+    → IfSome found (λ r. IsNumberBefore 32 bytes r.0 r.1.now)
+    → IfSome found (λ r. IsHintInFront bytes r.0 r.1.now)
+hint-front bytes None is = is
+hint-front bytes (Some (hint, left)) is = record {
+  written = is.written ∙ sym (append_assoc (decimal hint) (codes " ") left.now);
+  is = is.is;
+}
+
+-- ---- one part
+
+pub part-front : (bytes mid left : List ℕ) (factor row : ℕ) → IsHintInFront bytes factor mid
+    → IsHintInFront mid row left → IsPartInFront bytes (record { factor = factor; row = row }) left
+part-front bytes mid left factor row first second = record {
+  written =
+      first.written ∙ ap (λ (bs : List ℕ). number_text factor ++ bs) second.written
+      ∙ sym (append_assoc (number_text factor) (number_text row) left);
+  are = record { factor = first.is; row = second.is };
+}
 
 -- ---- one literal
 
@@ -118,14 +142,6 @@ positive-front bytes None is = is
 positive-front bytes (Some (lit, left)) is = record { written = rw is.sign is.written; is = is.is }
 
 -- ---- several
-
-pub longer-none : {T : Type 0} (xs : List T) → IsLonger xs xs
-longer-none xs = record { more = []; is = sym (append-nil xs) }
-
-pub take-longer : {T : Type 0} (old new : List T) (n : ℕ) → n ≡ length old → IsLonger old new → take n new ≡ old
-take-longer {T} old new n at longer =
-    ap (λ (xs : List T). take n xs) longer.is ∙ ap (λ (k : ℕ). take k (old ++ longer.more)) at
-    ∙ take-append_seam old longer.more
 
 flat_map-push : {T : Type 0} (text : T → List ℕ) (xs : List T) (x : T) (left : List ℕ)
     → flat_map text xs ++ (text x ++ left) ≡ flat_map text (xs ++ x ∷ []) ++ left
@@ -183,7 +199,18 @@ literal-shorter bytes left lit found =
     omega (arith, ap length found.written, length-append (literal_text lit) left,
     length-append (literal_token lit) (codes " "))
 
+pub part-shorter : (bytes left : List ℕ) (part : Part) → IsPartInFront bytes part left → length left < length bytes
+part-shorter bytes left part found =
+    omega (arith, ap length found.written, length-append (part_text part) left,
+    length-append (number_text part.factor) (number_text part.row),
+    length-append (decimal part.row) (codes " "))
+
 -- ---- a line
+
+-- clause steps may stand in each version
+clause-of : (version : Version) (clause : List Literal) (hints : List ℕ) → IsOf version (Clause clause hints)
+clause-of One clause hints = tt
+clause-of Two clause hints = tt
 
 line-regroup : (mark literals numbers left : List ℕ)
     → mark ++ (literals ++ (48 ∷ 32 ∷ (numbers ++ (48 ∷ 10 ∷ left))))
@@ -215,7 +242,51 @@ clause-front version bytes text zero second end left lits lits' rows rows' mark 
         written = written;
         short = omega (arith, ap length written, length-append (step ++ codes "\n") left,
             length-append step (codes "\n"), short);
-        variables = first.are;
-        rows = second_group.are;
+        of = clause-of version first.items second_group.items;
+        small = (first.are, All-weaker IsHint IsSmall (λ hint is. is.small) second_group.items second_group.are);
+        rows = All-weaker IsHint (λ (hint : ℕ). 1 ≤ hint) (λ hint is. is.some) second_group.items second_group.are;
       };
     }
+
+linear-regroup : (parts divisor left : List ℕ)
+    → 108 ∷ 32 ∷ (parts ++ (48 ∷ 32 ∷ (divisor ++ 10 ∷ left)))
+    ≡ ((codes "l " ++ (parts ++ (codes "0 " ++ divisor))) ++ codes "\n") ++ left
+linear-regroup parts divisor left = sym (simp append_assoc)
+
+factored : (part : Part) → ArePartHints part → IsFactored part
+factored part are = record { factor = are.factor.some; small_factor = are.factor.small; small_row = are.row.small }
+
+pub linear-front : (bytes text zero second left : List ℕ) (divisor : ℕ) (old new : List Part)
+    → bytes ≡ 108 ∷ (32 ∷ text)
+    → StandInFront part_text ArePartHints text (48 ∷ zero) old new → zero ≡ 32 ∷ second
+    → IsNumberBefore 10 second divisor left → length bytes - length left ≤ most_bytes + 1
+    → AddsParts bytes left divisor old new
+linear-front bytes text zero second left divisor old new mark first space last short =
+    let step : List ℕ = step_text Two (Linear first.items divisor) in
+    let written : bytes ≡ step_line_text Two (Linear first.items divisor) ++ left =
+    mark ∙ ap (λ (bs : List ℕ). 108 ∷ 32 ∷ bs) first.written
+    ∙ ap (λ (bs : List ℕ). 108 ∷ 32 ∷ (flat_map part_text first.items ++ 48 ∷ bs)) space
+    ∙ ap (λ (bs : List ℕ). 108 ∷ 32 ∷ (flat_map part_text first.items ++ 48 ∷ 32 ∷ bs)) last.written
+    ∙ linear-regroup (flat_map part_text first.items) (decimal divisor) left in
+    record {
+      parts = first.items;
+      added = first.added;
+      line = record {
+        written = written;
+        short = omega (arith, ap length written, length-append (step ++ codes "\n") left,
+            length-append step (codes "\n"), short);
+        of = tt;
+        small = (All-weaker ArePartHints IsFactored factored first.items first.are, last.is.some, last.is.small);
+        rows = All-weaker ArePartHints (λ (part : Part). 1 ≤ part.row) (λ part are. are.row.some) first.items first.are;
+      };
+      factors = All-weaker ArePartHints (λ (part : Part). 1 ≤ part.factor) (λ part are. are.factor.some) first.items
+          first.are;
+      least = last.is.some;
+    }
+
+-- ---- one kind, and then the other
+
+pub none-taken : (version : Version) (bytes : List ℕ) (read : Option (Bor (List ℕ))) (old new : List Step)
+    → is_some read ≡ false → TakesStep version bytes read old new → new ≡ old
+none-taken version bytes None old new none takes = takes
+none-taken version bytes (Some left) old new none takes = cc

@@ -18,14 +18,14 @@ use Rattle.refutation.specs.Logs.Line.{Says}
 use Rattle.refutation.specs.Texts.{clause_text, heading_text, linear_text, literal_text, literal_token, log_text}
 use Rattle.refutation.specs.Texts.{number_text, part_text, step_line_text, step_text, text_in, version_of}
 use Rattle.refutation.specs.Writable.{HasShortLines}
-use Rattle.refutation.specs.Written.{HasSmallNumbers, IsFactored, IsSmall, IsVariable}
+use Rattle.refutation.specs.Written.{HasSmallNumbers, IsFactored, IsOf, IsSmall, IsVariable}
 use Rattle.refutation.specs.declared.fault.LogKind.{LogKind}
 use Rattle.refutation.specs.declared.step.Part.{Part}
 use Rattle.refutation.specs.declared.version.Version.{Version}
 use Rattle.refutation.specs.declared.version.Version.TheVariants.{One, Two}
 use Rattle.refutation.proofs.StepLemmas.{both, neither}
 use Rattle.refutation.proofs.NumberTexts.{IsToken, decimal-token, literal-token}
-use Rattle.refutation.proofs.StepTexts.{IsOf, step_line-step_text}
+use Rattle.refutation.proofs.StepTexts.{step_line-step_text}
 
 -- ---- one line
 

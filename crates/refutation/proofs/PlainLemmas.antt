@@ -1,33 +1,24 @@
--- Lines of clause steps that stand in front of bytes, read in turn.
+-- Lines of steps that stand in front of bytes, read in turn.
 use Rattle.std.proofs.Common.{◌≡◌, ℕ, ◌+◌, ◌<◌, ◌≤◌, Bool, false, List, [], ◌∷◌, ◌++◌, length, Option, Some, None, Ok}
 use Rattle.std.proofs.Common.{refl, arith, ap, sym, ◌∙◌, append_assoc, length-append}
 use Rattle.std.specs.Prelude.{codes, is_some}
 use Rattle.std.specs.List.{All}
 use Rattle.std.proofs.lemmas.List.Elements.{All-weaker}
-use Rattle.rows.specs.Literals.{Literal}
-use Rattle.refutation.specs.Steps.{NamesRows, Step}
-use Rattle.refutation.specs.Steps.Step.{Clause}
+use Rattle.refutation.specs.Steps.{Step}
 use Rattle.refutation.specs.Logs.{line_of}
 use Rattle.refutation.specs.Logs.Line.{Says}
 use Rattle.refutation.specs.Texts.{step_line_text, step_text}
-use Rattle.refutation.specs.Written.{HasSmallNumbers, IsSmall}
 use Rattle.refutation.specs.Places.{Place}
 use Rattle.refutation.specs.Feeding.{ReadsOn}
 use Rattle.refutation.specs.Cuts.{Lacks}
 use Rattle.refutation.specs.Outcomes.{AddsLine}
 use Rattle.refutation.specs.SeenPlace.{is_line_feed, next_place}
-use Rattle.refutation.specs.Fronts.{AddsClause, IsAtLine, IsClauseLine, IsHint, ReadsFront}
+use Rattle.refutation.specs.Fronts.{AddsStepLine, IsAtLine, ReadsFront}
 use Rattle.refutation.specs.declared.place.Outcome.TheVariants as outcomes
 use Rattle.refutation.specs.declared.version.Version.{Version}
-use Rattle.refutation.specs.declared.version.Version.TheVariants.{One, Two}
 use Rattle.refutation.proofs.FeedLemmas.{IsPlace-empty, ReadsOn-then, fed-line, reads-same}
 use Rattle.refutation.proofs.LogTexts.{line_feed-apart, line_of-step, step-line}
-use Rattle.refutation.proofs.StepTexts.{IsOf, step_line-step_text}
-
--- clause steps may stand in each version
-clause-of : (version : Version) (clause : List Literal) (hints : List ℕ) → IsOf version (Clause clause hints)
-clause-of One clause hints = tt
-clause-of Two clause hints = tt
+use Rattle.refutation.proofs.StepTexts.{step_line-step_text}
 
 -- the next line
 abbrev pub next_line : Place → Place
@@ -39,44 +30,38 @@ next_line at = record {
   fault = at.fault;
 }
 
-module _ (version : Version) (bytes left : List ℕ) (old new : List Step) (adds : AddsClause version bytes left old new)
+module _ (version : Version) (bytes left : List ℕ) (old new : List Step) (adds : AddsStepLine version bytes left old new)
     where
   pub clause-shorter : length left < length bytes
   clause-shorter = omega (
     arith,
     ap length adds.line.written,
-    length-append (step_line_text version (Clause adds.clause adds.hints)) left,
-    length-append (step_text version (Clause adds.clause adds.hints)) (codes "\n"),
+    length-append (step_line_text version adds.step) left,
+    length-append (step_text version adds.step) (codes "\n"),
   )
 
-  small-numbers : HasSmallNumbers (Clause adds.clause adds.hints)
-  small-numbers = (adds.line.variables, All-weaker IsHint IsSmall (λ hint is. is.small) adds.hints adds.line.rows)
-
-  names-rows : NamesRows (Clause adds.clause adds.hints)
-  names-rows = All-weaker IsHint (λ (hint : ℕ). 1 ≤ hint) (λ hint is. is.some) adds.hints adds.line.rows
-
-  no-line_feed : Lacks is_line_feed (step_text version (Clause adds.clause adds.hints))
+  no-line_feed : Lacks is_line_feed (step_text version adds.step)
   no-line_feed = All-weaker (λ (b : ℕ). 32 ≤ b) (λ (b : ℕ). is_line_feed b ≡ false) line_feed-apart
-      (step_text version (Clause adds.clause adds.hints))
-      (step-line version (Clause adds.clause adds.hints) small-numbers)
+      (step_text version adds.step)
+      (step-line version adds.step adds.line.small)
 
   says-step : (at : Place) → IsAtLine at version
-      → line_of at.version (at.text ++ step_text version (Clause adds.clause adds.hints))
-      ≡ Ok (Says (Clause adds.clause adds.hints))
+      → line_of at.version (at.text ++ step_text version adds.step)
+      ≡ Ok (Says adds.step)
   says-step at is =
-      let text : List ℕ = step_text version (Clause adds.clause adds.hints) in
+      let text : List ℕ = step_text version adds.step in
       ap (λ (known : Option Version). line_of known (at.text ++ text)) is.known
       ∙ ap (λ (front : List ℕ). line_of (Some version) (front ++ text)) is.text
-      ∙ line_of-step version text (Clause adds.clause adds.hints)
-      (step_line-step_text version (Clause adds.clause adds.hints)
-      (clause-of version adds.clause adds.hints) small-numbers names-rows) adds.line.short
+      ∙ line_of-step version text adds.step
+      (step_line-step_text version adds.step
+      adds.line.of adds.line.small adds.line.rows) adds.line.short
 
   -- one line
   pub line-front : (at : Place) → IsAtLine at version → ReadsFront at old bytes left (next_line at) new
   line-front at is =
-      let text : List ℕ = step_text version (Clause adds.clause adds.hints) in
+      let text : List ℕ = step_text version adds.step in
       let says : AddsLine (line_of at.version (at.text ++ text)) old new = record {
-        step = Clause adds.clause adds.hints;
+        step = adds.step;
         says = says-step at is;
         added = adds.added;
       } in
@@ -88,7 +73,7 @@ module _ (version : Version) (bytes left : List ℕ) (old new : List Step) (adds
         fault = at.fault;
       } in p) is.text in
       record {
-        front = step_line_text version (Clause adds.clause adds.hints);
+        front = step_line_text version adds.step;
         parts = adds.line.written;
         read = fed-line at text (ap is_some is.no_fault) is.within (IsPlace-empty at is.text) no-line_feed outcomes.Step
             (next_line at) old new says next;

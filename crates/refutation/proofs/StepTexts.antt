@@ -13,7 +13,7 @@ use Rattle.refutation.specs.Lines.{are_pairs, clause_step, groups_of, is_count, 
 use Rattle.refutation.specs.Lines.{is_small_variable, is_space, is_zero, linear_step, literal, number, paired}
 use Rattle.refutation.specs.Lines.{step_line, tokens_of}
 use Rattle.refutation.specs.Texts.{clause_text, linear_text, literal_token, number_text, part_text, step_text}
-use Rattle.refutation.specs.Written.{HasSmallNumbers, IsFactored, IsSmall, IsVariable}
+use Rattle.refutation.specs.Written.{HasSmallNumbers, IsFactored, IsOf, IsSmall, IsVariable}
 use Rattle.refutation.specs.declared.step.Part.{Part}
 use Rattle.refutation.specs.declared.version.Version.{Version}
 use Rattle.refutation.specs.declared.version.Version.TheVariants.{One, Two}
@@ -205,12 +205,6 @@ step_line-linear parts divisor are is =
     ap linear_step (groups_of-linear parts divisor are is) ∙ linear_step-groups parts divisor are is
 
 -- ---- steps
-
--- version 1 has no linear steps
-abbrev pub IsOf : Version → Step → Type 0
-IsOf One (Clause clause hints) = Unit {0}
-IsOf One (Linear parts divisor) = ⊥
-IsOf Two step = Unit {0}
 
 written_hints : (hints : List ℕ) → All IsSmall hints → All (λ hint. 1 ≤ hint) hints → All IsWritten hints
 written_hints hints small some = λ k d there. record { some = some k d there; small = small k d there }

@@ -1,19 +1,21 @@
--- Clause steps that stand in front of bytes, written as a log's text has them.
+-- Steps that stand in front of bytes, written as a log's text has them.
 use Rattle.std.specs.Prelude.{◌≡◌, ℕ, ◌+◌, ◌<◌, ◌≤◌, Bool, true, false, List, [], ◌∷◌, ◌++◌, length, take}
-use Rattle.std.specs.Prelude.{slice_index, Option, Some, None}
+use Rattle.std.specs.Prelude.{slice_index, Option, Some, None, decimal}
 use Rattle.std.specs.List.{All, flat_map, list_all}
 use Rattle.std.specs.Borrow.{Bor}
 use Rattle.std.specs.Char.{is_ascii_digit}
 use Rattle.rows.specs.Literals.{Literal}
-use Rattle.refutation.specs.Steps.{Step}
-use Rattle.refutation.specs.Steps.Step.{Clause}
+use Rattle.refutation.specs.Steps.{NamesRows, Step}
+use Rattle.refutation.specs.Steps.Step.{Clause, Linear}
 use Rattle.refutation.specs.Lines.{number}
 use Rattle.refutation.specs.Logs.{most_bytes}
-use Rattle.refutation.specs.Texts.{literal_text, number_text, step_line_text, step_text}
+use Rattle.refutation.specs.Texts.{literal_text, number_text, part_text, step_line_text, step_text}
 use Rattle.refutation.specs.Places.{Place}
 use Rattle.refutation.specs.Feeding.{ReadsOn}
-use Rattle.refutation.specs.Written.{IsSmall, IsVariable}
+use Rattle.refutation.specs.Written.{HasSmallNumbers, IsOf, IsSmall, IsVariable}
+use Rattle.refutation.specs.declared.step.Part.{Part}
 use Rattle.refutation.specs.declared.version.Version.{Version}
+use Rattle.refutation.specs.declared.version.Version.TheVariants.{Two}
 
 -- ---- one number
 
@@ -30,10 +32,15 @@ pub record AreFewDigits (bytes : List ℕ) (len value : ℕ) : Type 0 where
   pub digits : list_all is_ascii_digit (take len bytes) ≡ true
   pub value_is : len ≤ 19 → value ≡ number (take len bytes)
 
--- a number that may stand as a hint
+-- a number that may stand in a line
 pub record IsHint (hint : ℕ) : Type 0 where
   pub some : 1 ≤ hint
   pub small : IsSmall hint
+
+-- a number and the byte that ends it stand in front
+pub record IsNumberBefore (end : ℕ) (bytes : List ℕ) (hint : ℕ) (left : List ℕ) : Type 0 where
+  pub written : bytes ≡ decimal hint ++ end ∷ left
+  pub is : IsHint hint
 
 -- a hint and its space stand in front
 pub record IsHintInFront (bytes : List ℕ) (hint : ℕ) (left : List ℕ) : Type 0 where
@@ -50,6 +57,16 @@ pub record IsVariableInFront (bytes : List ℕ) (positive : Bool) (lit : Literal
 pub record IsLiteralInFront (bytes : List ℕ) (lit : Literal) (left : List ℕ) : Type 0 where
   pub written : bytes ≡ literal_text lit ++ left
   pub is : IsVariable lit
+
+-- numbers that may stand as a part
+pub record ArePartHints (part : Part) : Type 0 where
+  pub factor : IsHint part.factor
+  pub row : IsHint part.row
+
+-- a part stands in front
+pub record IsPartInFront (bytes : List ℕ) (part : Part) (left : List ℕ) : Type 0 where
+  pub written : bytes ≡ part_text part ++ left
+  pub are : ArePartHints part
 
 -- ---- several
 
@@ -74,38 +91,49 @@ TakesItems text Is bytes (Some left) old new = StandInFront text Is bytes (48 �
 
 -- ---- a line
 
--- the line of a clause step, with its LF, stands in front
-pub record IsClauseLine (version : Version) (bytes left : List ℕ) (clause : List Literal) (hints : List ℕ) : Type 0
-    where
-  pub written : bytes ≡ step_line_text version (Clause clause hints) ++ left
-  pub short : length (step_text version (Clause clause hints)) ≤ most_bytes
-  pub variables : All IsVariable clause
-  pub rows : All IsHint hints
+-- the line of a step, with its LF, stands in front
+pub record IsStepLine (version : Version) (bytes left : List ℕ) (step : Step) : Type 0 where
+  pub written : bytes ≡ step_line_text version step ++ left
+  pub short : length (step_text version step) ≤ most_bytes
+  pub of : IsOf version step
+  pub small : HasSmallNumbers step
+  pub rows : NamesRows step
 
--- its literals and hints were added
+-- the literals and the hints of a clause step were added
 pub record AddsBoth (version : Version) (bytes left : List ℕ) (lits lits' : List Literal) (rows rows' : List ℕ)
     : Type 0 where
   pub clause : List Literal
   pub hints : List ℕ
   pub literals : lits' ≡ lits ++ clause
   pub numbers : rows' ≡ rows ++ hints
-  pub line : IsClauseLine version bytes left clause hints
+  pub line : IsStepLine version bytes left (Clause clause hints)
 
 abbrev pub TakesClause : Version → List ℕ → Option (Bor (List ℕ)) → List Literal → List Literal → List ℕ → List ℕ
     → Type 0
 TakesClause version bytes None lits lits' rows rows' = IsLonger lits lits' × IsLonger rows rows'
 TakesClause version bytes (Some left) lits lits' rows rows' = AddsBoth version bytes left.now lits lits' rows rows'
 
--- its step was added
-pub record AddsClause (version : Version) (bytes left : List ℕ) (old new : List Step) : Type 0 where
-  pub clause : List Literal
-  pub hints : List ℕ
-  pub added : new ≡ old ++ Clause clause hints ∷ []
-  pub line : IsClauseLine version bytes left clause hints
+-- the parts of a linear step were added
+pub record AddsParts (bytes left : List ℕ) (divisor : ℕ) (old new : List Part) : Type 0 where
+  pub parts : List Part
+  pub added : new ≡ old ++ parts
+  pub line : IsStepLine Two bytes left (Linear parts divisor)
+  pub factors : All (λ part. 1 ≤ part.factor) parts
+  pub least : 1 ≤ divisor
+
+abbrev pub TakesLinear : List ℕ → Option (ℕ × Bor (List ℕ)) → List Part → List Part → Type 0
+TakesLinear bytes None old new = IsLonger old new
+TakesLinear bytes (Some (divisor, left)) old new = AddsParts bytes left.now divisor old new
+
+-- a step was added
+pub record AddsStepLine (version : Version) (bytes left : List ℕ) (old new : List Step) : Type 0 where
+  pub step : Step
+  pub added : new ≡ old ++ step ∷ []
+  pub line : IsStepLine version bytes left step
 
 abbrev pub TakesStep : Version → List ℕ → Option (Bor (List ℕ)) → List Step → List Step → Type 0
 TakesStep version bytes None old new = new ≡ old
-TakesStep version bytes (Some left) old new = AddsClause version bytes left.now old new
+TakesStep version bytes (Some left) old new = AddsStepLine version bytes left.now old new
 
 -- ---- lines
 

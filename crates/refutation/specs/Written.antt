@@ -5,6 +5,8 @@ use Rattle.rows.specs.Literals.{Literal}
 use Rattle.refutation.specs.Steps.{Step}
 use Rattle.refutation.specs.Steps.Step.{Clause, Linear}
 use Rattle.refutation.specs.declared.step.Part.{Part}
+use Rattle.refutation.specs.declared.version.Version.{Version}
+use Rattle.refutation.specs.declared.version.Version.TheVariants.{One, Two}
 
 -- a literal of a variable
 pub record IsVariable (lit : Literal) : Type 0 where
@@ -25,3 +27,9 @@ pub record IsFactored (part : Part) : Type 0 where
 abbrev pub HasSmallNumbers : Step → Type 0
 HasSmallNumbers (Clause clause hints) = All IsVariable clause × All IsSmall hints
 HasSmallNumbers (Linear parts divisor) = All IsFactored parts × (1 ≤ divisor) × IsSmall divisor
+
+-- version 1 has no linear steps
+abbrev pub IsOf : Version → Step → Type 0
+IsOf One (Clause clause hints) = Unit {0}
+IsOf One (Linear parts divisor) = ⊥
+IsOf Two step = Unit {0}

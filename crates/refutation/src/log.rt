@@ -7,7 +7,7 @@ ghost use Rattle.refutation.specs.Steps.Step.{Clause, Linear};
 ghost use Rattle.refutation.specs.Flat as flat;
 ghost use Rattle.refutation.specs.Fronts.{TakesStep};
 
-use crate::front::clause_in_front;
+use crate::front::{clause_in_front, linear_in_front};
 use crate::step::{Part, StepKind};
 use crate::version::Version;
 use rows::Lit;
@@ -84,11 +84,7 @@ impl Log {
     }
 
     /// Adds the clause step whose line in this version stands in front of these bytes, and gives what is behind its LF.
-    /// None where another line, or part of one, stands there.
-    ///
-    /// # Errors
-    /// Only where memory runs out.
-    pub(crate) fn push_line<'a>(
+    fn push_clause_line<'a>(
         &mut self,
         version: Version,
         bytes: &'a [u8],
@@ -111,6 +107,47 @@ impl Log {
             divisor: 0,
         })?;
         Ok(Some(left))
+    }
+
+    /// Adds the linear step whose line stands in front of these bytes, and gives what is behind its LF.
+    fn push_linear_line<'a>(&mut self, bytes: &'a [u8]) -> Result<Option<&'a [u8]>, AllocError>
+        ensures { IfOk result (λ read. TakesStep Version.Two bytes.now read self.old self.new) }
+    {
+        self.ends.reserve(1)?;
+        let parts = self.parts.len();
+        let Some(found) = linear_in_front(bytes, &mut self.parts) else {
+            self.parts.truncate(parts);
+            return Ok(None);
+        };
+        self.ends.push(End {
+            lits: self.lits.len(),
+            hints: self.hints.len(),
+            parts: self.parts.len(),
+            divisor: found.0,
+        })?;
+        Ok(Some(found.1))
+    }
+
+    /// Adds the step whose line in this version stands in front of these bytes, and gives what is behind its LF. None
+    /// where another line, or part of one, stands there.
+    ///
+    /// # Errors
+    /// Only where memory runs out.
+    pub(crate) fn push_line<'a>(
+        &mut self,
+        version: Version,
+        bytes: &'a [u8],
+    ) -> Result<Option<&'a [u8]>, AllocError>
+        ensures { IfOk result (λ read. TakesStep version bytes.now read self.old self.new) }
+    {
+        let read = self.push_clause_line(version, bytes)?;
+        if read.is_some() {
+            return Ok(read);
+        }
+        match version {
+            Version::One => Ok(None),
+            Version::Two => self.push_linear_line(bytes),
+        }
     }
 
     /// Adds a linear step: the sum of these rows, each with its factor, divided by a divisor.

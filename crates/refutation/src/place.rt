@@ -163,7 +163,7 @@ impl Place {
         Ok(())
     }
 
-    /// Reads on over the lines in front that are clause steps as a log's text has them, and gives what is behind them.
+    /// Reads on over the lines in front that are steps as a log's text has them, and gives what is behind them.
     fn plain_lines<'a>(
         &mut self,
         bytes: &'a [u8],
