@@ -28,6 +28,7 @@ use Rattle.refutation_check.specs.Judged.{JudgedStep}
 use Rattle.refutation_check.specs.Kept.{all_rows, judged_step, row_result, step_rows}
 use Rattle.refutation_check.specs.Within.{AreWithin, IsWithin}
 use Rattle.refutation_check.specs.declared.kept.KeptStep.{KeptStep}
+use Rattle.refutation_check.proofs.SumLemmas.{row_numbered-holds}
 
 -- ---- rows by number
 
@@ -67,17 +68,6 @@ named_behind rows steps number is past =
     ∙ (ap (λ (n : ℕ). slice_get (all_rows rows steps) n) same
     ∙ (slice_get-behind rows (step_rows steps) (number - 1 - length rows)
     ∙ map-twice steps (number - 1 - length rows)))
-
--- what holds of all rows holds of the one that a number names
-All-slice_get : (P : Row → Type 0) (rows : List Row) (k : ℕ) → All P rows → IfSome (slice_get rows k) P
-All-slice_get P [] k all = tt
-All-slice_get P (row ∷ rows) zero all = All-head P row rows all
-All-slice_get P (row ∷ rows) (suc k) all = All-slice_get P rows k (All-tail P row rows all)
-
-All-row_numbered : (P : Row → Type 0) (rows : List Row) (number : ℕ) → All P rows
-    → IfSome (row_numbered rows number) P
-All-row_numbered P rows zero all = tt
-All-row_numbered P rows (suc k) all = All-slice_get P rows k all
 
 -- ---- the variables of a clause's row
 
@@ -161,7 +151,7 @@ parts_within : (vars : ℕ) (rows : List Row) (parts : List Part) (sum : Totals)
 parts_within vars rows [] sum within known = known
 parts_within vars rows (part ∷ parts) sum within known =
     added_within vars (row_numbered rows part.row) part.factor sum (add_parts rows parts)
-    (All-row_numbered (IsWithin vars) rows part.row within) known
+    (row_numbered-holds (IsWithin vars) rows part.row within) known
     (λ next top. parts_within vars rows parts next within top)
 
 -- ---- the variables of a step's row
@@ -217,7 +207,7 @@ behind_some rows steps number place step is past at within read =
 pub named_within : (vars : ℕ) (rows : List Row) (number : ℕ) (row : Row) → Some row ≡ row_numbered rows number
     → AreWithin vars rows → IsWithin vars row
 named_within vars rows number row is within =
-    subst (λ (o : Option Row). IfSome o (IsWithin vars)) (sym is) (All-row_numbered (IsWithin vars) rows number within)
+    subst (λ (o : Option Row). IfSome o (IsWithin vars)) (sym is) (row_numbered-holds (IsWithin vars) rows number within)
 
 kept_within : (vars : ℕ) (found : Result KeptStep Cause) → IfOk (row_result found) (IsWithin vars)
     → IfOk found (λ step. IsWithin vars (judged_step step).row)
