@@ -1,37 +1,36 @@
 -- The rows that numbers name, and the rows of steps: which variables they have.
-use Rattle.std.proofs.Common.{◌≡◌, ◌≢◌, ℕ, zero, suc, ◌+◌, ◌-◌, ◌<◌, ◌≤◌, ◌||◌, Bool, true, false, not, cond, List, [], ◌∷◌, ◌++◌}
-use Rattle.std.proofs.Common.{get_or, map, length, Option, Some, None, append_assoc, refl, arith, ap, sym, subst, ◌∙◌, length-append}
-use Rattle.std.specs.Prelude.{Result, Ok, Err, IfOk, IfSome, nat_lt, max, min}
+use Rattle.std.proofs.Common.{◌≡◌, ◌≢◌, ℕ, zero, suc, ◌+◌, ◌-◌, ◌<◌, ◌≤◌, ◌||◌}
+use Rattle.std.proofs.Common.{Bool, true, false, not, cond, List, [], ◌∷◌, ◌++◌}
+use Rattle.std.proofs.Common.{get_or, map, length, Option, Some, None, append_assoc, refl, arith, ap, sym, subst, ◌∙◌}
+use Rattle.std.specs.Prelude.{Result, Ok, Err, IfOk, IfSome, nat_lt}
 use Rattle.std.specs.List.{All, filter, flat_map, range_with_len, slice_get, list_any}
 use Rattle.std.specs.Option.{option_map}
 use Rattle.std.proofs.lemmas.Bool.Decides.{nat_tests}
 use Rattle.std.proofs.lemmas.List.{map-append}
-use Rattle.std.proofs.lemmas.List.Elements.{All-append, All-cons, All-filter, All-head, All-map, All-nil, All-push, All-tail, All-weaker}
+use Rattle.std.proofs.lemmas.List.Elements.{All-append, All-cons, All-filter, All-head, All-map}
+use Rattle.std.proofs.lemmas.List.Elements.{All-nil, All-push, All-tail, All-weaker}
 use Rattle.std.proofs.lemmas.Option.{slice_get-map, slice_get_read}
 use Rattle.rows.specs.Literals.{Literal, yes, no}
 use Rattle.rows.specs.Rows.{Row}
 use Rattle.rows.specs.Cardinality.{at_least, unit}
 use Rattle.rows.specs.declared.lit.Term.{Term}
-use Rattle.row_sums.specs.Sums.{Totals, cancelled, divided, divided_term, is_same, is_too_wide, left_over, no_totals, plus, top_of}
+use Rattle.row_sums.specs.Sums.{Totals, cancelled, divided, divided_term, is_same, is_too_wide}
+use Rattle.row_sums.specs.Sums.{left_over, no_totals, plus, top_of}
 use Rattle.row_sums.specs.Sums.{variables_to}
 use Rattle.refutation.specs.Steps.{Step}
 use Rattle.refutation.specs.Steps.Step.{Clause, Linear}
-use Rattle.refutation.specs.Following.{add_parts, add_row, clause_row, distinct, fault_of, has_opposites, judged, no_demand}
+use Rattle.refutation.specs.Following.{add_parts, add_row, clause_row, distinct, has_opposites, judged, no_demand}
 use Rattle.refutation.specs.Following.{replay, denied, row_numbered, row_of, row_unless}
 use Rattle.refutation.specs.declared.step.Part.{Part}
 use Rattle.refutation.specs.declared.verdict.Cause.{Cause}
-use Rattle.refutation.specs.declared.verdict.Cause.TheVariants.{UnknownVariable, UnknownRow, TooWide}
+use Rattle.refutation.specs.declared.verdict.Cause.TheVariants.{UnknownVariable, TooWide}
 use Rattle.refutation_check.specs.Judged.{JudgedStep}
 use Rattle.refutation_check.specs.Kept.{all_rows, judged_step, row_result, step_rows}
 use Rattle.refutation_check.specs.Within.{AreWithin, IsWithin}
 use Rattle.refutation_check.specs.declared.kept.KeptStep.{KeptStep}
+use Rattle.refutation_check.proofs.SumLemmas.{row_numbered-holds}
 
 -- ---- rows by number
-
-slice_get-front : {X : Type 0} (xs ys : List X) (k : ℕ) → k < length xs → slice_get (xs ++ ys) k ≡ slice_get xs k
-slice_get-front [] ys k within = absurd (omega arith)
-slice_get-front (x ∷ xs) ys zero within = refl
-slice_get-front (x ∷ xs) ys (suc k) within = slice_get-front xs ys k (omega arith)
 
 slice_get-behind : {X : Type 0} (xs ys : List X) (k : ℕ) → slice_get (xs ++ ys) (length xs + k) ≡ slice_get ys k
 slice_get-behind {X} [] ys k = let same : 0 + k ≡ k = omega arith in ap (λ (n : ℕ). slice_get ys n) same
@@ -40,15 +39,11 @@ slice_get-behind {X} (x ∷ xs) ys k =
     ap (λ (n : ℕ). slice_get (x ∷ xs ++ ys) n) same ∙ slice_get-behind xs ys k
 
 -- the row at a place has the next number
-row_numbered-place : (rows : List Row) (number : ℕ) → number ≢ 0 → row_numbered rows number ≡ slice_get rows (number - 1)
+row_numbered-place : (rows : List Row) (number : ℕ) → number ≢ 0
+    → row_numbered rows number ≡ slice_get rows (number - 1)
 row_numbered-place rows zero is = absurd (is refl)
 row_numbered-place rows (suc k) is =
     let same : k ≡ suc k - 1 = omega arith in ap (λ (n : ℕ). slice_get rows n) same
-
-pub named_before : (rows : List Row) (steps : List KeptStep) (number : ℕ) → number ≢ 0 → number - 1 < length rows
-    → row_numbered (all_rows rows steps) number ≡ slice_get rows (number - 1)
-named_before rows steps number is within =
-    row_numbered-place (all_rows rows steps) number is ∙ slice_get-front rows (step_rows steps) (number - 1) within
 
 abbrev pub row_of_kept : KeptStep → Row
 row_of_kept step = (judged_step step).row
@@ -65,7 +60,7 @@ map-twice steps k =
     mapped_twice None = refl
     mapped_twice (Some step) = refl
 
-pub named_behind : (rows : List Row) (steps : List KeptStep) (number : ℕ) → number ≢ 0 → length rows ≤ number - 1
+named_behind : (rows : List Row) (steps : List KeptStep) (number : ℕ) → number ≢ 0 → length rows ≤ number - 1
     → row_numbered (all_rows rows steps) number ≡ option_map row_of_kept (slice_get steps (number - 1 - length rows))
 named_behind rows steps number is past =
     let same : number - 1 ≡ length rows + (number - 1 - length rows) = omega arith in
@@ -73,17 +68,6 @@ named_behind rows steps number is past =
     ∙ (ap (λ (n : ℕ). slice_get (all_rows rows steps) n) same
     ∙ (slice_get-behind rows (step_rows steps) (number - 1 - length rows)
     ∙ map-twice steps (number - 1 - length rows)))
-
--- what holds of all rows holds of the one that a number names
-All-slice_get : (P : Row → Type 0) (rows : List Row) (k : ℕ) → All P rows → IfSome (slice_get rows k) P
-All-slice_get P [] k all = tt
-All-slice_get P (row ∷ rows) zero all = All-head P row rows all
-All-slice_get P (row ∷ rows) (suc k) all = All-slice_get P rows k (All-tail P row rows all)
-
-pub All-row_numbered : (P : Row → Type 0) (rows : List Row) (number : ℕ) → All P rows
-    → IfSome (row_numbered rows number) P
-All-row_numbered P rows zero all = tt
-All-row_numbered P rows (suc k) all = All-slice_get P rows k all
 
 -- ---- the variables of a clause's row
 
@@ -137,7 +121,8 @@ cancelled_within vars sum known =
     (All-range 0 (sum.top + 1)))
 
 divided_within : (vars divisor : ℕ) (row : Row) → IsWithin vars row → IsWithin vars (divided divisor row)
-divided_within vars divisor row within = All-map (λ (t : Term). t.lit.var ≤ vars) (divided_term divisor) row.terms within
+divided_within vars divisor row within =
+    All-map (λ (t : Term). t.lit.var ≤ vars) (divided_term divisor) row.terms within
 
 top_within : (vars : ℕ) (terms : List Term) → All (λ t. t.lit.var ≤ vars) terms → top_of terms ≤ vars
 top_within vars [] all = omega arith
@@ -166,7 +151,8 @@ parts_within : (vars : ℕ) (rows : List Row) (parts : List Part) (sum : Totals)
 parts_within vars rows [] sum within known = known
 parts_within vars rows (part ∷ parts) sum within known =
     added_within vars (row_numbered rows part.row) part.factor sum (add_parts rows parts)
-    (All-row_numbered (IsWithin vars) rows part.row within) known (λ next top. parts_within vars rows parts next within top)
+    (row_numbered-holds (IsWithin vars) rows part.row within) known
+    (λ next top. parts_within vars rows parts next within top)
 
 -- ---- the variables of a step's row
 
@@ -196,7 +182,7 @@ sum_within vars divisor (Ok sum) known = divided_within vars divisor (cancelled 
 sum_within vars divisor (Err cause) known = tt
 
 -- the row of a step that follows has no variables that the rows don't have
-pub judged_within : (rows : List Row) (vars : ℕ) (step : Step) → AreWithin vars rows
+judged_within : (rows : List Row) (vars : ℕ) (step : Step) → AreWithin vars rows
     → IfOk (judged rows vars step) (IsWithin vars)
 judged_within rows vars (Clause clause hints) within =
     unless_unknown (IsWithin vars) (list_any (λ l. nat_lt vars l.var) clause)
@@ -221,7 +207,7 @@ behind_some rows steps number place step is past at within read =
 pub named_within : (vars : ℕ) (rows : List Row) (number : ℕ) (row : Row) → Some row ≡ row_numbered rows number
     → AreWithin vars rows → IsWithin vars row
 named_within vars rows number row is within =
-    subst (λ (o : Option Row). IfSome o (IsWithin vars)) (sym is) (All-row_numbered (IsWithin vars) rows number within)
+    subst (λ (o : Option Row). IfSome o (IsWithin vars)) (sym is) (row_numbered-holds (IsWithin vars) rows number within)
 
 kept_within : (vars : ℕ) (found : Result KeptStep Cause) → IfOk (row_result found) (IsWithin vars)
     → IfOk found (λ step. IsWithin vars (judged_step step).row)

@@ -1,7 +1,6 @@
 -- Hints and parts, one after another.
-use Rattle.std.proofs.Common.{◌≡◌, ◌≢◌, ℕ, ◌+◌, ◌<◌, Bool, true, false, cond, List, [], ◌∷◌, length, drop, get_or}
-use Rattle.std.proofs.Common.{Option, Some, None, refl, ap, sym, ◌∙◌}
-use Rattle.std.specs.Prelude.{Result, Ok, Err}
+use Rattle.std.proofs.Common.{◌≡◌, ℕ, ◌+◌, ◌<◌, Bool, true, false, cond, List, [], length, drop, get_or}
+use Rattle.std.proofs.Common.{Option, Some, None, ap, sym, ◌∙◌}
 use Rattle.std.proofs.lemmas.List.{drop_more}
 use Rattle.std.proofs.lemmas.List.Elements.{All-nil}
 use Rattle.rows.specs.Rows.{Row}
@@ -9,12 +8,10 @@ use Rattle.rows.specs.Forcing.{with_forced}
 use Rattle.rows.specs.Trails.{IsListed}
 use Rattle.rows.specs.Values.{valued}
 use Rattle.rows.specs.declared.partial.Value.{Value}
-use Rattle.rows.specs.declared.partial.Value.TheVariants.{Free}
 use Rattle.refutation.specs.Following.{after_row, all_free, is_in_conflict, replay, row_numbered}
 use Rattle.refutation.specs.declared.verdict.Cause.{Cause}
 use Rattle.refutation_check.specs.Kept.{forced_at, turn_at}
-use Rattle.refutation_check.specs.declared.replay.Turn.{Turn}
-use Rattle.refutation_check.specs.declared.replay.Turn.TheVariants.{Unknown, Conflict, Forced}
+use Rattle.refutation_check.specs.declared.replay.Turn.TheVariants.{Conflict, Forced}
 
 forced_if : (conflict : Bool) (rest : (ℕ → Value) → Option Cause) (now next : ℕ → Value)
     → cond conflict Conflict Forced ≡ Forced → next ≡ now → rest next ≡ cond conflict None (rest now)

@@ -1,5 +1,5 @@
 -- The row that a number names, as it is kept.
-use Rattle.std.specs.Prelude.{ℕ, ◌≤◌, Option, Some, None}
+use Rattle.std.specs.Prelude.{◌≤◌, Option, Some, None}
 use Rattle.rows.specs.Rows.{Row}
 use Rattle.row_sums.specs.Sums.{weight_of, widest}
 use Rattle.refutation_check.specs.declared.named.NamedRow.{NamedRow}

@@ -1,7 +1,8 @@
+use Rattle.std.proofs.lemmas.Result.{on_ok_weaker}
 use Rattle.refutation.specs.Steps.Step.{Linear}
 use Rattle.refutation.specs.declared.step.StepKind.TheVariants as kinds
 use Rattle.refutation_check.proofs.KeptLemmas.{found_within}
-use Rattle.refutation_check.proofs.StateLemmas.{judged_next, none_kept, on_ok}
+use Rattle.refutation_check.proofs.StateLemmas.{judged_next, none_kept}
 use Rattle.refutation_check.proofs.checker.Checker.linear.Goals as goal
 
 pub invariant_of-self-2 : goal.invariant_of-self-2
@@ -18,9 +19,10 @@ invariant_of-self-2 c = record {
 
 pub returns-clause-ok : goal.returns-clause-ok
 returns-clause-ok c =
-    on_ok c.keep.result c.keep.ensures.ok
+    on_ok_weaker c.keep.result
     (λ kept. judged_next c.self.inside.rows.now c.self.inside.vars c.self.inside.steps.items c.deref.result.now
     c.self.inside.rejection c.args.self.now _ (Linear c.args.parts.now c.args.divisor) c.in_ok-found.field-0
     c.self.view_is (none_kept c.self.inside.rejection c.is_some.result c.is_some.ensures c.if-is_some.false)
     c.deref.ensures.value (c.in_ok-found.ensures.row c.self.inside.vars)
     (kept c.self.inside.rows.now c.self.inside.vars kinds.Linear c.in_ok-found.ensures.kind))
+    c.keep.ensures.ok
