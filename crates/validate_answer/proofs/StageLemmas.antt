@@ -1,13 +1,12 @@
 -- How the stages of `validate` make an answer.
-use Rattle.std.proofs.Common.{◌≡◌, ℕ, ◌+◌, List, length, Option, Result, Ok, Err, codes, inl, inr, subst, sym}
+use Rattle.std.proofs.Common.{◌≡◌, ℕ, ◌+◌, List, length, Option, Ok, codes, inl, inr}
 use Rattle.league.specs.Instance.{Instance}
 use Rattle.robinx_tags.specs.Pieces.{pieces}
 use Rattle.robinx_form.specs.InstanceFile.{instance_of}
 use Rattle.robinx_form.specs.SolutionFile.{solution_of}
-use Rattle.robinx_form.specs.Walk.{Fault}
 use Rattle.robinx_read.specs.declared.instance.TheConstants.{INSTANCE_LIMIT, SOLUTION_LIMIT}
 use Rattle.answers.specs.Reply.{Answer}
-use Rattle.answers.specs.Stages.{Outcome, IsFile, IsUnread, reads, says}
+use Rattle.answers.specs.Stages.{IsFile, IsUnread, reads, says}
 use Rattle.answers.proofs.StageLemmas.{says-value}
 use Rattle.validate_answer.specs.Validate.{IsJudgement, validated}
 
