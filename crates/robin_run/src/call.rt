@@ -70,8 +70,8 @@ fn answer<S: Shelf>(alloc: Global, words: &[String], shelf: &mut S) -> Result<Re
 /// - `judged` is for a store that tells the bytes of both files (one in memory does, that of the machine doesn't):
 ///   where the words are `validate` and their names, both are within their limits and well-formed, and neither the
 ///   store at these two names nor the sink fails in this call, the judgement is written whole.
-/// - `checked` says the same of `check`: where both files are within their limits and well-formed, and the league has no
-///   more than 40,000,000 terms, the verdict on the log is written whole.
+/// - `checked` says the same of `check`: where both files are within their limits and well-formed, and the rows of the
+///   league have at most 40,000,000 terms, the verdict on the log is written whole.
 /// - `refuted` needs a store that tells the bytes of the instance file alone: where a run of `check` ends with `Yes`,
 ///   the league of that file accepts no list of games.
 /// - That a count of faults rose says that it is larger after this call, or that it stands at its last value,
