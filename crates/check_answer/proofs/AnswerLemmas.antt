@@ -7,14 +7,14 @@ use Rattle.robinx_tags.specs.Pieces.{pieces}
 use Rattle.robinx_form.specs.InstanceFile.{instance_of}
 use Rattle.robinx_read.specs.declared.instance.TheConstants.{INSTANCE_LIMIT}
 use Rattle.answers.specs.Reply.{Answer}
-use Rattle.answers.specs.Stages.{Outcome, IsFile, reads, says}
+use Rattle.answers.specs.Stages.{Outcome, reads, says}
 use Rattle.answers.specs.declared.status.Status.TheVariants.{Yes, File}
 use Rattle.answers.proofs.StageLemmas.{reads-known, reads-yes, says-known}
 use Rattle.encoding.specs.Encoding.{encoding_size, rows_of}
 use Rattle.refutation.specs.Steps.{Step}
 use Rattle.refutation.specs.Logs.{Fault, log_of}
 use Rattle.season_check.specs.Excluded.{NoneAccepted}
-use Rattle.check_answer.specs.Check.{IsVerdict, IsWellFormedLog, checked, encodes, log_malformed, most_log_bytes, most_terms, says_log, too_large}
+use Rattle.check_answer.specs.Check.{IsVerdict, IsWellFormedLog, checked, encodes, most_log_bytes, most_terms, says_log, too_large}
 
 -- the stages behind the instance file, whose bytes were so many
 abbrev pub log_stages : (List ℕ → Option (List ℕ)) → (ℕ → Type 0) → (List ℕ → Type 0) → List ℕ → ℕ → Instance → Outcome

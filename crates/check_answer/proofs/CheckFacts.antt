@@ -1,20 +1,16 @@
 -- Worked answers, so that a wrong definition of what `check` may answer does not check.
-use Rattle.std.proofs.Common.{◌≡◌, ℕ, ◌+◌, ◌<◌, ◌≤◌, ◌∙◌, true, if◌then◌else◌, List, [], ◌∷◌, Option, Some, None, Result, Ok, Err, codes, ap, arith, inl, inr, refl, subst, length}
+use Rattle.std.proofs.Common.{◌≡◌, ℕ, ◌≤◌, ◌∙◌, true, if◌then◌else◌, List, [], ◌∷◌, Option, Some, None, Result, Ok, Err, codes, ap, arith, refl, subst, length}
 use Rattle.std.specs.Prelude.{bytes_eq}
 use Rattle.std.specs.Fmt.{digits}
 use Rattle.robinx_tags.specs.Pieces.{pieces, pieces_from}
 use Rattle.robinx_tags.specs.Tags.{attributes_at}
-use Rattle.robinx_tags.specs.declared.fault.FormKind.TheVariants.{Truncated}
 use Rattle.league.specs.Instance.{Instance}
 use Rattle.league.specs.declared.class.Class.TheVariants.{Ca1}
-use Rattle.league.specs.declared.class.Constraint.{Constraint}
 use Rattle.league.specs.declared.class.Side.TheVariants.{H}
 use Rattle.robinx_form.specs.InstanceFile.{instance_of}
-use Rattle.robinx_form.specs.Walk.{Fault, walk}
-use Rattle.answers.specs.Reply.{Answer, malformed, read_fault, too_long}
-use Rattle.answers.specs.Stages.{Outcome, reads, says}
+use Rattle.robinx_form.specs.Walk.{walk}
+use Rattle.answers.specs.Reply.{Answer, read_fault, too_long}
 use Rattle.answers.specs.declared.status.Status.TheVariants.{Yes, No, File, ReadFault}
-use Rattle.rows.specs.Rows.{Row}
 use Rattle.encoding.specs.Encoding.{encoding_size, rows_of}
 use Rattle.encoding.specs.Variables.{var_count}
 use Rattle.refutation.specs.Steps.{Step}
@@ -25,7 +21,7 @@ use Rattle.refutation.specs.Verdict.{verdict_of}
 use Rattle.refutation.specs.declared.fault.LogKind.TheVariants.{BadLine, BadNumber, NoEnd, TooLong}
 use Rattle.refutation.specs.declared.verdict.Cause.TheVariants.{UnknownRow, UnknownVariable, NoConflict, NoEmptyClause, TooWide}
 use Rattle.refutation.specs.declared.verdict.Verdict.TheVariants.{Accepted, Rejected}
-use Rattle.check_answer.specs.Check.{IsVerdict, IsWellFormedLog, cause_word, checked, encodes, kind_word, log_malformed, most_log_bytes, most_terms, says_log, too_large, verdict_answer}
+use Rattle.check_answer.specs.Check.{IsVerdict, IsWellFormedLog, cause_word, checked, kind_word, log_malformed, most_log_bytes, most_terms, says_log, too_large, verdict_answer}
 use Rattle.check_answer.proofs.AnswerLemmas.{checked-at_log, checked-well_formed}
 
 -- ---- texts

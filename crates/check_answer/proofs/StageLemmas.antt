@@ -1,6 +1,5 @@
 -- How the stages of `check` make an answer.
-use Rattle.std.proofs.Common.{◌≡◌, ℕ, ◌+◌, ◌<◌, ◌≤◌, List, [], length, Option, Result, Ok, Err, codes, inl, inr, sym, ap, subst, refl, arith, ◌∙◌}
-use Rattle.std.specs.Prelude.{min}
+use Rattle.std.proofs.Common.{◌≡◌, ℕ, ◌+◌, ◌<◌, ◌≤◌, List, [], length, Option, Result, Ok, codes, inl, inr, sym, ap, subst, refl, arith, ◌∙◌}
 use Rattle.robin_io.specs.Counts.{Rose, TookMore, raised}
 use Rattle.league.specs.Instance.{Instance, IsInstance}
 use Rattle.robinx_tags.specs.Pieces.{pieces}
@@ -8,7 +7,7 @@ use Rattle.robinx_form.specs.InstanceFile.{instance_of}
 use Rattle.robinx_read.specs.declared.instance.TheConstants.{INSTANCE_LIMIT}
 use Rattle.answers.specs.Reply.{Answer}
 use Rattle.answers.specs.Stages.{Outcome, IsFile, reads}
-use Rattle.answers.specs.declared.status.Status.TheVariants.{Yes, No}
+use Rattle.answers.specs.declared.status.Status.TheVariants.{Yes}
 use Rattle.answers.proofs.StageLemmas.{reads-wider, says-value}
 use Rattle.encoding.specs.Encoding.{encoding_size, rows_of}
 use Rattle.encoding.specs.Variables.{var_count}
@@ -21,7 +20,6 @@ use Rattle.refutation.specs.declared.verdict.Verdict.{Verdict}
 use Rattle.refutation.specs.declared.verdict.Verdict.TheVariants.{Accepted, Rejected}
 use Rattle.refutation_check.specs.Judged.{Judged, no_step_of, verdict_so_far}
 use Rattle.refutation_check.proofs.VerdictLemmas.{steps_give_verdict}
-use Rattle.season_check.specs.Excluded.{NoneAccepted}
 use Rattle.season_check.proofs.SeasonLemmas.{accepted_logs_exclude}
 use Rattle.check_answer.specs.Check.{IsVerdict, checked, encodes, log_malformed, most_log_bytes, most_terms, says_log, too_large, verdict_answer}
 use Rattle.check_answer.specs.Feeding.{ChecksOn}

@@ -12,14 +12,28 @@ use Rattle.check_answer.specs.Check.{most_log_bytes}
 
 -- These bytes were read from one place on, and the steps that they say were judged. So many steps they were, and
 -- whatever comes behind the bytes, the text is read as these steps and then as what is read from here.
-pub record ChecksOn (before : Place) (old : Judged) (bytes : List ℕ) (now : Place) (new : Judged) (count : ℕ) : Type 0 where
+pub record ChecksOn
+    (before : Place)
+    (old : Judged)
+    (bytes : List ℕ)
+    (now : Place)
+    (new : Judged)
+    (count : ℕ)
+    : Type 0 where
   pub steps : List Step
   pub read : (rest : List ℕ) → log_from before (bytes ++ rest) ≡ after steps (log_from now rest)
   pub judged : new ≡ fold after_step old steps
   pub counted : count ≡ length steps
 
 -- the same of all bytes of a log's file, which are known or not
-pub record ChecksFile (known : Option (List ℕ)) (before : Place) (old : Judged) (now : Place) (new : Judged) (count : ℕ) : Type 0 where
+pub record ChecksFile
+    (known : Option (List ℕ))
+    (before : Place)
+    (old : Judged)
+    (now : Place)
+    (new : Judged)
+    (count : ℕ)
+    : Type 0 where
   pub bytes : List ℕ
   pub file : IsFile known most_log_bytes bytes
   pub checked : ChecksOn before old bytes now new count

@@ -33,9 +33,7 @@ pub fn read_words(words: &[String]) -> Option<Words<'_>>
     ensures teams { IfSome result (λ command. HasTeams (command_of command)) }
 {
     match words {
-        [command, first, second] => {
-            with_two(command.as_str(), first.as_str(), second.as_str())
-        }
+        [command, first, second] => { with_two(command.as_str(), first.as_str(), second.as_str()) }
         [command, teams] => with_one(command.as_str(), teams.as_str()),
         _ => None,
     }

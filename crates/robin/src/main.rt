@@ -1,4 +1,5 @@
-//! robin judges and makes schedules of sports leagues: the program, which calls `run` over the machine's files.
+//! robin judges and makes schedules of sports leagues, and checks what refutes a league: the program, which calls `run`
+//! over the machine's files.
 #![tactic(auto)]
 
 use answers::{Status, code};
@@ -12,13 +13,16 @@ const NO_ARGUMENTS: u8 = 10;
 
 /// What is said on standard error where the words are refused.
 const USAGE: &str = r#"usage: robin validate INSTANCE SOLUTION
+       robin check INSTANCE LOG
        robin circle N
 validate judges the season of a solution file by the league of an instance file
          (RobinX); a file's name doesn't begin with -
+check    checks a log of steps that refutes the league of an instance file
 circle   writes the season of the circle method for N teams, N even, 2 to 40
 There are no options.
 status 0 accepted, or made    1 not accepted          2 these words are refused
-       3 a file is refused    6 a file can't be read  7 the text can't be written
+       3 a file is refused, or a league of too many rows for check
+       6 a file can't be read 7 the text can't be written
        8 no memory           10 the words can't be read (they aren't UTF-8, say)
 "#;
 

@@ -2,8 +2,13 @@
 use Rattle.std.proofs.Common.{◌≡◌, Some, None, codes}
 use Rattle.robinx_tags.specs.declared.fault.FormKind.TheVariants.{BadNesting}
 use Rattle.answers.specs.Reply.{Answer, malformed, refused_words}
+use Rattle.answers.specs.declared.status.Status.TheVariants.{Yes}
+use Rattle.check_answer.proofs.CheckFacts as checks
+use Rattle.check_answer.proofs.CheckFacts.{checked-bad, checked-good}
+use Rattle.check_answer.specs.Check.{log_malformed}
 use Rattle.circle_answer.specs.Circle.{circle_season}
-use Rattle.command_line.specs.Words.Command.{Circle, Validate}
+use Rattle.command_line.specs.Words.Command.{Check, Circle, Validate}
+use Rattle.refutation.specs.declared.fault.LogKind.TheVariants.{BadLine}
 use Rattle.robin_run.specs.Answer.{IsAnswer}
 use Rattle.validate_answer.proofs.ValidateFacts.{contents, never, nowhere, the_answer, validated-fault, validated-one}
 
@@ -14,6 +19,13 @@ validate-one answer h = validated-one answer h
 -- where the first file has a fault, this is the one answer
 pub validate-fault : (answer : Answer) → IsAnswer (Some (Validate (codes "season") (codes "league"))) contents never nowhere answer → answer ≡ malformed (codes "instance") BadNesting 1
 validate-fault answer h = validated-fault answer h
+
+-- `check` over a log that is accepted, and over one with a fault of form behind a step that doesn't follow
+pub check-good : (answer : Answer) → IsAnswer (Some (Check (codes "league") (codes "good"))) checks.contents checks.never checks.nowhere answer → answer ≡ record { status = Yes; text = codes "accepted steps 1\n" }
+check-good answer h = checked-good answer h
+
+pub check-bad : (answer : Answer) → IsAnswer (Some (Check (codes "league") (codes "bad"))) checks.contents checks.never checks.nowhere answer → answer ≡ log_malformed BadLine 3
+check-bad answer h = checked-bad answer h
 
 -- refused words, and `circle`
 pub words-one : (answer : Answer) → IsAnswer None contents never nowhere answer → answer ≡ refused_words

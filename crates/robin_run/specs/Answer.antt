@@ -2,9 +2,10 @@
 use Rattle.std.specs.Prelude.{◌≡◌, ℕ, List, Option, None, Some}
 use Rattle.answers.specs.Reply.{refused_words}
 use Rattle.answers.specs.Stages.{Outcome}
+use Rattle.check_answer.specs.Check.{checked}
 use Rattle.circle_answer.specs.Circle.{circle_season}
 use Rattle.command_line.specs.Words.{Command}
-use Rattle.command_line.specs.Words.Command.{Validate, Circle}
+use Rattle.command_line.specs.Words.Command.{Validate, Check, Circle}
 use Rattle.validate_answer.specs.Validate.{validated}
 
 -- the answer to the words
@@ -12,4 +13,6 @@ abbrev pub IsAnswer : Option Command → (List ℕ → Option (List ℕ)) → (�
 IsAnswer None contents took_more failed answer = answer ≡ refused_words
 IsAnswer (Some (Validate instance solution)) contents took_more failed answer =
     validated contents took_more failed instance solution answer
+IsAnswer (Some (Check instance log)) contents took_more failed answer =
+    checked contents took_more failed instance log answer
 IsAnswer (Some (Circle n)) contents took_more failed answer = answer ≡ circle_season n

@@ -1,19 +1,25 @@
 //! The call that the program makes: the words, the command's stages, and the answer written.
-ghost use Rattle.std.specs.Prelude.{◌≡◌, ◌≢◌, ℕ, List, IfOk, map, string_bytes};
+ghost use Rattle.std.specs.Prelude.{◌≡◌, ◌≢◌, ℕ, List, IfOk, Ok, Some, map, string_bytes};
 ghost use Rattle.std.specs.Io.KnownBytes.{Keeps};
 ghost use Rattle.robin_io.specs.Counts.{Rose, TookMore};
 ghost use Rattle.league.specs.Instance.{Instance};
 ghost use Rattle.league.specs.declared.game.Game.{Game};
 ghost use Rattle.command_line.specs.SeenWords.{command_of};
 ghost use Rattle.command_line.specs.Words.{reading, HasTeams, NeedsNoFile};
-ghost use Rattle.command_line.specs.Words.Command.{Validate};
+ghost use Rattle.command_line.specs.Words.Command.{Check, Validate};
 ghost use Rattle.answers.specs.Reply.{Answer};
 ghost use Rattle.answers.specs.SeenReply.{answer_of};
 ghost use Rattle.answers.specs.Stages.{IsWritten};
 ghost use Rattle.validate_answer.specs.Validate.{IsJudged, IsWellFormedPair};
+ghost use Rattle.check_answer.specs.Check.{IsChecked, IsWellFormedLog};
+ghost use Rattle.season_check.specs.Excluded.{NoneAccepted};
+ghost use Rattle.robinx_tags.specs.Pieces.{pieces};
+ghost use Rattle.robinx_form.specs.InstanceFile.{instance_of};
+ghost use Rattle.refutation.specs.Steps.{Step};
 ghost use Rattle.robin_run.specs.Answer.{IsAnswer};
 
 use answers::{Reply, Status, words_refused, write_answer};
+use check_answer::check;
 use circle_answer::circle;
 use command_line::{Words, read_words};
 use robin_io::{Shelf, Sink};
@@ -32,6 +38,7 @@ fn follow<S: Shelf>(alloc: Global, command: Words, shelf: &mut S) -> Result<Repl
 {
     match command {
         Words::Validate { instance, solution } => validate(alloc, shelf, instance, solution),
+        Words::Check { instance, log } => check(alloc, shelf, instance, log),
         Words::Circle { n } => circle(alloc, n),
     }
 }
@@ -54,14 +61,19 @@ fn answer<S: Shelf>(alloc: Global, words: &[String], shelf: &mut S) -> Result<Re
 /// Runs the command that the words name, over a store of files, writes its text to `out`, and says how the run ends.
 ///
 /// `words` are the words of the command line without the program's name. `validate INSTANCE SOLUTION` judges the
-/// season of one file by the league of the other, `circle N` makes a season, and any other words are refused. The
-/// whole text is made before its first byte is written.
+/// season of one file by the league of the other, `check INSTANCE LOG` checks the refutation log of one file over the
+/// rows of the league of the other, `circle N` makes a season, and any other words are refused. The whole text is made
+/// before its first byte is written.
 ///
 /// - `answer` needs nothing of the store, of the sink or of the files: whatever they do, the answer is one of those
 ///   that are allowed for the words and the files, and each refusal has its cause.
 /// - `judged` is for a store that tells the bytes of both files (one in memory does, that of the machine doesn't):
 ///   where the words are `validate` and their names, both are within their limits and well-formed, and neither the
 ///   store at these two names nor the sink fails in this call, the judgement is written whole.
+/// - `checked` says the same of `check`: where both files are within their limits and well-formed, and the rows of the
+///   league have at most 40,000,000 terms, the verdict on the log is written whole.
+/// - `refuted` needs a store that tells the bytes of the instance file alone: where a run of `check` ends with `Yes`,
+///   the league of that file accepts no list of games.
 /// - That a count of faults rose says that it is larger after this call, or that it stands at its last value,
 ///   2^64 - 1.
 /// - Memory may run out at any time, and then nothing is written. Nothing is said of which files were read then.
@@ -83,6 +95,23 @@ pub fn run<S: Shelf, K: Sink>(alloc: Global, words: &[String], shelf: &mut S, ou
         → (Rose (K.faults out.old) (K.faults out.new) → ⊥)
         → result ≢ Status.Memory
         → IsJudged league games result (K.written out.old) (K.written out.new) }
+
+    // A well-formed log over a league, at which nothing fails, gets its verdict, unless memory runs out.
+    ensures checked { (instance log : List ℕ) (league : Instance) (steps : List Step)
+        → reading (map string_bytes words.now) ≡ Some (Check instance log)
+        → IsWellFormedLog (S.contents shelf.old) (λ name. Rose (S.faults shelf.old name) (S.faults shelf.new name))
+        instance log league steps
+        → (Rose (K.faults out.old) (K.faults out.new) → ⊥)
+        → result ≢ Status.Memory
+        → IsChecked league steps result (K.written out.old) (K.written out.new) }
+
+    // Where a log is accepted, the league of the instance accepts no list of games.
+    ensures refuted { (instance log bytes : List ℕ) (league : Instance)
+        → reading (map string_bytes words.now) ≡ Some (Check instance log)
+        → S.contents shelf.old instance ≡ Some bytes
+        → instance_of (pieces bytes) ≡ Ok league
+        → result ≡ Status.Yes
+        → NoneAccepted league }
 
     // The files keep their contents, whatever the answer.
     ensures contents { (n : List ℕ) → S.contents shelf.new n ≡ S.contents shelf.old n }

@@ -1,28 +1,14 @@
 -- How the stages of `validate` make an answer.
-use Rattle.std.proofs.Common.{◌≡◌, ℕ, ◌+◌, List, length, Option, Result, Ok, Err, codes, inl, inr, subst, sym}
+use Rattle.std.proofs.Common.{◌≡◌, ℕ, ◌+◌, List, length, Option, Ok, codes, inl, inr}
 use Rattle.league.specs.Instance.{Instance}
 use Rattle.robinx_tags.specs.Pieces.{pieces}
 use Rattle.robinx_form.specs.InstanceFile.{instance_of}
 use Rattle.robinx_form.specs.SolutionFile.{solution_of}
-use Rattle.robinx_form.specs.Walk.{Fault}
 use Rattle.robinx_read.specs.declared.instance.TheConstants.{INSTANCE_LIMIT, SOLUTION_LIMIT}
 use Rattle.answers.specs.Reply.{Answer}
-use Rattle.answers.specs.SeenReply.{Answers}
-use Rattle.answers.specs.Stages.{Outcome, IsFile, IsUnread, reads, says}
-use Rattle.answers.specs.declared.reply.Reply.{Reply}
-use Rattle.answers.specs.declared.reply.NoValue.{NoValue}
-use Rattle.answers.specs.declared.reply.NoValue.TheVariants.{Refused, Memory}
+use Rattle.answers.specs.Stages.{IsFile, IsUnread, reads, says}
+use Rattle.answers.proofs.StageLemmas.{says-value}
 use Rattle.validate_answer.specs.Validate.{IsJudgement, validated}
-
--- answers of one kind are of another, where this follows for each
-pub Answers-wider : (narrow wide : Outcome) → ((answer : Answer) → narrow answer → wide answer) → (result : Result Reply NoValue) → Answers narrow result → Answers wide result
-Answers-wider narrow wide wider (Ok reply) given = wider _ given
-Answers-wider narrow wide wider (Err (Refused reply)) given = wider _ given
-Answers-wider narrow wide wider (Err Memory) given = tt
-
--- what a file says is taken
-says-value : {A : Type 0} (which : List ℕ) (said : Result A Fault) (x : A) (next : A → Outcome) (answer : Answer) → said ≡ Ok x → next x answer → says which said next answer
-says-value which said x next answer is after = subst (λ r. says which r next answer) (sym is) after
 
 -- the first file is read and says a league: what is answered at the second is the answer
 after-first : (contents : List ℕ → Option (List ℕ)) (took_more : ℕ → Type 0) (failed : List ℕ → Type 0) (instance solution first : List ℕ) (league : Instance) → IsFile (contents instance) INSTANCE_LIMIT first → instance_of (pieces first) ≡ Ok league

@@ -1,4 +1,4 @@
-use Rattle.std.proofs.Common.{◌≡◌, ◌<◌, ◌≤◌, ◌+◌, ℕ, List, drop, length, length-take, length-take-le, arith, ◌∙◌}
+use Rattle.std.proofs.Common.{◌<◌, ◌≤◌, ◌+◌, drop, length, length-take, length-take-le, arith, ◌∙◌}
 use Rattle.check_answer.specs.Check.{most_log_bytes}
 use Rattle.check_answer.proofs.FeedingLemmas.{under_way-few, under_way-long, under_way-next, under_way-start, under_way-whole}
 use Rattle.check_answer.proofs.feeding.check_file.Goals as goal

@@ -1,4 +1,4 @@
-use Rattle.std.proofs.Common.{◌≡◌, ℕ, ◌+◌, ◌-◌, ◌≤◌, List}
+use Rattle.std.proofs.Common.{◌≡◌, ℕ, ◌-◌, ◌≤◌, List}
 use Rattle.check_answer.specs.Feeding.{IsUnderWay}
 use Rattle.check_answer.proofs.feeding.check_file.Given as goal
 

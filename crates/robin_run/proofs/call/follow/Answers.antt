@@ -2,3 +2,6 @@ use Rattle.robin_run.proofs.call.follow.Goals as goal
 
 pub returns-in-Validate-clause-answer : goal.returns-in-Validate-clause-answer
 returns-in-Validate-clause-answer g c = rw c.in-Validate.is c.validate.ensures.answer
+
+pub returns-in-Check-clause-answer : goal.returns-in-Check-clause-answer
+returns-in-Check-clause-answer g c = rw c.in-Check.is c.check.ensures.answer

@@ -2,7 +2,8 @@ use Rattle.std.proofs.Common.{List, Option, ℕ, ◌+◌, length, codes, rules, 
 use Rattle.robin_io.specs.Counts.{Rose, TookMore}
 use Rattle.robinx_read.specs.declared.instance.TheConstants.{INSTANCE_LIMIT, SOLUTION_LIMIT}
 use Rattle.answers.specs.Stages.{IsFile, IsUnread}
-use Rattle.validate_answer.proofs.StageLemmas.{Answers-wider, validated-last, validated-unread}
+use Rattle.answers.proofs.StageLemmas.{Answers-wider}
+use Rattle.validate_answer.proofs.StageLemmas.{validated-last, validated-unread}
 use Rattle.validate_answer.proofs.stages.validate_stages.Goals as goal
 
 -- the second file has the contents that it had before the first was read

@@ -1,0 +1,98 @@
+-- No answer ends a run as want of memory does.
+use Rattle.std.proofs.Common.{◌≡◌, ℕ, ◌+◌, Bool, true, false, if◌then◌else◌, List, length, Option, Some, None, Result, Ok, Err, codes, ap, inl, inr, sym, ◌∙◌}
+use Rattle.rows.specs.Rows.{Row}
+use Rattle.league.specs.Instance.{Instance}
+use Rattle.league.specs.declared.game.Game.{Game}
+use Rattle.robinx_tags.specs.Pieces.{pieces}
+use Rattle.robinx_form.specs.InstanceFile.{instance_of}
+use Rattle.robinx_form.specs.SolutionFile.{solution_of}
+use Rattle.robinx_form.specs.Walk.{Fault}
+use Rattle.robinx_read.specs.declared.instance.TheConstants.{INSTANCE_LIMIT, SOLUTION_LIMIT}
+use Rattle.command_line.specs.Words.{Command}
+use Rattle.command_line.specs.Words.Command.{Check, Circle, Validate}
+use Rattle.answers.specs.Reply.{Answer}
+use Rattle.answers.specs.Stages.{IsWritten, Outcome, reads, says}
+use Rattle.answers.specs.declared.status.Status.{Status}
+use Rattle.answers.specs.declared.status.Status.TheVariants.{Yes, No, Words, File, ReadFault, WriteFault, Memory}
+use Rattle.encoding.specs.Encoding.{rows_of}
+use Rattle.refutation.specs.Steps.{Step}
+use Rattle.refutation.specs.Logs as logs
+use Rattle.refutation.specs.Logs.{log_of}
+use Rattle.refutation.specs.declared.verdict.Verdict.{Verdict}
+use Rattle.refutation.specs.declared.verdict.Verdict.TheVariants.{Accepted, Rejected}
+use Rattle.validate_answer.specs.Validate.{IsJudgement, validated}
+use Rattle.check_answer.specs.Check.{IsVerdict, checked, encodes, most_log_bytes, says_log, verdict_answer}
+use Rattle.robin_run.specs.Answer.{IsAnswer}
+
+status-of : (a b : Answer) → a ≡ b → a.status ≡ Memory → b.status ≡ Memory
+status-of a b is ended = sym (ap (λ (answer : Answer). answer.status) is) ∙ ended
+
+-- ---- stages
+
+read-memory : (which : List ℕ) (known : Option (List ℕ)) (limit : ℕ) (long failed : Type 0) (next : List ℕ → Outcome) (answer : Answer) → answer.status ≡ Memory → ((bytes : List ℕ) → next bytes answer → ⊥) → reads which known limit long failed next answer → ⊥
+read-memory which known limit long failed next answer ended later (inl read) = later read.0 read.2
+read-memory which known limit long failed next answer ended later (inr (inl h)) = let same : File ≡ Memory = status-of answer _ h.2 ended in cc
+read-memory which known limit long failed next answer ended later (inr (inr h)) = let same : ReadFault ≡ Memory = status-of answer _ h.1 ended in cc
+
+said-memory : {A : Type 0} (which : List ℕ) (said : Result A Fault) (next : A → Outcome) (answer : Answer) → answer.status ≡ Memory → ((x : A) → next x answer → ⊥) → says which said next answer → ⊥
+said-memory which (Ok x) next answer ended later given = later x given
+said-memory which (Err fault) next answer ended later given = let same : File ≡ Memory = status-of answer _ given ended in cc
+
+-- ---- `validate`
+
+judged-status : (feasible : Bool) → (if feasible then Yes else No) ≡ Memory → ⊥
+judged-status true same = cc
+judged-status false same = cc
+
+judgement-memory : (league : Instance) (games : List Game) (answer : Answer) → answer.status ≡ Memory → IsJudgement league games answer → ⊥
+judgement-memory league games answer ended judgement = judged-status judgement.feasible (sym judgement.status ∙ ended)
+
+abbrev after_second : Instance → List ℕ → Outcome
+after_second league second = says (codes "solution") (solution_of league.n (pieces second)) (IsJudgement league)
+
+abbrev after_first : (List ℕ → Option (List ℕ)) → (ℕ → Type 0) → (List ℕ → Type 0) → List ℕ → List ℕ → Instance → Outcome
+after_first contents took_more failed solution first league = reads (codes "solution") (contents solution) SOLUTION_LIMIT (took_more (length first + SOLUTION_LIMIT)) (failed solution) (after_second league)
+
+validated-memory : (contents : List ℕ → Option (List ℕ)) (took_more : ℕ → Type 0) (failed : List ℕ → Type 0) (instance solution : List ℕ) (answer : Answer) → answer.status ≡ Memory → validated contents took_more failed instance solution answer → ⊥
+validated-memory contents took_more failed instance solution answer ended given =
+    read-memory (codes "instance") (contents instance) INSTANCE_LIMIT (took_more INSTANCE_LIMIT) (failed instance) (λ first. says (codes "instance") (instance_of (pieces first)) (after_first contents took_more failed solution first)) answer ended
+    (λ first at_first. said-memory (codes "instance") (instance_of (pieces first)) (after_first contents took_more failed solution first) answer ended
+    (λ league at_league. read-memory (codes "solution") (contents solution) SOLUTION_LIMIT (took_more (length first + SOLUTION_LIMIT)) (failed solution) (after_second league) answer ended
+    (λ second at_second. said-memory (codes "solution") (solution_of league.n (pieces second)) (IsJudgement league) answer ended (λ games judgement. judgement-memory league games answer ended judgement) at_second) at_league) at_first) given
+
+-- ---- `check`
+
+verdict-status : (steps : ℕ) (verdict : Verdict) → (verdict_answer steps verdict).status ≡ Memory → ⊥
+verdict-status steps Accepted same = cc
+verdict-status steps (Rejected step cause) same = cc
+
+log-memory : (league : Instance) (rows : List Row) (said : Result (List Step) logs.Fault) (answer : Answer) → answer.status ≡ Memory → says_log said (IsVerdict league rows) answer → ⊥
+log-memory league rows (Ok steps) answer ended verdict = verdict-status (length steps) _ (status-of answer _ verdict.verdict ended)
+log-memory league rows (Err fault) answer ended given = let same : File ≡ Memory = status-of answer _ given ended in cc
+
+encoded-memory : (league : Instance) (known : Option (List ℕ)) (long failed : Type 0) (answer : Answer) → answer.status ≡ Memory → encodes league (λ rows. reads (codes "log") known most_log_bytes long failed (λ bytes. says_log (log_of bytes) (IsVerdict league rows))) answer → ⊥
+encoded-memory league known long failed answer ended (inl h) =
+    read-memory (codes "log") known most_log_bytes long failed (λ bytes. says_log (log_of bytes) (IsVerdict league (rows_of league))) answer ended (λ bytes at_log. log-memory league (rows_of league) (log_of bytes) answer ended at_log) h.1
+encoded-memory league known long failed answer ended (inr h) = let same : File ≡ Memory = status-of answer _ h.1 ended in cc
+
+abbrev after_instance : (List ℕ → Option (List ℕ)) → (ℕ → Type 0) → (List ℕ → Type 0) → List ℕ → List ℕ → Instance → Outcome
+after_instance contents took_more failed log first league = encodes league (λ rows. reads (codes "log") (contents log) most_log_bytes (took_more (length first + most_log_bytes)) (failed log) (λ bytes. says_log (log_of bytes) (IsVerdict league rows)))
+
+checked-memory : (contents : List ℕ → Option (List ℕ)) (took_more : ℕ → Type 0) (failed : List ℕ → Type 0) (instance log : List ℕ) (answer : Answer) → answer.status ≡ Memory → checked contents took_more failed instance log answer → ⊥
+checked-memory contents took_more failed instance log answer ended given =
+    read-memory (codes "instance") (contents instance) INSTANCE_LIMIT (took_more INSTANCE_LIMIT) (failed instance) (λ first. says (codes "instance") (instance_of (pieces first)) (after_instance contents took_more failed log first)) answer ended
+    (λ first at_first. said-memory (codes "instance") (instance_of (pieces first)) (after_instance contents took_more failed log first) answer ended
+    (λ league at_league. encoded-memory league (contents log) (took_more (length first + most_log_bytes)) (failed log) answer ended at_league) at_first) given
+
+-- ---- a run
+
+answer-memory : (words : Option Command) (contents : List ℕ → Option (List ℕ)) (took_more : ℕ → Type 0) (failed : List ℕ → Type 0) (answer : Answer) → answer.status ≡ Memory → IsAnswer words contents took_more failed answer → ⊥
+answer-memory None contents took_more failed answer ended given = let same : Words ≡ Memory = status-of answer _ given ended in cc
+answer-memory (Some (Validate instance solution)) contents took_more failed answer ended given = validated-memory contents took_more failed instance solution answer ended given
+answer-memory (Some (Check instance log)) contents took_more failed answer ended given = checked-memory contents took_more failed instance log answer ended given
+answer-memory (Some (Circle n)) contents took_more failed answer ended given = let same : Yes ≡ Memory = status-of answer _ given ended in cc
+
+-- where an answer is written, the run doesn't end as want of memory does
+pub written-memory : (words : Option Command) (contents : List ℕ → Option (List ℕ)) (took_more : ℕ → Type 0) (failed : List ℕ → Type 0) (answer : Answer) (ended : Status) (old new : Option (List ℕ)) (sink_failed : Type 0) → IsAnswer words contents took_more failed answer → IsWritten answer ended old new sink_failed → ended ≡ Memory → ⊥
+written-memory words contents took_more failed answer ended old new sink_failed answered (inl h) memory = answer-memory words contents took_more failed answer (sym h.0 ∙ memory) answered
+written-memory words contents took_more failed answer ended old new sink_failed answered (inr h) memory = let same : WriteFault ≡ Memory = sym h.0 ∙ memory in cc

@@ -1,0 +1,29 @@
+use Rattle.std.proofs.Common.{ℕ, List, Option, map, string_bytes}
+use Rattle.robin_io.specs.Counts.{Rose, TookMore}
+use Rattle.command_line.specs.Words.{reading}
+use Rattle.answers.specs.SeenReply.{answer_of}
+use Rattle.robin_run.proofs.CheckLemmas.{run-checked, run-refuted}
+use Rattle.robin_run.proofs.MemoryLemmas.{written-memory}
+use Rattle.robin_run.proofs.call.run.Goals as goal
+
+pub returns-in-Ok-clause-refuted : goal.returns-in-Ok-clause-refuted
+returns-in-Ok-clause-refuted g c = λ instance log bytes league is known says_league ended.
+    let contents : List ℕ → Option (List ℕ) = g.S.Shelf.contents c.args.shelf.now in
+    let took_more : ℕ → Type 0 = λ limit. TookMore limit (g.S.Shelf.taken c.args.shelf.now) (g.S.Shelf.taken c.answer.new.shelf) in
+    let failed : List ℕ → Type 0 = λ name. Rose (g.S.Shelf.faults c.args.shelf.now name) (g.S.Shelf.faults c.answer.new.shelf name) in
+    run-refuted (reading (map string_bytes c.args.words.now)) contents took_more failed instance log bytes league (answer_of c.in-Ok.reply) c.write_answer.result _ _ _ c.in-Ok.ensures.answer c.write_answer.ensures is known says_league ended
+
+-- an answer is written, so memory didn't run out
+pub returns-in-Ok-clause-memory : goal.returns-in-Ok-clause-memory
+returns-in-Ok-clause-memory g c = λ ended.
+    let contents : List ℕ → Option (List ℕ) = g.S.Shelf.contents c.args.shelf.now in
+    let took_more : ℕ → Type 0 = λ limit. TookMore limit (g.S.Shelf.taken c.args.shelf.now) (g.S.Shelf.taken c.answer.new.shelf) in
+    let failed : List ℕ → Type 0 = λ name. Rose (g.S.Shelf.faults c.args.shelf.now name) (g.S.Shelf.faults c.answer.new.shelf name) in
+    absurd (written-memory (reading (map string_bytes c.args.words.now)) contents took_more failed (answer_of c.in-Ok.reply) c.write_answer.result _ _ _ c.in-Ok.ensures.answer c.write_answer.ensures ended)
+
+pub returns-in-Ok-clause-checked : goal.returns-in-Ok-clause-checked
+returns-in-Ok-clause-checked g c = λ instance log league steps is good works later.
+    let contents : List ℕ → Option (List ℕ) = g.S.Shelf.contents c.args.shelf.now in
+    let took_more : ℕ → Type 0 = λ limit. TookMore limit (g.S.Shelf.taken c.args.shelf.now) (g.S.Shelf.taken c.answer.new.shelf) in
+    let failed : List ℕ → Type 0 = λ name. Rose (g.S.Shelf.faults c.args.shelf.now name) (g.S.Shelf.faults c.answer.new.shelf name) in
+    run-checked (reading (map string_bytes c.args.words.now)) contents took_more failed instance log league steps (answer_of c.in-Ok.reply) c.write_answer.result _ _ _ c.in-Ok.ensures.answer c.write_answer.ensures is good works
