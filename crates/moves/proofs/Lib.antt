@@ -1,2 +1,7 @@
 -- Worked examples, so that a wrong definition does not check:
 pub mod MoveFacts
+-- Lemmas on the definitions:
+pub mod SumLemmas
+pub mod PlayLemmas
+pub mod SlotLaw
+pub mod TeamLaw

@@ -9,3 +9,5 @@ pub mod Round
 pub mod MoveList
 -- Kept inside (parts of moves, walks and tables):
 --
+-- What moves of slots, and moves of teams, have in common:
+pub mod Parts
