@@ -5,3 +5,4 @@ pub mod SumLemmas
 pub mod PlayLemmas
 pub mod SlotLaw
 pub mod TeamLaw
+pub mod RoundLemmas

@@ -42,7 +42,8 @@ apart n phased m i j set r e within in_set = no_meeting (m i j r) (m j i r) (e.s
 -- a number below a bound that passes is found
 found : (p : ℕ → Bool) (k x : ℕ) → x < k → p x ≡ true → list_any p (range_with_len 0 k) ≡ true
 found p k x lt is =
-    list_any_at p (range_with_len 0 k) x 0 (omega (arith, length-range_with_len 0 k)) (ap p (get_or-range_with_len 0 k x 0 lt) ∙ is)
+    let first : 0 + x ≡ x = omega arith in
+    list_any_at p (range_with_len 0 k) x 0 (omega (arith, length-range_with_len 0 k)) (ap p (get_or-range_with_len 0 k x 0 lt ∙ first) ∙ is)
 
 follows-at_home : (x y z w : ℕ) → x ≡ 1 → y ≡ 1 → ((nat_lt 0 x && nat_lt 0 y) || (nat_lt 0 z && nat_lt 0 w)) ≡ true
 follows-at_home x y z w a b = grind (arith, nat_tests)
@@ -172,19 +173,19 @@ moved_to : (F : ℕ → ℕ → ℕ) (a b c d x y : ℕ) → c ≡ x → d ≡ y
 moved_to F a b c d x y p q e = ap (λ (c : ℕ). F c d) p ∙ ap (F x) q ∙ e
 
 all_pairs : (F : ℕ → ℕ → ℕ) (n i j : ℕ) → F i j ≡ F j i → ((k : ℕ) → k < n → k ≢ i → k ≢ j → F i k ≡ F j k) → ((k : ℕ) → k < n → k ≢ i → k ≢ j → F k i ≡ F k j) → (a b : ℕ) → a < n → b < n → a ≢ b → F (exchange i j a) (exchange i j b) ≡ F a b
-all_pairs F n i j mutual home away a b first second ne =
+all_pairs F n i j facing home away a b first second ne =
     let goal : Type 0 = F (exchange i j a) (exchange i j b) ≡ F a b in
     let go : (x y : ℕ) → exchange i j a ≡ x → exchange i j b ≡ y → F x y ≡ F a b → goal = λ x y. moved_to F a b (exchange i j a) (exchange i j b) x y in
     elim (cases_eq a i) as (λ _. goal) [
       | inl a_i ↦ elim (cases_eq b j) as (λ _. goal) [
-        | inl b_j ↦ go j i (exchange-first i j a a_i) (exchange-second i j b b_j) (sym mutual ∙ sym (pair_is F a b i j a_i b_j))
+        | inl b_j ↦ go j i (exchange-first i j a a_i) (exchange-second i j b b_j) (sym facing ∙ sym (pair_is F a b i j a_i b_j))
         | inr b_not_j ↦
             let b_not_i : b ≢ i = λ h. ne (a_i ∙ sym h) in
             go j b (exchange-first i j a a_i) (exchange-other i j b b_not_i b_not_j) (sym (home b second b_not_i b_not_j) ∙ sym (pair_is F a b i b a_i refl))
       ]
       | inr a_not_i ↦ elim (cases_eq a j) as (λ _. goal) [
         | inl a_j ↦ elim (cases_eq b i) as (λ _. goal) [
-          | inl b_i ↦ go i j (exchange-second i j a a_j) (exchange-first i j b b_i) (mutual ∙ sym (pair_is F a b j i a_j b_i))
+          | inl b_i ↦ go i j (exchange-second i j a a_j) (exchange-first i j b b_i) (facing ∙ sym (pair_is F a b j i a_j b_i))
           | inr b_not_i ↦
               let b_not_j : b ≢ j = λ h. ne (a_j ∙ sym h) in
               go i b (exchange-second i j a a_j) (exchange-other i j b b_not_i b_not_j) (home b second b_not_i b_not_j ∙ sym (pair_is F a b j b a_j refl))
@@ -286,10 +287,10 @@ halves_stay n true m i j set e keep phases a b first second ne =
 pub IsPlayed-teams_exchanged : (n : ℕ) (phased : Bool) (m : Counts) (i j : ℕ) (set : ℕ → Bool) → IsExchange n phased m i j set → KeepPhases n phased m i j set → IsPlayed n phased (teams_exchanged set i j m)
 IsPlayed-teams_exchanged n phased m i j set e keep = record {
   meetings = λ a b first second ne.
-    let mutual : in_slots n m set i j ≡ in_slots n m set j i =
+    let facing : in_slots n m set i j ≡ in_slots n m set j i =
       none-in_slots n m set i j (λ r within in_set. (apart n phased m i j set r e within in_set).0) ∙ sym (none-in_slots n m set j i (λ r within in_set. (apart n phased m i j set r e within in_set).1)) in
     let same : in_slots n m set (exchange i j a) (exchange i j b) ≡ in_slots n m set a b =
-      all_pairs (in_slots n m set) n i j mutual
+      all_pairs (in_slots n m set) n i j facing
       (λ k lt ne_i ne_j. (venues-same n phased m i j set k e lt ne_i ne_j).0)
       (λ k lt ne_i ne_j. (venues-same n phased m i j set k e lt ne_i ne_j).1)
       a b first second ne in

@@ -11,3 +11,4 @@ pub mod MoveList
 --
 -- What moves of slots, and moves of teams, have in common:
 pub mod Parts
+pub mod Places

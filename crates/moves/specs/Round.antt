@@ -7,7 +7,11 @@ use Rattle.league.specs.Structure.{IsRoundRobin}
 use Rattle.league.specs.declared.game.Game.{Game}
 use Rattle.moves.specs.Moves.{game}
 
--- the number of teams, whether there are two phases, and for each team, then each slot, the team's game
+-- the game of a team in a slot, of a table with 78 places for each team, as many as the longest season has slots
+abbrev pub entry : List Game → ℕ → ℕ → Game
+entry games i s = slice_index_or games (i * 78 + s) (game 0 0 0)
+
+-- the number of teams, whether there are two phases, and the table of the teams' games
 pub record Round : Type 0 where
   pub n : ℕ
   pub phased : Bool
@@ -15,7 +19,7 @@ pub record Round : Type 0 where
 
 -- the game of a team in a slot
 abbrev pub game_at : Round → ℕ → ℕ → Game
-game_at r i s = slice_index_or r.games (i * slot_count r.n + s) (game 0 0 0)
+game_at r i s = entry r.games i s
 
 -- how often each game is played
 abbrev pub round_counts : Round → Counts

@@ -5,8 +5,10 @@
 //! gives all moves in order. What each move is, and when it is legal, is defined in `specs/`.
 #![tactic(auto)]
 
+mod board;
 mod move_list;
 mod swap;
 
+pub use board::Board;
 pub use move_list::MoveList;
 pub use swap::Swap;
