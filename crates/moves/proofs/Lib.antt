@@ -6,3 +6,4 @@ pub mod PlayLemmas
 pub mod SlotLaw
 pub mod TeamLaw
 pub mod RoundLemmas
+pub mod PlacedLemmas

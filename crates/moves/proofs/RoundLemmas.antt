@@ -5,6 +5,7 @@ use Rattle.std.proofs.lemmas.Bool.Decides.{nat_tests}
 use Rattle.league.specs.Counts.{Counts, is_game, slot_count}
 use Rattle.league.specs.Instance.{IsGame}
 use Rattle.league.specs.declared.game.Game.{Game}
+use Rattle.league.proofs.RangeLemmas.{one_if}
 use Rattle.moves.specs.Moves.{do_meet, times}
 use Rattle.moves.specs.Places.{IsGameOf, IsRound, IsSlotTable, IsTable, is_of, slot_entry}
 use Rattle.moves.specs.Round.{Round, entry, round_counts}
@@ -17,13 +18,13 @@ pub record IsWithin (n : ℕ) (m : Counts) : Type 0 where
   pub away : (a b s : ℕ) → n ≤ b → m a b s ≡ 0
   pub slot : (a b s : ℕ) → slot_count n ≤ s → m a b s ≡ 0
 
-past_home : (n a : ℕ) (x y : Bool) → n ≤ a → (if nat_lt a n && x && y then 1 else 0) ≡ 0
+past_home : (n a : ℕ) (x y : Bool) → n ≤ a → one_if (nat_lt a n && x && y) ≡ 0
 past_home n a x y le = grind (arith, nat_tests)
 
-past_slot : (n s : ℕ) (x y : Bool) → n ≤ s → (if x && nat_lt s n && y then 1 else 0) ≡ 0
+past_slot : (n s : ℕ) (x y : Bool) → n ≤ s → one_if (x && nat_lt s n && y) ≡ 0
 past_slot n s x y le = grind (arith, nat_tests)
 
-past_away : (n b away : ℕ) (x y z w : Bool) → (x ≡ true → y ≡ true → away < n) → n ≤ b → (if x && y && (z && (away == b) && w) then 1 else 0) ≡ 0
+past_away : (n b away : ℕ) (x y z w : Bool) → (x ≡ true → y ≡ true → away < n) → n ≤ b → one_if (x && y && (z && (away == b) && w)) ≡ 0
 past_away n b away x y z w lt le = grind (arith, nat_tests)
 
 below-true : (a n : ℕ) → nat_lt a n ≡ true → a < n

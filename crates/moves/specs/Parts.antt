@@ -1,10 +1,12 @@
 -- What the moves of slots, and those of teams, have in common: any set of teams whose slots are exchanged, and any set
 -- of slots in which two teams are.
-use Rattle.std.specs.Prelude.{◌≡◌, ℕ, ◌+◌, ◌-◌, ◌<◌, ◌≤◌, Bool, true, false, ◌||◌, nat_lt, if◌then◌else◌, ◌⊎◌}
+use Rattle.std.specs.Prelude.{◌≡◌, ℕ, ◌+◌, ◌-◌, ◌*◌, ◌<◌, ◌≤◌, Bool, true, false, ◌&&◌, ◌||◌, ◌==◌, nat_lt, length}
+use Rattle.std.specs.Prelude.{if◌then◌else◌, ◌⊎◌}
 use Rattle.std.specs.List.{range_with_len, sum_by}
-use Rattle.league.specs.Counts.{Counts, slot_count}
+use Rattle.league.specs.Counts.{Counts, counts_of, slot_count}
 use Rattle.league.specs.Structure.{first_half}
 use Rattle.moves.specs.Moves.{do_meet, exchange, follows}
+use Rattle.moves.specs.Round.{Edits}
 
 -- the games of these home teams, where two slots are exchanged
 abbrev pub slots_exchanged : (ℕ → Bool) → ℕ → ℕ → Counts → Counts
@@ -48,3 +50,31 @@ MeetAlike n m i j set =
 -- the same, where there are phases
 abbrev pub KeepPhases : ℕ → Bool → Counts → ℕ → ℕ → (ℕ → Bool) → Type 0
 KeepPhases n phased m i j set = phased ≡ true → MeetAlike n m i j set
+
+-- of the games whose home team is below k and in the set, those in slots s and t are taken out, and put in with the
+-- slots exchanged
+pub record AreExchangedBelow (k : ℕ) (set : ℕ → Bool) (m : Counts) (s t : ℕ) (edit : Edits) : Type 0 where
+  pub out_length : length edit.out ≤ 2 * k
+  pub into_length : length edit.into ≤ 2 * k
+  pub out_counts :
+    (a b r : ℕ) → counts_of edit.out a b r ≡ (if nat_lt a k && set a && ((r == s) || (r == t)) then m a b r else 0)
+  pub into_counts :
+    (a b r : ℕ)
+    → counts_of edit.into a b r
+      ≡ (if nat_lt a k && set a && ((r == s) || (r == t)) then m a b (exchange s t r) else 0)
+
+-- of the games of i and of j in the slots below k that are in the set, each is taken out, and put in with the teams
+-- exchanged
+pub record AreTradedBelow (k : ℕ) (set : ℕ → Bool) (m : Counts) (i j : ℕ) (edit : Edits) : Type 0 where
+  pub out_length : length edit.out ≤ 2 * k
+  pub into_length : length edit.into ≤ 2 * k
+  pub out_counts :
+    (a b r : ℕ)
+    → counts_of edit.out a b r
+      ≡ (if nat_lt r k && set r && (((a == i) || (b == i)) || ((a == j) || (b == j))) then m a b r else 0)
+  pub into_counts :
+    (a b r : ℕ)
+    → counts_of edit.into a b r
+      ≡ (if nat_lt r k && set r && (((a == i) || (b == i)) || ((a == j) || (b == j)))
+        then m (exchange i j a) (exchange i j b) r
+        else 0)

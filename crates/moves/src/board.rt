@@ -8,14 +8,9 @@ ghost use Rattle.moves.specs.Moves.{do_meet};
 ghost use Rattle.moves.specs.Places.{ArePlaced, IsRound, is_of};
 ghost use Rattle.moves.specs.Round.{IsEdit, edited, entry, round_counts};
 
+use crate::place::{SLOTS, TEAMS};
 use league::{Game, SlotId, TeamId};
 use std::marker::Model;
-
-/// The places of a team in the table of games: as many as the longest season has slots.
-const SLOTS: usize = 78;
-
-/// The places of a home team in the table of slots: as many as the largest league has teams.
-const TEAMS: usize = 40;
 
 /// A double round robin of n teams, perhaps phased: for each team and slot the team's game, and for each two teams the
 /// slot in which the first is at home to the second. It is seen as n, whether it is phased, and the table of games, from

@@ -6,9 +6,14 @@
 #![tactic(auto)]
 
 mod board;
+mod edit;
 mod move_list;
+mod place;
+mod slots;
 mod swap;
+mod turn;
 
 pub use board::Board;
+pub use edit::Edit;
 pub use move_list::MoveList;
 pub use swap::Swap;
