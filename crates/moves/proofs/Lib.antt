@@ -7,3 +7,6 @@ pub mod SlotLaw
 pub mod TeamLaw
 pub mod RoundLemmas
 pub mod PlacedLemmas
+pub mod EditLemmas
+pub mod OpponentLemmas
+pub mod WalkLemmas

@@ -12,3 +12,4 @@ pub mod MoveList
 -- What moves of slots, and moves of teams, have in common:
 pub mod Parts
 pub mod Places
+pub mod Walks

@@ -49,10 +49,10 @@ pub(crate) fn has_one_opponent(board: &Board, team: TeamId, s: SlotId, t: SlotId
     requires team { team.0 < board.now.n }
     requires s { s.0 < slot_count board.now.n }
     requires t { t.0 < slot_count board.now.n }
-    ensures { IsTrue result ↔ ((b : ℕ) → do_meet (round_counts board.now) team.0 b s.0
+    ensures { IsTrue result ↔ ((b : ℕ) → b < board.now.n → do_meet (round_counts board.now) team.0 b s.0
         ≡ do_meet (round_counts board.now) team.0 b t.0) }
 {
-    board.opponent(team, s) == board.opponent(team, t)
+    board.opponent(team, s).0 == board.opponent(team, t).0
 }
 
 /// Takes out the games of these teams in two slots, and puts each in at the other slot. It takes no memory.
