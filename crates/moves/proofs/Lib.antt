@@ -10,3 +10,8 @@ pub mod PlacedLemmas
 pub mod EditLemmas
 pub mod OpponentLemmas
 pub mod WalkLemmas
+pub mod StepLemmas
+pub mod LegalLemmas
+pub mod HomeLemmas
+pub mod TradeLemmas
+pub mod BoardLemmas

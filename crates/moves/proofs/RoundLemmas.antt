@@ -58,7 +58,7 @@ of_slot : (h w t i s : ℕ) → (((h == i) || (w == i)) && (t == s)) ≡ true �
 of_slot h w t i s is = grind (arith, nat_tests)
 
 -- who meets one team meets no other number
-none_else : (n : ℕ) (phased : Bool) (m : Counts) (i k s b : ℕ) → IsPlayed n phased m → IsWithin n m → i < n → k < n → s < slot_count n → 1 ≤ met m i k s → b ≢ k → met m i b s ≡ 0
+pub none_else : (n : ℕ) (phased : Bool) (m : Counts) (i k s b : ℕ) → IsPlayed n phased m → IsWithin n m → i < n → k < n → s < slot_count n → 1 ≤ met m i k s → b ≢ k → met m i b s ≡ 0
 none_else n phased m i k s b is within lt_i lt_k lt_s some ne =
     elim (cases_lt b n) as (λ _. met m i b s ≡ 0) [
       | inl lt_b ↦ busy n phased m i k b s is lt_i lt_k lt_b lt_s (λ h. ne (sym h)) some
@@ -151,3 +151,16 @@ opponent-away n m i s g fits of only here j = meets-home g.home.0 g.away.0 g.slo
 
 pub opponent-home : (n : ℕ) (m : Counts) (i s : ℕ) (g : Game) → IsGame n g → is_of i s g ≡ true → IsOnly m i s g → g.home.0 ≢ i → (j : ℕ) → do_meet m i j s ≡ (j == g.home.0)
 opponent-home n m i s g fits of only here j = meets-away g.home.0 g.away.0 g.slot.0 i s j (m i j s) (m j i s) fits.differ here of (only i j) (only j i)
+
+-- nothing is counted past the last team, or past the last slot
+past_first : (a n : ℕ) (x y : Bool) → n ≤ a → one_if (nat_lt a n && x && y) ≡ 0
+past_first a n x y le = grind (arith, nat_tests)
+
+past_second : (s n : ℕ) (x y : Bool) → n ≤ s → one_if (x && nat_lt s n && y) ≡ 0
+past_second s n x y le = grind (arith, nat_tests)
+
+pub past_last_team : (r : Round) (a b s : ℕ) → r.n ≤ a → round_counts r a b s ≡ 0
+past_last_team r a b s le = past_first a r.n (nat_lt s (slot_count r.n)) (is_game a b s (entry r.games a s)) le
+
+pub past_last_slot : (r : Round) (a b s : ℕ) → slot_count r.n ≤ s → round_counts r a b s ≡ 0
+past_last_slot r a b s le = past_second s (slot_count r.n) (nat_lt a r.n) (is_game a b s (entry r.games a s)) le

@@ -44,11 +44,11 @@ met-exchanged n m set s t a b r closed first second =
     ap (λ (x : ℕ). slots_exchanged set s t m a b r + x) (either_team n m set s t b a r closed second first) ∙ added (set a) (m a b (exchange s t r)) (m a b r) (m b a (exchange s t r)) (m b a r)
 
 -- a sum of terms under one test
-under_test : (b : Bool) (f g : ℕ → ℕ) (k : ℕ) → total (λ r. if b then f r else g r) k ≡ (if b then total f k else total g k)
+pub under_test : (b : Bool) (f g : ℕ → ℕ) (k : ℕ) → total (λ r. if b then f r else g r) k ≡ (if b then total f k else total g k)
 under_test true f g k = refl
 under_test false f g k = refl
 
-one_of : (b : Bool) (x y : ℕ) → x ≡ 1 → y ≡ 1 → (if b then x else y) ≡ 1
+pub one_of : (b : Bool) (x y : ℕ) → x ≡ 1 → y ≡ 1 → (if b then x else y) ≡ 1
 one_of true x y p q = p
 one_of false x y p q = q
 

@@ -9,9 +9,8 @@ use Rattle.std.specs.List.{count_by, filter, list_any, range_with_len}
 use Rattle.league.proofs.RangeLemmas.{one_if, one_if-le}
 use Rattle.league.specs.Sets.{is_in}
 use Rattle.moves.specs.Closure.{IsLeastClosed, closure, reached, with_next}
-use Rattle.moves.specs.Walks.{IsChain, IsOnWay}
 
-any_cons : (p : ℕ → Bool) (x : ℕ) (xs : List ℕ) → list_any p (x ∷ xs) ≡ (p x || list_any p xs)
+pub any_cons : (p : ℕ → Bool) (x : ℕ) (xs : List ℕ) → list_any p (x ∷ xs) ≡ (p x || list_any p xs)
 any_cons p x xs = refl
 
 -- a number in a list that is filtered
@@ -63,7 +62,7 @@ in_filtered p y (x ∷ xs) among =
     ]
 
 -- a number of a range is below its end
-below_of : (k a y : ℕ) → is_in y (range_with_len a k) ≡ true → y < a + k
+pub below_of : (k a y : ℕ) → is_in y (range_with_len a k) ≡ true → y < a + k
 below_of zero a y among = absurd (cc)
 below_of (suc k) a y among =
     elim (or_cases (a == y) (is_in y (range_with_len (a + 1) k)) (sym (any_cons (λ z. z == y) a (range_with_len (a + 1) k)) ∙ among)) as (λ _. y < a + suc k) [
@@ -72,14 +71,14 @@ below_of (suc k) a y among =
     ]
 
 -- a number below a bound is in the range
-in_range : (k y : ℕ) → y < k → is_in y (range_with_len 0 k) ≡ true
+pub in_range : (k y : ℕ) → y < k → is_in y (range_with_len 0 k) ≡ true
 in_range k y lt =
     let first : 0 + y ≡ y = omega arith in
     let at : get_or (range_with_len 0 k) y 0 ≡ y = get_or-range_with_len 0 k y 0 lt ∙ first in
     list_any_at (λ z. z == y) (range_with_len 0 k) y 0 (omega (arith, length-range_with_len 0 k)) (eq-eqb (get_or (range_with_len 0 k) y 0) y at)
 
 -- what is in a list and passes a test is found
-any_of : (p : ℕ → Bool) (a : ℕ) (xs : List ℕ) → is_in a xs ≡ true → p a ≡ true → list_any p xs ≡ true
+pub any_of : (p : ℕ → Bool) (a : ℕ) (xs : List ℕ) → is_in a xs ≡ true → p a ≡ true → list_any p xs ≡ true
 any_of p a [] among passes = absurd (cc)
 any_of p a (x ∷ xs) among passes =
     any_cons p x xs ∙ elim (or_cases (x == a) (is_in a xs) (sym (any_cons (λ z. z == a) x xs) ∙ among)) as (λ _. (p x || list_any p xs) ≡ true) [
@@ -93,7 +92,7 @@ pub record IsFound (p : ℕ → Bool) (xs : List ℕ) : Type 0 where
   pub among : is_in at xs ≡ true
   pub passes : p at ≡ true
 
-found_in : (p : ℕ → Bool) (xs : List ℕ) → list_any p xs ≡ true → IsFound p xs
+pub found_in : (p : ℕ → Bool) (xs : List ℕ) → list_any p xs ≡ true → IsFound p xs
 found_in p [] any = absurd (cc)
 found_in p (x ∷ xs) any =
     elim (or_cases (p x) (list_any p xs) (sym (any_cons p x xs) ∙ any)) as (λ _. IsFound p (x ∷ xs)) [
@@ -150,7 +149,7 @@ reached-least next k x other start closed (suc steps) y among (inr lt) =
           closed f.at y lt (reached-least next k x other start closed steps f.at f.among (which_reached next k x steps f.at f.among)) f.passes
     ]
 
-both_true : (a b : Bool) → (a ≡ true → b ≡ true) → (b ≡ true → a ≡ true) → a ≡ b
+pub both_true : (a b : Bool) → (a ≡ true → b ≡ true) → (b ≡ true → a ≡ true) → a ≡ b
 both_true true true p q = refl
 both_true true false p q = sym (p refl)
 both_true false true p q = q refl
@@ -166,7 +165,7 @@ marks_are next k x count marks lt few start below on_way closed a =
       subst P more (reached-later next k x count (k - count) a (on_way a marked) (below a marked)))
     (λ among. reached-least next k x marks start closed k a among (which_reached next k x k a among))
 
-not_marked : (b : Bool) → (b ≡ true → ⊥) → b ≡ false
+pub not_marked : (b : Bool) → (b ≡ true → ⊥) → b ≡ false
 not_marked true none = absurd (none refl)
 not_marked false none = refl
 

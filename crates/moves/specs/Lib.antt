@@ -13,3 +13,4 @@ pub mod MoveList
 pub mod Parts
 pub mod Places
 pub mod Walks
+pub mod Outcome

@@ -8,8 +8,10 @@ ghost use Rattle.moves.specs.Moves.{do_meet};
 ghost use Rattle.moves.specs.Places.{ArePlaced, IsRound, is_of};
 ghost use Rattle.moves.specs.Round.{IsEdit, edited, entry, round_counts};
 
-use crate::place::{SLOTS, TEAMS};
-use league::{Game, SlotId, TeamId};
+use crate::edit::Edit;
+use crate::place::{SLOTS, TEAMS, place_all};
+use league::{Game, Schedule, SlotId, TeamId};
+use std::alloc::{AllocError, Global};
 use std::marker::Model;
 
 /// A double round robin of n teams, perhaps phased: for each team and slot the team's game, and for each two teams the
@@ -37,10 +39,58 @@ impl Model for Board {
 }
 
 impl Board {
+    /// The board of a double round robin of n teams, perhaps phased.
+    ///
+    /// # Errors
+    /// Only where memory runs out.
+    pub fn new(
+        alloc: Global,
+        n: u16,
+        phased: bool,
+        schedule: &Schedule,
+    ) -> Result<Board, AllocError>
+        requires teams { IsTeamCount n }
+        requires fit { All (IsGame n) schedule.now }
+        requires round_robin { IsRoundRobin n phased (counts_of schedule.now) }
+        ensures n { IfOk result (λ board. board.n ≡ n) }
+        ensures phased { IfOk result (λ board. board.phased ≡ phased) }
+        ensures counts { IfOk result (λ board. round_counts board ≡ counts_of schedule.now) }
+    {
+        let filler = Game {
+            home: TeamId(0),
+            away: TeamId(0),
+            slot: SlotId(0),
+        };
+        let mut games = vec![in alloc; filler; 3120]?;
+        let mut slots = vec![in alloc; 0u16; 1600]?;
+        place_all(&mut games, &mut slots, schedule.games());
+        Ok(Board {
+            n,
+            phased,
+            games,
+            slots,
+        })
+    }
+
+    /// Takes the games of an edit off the board and puts the others in, where a double round robin results, as it does
+    /// of the edit of a legal move. It takes no memory.
+    pub fn apply(&mut self, edit: &Edit)
+        requires there { (i j s : ℕ) → counts_of edit.now.out i j s ≤ round_counts self.old i j s }
+        requires fit { All (IsGame self.old.n) edit.now.into }
+        requires round_robin {
+            IsRoundRobin self.old.n self.old.phased (edited (round_counts self.old) edit.now) }
+        ensures n { self.new.n ≡ self.old.n }
+        ensures phased { self.new.phased ≡ self.old.phased }
+        ensures counts { round_counts self.new ≡ edited (round_counts self.old) edit.now }
+    {
+        place_all(&mut self.games, &mut self.slots, edit.into_games());
+    }
+
     /// The number of teams: even, from 2 to 40.
     pub fn n(&self) -> u16
         ensures n { result ≡ self.now.n }
         ensures teams { IsTeamCount self.now.n }
+        ensures round { IsRound self.now }
     {
         self.n
     }

@@ -7,13 +7,17 @@
 
 mod board;
 mod edit;
+mod legality;
 mod move_list;
 mod place;
 mod slots;
 mod swap;
+mod teams;
 mod turn;
+mod walks;
 
 pub use board::Board;
 pub use edit::Edit;
+pub use legality::edit_of;
 pub use move_list::MoveList;
 pub use swap::Swap;

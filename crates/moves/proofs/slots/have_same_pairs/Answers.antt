@@ -1,4 +1,4 @@
-use Rattle.std.proofs.Common.{◌≡◌, ℕ, ◌<◌, Bool, true, false, get_or, inl, inr, arith, subst, sym, ap, ◌∙◌}
+use Rattle.std.proofs.Common.{◌≡◌, ℕ, ◌<◌, Bool, true, false, get_or, inl, inr, refl, arith, subst, sym, ap, ◌∙◌}
 use Rattle.std.proofs.lemmas.Bool.{cases_eq, both_ways}
 use Rattle.moves.specs.Moves.{do_meet}
 use Rattle.moves.specs.Round.{round_counts}
@@ -19,3 +19,6 @@ loop-team-preserved c = λ a b lt lt_b marked.
           absurd (both_ways (get_or c.args.marks.now c.loop-team.team false) w.if-marks-team.false (sym (ap (λ (a : ℕ). get_or c.args.marks.now a false) same) ∙ marked))
     ])
   ]
+
+pub returns : goal.returns
+returns c = (λ _ a b lt lt_b marked. c.loop-team.invariant a b (omega arith) lt_b marked, λ _. refl)
