@@ -15,3 +15,4 @@ pub mod LegalLemmas
 pub mod HomeLemmas
 pub mod TradeLemmas
 pub mod BoardLemmas
+pub mod RestLemmas

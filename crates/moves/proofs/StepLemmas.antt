@@ -1,7 +1,9 @@
 -- One step more of a walk, and what it has marked when it comes back.
-use Rattle.std.proofs.Common.{◌≡◌, ◌≢◌, ℕ, zero, suc, ◌+◌, ◌<◌, ◌≤◌, Bool, true, false, ◌||◌, ◌==◌, ◌⊎◌, inl, inr, List, [], ◌∷◌, length, replicate, set, refl, arith, add-one, ap, subst, sym, ◌∙◌}
+use Rattle.std.proofs.Common.{◌≡◌, ◌≢◌, ℕ, zero, suc, ◌+◌, ◌<◌, ◌≤◌, Bool, true, false, ◌||◌, ◌==◌, ◌⊎◌, inl, inr, List, [], ◌∷◌, length, replicate, set, get_or, refl, arith, add-one, ap, subst, sym, ◌∙◌}
 use Rattle.std.proofs.lemmas.Bool.{both_ways, cases_eq, eqb-true, eq-eqb, or_cases, or_left, or_right}
 use Rattle.std.proofs.lemmas.List.{get_or-set_other, length-set}
+use Rattle.std.proofs.lemmas.List.Sums.{sum_by-set}
+use Rattle.league.proofs.RangeLemmas.{one_if, one_if-le}
 use Rattle.league.specs.Counts.{Counts, slot_count}
 use Rattle.league.specs.Sets.{is_in}
 use Rattle.moves.specs.Closure.{reached}
@@ -218,3 +220,13 @@ team_walk_end n m x s t marks at walk marked lt =
     (team_start n m x s t marks at walk marked)
     walk.way.marked walk.way.reached_all (team_walk_closed n m x s t marks at walk marked)
 
+
+-- a mark never lowers the count
+pub count-more : (marks : List Bool) (i : ℕ) → i < length marks → marked_count marks ≤ marked_count (set marks i true)
+count-more marks i lt = omega (arith, sum_by-set (λ b. one_if b) marks i true false lt, one_if-le (get_or marks i false))
+
+pub slot_start : (n : ℕ) (m : Counts) (i j x : ℕ) (marks : List Bool) (at : ℕ) → IsSlotWalk n m i j x marks at → is_marked marks at ≡ true → is_marked marks x ≡ true
+slot_start n m i j x marks at walk marked = elim walk.started as (λ _. is_marked marks x ≡ true) [
+  | inl is ↦ is
+  | inr same ↦ subst (λ (a : ℕ). is_marked marks a ≡ true) same marked
+]

@@ -14,3 +14,4 @@ pub mod Parts
 pub mod Places
 pub mod Walks
 pub mod Outcome
+pub mod Rest

@@ -42,6 +42,7 @@ pub(crate) fn linked_slots(board: &Board, i: TeamId, j: TeamId, slot: SlotId) ->
     ensures linked { (r : ℕ) → slice_index_or result r false
         ≡ is_in r (slots_linked board.now.n (round_counts board.now) i.0 j.0 slot.0) }
     ensures closed { IsClosedSlots board.now.n (round_counts board.now) i.0 j.0 (λ r. slice_index_or result r false) }
+    ensures start { slice_index_or result slot.0 false ≡ true }
 {
     let _most = board.n();
     let mut marks = [false; 78];
