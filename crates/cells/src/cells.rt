@@ -151,6 +151,3 @@ pub(crate) fn row_of(n: u16, home: TeamId, away: TeamId) -> usize
 {
     home.0 as usize * n as usize + away.0 as usize
 }
-
-#[cfg(test)]
-mod tests;

@@ -8,6 +8,3 @@
 mod circle;
 
 pub use circle::{double, single};
-
-#[cfg(test)]
-mod tests;

@@ -243,6 +243,3 @@ impl<L> Rule<L> for AnyRule {
         }
     }
 }
-
-#[cfg(test)]
-mod tests;

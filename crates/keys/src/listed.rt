@@ -126,6 +126,3 @@ impl Listed {
         keys.push_some(self.key(one.max(other)));
     }
 }
-
-#[cfg(test)]
-mod tests;

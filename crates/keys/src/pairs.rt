@@ -162,6 +162,3 @@ fn push_pairs(first: u16, later: &[u16], pairs: &mut Vec<(u16, u16)>) -> Result<
     }
     Ok(())
 }
-
-#[cfg(test)]
-mod tests;

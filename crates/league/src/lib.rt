@@ -24,6 +24,3 @@ pub use schedule::Schedule;
 pub use slot_set::SlotSet;
 pub use team_set::TeamSet;
 pub use wrongs::{Wrongs, structure};
-
-#[cfg(test)]
-mod tests;

@@ -183,6 +183,3 @@ impl Grid {
         wrong
     }
 }
-
-#[cfg(test)]
-mod tests;

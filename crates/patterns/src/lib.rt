@@ -10,6 +10,3 @@ mod pattern_set;
 
 pub use pattern::{Pattern, breaks_of};
 pub use pattern_set::{PatternSet, canonical, of_schedule};
-
-#[cfg(test)]
-mod tests;

@@ -55,6 +55,3 @@ impl<L> Steps<L> {
         self.taken = self.taken.next();
     }
 }
-
-#[cfg(test)]
-mod tests;
