@@ -1,0 +1,28 @@
+-- When a log says more, step by step, than propagation finds.
+use Rattle.std.specs.Prelude.{◌≡◌, ℕ, List, [], ◌∷◌, ◌++◌, length, map, ⊤, Ok}
+use Rattle.rows.specs.Rows.{Row}
+use Rattle.rows.specs.Partials.{IsEmpowering, IsQuiet}
+use Rattle.rows.specs.declared.partial.Value.{Value}
+use Rattle.refutation.specs.Steps.{Step, clause_of}
+use Rattle.refutation.specs.Following.{clause_row, judged}
+
+-- a clause step that follows from rows, and whose clause is empowering over them
+pub record IsNews (rows : List Row) (vars : ℕ) (step : Step) : Type 0 where
+  pub follows : judged rows vars step ≡ Ok (clause_row (clause_of step))
+  pub empowering : IsEmpowering rows (clause_of step)
+
+-- the row as which a clause step stands
+abbrev pub row_of : Step → Row
+row_of step = clause_row (clause_of step)
+
+-- each step is that over the rows and the steps before it
+abbrev pub AreNews : List Row → ℕ → List Step → Type 0
+AreNews rows vars [] = ⊤
+AreNews rows vars (step ∷ steps) = IsNews rows vars step × AreNews (rows ++ row_of step ∷ []) vars steps
+
+-- A log that is spent at a number: so many steps, each news, behind which propagation stands still. So what propagation
+-- alone refutes is spent at no number.
+pub record IsSpent (limit : ℕ) (rows : List Row) (vars : ℕ) (steps : List Step) : Type 0 where
+  pub count : length steps ≡ limit
+  pub news : AreNews rows vars steps
+  pub quiet : (values : ℕ → Value) × IsQuiet values (rows ++ map row_of steps)

@@ -1,0 +1,7 @@
+//! A search that learns clauses: values that satisfy rows, or a log that refutes them.
+#![tactic(auto)]
+
+mod found;
+mod role;
+
+pub use found::Found;
