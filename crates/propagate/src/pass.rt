@@ -1,5 +1,5 @@
 //! Propagation: what rows force, until none forces a literal or one is in conflict.
-ghost use Rattle.std.specs.Prelude.{◌≡◌, ◌+◌, ◌<◌, ◌≤◌, ◌++◌, [], ◌∷◌, length, true, false, Some, IfSome, IfNone};
+ghost use Rattle.std.specs.Prelude.{◌≡◌, ◌+◌, ◌<◌, ◌≤◌, ◌^◌, ◌++◌, [], ◌∷◌, length, true, false, Some, IfSome, IfNone};
 ghost use Rattle.rows.specs.Partials.{IsInConflict, IsQuietRow, value_of};
 ghost use Rattle.propagate.specs.Trails.{IsSettled, NamesConflict, level_of, values_of};
 ghost use Rattle.propagate.specs.Paths.{row_at};
@@ -52,6 +52,7 @@ fn go_over(rows: &NumberedRows, path: &mut Path) -> Option<Conflict>
 fn force_row(rows: &NumberedRows, place: usize, path: &mut Path) -> bool
     requires sound { AreSound rows.now path.old }
     requires there { place < length rows.now }
+    requires few { length rows.now < 2 ^ 33 }
     ensures grown { IsGrownOver rows.now path.old path.new }
     ensures met { result ≡ true → IsQuietRow (values_of path.new.entries) (row_at rows.now place) }
     ensures conflict { result ≡ false → IsInConflict (values_of path.new.entries) (row_at rows.now place) }
