@@ -5,6 +5,7 @@ use Rattle.std.specs.Prelude.{Contains}
 use Rattle.std.specs.List.{AllPairs, filter, sum_by}
 use Rattle.std.proofs.lemmas.Bool.{cases_Bool, cases_eq, false≢true}
 use Rattle.std.proofs.lemmas.Bool.Decides.{nat_tests}
+use Rattle.std.proofs.lemmas.List.Sums.{sum_by-cons}
 use Rattle.rows.specs.Forcing.{all_set, forced_by, set_true, with_forced}
 use Rattle.rows.specs.Literals.{Literal, negate}
 use Rattle.rows.specs.Rows.{Row}
@@ -112,16 +113,16 @@ with_forced-stays values row l is = all_stays_true values (forced_by values row)
 pub sum_by-pointwise : {X : Type 0} (f g : X → ℕ) (xs : List X) → ((x : X) → Contains xs x → f x ≤ g x) → sum_by f xs ≤ sum_by g xs
 sum_by-pointwise f g [] below = omega arith
 sum_by-pointwise f g (x ∷ xs) below =
-    omega (arith, below x (0, omega arith, refl), sum_by-pointwise f g xs (λ y there. below y (suc there.0, omega (arith, there.1), there.2)))
+    omega (arith, sum_by-cons f x xs, sum_by-cons g x xs, below x (0, omega arith, refl), sum_by-pointwise f g xs (λ y there. below y (suc there.0, omega (arith, there.1), there.2)))
 
 -- and less by what one element loses
 pub sum_by-less : {X : Type 0} (f g : X → ℕ) (xs : List X) (y : X) (k lost : ℕ) → ((x : X) → Contains xs x → f x ≤ g x) → k < length xs → get_or xs k y ≡ y
     → f y + lost ≤ g y → sum_by f xs + lost ≤ sum_by g xs
 sum_by-less f g [] y k lost below within is less = absurd (omega (arith, within))
 sum_by-less f g (x ∷ xs) y zero lost below within is less =
-    omega (arith, subst (λ z. f z + lost ≤ g z) (sym is) less, sum_by-pointwise f g xs (λ z there. below z (suc there.0, omega (arith, there.1), there.2)))
+    omega (arith, sum_by-cons f x xs, sum_by-cons g x xs, subst (λ z. f z + lost ≤ g z) (sym is) less, sum_by-pointwise f g xs (λ z there. below z (suc there.0, omega (arith, there.1), there.2)))
 sum_by-less f g (x ∷ xs) y (suc k) lost below within is less =
-    omega (arith, below x (0, omega arith, refl),
+    omega (arith, sum_by-cons f x xs, sum_by-cons g x xs, below x (0, omega arith, refl),
     sum_by-less f g xs y k lost (λ z there. below z (suc there.0, omega (arith, there.1), there.2)) (omega (arith, within)) is less)
 
 abbrev pub open_coef : (ℕ → Value) → Term → ℕ

@@ -7,3 +7,5 @@ pub mod Answers
 --
 -- What an analysis of a conflict finds:
 pub mod Analysis
+-- The places of a trail:
+pub mod Trails

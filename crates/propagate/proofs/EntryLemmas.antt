@@ -1,7 +1,6 @@
 -- Entries that are added at the end, or taken off there.
-use Rattle.std.proofs.Common.{◌≡◌, ◌≢◌, ℕ, zero, suc, ◌+◌, ◌-◌, ◌<◌, ◌≤◌, Bool, true, false, cond, List, [], ◌∷◌, ◌++◌, length, get_or, take, map, None}
-use Rattle.std.proofs.Common.{refl, inl, inr, arith, ap, sym, subst, ◌∙◌, length-append}
-use Rattle.std.specs.List.{count_by, fold}
+use Rattle.std.proofs.Common.{◌≡◌, ℕ, ◌+◌, ◌-◌, ◌<◌, ◌≤◌, Bool, true, false, cond, List, [], ◌∷◌, ◌++◌, length, get_or, take, map, None}
+use Rattle.std.proofs.Common.{refl, inl, inr, arith, ap, sym, subst, ◌∙◌}
 use Rattle.std.proofs.lemmas.Bool.{cases_lt, false≢true}
 use Rattle.std.proofs.lemmas.List.{get_or-take, get_or_append_left, get_or_push, length-take-le, length_push, map-append, take-append-le, take-take, take_all, take_at, take_more}
 use Rattle.std.proofs.lemmas.List.Sums.{count_by-le-length, fold_push, sum_by_push, sum_by-take-le}
@@ -9,7 +8,6 @@ use Rattle.std.proofs.lemmas.List.Elements.{All-push}
 use Rattle.rows.specs.Partials.{IsQuiet, IsQuietRow}
 use Rattle.rows.specs.Forcing.{all_set, set_true}
 use Rattle.rows.specs.Rows.{Row}
-use Rattle.rows.specs.declared.partial.Value.{Value}
 use Rattle.rows.specs.declared.partial.Value.TheVariants.{Free}
 use Rattle.propagate.specs.Trails.{EachEntry, IsBackTo, IsGrown, IsQuietBelow, IsQuietRowBelow, is_decision, level_of, values_of}
 use Rattle.propagate.specs.declared.entry.Entry.{Entry}

@@ -1,5 +1,5 @@
 -- Propagation, literal by literal and row by row.
-use Rattle.std.proofs.Common.{◌≡◌, ◌≢◌, ℕ, zero, suc, ◌+◌, ◌-◌, ◌<◌, ◌≤◌, Bool, true, false, cond, List, [], ◌∷◌, ◌++◌, length, get_or, take}
+use Rattle.std.proofs.Common.{◌≡◌, ◌≢◌, ℕ, zero, suc, ◌+◌, ◌-◌, ◌<◌, ◌≤◌, List, [], ◌∷◌, ◌++◌, length, get_or}
 use Rattle.std.proofs.Common.{Some, None, refl, inl, inr, arith, ap, sym, subst, ◌∙◌}
 use Rattle.std.specs.Prelude.{slice_get}
 use Rattle.std.specs.List.{All, AllPairs}
@@ -11,12 +11,12 @@ use Rattle.rows.specs.Forcing.{set_true}
 use Rattle.rows.specs.Cardinality.{at_least, unit}
 use Rattle.rows.specs.Literals.{Literal}
 use Rattle.rows.specs.Rows.{IsRow, Row}
-use Rattle.rows.specs.Partials.{Forces, IsInConflict, IsQuiet, IsQuietRow, is_free, reach, value_of}
+use Rattle.rows.specs.Partials.{IsQuiet, IsQuietRow, is_free, reach, value_of}
 use Rattle.rows.specs.declared.lit.Term.{Term}
 use Rattle.rows.specs.declared.partial.Value.{Value}
 use Rattle.rows.specs.declared.partial.Value.TheVariants.{True, Free}
 use Rattle.rows.proofs.UnitLemmas.{IsRow-at_least}
-use Rattle.propagate.specs.Trails.{AreLawful, IsBackTo, IsForcedBy, IsGrown, IsLawful, IsNew, IsNumbered, KnowsVariables, level_of, values_of}
+use Rattle.propagate.specs.Trails.{AreLawful, IsBackTo, IsForcedBy, IsGrown, IsLawful, IsNumbered, KnowsVariables, level_of, values_of}
 use Rattle.propagate.specs.Paths.{SeenPath, row_at}
 use Rattle.propagate.specs.Passes.{AreSound, IsForcedUpTo, IsGrownOver, IsPassed}
 use Rattle.propagate.specs.declared.entry.Entry.{Entry}
@@ -175,10 +175,10 @@ IsForcedUpTo-step rows terms place degree reached number k t old now new sound t
       ]
       | inr enough ↦ unforced (λ free. enough)
     ] where
-  unforced : (value_of (values_of now.entries) t.lit ≡ Free → degree + t.coef ≤ reached) → IsForcedUpTo rows terms degree reached (k + 1) old new
-  unforced none =
-      subst (λ (p : SeenPath). IsForcedUpTo rows terms degree reached (k + 1) old p) (sym (kept none))
-      (IsForcedUpTo-pass rows terms degree reached k t old now so_far inside at none)
+      unforced : (value_of (values_of now.entries) t.lit ≡ Free → degree + t.coef ≤ reached) → IsForcedUpTo rows terms degree reached (k + 1) old new
+      unforced none =
+          subst (λ (p : SeenPath). IsForcedUpTo rows terms degree reached (k + 1) old p) (sym (kept none))
+          (IsForcedUpTo-pass rows terms degree reached k t old now so_far inside at none)
 
 -- all terms were looked at
 pub IsQuietRow-forced : (rows : List Row) (terms : List Term) (place degree reached : ℕ) (old now : SeenPath) → terms ≡ (row_at rows place).terms → degree ≡ (row_at rows place).degree

@@ -1,9 +1,8 @@
 -- The table of values through an entry more or less.
-use Rattle.std.proofs.Common.{◌≡◌, ◌≢◌, ℕ, zero, suc, ◌+◌, ◌-◌, ◌*◌, ◌<◌, ◌≤◌, ◌^◌, Bool, true, false, cond, List, [], ◌∷◌, ◌++◌, length, get_or, take, replicate}
-use Rattle.std.proofs.Common.{refl, inl, inr, arith, ap, sym, subst, ◌∙◌, get_or-set_same}
+use Rattle.std.proofs.Common.{◌≡◌, ℕ, zero, suc, ◌+◌, ◌-◌, ◌*◌, ◌<◌, ◌≤◌, ◌^◌, Bool, true, false, cond, List, [], ◌∷◌, ◌++◌, length, get_or, take, replicate}
+use Rattle.std.proofs.Common.{refl, inl, inr, arith, ap, sym, subst, ◌∙◌}
 use Rattle.std.specs.Prelude.{slice_set}
-use Rattle.std.specs.List.{All, sum_by}
-use Rattle.std.proofs.lemmas.Bool.{cases_eq, false≢true}
+use Rattle.std.proofs.lemmas.Bool.{cases_eq}
 use Rattle.std.proofs.lemmas.List.{length-replicate, length-set, length_push, length-take-le, take_all, take_more}
 use Rattle.std.proofs.lemmas.List.Sums.{sum_by-cons, sum_by-le, sum_by-set}
 use mathlib.Core.Path.{fun_ext}
@@ -14,10 +13,10 @@ use Rattle.rows.specs.Values.{valued}
 use Rattle.rows.specs.declared.partial.Value.{Value}
 use Rattle.rows.specs.declared.partial.Value.TheVariants.{True, False, Free}
 use Rattle.rows.proofs.TrailLemmas.{valued-at, valued-none, valued-set, valued-set_other, valued-set_same}
-use Rattle.propagate.specs.Trails.{EachEntry, IsNew, is_decision, level_of, values_of}
+use Rattle.propagate.specs.Trails.{EachEntry, IsNew, level_of, values_of}
 use Rattle.propagate.specs.Paths.{AreKept, SeenPath, one_if_set, set_count}
 use Rattle.propagate.specs.declared.entry.Entry.{Entry}
-use Rattle.propagate.proofs.EntryLemmas.{each-nil, each-push, each-take, level_of-push, level_of-take_le, values_of-push}
+use Rattle.propagate.proofs.EntryLemmas.{each-nil, each-push, each-take, values_of-push}
 use Rattle.propagate.proofs.ValueLemmas.{free_is, is_free_var, set_true-other, set_true-same}
 
 -- ---- how many have a value

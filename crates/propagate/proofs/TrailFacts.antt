@@ -1,5 +1,5 @@
 -- Seven variables and six clauses, worked out by hand: the values and levels that entries give, and what is forced.
-use Rattle.std.proofs.Common.{◌≡◌, ℕ, ◌<◌, List, [], ◌∷◌, map, take, Option, Some, None, refl, arith, lit<}
+use Rattle.std.proofs.Common.{◌≡◌, ℕ, List, [], ◌∷◌, map, take, Option, Some, None, refl, arith, lit<}
 use Rattle.rows.specs.Cardinality.{at_least}
 use Rattle.rows.specs.Literals.{Literal, yes, no}
 use Rattle.rows.specs.Rows.{Row}

@@ -75,7 +75,7 @@ fn force_term(term: Term, degree: u64, reached: u128, number: u64, path: &mut Pa
     ensures vars { path.new.vars ≡ path.old.vars }
     ensures forced { value_of (values_of path.old.entries) term.lit ≡ Value.Free → reached < degree + term.coef
         → (1 ≤ term.lit.var) × (path.new.entries ≡ path.old.entries
-            ++ record { lit = term.lit; level = level_of path.old.entries; reason = Some number } ∷ []) }
+        ++ record { lit = term.lit; level = level_of path.old.entries; reason = Some number } ∷ []) }
     ensures kept { (value_of (values_of path.old.entries) term.lit ≡ Value.Free → degree + term.coef ≤ reached)
         → path.new ≡ path.old }
 {

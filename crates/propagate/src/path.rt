@@ -67,7 +67,11 @@ impl Path {
         ensures { result ≡ level_of self.now.entries }
     {
         let len = self.entries.len();
-        if len == 0 { 0 } else { self.entries[len - 1].level }
+        if len == 0 {
+            0
+        } else {
+            self.entries[len - 1].level
+        }
     }
 
     /// The value of a literal.

@@ -1,4 +1,4 @@
-use Rattle.std.proofs.Common.{◌+◌, ◌≤◌, refl, arith}
+use Rattle.std.proofs.Common.{◌+◌, refl, arith}
 use Rattle.propagate.proofs.PassLemmas.{IsForcedUpTo-step}
 use Rattle.propagate.proofs.pass.force_row.Goals as goal
 

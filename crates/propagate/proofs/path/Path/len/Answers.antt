@@ -1,6 +1,6 @@
-use Rattle.std.proofs.Common.{◌≡◌, ◌<◌, ◌≤◌, length, arith, ap, sym, subst}
+use Rattle.std.proofs.Common.{◌≡◌, length, arith, ap}
 use Rattle.propagate.specs.Paths.{SeenPath}
-use Rattle.propagate.proofs.PathLemmas.{AreKept-few, AreKept-room, room_inside}
+use Rattle.propagate.proofs.PathLemmas.{AreKept-few, room_inside}
 use Rattle.propagate.proofs.path.Path.len.Goals as goal
 
 pub returns-clause-at_most : goal.returns-clause-at_most

@@ -1,7 +1,6 @@
-use Rattle.std.proofs.Common.{◌≡◌, ◌<◌, ◌≤◌, ◌++◌, [], ◌∷◌, List, length, arith, ap, ◌∙◌, true}
+use Rattle.std.proofs.Common.{◌≡◌, ◌<◌, ◌≤◌, ◌++◌, [], ◌∷◌, length, arith, ap}
 use Rattle.std.specs.Prelude.{is_ok}
 use Rattle.std.specs.Vec.{vec_capacity}
-use Rattle.propagate.specs.Paths.{SeenPath}
 use Rattle.propagate.specs.Trails.{IsNew}
 use Rattle.propagate.proofs.PathLemmas.{AreKept-pushed, AreKept-room, IsNew-inside, pushed}
 use Rattle.propagate.proofs.path.Path.set.Goals as goal
