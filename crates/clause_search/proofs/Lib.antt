@@ -1,5 +1,12 @@
--- Literals made true in turn, and the clause of an analysis:
+-- Literals made true in turn, and the clause of an analysis, which follows:
 pub mod ReplayLemmas
 pub mod AnalysisLemmas
+-- Trails, and the clause of an analysis, which is empowering:
+pub mod TrailLaws
+pub mod EmpoweringLemmas
+-- Logs of news, which have fewer steps than there are clauses:
+pub mod CountLemmas
+-- Values at which propagation stands still:
+pub mod SatLemmas
 -- Worked examples, so that a wrong definition does not check:
 pub mod NewsFacts

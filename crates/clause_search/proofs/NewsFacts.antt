@@ -6,7 +6,7 @@ use Rattle.rows.specs.Rows.{Row}
 use Rattle.rows.specs.Partials.{IsEmpowering, IsQuiet, IsQuietRow, reach, value_of}
 use Rattle.rows.specs.Cardinality.{at_least}
 use Rattle.rows.specs.declared.lit.Term.{Term}
-use Rattle.std.proofs.lemmas.List.Elements.{All-cons, All-nil}
+use Rattle.std.proofs.lemmas.List.Elements.{All-from_recursion}
 use Rattle.rows.specs.declared.partial.Value.TheVariants.{False, Free}
 use Rattle.refutation.specs.Steps.{Step}
 use Rattle.refutation.specs.Steps.Step.{Clause}
@@ -49,12 +49,9 @@ quiet_two l m two = record {
 
 pub six_quiet : IsQuiet all_free six
 six_quiet =
-    All-cons (IsQuietRow all_free) _ _ (quiet_two (no 3) (yes 4) refl)
-    (All-cons (IsQuietRow all_free) _ _ (quiet_two (no 4) (yes 5) refl)
-    (All-cons (IsQuietRow all_free) _ _ (quiet_two (no 4) (yes 6) refl)
-    (All-cons (IsQuietRow all_free) _ _ (quiet_two (no 5) (no 6) refl)
-    (All-cons (IsQuietRow all_free) _ _ (quiet_two (yes 4) (yes 7) refl)
-    (All-cons (IsQuietRow all_free) _ _ (quiet_two (yes 4) (no 7) refl) (All-nil (IsQuietRow all_free)))))))
+    All-from_recursion (IsQuietRow all_free) six
+    (quiet_two (no 3) (yes 4) refl, (quiet_two (no 4) (yes 5) refl, (quiet_two (no 4) (yes 6) refl,
+    (quiet_two (no 5) (no 6) refl, (quiet_two (yes 4) (yes 7) refl, (quiet_two (yes 4) (no 7) refl, tt))))))
 
 alone : (other : Literal) → Contains (no 4 ∷ []) other → other ≢ no 4 → value_of all_free other ≡ False
 alone other (zero, within, is) differs = absurd (differs (sym is))
