@@ -189,9 +189,12 @@ no_copy values old l differ there free others quiet =
 
 -- ---- the number of a clause
 
+abbrev digit_by : Bool → Bool → ℕ
+digit_by a b = cond a 1 (cond b 2 0)
+
 -- 1 where the variable stands in a clause, 2 where its negation stands alone, else 0
 abbrev digit : List Literal → ℕ → ℕ
-digit c v = cond (has c (yes v)) 1 (cond (has c (no v)) 2 0)
+digit c v = digit_by (has c (yes v)) (has c (no v))
 
 digit_at_most : (a b : Bool) → cond a 1 (cond b 2 0) ≤ 2
 digit_at_most true b = omega arith
@@ -221,13 +224,13 @@ same_digit c d (suc v) same k from_one within =
           (omega (arith, same, digit_at_most (has c (yes (suc v))) (has c (no (suc v))), digit_at_most (has d (yes (suc v))) (has d (no (suc v)))))
     ]
 
-yes_moves : (a b c d : Bool) → cond a 1 (cond b 2 0) ≡ cond c 1 (cond d 2 0) → a ≡ true → c ≡ true
+yes_moves : (a b c d : Bool) → digit_by a b ≡ digit_by c d → a ≡ true → c ≡ true
 yes_moves true b true d same is = refl
 yes_moves true b false true same is = absurd (omega (arith, same))
 yes_moves true b false false same is = absurd (omega (arith, same))
 yes_moves false b c d same is = absurd (false≢true is)
 
-no_moves : (a b c d : Bool) → cond a 1 (cond b 2 0) ≡ cond c 1 (cond d 2 0) → a ≡ false → b ≡ true → d ≡ true
+no_moves : (a b c d : Bool) → digit_by a b ≡ digit_by c d → a ≡ false → b ≡ true → d ≡ true
 no_moves true b c d same none is = absurd (false≢true (sym none))
 no_moves false false c d same none is = absurd (false≢true is)
 no_moves false true true d same none is = absurd (omega (arith, same))

@@ -4,6 +4,10 @@ pub mod AnalysisLemmas
 -- Trails, and the clause of an analysis, which is empowering:
 pub mod TrailLaws
 pub mod EmpoweringLemmas
+-- Marks, term by term:
+pub mod MarkLemmas
+-- The walk of an analysis, place by place:
+pub mod WalkLemmas
 -- Logs of news, which have fewer steps than there are clauses:
 pub mod CountLemmas
 -- Values at which propagation stands still:

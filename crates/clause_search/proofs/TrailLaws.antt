@@ -19,7 +19,7 @@ use Rattle.clause_search.proofs.AnalysisLemmas.{AreFresh}
 use Rattle.clause_search.specs.Trails.{before, entry_at, lit_at, no_entry}
 
 -- one place more
-before-more : (es : List Entry) (k : ℕ) → k < length es → before es (k + 1) ≡ set_true (before es k) (lit_at es k)
+pub before-more : (es : List Entry) (k : ℕ) → k < length es → before es (k + 1) ≡ set_true (before es k) (lit_at es k)
 before-more es k within = ap values_of (take_more es k no_entry within) ∙ values_of-push (take k es) (entry_at es k)
 
 -- a literal is free before its place

@@ -9,3 +9,5 @@ pub mod Answers
 pub mod Analysis
 -- The places of a trail:
 pub mod Trails
+-- How an analysis marks the places of a trail:
+pub mod Marks

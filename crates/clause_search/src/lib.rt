@@ -1,7 +1,9 @@
 //! A search that learns clauses: values that satisfy rows, or a log that refutes them.
 #![tactic(auto)]
 
+mod analyze;
 mod found;
+mod mark;
 mod role;
 
 pub use found::Found;
