@@ -1,0 +1,13 @@
+use Rattle.std.proofs.Common.{◌≡◌, length, arith, ap}
+use Rattle.propagate.specs.Paths.{SeenPath}
+use Rattle.propagate.proofs.PathLemmas.{AreKept-few, room_inside}
+use Rattle.propagate.proofs.path.Path.len.Goals as goal
+
+pub returns-clause-at_most : goal.returns-clause-at_most
+returns-clause-at_most c =
+    let vars_are : length c.self.inside.values ≡ c.args.self.now.vars = ap (λ (p : SeenPath). p.vars) c.self.view_is in
+    omega (arith, vars_are, AreKept-few c.self.inside.values c.self.inside.entries.items _ c.self.invariant, c.self.inside.entries.ok)
+
+pub returns-clause-room : goal.returns-clause-room
+returns-clause-room c = λ l from_one known free.
+    room_inside c.self.inside.values c.self.inside.entries.items c.args.self.now _ l c.self.invariant c.self.view_is from_one known free

@@ -1,0 +1,15 @@
+//! A trail over pseudo-Boolean rows: literals that are made true one after another, by decisions and by what the rows
+//! force, and taken off again.
+//!
+//! A contract sees a `Trail` as its number of variables, its rows, with the added clauses behind them, and its entries
+//! in their order. `specs/Trails.antt` says what these mean.
+#![tactic(auto)]
+
+mod entry;
+mod numbered;
+mod pass;
+mod path;
+mod trail;
+
+pub use entry::{Conflict, Entry};
+pub use trail::Trail;
