@@ -1,5 +1,5 @@
 -- Logs of clauses, worked out by hand: four teams, of which none may be at home in slot 0.
-use Rattle.std.proofs.Common.{◌≡◌, ℕ, Some, List, [], ◌∷◌, ◌++◌, replicate, refl}
+use Rattle.std.proofs.Common.{◌≡◌, Some, List, [], ◌∷◌, ◌++◌, replicate, refl}
 use Rattle.rows.specs.Literals.{yes, no}
 use Rattle.rows.specs.Rows.{Row}
 use Rattle.rows.specs.Cardinality.{at_least}

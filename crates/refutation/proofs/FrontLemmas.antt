@@ -1,16 +1,15 @@
 -- Steps that stand in front of bytes.
-use Rattle.std.proofs.Common.{◌≡◌, ℕ, ◌+◌, ◌-◌, ◌*◌, ◌%◌, ◌^◌, ◌<◌, ◌≤◌, Bool, true, false, not, ◌&&◌, nat_eq, nat_lt}
-use Rattle.std.proofs.Common.{List, [], ◌∷◌, ◌++◌, length, take, drop, get_or, Option, Some, None, Ok}
+use Rattle.std.proofs.Common.{◌≡◌, ℕ, ◌+◌, ◌-◌, ◌*◌, ◌%◌, ◌^◌, ◌<◌, ◌≤◌, Bool, true, false, not, ◌&&◌, nat_eq}
+use Rattle.std.proofs.Common.{List, [], ◌∷◌, ◌++◌, length, take, drop, get_or, Option, Some, None}
 use Rattle.std.proofs.Common.{refl, arith, ap, sym, ◌∙◌, append_assoc, length-append, decimal}
 use Rattle.std.specs.Prelude.{codes, IfSome, if◌then◌else◌, is_some}
-use Rattle.std.specs.List.{All, flat_map, list_all, starts_with}
+use Rattle.std.specs.List.{flat_map, list_all, starts_with}
 use Rattle.std.specs.Borrow.{Bor}
 use Rattle.std.specs.Char.{is_ascii_digit}
 use Rattle.std.proofs.lemmas.Bool.Decides.{nat_tests}
 use Rattle.std.proofs.lemmas.Fmt.{decimal-digits_value}
 use Rattle.std.proofs.lemmas.List.{append-nil, get_or-take, length-take, take-append-drop}
 use Rattle.std.proofs.lemmas.List.Elements.{All-nil, All-push, All-weaker}
-use Rattle.std.proofs.Math.Seq.{take-append_seam}
 use Rattle.robin_io.proofs.NumberLemmas.{ascii_digits}
 use Rattle.robin_io.specs.Numbers.{is_number}
 use Rattle.rows.specs.Literals.{Literal}
@@ -21,13 +20,13 @@ use Rattle.refutation.specs.Logs.{most_bytes}
 use Rattle.refutation.specs.Texts.{clause_mark, literal_text, literal_token, number_text, part_text, step_line_text}
 use Rattle.refutation.specs.Texts.{step_text}
 use Rattle.refutation.specs.Written.{IsFactored, IsOf, IsSmall, IsVariable}
-use Rattle.refutation.specs.Fronts.{AddsBoth, AddsParts, AddsStepLine, AreFewDigits, ArePartHints, BeginsNumber}
+use Rattle.refutation.specs.Fronts.{AddsBoth, AddsParts, AreFewDigits, ArePartHints, BeginsNumber}
 use Rattle.refutation.specs.Fronts.{IsHint, IsHintInFront, IsLiteralInFront, IsLonger, IsNumberBefore, IsPartInFront}
 use Rattle.refutation.specs.Fronts.{IsVariableInFront, StandInFront, TakesItems, TakesStep}
 use Rattle.refutation.specs.declared.step.Part.{Part}
 use Rattle.refutation.specs.declared.version.Version.{Version}
 use Rattle.refutation.specs.declared.version.Version.TheVariants.{One, Two}
-use Rattle.refutation.proofs.TokenLemmas.{count-positive, digits-more, fails, short-fits, value-more}
+use Rattle.refutation.proofs.TokenLemmas.{count-positive, digits-more, short-fits, value-more}
 
 -- ---- one number
 
@@ -190,20 +189,32 @@ module _ {T : Type 0} (text : T → List ℕ) (Is : T → Type 0) (bytes : List 
 
 pub hint-shorter : (bytes left : List ℕ) (hint : ℕ) → IsHintInFront bytes hint left → length left < length bytes
 hint-shorter bytes left hint found =
-    omega (arith, ap length found.written, length-append (number_text hint) left,
-    length-append (decimal hint) (codes " "))
+    omega (
+      arith,
+      ap length found.written,
+      length-append (number_text hint) left,
+      length-append (decimal hint) (codes " "),
+    )
 
 pub literal-shorter : (bytes left : List ℕ) (lit : Literal) → IsLiteralInFront bytes lit left
     → length left < length bytes
 literal-shorter bytes left lit found =
-    omega (arith, ap length found.written, length-append (literal_text lit) left,
-    length-append (literal_token lit) (codes " "))
+    omega (
+      arith,
+      ap length found.written,
+      length-append (literal_text lit) left,
+      length-append (literal_token lit) (codes " "),
+    )
 
 pub part-shorter : (bytes left : List ℕ) (part : Part) → IsPartInFront bytes part left → length left < length bytes
 part-shorter bytes left part found =
-    omega (arith, ap length found.written, length-append (part_text part) left,
-    length-append (number_text part.factor) (number_text part.row),
-    length-append (decimal part.row) (codes " "))
+    omega (
+      arith,
+      ap length found.written,
+      length-append (part_text part) left,
+      length-append (number_text part.factor) (number_text part.row),
+      length-append (decimal part.row) (codes " "),
+    )
 
 -- ---- a line
 
@@ -240,8 +251,13 @@ clause-front version bytes text zero second end left lits lits' rows rows' mark 
       numbers = second_group.added;
       line = record {
         written = written;
-        short = omega (arith, ap length written, length-append (step ++ codes "\n") left,
-            length-append step (codes "\n"), short);
+        short = omega (
+          arith,
+          ap length written,
+          length-append (step ++ codes "\n") left,
+          length-append step (codes "\n"),
+          short,
+        );
         of = clause-of version first.items second_group.items;
         small = (first.are, All-weaker IsHint IsSmall (λ hint is. is.small) second_group.items second_group.are);
         rows = All-weaker IsHint (λ (hint : ℕ). 1 ≤ hint) (λ hint is. is.some) second_group.items second_group.are;
@@ -273,8 +289,13 @@ linear-front bytes text zero second left divisor old new mark first space last s
       added = first.added;
       line = record {
         written = written;
-        short = omega (arith, ap length written, length-append (step ++ codes "\n") left,
-            length-append step (codes "\n"), short);
+        short = omega (
+          arith,
+          ap length written,
+          length-append (step ++ codes "\n") left,
+          length-append step (codes "\n"),
+          short,
+        );
         of = tt;
         small = (All-weaker ArePartHints IsFactored factored first.items first.are, last.is.some, last.is.small);
         rows = All-weaker ArePartHints (λ (part : Part). 1 ≤ part.row) (λ part are. are.row.some) first.items first.are;

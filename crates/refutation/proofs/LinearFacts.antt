@@ -1,6 +1,6 @@
 -- Logs with sums of rows, worked out by hand: four teams, each at home at most once in the slots 0 to 2.
-use Rattle.std.proofs.Common.{◌≡◌, ℕ, ◌+◌, ◌*◌, true, false, List, [], ◌∷◌, ◌++◌, map, replicate, refl}
-use Rattle.std.specs.Prelude.{Result, Ok, Err}
+use Rattle.std.proofs.Common.{◌≡◌, ℕ, ◌+◌, ◌*◌, List, [], ◌∷◌, ◌++◌, map, replicate, refl}
+use Rattle.std.specs.Prelude.{Ok, Err}
 use Rattle.rows.specs.Literals.{Literal, yes, no}
 use Rattle.rows.specs.Rows.{Row}
 use Rattle.rows.specs.Cardinality.{at_least}

@@ -146,8 +146,8 @@ pub record IsAtLine (at : Place) (version : Version) : Type 0 where
 
 -- what stands in front of what is left was read
 pub record ReadsFront (before : Place) (old : List Step) (bytes left : List ℕ) (now : Place) (new : List Step) : Type 0
-    where
-  pub front : List ℕ
-  pub parts : bytes ≡ front ++ left
-  pub read : ReadsOn before old front now new
-  pub line : now.line + length left ≤ before.line + length bytes
+  where
+    pub front : List ℕ
+    pub parts : bytes ≡ front ++ left
+    pub read : ReadsOn before old front now new
+    pub line : now.line + length left ≤ before.line + length bytes

@@ -1,8 +1,7 @@
 // Steps in front of bytes, read in one pass where their line is as a log's text has it and no number has more
 // than 19 digits. Any other line is left to the reader of whole lines, which knows its fault.
-ghost use Rattle.std.specs.Prelude.{◌≡◌, ◌∷◌, ◌++◌, ◌<◌, ◌≤◌, IfSome, IsTrue, length, slice_index};
+ghost use Rattle.std.specs.Prelude.{◌≡◌, ◌∷◌, ◌++◌, IfSome};
 ghost use Rattle.std.specs.Bool.{OnTrue};
-ghost use Rattle.std.specs.Char.{is_ascii_digit};
 ghost use Rattle.refutation.specs.Texts.{clause_mark, literal_text, number_text, part_text};
 ghost use Rattle.refutation.specs.Written.{IsVariable};
 ghost use Rattle.refutation.specs.Fronts.{AreFewDigits, ArePartHints, BeginsNumber, IsHint, IsHintInFront};
@@ -186,8 +185,8 @@ fn behind_mark(version: Version, bytes: &[u8]) -> Option<&[u8]>
     }
 }
 
-/// Adds the literals and the hints of the clause step whose line stands in front, and gives what is behind its LF. Where
-/// it gives nothing, some may have been added.
+/// Adds the literals and the hints of the clause step whose line stands in front, and gives what is behind its LF.
+/// Where it gives nothing, some may have been added.
 pub(crate) fn clause_in_front<'a>(
     version: Version,
     bytes: &'a [u8],
@@ -229,12 +228,9 @@ fn behind_linear_mark(bytes: &[u8]) -> Option<&[u8]>
     }
 }
 
-/// Adds the parts of the linear step whose line stands in front, and gives its divisor and what is behind its LF. Where it
-/// gives nothing, some may have been added.
-pub(crate) fn linear_in_front<'a>(
-    bytes: &'a [u8],
-    parts: &mut Vec<Part>,
-) -> Option<(u64, &'a [u8])>
+/// Adds the parts of the linear step whose line stands in front, and gives its divisor and what is behind its LF.
+/// Where it gives nothing, some may have been added.
+pub(crate) fn linear_in_front<'a>(bytes: &'a [u8], parts: &mut Vec<Part>) -> Option<(u64, &'a [u8])>
     ensures { TakesLinear bytes.now result parts.old.items parts.new.items }
 {
     let Some(text) = behind_linear_mark(bytes) else {

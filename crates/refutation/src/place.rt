@@ -164,11 +164,7 @@ impl Place {
     }
 
     /// Reads on over the lines in front that are steps as a log's text has them, and gives what is behind them.
-    fn plain_lines<'a>(
-        &mut self,
-        bytes: &'a [u8],
-        steps: &mut Log,
-    ) -> Result<&'a [u8], AllocError>
+    fn plain_lines<'a>(&mut self, bytes: &'a [u8], steps: &mut Log) -> Result<&'a [u8], AllocError>
         requires line { self.old.line + length bytes.now < 2 ^ 64 }
         requires place { IsPlace (place_of self.old) }
         ensures place { IsPlace (place_of self.new) }

@@ -1,4 +1,3 @@
-use Rattle.std.proofs.Common.{refl}
 use Rattle.refutation.specs.Texts.{number_text}
 use Rattle.refutation.specs.Fronts.{IsHint}
 use Rattle.refutation.proofs.FrontLemmas.{hint-shorter, stand-more, stand-pushed, stand-start, stand-zero}

@@ -1,4 +1,4 @@
-use Rattle.refutation.proofs.FrontLemmas.{negated-front, positive-front}
+use Rattle.refutation.proofs.FrontLemmas.{positive-front}
 use Rattle.refutation.proofs.front.literal_in_front.Goals as goal
 
 pub returns-in_default : goal.returns-in_default

@@ -1,4 +1,3 @@
-use Rattle.std.proofs.Common.{refl}
 use Rattle.refutation.specs.Texts.{literal_text}
 use Rattle.refutation.specs.Written.{IsVariable}
 use Rattle.refutation.proofs.FrontLemmas.{literal-shorter, stand-more, stand-pushed, stand-start, stand-zero}

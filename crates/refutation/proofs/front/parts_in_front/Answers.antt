@@ -1,4 +1,3 @@
-use Rattle.std.proofs.Common.{refl}
 use Rattle.refutation.specs.Texts.{part_text}
 use Rattle.refutation.specs.Fronts.{ArePartHints}
 use Rattle.refutation.proofs.FrontLemmas.{part-shorter, stand-more, stand-pushed, stand-start, stand-zero}
