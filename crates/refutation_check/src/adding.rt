@@ -1,7 +1,6 @@
 //! The rows of a linear step, added up.
-ghost use Rattle.std.specs.Prelude.{◌≡◌, ◌≤◌, IfOk};
+ghost use Rattle.std.specs.Prelude.{◌≡◌, ◌≤◌, IfOk, Result};
 ghost use Rattle.std.specs.List.{All};
-ghost use Rattle.std.specs.Prelude.{Result};
 ghost use Rattle.row_sums.specs.Sums.{Totals};
 ghost use Rattle.row_sums.specs.Tables.{totals_of};
 ghost use Rattle.refutation.specs.Following.{add_parts, add_row, row_numbered};

@@ -1,5 +1,5 @@
 //! A checker, to which the steps of a log are given one after another.
-ghost use Rattle.std.specs.Prelude.{◌≡◌, ◌+◌, ◌≤◌, ◌<◌, ◌^◌, length, IfOk, OnOk, OnErr, None};
+ghost use Rattle.std.specs.Prelude.{◌≡◌, ◌≤◌, IfOk, OnOk, OnErr};
 ghost use Rattle.std.specs.List.{All};
 ghost use Rattle.refutation.specs.Steps.Step.{Clause, Linear};
 ghost use Rattle.refutation_check.specs.Judged.{after_step, no_step_of, verdict_so_far};
