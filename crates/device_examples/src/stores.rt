@@ -4,31 +4,31 @@ use robin_io::{MemShelf, read_all};
 use std::alloc::{AllocError, Global};
 use std::io;
 
+/// The file that was set twice, in quotes.
+const WHOLE: &str = "'seven bytes, and a few more'";
+
 /// Reads the files of a store, and then one whose calls fail in turn.
 pub fn show(rt: &(impl AllocGlobal + Print)) -> io::Result<()> {
-    let mut shelf = shelf_of(rt.alloc())?;
-    read(
-        rt,
-        &mut shelf,
-        "a file that was set twice",
-        "a",
-        27,
-        "'seven bytes, and a few more'",
-    )?;
-    read(
-        rt,
-        &mut shelf,
-        "a file above the limit",
-        "a",
-        26,
-        "TooLong 26",
-    )?;
-    read(rt, &mut shelf, "an empty file", "b", 0, "''")?;
-    read(rt, &mut shelf, "an absent file", "c", 9, "Failed")?;
+    read_anew(rt, "a file that was set twice", "a", 27, WHOLE)?;
+    read_anew(rt, "a file above the limit", "a", 26, "TooLong 26")?;
+    read_anew(rt, "an empty file", "b", 0, "''")?;
+    read_anew(rt, "an absent file", "c", 9, "Failed")?;
     for call in 1..5 {
         show_planned(rt, call)?;
     }
     Ok(())
+}
+
+/// Reads a file of a store of its own, and tells what came out.
+fn read_anew(
+    rt: &(impl AllocGlobal + Print),
+    what: &str,
+    name: &str,
+    limit: u8,
+    wanted: &str,
+) -> io::Result<()> {
+    let mut shelf = shelf_of(rt.alloc())?;
+    read(rt, &mut shelf, what, name, limit, wanted)
 }
 
 /// A store of two files, one of which was set twice.
@@ -59,15 +59,10 @@ fn read(
 fn show_planned(rt: &(impl AllocGlobal + Print), call: u64) -> io::Result<()> {
     let mut shelf = shelf_of(rt.alloc())?;
     shelf.fail_at(call)?;
-    let first = if call < 4 {
-        "Failed"
+    let (first, second) = if call < 4 {
+        ("Failed", WHOLE)
     } else {
-        "'seven bytes, and a few more'"
-    };
-    let second = if call < 4 {
-        "'seven bytes, and a few more'"
-    } else {
-        "Failed"
+        (WHOLE, "Failed")
     };
     println!(rt; "the store fails at its call {call}")?;
     read(rt, &mut shelf, "the first reading", "a", 27, first)?;
