@@ -1,8 +1,8 @@
 //! Examples of logs, and their transcript, which is compared with the file `stdout`.
 //!
-//! Each line of standard input is a number and the text of a log, in which `|` stands for LF. The text is read in pieces
-//! of so many bytes, and what was read is written back, or its fault is said. After them come lines at the limit of a
-//! line, and a log that is built step by step.
+//! Each line of standard input is a number and the text of a log, in which `|` stands for LF. The text is read in
+//! pieces of so many bytes, and what was read is written back, or its fault is said. After them come lines at the
+//! limit of a line, and a log that is built step by step.
 #![tactic(auto)]
 
 mod built;

@@ -239,10 +239,12 @@ clause-front version bytes text zero second end left lits lits' rows rows' mark 
     let written : bytes ≡ step_line_text version (Clause first.items second_group.items) ++ left =
     mark ∙ ap (λ (bs : List ℕ). clause_mark version ++ bs) first.written
     ∙ ap (λ (bs : List ℕ). clause_mark version ++ (flat_map literal_text first.items ++ 48 ∷ bs)) space
-    ∙ ap (λ (bs : List ℕ). clause_mark version ++ (flat_map literal_text first.items ++ 48 ∷ 32 ∷ bs)) second_group.written
+    ∙ ap (λ (bs : List ℕ). clause_mark version ++ (flat_map literal_text first.items ++ 48 ∷ 32 ∷ bs))
+    second_group.written
     ∙ ap (λ (bs : List ℕ). clause_mark version ++
     (flat_map literal_text first.items ++ 48 ∷ 32 ∷ (flat_map number_text second_group.items ++ 48 ∷ bs))) lf
-    ∙ line-regroup (clause_mark version) (flat_map literal_text first.items) (flat_map number_text second_group.items) left in
+    ∙ line-regroup (clause_mark version) (flat_map literal_text first.items)
+    (flat_map number_text second_group.items) left in
     let step : List ℕ = step_text version (Clause first.items second_group.items) in
     record {
       clause = first.items;
@@ -298,7 +300,8 @@ linear-front bytes text zero second left divisor old new mark first space last s
         );
         of = tt;
         small = (All-weaker ArePartHints IsFactored factored first.items first.are, last.is.some, last.is.small);
-        rows = All-weaker ArePartHints (λ (part : Part). 1 ≤ part.row) (λ part are. are.row.some) first.items first.are;
+        rows = All-weaker ArePartHints (λ (part : Part). 1 ≤ part.row) (λ part are. are.row.some) first.items
+            first.are;
       };
       factors = All-weaker ArePartHints (λ (part : Part). 1 ≤ part.factor) (λ part are. are.factor.some) first.items
           first.are;

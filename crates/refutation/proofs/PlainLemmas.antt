@@ -29,55 +29,55 @@ next_line at = record {
   fault = at.fault;
 }
 
-module _ (version : Version) (bytes left : List ℕ) (old new : List Step) (adds : AddsStepLine version bytes left old new)
-  where
-    pub clause-shorter : length left < length bytes
-    clause-shorter = omega (
-      arith,
-      ap length adds.line.written,
-      length-append (step_line_text version adds.step) left,
-      length-append (step_text version adds.step) (codes "\n"),
-    )
+module _ (version : Version) (bytes left : List ℕ) (old new : List Step)
+    (adds : AddsStepLine version bytes left old new) where
+  pub clause-shorter : length left < length bytes
+  clause-shorter = omega (
+    arith,
+    ap length adds.line.written,
+    length-append (step_line_text version adds.step) left,
+    length-append (step_text version adds.step) (codes "\n"),
+  )
 
-    no-line_feed : Lacks is_line_feed (step_text version adds.step)
-    no-line_feed = All-weaker (λ (b : ℕ). 32 ≤ b) (λ (b : ℕ). is_line_feed b ≡ false) line_feed-apart
-        (step_text version adds.step)
-        (step-line version adds.step adds.line.small)
+  no-line_feed : Lacks is_line_feed (step_text version adds.step)
+  no-line_feed = All-weaker (λ (b : ℕ). 32 ≤ b) (λ (b : ℕ). is_line_feed b ≡ false) line_feed-apart
+      (step_text version adds.step)
+      (step-line version adds.step adds.line.small)
 
-    says-step : (at : Place) → IsAtLine at version
-        → line_of at.version (at.text ++ step_text version adds.step)
-        ≡ Ok (Says adds.step)
-    says-step at is =
-        let text : List ℕ = step_text version adds.step in
-        ap (λ (known : Option Version). line_of known (at.text ++ text)) is.known
-        ∙ ap (λ (front : List ℕ). line_of (Some version) (front ++ text)) is.text
-        ∙ line_of-step version text adds.step
-        (step_line-step_text version adds.step
-        adds.line.of adds.line.small adds.line.rows) adds.line.short
+  says-step : (at : Place) → IsAtLine at version
+      → line_of at.version (at.text ++ step_text version adds.step)
+      ≡ Ok (Says adds.step)
+  says-step at is =
+      let text : List ℕ = step_text version adds.step in
+      ap (λ (known : Option Version). line_of known (at.text ++ text)) is.known
+      ∙ ap (λ (front : List ℕ). line_of (Some version) (front ++ text)) is.text
+      ∙ line_of-step version text adds.step
+      (step_line-step_text version adds.step
+      adds.line.of adds.line.small adds.line.rows) adds.line.short
 
-    -- one line
-    pub line-front : (at : Place) → IsAtLine at version → ReadsFront at old bytes left (next_line at) new
-    line-front at is =
-        let text : List ℕ = step_text version adds.step in
-        let says : AddsLine (line_of at.version (at.text ++ text)) old new = record {
-          step = adds.step;
-          says = says-step at is;
-          added = adds.added;
-        } in
-        let next : next_line at ≡ next_place at outcomes.Step = ap (λ (front : List ℕ). let p : Place = record {
-          line = at.line + 1;
-          text = front;
-          version = at.version;
-          ended = at.ended;
-          fault = at.fault;
-        } in p) is.text in
-        record {
-          front = step_line_text version adds.step;
-          parts = adds.line.written;
-          read = fed-line at text (ap is_some is.no_fault) is.within (IsPlace-empty at is.text) no-line_feed outcomes.Step
-              (next_line at) old new says next;
-          line = omega (arith, clause-shorter);
-        }
+  -- one line
+  pub line-front : (at : Place) → IsAtLine at version → ReadsFront at old bytes left (next_line at) new
+  line-front at is =
+      let text : List ℕ = step_text version adds.step in
+      let says : AddsLine (line_of at.version (at.text ++ text)) old new = record {
+        step = adds.step;
+        says = says-step at is;
+        added = adds.added;
+      } in
+      let next : next_line at ≡ next_place at outcomes.Step = ap (λ (front : List ℕ). let p : Place = record {
+        line = at.line + 1;
+        text = front;
+        version = at.version;
+        ended = at.ended;
+        fault = at.fault;
+      } in p) is.text in
+      record {
+        front = step_line_text version adds.step;
+        parts = adds.line.written;
+        read = fed-line at text (ap is_some is.no_fault) is.within (IsPlace-empty at is.text) no-line_feed
+            outcomes.Step (next_line at) old new says next;
+        line = omega (arith, clause-shorter);
+      }
 
 -- what is behind it
 pub next-at_line : (at : Place) (version : Version) → IsAtLine at version → IsAtLine (next_line at) version

@@ -83,7 +83,7 @@ impl Log {
         Ok(())
     }
 
-    /// Adds the clause step whose line in this version stands in front of these bytes, and gives what is behind its LF.
+    /// Adds the clause step whose line in this version stands in front of these bytes, and gives what is behind it.
     fn push_clause_line<'a>(
         &mut self,
         version: Version,

@@ -23,6 +23,6 @@ loop-len-preserved c =
       some = omega arith;
       within = omega arith;
       digits = digits-more bytes len c.loop-len-test.true i.digits digit;
-      value = λ short. c.followed_by-value-in-loop-len.ensures ∙ value-more bytes len c.loop-len.value c.loop-len-test.true short
-          i.digits digit (i.value (omega arith));
+      value = λ short. c.followed_by-value-in-loop-len.ensures
+          ∙ value-more bytes len c.loop-len.value c.loop-len-test.true short i.digits digit (i.value (omega arith));
     }

@@ -19,8 +19,9 @@ returns-then-is_err c =
 pub hints-preserved : goal.hints-preserved
 hints-preserved c =
     let pushed = rw c.if-is_err.ensures.negation at c.push.ensures.items in
-    rw pushed (stand-more number_text IsHint c.args.bytes.now c.args.hints.now.items c.hints.rest.now c.in-Some.found.1.now
-    c.hints.hints.items c.in-Some.found.0 c.hints.invariant c.in-Some.ensures.written c.in-Some.ensures.is)
+    rw pushed (stand-more number_text IsHint c.args.bytes.now c.args.hints.now.items c.hints.rest.now
+    c.in-Some.found.1.now c.hints.hints.items c.in-Some.found.0 c.hints.invariant
+    c.in-Some.ensures.written c.in-Some.ensures.is)
 
 pub hints-smaller : goal.hints-smaller
 hints-smaller c = hint-shorter c.hints.rest.now c.in-Some.found.1.now c.in-Some.found.0 c.in-Some.ensures

@@ -7,5 +7,6 @@ pub returns : goal.returns
 returns c =
     let bytes = c.args.bytes.now in
     let len = c.few_digits-len.result.0 in
-    number-front bytes len c.few_digits-len.result.1 c.if-not-begins_number.ensures c.few_digits-len.ensures c.if-len-gt-SHORT.false c.args.end c.in-Some.left.now
+    number-front bytes len c.few_digits-len.result.1 c.if-not-begins_number.ensures c.few_digits-len.ensures
+    c.if-len-gt-SHORT.false c.args.end c.in-Some.left.now
     (sym (take_rest bytes len) ∙ c.in-Some.ensures)

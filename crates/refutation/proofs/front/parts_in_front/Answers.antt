@@ -19,8 +19,9 @@ returns-then-is_err c =
 pub parts-preserved : goal.parts-preserved
 parts-preserved c =
     let pushed = rw c.if-is_err.ensures.negation at c.push.ensures.items in
-    rw pushed (stand-more part_text ArePartHints c.args.bytes.now c.args.parts.now.items c.parts.rest.now c.in-Some.found.1.now
-    c.parts.parts.items c.in-Some.found.0 c.parts.invariant c.in-Some.ensures.written c.in-Some.ensures.are)
+    rw pushed (stand-more part_text ArePartHints c.args.bytes.now c.args.parts.now.items c.parts.rest.now
+    c.in-Some.found.1.now c.parts.parts.items c.in-Some.found.0 c.parts.invariant
+    c.in-Some.ensures.written c.in-Some.ensures.are)
 
 pub parts-smaller : goal.parts-smaller
 parts-smaller c = part-shorter c.parts.rest.now c.in-Some.found.1.now c.in-Some.found.0 c.in-Some.ensures
