@@ -48,12 +48,12 @@ AreExchangedBelow-more k set m s t old between new lt in_set first second before
   out_length = omega (arith, first.out_length, second.out_length, before.out_length);
   into_length = omega (arith, first.into_length, second.into_length, before.into_length);
   out_counts = λ a b r.
-    second.out a b r ∙ ap (λ (x : ℕ). x + (if (a == k) && (r == t) then m a b t else 0)) (first.out a b r)
-    ∙ out_step a k r s t (set a) (set k) (m a b r) (m a b s) (m a b t) (counts_of old.out a b r) (λ e. omega arith) (λ e. ap set e) (λ e. ap (m a b) e) (λ e. ap (m a b) e) in_set (before.out_counts a b r);
+      second.out a b r ∙ ap (λ (x : ℕ). x + (if (a == k) && (r == t) then m a b t else 0)) (first.out a b r)
+      ∙ out_step a k r s t (set a) (set k) (m a b r) (m a b s) (m a b t) (counts_of old.out a b r) (λ e. omega arith) (λ e. ap set e) (λ e. ap (m a b) e) (λ e. ap (m a b) e) in_set (before.out_counts a b r);
   into_counts = λ a b r.
-    second.into a b r ∙ ap (λ (x : ℕ). x + (if (a == k) && (r == s) then m a b t else 0)) (first.into a b r)
-    ∙ plus_comm (counts_of old.into a b r) (if (a == k) && (r == t) then m a b s else 0) (if (a == k) && (r == s) then m a b t else 0)
-    ∙ out_step a k r s t (set a) (set k) (m a b (exchange s t r)) (m a b t) (m a b s) (counts_of old.into a b r) (λ e. omega arith) (λ e. ap set e) (λ e. ap (m a b) (exchange-first s t r e)) (λ e. ap (m a b) (exchange-second s t r e)) in_set (before.into_counts a b r);
+      second.into a b r ∙ ap (λ (x : ℕ). x + (if (a == k) && (r == s) then m a b t else 0)) (first.into a b r)
+      ∙ plus_comm (counts_of old.into a b r) (if (a == k) && (r == t) then m a b s else 0) (if (a == k) && (r == s) then m a b t else 0)
+      ∙ out_step a k r s t (set a) (set k) (m a b (exchange s t r)) (m a b t) (m a b s) (counts_of old.into a b r) (λ e. omega arith) (λ e. ap set e) (λ e. ap (m a b) (exchange-first s t r e)) (λ e. ap (m a b) (exchange-second s t r e)) in_set (before.into_counts a b r);
 }
 
 pub AreExchangedBelow-skip : (k : ℕ) (set : ℕ → Bool) (m : Counts) (s t : ℕ) (edit : Edits) → set k ≡ false → AreExchangedBelow k set m s t edit → AreExchangedBelow (k + 1) set m s t edit
@@ -97,10 +97,10 @@ pub IsEdit-slots : (n : ℕ) (set : ℕ → Bool) (m : Counts) (s t : ℕ) (edit
 IsEdit-slots n set m s t edit past all = record {
   there = λ a b r. kept-le (nat_lt a n && set a && ((r == s) || (r == t))) (m a b r) (counts_of edit.out a b r) (all.out_counts a b r);
   moves = λ a b r.
-    kept-moves (nat_lt a n && set a && ((r == s) || (r == t))) (m a b r) (slots_exchanged set s t m a b r) (counts_of edit.out a b r) (counts_of edit.into a b r)
-    (all.out_counts a b r)
-    (all.into_counts a b r ∙ and_kept (nat_lt a n) (set a) ((r == s) || (r == t)) (m a b (exchange s t r)) (m a b r))
-    (λ none. untouched a n r s t (set a) (m a b) (λ le q. past a b q le) none);
+      kept-moves (nat_lt a n && set a && ((r == s) || (r == t))) (m a b r) (slots_exchanged set s t m a b r) (counts_of edit.out a b r) (counts_of edit.into a b r)
+      (all.out_counts a b r)
+      (all.into_counts a b r ∙ and_kept (nat_lt a n) (set a) ((r == s) || (r == t)) (m a b (exchange s t r)) (m a b r))
+      (λ none. untouched a n r s t (set a) (m a b) (λ le q. past a b q le) none);
 }
 
 IsGame-of : (n : ℕ) (phased : Bool) (m : Counts) (g : Game) → IsPlayed n phased m → IsWithin n m → 1 ≤ m g.home.0 g.away.0 g.slot.0 → IsGame n g
@@ -121,9 +121,9 @@ IsGame-of n phased m g played within some =
       home = home;
       away = away;
       differ = λ e.
-        let itself : m g.home.0 g.home.0 g.slot.0 ≡ 0 = met-itself n phased m g.home.0 g.slot.0 played home slot in
-        let same : m g.home.0 g.away.0 g.slot.0 ≡ m g.home.0 g.home.0 g.slot.0 = ap (λ (w : ℕ). m g.home.0 w g.slot.0) (sym e) in
-        omega (arith, itself, same, some);
+          let itself : m g.home.0 g.home.0 g.slot.0 ≡ 0 = met-itself n phased m g.home.0 g.slot.0 played home slot in
+          let same : m g.home.0 g.away.0 g.slot.0 ≡ m g.home.0 g.home.0 g.slot.0 = ap (λ (w : ℕ). m g.home.0 w g.slot.0) (sym e) in
+          omega (arith, itself, same, some);
       slot = slot;
     }
 
@@ -131,10 +131,10 @@ IsGame-of n phased m g played within some =
 pub fit-of : (n : ℕ) (phased : Bool) (before after : Counts) (edit : Edits) → IsEdit before after edit → IsPlayed n phased after → IsWithin n after → All (IsGame n) edit.into
 fit-of n phased before after edit is played within =
     All-from_get_or (IsGame n) edit.into (game 0 0 0) (λ k lt.
-      let g : Game = get_or edit.into k (game 0 0 0) in
-      let some : 1 ≤ counts_of edit.into g.home.0 g.away.0 g.slot.0 = counted_in edit.into g (Contains-get_or edit.into k (game 0 0 0) lt) in
-      let there : 1 ≤ after g.home.0 g.away.0 g.slot.0 = omega (arith, some, is.moves g.home.0 g.away.0 g.slot.0, is.there g.home.0 g.away.0 g.slot.0) in
-      IsGame-of n phased after g played within there)
+    let g : Game = get_or edit.into k (game 0 0 0) in
+    let some : 1 ≤ counts_of edit.into g.home.0 g.away.0 g.slot.0 = counted_in edit.into g (Contains-get_or edit.into k (game 0 0 0) lt) in
+    let there : 1 ≤ after g.home.0 g.away.0 g.slot.0 = omega (arith, some, is.moves g.home.0 g.away.0 g.slot.0, is.there g.home.0 g.away.0 g.slot.0) in
+    IsGame-of n phased after g played within there)
 
 -- a step of the games that two teams trade
 pub record IsTrade (m : Counts) (i j k : ℕ) (old new : Edits) : Type 0 where
@@ -196,22 +196,22 @@ AreTradedBelow-more k set m i j old between new ne in_set apart first second bef
   out_length = omega (arith, first.out_length, second.out_length, before.out_length);
   into_length = omega (arith, first.into_length, second.into_length, before.into_length);
   out_counts = λ a b r.
-    let p : Bool = (a == i) || (b == i) in
-    let q : Bool = (a == j) || (b == j) in
-    second.out a b r ∙ ap (λ (x : ℕ). x + (if (r == k) && q then m a b k else 0)) (first.out a b r)
-    ∙ trade_step r k (set r) (set k) p q (m a b r) (m a b k) (counts_of old.out a b r) (λ e. ap set e) (λ e. ap (m a b) e) in_set
-    (λ e yes_p yes_q. ap (m a b) e ∙ none_of_both m i j k a b ne apart yes_p yes_q) (before.out_counts a b r);
+      let p : Bool = (a == i) || (b == i) in
+      let q : Bool = (a == j) || (b == j) in
+      second.out a b r ∙ ap (λ (x : ℕ). x + (if (r == k) && q then m a b k else 0)) (first.out a b r)
+      ∙ trade_step r k (set r) (set k) p q (m a b r) (m a b k) (counts_of old.out a b r) (λ e. ap set e) (λ e. ap (m a b) e) in_set
+      (λ e yes_p yes_q. ap (m a b) e ∙ none_of_both m i j k a b ne apart yes_p yes_q) (before.out_counts a b r);
   into_counts = λ a b r.
-    let p : Bool = (a == i) || (b == i) in
-    let q : Bool = (a == j) || (b == j) in
-    let c : ℕ = exchange i j a in
-    let d : ℕ = exchange i j b in
-    let turned : m (exchange j i a) (exchange j i b) k ≡ m c d k = ap (λ (x : ℕ). m x (exchange j i b) k) (exchange_turned i j a) ∙ ap (λ (x : ℕ). m c x k) (exchange_turned i j b) in
-    let P : ℕ → Type 0 = λ x. counts_of new.into a b r ≡ counts_of between.into a b r + (if (r == k) && p then x else 0) in
-    subst P turned (second.into a b r) ∙ ap (λ (x : ℕ). x + (if (r == k) && p then m c d k else 0)) (first.into a b r)
-    ∙ plus_comm (counts_of old.into a b r) (if (r == k) && q then m c d k else 0) (if (r == k) && p then m c d k else 0)
-    ∙ trade_step r k (set r) (set k) p q (m c d r) (m c d k) (counts_of old.into a b r) (λ e. ap set e) (λ e. ap (m c d) e) in_set
-    (λ e yes_p yes_q. ap (m c d) e ∙ none_of_both_exchanged m i j k a b ne apart yes_p yes_q) (before.into_counts a b r);
+      let p : Bool = (a == i) || (b == i) in
+      let q : Bool = (a == j) || (b == j) in
+      let c : ℕ = exchange i j a in
+      let d : ℕ = exchange i j b in
+      let turned : m (exchange j i a) (exchange j i b) k ≡ m c d k = ap (λ (x : ℕ). m x (exchange j i b) k) (exchange_turned i j a) ∙ ap (λ (x : ℕ). m c x k) (exchange_turned i j b) in
+      let P : ℕ → Type 0 = λ x. counts_of new.into a b r ≡ counts_of between.into a b r + (if (r == k) && p then x else 0) in
+      subst P turned (second.into a b r) ∙ ap (λ (x : ℕ). x + (if (r == k) && p then m c d k else 0)) (first.into a b r)
+      ∙ plus_comm (counts_of old.into a b r) (if (r == k) && q then m c d k else 0) (if (r == k) && p then m c d k else 0)
+      ∙ trade_step r k (set r) (set k) p q (m c d r) (m c d k) (counts_of old.into a b r) (λ e. ap set e) (λ e. ap (m c d) e) in_set
+      (λ e yes_p yes_q. ap (m c d) e ∙ none_of_both_exchanged m i j k a b ne apart yes_p yes_q) (before.into_counts a b r);
 }
 
 pub AreTradedBelow-skip : (k : ℕ) (set : ℕ → Bool) (m : Counts) (i j : ℕ) (edit : Edits) → set k ≡ false → AreTradedBelow k set m i j edit → AreTradedBelow (k + 1) set m i j edit
@@ -251,8 +251,8 @@ pub IsEdit-teams : (slots : ℕ) (set : ℕ → Bool) (m : Counts) (i j : ℕ) (
 IsEdit-teams slots set m i j edit past all = record {
   there = λ a b r. kept-le (nat_lt r slots && set r && (((a == i) || (b == i)) || ((a == j) || (b == j)))) (m a b r) (counts_of edit.out a b r) (all.out_counts a b r);
   moves = λ a b r.
-    kept-moves (nat_lt r slots && set r && (((a == i) || (b == i)) || ((a == j) || (b == j)))) (m a b r) (teams_exchanged set i j m a b r) (counts_of edit.out a b r) (counts_of edit.into a b r)
-    (all.out_counts a b r)
-    (all.into_counts a b r ∙ and_kept (nat_lt r slots) (set r) (((a == i) || (b == i)) || ((a == j) || (b == j))) (m (exchange i j a) (exchange i j b) r) (m a b r))
-    (λ none. untraded slots r a b i j (set r) m (λ le c d. past c d r le) none);
+      kept-moves (nat_lt r slots && set r && (((a == i) || (b == i)) || ((a == j) || (b == j)))) (m a b r) (teams_exchanged set i j m a b r) (counts_of edit.out a b r) (counts_of edit.into a b r)
+      (all.out_counts a b r)
+      (all.into_counts a b r ∙ and_kept (nat_lt r slots) (set r) (((a == i) || (b == i)) || ((a == j) || (b == j))) (m (exchange i j a) (exchange i j b) r) (m a b r))
+      (λ none. untraded slots r a b i j (set r) m (λ le c d. past c d r le) none);
 }

@@ -36,8 +36,8 @@ met-venues i j m a b r = same_sum (are_two i j a b) (are_two i j b a) (m a b r) 
 IsPlayed-venues : (n : ℕ) (phased : Bool) (m : Counts) (i j : ℕ) → IsPlayed n phased m → IsPlayed n phased (venues_exchanged i j m)
 IsPlayed-venues n phased m i j is = record {
   meetings = λ a b lt_a lt_b ne.
-    under_test (are_two i j a b) (λ r. m b a r) (λ r. m a b r) (slot_count n)
-    ∙ one_of (are_two i j a b) (total (λ r. m b a r) (slot_count n)) (total (λ r. m a b r) (slot_count n)) (is.meetings b a lt_b lt_a (λ e. ne (sym e))) (is.meetings a b lt_a lt_b ne);
+      under_test (are_two i j a b) (λ r. m b a r) (λ r. m a b r) (slot_count n)
+      ∙ one_of (are_two i j a b) (total (λ r. m b a r) (slot_count n)) (total (λ r. m a b r) (slot_count n)) (is.meetings b a lt_b lt_a (λ e. ne (sym e))) (is.meetings a b lt_a lt_b ne);
   cells = λ a r lt_a lt_r. total-same (λ b. met (venues_exchanged i j m) a b r) (λ b. met m a b r) n (λ b lt. met-venues i j m a b r) ∙ is.cells a r lt_a lt_r;
   halves = λ phases a b lt_a lt_b ne. total-same (λ r. met (venues_exchanged i j m) a b r) (λ r. met m a b r) (n - 1) (λ r lt. met-venues i j m a b r) ∙ is.halves phases a b lt_a lt_b ne;
 }
@@ -66,14 +66,14 @@ pair_at m a b i j r p q = ap (λ (a : ℕ). m a b r) p ∙ ap (λ (b : ℕ). m i
 IsEdit-venues : (n : ℕ) (m : Counts) (i j : ℕ) (mid new : Edits) → i ≢ j → IsTurn m i j (record { n = n; out = []; into = [] }) mid → IsTurn m j i mid new → IsEdit m (venues_exchanged i j m) new
 IsEdit-venues n m i j mid new ne first second =
     let out : (a b r : ℕ) → counts_of new.out a b r ≡ (if (a == i) && (b == j) then m i j r else 0) + (if (a == j) && (b == i) then m j i r else 0) =
-      λ a b r. let e = first.out a b r in let f = second.out a b r in omega arith in
+    λ a b r. let e = first.out a b r in let f = second.out a b r in omega arith in
     let into : (a b r : ℕ) → counts_of new.into a b r ≡ (if (a == j) && (b == i) then m i j r else 0) + (if (a == i) && (b == j) then m j i r else 0) =
-      λ a b r. let e = first.into a b r in let f = second.into a b r in omega arith in
+    λ a b r. let e = first.into a b r in let f = second.into a b r in omega arith in
     record {
       there = λ a b r. turned_there a b i j (m a b r) (m i j r) (m j i r) (counts_of new.out a b r) ne (pair_at m a b i j r) (pair_at m a b j i r) (out a b r);
       moves = λ a b r.
-        turned_counts a b i j (m a b r) (m b a r) (m i j r) (m j i r) (counts_of new.out a b r) (counts_of new.into a b r) ne
-        (λ p q. (pair_at m a b i j r p q, pair_at m b a j i r q p)) (λ p q. (pair_at m a b j i r p q, pair_at m b a i j r q p)) (out a b r) (into a b r);
+          turned_counts a b i j (m a b r) (m b a r) (m i j r) (m j i r) (counts_of new.out a b r) (counts_of new.into a b r) ne
+          (λ p q. (pair_at m a b i j r p q, pair_at m b a j i r q p)) (λ p q. (pair_at m a b j i r p q, pair_at m b a i j r q p)) (out a b r) (into a b r);
     }
 
 pub home_swap-done : (r : Round) (i j : ℕ) (old mid new : Edits) → IsRound r → i < j → old ≡ record { n = r.n; out = []; into = [] } → new.n ≡ r.n → IsTurn (round_counts r) i j old mid → IsTurn (round_counts r) j i mid new → IsEditOf r.n r.phased (round_counts r) (HomeSwap (record { 0 = i }) (record { 0 = j })) true new
@@ -82,8 +82,8 @@ home_swap-done r i j old mid new round lt empty same first second =
     let P : Edits → Type 0 = λ old. IsTurn m i j old mid in
     IsEditOf-outcome r.n r.phased m (venues_exchanged i j m) (HomeSwap (record { 0 = i }) (record { 0 = j })) true new
     (IsOutcome-done r.n r.phased m (venues_exchanged i j m) new same
-      (IsEdit-venues r.n m i j mid new (λ e. omega arith) (subst P empty first) second)
-      (IsPlayed-venues r.n r.phased m i j (played r.n r.phased m round.round_robin))
-      (IsWithin-venues r.n m i j (IsWithin-of r round.table)))
+    (IsEdit-venues r.n m i j mid new (λ e. omega arith) (subst P empty first) second)
+    (IsPlayed-venues r.n r.phased m i j (played r.n r.phased m round.round_robin))
+    (IsWithin-venues r.n m i j (IsWithin-of r round.table)))
     lt
     (λ a b s. sym (times_of m (are_two i j a b) (turned (game a b s)) (game a b s)))

@@ -88,9 +88,9 @@ IsWithin-slots n m set s t within lt_s lt_t = record {
 IsWithin-teams : (n : ℕ) (m : Counts) (set : ℕ → Bool) (i j : ℕ) → IsWithin n m → i < n → j < n → IsWithin n (teams_exchanged set i j m)
 IsWithin-teams n m set i j within lt_i lt_j = record {
   home = λ a b r le. if_zero (set r) (m (exchange i j a) (exchange i j b) r) (m a b r)
-    (ap (λ (a : ℕ). m a (exchange i j b) r) (exchange-past i j n a lt_i lt_j le) ∙ within.home a (exchange i j b) r le) (within.home a b r le);
+      (ap (λ (a : ℕ). m a (exchange i j b) r) (exchange-past i j n a lt_i lt_j le) ∙ within.home a (exchange i j b) r le) (within.home a b r le);
   away = λ a b r le. if_zero (set r) (m (exchange i j a) (exchange i j b) r) (m a b r)
-    (ap (λ (b : ℕ). m (exchange i j a) b r) (exchange-past i j n b lt_i lt_j le) ∙ within.away (exchange i j a) b r le) (within.away a b r le);
+      (ap (λ (b : ℕ). m (exchange i j a) b r) (exchange-past i j n b lt_i lt_j le) ∙ within.away (exchange i j a) b r le) (within.away a b r le);
   slot = λ a b r le. if_zero (set r) (m (exchange i j a) (exchange i j b) r) (m a b r) (within.slot (exchange i j a) (exchange i j b) r le) (within.slot a b r le);
 }
 
@@ -198,9 +198,9 @@ follows-apart r i j s q round lt_i lt_j lt_s lt_q apart leads =
     let k : ℕ = f.at in
     let some : (1 ≤ met m i k s) × (1 ≤ met m j k q) = both_positive (m i k s) (m j k q) (m k i s) (m k j q) f.passes in
     let ne : i ≢ k = λ e.
-      let itself : m i i s ≡ 0 = met-itself r.n r.phased m i s is lt_i lt_s in
-      let same : met m i k s ≡ met m i i s = ap (λ (k : ℕ). met m i k s) (sym e) in
-      omega (arith, some.0, same, itself) in
+    let itself : m i i s ≡ 0 = met-itself r.n r.phased m i s is lt_i lt_s in
+    let same : met m i k s ≡ met m i i s = ap (λ (k : ℕ). met m i k s) (sym e) in
+    omega (arith, some.0, same, itself) in
     let lt_k : k < r.n = below_all r.n k f.among in
     let none : met m j i q ≡ 0 = none_else r.n r.phased m j k q i is (IsWithin-of r round.table) lt_j lt_k lt_q some.1 ne in
     no_meeting (m i j q + m j i q) (omega arith)
@@ -208,14 +208,14 @@ follows-apart r i j s q round lt_i lt_j lt_s lt_q apart leads =
 pub slots_apart-closed : (r : Round) (i j : ℕ) (set : ℕ → Bool) → IsRound r → i < r.n → j < r.n → ((q : ℕ) → q < slot_count r.n → set q ≡ not (do_meet (round_counts r) i j q)) → IsClosedSlots r.n (round_counts r) i j set
 slots_apart-closed r i j set round lt_i lt_j same = record {
   closed = λ s q lt_q in_set leads.
-    elim (cases_lt s (slot_count r.n)) as (λ _. set q ≡ true) [
-      | inl lt_s ↦
-          let apart : do_meet (round_counts r) i j s ≡ false = not-true (do_meet (round_counts r) i j s) (sym (same s lt_s) ∙ in_set) in
-          same q lt_q ∙ ap not (follows-apart r i j s q round lt_i lt_j lt_s lt_q apart leads)
-      | inr le ↦
-          let f = found_in (λ k. (nat_lt 0 (round_counts r i k s) && nat_lt 0 (round_counts r j k q)) || (nat_lt 0 (round_counts r k i s) && nat_lt 0 (round_counts r k j q))) (teams_of r.n) leads in
-          let some = both_positive (round_counts r i f.at s) (round_counts r j f.at q) (round_counts r f.at i s) (round_counts r f.at j q) f.passes in
-          absurd (omega (arith, some.0, past_last_slot r i f.at s le, past_last_slot r f.at i s le))
-    ];
+      elim (cases_lt s (slot_count r.n)) as (λ _. set q ≡ true) [
+        | inl lt_s ↦
+            let apart : do_meet (round_counts r) i j s ≡ false = not-true (do_meet (round_counts r) i j s) (sym (same s lt_s) ∙ in_set) in
+            same q lt_q ∙ ap not (follows-apart r i j s q round lt_i lt_j lt_s lt_q apart leads)
+        | inr le ↦
+            let f = found_in (λ k. (nat_lt 0 (round_counts r i k s) && nat_lt 0 (round_counts r j k q)) || (nat_lt 0 (round_counts r k i s) && nat_lt 0 (round_counts r k j q))) (teams_of r.n) leads in
+            let some = both_positive (round_counts r i f.at s) (round_counts r j f.at q) (round_counts r f.at i s) (round_counts r f.at j q) f.passes in
+            absurd (omega (arith, some.0, past_last_slot r i f.at s le, past_last_slot r f.at i s le))
+      ];
   apart = λ q lt_q in_set. not-true (do_meet (round_counts r) i j q) (sym (same q lt_q) ∙ in_set);
 }

@@ -62,11 +62,11 @@ only_one : (p : ℕ → Bool) (n w : ℕ) → w < n → ((k : ℕ) → k ≢ w �
 only_one p n w lt none =
     both_true (list_any p (range_with_len 0 n)) (p w)
     (λ any.
-      let f : IsFound p (range_with_len 0 n) = found_in p (range_with_len 0 n) any in
-      elim (cases_eq f.at w) as (λ _. p w ≡ true) [
-        | inl same ↦ ap p (sym same) ∙ f.passes
-        | inr other ↦ absurd (both_ways (p f.at) (none f.at other) f.passes)
-      ])
+    let f : IsFound p (range_with_len 0 n) = found_in p (range_with_len 0 n) any in
+    elim (cases_eq f.at w) as (λ _. p w ≡ true) [
+      | inl same ↦ ap p (sym same) ∙ f.passes
+      | inr other ↦ absurd (both_ways (p f.at) (none f.at other) f.passes)
+    ])
     (λ passes. any_of p w (range_with_len 0 n) (in_range n w lt) passes)
 
 test_home : (x y z w : ℕ) (b c : Bool) → x ≡ one_if b → z ≡ 0 → y ≡ one_if c → ((nat_lt 0 x && nat_lt 0 y) || (nat_lt 0 z && nat_lt 0 w)) ≡ (b && c)

@@ -99,7 +99,7 @@ IsGameOf-from n m i s a b g is lt_a lt_b ne lt_s plays some =
     record {
       fits = record { home = omega (arith, e.0); away = omega (arith, e.1); differ = λ h. ne (sym e.0 ∙ h ∙ e.1); slot = omega (arith, e.2) };
       of = subst (λ (h : ℕ). (((h == i) || (g.away.0 == i)) && (g.slot.0 == s)) ≡ true) (sym e.0)
-        (subst (λ (w : ℕ). (((a == i) || (w == i)) && (g.slot.0 == s)) ≡ true) (sym e.1)
+          (subst (λ (w : ℕ). (((a == i) || (w == i)) && (g.slot.0 == s)) ≡ true) (sym e.1)
           (subst (λ (t : ℕ). (((a == i) || (b == i)) && (t == s)) ≡ true) (sym e.2) (plays_there a b s i plays)));
       there = omega (arith, some, ap (λ (h : ℕ). m h g.away.0 g.slot.0) e.0, ap (λ (w : ℕ). m a w g.slot.0) e.1, ap (m a b) e.2);
     }
@@ -135,7 +135,7 @@ kept_game n phased before after edit old i s change is_old lt_i lt_s none =
     let k : ℕ = one.at in
     let is_one : met after i k s ≡ 1 = one.one in
     let ne : i ≢ k = λ h. let itself : after i i s ≡ 0 = met-itself n phased after i s change.played lt_i lt_s in
-      let at : met after i k s ≡ met after i i s = ap (λ (k : ℕ). met after i k s) (sym h) in omega (arith, is_one, at, itself) in
+    let at : met after i k s ≡ met after i i s = ap (λ (k : ℕ). met after i k s) (sym h) in omega (arith, is_one, at, itself) in
     elim (one_of_two (after i k s) (after k i s) is_one) as (λ _. IsGameOf n after i s (entry old i s)) [
       | inl home ↦
           let before_too : 1 ≤ before i k s = omega (arith, change.moves.moves i k s, none_of edit.into i s i k none (itself_first i k i refl), home) in
@@ -219,7 +219,7 @@ IsBoard-placed n phased before after edit old new old_slots new_slots teams chan
     let table : IsTable n after new = IsTable-placed n phased before after edit old new old_slots new_slots change is_old placed long in
     let slot_table : IsSlotTable n after new_slots = IsSlotTable-placed n phased before after edit old new old_slots new_slots change is_old_slots placed slots_long in
     let counts : round_counts (record { n = n; phased = phased; games = new }) ≡ after =
-      round_counts-is n phased after new change.played (IsWithin-edit n before after edit change.moves change.fit within) table in
+    round_counts-is n phased after new change.played (IsWithin-edit n before after edit change.moves change.fit within) table in
     let P : Counts → Type 0 = λ m. IsTable n m new in
     let Q : Counts → Type 0 = λ m. IsRoundRobin n phased m in
     let R : Counts → Type 0 = λ m. IsSlotTable n m new_slots in
@@ -279,9 +279,9 @@ IsPlacedAt-more placed old new g i s long fits lt_s before =
     elim (cases_Bool (is_of i s g)) as (λ _. goal) [
       | inl is ↦
           let here : entry later i s ≡ g =
-            two_sets new (g.home.0 * 78 + g.slot.0) (g.away.0 * 78 + g.slot.0) (i * 78 + s) g (game 0 0 0)
-            (omega (arith, long, fits.home, fits.slot)) (omega (arith, long, fits.away, fits.slot))
-            (which_place g.home.0 g.away.0 g.slot.0 i s is) in
+          two_sets new (g.home.0 * 78 + g.slot.0) (g.away.0 * 78 + g.slot.0) (i * 78 + s) g (game 0 0 0)
+          (omega (arith, long, fits.home, fits.slot)) (omega (arith, long, fits.away, fits.slot))
+          (which_place g.home.0 g.away.0 g.slot.0 i s is) in
           let P : Game → Type 0 = λ x. Contains (placed ++ g ∷ []) x × (is_of i s x ≡ true) in
           inr (subst P (sym here) (Contains-push placed g, is))
       | inr out ↦

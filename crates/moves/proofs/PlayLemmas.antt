@@ -57,8 +57,8 @@ IsPlayedOnce-from n phased m is = record {
   meetings = λ i j a b ne. let h : total (λ s. m i j s) (slot_count n) ≡ 1 = is.meetings i j a b ne in omega arith;
   cells = λ i s a b. let h : total (λ j. met m i j s) n ≡ 1 = is.cells i s a b in omega (arith, total-add (λ j. m i j s) (λ j. m j i s) n);
   halves = λ phases i j before last.
-    let h : total (λ s. met m i j s) (n - 1) ≡ 1 = is.halves phases i j (omega arith) last (λ e. omega arith) in
-    omega (arith, total-add (λ s. m i j s) (λ s. m j i s) (n - 1));
+      let h : total (λ s. met m i j s) (n - 1) ≡ 1 = is.halves phases i j (omega arith) last (λ e. omega arith) in
+      omega (arith, total-add (λ s. m i j s) (λ s. m j i s) (n - 1));
 }
 
 -- from a round robin and back

@@ -34,9 +34,9 @@ pub IsWithin-of : (r : Round) → IsTable r.n (round_counts r) r.games → IsWit
 IsWithin-of r table = record {
   home = λ a b s le. past_home r.n a (nat_lt s (slot_count r.n)) (is_game a b s (entry r.games a s)) le;
   away = λ a b s le.
-    let g : Game = entry r.games a s in
-    past_away r.n b g.away.0 (nat_lt a r.n) (nat_lt s (slot_count r.n)) (g.home.0 == a) (g.slot.0 == s)
-    (λ first within. (table.at a s (below-true a r.n first) (below-true s (slot_count r.n) within)).fits.away) le;
+      let g : Game = entry r.games a s in
+      past_away r.n b g.away.0 (nat_lt a r.n) (nat_lt s (slot_count r.n)) (g.home.0 == a) (g.slot.0 == s)
+      (λ first within. (table.at a s (below-true a r.n first) (below-true s (slot_count r.n) within)).fits.away) le;
   slot = λ a b s le. past_slot (slot_count r.n) s (nat_lt a r.n) (is_game a b s (entry r.games a s)) le;
 }
 
@@ -46,7 +46,6 @@ one_home i k s a b h w t x p q r ne here other back = grind (arith, nat_tests)
 
 one_away : (i k s a b h w t x : ℕ) → h ≡ k → w ≡ i → t ≡ s → i ≢ k → (a ≡ k → b ≡ i → x ≡ 1) → (b ≡ i → a ≢ k → x ≡ 0) → (a ≡ i → x ≡ 0) → (if (a == i) || (b == i) then x else 0) ≡ (if (h == a) && (w == b) && (t == s) then 1 else 0)
 one_away i k s a b h w t x p q r ne here other back = grind (arith, nat_tests)
-
 
 second_venue : (h w t i s : ℕ) → h ≢ i → (((h == i) || (w == i)) && (t == s)) ≡ true → w ≡ i
 second_venue h w t i s other is = grind (arith, nat_tests)

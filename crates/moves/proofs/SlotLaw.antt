@@ -79,28 +79,28 @@ same_half_or_value n phased m set s t a b is ss tt_ first second in_set (inr pai
 pub IsPlayed-slots_exchanged : (n : ℕ) (phased : Bool) (m : Counts) (set : ℕ → Bool) (s t : ℕ) → IsPlayed n phased m → s < t → t < slot_count n → IsClosedTeams n m s t set → AreExchangeable n phased m s t set → IsPlayed n phased (slots_exchanged set s t m)
 IsPlayed-slots_exchanged n phased m set s t is lt last closed may = record {
   meetings = λ a b first second ne.
-    under_test (set a) (λ r. m a b (exchange s t r)) (λ r. m a b r) (slot_count n)
-    ∙ one_of (set a) (total (λ r. m a b (exchange s t r)) (slot_count n)) (total (λ r. m a b r) (slot_count n))
-    (total-exchanged_all (m a b) s t (slot_count n) lt last ∙ is.meetings a b first second ne)
-    (is.meetings a b first second ne);
+      under_test (set a) (λ r. m a b (exchange s t r)) (λ r. m a b r) (slot_count n)
+      ∙ one_of (set a) (total (λ r. m a b (exchange s t r)) (slot_count n)) (total (λ r. m a b r) (slot_count n))
+      (total-exchanged_all (m a b) s t (slot_count n) lt last ∙ is.meetings a b first second ne)
+      (is.meetings a b first second ne);
   cells = λ a r first within.
-    total-same (λ b. met (slots_exchanged set s t m) a b r) (λ b. if set a then met m a b (exchange s t r) else met m a b r) n (λ b second. met-exchanged n m set s t a b r closed first second)
-    ∙ under_test (set a) (λ b. met m a b (exchange s t r)) (λ b. met m a b r) n
-    ∙ one_of (set a) (total (λ b. met m a b (exchange s t r)) n) (total (λ b. met m a b r) n)
-    (is.cells a (exchange s t r) first (exchange-below s t (slot_count n) r (omega arith) last within))
-    (is.cells a r first within);
+      total-same (λ b. met (slots_exchanged set s t m) a b r) (λ b. if set a then met m a b (exchange s t r) else met m a b r) n (λ b second. met-exchanged n m set s t a b r closed first second)
+      ∙ under_test (set a) (λ b. met m a b (exchange s t r)) (λ b. met m a b r) n
+      ∙ one_of (set a) (total (λ b. met m a b (exchange s t r)) n) (total (λ b. met m a b r) n)
+      (is.cells a (exchange s t r) first (exchange-below s t (slot_count n) r (omega arith) last within))
+      (is.cells a r first within);
   halves = λ phases a b first second ne.
-    let before : total (λ r. met m a b r) (n - 1) ≡ 1 = is.halves phases a b first second ne in
-    half_exchanged n m set s t a b closed first second
-    ∙ elim (cases_Bool (set a)) as (λ _. (if set a then total (λ r. met m a b (exchange s t r)) (n - 1) else total (λ r. met m a b r) (n - 1)) ≡ 1) [
-      | inl in_set ↦ rw in_set (
-        stays s t (n - 1) (met m a b s) (met m a b t) (total (λ r. met m a b (exchange s t r)) (n - 1)) (total (λ r. met m a b r) (n - 1)) lt
-        (same_half_or_value n phased m set s t a b is (omega arith) last first second in_set (may phases))
-        (total-exchanged (λ r. met m a b r) s t (n - 1) lt)
-        ∙ before
-      )
-      | inr out_a ↦ rw out_a before
-    ];
+      let before : total (λ r. met m a b r) (n - 1) ≡ 1 = is.halves phases a b first second ne in
+      half_exchanged n m set s t a b closed first second
+      ∙ elim (cases_Bool (set a)) as (λ _. (if set a then total (λ r. met m a b (exchange s t r)) (n - 1) else total (λ r. met m a b r) (n - 1)) ≡ 1) [
+        | inl in_set ↦ rw in_set (
+            stays s t (n - 1) (met m a b s) (met m a b t) (total (λ r. met m a b (exchange s t r)) (n - 1)) (total (λ r. met m a b r) (n - 1)) lt
+            (same_half_or_value n phased m set s t a b is (omega arith) last first second in_set (may phases))
+            (total-exchanged (λ r. met m a b r) s t (n - 1) lt)
+            ∙ before
+            )
+        | inr out_a ↦ rw out_a before
+      ];
 }
 
 is_crossed : (n s t : ℕ) → s < t → nat_lt s (n - 1) ≢ nat_lt t (n - 1) → (s < n - 1) × (n - 1 ≤ t)
@@ -122,19 +122,19 @@ AreExchangeable-of n phased m set s t is lt last closed after phases =
       | inr ne ↦
           let across : (s < n - 1) × (n - 1 ≤ t) = is_crossed n s t lt ne in
           inr (λ a b first second in_set.
-            elim (cases_eq a b) as (λ _. do_meet m a b s ≡ do_meet m a b t) [
-              | inl same ↦
-                  let itself : do_meet m a a s ≡ do_meet m a a t =
-                    both_zero (m a a s) (m a a t) (met-le-one n phased m a a s is first first (omega arith)) (met-le-one n phased m a a t is first first last) in
-                  let P : ℕ → Type 0 = λ c. do_meet m a c s ≡ do_meet m a c t in
-                  subst P same itself
-              | inr other ↦
-                  let whole = half_exchanged n m set s t a b closed first second in
-                  let when_in : (if set a then total (λ r. met m a b (exchange s t r)) (n - 1) else total (λ r. met m a b r) (n - 1)) ≡ total (λ r. met m a b (exchange s t r)) (n - 1) = rw in_set refl in
-                  let one : total (λ r. met m a b (exchange s t r)) (n - 1) ≡ 1 = sym when_in ∙ sym whole ∙ after.halves phases a b first second other in
-                  ap (λ (x : ℕ). nat_lt 0 x)
-                  (crossed s t (n - 1) (met m a b s) (met m a b t) (total (λ r. met m a b (exchange s t r)) (n - 1)) (total (λ r. met m a b r) (n - 1)) across.0 across.1
-                    (total-exchanged (λ r. met m a b r) s t (n - 1) lt)
-                    (one ∙ sym (is.halves phases a b first second other)))
-            ])
+          elim (cases_eq a b) as (λ _. do_meet m a b s ≡ do_meet m a b t) [
+            | inl same ↦
+                let itself : do_meet m a a s ≡ do_meet m a a t =
+                both_zero (m a a s) (m a a t) (met-le-one n phased m a a s is first first (omega arith)) (met-le-one n phased m a a t is first first last) in
+                let P : ℕ → Type 0 = λ c. do_meet m a c s ≡ do_meet m a c t in
+                subst P same itself
+            | inr other ↦
+                let whole = half_exchanged n m set s t a b closed first second in
+                let when_in : (if set a then total (λ r. met m a b (exchange s t r)) (n - 1) else total (λ r. met m a b r) (n - 1)) ≡ total (λ r. met m a b (exchange s t r)) (n - 1) = rw in_set refl in
+                let one : total (λ r. met m a b (exchange s t r)) (n - 1) ≡ 1 = sym when_in ∙ sym whole ∙ after.halves phases a b first second other in
+                ap (λ (x : ℕ). nat_lt 0 x)
+                (crossed s t (n - 1) (met m a b s) (met m a b t) (total (λ r. met m a b (exchange s t r)) (n - 1)) (total (λ r. met m a b r) (n - 1)) across.0 across.1
+                (total-exchanged (λ r. met m a b r) s t (n - 1) lt)
+                (one ∙ sym (is.halves phases a b first second other)))
+          ])
     ]

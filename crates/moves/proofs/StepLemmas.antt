@@ -150,7 +150,7 @@ team_way n m x s t marks at met to walk step long unmarked =
     let first : next at met ≡ true = or_left (do_meet m at met s) (do_meet m at met t) (step.at_s met ∙ eq-eqb met met refl) in
     let second : next met to ≡ true = or_right (do_meet m met to s) (do_meet m met to t) (step.met_t to ∙ eq-eqb to to refl) in
     let fresh : is_marked (set marks at true) met ≡ false =
-      get_or-set_other marks at met true false step.differ_met ∙ not_marked (is_marked marks met) (met_unmarked n m x s t marks at met to walk step unmarked) in
+    get_or-set_other marks at met true false step.differ_met ∙ not_marked (is_marked marks met) (met_unmarked n m x s t marks at met to walk step unmarked) in
     let halfway : IsOnWay next n x (set marks at true) met = way_more next n x marks at met walk.way long unmarked first step.below_met in
     way_more next n x (set marks at true) met to halfway (omega (arith, length-set marks at true)) fresh second step.below_to
 
@@ -219,7 +219,6 @@ team_walk_end n m x s t marks at walk marked lt =
     marks_are (λ a b. do_meet m a b s || do_meet m a b t) n x (marked_count marks) (is_marked marks) lt (marked-le marks n walk.way.marked)
     (team_start n m x s t marks at walk marked)
     walk.way.marked walk.way.reached_all (team_walk_closed n m x s t marks at walk marked)
-
 
 -- a mark never lowers the count
 pub count-more : (marks : List Bool) (i : ℕ) → i < length marks → marked_count marks ≤ marked_count (set marks i true)

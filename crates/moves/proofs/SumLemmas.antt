@@ -106,7 +106,7 @@ pub total-swap : (f : ℕ → ℕ → ℕ) (a b : ℕ) → total (λ x. total (f
 total-swap f zero b = sym (total-none (λ y. total (λ x. f x y) 0) b (λ y lt. refl))
 total-swap f (suc a) b =
     let longer : total (λ y. total (λ x. f x y) (suc a)) b ≡ total (λ y. total (λ x. f x y) a + f a y) b =
-      total-same (λ y. total (λ x. f x y) (suc a)) (λ y. total (λ x. f x y) a + f a y) b (λ y lt. total-suc (λ x. f x y) a) in
+    total-same (λ y. total (λ x. f x y) (suc a)) (λ y. total (λ x. f x y) a + f a y) b (λ y lt. total-suc (λ x. f x y) a) in
     omega (arith, total-suc (λ x. total (f x) b) a, total-swap f a b, longer, total-add (λ y. total (λ x. f x y) a) (f a) b)
 
 -- a number, where s is below k and t isn't
@@ -135,11 +135,11 @@ total-exchanged f s t zero lt = grind (arith, nat_tests)
 total-exchanged f s t (suc k) lt =
     let so_far = total-exchanged f s t k lt in
     let step : total (λ r. f (exchange s t r)) k + f (exchange s t k) + between s t (suc k) (f s) ≡ total f k + f k + between s t (suc k) (f t) =
-      one_more s t k (f s) (f t) (f (exchange s t k)) (f k) (total (λ r. f (exchange s t r)) k) (total f k) lt
-      (λ e. (ap f (exchange-first s t k e), ap f e))
-      (λ e. (ap f (exchange-second s t k e), ap f e))
-      (λ a b. ap f (exchange-other s t k a b))
-      so_far in
+    one_more s t k (f s) (f t) (f (exchange s t k)) (f k) (total (λ r. f (exchange s t r)) k) (total f k) lt
+    (λ e. (ap f (exchange-first s t k e), ap f e))
+    (λ e. (ap f (exchange-second s t k e), ap f e))
+    (λ a b. ap f (exchange-other s t k a b))
+    so_far in
     omega (arith, total-suc (λ r. f (exchange s t r)) k, total-suc f k, step)
 
 between-past : (s t k x : ℕ) → t < k → between s t k x ≡ 0

@@ -71,9 +71,9 @@ home-le n phased m i j set k e lt ne_i ne_j =
     let mine : OneIsOne (λ r. m i k r) (slot_count n) = slot n phased m i k e.played (omega (arith, e.before, e.last)) lt (λ h. ne_i (sym h)) in
     let its : OneIsOne (λ r. m j k r) (slot_count n) = slot n phased m j k e.played e.last lt (λ h. ne_j (sym h)) in
     let leads : set mine.at ≡ true → set its.at ≡ true = λ in_set.
-      e.slots.closed mine.at its.at its.below in_set
-      (found (λ k. (nat_lt 0 (m i k mine.at) && nat_lt 0 (m j k its.at)) || (nat_lt 0 (m k i mine.at) && nat_lt 0 (m k j its.at))) n k lt
-        (follows-at_home (m i k mine.at) (m j k its.at) (m k i mine.at) (m k j its.at) mine.one its.one)) in
+    e.slots.closed mine.at its.at its.below in_set
+    (found (λ k. (nat_lt 0 (m i k mine.at) && nat_lt 0 (m j k its.at)) || (nat_lt 0 (m k i mine.at) && nat_lt 0 (m k j its.at))) n k lt
+    (follows-at_home (m i k mine.at) (m j k its.at) (m k i mine.at) (m k j its.at) mine.one its.one)) in
     omega (arith, in_slots-one n m set i k mine, in_slots-one n m set j k its, kept-follows (set mine.at) (set its.at) leads)
 
 away-le : (n : ℕ) (phased : Bool) (m : Counts) (i j : ℕ) (set : ℕ → Bool) (k : ℕ) → IsExchange n phased m i j set → k < n → k ≢ i → k ≢ j → in_slots n m set k i ≤ in_slots n m set k j
@@ -81,9 +81,9 @@ away-le n phased m i j set k e lt ne_i ne_j =
     let mine : OneIsOne (λ r. m k i r) (slot_count n) = slot n phased m k i e.played lt (omega (arith, e.before, e.last)) ne_i in
     let its : OneIsOne (λ r. m k j r) (slot_count n) = slot n phased m k j e.played lt e.last ne_j in
     let leads : set mine.at ≡ true → set its.at ≡ true = λ in_set.
-      e.slots.closed mine.at its.at its.below in_set
-      (found (λ k. (nat_lt 0 (m i k mine.at) && nat_lt 0 (m j k its.at)) || (nat_lt 0 (m k i mine.at) && nat_lt 0 (m k j its.at))) n k lt
-        (follows-away (m i k mine.at) (m j k its.at) (m k i mine.at) (m k j its.at) mine.one its.one)) in
+    e.slots.closed mine.at its.at its.below in_set
+    (found (λ k. (nat_lt 0 (m i k mine.at) && nat_lt 0 (m j k its.at)) || (nat_lt 0 (m k i mine.at) && nat_lt 0 (m k j its.at))) n k lt
+    (follows-away (m i k mine.at) (m j k its.at) (m k i mine.at) (m k j its.at) mine.one its.one)) in
     omega (arith, in_slots-one n m set k i mine, in_slots-one n m set k j its, kept-follows (set mine.at) (set its.at) leads)
 
 -- the games of a and b in the slots of the set, at both venues
@@ -258,7 +258,7 @@ half_mixed n m i j set a b =
     let c : ℕ = exchange i j a in
     let d : ℕ = exchange i j b in
     let same : total (λ r. met (teams_exchanged set i j m) a b r) (n - 1) ≡ total (λ r. if set r then met m c d r else met m a b r) (n - 1) =
-      total-same (λ r. met (teams_exchanged set i j m) a b r) (λ r. if set r then met m c d r else met m a b r) (n - 1) (λ r lt. met-mixed (set r) (m c d r) (m a b r) (m d c r) (m b a r)) in
+    total-same (λ r. met (teams_exchanged set i j m) a b r) (λ r. if set r then met m c d r else met m a b r) (n - 1) (λ r lt. met-mixed (set r) (m c d r) (m a b r) (m d c r) (m b a r)) in
     omega (arith, same, mixed set (λ r. met m c d r) (λ r. met m a b r) (n - 1))
 
 cell : (n : ℕ) (phased : Bool) (m : Counts) (i j : ℕ) (set : ℕ → Bool) (a r : ℕ) → IsExchange n phased m i j set → a < n → r < slot_count n → total (λ b. met (teams_exchanged set i j m) a b r) n ≡ 1
@@ -279,22 +279,22 @@ halves_stay n false m i j set e keep phases a b first second ne = absurd (cc)
 halves_stay n true m i j set e keep phases a b first second ne =
     let home : (k : ℕ) → k < n → k ≢ i → k ≢ j → early_games n m set i k ≡ early_games n m set j k = λ k lt _ _. early-same n m i j set k e (keep refl) lt in
     let same : early_games n m set (exchange i j a) (exchange i j b) ≡ early_games n m set a b =
-      all_pairs (early_games n m set) n i j (early-turned n m set i j) home
-      (λ k lt ne_i ne_j. early-turned n m set k i ∙ home k lt ne_i ne_j ∙ early-turned n m set j k)
-      a b first second ne in
+    all_pairs (early_games n m set) n i j (early-turned n m set i j) home
+    (λ k lt ne_i ne_j. early-turned n m set k i ∙ home k lt ne_i ne_j ∙ early-turned n m set j k)
+    a b first second ne in
     omega (arith, half_mixed n m i j set a b, same, e.played.halves refl a b first second ne)
 
 pub IsPlayed-teams_exchanged : (n : ℕ) (phased : Bool) (m : Counts) (i j : ℕ) (set : ℕ → Bool) → IsExchange n phased m i j set → KeepPhases n phased m i j set → IsPlayed n phased (teams_exchanged set i j m)
 IsPlayed-teams_exchanged n phased m i j set e keep = record {
   meetings = λ a b first second ne.
-    let facing : in_slots n m set i j ≡ in_slots n m set j i =
+      let facing : in_slots n m set i j ≡ in_slots n m set j i =
       none-in_slots n m set i j (λ r within in_set. (apart n phased m i j set r e within in_set).0) ∙ sym (none-in_slots n m set j i (λ r within in_set. (apart n phased m i j set r e within in_set).1)) in
-    let same : in_slots n m set (exchange i j a) (exchange i j b) ≡ in_slots n m set a b =
+      let same : in_slots n m set (exchange i j a) (exchange i j b) ≡ in_slots n m set a b =
       all_pairs (in_slots n m set) n i j facing
       (λ k lt ne_i ne_j. (venues-same n phased m i j set k e lt ne_i ne_j).0)
       (λ k lt ne_i ne_j. (venues-same n phased m i j set k e lt ne_i ne_j).1)
       a b first second ne in
-    omega (arith, mixed set (λ r. m (exchange i j a) (exchange i j b) r) (λ r. m a b r) (slot_count n), same, e.played.meetings a b first second ne);
+      omega (arith, mixed set (λ r. m (exchange i j a) (exchange i j b) r) (λ r. m a b r) (slot_count n), same, e.played.meetings a b first second ne);
   cells = λ a r lt within. cell n phased m i j set a r e lt within;
   halves = λ phases. halves_stay n phased m i j set e keep phases;
 }
@@ -309,5 +309,5 @@ KeepPhases-of n phased m i j set e after phases r k early lt in_set meets =
     let here : kept (set r) (met m i k r) ≡ met m i k r = rw in_set refl in
     let least : kept (set r) (met m i k r) ≤ early_games n m set i k = term-le-total (λ r. kept (set r) (met m i k r)) (n - 1) r early in
     let ex_i : early_games n m set (exchange i j i) (exchange i j k) ≡ early_games n m set j k =
-      ap (λ (a : ℕ). early_games n m set a (exchange i j k)) (exchange-first i j i refl) ∙ ap (early_games n m set j) (exchange-other i j k ne_i ne_j) in
+    ap (λ (a : ℕ). early_games n m set a (exchange i j k)) (exchange-first i j i refl) ∙ ap (early_games n m set j) (exchange-other i j k ne_i ne_j) in
     omega (arith, half_mixed n m i j set i k, ex_i, after.halves phases i k first lt (λ h. ne_i (sym h)), e.played.halves phases i k first lt (λ h. ne_i (sym h)), here, least, some)

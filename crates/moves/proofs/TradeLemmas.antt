@@ -125,20 +125,20 @@ trade-into n m i j s old g g' fits of only apart home away slot a b r =
     let c : ℕ = exchange i j a in
     let d : ℕ = exchange i j b in
     let added : one_if (is_game a b r g') ≡ (if (r == s) && ((a == j) || (b == j)) then m c d s else 0) =
-      elim (cases_eq h i) as (λ _. one_if (is_game a b r g') ≡ (if (r == s) && ((a == j) || (b == j)) then m c d s else 0)) [
-        | inl here ↦
-            let ne_j : w ≢ j = λ e. not_opponent-away n m i j s g fits of only here apart (sym e) in
-            let ne_i : w ≢ i = λ e. fits.differ (here ∙ sym e) in
-            into_home j w t s a b r (m c d s) g'.home.0 g'.away.0 g'.slot.0 ne_j (slot_is h w t i s of)
-            (home ∙ if_same h i j h here) (away ∙ if_same h i w j here) slot
-            (retest (c == i) (a == j) (d == i) (b == j) (h == c) (a == j) (w == d) (w == b) (t == s) (m c d s)
-              (exchange-is_first i j a) (exchange-is_first i j b) (exchange-from_first i j a h here) (exchange-is_other i j b w ne_i ne_j) (only c d))
-        | inr out ↦
-            let ne_j : h ≢ j = λ e. not_opponent-home n m i j s g fits of only out apart (sym e) in
-            let is_w : w ≡ i = other_is h w t i s out of in
-            into_away j h t s a b r (m c d s) g'.home.0 g'.away.0 g'.slot.0 ne_j (slot_is h w t i s of)
-            (home ∙ if_other h i j h out) (away ∙ if_other h i w j out) slot
-            (retest (c == i) (a == j) (d == i) (b == j) (h == c) (h == a) (w == d) (b == j) (t == s) (m c d s)
-              (exchange-is_first i j a) (exchange-is_first i j b) (exchange-is_other i j a h out ne_j) (exchange-from_first i j b w is_w) (only c d))
-      ] in
+    elim (cases_eq h i) as (λ _. one_if (is_game a b r g') ≡ (if (r == s) && ((a == j) || (b == j)) then m c d s else 0)) [
+      | inl here ↦
+          let ne_j : w ≢ j = λ e. not_opponent-away n m i j s g fits of only here apart (sym e) in
+          let ne_i : w ≢ i = λ e. fits.differ (here ∙ sym e) in
+          into_home j w t s a b r (m c d s) g'.home.0 g'.away.0 g'.slot.0 ne_j (slot_is h w t i s of)
+          (home ∙ if_same h i j h here) (away ∙ if_same h i w j here) slot
+          (retest (c == i) (a == j) (d == i) (b == j) (h == c) (a == j) (w == d) (w == b) (t == s) (m c d s)
+          (exchange-is_first i j a) (exchange-is_first i j b) (exchange-from_first i j a h here) (exchange-is_other i j b w ne_i ne_j) (only c d))
+      | inr out ↦
+          let ne_j : h ≢ j = λ e. not_opponent-home n m i j s g fits of only out apart (sym e) in
+          let is_w : w ≡ i = other_is h w t i s out of in
+          into_away j h t s a b r (m c d s) g'.home.0 g'.away.0 g'.slot.0 ne_j (slot_is h w t i s of)
+          (home ∙ if_other h i j h out) (away ∙ if_other h i w j out) slot
+          (retest (c == i) (a == j) (d == i) (b == j) (h == c) (h == a) (w == d) (b == j) (t == s) (m c d s)
+          (exchange-is_first i j a) (exchange-is_first i j b) (exchange-is_other i j a h out ne_j) (exchange-from_first i j b w is_w) (only c d))
+    ] in
     sum_by_push (λ x. one_if (is_game a b r x)) old g' ∙ ap (λ (x : ℕ). counts_of old a b r + x) added

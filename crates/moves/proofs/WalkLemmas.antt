@@ -160,9 +160,9 @@ pub marks_are : (next : ℕ → ℕ → Bool) (k x count : ℕ) (marks : ℕ →
 marks_are next k x count marks lt few start below on_way closed a =
     both_true (marks a) (is_in a (closure next k x))
     (λ marked.
-      let more : count + (k - count) ≡ k = omega arith in
-      let P : ℕ → Type 0 = λ s. is_in a (reached next k x s) ≡ true in
-      subst P more (reached-later next k x count (k - count) a (on_way a marked) (below a marked)))
+    let more : count + (k - count) ≡ k = omega arith in
+    let P : ℕ → Type 0 = λ s. is_in a (reached next k x s) ≡ true in
+    subst P more (reached-later next k x count (k - count) a (on_way a marked) (below a marked)))
     (λ among. reached-least next k x marks start closed k a among (which_reached next k x k a among))
 
 pub not_marked : (b : Bool) → (b ≡ true → ⊥) → b ≡ false

@@ -21,6 +21,6 @@ pub record IsLeastClosed (next : ℕ → ℕ → Bool) (k x : ℕ) (set : ℕ �
   pub start : set x ≡ true
   pub closed : (a b : ℕ) → b < k → set a ≡ true → next a b ≡ true → set b ≡ true
   pub least :
-    (other : ℕ → Bool) → other x ≡ true
-    → ((a b : ℕ) → b < k → other a ≡ true → next a b ≡ true → other b ≡ true)
-    → (a : ℕ) → set a ≡ true → other a ≡ true
+      (other : ℕ → Bool) → other x ≡ true
+      → ((a b : ℕ) → b < k → other a ≡ true → next a b ≡ true → other b ≡ true)
+      → (a : ℕ) → set a ≡ true → other a ≡ true

@@ -6,12 +6,15 @@ pub mod Moves
 pub mod Neighbours
 -- A round robin as a table, and what a move changes of it:
 pub mod Round
-pub mod MoveList
--- Kept inside (parts of moves, walks and tables):
---
--- What moves of slots, and moves of teams, have in common:
-pub mod Parts
 pub mod Places
-pub mod Walks
+-- A list of moves:
+pub mod MoveList
+-- Kept inside (parts of moves, walks, and the moves still to come):
+--
+-- What moves of slots, and moves of teams, have in common, and what is answered of them:
+pub mod Parts
 pub mod Outcome
+-- Walks that mark the least sets:
+pub mod Walks
+-- The moves still to come:
 pub mod Rest

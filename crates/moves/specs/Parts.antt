@@ -57,10 +57,10 @@ pub record AreExchangedBelow (k : ℕ) (set : ℕ → Bool) (m : Counts) (s t : 
   pub out_length : length edit.out ≤ 2 * k
   pub into_length : length edit.into ≤ 2 * k
   pub out_counts :
-    (a b r : ℕ) → counts_of edit.out a b r ≡ (if nat_lt a k && set a && ((r == s) || (r == t)) then m a b r else 0)
+      (a b r : ℕ) → counts_of edit.out a b r ≡ (if nat_lt a k && set a && ((r == s) || (r == t)) then m a b r else 0)
   pub into_counts :
-    (a b r : ℕ)
-    → counts_of edit.into a b r
+      (a b r : ℕ)
+      → counts_of edit.into a b r
       ≡ (if nat_lt a k && set a && ((r == s) || (r == t)) then m a b (exchange s t r) else 0)
 
 -- of the games of i and of j in the slots below k that are in the set, each is taken out, and put in with the teams
@@ -69,12 +69,12 @@ pub record AreTradedBelow (k : ℕ) (set : ℕ → Bool) (m : Counts) (i j : ℕ
   pub out_length : length edit.out ≤ 2 * k
   pub into_length : length edit.into ≤ 2 * k
   pub out_counts :
-    (a b r : ℕ)
-    → counts_of edit.out a b r
+      (a b r : ℕ)
+      → counts_of edit.out a b r
       ≡ (if nat_lt r k && set r && (((a == i) || (b == i)) || ((a == j) || (b == j))) then m a b r else 0)
   pub into_counts :
-    (a b r : ℕ)
-    → counts_of edit.into a b r
+      (a b r : ℕ)
+      → counts_of edit.into a b r
       ≡ (if nat_lt r k && set r && (((a == i) || (b == i)) || ((a == j) || (b == j)))
-        then m (exchange i j a) (exchange i j b) r
-        else 0)
+      then m (exchange i j a) (exchange i j b) r
+      else 0)

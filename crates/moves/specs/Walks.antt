@@ -25,11 +25,11 @@ pub record IsOnWay (next : ℕ → ℕ → Bool) (k x : ℕ) (marks : List Bool)
 pub record IsSlotWalk (n : ℕ) (m : Counts) (i j x : ℕ) (marks : List Bool) (at : ℕ) : Type 0 where
   pub way : IsOnWay (follows n m i j) (slot_count n) x marks at
   pub closed :
-    (a b : ℕ)
-    → b < slot_count n
-    → is_marked marks a ≡ true
-    → follows n m i j a b ≡ true
-    → (is_marked marks b ≡ true) ⊎ (b ≡ at)
+      (a b : ℕ)
+      → b < slot_count n
+      → is_marked marks a ≡ true
+      → follows n m i j a b ≡ true
+      → (is_marked marks b ≡ true) ⊎ (b ≡ at)
   pub started : (is_marked marks x ≡ true) ⊎ (at ≡ x)
   pub apart : (r : ℕ) → is_marked marks r ≡ true → do_meet m i j r ≡ false
   pub here : do_meet m i j at ≡ false
@@ -39,8 +39,8 @@ pub record IsTeamWalk (n : ℕ) (m : Counts) (x s t : ℕ) (marks : List Bool) (
   pub way : IsOnWay (λ a b. do_meet m a b s || do_meet m a b t) n x marks at
   pub in_s : (a b : ℕ) → is_marked marks a ≡ true → do_meet m a b s ≡ true → is_marked marks b ≡ true
   pub in_t :
-    (a b : ℕ) → is_marked marks a ≡ true → do_meet m a b t ≡ true → a ≢ x → (is_marked marks b ≡ true) ⊎ (b ≡ at)
+      (a b : ℕ) → is_marked marks a ≡ true → do_meet m a b t ≡ true → a ≢ x → (is_marked marks b ≡ true) ⊎ (b ≡ at)
   pub ends : is_marked marks at ≡ true → at ≡ x
   pub came :
-    ((is_marked marks x ≡ false) × (at ≡ x)) ⊎ ((b : ℕ) → do_meet m at b t ≡ true → is_marked marks b ≡ true)
+      ((is_marked marks x ≡ false) × (at ≡ x)) ⊎ ((b : ℕ) → do_meet m at b t ≡ true → is_marked marks b ≡ true)
   pub started : (is_marked marks x ≡ true) ⊎ (at ≡ x)

@@ -77,8 +77,7 @@ impl Board {
     pub fn apply(&mut self, edit: &Edit)
         requires there { (i j s : ℕ) → counts_of edit.now.out i j s ≤ round_counts self.old i j s }
         requires fit { All (IsGame self.old.n) edit.now.into }
-        requires round_robin {
-            IsRoundRobin self.old.n self.old.phased (edited (round_counts self.old) edit.now) }
+        requires round_robin { IsRoundRobin self.old.n self.old.phased (edited (round_counts self.old) edit.now) }
         ensures n { self.new.n ≡ self.old.n }
         ensures phased { self.new.phased ≡ self.old.phased }
         ensures counts { round_counts self.new ≡ edited (round_counts self.old) edit.now }
@@ -126,7 +125,11 @@ impl Board {
         ensures meets { (j : ℕ) → do_meet (round_counts self.now) team.0 j slot.0 ≡ (j == result.0) }
     {
         let game = self.game(team, slot);
-        if game.home == team { game.away } else { game.home }
+        if game.home == team {
+            game.away
+        } else {
+            game.home
+        }
     }
 
     /// The slot in which a team is at home to another.

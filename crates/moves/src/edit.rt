@@ -68,7 +68,10 @@ impl Edit {
         requires out { length self.old.out < 4 * self.old.n }
         requires into { length self.old.into < 4 * self.old.n }
         ensures { self.new ≡ record {
-            n = self.old.n; out = self.old.out ++ before ∷ []; into = self.old.into ++ after ∷ [] } }
+          n = self.old.n;
+          out = self.old.out ++ before ∷ [];
+          into = self.old.into ++ after ∷ [];
+        } }
     {
         self.out.push_reserved(before);
         self.into.push_reserved(after);

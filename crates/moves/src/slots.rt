@@ -94,7 +94,11 @@ fn put_off(board: &Board, team: TeamId, s: SlotId, t: SlotId, edit: &mut Edit)
 {
     let game = board.game(team, s);
     if game.home == team {
-        let later = Game { home: game.home, away: game.away, slot: t };
+        let later = Game {
+            home: game.home,
+            away: game.away,
+            slot: t,
+        };
         edit.replace(game, later);
     }
 }

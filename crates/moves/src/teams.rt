@@ -123,8 +123,8 @@ fn trade(board: &Board, i: TeamId, j: TeamId, slot: SlotId, edit: &mut Edit)
         + (if (r == slot.0) && ((a == i.0) || (b == i.0)) then round_counts board.now a b slot.0 else 0) }
     ensures into { (a b r : ℕ) → counts_of edit.new.into a b r ≡ counts_of edit.old.into a b r
         + (if (r == slot.0) && ((a == j.0) || (b == j.0))
-            then round_counts board.now (exchange i.0 j.0 a) (exchange i.0 j.0 b) slot.0
-            else 0) }
+        then round_counts board.now (exchange i.0 j.0 a) (exchange i.0 j.0 b) slot.0
+        else 0) }
     ensures out_length { length edit.new.out ≤ length edit.old.out + 1 }
     ensures into_length { length edit.new.into ≤ length edit.old.into + 1 }
 {

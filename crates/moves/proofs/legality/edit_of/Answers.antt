@@ -7,40 +7,40 @@ use Rattle.moves.proofs.legality.edit_of.Goals as goal
 
 pub returns-in-HomeSwap-clause-legal : goal.returns-in-HomeSwap-clause-legal
 returns-in-HomeSwap-clause-legal c =
-  let P : Swap → Type 0 = λ step. IsTrue c.home_swap.result ↔ IsLegal c.args.board.now.n c.args.board.now.phased (round_counts c.args.board.now) step in
-  subst P (sym c.in-HomeSwap.is) c.home_swap.ensures.legal
+    let P : Swap → Type 0 = λ step. IsTrue c.home_swap.result ↔ IsLegal c.args.board.now.n c.args.board.now.phased (round_counts c.args.board.now) step in
+    subst P (sym c.in-HomeSwap.is) c.home_swap.ensures.legal
 
 pub returns-in-RoundSwap-clause-legal : goal.returns-in-RoundSwap-clause-legal
 returns-in-RoundSwap-clause-legal c =
-  let P : Swap → Type 0 = λ step. IsTrue c.round_swap.result ↔ IsLegal c.args.board.now.n c.args.board.now.phased (round_counts c.args.board.now) step in
-  subst P (sym c.in-RoundSwap.is) c.round_swap.ensures.legal
+    let P : Swap → Type 0 = λ step. IsTrue c.round_swap.result ↔ IsLegal c.args.board.now.n c.args.board.now.phased (round_counts c.args.board.now) step in
+    subst P (sym c.in-RoundSwap.is) c.round_swap.ensures.legal
 
 pub returns-in-TeamSwap-clause-legal : goal.returns-in-TeamSwap-clause-legal
 returns-in-TeamSwap-clause-legal c =
-  let P : Swap → Type 0 = λ step. IsTrue c.team_swap.result ↔ IsLegal c.args.board.now.n c.args.board.now.phased (round_counts c.args.board.now) step in
-  subst P (sym c.in-TeamSwap.is) c.team_swap.ensures.legal
+    let P : Swap → Type 0 = λ step. IsTrue c.team_swap.result ↔ IsLegal c.args.board.now.n c.args.board.now.phased (round_counts c.args.board.now) step in
+    subst P (sym c.in-TeamSwap.is) c.team_swap.ensures.legal
 
 pub returns-in-TeamSwap-clause-edit : goal.returns-in-TeamSwap-clause-edit
 returns-in-TeamSwap-clause-edit c =
-  let P : Swap → Type 0 = λ step. c.team_swap.result ≡ true → IsEdit (round_counts c.args.board.now) (moved c.args.board.now.n (round_counts c.args.board.now) step) c.team_swap.new.edit in
-  subst P (sym c.in-TeamSwap.is) c.team_swap.ensures.change
+    let P : Swap → Type 0 = λ step. c.team_swap.result ≡ true → IsEdit (round_counts c.args.board.now) (moved c.args.board.now.n (round_counts c.args.board.now) step) c.team_swap.new.edit in
+    subst P (sym c.in-TeamSwap.is) c.team_swap.ensures.change
 
 pub returns-in-PartRoundSwap-clause-legal : goal.returns-in-PartRoundSwap-clause-legal
 returns-in-PartRoundSwap-clause-legal c =
-  let P : Swap → Type 0 = λ step. IsTrue c.part_round_swap.result ↔ IsLegal c.args.board.now.n c.args.board.now.phased (round_counts c.args.board.now) step in
-  subst P (sym c.in-PartRoundSwap.is) c.part_round_swap.ensures.legal
+    let P : Swap → Type 0 = λ step. IsTrue c.part_round_swap.result ↔ IsLegal c.args.board.now.n c.args.board.now.phased (round_counts c.args.board.now) step in
+    subst P (sym c.in-PartRoundSwap.is) c.part_round_swap.ensures.legal
 
 pub returns-in-PartRoundSwap-clause-edit : goal.returns-in-PartRoundSwap-clause-edit
 returns-in-PartRoundSwap-clause-edit c =
-  let P : Swap → Type 0 = λ step. c.part_round_swap.result ≡ true → IsEdit (round_counts c.args.board.now) (moved c.args.board.now.n (round_counts c.args.board.now) step) c.part_round_swap.new.edit in
-  subst P (sym c.in-PartRoundSwap.is) c.part_round_swap.ensures.change
+    let P : Swap → Type 0 = λ step. c.part_round_swap.result ≡ true → IsEdit (round_counts c.args.board.now) (moved c.args.board.now.n (round_counts c.args.board.now) step) c.part_round_swap.new.edit in
+    subst P (sym c.in-PartRoundSwap.is) c.part_round_swap.ensures.change
 
 pub returns-in-PartTeamSwap-clause-legal : goal.returns-in-PartTeamSwap-clause-legal
 returns-in-PartTeamSwap-clause-legal c =
-  let P : Swap → Type 0 = λ step. IsTrue c.part_team_swap.result ↔ IsLegal c.args.board.now.n c.args.board.now.phased (round_counts c.args.board.now) step in
-  subst P (sym c.in-PartTeamSwap.is) c.part_team_swap.ensures.legal
+    let P : Swap → Type 0 = λ step. IsTrue c.part_team_swap.result ↔ IsLegal c.args.board.now.n c.args.board.now.phased (round_counts c.args.board.now) step in
+    subst P (sym c.in-PartTeamSwap.is) c.part_team_swap.ensures.legal
 
 pub returns-in-PartTeamSwap-clause-edit : goal.returns-in-PartTeamSwap-clause-edit
 returns-in-PartTeamSwap-clause-edit c =
-  let P : Swap → Type 0 = λ step. c.part_team_swap.result ≡ true → IsEdit (round_counts c.args.board.now) (moved c.args.board.now.n (round_counts c.args.board.now) step) c.part_team_swap.new.edit in
-  subst P (sym c.in-PartTeamSwap.is) c.part_team_swap.ensures.change
+    let P : Swap → Type 0 = λ step. c.part_team_swap.result ≡ true → IsEdit (round_counts c.args.board.now) (moved c.args.board.now.n (round_counts c.args.board.now) step) c.part_team_swap.new.edit in
+    subst P (sym c.in-PartTeamSwap.is) c.part_team_swap.ensures.change
