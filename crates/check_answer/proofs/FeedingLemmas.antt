@@ -118,14 +118,6 @@ log-faulty old bytes now new count kind line checked fault =
     ap (λ (l : List ℕ). log_of l) (sym (append-nil bytes))
     ∙ ap whole (checked.read [] ∙ ap (after checked.steps) fault)
 
--- ---- a loop over the steps of a piece
-
--- one more step is judged
-pub steps-more : (old mid new : Judged) (steps : List Step) (k : ℕ) → k < length steps → mid ≡ fold after_step old (take k steps) → IfSome (slice_get steps k) (λ step. new ≡ after_step mid step) → new ≡ fold after_step old (take (suc k) steps)
-steps-more old mid new [] k there so_far said = absurd (omega arith)
-steps-more old mid new (step ∷ steps) zero there so_far said = said ∙ ap (λ state. after_step state step) so_far
-steps-more old mid new (step ∷ steps) (suc k) there so_far said = steps-more (after_step old step) mid new steps k (omega arith) so_far said
-
 -- ---- a loop over the pieces of a file
 
 consumes-none : (known left : Option (List ℕ)) → Keeps known left → Consumes known left []

@@ -7,34 +7,13 @@ ghost use Rattle.refutation_check.specs.Judged.{after_step};
 ghost use Rattle.check_answer.specs.Check.{most_log_bytes};
 ghost use Rattle.check_answer.specs.Feeding.{ChecksFile, ChecksOn};
 
-use refutation::{Log, LogFeed, StepKind};
-use refutation_check::Checker;
+use refutation::{Log, LogFeed};
+use refutation_check::{Checker, give_all};
 use robin_io::{Shelf, TakeFault};
 use std::alloc::{AllocError, Global};
 
 /// The most bytes of a log.
 pub const LOG_LIMIT: usize = 268_435_456;
-
-/// Judges the step at place k, from 0.
-fn judge_step(steps: &Log, k: usize, checker: &mut Checker) -> Result<(), AllocError>
-    requires { k < length steps.now }
-    ensures { IfSome (slice_get steps.now k) (λ step. OnOk result (checker.new ≡ after_step checker.old step)) }
-{
-    match steps.kind(k) {
-        StepKind::Clause => checker.step(steps.clause(k), steps.hints(k)),
-        StepKind::Linear => checker.linear(steps.parts(k), steps.divisor(k)),
-    }
-}
-
-/// Judges steps one after another.
-fn judge_steps(steps: &Log, checker: &mut Checker) -> Result<(), AllocError>
-    ensures { OnOk result (checker.new ≡ fold after_step checker.old steps.now) }
-{
-    for k in 0..steps.len() {
-        judge_step(steps, k, checker)?;
-    }
-    Ok(())
-}
 
 /// Reads a piece of a log's text, judges the steps of the lines that it ends, and says how many they were.
 fn check_piece(
@@ -49,7 +28,7 @@ fn check_piece(
 {
     let mut steps = Log::new(alloc);
     feed.feed(piece, &mut steps)?;
-    judge_steps(&steps, checker)?;
+    give_all(checker, &steps)?;
     Ok(steps.len())
 }
 

@@ -1,19 +1,37 @@
-//! How many rows to make room for. No claim rests on it: where it is too small, the rows' vector grows.
+//! How many rows to make room for. No claim rests on it: were it too small, the rows' vector would grow.
 ghost use Rattle.std.specs.Prelude.{◌≤◌};
 
 use encoding_base::pairs_at_most;
 use league::{Class, League, slot_count};
 
-/// At least as many as a league has rows, but for rows without terms, and at most as many as its rows have terms.
+/// At least as many as a league has rows. Each has a term, but for those that ask for at least some of no games, of which
+/// each key has one at most.
 pub(crate) fn rows_at_most(league: &League, terms: u64) -> usize {
     let n = league.n();
     let mut rows = season_rows_at_most(n);
+    let mut without_terms = 0_u64;
     for constraint in league.constraints() {
         if constraint.hard {
-            rows = rows.saturating_add(class_rows_at_most(n, &constraint.class));
+            let most = class_rows_at_most(n, &constraint.class);
+            rows = rows.saturating_add(most);
+            if asks_for_games(&constraint.class) {
+                without_terms = without_terms.saturating_add(most / 2);
+            }
         }
     }
-    rows.min(terms) as usize
+    rows.min(terms.saturating_add(without_terms)) as usize
+}
+
+/// Whether a class asks for at least some games, so that a row of it may have no terms.
+fn asks_for_games(class: &Class) -> bool {
+    match class {
+        Class::Ca1 { min, .. }
+        | Class::Ca2 { min, .. }
+        | Class::Ca3 { min, .. }
+        | Class::Ca4 { min, .. }
+        | Class::Ga1 { min, .. } => *min > 0,
+        Class::Br1 { .. } | Class::Br2 { .. } | Class::Fa2 { .. } | Class::Se1 { .. } => false,
+    }
 }
 
 /// Those of groups 1 to 7: three for each meeting, ten for each team and slot, two for each team and for each slot.
