@@ -1,10 +1,10 @@
 -- The least set that so many steps reach is closed, and the least that is.
-use Rattle.std.proofs.Common.{◌≡◌, ℕ, zero, suc, ◌+◌, ◌<◌, ◌≤◌, Bool, true, false, ◌||◌, ◌==◌, ◌⊎◌, inl, inr, List, [], ◌∷◌, refl, arith, ap, subst, sym, ◌∙◌}
+use Rattle.std.proofs.Common.{◌≡◌, ℕ, zero, suc, ◌+◌, ◌<◌, ◌≤◌, Bool, true, false, ◌||◌, ◌==◌, ◌⊎◌, inl, inr, List, [], refl, arith, ap, ◌∙◌}
 use Rattle.std.proofs.lemmas.Bool.{cases_eq, eq-eqb, or_cases, or_left}
 use Rattle.std.specs.List.{list_any, range_with_len}
 use Rattle.league.proofs.RangeLemmas.{one_if, one_if-le}
 use Rattle.league.specs.Sets.{is_in}
-use Rattle.moves.specs.Closure.{ClosuresAreLeast, IsLeastClosed, closure, reached}
+use Rattle.moves.specs.Closure.{ClosuresAreLeast, closure, reached}
 use Rattle.moves.proofs.SumLemmas.{term-le-total, total, total-le, total-squeeze, total-suc}
 use Rattle.moves.proofs.WalkLemmas.{IsFound, any_cons, both_true, found_in, passes_filter, reached-keep, reached-least, reached-next, which_reached}
 

@@ -1,10 +1,10 @@
 -- Exchanging the venues of two teams always leads to a round robin.
-use Rattle.std.proofs.Common.{◌≡◌, ◌≢◌, ℕ, ◌+◌, ◌-◌, ◌<◌, ◌≤◌, Bool, true, false, ◌&&◌, ◌||◌, ◌==◌, if◌then◌else◌, ◌⊎◌, inl, inr, List, [], ◌∷◌, refl, arith, ap, subst, sym, ◌∙◌}
+use Rattle.std.proofs.Common.{◌≡◌, ◌≢◌, ℕ, ◌+◌, ◌-◌, ◌<◌, ◌≤◌, Bool, true, false, ◌&&◌, ◌||◌, ◌==◌, if◌then◌else◌, ◌⊎◌, inl, inr, [], refl, arith, ap, subst, sym, ◌∙◌}
 use Rattle.std.proofs.lemmas.Bool.{cases_eq, cases_lt}
 use Rattle.std.proofs.lemmas.Bool.Decides.{nat_tests}
 use Rattle.league.specs.Counts.{Counts, counts_of, slot_count}
-use Rattle.moves.specs.Moves.{game, is_between, moved, times, turned}
-use Rattle.moves.specs.Outcome.{IsEditOf, IsOutcome}
+use Rattle.moves.specs.Moves.{game, turned}
+use Rattle.moves.specs.Outcome.{IsEditOf}
 use Rattle.moves.specs.Places.{IsRound}
 use Rattle.moves.specs.Round.{AreApart, Edits, IsEdit, Round, round_counts}
 use Rattle.moves.specs.declared.swap.Swap.TheVariants.{HomeSwap}

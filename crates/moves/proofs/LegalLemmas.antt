@@ -1,31 +1,29 @@
 -- When each kind of move is legal, by what the kinds have in common.
-use Rattle.std.proofs.Common.{◌≡◌, ◌≢◌, ℕ, zero, suc, ◌+◌, ◌-◌, ◌<◌, ◌≤◌, Bool, true, false, not, ◌&&◌, ◌||◌, ◌==◌, nat_lt, if◌then◌else◌, ◌↔◌, inl, inr, List, [], ◌∷◌, replicate, get_or, refl, arith, ap, subst, sym, ◌∙◌}
+use Rattle.std.proofs.Common.{◌≡◌, ◌≢◌, ℕ, ◌+◌, ◌<◌, ◌≤◌, Bool, true, false, not, ◌&&◌, ◌||◌, nat_lt, if◌then◌else◌, inl, inr, [], replicate, get_or, refl, arith, ap, subst, sym, ◌∙◌}
 use Rattle.std.proofs.Math.Path.{fun_ext}
-use Rattle.std.proofs.lemmas.Bool.{both_ways, cases_eq, cases_lt, cases_Bool, not-true}
+use Rattle.std.proofs.lemmas.Bool.{cases_lt, not-true}
 use Rattle.std.proofs.lemmas.Bool.Decides.{nat_tests}
 use Rattle.std.proofs.lemmas.List.{get_or-replicate}
 use Rattle.std.proofs.lemmas.List.Elements.{All-nil}
-use Rattle.std.specs.List.{All, list_any, range_with_len}
-use Rattle.std.specs.Prelude.{IsTrue}
+use Rattle.std.specs.List.{range_with_len}
 use Rattle.league.specs.Counts.{Counts, slot_count, teams_of}
 use Rattle.league.specs.Instance.{IsGame}
 use Rattle.league.specs.declared.game.Game.{Game}
 use Rattle.league.specs.Structure.{IsRoundRobin}
 use Rattle.league.specs.Sets.{is_in}
-use Rattle.moves.specs.Moves.{IsInOwnRange, IsLegal, do_meet, exchange, follows, game, is_between, moved, relabel, slots_linked, teams_linked, times, turned, with_slots, with_teams}
+use Rattle.moves.specs.Moves.{IsInOwnRange, do_meet, exchange, follows, game, moved, slots_linked, teams_linked, times, with_slots, with_teams}
 use Rattle.moves.specs.Outcome.{IsEditOf, IsOutcome}
 use Rattle.moves.specs.Parts.{AreExchangeable, IsClosedSlots, IsClosedTeams, KeepPhases, slots_exchanged, teams_exchanged}
 use Rattle.moves.specs.Places.{IsRound}
 use Rattle.moves.specs.Round.{AreApart, Edits, IsEdit, Round, edited, round_counts}
 use Rattle.moves.specs.declared.swap.Swap.{Swap}
-use Rattle.moves.specs.declared.swap.Swap.TheVariants.{HomeSwap, RoundSwap, TeamSwap, PartRoundSwap, PartTeamSwap}
 use Rattle.moves.proofs.EditLemmas.{fit-of}
-use Rattle.moves.proofs.PlayLemmas.{IsPlayed, met, met-itself, met-le-one, played, round_robin}
+use Rattle.moves.proofs.PlayLemmas.{IsPlayed, met, met-itself, played, round_robin}
 use Rattle.moves.proofs.RoundLemmas.{IsWithin, IsWithin-of, none_else, past_last_slot, past_last_team}
 use Rattle.moves.proofs.SlotLaw.{AreExchangeable-of, IsPlayed-slots_exchanged}
-use Rattle.moves.proofs.SumLemmas.{exchange-other, exchange-first, exchange-second, total, total-same}
+use Rattle.moves.proofs.SumLemmas.{exchange-other}
 use Rattle.moves.proofs.TeamLaw.{IsExchange, IsPlayed-teams_exchanged, KeepPhases-of}
-use Rattle.moves.proofs.WalkLemmas.{IsFound, below_of, found_in}
+use Rattle.moves.proofs.WalkLemmas.{below_of, found_in}
 
 -- the empty edit of a change that leads to no round robin
 pub IsOutcome-refused : (n : ℕ) (phased : Bool) (before after : Counts) (edit : Edits) → edit ≡ record { n = n; out = []; into = [] } → (IsRoundRobin n phased after → ⊥) → IsOutcome n phased before after false edit

@@ -1,15 +1,15 @@
 -- When exchanging two teams in a closed set of slots leads to a round robin: exactly where there are no phases, or, in those of the slots that are in
 -- the first half, both meet the same teams.
-use Rattle.std.proofs.Common.{◌≡◌, ◌≢◌, ℕ, ◌+◌, ◌-◌, ◌<◌, ◌≤◌, Bool, true, false, not, ◌&&◌, ◌||◌, ◌==◌, nat_lt, if◌then◌else◌, ◌⊎◌, inl, inr, refl, arith, ap, subst, sym, ◌∙◌}
+use Rattle.std.proofs.Common.{◌≡◌, ◌≢◌, ℕ, ◌+◌, ◌-◌, ◌<◌, ◌≤◌, Bool, true, false, ◌&&◌, ◌||◌, nat_lt, if◌then◌else◌, inl, inr, refl, arith, ap, subst, sym, ◌∙◌}
 use Rattle.std.proofs.lemmas.Bool.{cases_eq, cases_Bool}
 use Rattle.std.proofs.lemmas.Bool.Decides.{nat_tests}
 use Rattle.std.proofs.lemmas.List.Folds.{list_any_at}
 use Rattle.std.proofs.lemmas.List.FromFn.{get_or-range_with_len, length-range_with_len}
 use Rattle.std.specs.List.{list_any, range_with_len}
-use Rattle.league.specs.Counts.{Counts, slot_count, teams_of}
-use Rattle.moves.specs.Moves.{do_meet, exchange, follows}
+use Rattle.league.specs.Counts.{Counts, slot_count}
+use Rattle.moves.specs.Moves.{exchange}
 use Rattle.moves.specs.Parts.{IsClosedSlots, KeepPhases, MeetAlike, early_games, teams_exchanged}
-use Rattle.moves.proofs.PlayLemmas.{IsPlayed, busy, met, met-itself, met-le-one, opponent, slot}
+use Rattle.moves.proofs.PlayLemmas.{IsPlayed, met, met-itself, slot}
 use Rattle.moves.proofs.SumLemmas.{OneIsOne, exchange-below, exchange-first, exchange-other, exchange-second, one-of_total, term-le-total, total, total-add, total-exchanged_all, total-le, total-none, total-one, total-same, total-squeeze, total-swap}
 
 -- a closed set of slots, and two different teams

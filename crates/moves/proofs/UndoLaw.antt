@@ -1,25 +1,24 @@
 -- Each legal move undoes itself.
-use Rattle.std.proofs.Common.{◌≡◌, ◌≢◌, ℕ, ◌+◌, ◌<◌, ◌≤◌, Bool, true, false, not, ◌&&◌, ◌||◌, ◌==◌, nat_lt, if◌then◌else◌, ◌⊎◌, inl, inr, refl, arith, ap, subst, sym, ◌∙◌}
+use Rattle.std.proofs.Common.{◌≡◌, ◌≢◌, ℕ, ◌+◌, ◌<◌, ◌≤◌, Bool, true, false, not, ◌&&◌, ◌||◌, nat_lt, if◌then◌else◌, ◌⊎◌, inl, inr, refl, arith, ap, subst, sym, ◌∙◌}
 use Rattle.std.proofs.Math.Path.{fun_ext}
 use Rattle.std.proofs.lemmas.Bool.{cases_eq, cases_Bool, not-true, or_cases}
 use Rattle.std.proofs.lemmas.Bool.Decides.{nat_tests}
 use Rattle.league.specs.Counts.{Counts, slot_count, teams_of}
 use Rattle.league.specs.Sets.{is_in}
 use Rattle.league.specs.Structure.{IsRoundRobin}
-use Rattle.moves.specs.Closure.{closure}
-use Rattle.moves.specs.Moves.{IsInOwnRange, IsLegal, IsOfLeague, do_meet, exchange, follows, game, moved, slots_linked, teams_linked, times, turned, with_teams}
+use Rattle.moves.specs.Moves.{IsInOwnRange, IsLegal, do_meet, exchange, follows, game, moved, slots_linked, teams_linked, turned, with_teams}
 use Rattle.moves.specs.Parts.{IsClosedSlots, IsClosedTeams, slots_exchanged, teams_exchanged}
 use Rattle.moves.specs.Undo.{IsUndone, LegalMovesUndo}
 use Rattle.moves.specs.declared.swap.Swap.{Swap}
 use Rattle.moves.specs.declared.swap.Swap.TheVariants.{HomeSwap, RoundSwap, TeamSwap, PartRoundSwap, PartTeamSwap}
-use Rattle.moves.proofs.ClosureLaw.{closure-below, closure-closed, closure-least, closure-start, closures-same}
+use Rattle.moves.proofs.ClosureLaw.{closure-below, closure-closed, closure-least, closures-same}
 use Rattle.moves.proofs.HomeLemmas.{are_two, either_order, venues_exchanged}
 use Rattle.moves.proofs.LegalLemmas.{below_all, both_positive, part_round_swap-same, part_team_swap-same, times_of}
 use Rattle.moves.proofs.PlayLemmas.{IsPlayed, busy, met, met-itself, played, slot}
 use Rattle.moves.proofs.SlotLaw.{met-exchanged}
 use Rattle.moves.proofs.SumLemmas.{OneIsOne, exchange-first, exchange-other, exchange-second}
 use Rattle.moves.proofs.TeamLaw.{IsExchange, found, in_slots, in_slots-one, kept, kept-one, venues-same}
-use Rattle.moves.proofs.WalkLemmas.{IsFound, found_in}
+use Rattle.moves.proofs.WalkLemmas.{found_in}
 
 -- what a change twice over gives
 exchange-twice : (s t r : ℕ) → exchange s t (exchange s t r) ≡ r

@@ -1,4 +1,4 @@
-use Rattle.std.proofs.Common.{◌≡◌, ap, ◌∙◌}
+use Rattle.std.proofs.Common.{ap, ◌∙◌}
 use Rattle.moves.specs.Round.{Edits, round_counts}
 use Rattle.moves.proofs.HomeLemmas.{IsTurn, home_swap-done}
 use Rattle.moves.proofs.legality.home_swap.Goals as goal

@@ -1,4 +1,4 @@
-use Rattle.std.proofs.Common.{◌≡◌, ℕ, ◌<◌, ◌+◌, Bool, true, false, get_or, refl, arith, subst, sym, ◌∙◌}
+use Rattle.std.proofs.Common.{◌≡◌, ℕ, ◌+◌, Bool, false, get_or, refl, arith, subst, sym, ◌∙◌}
 use Rattle.league.specs.Counts.{Counts}
 use Rattle.moves.specs.Parts.{AreTradedBelow}
 use Rattle.moves.specs.Round.{Edits, round_counts}
