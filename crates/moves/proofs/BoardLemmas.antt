@@ -1,15 +1,15 @@
 -- The boards that a schedule makes, and that an edit leaves.
-use Rattle.std.proofs.Common.{◌≡◌, ◌≢◌, ℕ, ◌+◌, ◌-◌, ◌*◌, ◌<◌, ◌≤◌, Bool, true, false, ◌&&◌, ◌||◌, ◌==◌, if◌then◌else◌, List, [], ◌∷◌, ◌++◌, length, take, drop, refl, arith, ap, subst, sym, ◌∙◌}
+use Rattle.std.proofs.Common.{◌≡◌, ℕ, ◌≤◌, Bool, true, false, ◌||◌, ◌==◌, if◌then◌else◌, List, [], ◌++◌, length, take, drop, refl, arith, ap, sym, ◌∙◌}
 use Rattle.std.proofs.lemmas.Bool.Decides.{nat_tests}
 use Rattle.std.proofs.Math.Seq.{take-append_seam}
 use Rattle.std.proofs.lemmas.List.Elements.{All-weaker}
 use Rattle.std.specs.List.{All}
-use Rattle.league.specs.Counts.{Counts, counts_of, is_game, slot_count}
+use Rattle.league.specs.Counts.{Counts, counts_of, is_game}
 use Rattle.league.specs.Instance.{IsGame, IsTeamCount}
 use Rattle.league.specs.Structure.{IsRoundRobin}
 use Rattle.league.specs.declared.game.Game.{Game}
 use Rattle.moves.specs.Places.{ArePlaced, IsRound, IsSlotTable, slot_entry}
-use Rattle.moves.specs.Round.{Edits, IsEdit, Round, edited, entry, round_counts}
+use Rattle.moves.specs.Round.{Edits, Round, edited, entry, round_counts}
 use Rattle.moves.proofs.PlacedLemmas.{IsBoard, IsBoard-placed}
 use Rattle.moves.proofs.PlayLemmas.{played}
 use Rattle.moves.proofs.RoundLemmas.{IsWithin-of, only_game-at, only_slot-at}

@@ -1,6 +1,6 @@
 -- The games that a move takes out and puts in, one step more, and all of them.
-use Rattle.std.proofs.Common.{◌≡◌, ◌≢◌, ℕ, ◌+◌, ◌*◌, ◌-◌, ◌<◌, ◌≤◌, Bool, true, false, ◌&&◌, ◌||◌, ◌==◌, nat_lt, if◌then◌else◌, ◌⊎◌, inl, inr, List, [], ◌∷◌, ◌++◌, length, get_or, refl, arith, ap, subst, sym, ◌∙◌}
-use Rattle.std.proofs.lemmas.Bool.{cases_eq, cases_lt, cases_Bool}
+use Rattle.std.proofs.Common.{◌≡◌, ◌≢◌, ℕ, ◌+◌, ◌<◌, ◌≤◌, Bool, true, false, ◌&&◌, ◌||◌, ◌==◌, nat_lt, if◌then◌else◌, ◌⊎◌, inl, inr, [], length, get_or, refl, arith, ap, subst, sym, ◌∙◌}
+use Rattle.std.proofs.lemmas.Bool.{cases_eq, cases_lt}
 use Rattle.std.proofs.lemmas.Bool.Decides.{nat_tests}
 use Rattle.std.proofs.lemmas.List.Elements.{All-from_get_or, Contains-get_or}
 use Rattle.std.specs.List.{All}
@@ -9,7 +9,7 @@ use Rattle.league.specs.Instance.{IsGame}
 use Rattle.league.specs.declared.game.Game.{Game}
 use Rattle.moves.specs.Moves.{do_meet, exchange, game}
 use Rattle.moves.specs.Parts.{AreExchangedBelow, AreTradedBelow, slots_exchanged, teams_exchanged}
-use Rattle.moves.specs.Round.{Edits, IsEdit, Round, round_counts}
+use Rattle.moves.specs.Round.{Edits, IsEdit}
 use Rattle.moves.proofs.PlacedLemmas.{counted_in}
 use Rattle.moves.proofs.PlayLemmas.{IsPlayed, met-itself}
 use Rattle.moves.proofs.RoundLemmas.{IsWithin}

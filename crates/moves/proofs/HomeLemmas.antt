@@ -1,14 +1,15 @@
 -- Exchanging the venues of two teams always leads to a round robin.
-use Rattle.std.proofs.Common.{◌≡◌, ◌≢◌, ℕ, ◌+◌, ◌-◌, ◌<◌, ◌≤◌, Bool, true, false, ◌&&◌, ◌||◌, ◌==◌, if◌then◌else◌, List, [], ◌∷◌, refl, arith, ap, subst, sym, ◌∙◌}
+use Rattle.std.proofs.Common.{◌≡◌, ◌≢◌, ℕ, ◌+◌, ◌-◌, ◌<◌, ◌≤◌, Bool, true, false, ◌&&◌, ◌||◌, ◌==◌, if◌then◌else◌, ◌⊎◌, inl, inr, [], refl, arith, ap, subst, sym, ◌∙◌}
+use Rattle.std.proofs.lemmas.Bool.{cases_eq, cases_lt}
 use Rattle.std.proofs.lemmas.Bool.Decides.{nat_tests}
 use Rattle.league.specs.Counts.{Counts, counts_of, slot_count}
-use Rattle.moves.specs.Moves.{game, is_between, moved, times, turned}
-use Rattle.moves.specs.Outcome.{IsEditOf, IsOutcome}
+use Rattle.moves.specs.Moves.{game, turned}
+use Rattle.moves.specs.Outcome.{IsEditOf}
 use Rattle.moves.specs.Places.{IsRound}
-use Rattle.moves.specs.Round.{Edits, IsEdit, Round, round_counts}
+use Rattle.moves.specs.Round.{AreApart, Edits, IsEdit, Round, round_counts}
 use Rattle.moves.specs.declared.swap.Swap.TheVariants.{HomeSwap}
 use Rattle.moves.proofs.LegalLemmas.{IsEditOf-outcome, IsOutcome-done, if_zero, times_of}
-use Rattle.moves.proofs.PlayLemmas.{IsPlayed, met, played}
+use Rattle.moves.proofs.PlayLemmas.{IsPlayed, met, met-le-one, played}
 use Rattle.moves.proofs.RoundLemmas.{IsWithin, IsWithin-of}
 use Rattle.moves.proofs.SlotLaw.{one_of, under_test}
 use Rattle.moves.proofs.SumLemmas.{total, total-same}
@@ -21,7 +22,7 @@ are_two i j a b = ((a == i) && (b == j)) || ((a == j) && (b == i))
 abbrev pub venues_exchanged : ℕ → ℕ → Counts → Counts
 venues_exchanged i j m a b r = if are_two i j a b then m b a r else m a b r
 
-either_order : (i j a b : ℕ) → are_two i j a b ≡ are_two i j b a
+pub either_order : (i j a b : ℕ) → are_two i j a b ≡ are_two i j b a
 either_order i j a b = grind (arith, nat_tests)
 
 same_sum : (p q : Bool) (x y : ℕ) → p ≡ q → (if p then y else x) + (if q then x else y) ≡ x + y
@@ -76,13 +77,43 @@ IsEdit-venues n m i j mid new ne first second =
           (λ p q. (pair_at m a b i j r p q, pair_at m b a j i r q p)) (λ p q. (pair_at m a b j i r p q, pair_at m b a i j r q p)) (out a b r) (into a b r);
     }
 
-pub home_swap-done : (r : Round) (i j : ℕ) (old mid new : Edits) → IsRound r → i < j → old ≡ record { n = r.n; out = []; into = [] } → new.n ≡ r.n → IsTurn (round_counts r) i j old mid → IsTurn (round_counts r) j i mid new → IsEditOf r.n r.phased (round_counts r) (HomeSwap (record { 0 = i }) (record { 0 = j })) true new
-home_swap-done r i j old mid new round lt empty same first second =
+turned_apart : (a b i j p q out into : ℕ) → i ≢ j → (p ≡ 0) ⊎ (q ≡ 0) → out ≡ (if (a == i) && (b == j) then p else 0) + (if (a == j) && (b == i) then q else 0) → into ≡ (if (a == j) && (b == i) then p else 0) + (if (a == i) && (b == j) then q else 0) → (out ≡ 0) ⊎ (into ≡ 0)
+turned_apart a b i j p q out into ne (inl none) e f = elim (cases_eq a i) as (λ _. (out ≡ 0) ⊎ (into ≡ 0)) [
+  | inl is ↦ inl (grind (arith, nat_tests))
+  | inr not ↦ inr (grind (arith, nat_tests))
+]
+turned_apart a b i j p q out into ne (inr none) e f = elim (cases_eq a i) as (λ _. (out ≡ 0) ⊎ (into ≡ 0)) [
+  | inl is ↦ inr (grind (arith, nat_tests))
+  | inr not ↦ inl (grind (arith, nat_tests))
+]
+
+-- two teams have no two games in a slot
+one_venue : (n : ℕ) (phased : Bool) (m : Counts) (i j r : ℕ) → IsPlayed n phased m → IsWithin n m → i < n → j < n → (m i j r ≡ 0) ⊎ (m j i r ≡ 0)
+one_venue n phased m i j r is within lt_i lt_j = elim (cases_lt r (slot_count n)) as (λ _. (m i j r ≡ 0) ⊎ (m j i r ≡ 0)) [
+  | inl lt ↦
+      let few : met m i j r ≤ 1 = met-le-one n phased m i j r is lt_i lt_j lt in
+      elim (cases_eq (m i j r) 0) as (λ _. (m i j r ≡ 0) ⊎ (m j i r ≡ 0)) [
+        | inl none ↦ inl none
+        | inr some ↦ inr (omega (arith, few))
+      ]
+  | inr le ↦ inl (within.slot i j r le)
+]
+
+AreApart-venues : (n : ℕ) (phased : Bool) (m : Counts) (i j : ℕ) (mid new : Edits) → IsPlayed n phased m → IsWithin n m → i < j → j < n → IsTurn m i j (record { n = n; out = []; into = [] }) mid → IsTurn m j i mid new → AreApart new
+AreApart-venues n phased m i j mid new is within lt last first second a b r =
+    turned_apart a b i j (m i j r) (m j i r) (counts_of new.out a b r) (counts_of new.into a b r) (λ e. omega arith)
+    (one_venue n phased m i j r is within (omega arith) last)
+    (let e = first.out a b r in let f = second.out a b r in omega arith)
+    (let e = first.into a b r in let f = second.into a b r in omega arith)
+
+pub home_swap-done : (r : Round) (i j : ℕ) (old mid new : Edits) → IsRound r → i < j → j < r.n → old ≡ record { n = r.n; out = []; into = [] } → new.n ≡ r.n → IsTurn (round_counts r) i j old mid → IsTurn (round_counts r) j i mid new → IsEditOf r.n r.phased (round_counts r) (HomeSwap (record { 0 = i }) (record { 0 = j })) true new
+home_swap-done r i j old mid new round lt last empty same first second =
     let m : Counts = round_counts r in
     let P : Edits → Type 0 = λ old. IsTurn m i j old mid in
     IsEditOf-outcome r.n r.phased m (venues_exchanged i j m) (HomeSwap (record { 0 = i }) (record { 0 = j })) true new
     (IsOutcome-done r.n r.phased m (venues_exchanged i j m) new same
     (IsEdit-venues r.n m i j mid new (λ e. omega arith) (subst P empty first) second)
+    (AreApart-venues r.n r.phased m i j mid new (played r.n r.phased m round.round_robin) (IsWithin-of r round.table) lt last (subst P empty first) second)
     (IsPlayed-venues r.n r.phased m i j (played r.n r.phased m round.round_robin))
     (IsWithin-venues r.n m i j (IsWithin-of r round.table)))
     lt

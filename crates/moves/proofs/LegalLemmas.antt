@@ -1,31 +1,29 @@
 -- When each kind of move is legal, by what the kinds have in common.
-use Rattle.std.proofs.Common.{◌≡◌, ◌≢◌, ℕ, zero, suc, ◌+◌, ◌-◌, ◌<◌, ◌≤◌, Bool, true, false, not, ◌&&◌, ◌||◌, ◌==◌, nat_lt, if◌then◌else◌, ◌↔◌, inl, inr, List, [], ◌∷◌, replicate, get_or, refl, arith, ap, subst, sym, ◌∙◌}
+use Rattle.std.proofs.Common.{◌≡◌, ◌≢◌, ℕ, ◌+◌, ◌<◌, ◌≤◌, Bool, true, false, not, ◌&&◌, ◌||◌, nat_lt, if◌then◌else◌, inl, inr, [], replicate, get_or, refl, arith, ap, subst, sym, ◌∙◌}
 use Rattle.std.proofs.Math.Path.{fun_ext}
-use Rattle.std.proofs.lemmas.Bool.{both_ways, cases_eq, cases_lt, cases_Bool, not-true}
+use Rattle.std.proofs.lemmas.Bool.{cases_lt, not-true}
 use Rattle.std.proofs.lemmas.Bool.Decides.{nat_tests}
 use Rattle.std.proofs.lemmas.List.{get_or-replicate}
 use Rattle.std.proofs.lemmas.List.Elements.{All-nil}
-use Rattle.std.specs.List.{All, list_any, range_with_len}
-use Rattle.std.specs.Prelude.{IsTrue}
+use Rattle.std.specs.List.{range_with_len}
 use Rattle.league.specs.Counts.{Counts, slot_count, teams_of}
 use Rattle.league.specs.Instance.{IsGame}
 use Rattle.league.specs.declared.game.Game.{Game}
 use Rattle.league.specs.Structure.{IsRoundRobin}
 use Rattle.league.specs.Sets.{is_in}
-use Rattle.moves.specs.Moves.{IsInOwnRange, IsLegal, do_meet, exchange, follows, game, is_between, moved, relabel, slots_linked, teams_linked, times, turned, with_slots, with_teams}
+use Rattle.moves.specs.Moves.{IsInOwnRange, do_meet, exchange, follows, game, moved, slots_linked, teams_linked, times, with_slots, with_teams}
 use Rattle.moves.specs.Outcome.{IsEditOf, IsOutcome}
 use Rattle.moves.specs.Parts.{AreExchangeable, IsClosedSlots, IsClosedTeams, KeepPhases, slots_exchanged, teams_exchanged}
 use Rattle.moves.specs.Places.{IsRound}
-use Rattle.moves.specs.Round.{Edits, IsEdit, Round, round_counts}
+use Rattle.moves.specs.Round.{AreApart, Edits, IsEdit, Round, edited, round_counts}
 use Rattle.moves.specs.declared.swap.Swap.{Swap}
-use Rattle.moves.specs.declared.swap.Swap.TheVariants.{HomeSwap, RoundSwap, TeamSwap, PartRoundSwap, PartTeamSwap}
 use Rattle.moves.proofs.EditLemmas.{fit-of}
-use Rattle.moves.proofs.PlayLemmas.{IsPlayed, met, met-itself, met-le-one, played, round_robin}
+use Rattle.moves.proofs.PlayLemmas.{IsPlayed, met, met-itself, played, round_robin}
 use Rattle.moves.proofs.RoundLemmas.{IsWithin, IsWithin-of, none_else, past_last_slot, past_last_team}
 use Rattle.moves.proofs.SlotLaw.{AreExchangeable-of, IsPlayed-slots_exchanged}
-use Rattle.moves.proofs.SumLemmas.{exchange-other, exchange-first, exchange-second, total, total-same}
+use Rattle.moves.proofs.SumLemmas.{exchange-other}
 use Rattle.moves.proofs.TeamLaw.{IsExchange, IsPlayed-teams_exchanged, KeepPhases-of}
-use Rattle.moves.proofs.WalkLemmas.{IsFound, below_of, found_in}
+use Rattle.moves.proofs.WalkLemmas.{below_of, found_in}
 
 -- the empty edit of a change that leads to no round robin
 pub IsOutcome-refused : (n : ℕ) (phased : Bool) (before after : Counts) (edit : Edits) → edit ≡ record { n = n; out = []; into = [] } → (IsRoundRobin n phased after → ⊥) → IsOutcome n phased before after false edit
@@ -35,15 +33,17 @@ IsOutcome-refused n phased before after edit empty no_way =
       same_n = refl;
       legal = (λ is. absurd (cc), λ is. absurd (no_way is));
       change = λ is. absurd (cc);
+      apart = λ a b r. inl refl;
       fit = All-nil (IsGame n);
       none = λ is. (refl, refl);
     })
 
-pub IsOutcome-done : (n : ℕ) (phased : Bool) (before after : Counts) (edit : Edits) → edit.n ≡ n → IsEdit before after edit → IsPlayed n phased after → IsWithin n after → IsOutcome n phased before after true edit
-IsOutcome-done n phased before after edit same is plays within = record {
+pub IsOutcome-done : (n : ℕ) (phased : Bool) (before after : Counts) (edit : Edits) → edit.n ≡ n → IsEdit before after edit → AreApart edit → IsPlayed n phased after → IsWithin n after → IsOutcome n phased before after true edit
+IsOutcome-done n phased before after edit same is apart plays within = record {
   same_n = same;
   legal = (λ _. round_robin n phased after plays, λ _. refl);
   change = λ _. is;
+  apart = apart;
   fit = fit-of n phased before after edit is plays within;
   none = λ no. absurd (cc);
 }
@@ -55,6 +55,7 @@ IsEditOf-refused n phased m step edit empty no_way =
       same_n = refl;
       legal = (λ is. absurd (cc), λ is. absurd (no_way is.own));
       change = λ is. absurd (cc);
+      apart = λ a b r. inl refl;
       fit = All-nil (IsGame n);
       none = λ is. (refl, refl);
     })
@@ -67,6 +68,7 @@ IsEditOf-outcome n phased m after step result edit outcome own same =
       same_n = here.same_n;
       legal = (λ is. record { own = own; round_robin = here.legal.0 is }, λ legal. here.legal.1 legal.round_robin);
       change = here.change;
+      apart = here.apart;
       fit = here.fit;
       none = here.none;
     }
@@ -94,6 +96,10 @@ IsWithin-teams n m set i j within lt_i lt_j = record {
   slot = λ a b r le. if_zero (set r) (m (exchange i j a) (exchange i j b) r) (m a b r) (within.slot (exchange i j a) (exchange i j b) r le) (within.slot a b r le);
 }
 
+-- the counts after the edit of a move are those after the move
+pub edited-is : (m after : Counts) (edit : Edits) → IsEdit m after edit → edited m edit ≡ after
+edited-is m after edit is = fun_ext (λ i. fun_ext (λ j. fun_ext (λ s. omega (arith, is.moves i j s, is.there i j s))))
+
 -- exchanging two slots, refused and done
 pub slots-refused : (r : Round) (set : ℕ → Bool) (s t : ℕ) (edit : Edits) → IsRound r → s < t → t < slot_count r.n → IsClosedTeams r.n (round_counts r) s t set → edit ≡ record { n = r.n; out = []; into = [] } → (AreExchangeable r.n r.phased (round_counts r) s t set → ⊥) → IsOutcome r.n r.phased (round_counts r) (slots_exchanged set s t (round_counts r)) false edit
 slots-refused r set s t edit round lt last closed empty no_way =
@@ -101,10 +107,10 @@ slots-refused r set s t edit round lt last closed empty no_way =
     IsOutcome-refused r.n r.phased m (slots_exchanged set s t m) edit empty
     (λ is. no_way (AreExchangeable-of r.n r.phased m set s t (played r.n r.phased m round.round_robin) lt last closed (played r.n r.phased (slots_exchanged set s t m) is)))
 
-pub slots-done : (r : Round) (set : ℕ → Bool) (s t : ℕ) (edit : Edits) → IsRound r → s < t → t < slot_count r.n → IsClosedTeams r.n (round_counts r) s t set → edit.n ≡ r.n → AreExchangeable r.n r.phased (round_counts r) s t set → IsEdit (round_counts r) (slots_exchanged set s t (round_counts r)) edit → IsOutcome r.n r.phased (round_counts r) (slots_exchanged set s t (round_counts r)) true edit
-slots-done r set s t edit round lt last closed same may is =
+pub slots-done : (r : Round) (set : ℕ → Bool) (s t : ℕ) (edit : Edits) → IsRound r → s < t → t < slot_count r.n → IsClosedTeams r.n (round_counts r) s t set → edit.n ≡ r.n → AreExchangeable r.n r.phased (round_counts r) s t set → IsEdit (round_counts r) (slots_exchanged set s t (round_counts r)) edit → AreApart edit → IsOutcome r.n r.phased (round_counts r) (slots_exchanged set s t (round_counts r)) true edit
+slots-done r set s t edit round lt last closed same may is apart =
     let m : Counts = round_counts r in
-    IsOutcome-done r.n r.phased m (slots_exchanged set s t m) edit same is
+    IsOutcome-done r.n r.phased m (slots_exchanged set s t m) edit same is apart
     (IsPlayed-slots_exchanged r.n r.phased m set s t (played r.n r.phased m round.round_robin) lt last closed may)
     (IsWithin-slots r.n m set s t (IsWithin-of r round.table) (omega arith) last)
 
@@ -118,10 +124,10 @@ teams-refused r set i j edit round lt last closed empty no_way =
     IsOutcome-refused r.n r.phased m (teams_exchanged set i j m) edit empty
     (λ is. no_way (KeepPhases-of r.n r.phased m i j set (IsExchange-of r set i j round lt last closed) (played r.n r.phased (teams_exchanged set i j m) is)))
 
-pub teams-done : (r : Round) (set : ℕ → Bool) (i j : ℕ) (edit : Edits) → IsRound r → i < j → j < r.n → IsClosedSlots r.n (round_counts r) i j set → edit.n ≡ r.n → KeepPhases r.n r.phased (round_counts r) i j set → IsEdit (round_counts r) (teams_exchanged set i j (round_counts r)) edit → IsOutcome r.n r.phased (round_counts r) (teams_exchanged set i j (round_counts r)) true edit
-teams-done r set i j edit round lt last closed same keep is =
+pub teams-done : (r : Round) (set : ℕ → Bool) (i j : ℕ) (edit : Edits) → IsRound r → i < j → j < r.n → IsClosedSlots r.n (round_counts r) i j set → edit.n ≡ r.n → KeepPhases r.n r.phased (round_counts r) i j set → IsEdit (round_counts r) (teams_exchanged set i j (round_counts r)) edit → AreApart edit → IsOutcome r.n r.phased (round_counts r) (teams_exchanged set i j (round_counts r)) true edit
+teams-done r set i j edit round lt last closed same keep is apart =
     let m : Counts = round_counts r in
-    IsOutcome-done r.n r.phased m (teams_exchanged set i j m) edit same is
+    IsOutcome-done r.n r.phased m (teams_exchanged set i j m) edit same is apart
     (IsPlayed-teams_exchanged r.n r.phased m i j set (IsExchange-of r set i j round lt last closed) keep)
     (IsWithin-teams r.n m set i j (IsWithin-of r round.table) (omega arith) last)
 
@@ -177,7 +183,7 @@ team_swap-same r i j set same a b q =
           ∙ sym back
     ]
 
-both_positive : (x y z w : ℕ) → ((nat_lt 0 x && nat_lt 0 y) || (nat_lt 0 z && nat_lt 0 w)) ≡ true → (1 ≤ x + z) × (1 ≤ y + w)
+pub both_positive : (x y z w : ℕ) → ((nat_lt 0 x && nat_lt 0 y) || (nat_lt 0 z && nat_lt 0 w)) ≡ true → (1 ≤ x + z) × (1 ≤ y + w)
 both_positive x y z w is = (grind (arith, nat_tests), grind (arith, nat_tests))
 
 no_meeting : (x : ℕ) → x ≡ 0 → nat_lt 0 x ≡ false
@@ -186,7 +192,7 @@ no_meeting x e = grind (arith, nat_tests)
 do_none : (x : ℕ) → nat_lt 0 x ≡ false → x ≡ 0
 do_none x e = grind (arith, nat_tests)
 
-below_all : (n k : ℕ) → is_in k (range_with_len 0 n) ≡ true → k < n
+pub below_all : (n k : ℕ) → is_in k (range_with_len 0 n) ≡ true → k < n
 below_all n k among = let lt : k < 0 + n = below_of n 0 k among in omega arith
 
 -- the slots in which i and j don't meet are closed under following

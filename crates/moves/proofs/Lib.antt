@@ -8,6 +8,7 @@ pub mod TeamLaw
 pub mod RoundLemmas
 pub mod PlacedLemmas
 pub mod EditLemmas
+pub mod ApartLemmas
 pub mod OpponentLemmas
 pub mod WalkLemmas
 pub mod StepLemmas
@@ -16,3 +17,5 @@ pub mod HomeLemmas
 pub mod TradeLemmas
 pub mod BoardLemmas
 pub mod RestLemmas
+pub mod ClosureLaw
+pub mod UndoLaw

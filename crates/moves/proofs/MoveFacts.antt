@@ -5,7 +5,7 @@ use Rattle.league.specs.Counts.{Counts, counts_of}
 use Rattle.league.specs.Structure.{pairs_wrong, cells_wrong, phases_wrong}
 use Rattle.league.specs.declared.game.Game.{Game}
 use Rattle.league.proofs.DoubleFour.{four, eleven, last_game}
-use Rattle.moves.specs.Moves.{game, moved, relabel, teams_linked, slots_linked, IsLegal, IsInOwnRange}
+use Rattle.moves.specs.Moves.{game, moved, relabel, teams_linked, slots_linked, IsInOwnRange}
 use Rattle.moves.specs.declared.swap.Swap.{Swap}
 
 abbrev games : List Game
@@ -65,6 +65,12 @@ all_moves-two = refl
 
 all_moves-four : length (all_moves 4) ≡ 123
 all_moves-four = refl
+
+all_moves-six : length (all_moves 6) ≡ 495
+all_moves-six = refl
+
+all_moves-eight : length (all_moves 8) ≡ 1267
+all_moves-eight = refl
 
 -- the teams of a league of two never play another team, so that their exchange changes nothing, and is legal
 team_swap-two : map (relabel 2 (counts_of (game 1 0 0 ∷ game 0 1 1 ∷ [])) (team_swap (0, 1))) (game 1 0 0 ∷ game 0 1 1 ∷ []) ≡ game 1 0 0 ∷ game 0 1 1 ∷ []

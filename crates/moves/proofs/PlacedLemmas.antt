@@ -1,5 +1,5 @@
 -- Tables in which games have been placed are those of the round robin that results.
-use Rattle.std.proofs.Common.{◌≡◌, ◌≢◌, ℕ, ◌+◌, ◌*◌, ◌-◌, ◌<◌, ◌≤◌, Bool, true, false, ◌&&◌, ◌||◌, ◌==◌, nat_lt, if◌then◌else◌, ◌⊎◌, inl, inr, List, [], ◌∷◌, ◌++◌, length, set, get_or, refl, arith, ap, subst, sym, ◌∙◌}
+use Rattle.std.proofs.Common.{◌≡◌, ◌≢◌, ℕ, ◌+◌, ◌*◌, ◌<◌, ◌≤◌, Bool, true, false, ◌&&◌, ◌||◌, ◌==◌, nat_lt, if◌then◌else◌, ◌⊎◌, inl, inr, List, [], ◌∷◌, ◌++◌, length, set, get_or, refl, arith, ap, subst, sym, ◌∙◌}
 use Rattle.std.proofs.Math.Path.{fun_ext}
 use Rattle.std.proofs.lemmas.Bool.{cases_eq, cases_lt, cases_Bool}
 use Rattle.std.proofs.lemmas.Bool.Decides.{nat_tests}
@@ -12,11 +12,11 @@ use Rattle.league.specs.Instance.{IsGame, IsTeamCount}
 use Rattle.league.specs.Structure.{IsRoundRobin}
 use Rattle.league.specs.declared.game.Game.{Game}
 use Rattle.league.proofs.RangeLemmas.{one_if}
-use Rattle.moves.specs.Moves.{game, times}
+use Rattle.moves.specs.Moves.{game}
 use Rattle.moves.specs.Places.{ArePlaced, IsGameOf, IsPlacedAt, IsRound, IsSlotPlacedAt, IsSlotTable, IsTable, is_meeting, is_of, slot_entry}
 use Rattle.moves.specs.Round.{Edits, IsEdit, Round, entry, round_counts}
-use Rattle.moves.proofs.PlayLemmas.{IsPlayed, met, met-itself, opponent, played, round_robin, slot}
-use Rattle.moves.proofs.RoundLemmas.{IsWithin, IsWithin-of, only_game}
+use Rattle.moves.proofs.PlayLemmas.{IsPlayed, met, met-itself, opponent, round_robin, slot}
+use Rattle.moves.proofs.RoundLemmas.{IsWithin, only_game}
 use Rattle.moves.proofs.SumLemmas.{OneIsOne}
 
 -- no game of a list passes a test that all of them fail

@@ -1,14 +1,12 @@
 -- What a round robin says of two teams in a slot and over the season, in sums over numbers below a bound.
-use Rattle.std.proofs.Common.{◌≡◌, ◌≢◌, ℕ, ◌+◌, ◌-◌, ◌*◌, ◌<◌, ◌≤◌, Bool, true, false, ◌==◌, nat_lt, [], ◌∷◌, inl, inr, refl, arith, ap, sym, ◌∙◌, ◌↔◌}
+use Rattle.std.proofs.Common.{◌≡◌, ◌≢◌, ℕ, ◌+◌, ◌-◌, ◌<◌, ◌≤◌, Bool, true, [], ◌∷◌, inl, inr, refl, arith, sym, ◌∙◌, ◌↔◌}
 use Rattle.std.proofs.lemmas.Bool.{cases_eq, cases_order}
-use Rattle.std.proofs.lemmas.Bool.Decides.{nat_tests}
 use Rattle.league.specs.Counts.{Counts, slot_count, slots_of}
 use Rattle.league.specs.Meetings.{games_of}
 use Rattle.league.specs.Structure.{IsPlayedOnce, IsRoundRobin, cells_wrong, first_half, pairs_wrong, phases_wrong}
 use Rattle.league.specs.Venues.{games_on}
 use Rattle.league.specs.declared.class.Side.TheVariants.{Both}
 use Rattle.league.proofs.RoundRobinLemmas.{none_wrong}
-use Rattle.moves.specs.Moves.{do_meet}
 use Rattle.moves.proofs.SumLemmas.{OneIsOne, one-of_total, term-le-total, total, total-add}
 
 -- a round robin, with and without counting

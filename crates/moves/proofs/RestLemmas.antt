@@ -1,10 +1,10 @@
 -- The list of all moves, from one move to the next.
-use Rattle.std.proofs.Common.{◌≡◌, ℕ, suc, ◌+◌, ◌-◌, ◌*◌, ◌<◌, ◌≤◌, List, [], ◌∷◌, ◌++◌, map, append_assoc, Option, Some, None, refl, arith, ap, subst, sym, ◌∙◌}
-use Rattle.std.specs.List.{flat_map, range_with_len}
+use Rattle.std.proofs.Common.{◌≡◌, ℕ, suc, ◌+◌, ◌-◌, ◌<◌, ◌≤◌, List, [], ◌∷◌, ◌++◌, map, append_assoc, arith, ap, sym, ◌∙◌}
+use Rattle.std.specs.List.{range_with_len}
 use Rattle.league.specs.Counts.{slot_count, slots_of, teams_of}
 use Rattle.league.specs.Meetings.{pairs_of}
 use Rattle.moves.specs.Neighbours.{all_moves, home_swap, part_round_swap, part_team_swap, round_swap, team_swap}
-use Rattle.moves.specs.Rest.{LeadsTo, after_part_round, after_part_team, from_part_rounds, from_part_teams, from_rounds, from_teams, moves_from, pairs_after, pairs_from, part_round_swaps, part_team_swaps}
+use Rattle.moves.specs.Rest.{after_part_round, after_part_team, from_part_rounds, from_part_teams, from_rounds, from_teams, moves_from, pairs_after, pairs_from, part_round_swaps, part_team_swaps}
 use Rattle.moves.specs.declared.swap.Swap.{Swap}
 use Rattle.moves.specs.declared.swap.Swap.TheVariants.{HomeSwap, RoundSwap, TeamSwap, PartRoundSwap, PartTeamSwap}
 

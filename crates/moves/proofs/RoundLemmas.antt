@@ -1,15 +1,15 @@
 -- What a board's tables say of the counts.
-use Rattle.std.proofs.Common.{◌≡◌, ◌≢◌, ℕ, ◌+◌, ◌*◌, ◌-◌, ◌<◌, ◌≤◌, Bool, true, false, ◌&&◌, ◌||◌, ◌==◌, nat_lt, if◌then◌else◌, List, ◌⊎◌, inl, inr, refl, arith, ap, subst, sym, ◌∙◌}
+use Rattle.std.proofs.Common.{◌≡◌, ◌≢◌, ℕ, ◌+◌, ◌<◌, ◌≤◌, Bool, true, ◌&&◌, ◌||◌, ◌==◌, nat_lt, if◌then◌else◌, List, ◌⊎◌, inl, inr, refl, arith, ap, sym, ◌∙◌}
 use Rattle.std.proofs.lemmas.Bool.{cases_eq, cases_lt}
 use Rattle.std.proofs.lemmas.Bool.Decides.{nat_tests}
 use Rattle.league.specs.Counts.{Counts, is_game, slot_count}
 use Rattle.league.specs.Instance.{IsGame}
 use Rattle.league.specs.declared.game.Game.{Game}
 use Rattle.league.proofs.RangeLemmas.{one_if}
-use Rattle.moves.specs.Moves.{do_meet, times}
+use Rattle.moves.specs.Moves.{do_meet}
 use Rattle.moves.specs.Places.{IsGameOf, IsRound, IsSlotTable, IsTable, is_of, slot_entry}
 use Rattle.moves.specs.Round.{Round, entry, round_counts}
-use Rattle.moves.proofs.PlayLemmas.{IsPlayed, busy, met, met-itself, met-le-one, opponent, played, slot}
+use Rattle.moves.proofs.PlayLemmas.{IsPlayed, busy, met, met-le-one, played, slot}
 use Rattle.moves.proofs.SumLemmas.{OneIsOne}
 
 -- counts with nothing outside of the league

@@ -1,15 +1,15 @@
 -- When exchanging two teams in a closed set of slots leads to a round robin: exactly where there are no phases, or, in those of the slots that are in
 -- the first half, both meet the same teams.
-use Rattle.std.proofs.Common.{◌≡◌, ◌≢◌, ℕ, ◌+◌, ◌-◌, ◌<◌, ◌≤◌, Bool, true, false, not, ◌&&◌, ◌||◌, ◌==◌, nat_lt, if◌then◌else◌, ◌⊎◌, inl, inr, refl, arith, ap, subst, sym, ◌∙◌}
+use Rattle.std.proofs.Common.{◌≡◌, ◌≢◌, ℕ, ◌+◌, ◌-◌, ◌<◌, ◌≤◌, Bool, true, false, ◌&&◌, ◌||◌, nat_lt, if◌then◌else◌, inl, inr, refl, arith, ap, subst, sym, ◌∙◌}
 use Rattle.std.proofs.lemmas.Bool.{cases_eq, cases_Bool}
 use Rattle.std.proofs.lemmas.Bool.Decides.{nat_tests}
 use Rattle.std.proofs.lemmas.List.Folds.{list_any_at}
 use Rattle.std.proofs.lemmas.List.FromFn.{get_or-range_with_len, length-range_with_len}
 use Rattle.std.specs.List.{list_any, range_with_len}
-use Rattle.league.specs.Counts.{Counts, slot_count, teams_of}
-use Rattle.moves.specs.Moves.{do_meet, exchange, follows}
+use Rattle.league.specs.Counts.{Counts, slot_count}
+use Rattle.moves.specs.Moves.{exchange}
 use Rattle.moves.specs.Parts.{IsClosedSlots, KeepPhases, MeetAlike, early_games, teams_exchanged}
-use Rattle.moves.proofs.PlayLemmas.{IsPlayed, busy, met, met-itself, met-le-one, opponent, slot}
+use Rattle.moves.proofs.PlayLemmas.{IsPlayed, met, met-itself, slot}
 use Rattle.moves.proofs.SumLemmas.{OneIsOne, exchange-below, exchange-first, exchange-other, exchange-second, one-of_total, term-le-total, total, total-add, total-exchanged_all, total-le, total-none, total-one, total-same, total-squeeze, total-swap}
 
 -- a closed set of slots, and two different teams
@@ -40,7 +40,7 @@ apart : (n : ℕ) (phased : Bool) (m : Counts) (i j : ℕ) (set : ℕ → Bool) 
 apart n phased m i j set r e within in_set = no_meeting (m i j r) (m j i r) (e.slots.apart r within in_set)
 
 -- a number below a bound that passes is found
-found : (p : ℕ → Bool) (k x : ℕ) → x < k → p x ≡ true → list_any p (range_with_len 0 k) ≡ true
+pub found : (p : ℕ → Bool) (k x : ℕ) → x < k → p x ≡ true → list_any p (range_with_len 0 k) ≡ true
 found p k x lt is =
     let first : 0 + x ≡ x = omega arith in
     list_any_at p (range_with_len 0 k) x 0 (omega (arith, length-range_with_len 0 k)) (ap p (get_or-range_with_len 0 k x 0 lt ∙ first) ∙ is)
@@ -56,7 +56,7 @@ abbrev pub in_slots : ℕ → Counts → (ℕ → Bool) → ℕ → ℕ → ℕ
 in_slots n m set a b = total (λ r. kept (set r) (m a b r)) (slot_count n)
 
 -- one meeting, in its slot
-in_slots-one : (n : ℕ) (m : Counts) (set : ℕ → Bool) (a b : ℕ) (one : OneIsOne (λ r. m a b r) (slot_count n)) → in_slots n m set a b ≡ kept (set one.at) 1
+pub in_slots-one : (n : ℕ) (m : Counts) (set : ℕ → Bool) (a b : ℕ) (one : OneIsOne (λ r. m a b r) (slot_count n)) → in_slots n m set a b ≡ kept (set one.at) 1
 in_slots-one n m set a b one =
     total-one (λ r. kept (set r) (m a b r)) (slot_count n) one.at one.below (λ r lt ne. kept-none (set r) (m a b r) (λ _. one.others r lt ne))
     ∙ ap (kept (set one.at)) one.one
@@ -207,7 +207,7 @@ early-turned n m set a b = total-same (λ r. kept (set r) (met m a b r)) (λ r. 
 early-none : (n : ℕ) (m : Counts) (set : ℕ → Bool) (a b : ℕ) → ((r : ℕ) → r < slot_count n → set r ≡ true → met m a b r ≡ 0) → early_games n m set a b ≡ 0
 early-none n m set a b none = total-none (λ r. kept (set r) (met m a b r)) (n - 1) (λ r lt. kept-none (set r) (met m a b r) (none r (omega arith)))
 
-kept-one : (b : Bool) (x : ℕ) → kept b x ≡ 1 → (b ≡ true) × (x ≡ 1)
+pub kept-one : (b : Bool) (x : ℕ) → kept b x ≡ 1 → (b ≡ true) × (x ≡ 1)
 kept-one true x one = (refl, one)
 kept-one false x one = absurd (omega arith)
 

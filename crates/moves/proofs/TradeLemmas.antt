@@ -1,10 +1,10 @@
 -- The games of two teams in some slots: where they meet early, where they don't meet, and what they trade.
-use Rattle.std.proofs.Common.{◌≡◌, ◌≢◌, ℕ, ◌+◌, ◌-◌, ◌<◌, ◌≤◌, Bool, true, false, not, ◌&&◌, ◌||◌, ◌==◌, nat_lt, if◌then◌else◌, ◌⊎◌, inl, inr, List, [], ◌∷◌, ◌++◌, length, replicate, set, get_or, refl, arith, ap, subst, sym, ◌∙◌}
-use Rattle.std.proofs.lemmas.Bool.{cases_eq, cases_lt, cases_Bool, both_ways}
+use Rattle.std.proofs.Common.{◌≡◌, ◌≢◌, ℕ, ◌+◌, ◌-◌, ◌<◌, ◌≤◌, Bool, true, false, not, ◌&&◌, ◌||◌, ◌==◌, nat_lt, if◌then◌else◌, ◌⊎◌, inl, inr, List, [], ◌∷◌, ◌++◌, length, replicate, set, get_or, refl, arith, ap, sym, ◌∙◌}
+use Rattle.std.proofs.lemmas.Bool.{cases_eq, cases_Bool}
 use Rattle.std.proofs.lemmas.Bool.Decides.{nat_tests}
 use Rattle.std.proofs.lemmas.List.{get_or-replicate, get_or-set_other, get_or-set_same, length-replicate, length-set}
 use Rattle.std.proofs.lemmas.List.Sums.{sum_by_push}
-use Rattle.league.specs.Counts.{Counts, counts_of, is_game, slot_count}
+use Rattle.league.specs.Counts.{Counts, counts_of, is_game}
 use Rattle.league.specs.Instance.{IsGame}
 use Rattle.league.specs.declared.game.Game.{Game}
 use Rattle.league.proofs.RangeLemmas.{one_if}
@@ -14,7 +14,7 @@ use Rattle.moves.specs.Places.{is_of}
 use Rattle.moves.proofs.OpponentLemmas.{not_opponent-away, not_opponent-home}
 use Rattle.moves.proofs.PlayLemmas.{met}
 use Rattle.moves.proofs.RoundLemmas.{IsOnly}
-use Rattle.moves.proofs.SumLemmas.{term-le-total, total, total-none}
+use Rattle.moves.proofs.SumLemmas.{term-le-total, total-none}
 
 -- an early slot among these
 abbrev IsEarlyMark : ℕ → (ℕ → Bool) → ℕ → Type 0

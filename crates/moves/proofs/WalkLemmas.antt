@@ -1,14 +1,14 @@
 -- The numbers that so many steps reach, and what a walk has marked when it comes back.
-use Rattle.std.proofs.Common.{◌≡◌, ◌≢◌, ℕ, zero, suc, ◌+◌, ◌-◌, ◌<◌, ◌≤◌, Bool, true, false, ◌&&◌, ◌||◌, ◌==◌, if◌then◌else◌, ◌⊎◌, inl, inr, List, [], ◌∷◌, length, get_or, replicate, set, refl, arith, ap, subst, sym, ◌∙◌}
+use Rattle.std.proofs.Common.{◌≡◌, ℕ, zero, suc, ◌+◌, ◌-◌, ◌<◌, ◌≤◌, Bool, true, false, ◌||◌, ◌==◌, ◌⊎◌, inl, inr, List, [], ◌∷◌, length, get_or, replicate, set, refl, arith, ap, subst, sym, ◌∙◌}
 use Rattle.std.proofs.lemmas.Bool.{cases_eq, cases_Bool, eqb-true, eq-eqb, or_cases, or_left, or_right}
 use Rattle.std.proofs.lemmas.List.{get_or-set_other, get_or-set_same}
-use Rattle.std.proofs.lemmas.List.Folds.{Any-from_list_any, list_any_at}
+use Rattle.std.proofs.lemmas.List.Folds.{list_any_at}
 use Rattle.std.proofs.lemmas.List.FromFn.{get_or-range_with_len, length-range_with_len}
 use Rattle.std.proofs.lemmas.List.Sums.{sum_by-cons, sum_by-set}
 use Rattle.std.specs.List.{count_by, filter, list_any, range_with_len}
 use Rattle.league.proofs.RangeLemmas.{one_if, one_if-le}
 use Rattle.league.specs.Sets.{is_in}
-use Rattle.moves.specs.Closure.{IsLeastClosed, closure, reached, with_next}
+use Rattle.moves.specs.Closure.{closure, reached}
 
 pub any_cons : (p : ℕ → Bool) (x : ℕ) (xs : List ℕ) → list_any p (x ∷ xs) ≡ (p x || list_any p xs)
 any_cons p x xs = refl
@@ -30,7 +30,7 @@ in_filter p y (x ∷ xs) among passes =
           ]
     ]
 
-passes_filter : (p : ℕ → Bool) (y : ℕ) (xs : List ℕ) → is_in y (filter p xs) ≡ true → p y ≡ true
+pub passes_filter : (p : ℕ → Bool) (y : ℕ) (xs : List ℕ) → is_in y (filter p xs) ≡ true → p y ≡ true
 passes_filter p y [] among = absurd (cc)
 passes_filter p y (x ∷ xs) among =
     elim (cases_Bool (p x)) as (λ _. p y ≡ true) [
@@ -122,7 +122,7 @@ reached-later next k x steps (suc more) y among lt =
     subst P same (reached-keep next k x (steps + more) y (reached-later next k x steps more y among lt) lt)
 
 -- what is reached is x, or below the bound
-which_reached : (next : ℕ → ℕ → Bool) (k x steps y : ℕ) → is_in y (reached next k x steps) ≡ true → (y ≡ x) ⊎ (y < k)
+pub which_reached : (next : ℕ → ℕ → Bool) (k x steps y : ℕ) → is_in y (reached next k x steps) ≡ true → (y ≡ x) ⊎ (y < k)
 which_reached next k x zero y among =
     elim (or_cases (x == y) (is_in y []) (sym (any_cons (λ z. z == y) x []) ∙ among)) as (λ _. (y ≡ x) ⊎ (y < k)) [
       | inl here ↦ inl (sym (eqb-true x y here))

@@ -24,3 +24,8 @@ pub record IsLeastClosed (next : ℕ → ℕ → Bool) (k x : ℕ) (set : ℕ �
       (other : ℕ → Bool) → other x ≡ true
       → ((a b : ℕ) → b < k → other a ≡ true → next a b ≡ true → other b ≡ true)
       → (a : ℕ) → set a ≡ true → other a ≡ true
+
+-- so it is in each relation, for a number below k
+abbrev pub ClosuresAreLeast : Type 0
+ClosuresAreLeast =
+    (next : ℕ → ℕ → Bool) (k x : ℕ) → x < k → IsLeastClosed next k x (λ a. is_in a (closure next k x))

@@ -1,9 +1,11 @@
 -- What a reader of a claim must believe:
 --
--- Read in this order. The least set that leads on from a number, and the five kinds of moves:
+-- Read in this order. The least set that leads on from a number, the five kinds of moves, and that each legal one
+-- undoes itself:
 pub mod Closure
 pub mod Moves
 pub mod Neighbours
+pub mod Undo
 -- A round robin as a table, and what a move changes of it:
 pub mod Round
 pub mod Places

@@ -2,7 +2,7 @@
 -- of slots in which two teams are.
 use Rattle.std.specs.Prelude.{◌≡◌, ℕ, ◌+◌, ◌-◌, ◌*◌, ◌<◌, ◌≤◌, Bool, true, false, ◌&&◌, ◌||◌, ◌==◌, nat_lt, length}
 use Rattle.std.specs.Prelude.{if◌then◌else◌, ◌⊎◌}
-use Rattle.std.specs.List.{range_with_len, sum_by}
+use Rattle.std.specs.List.{sum_by}
 use Rattle.league.specs.Counts.{Counts, counts_of, slot_count}
 use Rattle.league.specs.Structure.{first_half}
 use Rattle.moves.specs.Moves.{do_meet, exchange, follows}

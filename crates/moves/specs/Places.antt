@@ -1,7 +1,7 @@
 -- Tables of games and of slots: for each team 78 places, one for each slot of the longest season, and for each home
 -- team 40 places, one for each away team.
 use Rattle.std.specs.Prelude.{◌≡◌, ◌≢◌, ℕ, ◌+◌, ◌*◌, ◌<◌, ◌≤◌, Bool, true, false, ◌&&◌, ◌||◌, ◌==◌, ◌⊎◌, List, length}
-use Rattle.std.specs.Prelude.{slice_index, slice_index_or}
+use Rattle.std.specs.Prelude.{slice_index}
 use Rattle.std.specs.List.{All, Contains}
 use Rattle.league.specs.Counts.{Counts, slot_count}
 use Rattle.league.specs.Instance.{IsGame, IsTeamCount}

@@ -57,7 +57,8 @@ after_part_round n i s t =
 
 abbrev pub after_part_team : ℕ → ℕ → ℕ → ℕ → List Swap
 after_part_team n i j s =
-    map (part_team_swap (i, j)) (range_with_len (s + 1) (slot_count n - (s + 1))) ++ part_team_swaps n (pairs_after n i j)
+    map (part_team_swap (i, j)) (range_with_len (s + 1) (slot_count n - (s + 1)))
+    ++ part_team_swaps n (pairs_after n i j)
 
 -- the moves from the next one on, if there is one
 abbrev pub rest_of : ℕ → Option Swap → List Swap

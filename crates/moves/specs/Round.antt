@@ -1,9 +1,7 @@
 -- A round robin as a table, and the games that a move changes.
-use Rattle.std.specs.Prelude.{◌≡◌, ◌≢◌, ℕ, ◌+◌, ◌-◌, ◌*◌, ◌<◌, ◌≤◌, Bool, true, ◌&&◌, ◌||◌, ◌==◌, nat_lt, if◌then◌else◌}
-use Rattle.std.specs.Prelude.{List, length, slice_index_or}
+use Rattle.std.specs.Prelude.{◌≡◌, ℕ, ◌+◌, ◌-◌, ◌*◌, ◌≤◌, Bool, ◌&&◌, nat_lt, if◌then◌else◌}
+use Rattle.std.specs.Prelude.{List, slice_index_or, ◌⊎◌}
 use Rattle.league.specs.Counts.{Counts, counts_of, is_game, slot_count}
-use Rattle.league.specs.Instance.{IsGame}
-use Rattle.league.specs.Structure.{IsRoundRobin}
 use Rattle.league.specs.declared.game.Game.{Game}
 use Rattle.moves.specs.Moves.{game}
 
@@ -35,6 +33,10 @@ pub record Edits : Type 0 where
 pub record IsEdit (before after : Counts) (edit : Edits) : Type 0 where
   pub there : (i j s : ℕ) → counts_of edit.out i j s ≤ before i j s
   pub moves : (i j s : ℕ) → after i j s + counts_of edit.out i j s ≡ before i j s + counts_of edit.into i j s
+
+-- no game is both taken out and put in
+abbrev pub AreApart : Edits → Type 0
+AreApart edit = (i j s : ℕ) → (counts_of edit.out i j s ≡ 0) ⊎ (counts_of edit.into i j s ≡ 0)
 
 -- the counts after an edit
 abbrev pub edited : Counts → Edits → Counts

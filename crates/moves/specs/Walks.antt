@@ -1,5 +1,5 @@
 -- Walks that mark teams or slots on their way.
-use Rattle.std.specs.Prelude.{◌≡◌, ◌≢◌, ℕ, ◌<◌, ◌≤◌, Bool, true, false, ◌||◌, ◌⊎◌, List, slice_index_or}
+use Rattle.std.specs.Prelude.{◌≡◌, ◌≢◌, ℕ, ◌<◌, Bool, true, false, ◌||◌, ◌⊎◌, List, slice_index_or}
 use Rattle.std.specs.List.{count_by}
 use Rattle.league.specs.Counts.{Counts, slot_count}
 use Rattle.league.specs.Sets.{is_in}

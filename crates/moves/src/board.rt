@@ -1,5 +1,6 @@
 //! A board: a double round robin as tables, so that every question of a move is a look-up.
-ghost use Rattle.std.specs.Prelude.{◌≡◌, ◌≢◌, ℕ, ◌+◌, ◌*◌, ◌<◌, ◌≤◌, ◌&&◌, ◌||◌, ◌==◌, if◌then◌else◌, length, true, false, IfOk};
+ghost use Rattle.std.specs.Prelude.{◌≡◌, ◌≢◌, ℕ, ◌+◌, ◌*◌, ◌<◌, ◌≤◌, ◌&&◌, ◌||◌, ◌==◌};
+ghost use Rattle.std.specs.Prelude.{if◌then◌else◌, length, true, false, IfOk};
 ghost use Rattle.std.specs.List.{All};
 ghost use Rattle.league.specs.Counts.{counts_of, is_game, slot_count};
 ghost use Rattle.league.specs.Instance.{IsGame, IsTeamCount};
@@ -15,8 +16,8 @@ use std::alloc::{AllocError, Global};
 use std::marker::Model;
 
 /// A double round robin of n teams, perhaps phased: for each team and slot the team's game, and for each two teams the
-/// slot in which the first is at home to the second. It is seen as n, whether it is phased, and the table of games, from
-/// which `round_counts` says how often each game is played.
+/// slot in which the first is at home to the second. It is seen as n, whether it is phased, and the table of games,
+/// from which `round_counts` says how often each game is played.
 #[derive(Drop)]
 pub struct Board {
     n: u16,

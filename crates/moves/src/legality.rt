@@ -6,8 +6,9 @@ ghost use Rattle.league.specs.Instance.{IsGame};
 ghost use Rattle.moves.specs.Moves.{IsLegal, IsOfLeague, moved};
 ghost use Rattle.moves.specs.Outcome.{IsEditOf, IsOutcome};
 ghost use Rattle.moves.specs.Parts.{IsClosedSlots, IsClosedTeams, slots_exchanged, teams_exchanged};
-ghost use Rattle.moves.specs.Round.{IsEdit, round_counts};
-ghost use Rattle.moves.specs.declared.swap.Swap.TheVariants.{HomeSwap, RoundSwap, TeamSwap, PartRoundSwap, PartTeamSwap};
+ghost use Rattle.moves.specs.Round.{AreApart, IsEdit, round_counts};
+ghost use Rattle.moves.specs.declared.swap.Swap.TheVariants.{HomeSwap, RoundSwap, TeamSwap};
+ghost use Rattle.moves.specs.declared.swap.Swap.TheVariants.{PartRoundSwap, PartTeamSwap};
 
 use crate::board::Board;
 use crate::edit::Edit;
@@ -18,9 +19,10 @@ use crate::turn::turn;
 use crate::walks::{linked_slots, linked_teams};
 use league::{SlotId, TeamId};
 
-/// Whether a move of teams and slots of a board's league is legal on the board: then the edit becomes the games that the
-/// move takes out and puts in, and else it becomes empty. A legal move that changes no game has an empty edit too. It
-/// takes no memory, and looks at the games alone that the move touches, and not at the season.
+/// Whether a move of teams and slots of a board's league is legal on the board: then the edit becomes the games that
+/// the move takes out and puts in, none of them in both lists, and else it becomes empty. A legal move that changes no
+/// game has an empty edit too. It takes no memory, and looks at the games alone that the move touches, and not at the
+/// season.
 pub fn edit_of(step: &Swap, board: &Board, edit: &mut Edit) -> bool
     requires league { IsOfLeague board.now.n step.now }
     requires n { edit.old.n ≡ board.now.n }
@@ -30,6 +32,7 @@ pub fn edit_of(step: &Swap, board: &Board, edit: &mut Edit) -> bool
     // Taking `out` off the board and adding `into` gives the move's relabelling.
     ensures edit { result ≡ true
         → IsEdit (round_counts board.now) (moved board.now.n (round_counts board.now) step.now) edit.new }
+    ensures apart { AreApart edit.new }
     ensures fit { All (IsGame board.now.n) edit.new.into }
     ensures none { result ≡ false → (edit.new.out ≡ []) × (edit.new.into ≡ []) }
 {
@@ -156,7 +159,8 @@ fn exchange_teams_if_legal(
     requires empty { edit.old ≡ record { n = board.now.n; out = []; into = [] } }
     requires order { i.0 < j.0 }
     requires j { j.0 < board.now.n }
-    requires closed { IsClosedSlots board.now.n (round_counts board.now) i.0 j.0 (λ r. slice_index_or marks.now r false) }
+    requires closed { IsClosedSlots board.now.n (round_counts board.now) i.0 j.0
+        (λ r. slice_index_or marks.now r false) }
     ensures { IsOutcome board.now.n board.now.phased (round_counts board.now)
         (teams_exchanged (λ r. slice_index_or marks.now r false) i.0 j.0 (round_counts board.now)) result edit.new }
 {

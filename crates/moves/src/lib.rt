@@ -7,6 +7,7 @@
 
 mod board;
 mod edit;
+pub mod laws;
 mod legality;
 mod move_list;
 mod neighbours;

@@ -1,10 +1,10 @@
 //! Moves that exchange two slots in the games of some teams.
-ghost use Rattle.std.specs.Prelude.{◌≡◌, ◌≢◌, ℕ, ◌+◌, ◌*◌, ◌<◌, ◌≤◌, ◌&&◌, ◌==◌, ◌↔◌, if◌then◌else◌, [], length, slice_index_or};
-ghost use Rattle.std.specs.Prelude.{false, IsTrue};
+ghost use Rattle.std.specs.Prelude.{◌≡◌, ◌≢◌, ℕ, ◌+◌, ◌*◌, ◌<◌, ◌≤◌, ◌&&◌, ◌==◌, ◌↔◌};
+ghost use Rattle.std.specs.Prelude.{if◌then◌else◌, [], length, slice_index_or, false, IsTrue};
 ghost use Rattle.league.specs.Counts.{counts_of, slot_count};
 ghost use Rattle.moves.specs.Parts.{AreExchangeable, HaveSamePairs, is_early, slots_exchanged};
 ghost use Rattle.moves.specs.Moves.{do_meet};
-ghost use Rattle.moves.specs.Round.{IsEdit, round_counts};
+ghost use Rattle.moves.specs.Round.{AreApart, IsEdit, round_counts};
 
 use crate::board::Board;
 use crate::edit::Edit;
@@ -69,6 +69,7 @@ pub(crate) fn exchange_slots(
     ensures n { edit.new.n ≡ board.now.n }
     ensures edit { IsEdit (round_counts board.now)
         (slots_exchanged (λ a. slice_index_or marks.now a false) s.0 t.0 (round_counts board.now)) edit.new }
+    ensures apart { AreApart edit.new }
 {
     for team in 0..board.n() {
         if marks[team as usize] {

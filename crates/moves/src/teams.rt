@@ -1,10 +1,10 @@
 //! Moves that exchange two teams in some slots.
-ghost use Rattle.std.specs.Prelude.{◌≡◌, ◌≢◌, ℕ, ◌+◌, ◌*◌, ◌<◌, ◌≤◌, ◌&&◌, ◌||◌, ◌==◌, ◌↔◌, not, if◌then◌else◌, [], length};
-ghost use Rattle.std.specs.Prelude.{true, false, slice_index_or, IsTrue};
+ghost use Rattle.std.specs.Prelude.{◌≡◌, ◌≢◌, ℕ, ◌+◌, ◌*◌, ◌<◌, ◌≤◌, ◌&&◌, ◌||◌, ◌==◌, ◌↔◌};
+ghost use Rattle.std.specs.Prelude.{not, if◌then◌else◌, [], length, true, false, slice_index_or, IsTrue};
 ghost use Rattle.league.specs.Counts.{counts_of, slot_count};
 ghost use Rattle.moves.specs.Moves.{do_meet, exchange};
 ghost use Rattle.moves.specs.Parts.{KeepPhases, MeetAlike, early_games, teams_exchanged};
-ghost use Rattle.moves.specs.Round.{IsEdit, round_counts};
+ghost use Rattle.moves.specs.Round.{AreApart, IsEdit, round_counts};
 
 use crate::board::Board;
 use crate::edit::Edit;
@@ -101,6 +101,7 @@ pub(crate) fn exchange_teams(
     ensures n { edit.new.n ≡ board.now.n }
     ensures edit { IsEdit (round_counts board.now)
         (teams_exchanged (λ r. slice_index_or marks.now r false) i.0 j.0 (round_counts board.now)) edit.new }
+    ensures apart { AreApart edit.new }
 {
     for slot in 0..slot_count(board.n()) {
         if marks[slot as usize] {

@@ -44,3 +44,18 @@ pub returns-in-PartTeamSwap-clause-edit : goal.returns-in-PartTeamSwap-clause-ed
 returns-in-PartTeamSwap-clause-edit c =
     let P : Swap → Type 0 = λ step. c.part_team_swap.result ≡ true → IsEdit (round_counts c.args.board.now) (moved c.args.board.now.n (round_counts c.args.board.now) step) c.part_team_swap.new.edit in
     subst P (sym c.in-PartTeamSwap.is) c.part_team_swap.ensures.change
+
+pub returns-in-HomeSwap-clause-apart : goal.returns-in-HomeSwap-clause-apart
+returns-in-HomeSwap-clause-apart c = c.home_swap.ensures.apart
+
+pub returns-in-RoundSwap-clause-apart : goal.returns-in-RoundSwap-clause-apart
+returns-in-RoundSwap-clause-apart c = c.round_swap.ensures.apart
+
+pub returns-in-TeamSwap-clause-apart : goal.returns-in-TeamSwap-clause-apart
+returns-in-TeamSwap-clause-apart c = c.team_swap.ensures.apart
+
+pub returns-in-PartRoundSwap-clause-apart : goal.returns-in-PartRoundSwap-clause-apart
+returns-in-PartRoundSwap-clause-apart c = c.part_round_swap.ensures.apart
+
+pub returns-in-PartTeamSwap-clause-apart : goal.returns-in-PartTeamSwap-clause-apart
+returns-in-PartTeamSwap-clause-apart c = c.part_team_swap.ensures.apart

@@ -15,4 +15,4 @@ returns c =
     let set : ℕ → Bool = λ a. get_or c.args.marks.now a false in
     let is : c.are_exchangeable.result ≡ true = grind arith in
     slots-done c.args.board.now set c.args.s.0 c.args.t.0 c.exchange_slots.new.edit c.n-round.ensures.round c.requires.order c.requires.t c.requires.closed
-    c.exchange_slots.ensures.n (c.are_exchangeable.ensures.0 is) c.exchange_slots.ensures.edit
+    c.exchange_slots.ensures.n (c.are_exchangeable.ensures.0 is) c.exchange_slots.ensures.edit c.exchange_slots.ensures.apart

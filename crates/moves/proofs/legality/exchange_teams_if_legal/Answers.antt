@@ -15,4 +15,4 @@ returns c =
     let set : ℕ → Bool = λ r. get_or c.args.marks.now r false in
     let is : c.keep_phases.result ≡ true = grind arith in
     teams-done c.args.board.now set c.args.i.0 c.args.j.0 c.exchange_teams.new.edit c.n-round.ensures.round c.requires.order c.requires.j c.requires.closed
-    c.exchange_teams.ensures.n (c.keep_phases.ensures.0 is) c.exchange_teams.ensures.edit
+    c.exchange_teams.ensures.n (c.keep_phases.ensures.0 is) c.exchange_teams.ensures.edit c.exchange_teams.ensures.apart

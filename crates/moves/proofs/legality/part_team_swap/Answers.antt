@@ -1,4 +1,4 @@
-use Rattle.std.proofs.Common.{◌≡◌, ℕ, ◌<◌, Bool, false, get_or, arith}
+use Rattle.std.proofs.Common.{ℕ, ◌<◌, Bool, false, get_or, arith}
 use Rattle.moves.specs.Parts.{teams_exchanged}
 use Rattle.moves.specs.Round.{round_counts}
 use Rattle.moves.specs.declared.swap.Swap.TheVariants.{PartTeamSwap}

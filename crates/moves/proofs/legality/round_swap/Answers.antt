@@ -1,4 +1,4 @@
-use Rattle.std.proofs.Common.{◌≡◌, ℕ, Bool, true, false, get_or, replicate, arith}
+use Rattle.std.proofs.Common.{ℕ, Bool, true, false, get_or, replicate}
 use Rattle.moves.specs.Parts.{slots_exchanged}
 use Rattle.moves.specs.Round.{round_counts}
 use Rattle.moves.specs.declared.swap.Swap.TheVariants.{RoundSwap}

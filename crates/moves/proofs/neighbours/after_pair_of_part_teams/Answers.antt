@@ -1,4 +1,4 @@
-use Rattle.std.proofs.Common.{◌≡◌, ◌<◌, arith, ap, ◌∙◌}
+use Rattle.std.proofs.Common.{arith, ap, ◌∙◌}
 use Rattle.moves.specs.Rest.{part_team_swaps}
 use Rattle.moves.proofs.RestLemmas.{part_teams-from}
 use Rattle.moves.proofs.neighbours.after_pair_of_part_teams.Goals as goal

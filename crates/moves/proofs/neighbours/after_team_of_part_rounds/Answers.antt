@@ -1,4 +1,4 @@
-use Rattle.std.proofs.Common.{◌≡◌, ◌<◌, ◌+◌, arith, ◌∙◌}
+use Rattle.std.proofs.Common.{◌+◌, arith, ◌∙◌}
 use Rattle.moves.proofs.RestLemmas.{from_part_teams-start, part_rounds-from, part_rounds-none}
 use Rattle.moves.proofs.neighbours.after_team_of_part_rounds.Goals as goal
 

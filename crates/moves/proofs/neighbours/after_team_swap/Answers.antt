@@ -1,4 +1,4 @@
-use Rattle.std.proofs.Common.{◌≡◌, ◌<◌, ◌++◌, ℕ, List, map, arith, ap, ◌∙◌}
+use Rattle.std.proofs.Common.{◌++◌, ℕ, List, map, arith, ap, ◌∙◌}
 use Rattle.moves.specs.Neighbours.{team_swap}
 use Rattle.moves.specs.Rest.{from_part_rounds}
 use Rattle.moves.proofs.RestLemmas.{from_part_rounds-start}

@@ -1,7 +1,8 @@
-use Rattle.std.proofs.Common.{◌≡◌, ℕ, ◌<◌, ◌+◌, Bool, true, false, get_or, refl, arith, subst, sym, ◌∙◌}
+use Rattle.std.proofs.Common.{◌≡◌, ℕ, ◌+◌, Bool, false, get_or, refl, subst, sym, ◌∙◌}
 use Rattle.league.specs.Counts.{Counts}
 use Rattle.moves.specs.Parts.{AreExchangedBelow}
 use Rattle.moves.specs.Round.{Edits, round_counts}
+use Rattle.moves.proofs.ApartLemmas.{AreApart-slots}
 use Rattle.moves.proofs.EditLemmas.{AreExchangedBelow-more, AreExchangedBelow-none, AreExchangedBelow-skip, IsPutOff}
 use Rattle.moves.proofs.slots.exchange_slots.Goals as goal
 use Rattle.moves.proofs.slots.exchange_slots.Goals.{then-marks-team, else-marks-team}
@@ -40,3 +41,8 @@ loop-team-init c =
     let set : ℕ → Bool = λ a. get_or c.args.marks.now a false in
     let P : Edits → Type 0 = λ e. AreExchangedBelow 0 set (round_counts c.args.board.now) c.args.s.0 c.args.t.0 e × (e.n ≡ c.args.board.now.n) in
     subst P (sym c.requires.empty) (AreExchangedBelow-none c.args.board.now.n set (round_counts c.args.board.now) c.args.s.0 c.args.t.0, refl)
+
+pub returns-clause-apart : goal.returns-clause-apart
+returns-clause-apart c =
+    let set : ℕ → Bool = λ a. get_or c.args.marks.now a false in
+    AreApart-slots c.args.board.now c.loop-team.team set c.args.s.0 c.args.t.0 c.loop-team.edit c.n-team-end.ensures.round c.requires.order c.requires.t c.loop-team.invariant.0

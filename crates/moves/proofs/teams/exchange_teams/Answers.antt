@@ -1,7 +1,8 @@
-use Rattle.std.proofs.Common.{◌≡◌, ℕ, ◌<◌, ◌+◌, Bool, true, false, get_or, refl, arith, subst, sym, ◌∙◌}
+use Rattle.std.proofs.Common.{◌≡◌, ℕ, ◌+◌, Bool, false, get_or, refl, arith, subst, sym, ◌∙◌}
 use Rattle.league.specs.Counts.{Counts}
 use Rattle.moves.specs.Parts.{AreTradedBelow}
 use Rattle.moves.specs.Round.{Edits, round_counts}
+use Rattle.moves.proofs.ApartLemmas.{AreApart-teams}
 use Rattle.moves.proofs.EditLemmas.{AreTradedBelow-more, AreTradedBelow-none, AreTradedBelow-skip, IsTrade}
 use Rattle.moves.proofs.teams.exchange_teams.Goals as goal
 use Rattle.moves.proofs.teams.exchange_teams.Goals.{then-marks-slot, else-marks-slot}
@@ -41,3 +42,9 @@ loop-slot-init c =
     let set : ℕ → Bool = λ r. get_or c.args.marks.now r false in
     let P : Edits → Type 0 = λ e. AreTradedBelow 0 set (round_counts c.args.board.now) c.args.i.0 c.args.j.0 e × (e.n ≡ c.args.board.now.n) in
     subst P (sym c.requires.empty) (AreTradedBelow-none c.args.board.now.n set (round_counts c.args.board.now) c.args.i.0 c.args.j.0, refl)
+
+pub returns-clause-apart : goal.returns-clause-apart
+returns-clause-apart c =
+    let set : ℕ → Bool = λ r. get_or c.args.marks.now r false in
+    AreApart-teams c.args.board.now c.loop-slot.slot set c.args.i.0 c.args.j.0 c.loop-slot.edit c.n.ensures.round (omega arith) c.requires.i c.requires.j c.requires.differ
+    c.requires.apart c.loop-slot.invariant.0

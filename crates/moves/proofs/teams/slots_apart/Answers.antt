@@ -1,4 +1,4 @@
-use Rattle.std.proofs.Common.{◌<◌, arith}
+use Rattle.std.proofs.Common.{arith}
 use Rattle.moves.specs.Round.{round_counts}
 use Rattle.moves.proofs.TradeLemmas.{unmarked_two}
 use Rattle.moves.proofs.teams.slots_apart.Goals as goal

@@ -1,4 +1,4 @@
-use Rattle.std.proofs.Common.{◌≡◌, ℕ, ◌+◌, ◌&&◌, ◌||◌, ◌==◌, if◌then◌else◌, subst, sym}
+use Rattle.std.proofs.Common.{◌≡◌, ◌+◌, ◌&&◌, ◌||◌, ◌==◌, if◌then◌else◌, subst, sym}
 use Rattle.league.specs.Counts.{counts_of}
 use Rattle.moves.specs.Moves.{exchange}
 use Rattle.moves.specs.Round.{Edits, round_counts}

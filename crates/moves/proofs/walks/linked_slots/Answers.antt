@@ -1,8 +1,8 @@
-use Rattle.std.proofs.Common.{◌≡◌, ℕ, ◌+◌, ◌-◌, ◌<◌, ◌≤◌, Bool, true, false, List, length, set, refl, arith, ap, sym, ◌∙◌}
+use Rattle.std.proofs.Common.{◌≡◌, ℕ, ◌<◌, ◌≤◌, true, false, length, set, refl, arith, ◌∙◌}
 use Rattle.std.proofs.lemmas.List.{length-set}
-use Rattle.league.specs.Counts.{Counts, slot_count}
+use Rattle.league.specs.Counts.{slot_count}
 use Rattle.moves.specs.Round.{round_counts}
-use Rattle.moves.specs.Walks.{IsSlotWalk, is_marked, marked_count}
+use Rattle.moves.specs.Walks.{IsSlotWalk, is_marked}
 use Rattle.moves.proofs.StepLemmas.{IsSlotWalk-more, IsSlotWalk-none, slot_start, slot_walk_closed, slot_walk_end}
 use Rattle.moves.proofs.WalkLemmas.{count-mark, marked-le}
 use Rattle.moves.proofs.walks.linked_slots.Goals as goal

@@ -1,8 +1,7 @@
-use Rattle.std.proofs.Common.{◌≡◌, ℕ, ◌+◌, ◌-◌, ◌<◌, ◌≤◌, Bool, true, false, List, length, set, refl, arith, ap, sym, ◌∙◌}
+use Rattle.std.proofs.Common.{◌≡◌, ℕ, ◌<◌, ◌≤◌, true, false, length, set, refl, arith, ◌∙◌}
 use Rattle.std.proofs.lemmas.List.{length-set}
-use Rattle.league.specs.Counts.{Counts, slot_count}
 use Rattle.moves.specs.Round.{Round, round_counts}
-use Rattle.moves.specs.Walks.{IsTeamWalk, is_marked, marked_count}
+use Rattle.moves.specs.Walks.{IsTeamWalk, is_marked}
 use Rattle.moves.proofs.OpponentLemmas.{meets_back}
 use Rattle.moves.proofs.StepLemmas.{IsTeamStep, IsTeamWalk-more, IsTeamWalk-none, count-more, team_start, team_walk_closed, team_walk_end}
 use Rattle.moves.proofs.WalkLemmas.{count-mark, marked-le}

@@ -1,4 +1,4 @@
-use Rattle.std.proofs.Common.{◌≡◌, ◌≢◌, ℕ, ◌+◌, ◌<◌, ◌≤◌, ◌==◌, if◌then◌else◌, refl, arith, ap, sym, ◌∙◌}
+use Rattle.std.proofs.Common.{◌≡◌, arith, sym, ◌∙◌}
 use Rattle.moves.specs.Round.{round_counts}
 use Rattle.moves.proofs.OpponentLemmas.{apart-by, follows-away, follows-home, not_opponent-away, not_opponent-home, played_at}
 use Rattle.moves.proofs.walks.next_slot.Goals as goal

@@ -1,8 +1,4 @@
-use Rattle.std.proofs.Common.{◌≡◌, ℕ, ◌≤◌, ◌++◌, List, [], length, take, drop, arith, subst, sym, ◌∙◌}
-use Rattle.std.specs.List.{All}
-use Rattle.league.specs.Counts.{counts_of}
-use Rattle.league.specs.Instance.{IsGame}
-use Rattle.league.specs.Structure.{IsRoundRobin}
+use Rattle.std.proofs.Common.{◌≡◌, ℕ, ◌++◌, List, length, take, drop, arith, subst, sym}
 use Rattle.league.specs.declared.game.Game.{Game}
 use Rattle.moves.specs.Places.{ArePlaced, IsRound, IsSlotTable}
 use Rattle.moves.specs.Round.{Edits, Round, edited, round_counts}

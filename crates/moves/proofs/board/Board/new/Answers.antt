@@ -1,10 +1,10 @@
-use Rattle.std.proofs.Common.{◌≡◌, ℕ, ◌++◌, List, [], length, take, drop, arith, subst, sym, ◌∙◌}
+use Rattle.std.proofs.Common.{◌≡◌, ℕ, ◌++◌, List, length, take, drop, arith, subst, sym}
 use Rattle.std.specs.List.{All}
 use Rattle.league.specs.Counts.{counts_of}
 use Rattle.league.specs.Instance.{IsGame}
 use Rattle.league.specs.declared.game.Game.{Game}
 use Rattle.moves.specs.Places.{ArePlaced, IsRound, IsSlotTable}
-use Rattle.moves.specs.Round.{Round, round_counts}
+use Rattle.moves.specs.Round.{round_counts}
 use Rattle.moves.proofs.BoardLemmas.{IsBoard-new, fit-wider, written}
 use Rattle.moves.proofs.PlacedLemmas.{IsBoard}
 use Rattle.moves.proofs.board.Board.new.Goals as goal
