@@ -145,8 +145,12 @@ pub analysis_replay : (rows : List Row) (n : ℕ) (lit : ℕ → Literal) (reaso
 analysis_replay rows n lit reason role before number is values kept =
     hints_from rows n lit reason role before is.used n (omega arith) (number ∷ [])
     (λ w knows. replay_at rows number [] w is.row is.resolves.named (λ calm.
-    absurd (omega (arith, is.conflict, not_less (reach w is.row.terms) is.row.degree calm,
-    reach-falls (before n) w is.row.terms (falls rows n lit role n (before n) w number is.row is.resolves knows)))))
+    absurd (omega (
+      arith,
+      is.conflict,
+      not_less (reach w is.row.terms) is.row.degree calm,
+      reach-falls (before n) w is.row.terms (falls rows n lit role n (before n) w number is.row is.resolves knows),
+    ))))
     values (record { kept = kept; marked = λ j below part. absurd (omega (arith, below)) })
 
 -- ---- the clause made false

@@ -153,8 +153,12 @@ part_at_most values m = at_most (value_of values m)
 reach_none : (values : ℕ → Value) (c : List Literal) → ((m : Literal) → Contains c m → value_of values m ≡ False) → reach values (map unit c) ≡ 0
 reach_none values [] false_all = refl
 reach_none values (x ∷ c) false_all =
-    omega (arith, sum_by-cons (part values) (unit x) (map unit c), part_false values x (false_all x (0, omega arith, refl)),
-    reach_none values c (λ m there. false_all m (suc there.0, omega (arith, there.1), there.2)))
+    omega (
+      arith,
+      sum_by-cons (part values) (unit x) (map unit c),
+      part_false values x (false_all x (0, omega arith, refl)),
+      reach_none values c (λ m there. false_all m (suc there.0, omega (arith, there.1), there.2)),
+    )
 
 -- where all but one of the literals are false, at most 1 is within reach
 reach_one : (values : ℕ → Value) (c : List Literal) (l : Literal) → Differ c → ((m : Literal) → Contains c m → m ≢ l → value_of values m ≡ False) → reach values (map unit c) ≤ 1
@@ -163,13 +167,20 @@ reach_one values (x ∷ c) l differ others =
     elim (cases_Bool (is_same x l)) [
       | inl same ↦
           let x_is : x ≡ l = same_literal x l same in
-          omega (arith, sum_by-cons (part values) (unit x) (map unit c), part_at_most values x,
-          reach_none values c (λ m there. others m (suc there.0, omega (arith, there.1), there.2)
-          (λ is. first_apart x c m differ there (ap (λ (y : Literal). y.var) (x_is ∙ sym is)))))
+          omega (
+            arith,
+            sum_by-cons (part values) (unit x) (map unit c),
+            part_at_most values x,
+            reach_none values c (λ m there. others m (suc there.0, omega (arith, there.1), there.2)
+                (λ is. first_apart x c m differ there (ap (λ (y : Literal). y.var) (x_is ∙ sym is)))),
+          )
       | inr apart ↦
-          omega (arith, sum_by-cons (part values) (unit x) (map unit c),
-          part_false values x (others x (0, omega arith, refl) (λ is. false≢true (sym apart ∙ ap (λ (y : Literal). is_same y l) is ∙ same_refl l))),
-          reach_one values c l (differ_tail x c differ) (λ m there. others m (suc there.0, omega (arith, there.1), there.2)))
+          omega (
+            arith,
+            sum_by-cons (part values) (unit x) (map unit c),
+            part_false values x (others x (0, omega arith, refl) (λ is. false≢true (sym apart ∙ ap (λ (y : Literal). is_same y l) is ∙ same_refl l))),
+            reach_one values c l (differ_tail x c differ) (λ m there. others m (suc there.0, omega (arith, there.1), there.2)),
+          )
     ]
 
 unit_at : (c : List Literal) (l : Literal) (k : ℕ) (d : Term) → k < length c → get_or c k l ≡ l → get_or (map unit c) k d ≡ unit l
@@ -362,5 +373,8 @@ fewer_steps rows vars ss news tidy =
     let some : 0 < 3 ^ vars = omega (arith, code_below [] vars) in
     let below : All (λ x. x < 3 ^ vars) (0 ∷ numbers) =
     All-cons (λ x. x < 3 ^ vars) 0 numbers some (All-map (λ x. x < 3 ^ vars) (λ s. code (clause_of s) vars) ss (λ k d within. code_below (clause_of (get_or ss k d)) vars)) in
-    omega (arith, length-le_from_distinct_below (0 ∷ numbers) (3 ^ vars) distinct_all (any_below (3 ^ vars) (0 ∷ numbers) below),
-    length-map ss (λ (s : Step). code (clause_of s) vars))
+    omega (
+      arith,
+      length-le_from_distinct_below (0 ∷ numbers) (3 ^ vars) distinct_all (any_below (3 ^ vars) (0 ∷ numbers) below),
+      length-map ss (λ (s : Step). code (clause_of s) vars),
+    )

@@ -186,6 +186,7 @@ Marks-mark es terms k limit start lowest now next p t old mid new marks within i
               | inl here ↦ kept_not_apart (sym (ap (λ (i : ℕ). role_at (slice_set mid p Kept) i) here ∙ role_set mid p Kept inside) ∙ apart)
               | inr other ↦ mark.2 (sym (role_other mid p mark.0 Kept other) ∙ apart)
             ]
+
     by_case : (start ≤ p) × (p < now) × (next ≡ p) ⊎ (start ≤ p → now ≤ p) × (next ≡ now)
     by_case =
         elim (cases_lt p start) [
@@ -195,14 +196,17 @@ Marks-mark es terms k limit start lowest now next p t old mid new marks within i
             | inr past ↦ let none : start ≤ p → now ≤ p = λ f. past in inr (none, same none)
           ]
         ]
+
     next_low : next ≤ now
     next_low = elim by_case [ inl low ↦ omega (arith, low.1, low.2) | inr kept ↦ omega (arith, kept.1) ]
+
     not_here : (j : ℕ) → start ≤ j → j < next → j ≡ p → ⊥
     not_here j from below here =
         elim by_case [
           | inl low ↦ absurd (omega (arith, low.2, below, here))
           | inr kept ↦ absurd (omega (arith, kept.0 (omega (arith, from, here)), kept.1, below, here))
         ]
+
     where_next : (next ≡ lowest) ⊎ ((start ≤ next) × (next < limit) × (role_at (slice_set mid p Kept) next ≡ Kept))
     where_next =
         elim by_case [
@@ -211,11 +215,14 @@ Marks-mark es terms k limit start lowest now next p t old mid new marks within i
           | inr kept ↦ elim marks.at [
             | inl first ↦ inl (kept.1 ∙ first)
             | inr found ↦
-                inr (omega (arith, found.0, kept.1), omega (arith, found.1, kept.1),
-                elim (cases_eq next p) [
-                  | inl here ↦ ap (λ (i : ℕ). role_at (slice_set mid p Kept) i) here ∙ role_set mid p Kept inside
-                  | inr other ↦ role_other mid p next Kept other ∙ ap (λ (i : ℕ). role_at mid i) kept.1 ∙ found.2
-                ])
+                inr (
+                  omega (arith, found.0, kept.1),
+                  omega (arith, found.1, kept.1),
+                  elim (cases_eq next p) [
+                    | inl here ↦ ap (λ (i : ℕ). role_at (slice_set mid p Kept) i) here ∙ role_set mid p Kept inside
+                    | inr other ↦ role_other mid p next Kept other ∙ ap (λ (i : ℕ). role_at mid i) kept.1 ∙ found.2
+                  ],
+                )
           ]
         ]
 

@@ -49,9 +49,16 @@ quiet_two l m two = record {
 
 pub six_quiet : IsQuiet all_free six
 six_quiet =
-    All-from_recursion (IsQuietRow all_free) six
-    (quiet_two (no 3) (yes 4) refl, (quiet_two (no 4) (yes 5) refl, (quiet_two (no 4) (yes 6) refl,
-    (quiet_two (no 5) (no 6) refl, (quiet_two (yes 4) (yes 7) refl, (quiet_two (yes 4) (no 7) refl, tt))))))
+    All-from_recursion (IsQuietRow all_free) six (
+      quiet_two (no 3) (yes 4) refl,
+      (
+        quiet_two (no 4) (yes 5) refl,
+        (
+          quiet_two (no 4) (yes 6) refl,
+          (quiet_two (no 5) (no 6) refl, (quiet_two (yes 4) (yes 7) refl, (quiet_two (yes 4) (no 7) refl, tt))),
+        ),
+      ),
+    )
 
 alone : (other : Literal) → Contains (no 4 ∷ []) other → other ≢ no 4 → value_of all_free other ≡ False
 alone other (zero, within, is) differs = absurd (differs (sym is))

@@ -122,8 +122,13 @@ sum_by-less f g [] y k lost below within is less = absurd (omega (arith, within)
 sum_by-less f g (x ∷ xs) y zero lost below within is less =
     omega (arith, sum_by-cons f x xs, sum_by-cons g x xs, subst (λ z. f z + lost ≤ g z) (sym is) less, sum_by-pointwise f g xs (λ z there. below z (suc there.0, omega (arith, there.1), there.2)))
 sum_by-less f g (x ∷ xs) y (suc k) lost below within is less =
-    omega (arith, sum_by-cons f x xs, sum_by-cons g x xs, below x (0, omega arith, refl),
-    sum_by-less f g xs y k lost (λ z there. below z (suc there.0, omega (arith, there.1), there.2)) (omega (arith, within)) is less)
+    omega (
+      arith,
+      sum_by-cons f x xs,
+      sum_by-cons g x xs,
+      below x (0, omega arith, refl),
+      sum_by-less f g xs y k lost (λ z there. below z (suc there.0, omega (arith, there.1), there.2)) (omega (arith, within)) is less,
+    )
 
 abbrev pub open_coef : (ℕ → Value) → Term → ℕ
 open_coef values t = cond (is_false (value_of values t.lit)) 0 t.coef

@@ -174,10 +174,13 @@ walk_use t conflict start roles new lowest now k number terms proper lawful walk
 } where
   in_roles : k < length roles
   in_roles = omega (arith, walked.within, walked.lengths)
+
   stays : Stays (role_at roles) (role_at new)
   stays j part = marks_stay t.entries terms (length terms) k start lowest (slice_set roles k Used) new now marks j (set_stays roles k in_roles j part)
+
   lowest_kept : role_at (slice_set roles k Used) lowest ≡ Kept
   lowest_kept = role_other roles k lowest Used (λ here. omega (arith, here, above)) ∙ walked.kept
+
   resolved : IsResolved t.rows (lit_at t.entries) (reason_at t.entries) (role_at new) k (before t.entries k)
   resolved = record {
     row = row;
@@ -224,8 +227,10 @@ walk_start t conflict start roles new now terms row proper lawful is numbered in
 } where
   resolves : Resolves t.rows (lit_at t.entries) (role_at new) (length t.entries) (before t.entries (length t.entries)) conflict row
   resolves = resolves_marked t.rows t.entries terms (length t.entries) start (length t.entries) roles new now conflict row proper numbered same marks
+
   conflict_here : IsInConflict (before t.entries (length t.entries)) row
   conflict_here = subst (λ (es : List Entry). IsInConflict (values_of es) row) (sym (take_all (length t.entries) t.entries (omega arith))) in_conflict
+
   found : (start ≤ now) × (now < length t.entries) × (role_at new now ≡ Kept)
   found = elim marks.at [
     | inl none ↦
