@@ -8,6 +8,9 @@ pub mod EmpoweringLemmas
 pub mod MarkLemmas
 -- The walk of an analysis, place by place:
 pub mod WalkLemmas
+-- What is learnt:
+pub mod LearnLemmas
+pub mod SearchLemmas
 -- Logs of news, which have fewer steps than there are clauses:
 pub mod CountLemmas
 -- Values at which propagation stands still:

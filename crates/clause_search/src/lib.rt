@@ -3,7 +3,9 @@
 
 mod analyze;
 mod found;
+mod learn;
 mod mark;
+mod places;
 mod role;
 
 pub use found::Found;
