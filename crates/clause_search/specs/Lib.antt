@@ -11,3 +11,5 @@ pub mod Analysis
 pub mod Trails
 -- How an analysis marks the places of a trail:
 pub mod Marks
+-- What a turn of the search does:
+pub mod Turns

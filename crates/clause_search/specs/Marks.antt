@@ -56,3 +56,8 @@ pub record IsWalked (trail : SeenTrail) (conflict start : ℕ) (roles : List Rol
   pub kept : role_at roles lowest ≡ Kept
   pub apart : (j : ℕ) → start ≤ j → j < lowest → role_at roles j ≡ Apart
   pub alone : (j : ℕ) → k ≤ j → lowest < j → j < length trail.entries → role_at roles j ≢ Kept
+
+-- the walk has come to the trail's front
+pub record IsAnalyzed (trail : SeenTrail) (conflict start : ℕ) (roles : List Role) : Type 0 where
+  pub lowest : ℕ
+  pub walked : IsWalked trail conflict start roles lowest 0

@@ -5,7 +5,11 @@ mod analyze;
 mod found;
 mod learn;
 mod mark;
+mod pick;
 mod places;
 mod role;
+mod turn;
+mod walk;
 
 pub use found::Found;
+pub use walk::search;
