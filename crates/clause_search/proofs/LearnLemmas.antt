@@ -1,7 +1,7 @@
 -- What is learnt where a walk ends: a clause that follows, and is empowering.
 use Rattle.std.proofs.Common.{◌≡◌, ◌≢◌, ℕ, zero, suc, ◌+◌, ◌<◌, ◌≤◌, true, false, List, [], ◌∷◌, ◌++◌, length, get_or, take, drop, replicate, Ok, Option, Some, None}
 use Rattle.std.proofs.Common.{refl, inl, inr, arith, ap, sym, subst, ◌∙◌, get_or-set_same, get_or-set_other}
-use Rattle.std.specs.Prelude.{IfSome, slice_set, is_none}
+use Rattle.std.specs.Prelude.{IfSome, slice_set, is_none, is_some}
 use Rattle.std.specs.List.{All}
 use Rattle.std.proofs.lemmas.List.{append-nil, drop_all, get_or-replicate, get_or_past, length-replicate, take_all}
 use Rattle.std.proofs.lemmas.Bool.{cases_eq, cases_lt, false≢true}
@@ -101,6 +101,10 @@ all_marked vars es role k l each all within is =
 number_some : (o : Option ℕ) → is_none o ≡ false → o ≡ Some (number_of o)
 number_some None some = absurd (false≢true (sym some))
 number_some (Some n) some = refl
+
+pub some_by : (o : Option ℕ) → is_some o ≡ true → is_none o ≡ false
+some_by None some = absurd (false≢true some)
+some_by (Some n) some = refl
 
 -- all reasons, in the trail's order, and then the row in conflict lead to the conflict
 pub root_analysis : (t : SeenTrail) (conflict : ℕ) (row : Row) (role : ℕ → Role) → All IsRow t.rows → AreLawful t.rows t.vars t.entries → IsNumbered t.rows conflict row → IsInConflict (values_of t.entries) row

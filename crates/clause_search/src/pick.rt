@@ -69,7 +69,8 @@ pub(crate) fn filled(alloc: Global, trail: &Trail, vars: u32) -> Result<Assignme
 {
     let mut assignment = Assignment::new(alloc, vars)?;
     for before in 0..vars {
-        let value = is_true(trail.value(Lit::new(before + 1, true)));
+        let lit = Lit::new(before + 1, true);
+        let value = is_true(trail.value(lit));
         assignment.set(before + 1, value);
     }
     Ok(assignment)

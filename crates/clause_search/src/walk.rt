@@ -42,7 +42,8 @@ pub fn search(
     let mut log = Log::new(alloc);
     'turns: loop {
         let found = trail.run();
-        match take_turn(alloc, &mut trail, &mut log, found, prefer, vars, limit)? {
+        let turn = take_turn(alloc, &mut trail, &mut log, found, prefer, vars, limit)?;
+        match turn {
             Turn::Again => {}
             Turn::Satisfied(values) => return Ok(Found::Sat(values)),
             Turn::Refuted => return Ok(Found::Refuted(log)),

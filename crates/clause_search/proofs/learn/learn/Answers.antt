@@ -4,7 +4,7 @@ use Rattle.clause_search.specs.declared.role.Role.{Role}
 use Rattle.clause_search.proofs.LearnLemmas.{walked_news, walked_tidy}
 use Rattle.clause_search.proofs.learn.learn.Goals as goal
 
-pub collect-requires : goal.collect-learnt-requires
+pub collect-requires : goal.collect-requires
 collect-requires c = ap length c.deref.ensures.value ∙ c.in_ok-roles.ensures.walked.lengths
 
 pub keep-requires : goal.keep-requires

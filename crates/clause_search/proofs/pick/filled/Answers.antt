@@ -8,5 +8,5 @@ loop-before-init c = filled_start (values_of c.args.trail.now.entries) c.args.va
 
 pub loop-before-preserved : goal.loop-before-preserved
 loop-before-preserved c =
-    filled_more (values_of c.args.trail.now.entries) c.args.vars c.loop-before.before c.loop-before.assignment c.set.new.self c.is_true-value.result c.value.result c.new.result
-    c.new.ensures c.value.ensures c.is_true-value.ensures (omega arith) c.set.ensures c.loop-before.invariant
+    filled_more (values_of c.args.trail.now.entries) c.args.vars c.loop-before.before c.loop-before.assignment c.set.new.self c.is_true-value.result c.value.result c.new-lit.result
+    c.new-lit.ensures c.value.ensures c.is_true-value.ensures (omega arith) c.set.ensures c.loop-before.invariant
