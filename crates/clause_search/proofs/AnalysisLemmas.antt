@@ -1,23 +1,21 @@
 -- The clause of an analysis follows from the rows, by the reasons of what was resolved and then the row in conflict.
-use Rattle.std.proofs.Common.{◌≡◌, ◌≢◌, ℕ, zero, suc, ◌+◌, ◌<◌, ◌≤◌, Bool, true, false, not, ◌||◌, cond, nat_lt, List, [], ◌∷◌, ◌++◌, map, Option, Some, None, Ok}
+use Rattle.std.proofs.Common.{◌≡◌, ◌≢◌, ℕ, zero, suc, ◌<◌, ◌≤◌, Bool, true, false, not, ◌||◌, cond, nat_lt, List, [], ◌∷◌, ◌++◌, map, Option, Some, None, Ok}
 use Rattle.std.proofs.Common.{refl, inl, inr, arith, ap, sym, subst, ◌∙◌, append_assoc}
-use Rattle.std.specs.Prelude.{Contains, ◌⊎◌}
-use Rattle.std.specs.List.{AllPairs, fold, list_any}
+use Rattle.std.specs.Prelude.{◌⊎◌}
+use Rattle.std.specs.List.{list_any}
 use Rattle.std.proofs.lemmas.Bool.{cases_Bool, cases_lt, false≢true}
 use Rattle.std.proofs.lemmas.Bool.Decides.{nat_tests}
-use Rattle.std.proofs.lemmas.List.{append-nil, map-append}
+use Rattle.std.proofs.lemmas.List.{map-append}
 use Rattle.std.proofs.lemmas.List.Folds.{list_any-append}
 use Rattle.std.proofs.lemmas.List.Sums.{fold-append}
 use Rattle.rows.specs.Forcing.{all_set, set_true, with_forced}
 use Rattle.rows.specs.Literals.{Literal, negate}
 use Rattle.rows.specs.Rows.{Row}
-use Rattle.rows.specs.Partials.{is_free, opposite_of, reach, value_of}
-use Rattle.rows.specs.declared.lit.Term.{Term}
+use Rattle.rows.specs.Partials.{opposite_of, reach, value_of}
 use Rattle.rows.specs.declared.partial.Value.{Value}
 use Rattle.rows.specs.declared.partial.Value.TheVariants.{True, False, Free}
-use Rattle.refutation.specs.Steps.{Step}
 use Rattle.refutation.specs.Steps.Step.{Clause}
-use Rattle.refutation.specs.Following.{after_row, all_free, clause_row, denied, fault_of, has_opposites, is_in_conflict, judged, replay, row_numbered, row_unless}
+use Rattle.refutation.specs.Following.{after_row, all_free, clause_row, denied, has_opposites, is_in_conflict, judged, replay, row_numbered, row_unless}
 use Rattle.refutation.specs.declared.verdict.Cause.{Cause}
 use Rattle.refutation.specs.declared.verdict.Cause.TheVariants.{UnknownVariable}
 use Rattle.clause_search.specs.Analysis.{IsAnalysis, IsMarked, IsResolved, Resolves, clause_below, hint_of, hints_below, literal_of}

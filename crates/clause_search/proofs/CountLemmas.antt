@@ -1,5 +1,5 @@
 -- Logs of news have fewer steps than there are clauses: 3 to the number of variables.
-use Rattle.std.proofs.Common.{◌≡◌, ◌≢◌, ℕ, zero, suc, ◌+◌, ◌-◌, ◌*◌, ◌^◌, ◌<◌, ◌≤◌, ◌==◌, ◌&&◌, ◌||◌, Bool, true, false, not, cond, eqb, List, [], ◌∷◌, ◌++◌, length, get_or, map}
+use Rattle.std.proofs.Common.{◌≡◌, ◌≢◌, ℕ, zero, suc, ◌+◌, ◌*◌, ◌^◌, ◌<◌, ◌≤◌, ◌==◌, ◌&&◌, ◌||◌, Bool, true, false, not, cond, eqb, List, [], ◌∷◌, ◌++◌, length, get_or, map}
 use Rattle.std.proofs.Common.{refl, inl, inr, arith, ap, sym, subst, ◌∙◌}
 use Rattle.std.specs.Prelude.{Contains, ◌⊎◌}
 use Rattle.std.specs.Bool.{beq}
@@ -15,7 +15,7 @@ use Rattle.std.proofs.lemmas.Map.Steps.{length-le_from_distinct_below}
 use Rattle.rows.specs.Cardinality.{at_least, unit}
 use Rattle.rows.specs.Literals.{Literal, negate, no, yes}
 use Rattle.rows.specs.Rows.{Row}
-use Rattle.rows.specs.Partials.{IsEmpowering, IsQuiet, IsQuietRow, is_false, reach, value_of}
+use Rattle.rows.specs.Partials.{IsEmpowering, IsQuietRow, is_false, reach, value_of}
 use Rattle.rows.specs.declared.lit.Term.{Term}
 use Rattle.rows.specs.declared.partial.Value.{Value}
 use Rattle.rows.specs.declared.partial.Value.TheVariants.{True, False, Free}

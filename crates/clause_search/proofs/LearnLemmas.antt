@@ -1,5 +1,5 @@
 -- What is learnt where a walk ends: a clause that follows, and is empowering.
-use Rattle.std.proofs.Common.{◌≡◌, ◌≢◌, ℕ, zero, suc, ◌+◌, ◌<◌, ◌≤◌, true, false, List, [], ◌∷◌, ◌++◌, length, get_or, take, drop, replicate, Ok, Option, Some, None}
+use Rattle.std.proofs.Common.{◌≡◌, ℕ, zero, suc, ◌+◌, ◌<◌, ◌≤◌, true, false, List, [], ◌∷◌, ◌++◌, length, get_or, take, drop, replicate, Ok, Option, Some, None}
 use Rattle.std.proofs.Common.{refl, inl, inr, arith, ap, sym, subst, ◌∙◌, get_or-set_same, get_or-set_other}
 use Rattle.std.specs.Prelude.{IfSome, slice_set, is_none, is_some}
 use Rattle.std.specs.List.{All}
@@ -8,7 +8,6 @@ use Rattle.std.proofs.lemmas.Bool.{cases_eq, cases_lt, false≢true}
 use Rattle.rows.specs.Literals.{Literal}
 use Rattle.rows.specs.Rows.{IsRow, Row}
 use Rattle.rows.specs.Partials.{IsEmpowering, IsInConflict, value_of}
-use Rattle.rows.specs.declared.lit.Term.{Term}
 use Rattle.rows.specs.declared.partial.Value.TheVariants.{False}
 use Rattle.propagate.specs.Trails.{AreLawful, EachEntry, IsForcedBy, IsNew, IsNumbered, SeenTrail, is_decision, values_of}
 use Rattle.propagate.specs.declared.entry.Entry.{Entry}

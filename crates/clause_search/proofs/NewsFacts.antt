@@ -1,5 +1,5 @@
 -- Seven variables and six clauses, worked out by hand: what follows, what is empowering, and what is spent.
-use Rattle.std.proofs.Common.{◌≡◌, ◌≢◌, ℕ, zero, suc, ◌+◌, ◌<◌, ◌≤◌, List, [], ◌∷◌, ◌++◌, get_or, map, Ok, Err, refl, arith, lit<, sym}
+use Rattle.std.proofs.Common.{◌≡◌, ◌≢◌, ℕ, zero, suc, ◌+◌, ◌<◌, ◌≤◌, List, [], ◌∷◌, get_or, map, Ok, Err, refl, arith, lit<, sym}
 use Rattle.std.specs.Prelude.{Contains}
 use Rattle.rows.specs.Literals.{Literal, yes, no}
 use Rattle.rows.specs.Rows.{Row}

@@ -1,20 +1,20 @@
 -- Literals that are made true in turn, and the reach of a row under other values.
-use Rattle.std.proofs.Common.{◌≡◌, ◌≢◌, ℕ, zero, suc, ◌+◌, ◌-◌, ◌<◌, ◌≤◌, Bool, true, false, ◌&&◌, cond, nat_lt, List, [], ◌∷◌, ◌++◌, length, get_or, map}
+use Rattle.std.proofs.Common.{◌≡◌, ◌≢◌, ℕ, zero, suc, ◌+◌, ◌<◌, ◌≤◌, Bool, true, false, ◌&&◌, cond, nat_lt, List, [], ◌∷◌, length, get_or, map}
 use Rattle.std.proofs.Common.{refl, inl, inr, arith, ap, sym, subst, ◌∙◌}
 use Rattle.std.specs.Prelude.{Contains}
 use Rattle.std.specs.List.{AllPairs, filter, sum_by}
-use Rattle.std.proofs.lemmas.Bool.{cases_Bool, cases_eq, false≢true}
+use Rattle.std.proofs.lemmas.Bool.{cases_eq}
 use Rattle.std.proofs.lemmas.Bool.Decides.{nat_tests}
 use Rattle.std.proofs.lemmas.List.Sums.{sum_by-cons}
 use Rattle.rows.specs.Forcing.{all_set, forced_by, set_true, with_forced}
-use Rattle.rows.specs.Literals.{Literal, negate}
+use Rattle.rows.specs.Literals.{Literal}
 use Rattle.rows.specs.Rows.{Row}
-use Rattle.rows.specs.Partials.{as_value, is_false, is_forced, is_free, opposite_of, reach, value_of}
+use Rattle.rows.specs.Partials.{is_false, is_forced, is_free, reach, value_of}
 use Rattle.rows.specs.declared.lit.Term.{Term}
 use Rattle.rows.specs.declared.partial.Value.{Value}
 use Rattle.rows.specs.declared.partial.Value.TheVariants.{True, False, Free}
 use Rattle.rows.proofs.TrailLemmas.{is_free-value_of, set_true-kept}
-use Rattle.propagate.proofs.ValueLemmas.{free_is, value_of-other, value_of-same, is_free_var}
+use Rattle.propagate.proofs.ValueLemmas.{value_of-other, value_of-same}
 
 -- ---- one literal
 

@@ -2,7 +2,7 @@
 use Rattle.std.proofs.Common.{◌≡◌, ◌≢◌, ℕ, zero, suc, ◌+◌, ◌<◌, ◌≤◌, Bool, true, false, not, cond, List, [], ◌∷◌, get_or, length}
 use Rattle.std.proofs.Common.{refl, inl, inr, arith, ap, sym, ◌∙◌}
 use Rattle.std.specs.Prelude.{Contains, ◌⊎◌}
-use Rattle.std.specs.List.{All, sum_by}
+use Rattle.std.specs.List.{All}
 use Rattle.std.proofs.lemmas.Bool.{cases_lt}
 use Rattle.std.proofs.lemmas.List.{take_all}
 use Rattle.std.proofs.lemmas.List.Elements.{All-contains, All-head, All-tail}
@@ -86,8 +86,12 @@ reach_more : (values : ℕ → Value) (assigned : ℕ → Bool) (x : Term) (term
 reach_more values assigned x terms same (inl less) =
     inl (omega (arith, sum_by-cons (open_coef values) x terms, sum_by-cons (true_coef assigned) x terms, same, less))
 reach_more values assigned x terms same (inr one) =
-    inr (one.0, (suc one.1.0, omega (arith, one.1.1), one.1.2), one.2,
-    omega (arith, sum_by-cons (open_coef values) x terms, sum_by-cons (true_coef assigned) x terms, same, one.3))
+    inr (
+      one.0,
+      (suc one.1.0, omega (arith, one.1.1), one.1.2),
+      one.2,
+      omega (arith, sum_by-cons (open_coef values) x terms, sum_by-cons (true_coef assigned) x terms, same, one.3),
+    )
 
 -- a first term that has none
 reach_none : (values : ℕ → Value) (assigned : ℕ → Bool) (vars : ℕ) (x : Term) (terms : List Term) → values 0 ≡ Free → Agree values assigned vars
@@ -95,9 +99,12 @@ reach_none : (values : ℕ → Value) (assigned : ℕ → Bool) (vars : ℕ) (x 
 reach_none values assigned vars x terms none agree apart known at =
     let rest : reach values terms ≡ weight assigned terms =
     reach_all values assigned vars terms agree
-    (λ k d within. positive (get_or terms k d).lit.var (λ is. apart 0 (suc k) d (omega arith) (omega (arith, within)) (at ∙ sym is))) known in
-    (x, (0, omega arith, refl), free_none values x.lit none at,
-    omega (arith, sum_by-cons (open_coef values) x terms, sum_by-cons (true_coef assigned) x terms, rest, coef_most (is_false (value_of values x.lit)) x.coef))
+    (λ k d within. positive (get_or terms k d).lit.var (λ is. apart 0 (suc k) d (omega arith) (omega (arith, within)) (at ∙ sym is))) known in (
+      x,
+      (0, omega arith, refl),
+      free_none values x.lit none at,
+      omega (arith, sum_by-cons (open_coef values) x terms, sum_by-cons (true_coef assigned) x terms, rest, coef_most (is_false (value_of values x.lit)) x.coef),
+    )
 
 reach_one : (values : ℕ → Value) (assigned : ℕ → Bool) (vars : ℕ) (terms : List Term) → values 0 ≡ Free → Agree values assigned vars
     → AreApart terms → All (λ t. t.lit.var ≤ vars) terms → (reach values terms ≤ weight assigned terms) ⊎ HasFree values assigned terms
@@ -140,7 +147,9 @@ pub filled_satisfies : (t : SeenTrail) (filled : List Bool) → All IsRow t.rows
 filled_satisfies t filled proper known lawful quiet total is =
     let none : values_of t.entries 0 ≡ Free =
     ap (λ (es : List Entry). values_of es 0) (sym (take_all (length t.entries) t.entries (omega arith)))
-    ∙ none_zero t.vars t.entries (lawful-new t.rows t.vars t.entries lawful) (length t.entries) (omega arith) in
-    (is.length_is, λ k d within.
-    satisfies-full (values_of t.entries) (assigned filled) t.vars (get_or t.rows k d) none (λ v from_one most. is.each v from_one most (total v from_one most))
-    (proper k d within) (known k d within) (quiet k d within))
+    ∙ none_zero t.vars t.entries (lawful-new t.rows t.vars t.entries lawful) (length t.entries) (omega arith) in (
+      is.length_is,
+      λ k d within.
+          satisfies-full (values_of t.entries) (assigned filled) t.vars (get_or t.rows k d) none (λ v from_one most. is.each v from_one most (total v from_one most))
+          (proper k d within) (known k d within) (quiet k d within),
+    )

@@ -1,25 +1,21 @@
 -- A log that grows step by step, and what it comes to.
-use Rattle.std.proofs.Common.{◌≡◌, ◌≢◌, ℕ, zero, suc, ◌+◌, ◌<◌, ◌≤◌, Bool, true, false, cond, List, [], ◌∷◌, ◌++◌, length, get_or, map, Ok, Option, Some, None, Result}
+use Rattle.std.proofs.Common.{◌≡◌, ℕ, ◌+◌, ◌<◌, ◌≤◌, Bool, true, false, cond, List, [], ◌∷◌, ◌++◌, length, get_or, map, Ok, Option, None, Result}
 use Rattle.std.proofs.Common.{refl, arith, ap, sym, subst, ◌∙◌, append_assoc}
-use Rattle.std.specs.Prelude.{IfSome}
-use Rattle.std.specs.List.{All, AllPairs}
-use Rattle.std.proofs.lemmas.Bool.{cases_Bool, false≢true}
-use Rattle.std.proofs.lemmas.List.{append-nil, length_push, map-append}
-use Rattle.std.proofs.lemmas.List.Elements.{All-push}
+use Rattle.std.proofs.lemmas.Bool.{false≢true}
+use Rattle.std.proofs.lemmas.List.{append-nil, map-append}
 use Rattle.std.proofs.lemmas.List.Sums.{get_or-le-sum_by}
 use Rattle.rows.specs.Cardinality.{at_least}
 use Rattle.rows.specs.Literals.{Literal}
 use Rattle.rows.specs.Rows.{Row}
-use Rattle.rows.specs.Partials.{IsEmpowering}
 use Rattle.propagate.specs.Trails.{IsQuietBelow, is_decision, level_of}
 use Rattle.propagate.specs.declared.entry.Entry.{Entry}
-use Rattle.refutation.specs.Steps.{Step, clause_of}
+use Rattle.refutation.specs.Steps.{Step}
 use Rattle.refutation.specs.Steps.Step.{Clause}
 use Rattle.refutation.specs.Following.{clause_row, judged}
 use Rattle.refutation.specs.Verdict.{ends_empty, fault_or, first_fault, verdict_by, verdict_of}
 use Rattle.refutation.specs.declared.verdict.Cause.{Cause}
 use Rattle.refutation.specs.declared.verdict.Verdict.TheVariants.{Accepted}
-use Rattle.clause_search.specs.News.{AreNews, IsNews, IsTidy, row_of}
+use Rattle.clause_search.specs.News.{AreNews, IsNews, row_of}
 use Rattle.clause_search.proofs.CountLemmas.{clause_row-differ}
 use Rattle.clause_search.proofs.ReplayLemmas.{Differ}
 
@@ -27,9 +23,11 @@ use Rattle.clause_search.proofs.ReplayLemmas.{Differ}
 
 pub AreNews-push : (rows : List Row) (vars : ℕ) (steps : List Step) (s : Step) → AreNews rows vars steps → IsNews (rows ++ map row_of steps) vars s → AreNews rows vars (steps ++ s ∷ [])
 AreNews-push rows vars [] s news new = (subst (λ (rs : List Row). IsNews rs vars s) (append-nil rows) new, tt)
-AreNews-push rows vars (x ∷ steps) s news new =
-    (news.0, AreNews-push (rows ++ row_of x ∷ []) vars steps s news.1
-    (subst (λ (rs : List Row). IsNews rs vars s) (sym (append_assoc rows (row_of x ∷ []) (map row_of steps))) new))
+AreNews-push rows vars (x ∷ steps) s news new = (
+  news.0,
+  AreNews-push (rows ++ row_of x ∷ []) vars steps s news.1
+      (subst (λ (rs : List Row). IsNews rs vars s) (sym (append_assoc rows (row_of x ∷ []) (map row_of steps))) new),
+)
 
 -- the rows that stand then
 pub rows-push : (rows new : List Row) (steps : List Step) (clause : List Literal) (hints : List ℕ) → Differ clause → new ≡ (rows ++ map row_of steps) ++ at_least 1 clause ∷ []

@@ -1,14 +1,13 @@
 -- What a lawful trail says of the values before each place.
-use Rattle.std.proofs.Common.{◌≡◌, ◌≢◌, ℕ, zero, suc, ◌+◌, ◌-◌, ◌<◌, ◌≤◌, Bool, true, false, List, [], ◌∷◌, ◌++◌, length, get_or, take, None}
-use Rattle.std.proofs.Common.{refl, inl, inr, arith, ap, sym, subst, ◌∙◌}
-use Rattle.std.proofs.lemmas.Bool.{cases_lt, false≢true}
+use Rattle.std.proofs.Common.{◌≡◌, ℕ, zero, suc, ◌+◌, ◌-◌, ◌<◌, ◌≤◌, List, length, take}
+use Rattle.std.proofs.Common.{refl, arith, ap, sym, subst, ◌∙◌}
+use Rattle.std.proofs.lemmas.Bool.{false≢true}
 use Rattle.std.proofs.lemmas.List.{take_more}
 use Rattle.rows.specs.Forcing.{set_true}
-use Rattle.rows.specs.Literals.{Literal, negate}
 use Rattle.rows.specs.Rows.{Row}
-use Rattle.rows.specs.Partials.{is_free, opposite_of, value_of}
+use Rattle.rows.specs.Partials.{is_free, value_of}
 use Rattle.rows.specs.declared.partial.Value.{Value}
-use Rattle.rows.specs.declared.partial.Value.TheVariants.{True, False, Free}
+use Rattle.rows.specs.declared.partial.Value.TheVariants.{True, Free}
 use Rattle.rows.proofs.TrailLemmas.{is_free-value_of}
 use Rattle.propagate.specs.Trails.{AreLawful, EachEntry, IsNew, IsLawful, values_of}
 use Rattle.propagate.specs.declared.entry.Entry.{Entry}

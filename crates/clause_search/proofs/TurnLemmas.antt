@@ -1,5 +1,5 @@
 -- What the turns of a search come to.
-use Rattle.std.proofs.Common.{◌≡◌, ◌≢◌, ℕ, zero, suc, ◌+◌, ◌-◌, ◌*◌, ◌^◌, ◌<◌, ◌≤◌, Bool, List, [], ◌∷◌, ◌++◌, length, get_or, map, Ok, Option, Some, None}
+use Rattle.std.proofs.Common.{◌≡◌, ℕ, ◌+◌, ◌-◌, ◌*◌, ◌^◌, ◌<◌, ◌≤◌, Bool, List, [], ◌∷◌, ◌++◌, length, map, Ok, Option, Some, None}
 use Rattle.std.proofs.Common.{refl, arith, ap, sym, subst, ◌∙◌, append_assoc}
 use Rattle.std.specs.Prelude.{IfSome}
 use Rattle.std.specs.List.{All}
@@ -160,9 +160,10 @@ All-front P xs ys all = λ k d within.
 
 pub answer_satisfied : (rows : List Row) (vars : ℕ) (steps : List Step) (t : SeenTrail) (filled : List Bool) → IsUnder rows vars steps t
     → (length filled ≡ t.vars) × SatisfiesAll (assigned filled) t.rows → (length filled ≡ vars) × SatisfiesAll (assigned filled) rows
-answer_satisfied rows vars steps t filled under is =
-    (is.0 ∙ under.vars_are,
-    All-front (Satisfies (assigned filled)) rows (map row_of steps) (subst (λ (rs : List Row). SatisfiesAll (assigned filled) rs) under.rows_are is.1))
+answer_satisfied rows vars steps t filled under is = (
+  is.0 ∙ under.vars_are,
+  All-front (Satisfies (assigned filled)) rows (map row_of steps) (subst (λ (rs : List Row). SatisfiesAll (assigned filled) rs) under.rows_are is.1),
+)
 
 pub answer_refuted : (rows : List Row) (vars : ℕ) (limit : Option ℕ) (steps more : List Step) (t : SeenTrail) → IsUnder rows vars steps t → IfSome limit (λ most. length steps ≤ most)
     → Closes t steps more → Refutes rows vars limit more

@@ -1,18 +1,18 @@
 -- The walk of an analysis, place by place.
-use Rattle.std.proofs.Common.{◌≡◌, ◌≢◌, ℕ, zero, suc, ◌+◌, ◌-◌, ◌<◌, ◌≤◌, Bool, true, false, List, [], ◌∷◌, length, get_or, take, Option, Some, None}
-use Rattle.std.proofs.Common.{refl, inl, inr, arith, ap, sym, subst, ◌∙◌}
-use Rattle.std.specs.Prelude.{◌⊎◌, Contains, IfSome, slice_get, slice_set, is_none}
+use Rattle.std.proofs.Common.{◌≡◌, ◌≢◌, ℕ, zero, suc, ◌+◌, ◌-◌, ◌<◌, ◌≤◌, List, length, get_or, take, Option, Some, None}
+use Rattle.std.proofs.Common.{inl, inr, arith, ap, sym, subst, ◌∙◌}
+use Rattle.std.specs.Prelude.{◌⊎◌, IfSome, slice_get, slice_set, is_none}
 use Rattle.std.specs.List.{All}
 use Rattle.std.proofs.lemmas.Bool.{cases_eq, cases_lt, false≢true}
 use Rattle.std.proofs.lemmas.List.{length-set, take_all}
-use Rattle.std.proofs.lemmas.Option.{get_or_from_slice_get, same_Some, slice_get_within}
-use Rattle.rows.specs.Literals.{Literal, negate}
+use Rattle.std.proofs.lemmas.Option.{get_or_from_slice_get, slice_get_within}
+use Rattle.rows.specs.Literals.{Literal}
 use Rattle.rows.specs.Rows.{IsRow, Row}
 use Rattle.rows.specs.Partials.{Forces, IsInConflict, IsQuietRow, value_of}
 use Rattle.rows.specs.declared.lit.Term.{Term}
 use Rattle.rows.specs.declared.partial.Value.{Value}
 use Rattle.rows.specs.declared.partial.Value.TheVariants.{False}
-use Rattle.propagate.specs.Trails.{AreLawful, EachEntry, IsForcedBy, IsNew, IsNumbered, KnowsVariables, SeenTrail, is_decision, values_of}
+use Rattle.propagate.specs.Trails.{AreLawful, IsForcedBy, IsNumbered, KnowsVariables, SeenTrail, is_decision, values_of}
 use Rattle.propagate.specs.declared.entry.Entry.{Entry}
 use Rattle.refutation.specs.Following.{row_numbered}
 use Rattle.clause_search.specs.Analysis.{IsMarked, IsResolved, Resolves}

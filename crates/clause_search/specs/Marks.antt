@@ -1,6 +1,5 @@
 -- How an analysis marks the places of a trail.
-use Rattle.std.specs.Prelude.{◌≡◌, ◌≢◌, ℕ, ◌+◌, ◌<◌, ◌≤◌, ◌⊎◌, Bool, true, false, List, length, slice_index, slice_index_or}
-use Rattle.rows.specs.Literals.{Literal, negate}
+use Rattle.std.specs.Prelude.{◌≡◌, ◌≢◌, ℕ, ◌+◌, ◌<◌, ◌≤◌, ◌⊎◌, true, false, List, length, slice_index, slice_index_or}
 use Rattle.rows.specs.Rows.{Row}
 use Rattle.rows.specs.Partials.{IsInConflict, IsQuiet, value_of}
 use Rattle.rows.specs.declared.lit.Term.{Term}

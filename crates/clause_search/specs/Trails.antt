@@ -1,5 +1,5 @@
 -- The places of a trail.
-use Rattle.std.specs.Prelude.{ℕ, Bool, true, List, Option, Some, None, slice_index_or, take}
+use Rattle.std.specs.Prelude.{ℕ, true, List, Option, Some, None, slice_index_or, take}
 use Rattle.rows.specs.Literals.{Literal}
 use Rattle.rows.specs.declared.partial.Value.{Value}
 use Rattle.propagate.specs.Trails.{values_of}

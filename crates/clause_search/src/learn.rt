@@ -68,12 +68,7 @@ pub(crate) fn refute(
 }
 
 /// A clause comes behind the rows and into the log, and the trail goes back to level 0.
-fn keep(
-    trail: &mut Trail,
-    log: &mut Log,
-    clause: &[Lit],
-    hints: &[u64],
-) -> Result<(), AllocError>
+fn keep(trail: &mut Trail, log: &mut Log, clause: &[Lit], hints: &[u64]) -> Result<(), AllocError>
     requires news { IsNews trail.old.rows trail.old.vars (Clause clause.now hints.now) }
     requires tidy { IsTidy trail.old.vars (Clause clause.now hints.now) }
     ensures { OnOk result (Learns trail.old trail.new log.old log.new) }
@@ -126,7 +121,7 @@ fn collect(
         ≡ clause_below (lit_at trail.now.entries) (role_at roles.now) (length trail.now.entries)) }
     ensures hints { IfOk result (λ learnt. learnt.hints.items
         ≡ hints_below (reason_at trail.now.entries) (role_at roles.now) (length trail.now.entries)
-            ++ conflict.row ∷ []) }
+        ++ conflict.row ∷ []) }
 {
     let mut clause = Vec::new(alloc);
     let mut hints = Vec::new(alloc);

@@ -119,12 +119,7 @@ fn is_reached(limit: Option<u64>, steps: usize) -> bool
 }
 
 /// What is done where propagation stands still.
-fn go_on(
-    alloc: Global,
-    trail: &mut Trail,
-    prefer: &[Lit],
-    vars: u32,
-) -> Result<Turn, AllocError>
+fn go_on(alloc: Global, trail: &mut Trail, prefer: &[Lit], vars: u32) -> Result<Turn, AllocError>
     requires vars { trail.old.vars ≡ vars }
     requires few { vars ≤ 2147483647 }
     requires preferred { All (λ l. l.var ≤ vars) prefer.now }

@@ -1,6 +1,4 @@
-use Rattle.std.proofs.Common.{◌≡◌, arith, take}
-use Rattle.propagate.specs.Trails.{IsForcedBy}
-use Rattle.clause_search.specs.Trails.{lit_at}
+use Rattle.std.proofs.Common.{arith}
 use Rattle.clause_search.proofs.WalkLemmas.{known_terms, no_reason, number_within, read_terms, reason_forces, reason_is, walk_use}
 use Rattle.clause_search.proofs.analyze.resolve.Goals as goal
 

@@ -1,4 +1,4 @@
-use Rattle.std.proofs.Common.{◌<◌, arith, refl, sym, ◌∙◌}
+use Rattle.std.proofs.Common.{◌<◌, arith, sym, ◌∙◌}
 use Rattle.std.specs.Prelude.{slice_index_or}
 use Rattle.clause_search.proofs.MarkLemmas.{false_at_end, place_early, place_stands}
 use Rattle.clause_search.proofs.TrailLaws.{lawful-new}

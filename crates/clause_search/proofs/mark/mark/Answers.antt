@@ -1,7 +1,7 @@
 use Rattle.std.proofs.Common.{ℕ, ◌+◌, List, arith, refl, sym, subst, ◌∙◌}
 use Rattle.clause_search.specs.Marks.{Marks}
 use Rattle.clause_search.specs.declared.role.Role.{Role}
-use Rattle.clause_search.proofs.MarkLemmas.{Marks-mark, Marks-none, Marks-pass}
+use Rattle.clause_search.proofs.MarkLemmas.{Marks-mark, Marks-pass}
 use Rattle.clause_search.proofs.mark.mark.Goals as goal
 use Rattle.clause_search.proofs.mark.mark.Goals.{in-Some, in-None}
 

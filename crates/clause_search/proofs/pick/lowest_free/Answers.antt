@@ -1,4 +1,3 @@
-use Rattle.std.proofs.Common.{◌∙◌, sym}
 use Rattle.propagate.specs.Trails.{values_of}
 use Rattle.clause_search.proofs.PickLemmas.{none_more}
 use Rattle.clause_search.proofs.pick.lowest_free.Goals as goal

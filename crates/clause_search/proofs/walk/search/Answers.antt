@@ -53,17 +53,17 @@ turns-smaller c =
 pub returns-in-Satisfied : goal.returns-in-Satisfied
 returns-in-Satisfied c =
     let under = under_run c.args.rows.now c.args.vars c.turns.log c.turns.trail c.run-found.new.self c.turns.invariant.under c.run-found.ensures.vars c.run-found.ensures.rows c.run-found.ensures.below in
-    answer_satisfied c.args.rows.now c.args.vars c.turns.log c.run-found.new.self c.in-Satisfied.values under 
+    answer_satisfied c.args.rows.now c.args.vars c.turns.log c.run-found.new.self c.in-Satisfied.values under
     (subst (λ (t : Turn). IsTurn c.run-found.new.self c.take_turn.new.trail c.turns.log c.take_turn.new.log c.args.limit t) c.in-Satisfied.is c.in_ok-turn.ensures)
 
 pub returns-in-Refuted : goal.returns-in-Refuted
 returns-in-Refuted c =
     let under = under_run c.args.rows.now c.args.vars c.turns.log c.turns.trail c.run-found.new.self c.turns.invariant.under c.run-found.ensures.vars c.run-found.ensures.rows c.run-found.ensures.below in
-    answer_refuted c.args.rows.now c.args.vars c.args.limit c.turns.log c.take_turn.new.log c.run-found.new.self under c.turns.invariant.within 
+    answer_refuted c.args.rows.now c.args.vars c.args.limit c.turns.log c.take_turn.new.log c.run-found.new.self under c.turns.invariant.within
     (subst (λ (t : Turn). IsTurn c.run-found.new.self c.take_turn.new.trail c.turns.log c.take_turn.new.log c.args.limit t) c.in-Refuted.is c.in_ok-turn.ensures)
 
 pub returns-in-Spent : goal.returns-in-Spent
 returns-in-Spent c =
     let under = under_run c.args.rows.now c.args.vars c.turns.log c.turns.trail c.run-found.new.self c.turns.invariant.under c.run-found.ensures.vars c.run-found.ensures.rows c.run-found.ensures.below in
-    answer_spent c.args.rows.now c.args.vars c.args.limit c.turns.log c.take_turn.new.log c.run-found.new.self under 
+    answer_spent c.args.rows.now c.args.vars c.args.limit c.turns.log c.take_turn.new.log c.run-found.new.self under
     (subst (λ (t : Turn). IsTurn c.run-found.new.self c.take_turn.new.trail c.turns.log c.take_turn.new.log c.args.limit t) c.in-Spent.is c.in_ok-turn.ensures)
