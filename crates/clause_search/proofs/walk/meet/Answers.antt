@@ -1,0 +1,15 @@
+use Rattle.std.proofs.Common.{ℕ, ◌<◌, Some, refl, inr, ap, subst, ◌∙◌}
+use Rattle.std.specs.Prelude.{IfSome}
+use Rattle.clause_search.specs.Trails.{before}
+use Rattle.clause_search.proofs.walk.meet.Goals as goal
+
+pub returns-then-is_reached : goal.returns-then-is_reached
+returns-then-is_reached c = (
+  refl,
+  c.if-is_reached.ensures.reached refl ∙ ap (λ (n : ℕ). Some n) c.len.ensures,
+  (before c.args.trail.now.entries c.in-Some.start, c.in-Some.ensures.some.quiet),
+)
+
+pub returns-in_ok-learn-in-Some : goal.returns-in_ok-learn-in-Some
+returns-in_ok-learn-in-Some c =
+    inr (subst (λ (n : ℕ). IfSome c.args.limit (λ most. n < most)) c.len.ensures (c.if-is_reached.ensures.early refl), c.in_ok-learn-in-Some.ensures)

@@ -1,0 +1,142 @@
+//! The search.
+ghost use Rattle.std.specs.Prelude.{◌≡◌, ℕ, ◌<◌, ◌≤◌, List, length, Option, Some, true, false, IfOk, IfSome};
+ghost use Rattle.std.specs.List.{All};
+ghost use Rattle.rows.specs.Partials.{IsQuiet};
+ghost use Rattle.propagate.specs.Trails.{IsQuietBelow, IsSettled, KnowsVariables, NamesConflict, values_of};
+ghost use Rattle.refutation.specs.Steps.{Step};
+ghost use Rattle.clause_search.specs.Answers.{IsAnswer};
+ghost use Rattle.clause_search.specs.Turns.{IsTurn};
+
+use crate::found::Found;
+use crate::learn::{learn, refute};
+use crate::pick::{decide, filled, pick};
+use crate::places::last_decision;
+use crate::turn::Turn;
+use propagate::{Conflict, Trail};
+use refutation::Log;
+use rows::{Lit, RowStore};
+use std::alloc::{AllocError, Global};
+
+/// Searches for values of so many variables that satisfy every row, or a log that refutes them. With a limit it learns
+/// at most so many clauses.
+///
+/// It decides the first preferred literal that is free, or else the lowest free variable, to be false; from each
+/// conflict above level 0 it learns the clause of the first unique implication point, and begins again. A conflict at
+/// level 0 refutes the rows, whatever the limit. Without a limit it is never spent.
+///
+/// # Errors
+/// Only where memory runs out.
+pub fn search(
+    alloc: Global,
+    rows: &RowStore,
+    vars: u32,
+    prefer: &[Lit],
+    limit: Option<u64>,
+) -> Result<Found, AllocError>
+    requires few { vars ≤ 2147483647 }
+    requires known { All (KnowsVariables vars) rows.now }
+    requires preferred { All (λ l. l.var ≤ vars) prefer.now }
+    ensures { IfOk result (IsAnswer rows.now vars limit) }
+{
+    let mut trail = Trail::new(alloc, rows, vars)?;
+    let mut log = Log::new(alloc);
+    'turns: loop {
+        let found = trail.run();
+        let turn = take_turn(alloc, &mut trail, &mut log, found, prefer, vars, limit)?;
+        match turn {
+            Turn::Again => {}
+            Turn::Satisfied(values) => return Ok(Found::Sat(values)),
+            Turn::Refuted => return Ok(Found::Refuted(log)),
+            Turn::Spent => return Ok(Found::Spent(log)),
+        }
+    }
+}
+
+/// What is done where propagation has come to an end.
+fn take_turn(
+    alloc: Global,
+    trail: &mut Trail,
+    log: &mut Log,
+    found: Option<Conflict>,
+    prefer: &[Lit],
+    vars: u32,
+    limit: Option<u64>,
+) -> Result<Turn, AllocError>
+    requires vars { trail.old.vars ≡ vars }
+    requires few { vars ≤ 2147483647 }
+    requires preferred { All (λ l. l.var ≤ vars) prefer.now }
+    requires found { IsSettled trail.old.rows (values_of trail.old.entries) found }
+    requires below { IsQuietBelow trail.old.rows trail.old.entries }
+    requires within { IfSome limit (λ most. length log.old ≤ most) }
+    ensures { IfOk result (IsTurn trail.old trail.new log.old log.new limit) }
+{
+    match found {
+        Some(conflict) => meet(alloc, trail, log, conflict, vars, limit),
+        None => go_on(alloc, trail, prefer, vars),
+    }
+}
+
+/// What is done at a conflict.
+fn meet(
+    alloc: Global,
+    trail: &mut Trail,
+    log: &mut Log,
+    conflict: Conflict,
+    vars: u32,
+    limit: Option<u64>,
+) -> Result<Turn, AllocError>
+    requires vars { trail.old.vars ≡ vars }
+    requires conflict { NamesConflict trail.old.rows (values_of trail.old.entries) conflict }
+    requires below { IsQuietBelow trail.old.rows trail.old.entries }
+    requires within { IfSome limit (λ most. length log.old ≤ most) }
+    ensures { IfOk result (IsTurn trail.old trail.new log.old log.new limit) }
+{
+    match last_decision(trail) {
+        None => {
+            refute(alloc, trail, log, conflict)?;
+            Ok(Turn::Refuted)
+        }
+        Some(start) => {
+            if is_reached(limit, log.len()) {
+                return Ok(Turn::Spent);
+            }
+            learn(alloc, trail, log, conflict, start, vars)?;
+            Ok(Turn::Again)
+        }
+    }
+}
+
+/// Whether there are as many steps as the limit allows.
+fn is_reached(limit: Option<u64>, steps: usize) -> bool
+    requires { IfSome limit (λ most. steps ≤ most) }
+    ensures reached { result ≡ true → limit ≡ Some steps }
+    ensures early { result ≡ false → IfSome limit (λ most. steps < most) }
+{
+    match limit {
+        Some(most) => steps as u64 == most,
+        None => false,
+    }
+}
+
+/// What is done where propagation stands still.
+fn go_on(alloc: Global, trail: &mut Trail, prefer: &[Lit], vars: u32) -> Result<Turn, AllocError>
+    requires vars { trail.old.vars ≡ vars }
+    requires few { vars ≤ 2147483647 }
+    requires preferred { All (λ l. l.var ≤ vars) prefer.now }
+    requires quiet { IsQuiet (values_of trail.old.entries) trail.old.rows }
+    requires below { IsQuietBelow trail.old.rows trail.old.entries }
+    ensures { (steps : List Step) (limit : Option ℕ)
+        → IfOk result (IsTurn trail.old trail.new steps steps limit) }
+{
+    let _len = trail.len();
+    match pick(trail, prefer, vars) {
+        Some(lit) => {
+            decide(trail, lit);
+            Ok(Turn::Again)
+        }
+        None => {
+            let values = filled(alloc, trail, vars)?;
+            Ok(Turn::Satisfied(values))
+        }
+    }
+}
