@@ -1,0 +1,2 @@
+-- Clauses of two literals:
+pub mod WorkedLemmas
