@@ -1,2 +1,0 @@
--- Clauses of two literals:
-pub mod WorkedLemmas
