@@ -13,7 +13,7 @@ use std::alloc::{AllocError, Global};
 
 /// What came of a move.
 #[derive(Clone, Copy, PartialEq, Eq)]
-enum Trial {
+pub enum Trial {
     /// It is not legal.
     Refused,
     /// It is legal, the season after it is a double round robin, and the same move leads back.
@@ -76,7 +76,12 @@ fn is_counted(alloc: Global, n: u16, phased: bool, edit: &Edit) -> Result<bool, 
 }
 
 /// The games of a season but those that an edit takes out, and those that it puts in.
-fn changed(alloc: Global, n: u16, season: &Schedule, edit: &Edit) -> Result<Schedule, AllocError>
+pub fn changed(
+    alloc: Global,
+    n: u16,
+    season: &Schedule,
+    edit: &Edit,
+) -> Result<Schedule, AllocError>
     requires { IsTeamCount n }
     ensures { IfOk result (λ games. All (IsGame n) games) }
 {
@@ -97,12 +102,17 @@ fn changed(alloc: Global, n: u16, season: &Schedule, edit: &Edit) -> Result<Sche
 /// Whether a board is that of the canonical season.
 fn is_canonical(alloc: Global, board: &Board) -> Result<bool, AllocError> {
     let season = double(alloc, board.n())?;
+    Ok(are_there(board, &season))
+}
+
+/// Whether each game of a season is on a board.
+pub fn are_there(board: &Board, season: &Schedule) -> bool {
     for game in season.games() {
         if !is_there(board, *game) {
-            return Ok(false);
+            return false;
         }
     }
-    Ok(true)
+    true
 }
 
 /// Whether a game is on a board, for each of its teams.

@@ -1,9 +1,11 @@
 //! Worked runs of moves, whose transcript is compared with the file `stdout`: moves of a season of four teams, and all
-//! moves of small leagues, each of which is compared with a count of its whole season.
+//! moves of small leagues on their canonical boards and on boards ten moves away from them, each of which is compared
+//! with a count of its whole season.
 #![tactic(auto)]
 
 mod boards;
 mod counting;
+mod walked;
 mod worked;
 
 use moves::laws;
@@ -13,5 +15,6 @@ fn main(rt: HostRuntime) -> anyhow::Result<()> {
     laws::least_sets();
     laws::undo();
     worked::show(&rt, rt.alloc())?;
-    counting::show(&rt, rt.alloc())
+    counting::show(&rt, rt.alloc())?;
+    walked::show(&rt, rt.alloc())
 }
