@@ -1,15 +1,13 @@
 -- What the search's answers say of a league.
 use Rattle.std.proofs.Common.{◌≡◌, ℕ, ◌<◌, ◌≤◌, ◌^◌, Bool, true, false, not, List, [], ◌∷◌, ◌++◌, length, get_or, take, zero, suc}
 use Rattle.std.proofs.Common.{Option, Some, None, refl, arith, ap, sym, subst, ◌∙◌}
-use Rattle.std.specs.Prelude.{Contains, IsTrue}
+use Rattle.std.specs.Prelude.{IsTrue}
 use Rattle.std.specs.List.{All}
 use Rattle.std.specs.List.Sorted.{IsPermutation}
 use Rattle.std.proofs.lemmas.List.Elements.{All-cons, All-nil, All-push}
 use Rattle.league.specs.Accepted.{IsAccepted}
-use Rattle.league.specs.Accepted as costs
 use Rattle.league.specs.Counts.{Counts, counts_of}
-use Rattle.league.specs.Instance.{Instance, IsGame, IsInstance}
-use Rattle.league.specs.Order.{IsInOrder}
+use Rattle.league.specs.Instance.{Instance, IsInstance}
 use Rattle.league.specs.declared.game.Game.{Game}
 use Rattle.rows.specs.Rows.{Row}
 use Rattle.rows.specs.Partials.{IsEmpowering}
@@ -22,7 +20,7 @@ use Rattle.refutation.specs.Texts.{version_of}
 use Rattle.season_check.proofs.SeasonLemmas.{accepted_logs_exclude}
 use Rattle.clause_search.specs.Answers.{IsSpentAt, Refutes}
 use Rattle.clause_search.specs.News.{AreNews, IsNews, IsTidy, row_of}
-use Rattle.solve.specs.Solutions.{IsSchedule, IsSolution, IsSpentOn, IsWritable, RefutesLeague}
+use Rattle.solve.specs.Solutions.{IsSolution, IsSpentOn, IsWritable, RefutesLeague}
 use Rattle.solve.specs.declared.solved.Solved.{Solved}
 use Rattle.solve.specs.declared.solved.Solved.TheVariants.{Schedule, Refuted, Spent}
 use Rattle.solve.proofs.GameLemmas.{same_counts}

@@ -2,7 +2,7 @@
 use Rattle.std.proofs.Common.{◌≡◌, ◌≢◌, ℕ, ◌+◌, ◌-◌, ◌*◌, ◌<◌, ◌≤◌, Bool, not, ◌==◌, List, [], ◌∷◌, length, map}
 use Rattle.std.proofs.Common.{if◌then◌else◌, refl, arith, ap, sym, subst, ◌∙◌, inl, inr, true}
 use Rattle.std.proofs.Math.Path.{fun_ext}
-use Rattle.std.specs.List.{All, filter, flat_map, range_with_len, sum_by}
+use Rattle.std.specs.List.{All, sum_by}
 use Rattle.std.specs.List.Sorted.{IsPermutation}
 use Rattle.std.proofs.Math.Nat.{mul-le-mul_left}
 use Rattle.std.proofs.lemmas.Bool.{cases_eq}
@@ -88,7 +88,7 @@ few_games n values most right =
     λ i home. omega (
       arith,
       sum_by-le (term i) 1 (teams_of n) (All-range (λ j. term i j ≤ 1) 0 n (λ j from below.
-      other_team i j (count (i, j)) (λ differ. meeting_once n i j values right home (omega (arith, below)) differ))),
+          other_team i j (count (i, j)) (λ differ. meeting_once n i j values right home (omega (arith, below)) differ))),
       teams,
     ) in
     let all : sum_by (λ i. sum_by (term i) (teams_of n)) (teams_of n) ≤ length (teams_of n) * 40 =

@@ -4,3 +4,5 @@ pub mod GameLemmas
 pub mod LineLemmas
 -- What the answers say:
 pub mod AnswerLemmas
+-- Worked answers:
+mod SolutionFacts

@@ -1,8 +1,8 @@
 -- How long the line of a tidy clause step is.
 use Rattle.std.proofs.Common.{◌≡◌, ◌≢◌, ℕ, ◌+◌, ◌*◌, ◌<◌, ◌≤◌, ◌^◌, Bool, true, false, List, [], ◌∷◌, ◌++◌, ◌||◌, length, get_or, map}
-use Rattle.std.proofs.Common.{refl, arith, ap, sym, subst, ◌∙◌, decimal, eqb, length-append, inl, inr}
+use Rattle.std.proofs.Common.{refl, arith, decimal, eqb, length-append, inl, inr}
 use Rattle.std.specs.Prelude.{codes, ◌⊎◌}
-use Rattle.std.specs.List.{All, AllPairs, IsDistinct, flat_map, list_any, sum_by}
+use Rattle.std.specs.List.{All, AllPairs, flat_map, list_any, sum_by}
 use Rattle.std.proofs.lemmas.Bool.Decides.{Decides-eqb, nat_tests}
 use Rattle.std.proofs.lemmas.Fmt.{length-decimal-le}
 use Rattle.std.proofs.lemmas.List.{length-map}
@@ -71,9 +71,9 @@ clause_short vars clause differ known =
     omega (
       arith,
       length-le_from_distinct_below (vars_of clause) (vars + 1)
-      (IsDistinct-from_AllPairs Decides-eqb (vars_of clause)
-      (AllPairs-map (λ (x y : ℕ). x ≢ y) (λ (l : Literal). l.var) clause differ))
-      (member_below (vars + 1) (vars_of clause) below),
+          (IsDistinct-from_AllPairs Decides-eqb (vars_of clause)
+          (AllPairs-map (λ (x y : ℕ). x ≢ y) (λ (l : Literal). l.var) clause differ))
+          (member_below (vars + 1) (vars_of clause) below),
       length-map clause (λ (l : Literal). l.var),
     )
 

@@ -6,6 +6,7 @@
 mod circle;
 mod fault;
 mod lines;
+mod prefer;
 mod solved;
 mod solver;
 

@@ -13,6 +13,7 @@ ghost use Rattle.solve.specs.Solutions.{IsSolution, IsThoseGames};
 use crate::circle::try_circle;
 use crate::fault::SolveFault;
 use crate::lines::note_numbers;
+use crate::prefer::preferred;
 use crate::solved::Solved;
 use clause_search::{Found, search};
 use decoding::decode;
@@ -46,7 +47,8 @@ pub fn solve(alloc: Global, league: &League, conflicts: Option<u64>) -> Result<S
     if let Some(solved) = try_circle(alloc, league)? {
         return Ok(solved);
     }
-    let found = search(alloc, encoding.rows(), encoding.vars(), &[], conflicts)?;
+    let prefer = preferred(alloc, &encoding)?;
+    let found = search(alloc, encoding.rows(), encoding.vars(), &prefer, conflicts)?;
     let solved = answer(alloc, league, &encoding, found, conflicts)?;
     Ok(solved)
 }

@@ -1,4 +1,4 @@
-use Rattle.std.proofs.Common.{◌≡◌, List, ap, subst, sym, ◌∙◌}
+use Rattle.std.proofs.Common.{◌≡◌, ap, ◌∙◌}
 use Rattle.league.specs.Instance.{Instance}
 use Rattle.rows.specs.Values.{assigned}
 use Rattle.encoding_base.specs.Shadow.{decoded}
