@@ -1,0 +1,5 @@
+-- Lemmas on what is found, and on the stages:
+mod FoundLemmas
+mod StageLemmas
+-- What follows from an answer:
+pub mod AnswerLemmas
