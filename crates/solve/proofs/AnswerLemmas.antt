@@ -1,0 +1,136 @@
+-- What the search's answers say of a league.
+use Rattle.std.proofs.Common.{◌≡◌, ℕ, ◌<◌, ◌≤◌, ◌^◌, Bool, true, false, not, List, [], ◌∷◌, ◌++◌, length, get_or, take, zero, suc}
+use Rattle.std.proofs.Common.{Option, Some, None, refl, arith, ap, sym, subst, ◌∙◌}
+use Rattle.std.specs.Prelude.{Contains, IsTrue}
+use Rattle.std.specs.List.{All}
+use Rattle.std.specs.List.Sorted.{IsPermutation}
+use Rattle.std.proofs.lemmas.List.Elements.{All-cons, All-nil, All-push}
+use Rattle.league.specs.Accepted.{IsAccepted}
+use Rattle.league.specs.Accepted as costs
+use Rattle.league.specs.Counts.{Counts, counts_of}
+use Rattle.league.specs.Instance.{Instance, IsGame, IsInstance}
+use Rattle.league.specs.Order.{IsInOrder}
+use Rattle.league.specs.declared.game.Game.{Game}
+use Rattle.rows.specs.Rows.{Row}
+use Rattle.rows.specs.Partials.{IsEmpowering}
+use Rattle.circle_method.specs.Circle.{double_games}
+use Rattle.encoding_base.specs.Encoding.{rows_of}
+use Rattle.encoding_base.specs.Variables.{var_count}
+use Rattle.refutation.specs.Steps.{Step, hints_of, is_linear}
+use Rattle.refutation.specs.Steps.Step.{Clause, Linear}
+use Rattle.refutation.specs.Texts.{version_of}
+use Rattle.season_check.proofs.SeasonLemmas.{accepted_logs_exclude}
+use Rattle.clause_search.specs.Answers.{IsSpentAt, Refutes}
+use Rattle.clause_search.specs.News.{AreNews, IsNews, IsTidy, row_of}
+use Rattle.solve.specs.Solutions.{IsSchedule, IsSolution, IsSpentOn, IsWritable, RefutesLeague}
+use Rattle.solve.specs.declared.solved.Solved.{Solved}
+use Rattle.solve.specs.declared.solved.Solved.TheVariants.{Schedule, Refuted, Spent}
+use Rattle.solve.proofs.GameLemmas.{same_counts}
+use Rattle.solve.proofs.LineLemmas.{step_named, step_short}
+
+-- ---- steps that are news are no sums
+
+none_of_nothing : (rows : List Row) → IsEmpowering rows [] → ⊥
+none_of_nothing rows (values, l, quiet, among, free, others) = omega (arith, among.1)
+
+not_linear : (rows : List Row) (vars : ℕ) (step : Step) → IsNews rows vars step → is_linear step ≡ false
+not_linear rows vars (Clause clause hints) news = refl
+not_linear rows vars (Linear parts divisor) news = absurd (none_of_nothing rows news.empowering)
+
+none_linear : (rows : List Row) (vars : ℕ) (steps : List Step) → AreNews rows vars steps
+    → All (λ step. is_linear step ≡ false) steps
+none_linear rows vars [] news = All-nil (λ step. is_linear step ≡ false)
+none_linear rows vars (step ∷ steps) news =
+    All-cons (λ step. is_linear step ≡ false) step steps (not_linear rows vars step news.0)
+    (none_linear (rows ++ row_of step ∷ []) vars steps news.1)
+
+-- ---- logs
+
+writable : (vars : ℕ) (steps : List Step) → vars ≤ 130960 → All (IsTidy vars) steps
+    → All (λ step. is_linear step ≡ false) steps → All (λ step. All (λ hint. hint < 2 ^ 64) (hints_of step)) steps
+    → IsWritable steps
+writable vars steps most tidy clauses small = record {
+  named = λ k d within. step_named vars (get_or steps k d) (tidy k d within) (clauses k d within);
+  short = λ k d within.
+      step_short (version_of steps) vars (get_or steps k d) most (tidy k d within) (clauses k d within)
+      (small k d within);
+}
+
+pub refuted : (league : Instance) (limit : Option ℕ) (steps : List Step) → IsInstance league
+    → var_count league ≤ 130960 → Refutes (rows_of league) (var_count league) limit steps
+    → All (λ step. All (λ hint. hint < 2 ^ 64) (hints_of step)) steps → RefutesLeague league steps
+refuted league limit steps instance most is small =
+    let clauses : All (λ step. is_linear step ≡ false) steps =
+    subst (λ (ss : List Step). All (λ step. is_linear step ≡ false) ss) (sym is.last)
+    (All-push (λ step. is_linear step ≡ false) is.before (Clause [] is.hints)
+    (none_linear (rows_of league) (var_count league) is.before is.news) refl) in
+    record {
+      accepted = is.accepted;
+      none = accepted_logs_exclude league steps instance is.accepted;
+      writable = writable (var_count league) steps most is.tidy clauses small;
+    }
+
+pub spent : (league : Instance) (limit : Option ℕ) (steps : List Step) → var_count league ≤ 130960
+    → IsSpentAt (rows_of league) (var_count league) limit steps
+    → All (λ step. All (λ hint. hint < 2 ^ 64) (hints_of step)) steps → IsSpentOn league limit steps
+spent league limit steps most is small = record {
+  limited = is.limited;
+  spent = is.spent;
+  few = is.few;
+  writable = writable (var_count league) steps most is.tidy
+      (none_linear (rows_of league) (var_count league) steps is.spent.news) small;
+}
+
+-- ---- schedules
+
+no_limit : (steps : List Step) → ◌≡◌ {A = Option ℕ} None (Some (length steps)) → ⊥
+no_limit steps is = cc
+
+-- what is found without a limit
+pub any_limit : (league : Instance) (limit : Option ℕ) (solved : Solved) → IsSolution league None solved
+    → IsSolution league limit solved
+any_limit league limit (Schedule games objective) is = is
+any_limit league limit (Refuted log) is = is
+any_limit league limit (Spent log) is = absurd (no_limit log is.limited)
+
+pub same_acceptance : (league : Instance) (games more : List Game) → IsPermutation games more
+    → IsAccepted league (counts_of games) → IsAccepted league (counts_of more)
+same_acceptance league games more is accepted =
+    subst (λ (m : Counts). IsAccepted league m) (sym (same_counts games more is)) accepted
+
+-- ---- the schedule of the circle method
+
+pub circle_accepted : (league : Instance) (k : ℕ) (games more : List Game) → games ≡ double_games k → k ≡ league.n
+    → IsPermutation games more → IsAccepted league (counts_of (double_games league.n))
+    → IsAccepted league (counts_of more)
+circle_accepted league k games more are same is accepted =
+    same_acceptance league games more is
+    (subst (λ (gs : List Game). IsAccepted league (counts_of gs))
+    (sym (are ∙ ap (λ (n : ℕ). double_games n) same)) accepted)
+
+-- ---- what a test says
+
+pub not_passed : (b : Bool) → not b ≡ true → IsTrue b → ⊥
+not_passed true is passed = cc
+not_passed false is passed = cc
+
+pub passed : (b : Bool) → not b ≡ false → IsTrue b
+passed true is = refl
+passed false is = cc
+
+-- ---- how many variables there are
+
+pub few_variables : (league other : Instance) (vars : ℕ) → other ≡ league → vars ≡ var_count other → vars ≤ 130960
+    → var_count league ≤ 130960
+few_variables league other vars same is most = omega (arith, is, ap (λ (l : Instance). var_count l) same, most)
+
+-- ---- the whole of a list
+
+take_all : {X : Type 0} (k : ℕ) (xs : List X) → length xs ≤ k → take k xs ≡ xs
+take_all {X} zero [] whole = refl
+take_all {X} zero (x ∷ xs) whole = absurd (omega (arith, whole))
+take_all {X} (suc k) [] whole = refl
+take_all {X} (suc k) (x ∷ xs) whole = ap (λ (ys : List X). x ∷ ys) (take_all k xs (omega (arith, whole)))
+
+pub all_taken : {X : Type 0} (P : X → Type 0) (xs : List X) (k : ℕ) → length xs ≤ k → All P (take k xs) → All P xs
+all_taken {X} P xs k whole taken = subst (λ (ys : List X). All P ys) (take_all k xs whole) taken

@@ -1,0 +1,36 @@
+use Rattle.std.proofs.Common.{ℕ, subst}
+use Rattle.std.specs.List.{All}
+use Rattle.std.proofs.lemmas.List.Sorted.{All-permutation}
+use Rattle.league.specs.Instance.{IsGame}
+use Rattle.solve.proofs.AnswerLemmas.{circle_accepted, not_passed, passed}
+use Rattle.solve.proofs.GameLemmas.{double_few}
+use Rattle.solve.proofs.circle.try_circle.Goals as goal
+
+pub assess-requires-clause-few : goal.assess-requires-clause-few
+assess-requires-clause-few c =
+    double_few c.args.league.now.n c.n.result c.in_ok-schedule.schedule c.put_in_order.new.self c.n.ensures.n
+    c.n.ensures.instance.teams.at_most c.in_ok-schedule.ensures.count c.put_in_order.ensures.permutation
+
+pub assess-requires-clause-fit : goal.assess-requires-clause-fit
+assess-requires-clause-fit c =
+    All-permutation (IsGame c.args.league.now.n) c.in_ok-schedule.schedule c.put_in_order.new.self
+    c.put_in_order.ensures.permutation
+    (subst (λ (k : ℕ). All (IsGame k) c.in_ok-schedule.schedule) c.n.ensures.n c.in_ok-schedule.ensures.fit)
+
+pub returns-then-not-assessment-clause-refused : goal.returns-then-not-assessment-clause-refused
+returns-then-not-assessment-clause-refused c is accepted =
+    not_passed c.in_ok-assessment.assessment.feasible c.if-not-assessment.true
+    (c.in_ok-assessment.ensures.feasible.1
+    (circle_accepted c.args.league.now c.n.result c.in_ok-schedule.schedule c.put_in_order.new.self
+    c.in_ok-schedule.ensures.games c.n.ensures.n c.put_in_order.ensures.permutation accepted))
+
+pub returns-clause-solution : goal.returns-clause-solution
+returns-clause-solution c = record {
+  accepted = c.in_ok-assessment.ensures.feasible.0
+      (passed c.in_ok-assessment.assessment.feasible c.if-not-assessment.false);
+  fit = All-permutation (IsGame c.args.league.now.n) c.in_ok-schedule.schedule c.put_in_order.new.self
+      c.put_in_order.ensures.permutation
+      (subst (λ (k : ℕ). All (IsGame k) c.in_ok-schedule.schedule) c.n.ensures.n c.in_ok-schedule.ensures.fit);
+  in_order = c.put_in_order.ensures.in_order;
+  cost = c.in_ok-assessment.ensures.objective;
+}

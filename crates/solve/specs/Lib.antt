@@ -1,0 +1,8 @@
+-- What a reader of a claim must believe:
+--
+-- What each answer says of a league:
+pub mod Solutions
+-- Kept inside (laws, and how fields are seen):
+--
+-- Which fault stands for one of the encoding's:
+pub mod Faults

@@ -1,0 +1,34 @@
+//! The schedule of the circle method, tried first.
+ghost use Rattle.std.specs.Prelude.{◌≡◌, None, Some, Ok, IfOk, IfSome};
+ghost use Rattle.league.specs.Accepted.{IsAccepted};
+ghost use Rattle.league.specs.Counts.{counts_of};
+ghost use Rattle.circle_method.specs.Circle.{double_games};
+ghost use Rattle.solve.specs.Solutions.{IsSolution, IsThoseGames};
+
+use crate::solved::Solved;
+use circle_method::double;
+use deviation::assess;
+use league::League;
+use std::alloc::{AllocError, Global};
+
+/// The schedule of the circle method, in order, where the league accepts it.
+///
+/// # Errors
+/// Only where memory runs out.
+pub(crate) fn try_circle(alloc: Global, league: &League) -> Result<Option<Solved>, AllocError>
+    ensures solution { IfOk result (λ tried. IfSome tried (IsSolution league.now None)) }
+    ensures those { IfOk result (λ tried. IfSome tried (IsThoseGames (double_games league.now.n))) }
+    ensures refused { result ≡ Ok None → IsAccepted league.now (counts_of (double_games league.now.n)) → ⊥ }
+{
+    let mut schedule = double(alloc, league.n())?;
+    schedule.put_in_order();
+    let assessment = assess(alloc, league, &schedule)?;
+    if !assessment.feasible {
+        return Ok(None);
+    }
+    let objective = assessment.objective;
+    Ok(Some(Solved::Schedule {
+        schedule,
+        objective,
+    }))
+}

@@ -1,0 +1,14 @@
+//! A schedule that a league accepts, or a proof that there is none.
+//!
+//! `specs/Solutions.antt` says what each answer promises.
+#![tactic(auto)]
+
+mod circle;
+mod fault;
+mod lines;
+mod solved;
+mod solver;
+
+pub use fault::SolveFault;
+pub use solved::Solved;
+pub use solver::solve;
