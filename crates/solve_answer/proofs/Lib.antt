@@ -3,3 +3,5 @@ mod FoundLemmas
 mod StageLemmas
 -- What follows from an answer:
 pub mod AnswerLemmas
+-- Worked examples, so that a wrong definition does not check:
+pub mod SolveFacts
