@@ -1,7 +1,7 @@
 -- Worked readings of words, so that a wrong definition does not check.
 use Rattle.std.proofs.Common.{◌≡◌, true, false, [], ◌∷◌, Some, None, codes, refl}
-use Rattle.command_line.specs.Words.{is_file_name, is_shortest, number_in, reading, team_count_in, NeedsNoFile}
-use Rattle.command_line.specs.Words.Command.{Check, Circle, Validate}
+use Rattle.command_line.specs.Words.{budget_in, is_file_name, is_shortest, number_in, reading, team_count_in, NeedsNoFile}
+use Rattle.command_line.specs.Words.Command.{Check, Circle, Solve, Validate}
 
 -- a number: 0 itself, no leading zero, no sign, no blank, at most 2 ^ 64 - 1
 pub number_in-some : (number_in (codes "0") ≡ Some 0) × (number_in (codes "10") ≡ Some 10) × (number_in (codes "18446744073709551615") ≡ Some 18446744073709551615)
@@ -37,6 +37,21 @@ check-none = (refl, refl, refl, refl, refl, refl)
 pub circle-teams : (reading (codes "circle" ∷ codes "2" ∷ []) ≡ Some (Circle 2)) × (reading (codes "circle" ∷ codes "40" ∷ []) ≡ Some (Circle 40))
 circle-teams = (refl, refl)
 
+-- a budget: a number, or `all`, and nothing else
+pub budget_in-some : (budget_in (codes "all") ≡ Some None) × (budget_in (codes "0") ≡ Some (Some 0)) × (budget_in (codes "18446744073709551615") ≡ Some (Some 18446744073709551615))
+budget_in-some = (refl, refl, refl)
+
+pub budget_in-none : (budget_in [] ≡ None) × (budget_in (codes "All") ≡ None) × (budget_in (codes "00") ≡ None) × (budget_in (codes "-1") ≡ None) × (budget_in (codes "18446744073709551616") ≡ None)
+budget_in-none = (refl, refl, refl, refl, refl)
+
+-- `solve` with the usual budget, and with another before the file or behind it
+pub solve-reads : (reading (codes "solve" ∷ codes "a" ∷ []) ≡ Some (Solve (codes "a") (Some 2000))) × (reading (codes "solve" ∷ codes "--conflicts" ∷ codes "7" ∷ codes "a" ∷ []) ≡ Some (Solve (codes "a") (Some 7))) × (reading (codes "solve" ∷ codes "a" ∷ codes "--conflicts" ∷ codes "all" ∷ []) ≡ Some (Solve (codes "a") None)) × (reading (codes "solve" ∷ codes "--conflicts" ∷ codes "all" ∷ codes "all" ∷ []) ≡ Some (Solve (codes "all") None))
+solve-reads = (refl, refl, refl, refl)
+
+-- no file or two, an option alone, twice, without its value or with a wrong one, another option, another command
+pub solve-none : (reading (codes "solve" ∷ []) ≡ None) × (reading (codes "solve" ∷ codes "a" ∷ codes "b" ∷ []) ≡ None) × (reading (codes "solve" ∷ codes "--conflicts" ∷ codes "7" ∷ []) ≡ None) × (reading (codes "solve" ∷ codes "--conflicts" ∷ codes "7" ∷ codes "--conflicts" ∷ codes "7" ∷ codes "a" ∷ []) ≡ None) × (reading (codes "solve" ∷ codes "a" ∷ codes "--conflicts" ∷ []) ≡ None) × (reading (codes "solve" ∷ codes "--conflicts" ∷ codes "07" ∷ codes "a" ∷ []) ≡ None) × (reading (codes "solve" ∷ codes "--conflicts" ∷ codes "7" ∷ codes "-a" ∷ []) ≡ None) × (reading (codes "solve" ∷ codes "--conflicts" ∷ codes "--conflicts" ∷ codes "7" ∷ []) ≡ None) × (reading (codes "solve" ∷ codes "--conflict" ∷ codes "7" ∷ codes "a" ∷ []) ≡ None) × (reading (codes "solve" ∷ codes "a" ∷ codes "b" ∷ codes "c" ∷ []) ≡ None) × (reading (codes "circle" ∷ codes "--conflicts" ∷ codes "7" ∷ codes "4" ∷ []) ≡ None) × (reading (codes "solve" ∷ codes "-a" ∷ []) ≡ None)
+solve-none = (refl, refl, refl, refl, refl, refl, refl, refl, refl, refl, refl, refl)
+
 -- no words, one, too few or too many for a command, an option, another command
 pub reading-none : (reading [] ≡ None) × (reading (codes "circle" ∷ []) ≡ None) × (reading (codes "circle" ∷ codes "4" ∷ codes "4" ∷ []) ≡ None) × (reading (codes "validate" ∷ codes "a" ∷ []) ≡ None) × (reading (codes "validate" ∷ codes "a" ∷ codes "--b" ∷ []) ≡ None) × (reading (codes "validate" ∷ codes "-a" ∷ codes "b" ∷ []) ≡ None) × (reading (codes "Validate" ∷ codes "a" ∷ codes "b" ∷ []) ≡ None) × (reading (codes "Circle" ∷ codes "4" ∷ []) ≡ None)
 reading-none = (refl, refl, refl, refl, refl, refl, refl, refl)
@@ -46,5 +61,5 @@ pub reading-longer : (reading (codes "validate" ∷ codes "a" ∷ codes "b" ∷ 
 reading-longer = (refl, refl, refl, refl)
 
 -- which words need no file
-pub needs_no_file : NeedsNoFile (reading []) × NeedsNoFile (reading (codes "circle" ∷ codes "4" ∷ [])) × (NeedsNoFile (reading (codes "validate" ∷ codes "a" ∷ codes "b" ∷ [])) → ⊥) × (NeedsNoFile (reading (codes "check" ∷ codes "a" ∷ codes "b" ∷ [])) → ⊥)
-needs_no_file = (tt, tt, λ h. h, λ h. h)
+pub needs_no_file : NeedsNoFile (reading []) × NeedsNoFile (reading (codes "circle" ∷ codes "4" ∷ [])) × (NeedsNoFile (reading (codes "validate" ∷ codes "a" ∷ codes "b" ∷ [])) → ⊥) × (NeedsNoFile (reading (codes "check" ∷ codes "a" ∷ codes "b" ∷ [])) → ⊥) × (NeedsNoFile (reading (codes "solve" ∷ codes "a" ∷ [])) → ⊥)
+needs_no_file = (tt, tt, λ h. h, λ h. h, λ h. h)

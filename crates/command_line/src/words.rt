@@ -1,7 +1,8 @@
 //! The words of the command line.
-ghost use Rattle.std.specs.Prelude.{◌≡◌, [], ◌∷◌, map, string_bytes, option_map, IfSome};
-ghost use Rattle.command_line.specs.Words.{reading, is_file_name, HasTeams, number_in, team_count_in};
-ghost use Rattle.command_line.specs.Words.Command.{Circle};
+ghost use Rattle.std.specs.Prelude.{◌≡◌, if◌then◌else◌, [], ◌∷◌, None, Some, map, string_bytes, option_map, IfSome};
+ghost use Rattle.command_line.specs.Words.{reading, budget_in, is_file_name, HasTeams, number_in, solving};
+ghost use Rattle.command_line.specs.Words.{team_count_in, usual_conflicts, with_option};
+ghost use Rattle.command_line.specs.Words.Command.{Circle, Solve};
 ghost use Rattle.command_line.specs.SeenWords.{command_of};
 
 use league::is_team_count;
@@ -20,11 +21,20 @@ pub enum Words<'a> {
         instance: &'a str,
         log: &'a str,
     },
+    /// Search a schedule that the league of an instance file accepts, or a log that refutes the league. The search
+    /// may learn so many clauses, or any number of them.
+    Solve {
+        instance: &'a str,
+        conflicts: Option<u64>,
+    },
     /// Write the double round robin of the circle method for n teams, n even and from 2 to 40.
     Circle {
         n: u16,
     },
 }
+
+/// How many clauses a search may learn where the words don't say it.
+const USUAL_CONFLICTS: u64 = 2000;
 
 /// What the arguments, without the program's name, ask for: None exactly where they are no command. It takes no
 /// memory.
@@ -33,8 +43,14 @@ pub fn read_words(words: &[String]) -> Option<Words<'_>>
     ensures teams { IfSome result (λ command. HasTeams (command_of command)) }
 {
     match words {
+        [command, argument] => with_one(command.as_str(), argument.as_str()),
         [command, first, second] => { with_two(command.as_str(), first.as_str(), second.as_str()) }
-        [command, teams] => with_one(command.as_str(), teams.as_str()),
+        [command, first, second, third] => with_three(
+            command.as_str(),
+            first.as_str(),
+            second.as_str(),
+            third.as_str(),
+        ),
         _ => None,
     }
 }
@@ -62,15 +78,90 @@ fn with_two<'a>(command: &str, first: &'a str, second: &'a str) -> Option<Words<
 }
 
 /// The command of this name with one argument.
-fn with_one<'a>(command: &str, teams: &str) -> Option<Words<'a>>
-    ensures reading { option_map command_of result ≡ reading (command.now ∷ teams.now ∷ []) }
+fn with_one<'a>(command: &str, argument: &'a str) -> Option<Words<'a>>
+    ensures reading { option_map command_of result ≡ reading (command.now ∷ argument.now ∷ []) }
     ensures teams { IfSome result (λ command. HasTeams (command_of command)) }
 {
+    if command == "solve" {
+        return usual_solve(argument);
+    }
     if command != "circle" {
         return None;
     }
-    let n = team_count(teams)?;
+    let n = team_count(argument)?;
     Some(Words::Circle { n })
+}
+
+/// `solve` over a file, with the usual budget.
+fn usual_solve(file: &str) -> Option<Words<'_>>
+    ensures reading { option_map command_of result
+        ≡ if is_file_name file.now then Some (Solve file.now (Some usual_conflicts)) else None }
+    ensures teams { IfSome result (λ command. HasTeams (command_of command)) }
+{
+    if !is_name(file) {
+        return None;
+    }
+    Some(Words::Solve {
+        instance: file,
+        conflicts: Some(USUAL_CONFLICTS),
+    })
+}
+
+/// The command of this name with three words.
+fn with_three<'a>(
+    command: &str,
+    first: &'a str,
+    second: &'a str,
+    third: &'a str,
+) -> Option<Words<'a>>
+    ensures reading { option_map command_of result
+        ≡ reading (command.now ∷ first.now ∷ second.now ∷ third.now ∷ []) }
+    ensures teams { IfSome result (λ command. HasTeams (command_of command)) }
+{
+    if command != "solve" {
+        return None;
+    }
+    with_option(first, second, third)
+}
+
+/// `solve` over a file with the option `--conflicts` and its value, before the file or behind it.
+fn with_option<'a>(first: &'a str, second: &'a str, third: &'a str) -> Option<Words<'a>>
+    ensures reading { option_map command_of result ≡ with_option first.now second.now third.now }
+    ensures teams { IfSome result (λ command. HasTeams (command_of command)) }
+{
+    if first == "--conflicts" {
+        solve_within(third, second)
+    } else if second == "--conflicts" {
+        solve_within(first, third)
+    } else {
+        None
+    }
+}
+
+/// `solve` over a file, within a budget.
+fn solve_within<'a>(file: &'a str, word: &str) -> Option<Words<'a>>
+    ensures reading { option_map command_of result ≡ solving file.now word.now }
+    ensures teams { IfSome result (λ command. HasTeams (command_of command)) }
+{
+    if !is_name(file) {
+        return None;
+    }
+    let conflicts = budget(word)?;
+    Some(Words::Solve {
+        instance: file,
+        conflicts,
+    })
+}
+
+/// The budget that a word writes: a number of conflicts, or `all`, which is none.
+fn budget(word: &str) -> Option<Option<u64>>
+    ensures { result ≡ budget_in word.now }
+{
+    if word == "all" {
+        return Some(None);
+    }
+    let conflicts = number(word)?;
+    Some(Some(conflicts))
 }
 
 /// Whether a word is a file's name: a word that begins with `-` is none.

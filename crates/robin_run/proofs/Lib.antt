@@ -1,5 +1,6 @@
--- Lemmas on runs of `check`, and on want of memory:
+-- Lemmas on runs of `check` and of `solve`, and on want of memory:
 mod CheckLemmas
+mod SolveLemmas
 mod MemoryLemmas
 -- Worked examples, so that a wrong definition does not check:
 mod RunFacts

@@ -9,11 +9,11 @@ use Rattle.robinx_form.specs.SolutionFile.{solution_of}
 use Rattle.robinx_form.specs.Walk.{Fault}
 use Rattle.robinx_read.specs.declared.instance.TheConstants.{INSTANCE_LIMIT, SOLUTION_LIMIT}
 use Rattle.command_line.specs.Words.{Command}
-use Rattle.command_line.specs.Words.Command.{Check, Circle, Validate}
+use Rattle.command_line.specs.Words.Command.{Check, Circle, Solve, Validate}
 use Rattle.answers.specs.Reply.{Answer}
 use Rattle.answers.specs.Stages.{IsWritten, Outcome, reads, says}
 use Rattle.answers.specs.declared.status.Status.{Status}
-use Rattle.answers.specs.declared.status.Status.TheVariants.{Yes, No, Words, File, ReadFault, WriteFault, Memory}
+use Rattle.answers.specs.declared.status.Status.TheVariants.{Yes, No, Words, File, Refuted, Spent, ReadFault, WriteFault, Memory}
 use Rattle.encoding.specs.Encoding.{rows_of}
 use Rattle.refutation.specs.Steps.{Step}
 use Rattle.refutation.specs.Logs as logs
@@ -22,6 +22,7 @@ use Rattle.refutation.specs.declared.verdict.Verdict.{Verdict}
 use Rattle.refutation.specs.declared.verdict.Verdict.TheVariants.{Accepted, Rejected}
 use Rattle.validate_answer.specs.Validate.{IsJudgement, validated}
 use Rattle.check_answer.specs.Check.{IsVerdict, checked, encodes, most_log_bytes, says_log, verdict_answer}
+use Rattle.solve_answer.specs.Solve.{IsFound, solved}
 use Rattle.robin_run.specs.Answer.{IsAnswer}
 
 status-of : (a b : Answer) → a ≡ b → a.status ≡ Memory → b.status ≡ Memory
@@ -84,12 +85,33 @@ checked-memory contents took_more failed instance log answer ended given =
     (λ first at_first. said-memory (codes "instance") (instance_of (pieces first)) (after_instance contents took_more failed log first) answer ended
     (λ league at_league. encoded-memory league (contents log) (took_more (length first + most_log_bytes)) (failed log) answer ended at_league) at_first) given
 
+-- ---- `solve`
+
+found-memory : (league : Instance) (conflicts : Option ℕ) (rows : List Row) (answer : Answer) → answer.status ≡ Memory → IsFound league conflicts rows answer → ⊥
+found-memory league conflicts rows answer ended found =
+    elim found.found [
+      | inl schedule ↦ let same : Yes ≡ Memory = sym schedule.status ∙ ended in cc
+      | inr (inl refuted) ↦ let same : Refuted ≡ Memory = sym refuted.status ∙ ended in cc
+      | inr (inr spent) ↦ let same : Spent ≡ Memory = sym spent.status ∙ ended in cc
+    ]
+
+encodes-memory : (league : Instance) (next : List Row → Outcome) (answer : Answer) → answer.status ≡ Memory → ((rows : List Row) → next rows answer → ⊥) → encodes league next answer → ⊥
+encodes-memory league next answer ended later (inl h) = later (rows_of league) h.1
+encodes-memory league next answer ended later (inr h) = let same : File ≡ Memory = status-of answer _ h.1 ended in cc
+
+solved-memory : (contents : List ℕ → Option (List ℕ)) (took_more : ℕ → Type 0) (failed : List ℕ → Type 0) (instance : List ℕ) (conflicts : Option ℕ) (answer : Answer) → answer.status ≡ Memory → solved contents took_more failed instance conflicts answer → ⊥
+solved-memory contents took_more failed instance conflicts answer ended given =
+    read-memory (codes "instance") (contents instance) INSTANCE_LIMIT (took_more INSTANCE_LIMIT) (failed instance) (λ bytes. says (codes "instance") (instance_of (pieces bytes)) (λ league. encodes league (IsFound league conflicts))) answer ended
+    (λ bytes at_bytes. said-memory (codes "instance") (instance_of (pieces bytes)) (λ league. encodes league (IsFound league conflicts)) answer ended
+    (λ league at_league. encodes-memory league (IsFound league conflicts) answer ended (λ rows found. found-memory league conflicts rows answer ended found) at_league) at_bytes) given
+
 -- ---- a run
 
 answer-memory : (words : Option Command) (contents : List ℕ → Option (List ℕ)) (took_more : ℕ → Type 0) (failed : List ℕ → Type 0) (answer : Answer) → answer.status ≡ Memory → IsAnswer words contents took_more failed answer → ⊥
 answer-memory None contents took_more failed answer ended given = let same : Words ≡ Memory = status-of answer _ given ended in cc
 answer-memory (Some (Validate instance solution)) contents took_more failed answer ended given = validated-memory contents took_more failed instance solution answer ended given
 answer-memory (Some (Check instance log)) contents took_more failed answer ended given = checked-memory contents took_more failed instance log answer ended given
+answer-memory (Some (Solve instance conflicts)) contents took_more failed answer ended given = solved-memory contents took_more failed instance conflicts answer ended given
 answer-memory (Some (Circle n)) contents took_more failed answer ended given = let same : Yes ≡ Memory = status-of answer _ given ended in cc
 
 -- where an answer is written, the run doesn't end as want of memory does

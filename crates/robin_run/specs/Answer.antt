@@ -5,7 +5,8 @@ use Rattle.answers.specs.Stages.{Outcome}
 use Rattle.check_answer.specs.Check.{checked}
 use Rattle.circle_answer.specs.Circle.{circle_season}
 use Rattle.command_line.specs.Words.{Command}
-use Rattle.command_line.specs.Words.Command.{Validate, Check, Circle}
+use Rattle.command_line.specs.Words.Command.{Validate, Check, Solve, Circle}
+use Rattle.solve_answer.specs.Solve.{solved}
 use Rattle.validate_answer.specs.Validate.{validated}
 
 -- the answer to the words
@@ -15,4 +16,6 @@ IsAnswer (Some (Validate instance solution)) contents took_more failed answer =
     validated contents took_more failed instance solution answer
 IsAnswer (Some (Check instance log)) contents took_more failed answer =
     checked contents took_more failed instance log answer
+IsAnswer (Some (Solve instance conflicts)) contents took_more failed answer =
+    solved contents took_more failed instance conflicts answer
 IsAnswer (Some (Circle n)) contents took_more failed answer = answer ≡ circle_season n

@@ -1,17 +1,18 @@
 //! The call that the program makes: the words, the command's stages, and the answer written.
-ghost use Rattle.std.specs.Prelude.{◌≡◌, ◌≢◌, ℕ, List, IfOk, Ok, Some, map, string_bytes};
+ghost use Rattle.std.specs.Prelude.{◌≡◌, ◌≢◌, ℕ, List, IfOk, Ok, Option, Some, map, string_bytes};
 ghost use Rattle.std.specs.Io.KnownBytes.{Keeps};
 ghost use Rattle.robin_io.specs.Counts.{Rose, TookMore};
 ghost use Rattle.league.specs.Instance.{Instance};
 ghost use Rattle.league.specs.declared.game.Game.{Game};
 ghost use Rattle.command_line.specs.SeenWords.{command_of};
 ghost use Rattle.command_line.specs.Words.{reading, HasTeams, NeedsNoFile};
-ghost use Rattle.command_line.specs.Words.Command.{Check, Validate};
+ghost use Rattle.command_line.specs.Words.Command.{Check, Solve, Validate};
 ghost use Rattle.answers.specs.Reply.{Answer};
 ghost use Rattle.answers.specs.SeenReply.{answer_of};
 ghost use Rattle.answers.specs.Stages.{IsWritten};
 ghost use Rattle.validate_answer.specs.Validate.{IsJudged, IsWellFormedPair};
 ghost use Rattle.check_answer.specs.Check.{IsChecked, IsWellFormedLog};
+ghost use Rattle.solve_answer.specs.Solve.{IsSolved, IsWellFormedInstance};
 ghost use Rattle.season_check.specs.Excluded.{NoneAccepted};
 ghost use Rattle.robinx_tags.specs.Pieces.{pieces};
 ghost use Rattle.robinx_form.specs.InstanceFile.{instance_of};
@@ -23,6 +24,7 @@ use check_answer::check;
 use circle_answer::circle;
 use command_line::{Words, read_words};
 use robin_io::{Shelf, Sink};
+use solve_answer::solve_file;
 use std::alloc::{AllocError, Global};
 use validate_answer::validate;
 
@@ -39,6 +41,10 @@ fn follow<S: Shelf>(alloc: Global, command: Words, shelf: &mut S) -> Result<Repl
     match command {
         Words::Validate { instance, solution } => validate(alloc, shelf, instance, solution),
         Words::Check { instance, log } => check(alloc, shelf, instance, log),
+        Words::Solve {
+            instance,
+            conflicts,
+        } => solve_file(alloc, shelf, instance, conflicts),
         Words::Circle { n } => circle(alloc, n),
     }
 }
@@ -62,8 +68,8 @@ fn answer<S: Shelf>(alloc: Global, words: &[String], shelf: &mut S) -> Result<Re
 ///
 /// `words` are the words of the command line without the program's name. `validate INSTANCE SOLUTION` judges the
 /// season of one file by the league of the other, `check INSTANCE LOG` checks the refutation log of one file over the
-/// rows of the league of the other, `circle N` makes a season, and any other words are refused. The whole text is made
-/// before its first byte is written.
+/// rows of the league of the other, `solve INSTANCE` finds a season or a log of the league of a file, `circle N` makes a
+/// season, and any other words are refused. The whole text is made before its first byte is written.
 ///
 /// - `answer` needs nothing of the store, of the sink or of the files: whatever they do, the answer is one of those
 ///   that are allowed for the words and the files, and each refusal has its cause.
@@ -74,6 +80,11 @@ fn answer<S: Shelf>(alloc: Global, words: &[String], shelf: &mut S) -> Result<Re
 ///   league have at most 40,000,000 terms, the verdict on the log is written whole.
 /// - `refuted` needs a store that tells the bytes of the instance file alone: where a run of `check` ends with `Yes`,
 ///   the league of that file accepts no list of games.
+/// - `solved` says the same as `checked` of `solve`: where the instance file is within its limit and well-formed, and the
+///   rows of its league have at most 40,000,000 terms, what is found is written whole. It is a schedule that the league
+///   accepts with its objective, a log that `check` accepts, or a log that is spent at the budget; and a schedule
+///   wherever the league accepts that of the circle method.
+/// - `unsolvable` is as `refuted`: where a run of `solve` ends with `Refuted`, the league accepts no list of games.
 /// - That a count of faults rose says that it is larger after this call, or that it stands at its last value,
 ///   2^64 - 1.
 /// - Memory may run out at any time, and then nothing is written. Nothing is said of which files were read then.
@@ -111,6 +122,23 @@ pub fn run<S: Shelf, K: Sink>(alloc: Global, words: &[String], shelf: &mut S, ou
         → S.contents shelf.old instance ≡ Some bytes
         → instance_of (pieces bytes) ≡ Ok league
         → result ≡ Status.Yes
+        → NoneAccepted league }
+
+    // What is found of the league of a well-formed instance, at which nothing fails, is written, unless memory runs out.
+    ensures solved { (instance : List ℕ) (conflicts : Option ℕ) (league : Instance)
+        → reading (map string_bytes words.now) ≡ Some (Solve instance conflicts)
+        → IsWellFormedInstance (S.contents shelf.old) (λ name. Rose (S.faults shelf.old name) (S.faults shelf.new name))
+        instance league
+        → (Rose (K.faults out.old) (K.faults out.new) → ⊥)
+        → result ≢ Status.Memory
+        → IsSolved league conflicts result (K.written out.old) (K.written out.new) }
+
+    // Where a league is refuted, it accepts no list of games.
+    ensures unsolvable { (instance bytes : List ℕ) (conflicts : Option ℕ) (league : Instance)
+        → reading (map string_bytes words.now) ≡ Some (Solve instance conflicts)
+        → S.contents shelf.old instance ≡ Some bytes
+        → instance_of (pieces bytes) ≡ Ok league
+        → result ≡ Status.Refuted
         → NoneAccepted league }
 
     // The files keep their contents, whatever the answer.

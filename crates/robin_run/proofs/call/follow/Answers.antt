@@ -5,3 +5,6 @@ returns-in-Validate-clause-answer g c = rw c.in-Validate.is c.validate.ensures.a
 
 pub returns-in-Check-clause-answer : goal.returns-in-Check-clause-answer
 returns-in-Check-clause-answer g c = rw c.in-Check.is c.check.ensures.answer
+
+pub returns-in-Solve-clause-answer : goal.returns-in-Solve-clause-answer
+returns-in-Solve-clause-answer g c = rw c.in-Solve.is c.solve_file.ensures.answer

@@ -1,0 +1,55 @@
+-- What is found of a league, answered.
+use Rattle.std.proofs.Common.{◌≡◌, ℕ, List, Option, Some, Result, Ok, Err, ap, inl, inr, ◌∙◌}
+use Rattle.std.specs.Prelude.{IfOk}
+use Rattle.league.specs.Accepted.{IsAccepted}
+use Rattle.league.specs.Counts.{counts_of}
+use Rattle.league.specs.Instance.{Instance}
+use Rattle.league.specs.declared.game.Game.{Game}
+use Rattle.circle_method.specs.Circle.{double_games}
+use Rattle.robinx_form.specs.Texts.{solution_text}
+use Rattle.encoding_base.specs.Encoding.{rows_of}
+use Rattle.refutation.specs.Steps.{Step}
+use Rattle.refutation.specs.Logs.{log_of}
+use Rattle.refutation.specs.Texts.{log_text}
+use Rattle.answers.specs.Reply.{Answer}
+use Rattle.answers.specs.SeenReply.{answer_of}
+use Rattle.answers.specs.declared.reply.Reply.{Reply}
+use Rattle.answers.specs.declared.status.Status.TheVariants.{Yes, Refuted, Spent}
+use Rattle.solve.specs.Solutions.{IsSpentOn, RefutesLeague}
+use Rattle.solve.specs.Solutions as solutions
+use Rattle.solve_answer.specs.Solve.{IsFound}
+
+pub found-schedule : (league : Instance) (conflicts : Option ℕ) (games : List Game) (objective : ℕ) (answer : Answer) → solutions.IsSchedule league games objective → answer.status ≡ Yes → answer.text ≡ solution_text games (Some (0, objective)) → IsFound league conflicts (rows_of league) answer
+found-schedule league conflicts games objective answer schedule status text = record {
+  found = inl (record { games = games; accepted = schedule.accepted; in_order = schedule.in_order; status = status; text = text ∙ ap (λ (cost : ℕ). solution_text games (Some (0, cost))) schedule.cost });
+  circle = λ accepted. status;
+}
+
+pub found-refuted : (league : Instance) (conflicts : Option ℕ) (steps : List Step) (answer : Answer) → RefutesLeague league steps → (IsAccepted league (counts_of (double_games league.n)) → ⊥) → answer.status ≡ Refuted → answer.text ≡ log_text steps → log_of answer.text ≡ Ok steps → IsFound league conflicts (rows_of league) answer
+found-refuted league conflicts steps answer refutes no_circle status text reads_back = record {
+  found = inr (inl (record { steps = steps; accepted = refutes.accepted; none = refutes.none; status = status; text = text; reads_back = reads_back }));
+  circle = λ accepted. absurd (no_circle accepted);
+}
+
+pub found-spent : (league : Instance) (conflicts : Option ℕ) (steps : List Step) (answer : Answer) → IsSpentOn league conflicts steps → (IsAccepted league (counts_of (double_games league.n)) → ⊥) → answer.status ≡ Spent → answer.text ≡ log_text steps → log_of answer.text ≡ Ok steps → IsFound league conflicts (rows_of league) answer
+found-spent league conflicts steps answer spent no_circle status text reads_back = record {
+  found = inr (inr (record { steps = steps; budget = spent.limited; spent = spent.spent; status = status; text = text; reads_back = reads_back }));
+  circle = λ accepted. absurd (no_circle accepted);
+}
+
+-- ---- the same of a reply, unless memory ran out
+
+pub replied-schedule : {E : Type 0} (league : Instance) (conflicts : Option ℕ) (games : List Game) (objective : ℕ) (result : Result Reply E) → solutions.IsSchedule league games objective
+    → IfOk result (λ reply. (answer_of reply).status ≡ Yes) → IfOk result (λ reply. (answer_of reply).text ≡ solution_text games (Some (0, objective))) → IfOk result (λ reply. IsFound league conflicts (rows_of league) (answer_of reply))
+replied-schedule league conflicts games objective (Ok reply) schedule status text = found-schedule league conflicts games objective (answer_of reply) schedule status text
+replied-schedule league conflicts games objective (Err error) schedule status text = tt
+
+pub replied-refuted : {E : Type 0} (league : Instance) (conflicts : Option ℕ) (steps : List Step) (result : Result Reply E) → RefutesLeague league steps → (IsAccepted league (counts_of (double_games league.n)) → ⊥)
+    → IfOk result (λ reply. (answer_of reply).status ≡ Refuted) → IfOk result (λ reply. (answer_of reply).text ≡ log_text steps) → IfOk result (λ reply. log_of (answer_of reply).text ≡ Ok steps) → IfOk result (λ reply. IsFound league conflicts (rows_of league) (answer_of reply))
+replied-refuted league conflicts steps (Ok reply) refutes no_circle status text reads_back = found-refuted league conflicts steps (answer_of reply) refutes no_circle status text reads_back
+replied-refuted league conflicts steps (Err error) refutes no_circle status text reads_back = tt
+
+pub replied-spent : {E : Type 0} (league : Instance) (conflicts : Option ℕ) (steps : List Step) (result : Result Reply E) → IsSpentOn league conflicts steps → (IsAccepted league (counts_of (double_games league.n)) → ⊥)
+    → IfOk result (λ reply. (answer_of reply).status ≡ Spent) → IfOk result (λ reply. (answer_of reply).text ≡ log_text steps) → IfOk result (λ reply. log_of (answer_of reply).text ≡ Ok steps) → IfOk result (λ reply. IsFound league conflicts (rows_of league) (answer_of reply))
+replied-spent league conflicts steps (Ok reply) spent no_circle status text reads_back = found-spent league conflicts steps (answer_of reply) spent no_circle status text reads_back
+replied-spent league conflicts steps (Err error) spent no_circle status text reads_back = tt

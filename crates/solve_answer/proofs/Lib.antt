@@ -1,0 +1,7 @@
+-- Lemmas on what is found, and on the stages:
+mod FoundLemmas
+mod StageLemmas
+-- What follows from an answer:
+pub mod AnswerLemmas
+-- Worked examples, so that a wrong definition does not check:
+pub mod SolveFacts

@@ -1,0 +1,119 @@
+-- Worked answers, so that a wrong definition of what `solve` may answer does not check.
+use Rattle.std.proofs.Common.{◌≡◌, ℕ, ◌≤◌, ◌∙◌, true, if◌then◌else◌, List, [], Option, Some, None, Ok, codes, IsTrue, zero, suc, inl, inr, arith, refl, sym}
+use Rattle.std.specs.Prelude.{bytes_eq}
+use Rattle.std.specs.List.{All}
+use Rattle.robinx_tags.specs.Pieces.{pieces, pieces_from}
+use Rattle.robinx_tags.specs.Tags.{attributes_at}
+use Rattle.league.specs.Accepted.{IsAccepted}
+use Rattle.league.specs.Counts.{counts_of}
+use Rattle.league.specs.Instance.{Instance, IsInstance, IsTeamCount, class_fits}
+use Rattle.league.specs.declared.class.Constraint.{Constraint}
+use Rattle.circle_method.specs.Circle.{double_games}
+use Rattle.circle_method.proofs.RoundRobinLemmas.{IsRoundRobin-double_games}
+use Rattle.robinx_form.specs.InstanceFile.{instance_of}
+use Rattle.robinx_form.specs.Walk.{walk}
+use Rattle.answers.specs.Reply.{Answer}
+use Rattle.answers.specs.declared.status.Status.TheVariants.{Yes, Refuted, Spent}
+use Rattle.encoding_base.specs.Encoding.{encoding_size, rows_of}
+use Rattle.encoding_base.specs.Variables.{var_count}
+use Rattle.refutation.specs.Texts.{log_text}
+use Rattle.refutation.specs.Verdict.{verdict_of}
+use Rattle.refutation.specs.declared.verdict.Verdict.TheVariants.{Accepted}
+use Rattle.season_check.specs.Excluded.{NoneAccepted}
+use Rattle.season_check.proofs.SeasonLemmas.{accepted_logs_exclude}
+use Rattle.check_answer.specs.Check.{most_terms}
+use Rattle.check_answer.proofs.CheckFacts.{good_steps, homeless, league_file, never, nowhere}
+use Rattle.solve_answer.specs.Solve.{IsFound, IsWellFormedInstance, solved}
+use Rattle.solve_answer.proofs.AnswerLemmas.{solved-well_formed}
+
+-- a league of two teams without constraints
+abbrev pub plain_file : List ℕ
+plain_file = codes "<Instance><Structure><Format><numberRoundRobin>2</numberRoundRobin><compactness>C</compactness><gameMode>P</gameMode></Format></Structure><Resources><Teams><team id=\"0\"/><team id=\"1\"/></Teams><Slots><slot id=\"0\"/><slot id=\"1\"/></Slots></Resources><Constraints></Constraints></Instance>"
+
+abbrev pub plain : Instance
+plain = record { n = 2; phased = true; constraints = [] }
+
+abbrev pub contents : List ℕ → Option (List ℕ)
+contents name =
+    if bytes_eq name (codes "homeless") then Some league_file
+    else if bytes_eq name (codes "plain") then Some plain_file
+    else None
+
+two : IsTeamCount 2
+two = record { even = refl; at_least = omega arith; at_most = omega arith }
+
+-- ---- neither team may be at home in slot 0: there is no schedule
+
+says-homeless : instance_of (pieces league_file) ≡ Ok homeless
+unfolding attributes_at pieces_from walk
+says-homeless = refl
+
+size-homeless : encoding_size homeless ≡ 62
+size-homeless = refl
+
+small-homeless : encoding_size homeless ≤ most_terms
+small-homeless = omega (arith, size-homeless)
+
+homeless-formed : IsWellFormedInstance contents nowhere (codes "homeless") homeless
+homeless-formed = record { bytes = league_file; known = refl; within = omega arith; says_league = says-homeless; small = small-homeless; works = λ h. h }
+
+homeless-verdict : verdict_of (rows_of homeless) (var_count homeless) good_steps ≡ Accepted
+homeless-verdict = refl
+
+homeless-fits : All (λ (c : Constraint). IsTrue (class_fits 2 c.class)) homeless.constraints
+homeless-fits zero d h = refl
+homeless-fits (suc k) d h = absurd (omega arith)
+
+homeless-instance : IsInstance homeless
+homeless-instance = record { teams = two; few = omega arith; fit = homeless-fits }
+
+none : NoneAccepted homeless
+none = accepted_logs_exclude homeless good_steps homeless-instance homeless-verdict
+
+-- whatever the budget, no schedule is the answer to `solve homeless`
+pub solve-no_schedule : (conflicts : Option ℕ) (answer : Answer) → solved contents never nowhere (codes "homeless") conflicts answer → answer.status ≡ Yes → ⊥
+solve-no_schedule conflicts answer given ended =
+    let told : IsFound homeless conflicts (rows_of homeless) answer = solved-well_formed contents never nowhere (codes "homeless") conflicts homeless answer homeless-formed given in
+    elim told.found [
+      | inl schedule ↦ none schedule.games schedule.accepted
+      | inr (inl refuted) ↦ let same : Refuted ≡ Yes = sym refuted.status ∙ ended in cc
+      | inr (inr spent) ↦ let same : Spent ≡ Yes = sym spent.status ∙ ended in cc
+    ]
+
+-- and without a budget it is refuted
+pub solve-refuted : (answer : Answer) → solved contents never nowhere (codes "homeless") None answer → answer.status ≡ Refuted
+solve-refuted answer given =
+    let told : IsFound homeless None (rows_of homeless) answer = solved-well_formed contents never nowhere (codes "homeless") None homeless answer homeless-formed given in
+    elim told.found [
+      | inl schedule ↦ absurd (none schedule.games schedule.accepted)
+      | inr (inl refuted) ↦ refuted.status
+      | inr (inr spent) ↦ let same = spent.budget in absurd (cc)
+    ]
+
+-- ---- any schedule will do
+
+says-plain : instance_of (pieces plain_file) ≡ Ok plain
+unfolding attributes_at pieces_from walk
+says-plain = refl
+
+size-plain : encoding_size plain ≡ 60
+size-plain = refl
+
+small-plain : encoding_size plain ≤ most_terms
+small-plain = omega (arith, size-plain)
+
+plain-formed : IsWellFormedInstance contents nowhere (codes "plain") plain
+plain-formed = record { bytes = plain_file; known = refl; within = omega arith; says_league = says-plain; small = small-plain; works = λ h. h }
+
+circle-accepted : IsAccepted plain (counts_of (double_games 2))
+circle-accepted = record { round_robin = IsRoundRobin-double_games 2 two; hard = λ k d h. absurd (omega arith) }
+
+-- whatever the budget, a schedule is the answer to `solve plain`, since its league accepts that of the circle method
+pub solve-circle : (conflicts : Option ℕ) (answer : Answer) → solved contents never nowhere (codes "plain") conflicts answer → answer.status ≡ Yes
+solve-circle conflicts answer given = (solved-well_formed contents never nowhere (codes "plain") conflicts plain answer plain-formed given).circle circle-accepted
+
+-- ---- texts
+
+-- a log of no step, which is spent at 0
+pub log_text-none : log_text [] ≡ codes "refutation 1\nend\n"
+log_text-none = refl

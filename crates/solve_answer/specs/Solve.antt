@@ -1,0 +1,99 @@
+-- What `solve` answers: its stages in their order, and what is found of a league.
+use Rattle.std.specs.Prelude.{◌≡◌, ℕ, ◌≤◌, ◌⊎◌, List, length, codes, Option, Some, Ok}
+use Rattle.std.specs.Io.KnownBytes.{Appends}
+use Rattle.league.specs.Accepted.{IsAccepted, objective}
+use Rattle.league.specs.Counts.{counts_of}
+use Rattle.league.specs.Instance.{Instance}
+use Rattle.league.specs.Order.{IsInOrder}
+use Rattle.league.specs.declared.game.Game.{Game}
+use Rattle.circle_method.specs.Circle.{double_games}
+use Rattle.robinx_tags.specs.Pieces.{pieces}
+use Rattle.robinx_form.specs.InstanceFile.{instance_of}
+use Rattle.robinx_form.specs.SolutionFile.{solution_of}
+use Rattle.robinx_form.specs.Texts.{solution_text}
+use Rattle.robinx_read.specs.declared.instance.TheConstants.{INSTANCE_LIMIT}
+use Rattle.answers.specs.Reply.{Answer}
+use Rattle.answers.specs.Stages.{◌>>=◌, Outcome, reads, says}
+use Rattle.answers.specs.declared.status.Status.{Status}
+use Rattle.answers.specs.declared.status.Status.TheVariants.{Yes, Refuted, Spent}
+use Rattle.rows.specs.Rows.{Row}
+use Rattle.encoding_base.specs.Encoding.{encoding_size, rows_of}
+use Rattle.encoding_base.specs.Variables.{var_count}
+use Rattle.refutation.specs.Steps.{Step}
+use Rattle.refutation.specs.Logs.{log_of}
+use Rattle.refutation.specs.Texts.{log_text}
+use Rattle.refutation.specs.Verdict.{verdict_of}
+use Rattle.refutation.specs.declared.verdict.Verdict.TheVariants.{Accepted}
+use Rattle.clause_search.specs.News.{IsSpent}
+use Rattle.season_check.specs.Excluded.{NoneAccepted}
+use Rattle.check_answer.specs.Check.{encodes, most_terms}
+
+-- ---- what is found
+
+-- a schedule that the league accepts, in order, is written as a solution file, with its objective
+pub record IsSchedule (league : Instance) (answer : Answer) : Type 0 where
+  pub games : List Game
+  pub accepted : IsAccepted league (counts_of games)
+  pub in_order : IsInOrder games
+  pub status : answer.status ≡ Yes
+  pub text : answer.text ≡ solution_text games (Some (0, objective league (counts_of games)))
+
+-- A log that is accepted over the league's rows is written, and reads back as it: so the league accepts no list of
+-- games, of whatever length.
+pub record IsRefuted (league : Instance) (rows : List Row) (answer : Answer) : Type 0 where
+  pub steps : List Step
+  pub accepted : verdict_of rows (var_count league) steps ≡ Accepted
+  pub none : NoneAccepted league
+  pub status : answer.status ≡ Refuted
+  pub text : answer.text ≡ log_text steps
+  pub reads_back : log_of answer.text ≡ Ok steps
+
+-- a log that is spent at the budget over the league's rows is written, and reads back as it
+pub record IsBudgetSpent (league : Instance) (rows : List Row) (conflicts : Option ℕ) (answer : Answer) : Type 0 where
+  pub steps : List Step
+  pub budget : conflicts ≡ Some (length steps)
+  pub spent : IsSpent (length steps) rows (var_count league) steps
+  pub status : answer.status ≡ Spent
+  pub text : answer.text ≡ log_text steps
+  pub reads_back : log_of answer.text ≡ Ok steps
+
+-- What is found of a league, over its rows and within a budget of conflicts. Where the league accepts the schedule of
+-- the circle method, a schedule is.
+pub record IsFound (league : Instance) (conflicts : Option ℕ) (rows : List Row) (answer : Answer) : Type 0 where
+  pub found : IsSchedule league answer ⊎ (IsRefuted league rows answer ⊎ IsBudgetSpent league rows conflicts answer)
+  pub circle : IsAccepted league (counts_of (double_games league.n)) → answer.status ≡ Yes
+
+-- ---- stages
+
+-- `solve`, over the contents of the store's files where they are known, how many bytes it gave more than, and the files
+-- at which it failed
+abbrev pub solved : (List ℕ → Option (List ℕ)) → (ℕ → Type 0) → (List ℕ → Type 0) → List ℕ → Option ℕ → Outcome
+solved contents took_more failed instance conflicts = do
+  bytes ← reads (codes "instance") (contents instance) INSTANCE_LIMIT (took_more INSTANCE_LIMIT) (failed instance)
+  league ← says (codes "instance") (instance_of (pieces bytes))
+  rows ← encodes league
+  IsFound league conflicts rows
+
+-- ---- a run
+
+-- a file within its limit whose bytes are known and at which the store didn't fail, which says a league whose rows
+-- aren't too many
+pub record IsWellFormedInstance
+    (contents : List ℕ → Option (List ℕ))
+    (failed : List ℕ → Type 0)
+    (instance : List ℕ)
+    (league : Instance)
+    : Type 0 where
+  pub bytes : List ℕ
+  pub known : contents instance ≡ Some bytes
+  pub within : length bytes ≤ INSTANCE_LIMIT
+  pub says_league : instance_of (pieces bytes) ≡ Ok league
+  pub small : encoding_size league ≤ most_terms
+  pub works : failed instance → ⊥
+
+-- what is found is written whole
+pub record IsSolved (league : Instance) (conflicts : Option ℕ) (ended : Status) (old new : Option (List ℕ)) : Type 0 where
+  pub answer : Answer
+  pub found : IsFound league conflicts (rows_of league) answer
+  pub status : ended ≡ answer.status
+  pub written : Appends old new answer.text

@@ -1,0 +1,86 @@
+//! The answers of `solve`.
+ghost use Rattle.std.specs.Prelude.{◌≡◌, IfOk, Ok, Some};
+ghost use Rattle.std.specs.List.{All};
+ghost use Rattle.league.specs.Accepted.{IsAccepted};
+ghost use Rattle.league.specs.Counts.{counts_of};
+ghost use Rattle.circle_method.specs.Circle.{double_games};
+ghost use Rattle.encoding_base.specs.Encoding.{rows_of};
+ghost use Rattle.robinx_form.specs.Texts as solutions;
+ghost use Rattle.answers.specs.SeenReply.{answer_of};
+ghost use Rattle.answers.specs.declared.status.Status.TheVariants.{Yes};
+ghost use Rattle.refutation.specs.Logs.{log_of};
+ghost use Rattle.refutation.specs.Steps.{NamesRows};
+ghost use Rattle.refutation.specs.Texts as logs;
+ghost use Rattle.refutation.specs.Writable.{HasShortLines};
+ghost use Rattle.check_answer.specs.Check.{too_large};
+ghost use Rattle.solve.specs.Solutions.{IsSolution, IsThoseGames};
+ghost use Rattle.solve_answer.specs.Solve.{IsFound};
+
+use answers::{Reply, Status};
+use league::{League, Schedule};
+use refutation::{Log, log_text};
+use robinx_write::solution_text;
+use solve::Solved;
+use std::alloc::{AllocError, Global};
+
+/// The rows of the league have so many terms, which are too many.
+pub(crate) fn rows_refused(alloc: Global, terms: u64) -> Result<Reply, AllocError>
+    ensures { IfOk result (λ reply. answer_of reply ≡ too_large terms) }
+{
+    let text = format!(in alloc; "refused rows TooLarge terms {terms}\n")?;
+    Ok(Reply {
+        status: Status::File,
+        text: text.into_bytes(),
+    })
+}
+
+/// A schedule that is accepted, with its objective.
+fn schedule_reply(
+    alloc: Global,
+    schedule: &Schedule,
+    objective: u128,
+) -> Result<Reply, AllocError>
+    ensures status { IfOk result (λ reply. (answer_of reply).status ≡ Yes) }
+    ensures text { IfOk result (λ reply. (answer_of reply).text
+        ≡ solutions.solution_text schedule.now (Some (0, objective))) }
+{
+    let text = solution_text(alloc, schedule, Some((0, objective)))?;
+    Ok(Reply {
+        status: Status::Yes,
+        text,
+    })
+}
+
+/// A log, as the answer of this status.
+fn log_reply(alloc: Global, status: Status, log: &Log) -> Result<Reply, AllocError>
+    requires named { All NamesRows log.now }
+    requires short { HasShortLines log.now }
+    ensures status { IfOk result (λ reply. (answer_of reply).status ≡ status) }
+    ensures text { IfOk result (λ reply. (answer_of reply).text ≡ logs.log_text log.now) }
+    ensures reads_back { IfOk result (λ reply. log_of (answer_of reply).text ≡ Ok log.now) }
+{
+    let text = log_text(alloc, log)?;
+    Ok(Reply { status, text })
+}
+
+/// What is found of a league within this budget.
+pub(crate) fn found_reply(
+    alloc: Global,
+    league: &League,
+    conflicts: Option<u64>,
+    solved: &Solved,
+) -> Result<Reply, AllocError>
+    requires solution { IsSolution league.now conflicts solved.now }
+    requires circle { IsAccepted league.now (counts_of (double_games league.now.n))
+        → IsThoseGames (double_games league.now.n) solved.now }
+    ensures { IfOk result (λ reply. IsFound league.now conflicts (rows_of league.now) (answer_of reply)) }
+{
+    match solved {
+        Solved::Schedule {
+            schedule,
+            objective,
+        } => schedule_reply(alloc, schedule, *objective),
+        Solved::Refuted(log) => log_reply(alloc, Status::Refuted, log),
+        Solved::Spent(log) => log_reply(alloc, Status::Spent, log),
+    }
+}
