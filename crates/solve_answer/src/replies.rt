@@ -35,11 +35,7 @@ pub(crate) fn rows_refused(alloc: Global, terms: u64) -> Result<Reply, AllocErro
 }
 
 /// A schedule that is accepted, with its objective.
-fn schedule_reply(
-    alloc: Global,
-    schedule: &Schedule,
-    objective: u128,
-) -> Result<Reply, AllocError>
+fn schedule_reply(alloc: Global, schedule: &Schedule, objective: u128) -> Result<Reply, AllocError>
     ensures status { IfOk result (λ reply. (answer_of reply).status ≡ Yes) }
     ensures text { IfOk result (λ reply. (answer_of reply).text
         ≡ solutions.solution_text schedule.now (Some (0, objective))) }
