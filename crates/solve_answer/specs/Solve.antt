@@ -1,5 +1,5 @@
 -- What `solve` answers: its stages in their order, and what is found of a league.
-use Rattle.std.specs.Prelude.{◌≡◌, ℕ, ◌≤◌, ◌⊎◌, List, length, codes, Option, Some, Ok}
+use Rattle.std.specs.Prelude.{◌≡◌, ℕ, ◌<◌, ◌≤◌, ◌^◌, ◌⊎◌, List, length, codes, Option, Some, Ok}
 use Rattle.std.specs.Io.KnownBytes.{Appends}
 use Rattle.league.specs.Accepted.{IsAccepted, objective}
 use Rattle.league.specs.Counts.{counts_of}
@@ -48,11 +48,13 @@ pub record IsRefuted (league : Instance) (rows : List Row) (answer : Answer) : T
   pub text : answer.text ≡ log_text steps
   pub reads_back : log_of answer.text ≡ Ok steps
 
--- a log that is spent at the budget over the league's rows is written, and reads back as it
+-- A log that is spent at the budget over the league's rows is written, and reads back as it. The budget is below 3 to the
+-- number of variables, so a greater one, or none, is never spent.
 pub record IsBudgetSpent (league : Instance) (rows : List Row) (conflicts : Option ℕ) (answer : Answer) : Type 0 where
   pub steps : List Step
   pub budget : conflicts ≡ Some (length steps)
   pub spent : IsSpent (length steps) rows (var_count league) steps
+  pub few : length steps < 3 ^ var_count league
   pub status : answer.status ≡ Spent
   pub text : answer.text ≡ log_text steps
   pub reads_back : log_of answer.text ≡ Ok steps
