@@ -33,7 +33,7 @@ found-refuted league conflicts steps answer refutes no_circle status text reads_
 
 pub found-spent : (league : Instance) (conflicts : Option ℕ) (steps : List Step) (answer : Answer) → IsSpentOn league conflicts steps → (IsAccepted league (counts_of (double_games league.n)) → ⊥) → answer.status ≡ Spent → answer.text ≡ log_text steps → log_of answer.text ≡ Ok steps → IsFound league conflicts (rows_of league) answer
 found-spent league conflicts steps answer spent no_circle status text reads_back = record {
-  found = inr (inr (record { steps = steps; budget = spent.limited; spent = spent.spent; status = status; text = text; reads_back = reads_back }));
+  found = inr (inr (record { steps = steps; budget = spent.limited; spent = spent.spent; few = spent.few; status = status; text = text; reads_back = reads_back }));
   circle = λ accepted. absurd (no_circle accepted);
 }
 
