@@ -13,9 +13,9 @@ pub enum Status {
     Words,
     /// A file is refused, or the rows of its league are too many.
     File,
-    /// No schedule meets the hard constraints. No command answers it yet.
+    /// No schedule meets the hard constraints, which the log that is written proves.
     Refuted,
-    /// A budget is spent. No command answers it yet.
+    /// A budget is spent, and what was learnt is written.
     Spent,
     /// A file could not be read.
     ReadFault,
