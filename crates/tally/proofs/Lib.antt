@@ -1,0 +1,4 @@
+pub mod SetLemmas
+pub mod RenewalLemmas
+pub mod FrameLemmas
+pub mod ExchangeLemmas
