@@ -15,7 +15,7 @@ pub counts_part : (games : List Game) (at i j s : ℕ) → at < length games →
 counts_part games at i j s within = sum_by_more_le (λ x. one_if (is_game i j s x)) games at no_game within
 
 pub is_itself : (g : Game) → one_if (is_game g.home.0 g.away.0 g.slot.0 g) ≡ 1
-is_itself g = ap one_if (and_from (g.home.0 == g.home.0) ((g.away.0 == g.away.0) && (g.slot.0 == g.slot.0)) (eq-eqb g.home.0 g.home.0 refl) (and_from (g.away.0 == g.away.0) (g.slot.0 == g.slot.0) (eq-eqb g.away.0 g.away.0 refl) (eq-eqb g.slot.0 g.slot.0 refl)))
+is_itself g = ap one_if (and_from ((g.home.0 == g.home.0) && (g.away.0 == g.away.0)) (g.slot.0 == g.slot.0) (and_from (g.home.0 == g.home.0) (g.away.0 == g.away.0) (eq-eqb g.home.0 g.home.0 refl) (eq-eqb g.away.0 g.away.0 refl)) (eq-eqb g.slot.0 g.slot.0 refl))
 
 -- the next game to be taken off is there
 pub next_there : (before now : Counts) (games : List Game) (at : ℕ) → at < length games → ((i j s : ℕ) → counts_of games i j s ≤ before i j s) → ((i j s : ℕ) → now i j s + counts_of (take at games) i j s ≡ before i j s) → 0 < now (get_or games at no_game).home.0 (get_or games at no_game).away.0 (get_or games at no_game).slot.0

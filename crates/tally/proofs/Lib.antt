@@ -2,3 +2,4 @@ pub mod SetLemmas
 pub mod RenewalLemmas
 pub mod FrameLemmas
 pub mod ExchangeLemmas
+pub mod CostLemmas
