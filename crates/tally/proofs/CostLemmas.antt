@@ -81,8 +81,8 @@ hard_counted E n room m [] ready exact = refl
 hard_counted {R} E n room m (k ∷ rules) ready exact =
     sum_by-cons hard_cost k rules
     ∙ hard_step k.weighted.hard (k.weighted.penalty * k.deviation) (sum_by hard_cost rules) (cost_on E m) k.weighted (filter (λ w. w.hard) (map (λ (k : Kept R). k.weighted) rules))
-      (cost_counted E n room m k (All-head (IsReady E n room) k rules ready) (All-head (IsExact E m) k rules exact))
-      (hard_counted E n room m rules (All-tail (IsReady E n room) k rules ready) (All-tail (IsExact E m) k rules exact))
+    (cost_counted E n room m k (All-head (IsReady E n room) k rules ready) (All-head (IsExact E m) k rules exact))
+    (hard_counted E n room m rules (All-tail (IsReady E n room) k rules ready) (All-tail (IsExact E m) k rules exact))
 
 -- and what the soft rules cost
 pub soft_counted : {R : Type 0} (E : Ghosts R) (n room : ℕ) (m : Counts) (rules : List (Kept R)) → All (IsReady E n room) rules → All (IsExact E m) rules → sum_by soft_cost rules ≡ objective_on E m (map (λ k. k.weighted) rules)
@@ -90,5 +90,5 @@ soft_counted E n room m [] ready exact = refl
 soft_counted {R} E n room m (k ∷ rules) ready exact =
     sum_by-cons soft_cost k rules
     ∙ soft_step k.weighted.hard (k.weighted.penalty * k.deviation) (sum_by soft_cost rules) (cost_on E m) k.weighted (filter (λ w. not w.hard) (map (λ (k : Kept R). k.weighted) rules))
-      (cost_counted E n room m k (All-head (IsReady E n room) k rules ready) (All-head (IsExact E m) k rules exact))
-      (soft_counted E n room m rules (All-tail (IsReady E n room) k rules ready) (All-tail (IsExact E m) k rules exact))
+    (cost_counted E n room m k (All-head (IsReady E n room) k rules ready) (All-head (IsExact E m) k rules exact))
+    (soft_counted E n room m rules (All-tail (IsReady E n room) k rules ready) (All-tail (IsExact E m) k rules exact))

@@ -62,13 +62,13 @@ edit_exact n terms entry touches frame now m out into out_fit into_fit same done
     let long : length entries ≡ terms = ap length was ∙ length-map-range_with_len (λ k. entry k m) 0 terms in
     let wide : length (map (λ k. entry k now) (range_with_len 0 terms)) ≡ terms = length-map-range_with_len (λ k. entry k now) 0 terms in
     ext_get_or 0 entries_after (map (λ k. entry k now) (range_with_len 0 terms)) (omega (arith, ends.long, long, wide)) (λ i h.
-      let below : i < terms = omega (arith, h, ends.long, long) in
-      elim (cases_Bool (is_in done_after i)) as (λ _. get_or entries_after i 0 ≡ get_or (map (λ k. entry k now) (range_with_len 0 terms)) i 0) [
-        | inl found ↦ ends.fresh i (omega (arith, below, long)) found ∙ sym (get_or-range (λ k. entry k now) terms i below)
-        | inr lost ↦
-            ends.stale i lost
-            ∙ ap (λ (l : List ℕ). get_or l i 0) was
-            ∙ get_or-range (λ k. entry k m) terms i below
-            ∙ sym (edit_kept n terms entry touches frame now m out into out_fit into_fit same i below (ap (λ (l : List ℕ). is_in l i || is_in (flat_map touches out ++ flat_map touches into) i) (sym none) ∙ sym (are.keys i) ∙ lost))
-            ∙ sym (get_or-range (λ k. entry k now) terms i below)
-      ])
+    let below : i < terms = omega (arith, h, ends.long, long) in
+    elim (cases_Bool (is_in done_after i)) as (λ _. get_or entries_after i 0 ≡ get_or (map (λ k. entry k now) (range_with_len 0 terms)) i 0) [
+      | inl found ↦ ends.fresh i (omega (arith, below, long)) found ∙ sym (get_or-range (λ k. entry k now) terms i below)
+      | inr lost ↦
+          ends.stale i lost
+          ∙ ap (λ (l : List ℕ). get_or l i 0) was
+          ∙ get_or-range (λ k. entry k m) terms i below
+          ∙ sym (edit_kept n terms entry touches frame now m out into out_fit into_fit same i below (ap (λ (l : List ℕ). is_in l i || is_in (flat_map touches out ++ flat_map touches into) i) (sym none) ∙ sym (are.keys i) ∙ lost))
+          ∙ sym (get_or-range (λ k. entry k now) terms i below)
+    ])

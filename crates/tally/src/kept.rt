@@ -137,5 +137,4 @@ impl<R: Entries> Kept<R> {
 /// What is known of a list of words: their sum is at most as many times the greatest.
 pub(crate) fn at_most_words(entries: &[u64])
     ensures { sum entries.now ≤ 2 ^ 64 * length entries.now }
-{
-}
+{}

@@ -6,8 +6,8 @@
 #![tactic(auto)]
 
 mod exchange;
-mod key_set;
 mod kept;
+mod key_set;
 mod tally;
 mod weigh;
 mod weighted;
