@@ -1,5 +1,5 @@
 -- Entries that an edit doesn't touch are the same before and after.
-use Rattle.std.proofs.Common.{◌≡◌, ℕ, ◌+◌, ◌<◌, Bool, true, false, ◌||◌, ◌⊎◌, inl, inr, List, [], ◌∷◌, ◌++◌, length, get_or, map, refl, ap, sym, ◌∙◌, arith}
+use Rattle.std.proofs.Common.{◌≡◌, ℕ, ◌<◌, false, ◌||◌, inl, inr, List, [], ◌∷◌, ◌++◌, length, get_or, map, refl, ap, sym, ◌∙◌, arith}
 use Rattle.std.proofs.lemmas.Bool.{cases_Bool, false≢true, or_parts}
 use Rattle.std.proofs.lemmas.Bool.Decides.{Decides-eqb, not_from_Decides}
 use Rattle.std.proofs.lemmas.List.{ext_get_or}
@@ -8,7 +8,7 @@ use Rattle.std.proofs.lemmas.List.Elements.{All-head, All-tail}
 use Rattle.std.proofs.lemmas.List.Sums.{sum_by-cons}
 use Rattle.std.proofs.lemmas.Map.Made.{is_member-Decides}
 use Rattle.std.specs.List.{All, Contains, flat_map, range_with_len}
-use Rattle.league.specs.Counts.{Counts, counts_of, is_game, one_more}
+use Rattle.league.specs.Counts.{Counts, is_game, one_more}
 use Rattle.league.specs.Instance.{IsGame}
 use Rattle.league.specs.declared.game.Game.{Game}
 use Rattle.league.proofs.RangeLemmas.{one_if}
@@ -16,7 +16,6 @@ use Rattle.cells.proofs.TableLemmas.{same_counts}
 use Rattle.tally.specs.KeySet.{is_in}
 use Rattle.tally.specs.Renewal.{AreRenewed, IsRenewal}
 use Rattle.tally.specs.Tallies.{with_games}
-use Rattle.tally.proofs.RenewalLemmas.{flat_map-append}
 use Rattle.tally.proofs.SetLemmas.{is_in-append}
 
 -- a game changes no entry of a key that it doesn't touch

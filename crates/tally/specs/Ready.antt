@@ -1,5 +1,5 @@
 -- Rules with their kept entries, and what they cost.
-use Rattle.std.specs.Prelude.{◌≡◌, ℕ, ◌*◌, ◌^◌, ◌<◌, ◌≤◌, Bool, if◌then◌else◌, List, [], length}
+use Rattle.std.specs.Prelude.{◌≡◌, ℕ, ◌*◌, ◌^◌, ◌<◌, ◌≤◌, if◌then◌else◌, List, [], length}
 use Rattle.std.specs.List.{All, sum, sum_by}
 use Rattle.league.specs.Counts.{Counts}
 use Rattle.rule_core.specs.declared.rule.Entries.{Ghosts}

@@ -1,5 +1,5 @@
 -- Kept entries while some of them are evaluated afresh.
-use Rattle.std.specs.Prelude.{◌≡◌, ℕ, ◌+◌, ◌<◌, Bool, true, false, ◌||◌, List, length, slice_index}
+use Rattle.std.specs.Prelude.{◌≡◌, ℕ, ◌+◌, ◌<◌, true, false, ◌||◌, List, length, slice_index}
 use Rattle.tally.specs.KeySet.{is_in}
 
 -- the entries of these keys are those of f now, and the others are as they were

@@ -1,5 +1,5 @@
 -- What rules give and cost on some counts, counted afresh.
-use Rattle.std.specs.Prelude.{ℕ, ◌+◌, ◌*◌, Bool, not, eqb, List, map}
+use Rattle.std.specs.Prelude.{ℕ, ◌+◌, ◌*◌, not, eqb, List, map}
 use Rattle.std.specs.List.{filter, flat_map, range_with_len, sum, sum_by}
 use Rattle.std.specs.Set.{distinct_count}
 use Rattle.league.specs.Counts.{Counts, counts_of}

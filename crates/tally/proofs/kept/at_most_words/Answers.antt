@@ -1,4 +1,4 @@
-use Rattle.std.proofs.Common.{◌^◌, arith}
+use Rattle.std.proofs.Common.{◌^◌}
 use Rattle.std.proofs.Math.Facts.{Fits-lt-pow}
 use Rattle.deviation.proofs.EntryLemmas.{sum-le}
 use Rattle.tally.proofs.kept.at_most_words.Goals as goal

@@ -1,9 +1,8 @@
-use Rattle.std.proofs.Common.{◌≡◌, ◌+◌, ◌++◌, ℕ, List, [], length, map, ap, subst, sym, ◌∙◌, arith, eqb}
-use Rattle.std.specs.List.{All, IsDistinct, flat_map, range_with_len}
+use Rattle.std.proofs.Common.{◌+◌, ◌++◌, ℕ, List, ap, subst, sym, ◌∙◌, eqb}
+use Rattle.std.specs.List.{All, flat_map}
 use Rattle.std.specs.Set.{distinct_count}
 use Rattle.league.specs.Instance.{IsGame}
 use Rattle.cells.specs.Table.{table_counts}
-use Rattle.keys.specs.Keys.{KeyList}
 use Rattle.tally.specs.Renewal.{IsRenewal}
 use Rattle.tally.specs.Tallies.{vector_on}
 use Rattle.tally.specs.declared.weighted.Weighted.{Weighted}

@@ -1,4 +1,4 @@
-use Rattle.std.proofs.Common.{◌≡◌, ◌<◌, ◌++◌, ◌∷◌, [], ℕ, List, take, ap, subst, sym, ◌∙◌}
+use Rattle.std.proofs.Common.{◌≡◌, ◌<◌, ◌++◌, ◌∷◌, [], ℕ, List, ap, subst, sym, ◌∙◌}
 use Rattle.std.specs.List.{All}
 use Rattle.league.specs.Instance.{IsGame}
 use Rattle.cells.specs.Table.{table_counts}
@@ -6,7 +6,7 @@ use Rattle.keys.specs.Keys.{KeyList}
 use Rattle.tally.specs.Ready.{IsReady}
 use Rattle.tally.specs.Renewal.{IsRenewal}
 use Rattle.tally.specs.declared.weighted.Weighted.{Weighted}
-use Rattle.tally.proofs.RenewalLemmas.{key_below, keys_more, renewal-none, renewal-step}
+use Rattle.tally.proofs.RenewalLemmas.{key_below, keys_more, renewal-step}
 use Rattle.tally.proofs.kept.Kept.renew_game.Goals as goal
 
 pub renew-requires-clause-key : goal.renew-requires-clause-key

@@ -1,4 +1,4 @@
-use Rattle.std.proofs.Common.{◌≡◌, ◌<◌, ◌++◌, ◌∷◌, [], ℕ, List, get_or, take, ap, subst, sym, ◌∙◌}
+use Rattle.std.proofs.Common.{ℕ, get_or, subst, sym, ◌∙◌}
 use Rattle.cells.specs.Table.{table_counts}
 use Rattle.tally.specs.Ready.{IsReady}
 use Rattle.tally.specs.Renewal.{IsRenewal}

@@ -1,4 +1,4 @@
-use Rattle.std.proofs.Common.{◌≡◌, ◌<◌, false, ap, subst, sym, ◌∙◌}
+use Rattle.std.proofs.Common.{◌≡◌, ◌<◌, false, ap, subst, sym}
 use Rattle.keys.specs.Keys.{KeyList}
 use Rattle.tally.specs.KeySet.{is_in}
 use Rattle.tally.proofs.SetLemmas.{AreMarked-add, room_left}

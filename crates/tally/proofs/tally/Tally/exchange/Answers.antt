@@ -1,5 +1,5 @@
-use Rattle.std.proofs.Common.{◌≡◌, ◌++◌, List, length, map, take, drop, ap, subst, sym, ◌∙◌, arith}
-use Rattle.std.proofs.lemmas.List.{length-map, take_at}
+use Rattle.std.proofs.Common.{◌≡◌, ◌++◌, List, length, take, drop, ap, subst, sym, arith}
+use Rattle.std.proofs.lemmas.List.{take_at}
 use Rattle.std.specs.List.{All}
 use Rattle.cells.specs.Table.{table_counts}
 use Rattle.tally.specs.Ready.{IsExact, IsTallied}

@@ -1,4 +1,4 @@
-use Rattle.std.proofs.Common.{◌≡◌, ap, ◌∙◌}
+use Rattle.std.proofs.Common.{ap, ◌∙◌}
 use Rattle.cells.specs.Table.{table_counts}
 use Rattle.tally.specs.Tallies.{infeasibility_on, Tallied}
 use Rattle.tally.proofs.CostLemmas.{hard_counted}
