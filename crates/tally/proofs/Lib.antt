@@ -3,3 +3,4 @@ pub mod RenewalLemmas
 pub mod FrameLemmas
 pub mod ExchangeLemmas
 pub mod CostLemmas
+pub mod KeepLemmas

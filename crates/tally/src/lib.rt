@@ -6,6 +6,7 @@
 #![tactic(auto)]
 
 mod exchange;
+mod keep;
 mod kept;
 mod key_set;
 mod tally;

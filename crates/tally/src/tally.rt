@@ -7,12 +7,15 @@ ghost use Rattle.cells.specs.Table.{table_counts};
 ghost use Rattle.tally.specs.Tallies.{all_terms, all_touched, infeasibility_on, objective_on, vector_on};
 
 use crate::exchange::exchange_games;
+use crate::keep::{costs, greatest_reach, greatest_terms, keep_rules};
 use crate::kept::Kept;
 use crate::key_set::KeySet;
 use crate::weigh::{Sums, renew_rules};
+use crate::weighted::Weighted;
 use league::Game;
 use moves::Edit;
 use rule_core::{Cells, Entries, Keys, Rule, Steps};
+use std::alloc::{AllocError, Global};
 use std::marker::Model;
 
 /// Weighted rules, and the counts of a schedule's games. The rules' deviation vectors, what the hard ones cost (the
@@ -39,6 +42,38 @@ impl<R: Entries> Model for Tally<R> {
 }
 
 impl<R: Entries> Tally<R> {
+    /// Evaluates each entry of the rules once on these counts.
+    ///
+    /// # Errors
+    /// Only where memory runs out; then the rules and the counts are given up.
+    pub fn new<L>(
+        alloc: Global,
+        rules: Vec<Weighted<R>>,
+        cells: Cells,
+        steps: &mut Steps<L>,
+    ) -> Result<Tally<R>, AllocError>
+    where
+        R: Rule<L>,
+        requires teams { All (λ w. R.team_count w.rule ≡ cells.n) rules.items }
+        requires few { all_terms R.Entries rules.items < 2 ^ 31 }
+        ensures weights { IfOk result (λ tally. tally.weights ≡ rules.items) }
+        ensures table { IfOk result (λ tally. tally.table ≡ cells) }
+        ensures steps { steps.new ≤ steps.old + all_terms R.Entries rules.items }
+    {
+        let keys = Keys::new(alloc, greatest_reach(&rules))?;
+        let room = greatest_terms(&rules);
+        let done = KeySet::new(alloc, room)?;
+        let rules = keep_rules(alloc, rules, &cells, room, steps)?;
+        let sums = costs(&rules, &cells, room);
+        Ok(Tally {
+            rules,
+            cells,
+            keys,
+            done,
+            sums,
+        })
+    }
+
     /// Takes the games of an edit's `out` off the counts and puts those of its `into` on. Each key that one of these
     /// games touches is evaluated once, and no other. It takes no memory.
     pub fn apply<L>(&mut self, edit: &Edit, steps: &mut Steps<L>)
