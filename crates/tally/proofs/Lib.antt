@@ -4,3 +4,4 @@ pub mod FrameLemmas
 pub mod ExchangeLemmas
 pub mod CostLemmas
 pub mod KeepLemmas
+mod TallyFacts
