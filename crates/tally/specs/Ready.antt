@@ -32,7 +32,8 @@ abbrev pub soft_cost : {R : Type 0} → Kept R → ℕ
 soft_cost k = if k.weighted.hard then 0 else k.weighted.penalty * k.deviation
 
 -- rules of a league of n teams, with room for their keys and what they cost
-pub record AreReady {R : Type 0} (E : Ghosts R) (n keys_room : ℕ) (done : KeyList) (rules : List (Kept R)) (sums : Sums) : Type 0 where
+pub record AreReady {R : Type 0} (E : Ghosts R) (n keys_room : ℕ) (done : KeyList)
+    (rules : List (Kept R)) (sums : Sums) : Type 0 where
   pub ready : All (IsReady E n done.room) rules
   pub reach : All (λ k. E.reach_of k.weighted.rule ≤ keys_room) rules
   pub few : sum_by (λ k. length k.vector.items) rules < 2 ^ 31
@@ -41,6 +42,7 @@ pub record AreReady {R : Type 0} (E : Ghosts R) (n keys_room : ℕ) (done : KeyL
   pub objective : sums.objective ≡ sum_by soft_cost rules
 
 -- and their entries are those on the counts
-pub record IsTallied {R : Type 0} (E : Ghosts R) (rules : List (Kept R)) (table : Table) (keys_room : ℕ) (done : KeyList) (sums : Sums) : Type 0 where
+pub record IsTallied {R : Type 0} (E : Ghosts R) (rules : List (Kept R)) (table : Table) (keys_room : ℕ)
+    (done : KeyList) (sums : Sums) : Type 0 where
   pub ready : AreReady E table.n keys_room done rules sums
   pub exact : All (IsExact E (table_counts table)) rules

@@ -9,7 +9,8 @@ pub record AreRenewed (f : ℕ → ℕ) (keys before now : List ℕ) : Type 0 wh
   pub stale : (k : ℕ) → is_in keys k ≡ false → slice_index now k ≡ slice_index before k
 
 -- the keys that some games touch were evaluated, each only if it wasn't done before, at a step for each
-pub record IsRenewal (f : ℕ → ℕ) (touched done done_after entries entries_after : List ℕ) (steps steps_after : ℕ) : Type 0 where
+pub record IsRenewal (f : ℕ → ℕ) (touched done done_after entries entries_after : List ℕ)
+    (steps steps_after : ℕ) : Type 0 where
   pub long : length entries_after ≡ length entries
   pub keys : (k : ℕ) → is_in done_after k ≡ (is_in done k || is_in touched k)
   pub renewed : (before : List ℕ) → AreRenewed f done before entries → AreRenewed f done_after before entries_after

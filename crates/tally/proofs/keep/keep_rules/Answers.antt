@@ -1,10 +1,9 @@
-use Rattle.std.proofs.Common.{◌≡◌, ◌+◌, ◌≤◌, ◌++◌, ◌∷◌, ℕ, List, map, ap, subst, sym, arith}
+use Rattle.std.proofs.Common.{◌≡◌, ◌≤◌, ℕ, List, map, ap, subst, sym, arith}
 use Rattle.std.proofs.lemmas.List.Elements.{All-push}
 use Rattle.std.specs.List.{All, sum_by}
 use Rattle.std.specs.Vec.Iter.{into_iter_items}
 use Rattle.cells.specs.Table.{table_counts}
 use Rattle.tally.specs.Ready.{IsExact, IsReady}
-use Rattle.tally.specs.Tallies.{all_terms}
 use Rattle.tally.specs.declared.kept.Kept.{Kept}
 use Rattle.tally.specs.declared.weighted.Weighted.{Weighted}
 use Rattle.tally.proofs.KeepLemmas.{at_middle, rules_split, sum_middle, terms_next, weights_next}

@@ -1,8 +1,7 @@
-use Rattle.std.proofs.Common.{◌≡◌, ◌<◌, ◌≤◌, ◌^◌, ℕ, List, map, length, ap, subst, sym, ◌∙◌, arith}
+use Rattle.std.proofs.Common.{◌<◌, ◌≤◌, ◌^◌, ℕ, List, map, length, ap, subst, sym, ◌∙◌}
 use Rattle.std.specs.List.{All, sum_by}
 use Rattle.keys.specs.Keys.{KeyList}
 use Rattle.tally.specs.Ready.{IsReady, hard_cost, soft_cost}
-use Rattle.tally.specs.Tallies.{all_terms}
 use Rattle.tally.specs.declared.kept.Kept.{Kept}
 use Rattle.tally.specs.declared.weighted.Weighted.{Weighted}
 use Rattle.tally.proofs.KeepLemmas.{few_kept, kept_bound}
