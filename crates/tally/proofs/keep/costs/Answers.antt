@@ -1,0 +1,17 @@
+use Rattle.std.proofs.Common.{ap, arith}
+use Rattle.std.proofs.lemmas.List.Sums.{sum_by-take-le, sum_by_more}
+use Rattle.tally.specs.Ready.{hard_cost, soft_cost}
+use Rattle.tally.proofs.CostLemmas.{hard_fits, soft_fits}
+use Rattle.tally.proofs.keep.costs.Goals as goal
+
+pub add-requires-clause-infeasibility_room : goal.add-requires-clause-infeasibility_room
+add-requires-clause-infeasibility_room g c = omega (arith, hard_fits g.R.Entries c.args.cells.now.n c.args.room c.args.rules.now c.requires.ready, sum_by-take-le hard_cost c.args.rules.now c.loop-kept.kept-index, c.loop-kept.invariant.infeasibility, c.requires.few)
+
+pub add-requires-clause-objective_room : goal.add-requires-clause-objective_room
+add-requires-clause-objective_room g c = omega (arith, soft_fits g.R.Entries c.args.cells.now.n c.args.room c.args.rules.now c.requires.ready, sum_by-take-le soft_cost c.args.rules.now c.loop-kept.kept-index, c.loop-kept.invariant.objective, c.requires.few)
+
+pub loop-kept-preserved : goal.loop-kept-preserved
+loop-kept-preserved g c = record {
+  infeasibility = omega (arith, c.add.ensures.infeasibility, c.loop-kept.invariant.infeasibility, sum_by_more hard_cost c.args.rules.now c.loop-kept.kept-index c.kept-item.result c.loop-kept-test.true, ap hard_cost c.kept-item.is);
+  objective = omega (arith, c.add.ensures.objective, c.loop-kept.invariant.objective, sum_by_more soft_cost c.args.rules.now c.loop-kept.kept-index c.kept-item.result c.loop-kept-test.true, ap soft_cost c.kept-item.is);
+}

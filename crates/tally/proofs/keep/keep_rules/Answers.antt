@@ -1,0 +1,42 @@
+use Rattle.std.proofs.Common.{◌≡◌, ◌≤◌, ℕ, List, map, ap, subst, sym, arith}
+use Rattle.std.proofs.lemmas.List.Elements.{All-push}
+use Rattle.std.specs.List.{All, sum_by}
+use Rattle.std.specs.Vec.Iter.{into_iter_items}
+use Rattle.cells.specs.Table.{table_counts}
+use Rattle.tally.specs.Ready.{IsExact, IsReady}
+use Rattle.tally.specs.declared.kept.Kept.{Kept}
+use Rattle.tally.specs.declared.weighted.Weighted.{Weighted}
+use Rattle.tally.proofs.KeepLemmas.{at_middle, rules_split, sum_middle, terms_next, weights_next}
+use Rattle.tally.proofs.keep.keep_rules.Goals as goal
+
+pub new-requires-clause-teams : goal.new-requires-clause-teams
+new-requires-clause-teams g c =
+    let split = rules_split c.loop-weighted.kept.items c.in-Some.weighted (into_iter_items c.loop-weighted.weighted-iterator) (into_iter_items c.next.new.self) c.args.rules.items c.loop-weighted.invariant.2 c.in-Some.ensures.steps.0 in
+    sym (at_middle (λ (w : Weighted g.row.R.Denot). g.R.Entries.team_count w.rule ≡ c.args.cells.now.n) (map (λ (k : Kept g.row.R.Denot). k.weighted) c.loop-weighted.kept.items) c.in-Some.weighted (into_iter_items c.next.new.self) (subst (λ (l : List (Weighted g.row.R.Denot)). All (λ w. g.R.Entries.team_count w.rule ≡ c.args.cells.now.n) l) split c.requires.teams))
+
+pub new-requires-clause-few : goal.new-requires-clause-few
+new-requires-clause-few g c =
+    let f : Weighted g.row.R.Denot → ℕ = λ w. g.R.Entries.term_count w.rule in
+    let split = rules_split c.loop-weighted.kept.items c.in-Some.weighted (into_iter_items c.loop-weighted.weighted-iterator) (into_iter_items c.next.new.self) c.args.rules.items c.loop-weighted.invariant.2 c.in-Some.ensures.steps.0 in
+    omega (arith, c.requires.few, ap (sum_by f) split, sum_middle f (map (λ (k : Kept g.row.R.Denot). k.weighted) c.loop-weighted.kept.items) c.in-Some.weighted (into_iter_items c.next.new.self))
+
+pub returns-in_err-new-clause-steps : goal.returns-in_err-new-clause-steps
+returns-in_err-new-clause-steps g c =
+    let f : Weighted g.row.R.Denot → ℕ = λ w. g.R.Entries.term_count w.rule in
+    let split = rules_split c.loop-weighted.kept.items c.in-Some.weighted (into_iter_items c.loop-weighted.weighted-iterator) (into_iter_items c.next.new.self) c.args.rules.items c.loop-weighted.invariant.2 c.in-Some.ensures.steps.0 in
+    omega (arith, c.new.ensures.steps, c.loop-weighted.invariant.5, ap (sum_by f) split, sum_middle f (map (λ (k : Kept g.row.R.Denot). k.weighted) c.loop-weighted.kept.items) c.in-Some.weighted (into_iter_items c.next.new.self))
+
+pub loop-weighted-preserved : goal.loop-weighted-preserved
+loop-weighted-preserved g c =
+    let f : Weighted g.row.R.Denot → ℕ = λ w. g.R.Entries.term_count w.rule in
+    let kept = c.loop-weighted.kept.items in
+    let new = c.in_ok-new.field-0 in
+    let split = rules_split kept c.in-Some.weighted (into_iter_items c.loop-weighted.weighted-iterator) (into_iter_items c.next.new.self) c.args.rules.items c.loop-weighted.invariant.2 c.in-Some.ensures.steps.0 in
+    let room : g.R.Entries.term_count c.in-Some.weighted.rule ≤ c.args.room = at_middle (λ (w : Weighted g.row.R.Denot). g.R.Entries.term_count w.rule ≤ c.args.room) (map (λ (k : Kept g.row.R.Denot). k.weighted) kept) c.in-Some.weighted (into_iter_items c.next.new.self) (subst (λ (l : List (Weighted g.row.R.Denot)). All (λ w. g.R.Entries.term_count w.rule ≤ c.args.room) l) split c.requires.room) in (
+      tt,
+      tt,
+      weights_next kept c.push.new.self.items new c.in-Some.weighted (into_iter_items c.loop-weighted.weighted-iterator) (into_iter_items c.next.new.self) c.args.rules.items c.loop-weighted.invariant.2 c.in-Some.ensures.steps.0 c.in_ok-new.ensures.weighted c.in_ok-push.ensures.items,
+      subst (λ (l : List (Kept g.row.R.Denot)). All (IsReady g.R.Entries c.args.cells.now.n c.args.room) l) (sym c.in_ok-push.ensures.items) (All-push (IsReady g.R.Entries c.args.cells.now.n c.args.room) kept new c.loop-weighted.invariant.3 (c.in_ok-new.ensures.ready c.args.room room)),
+      subst (λ (l : List (Kept g.row.R.Denot)). All (IsExact g.R.Entries (table_counts c.args.cells.now)) l) (sym c.in_ok-push.ensures.items) (All-push (IsExact g.R.Entries (table_counts c.args.cells.now)) kept new c.loop-weighted.invariant.4 c.in_ok-new.ensures.exact),
+      terms_next g.R.Entries kept c.push.new.self.items new c.in-Some.weighted c.args.steps.now c.loop-weighted.steps c.new.new.steps c.loop-weighted.invariant.5 c.in_ok-new.ensures.weighted c.in_ok-push.ensures.items c.new.ensures.steps,
+    )

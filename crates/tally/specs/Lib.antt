@@ -1,0 +1,6 @@
+-- What a reader of a claim must believe:
+pub mod Tallies
+-- Kept inside (laws, and how fields are seen):
+pub mod KeySet
+pub mod Renewal
+pub mod Ready

@@ -1,0 +1,48 @@
+-- Rules with their kept entries, and what they cost.
+use Rattle.std.specs.Prelude.{◌≡◌, ℕ, ◌*◌, ◌^◌, ◌<◌, ◌≤◌, if◌then◌else◌, List, [], length}
+use Rattle.std.specs.List.{All, sum, sum_by}
+use Rattle.league.specs.Counts.{Counts}
+use Rattle.rule_core.specs.declared.rule.Entries.{Ghosts}
+use Rattle.tally.specs.Tallies.{vector_on}
+use Rattle.cells.specs.Table.{Table, table_counts}
+use Rattle.keys.specs.Keys.{KeyList}
+use Rattle.tally.specs.declared.kept.Kept.{Kept}
+use Rattle.tally.specs.declared.weigh.Sums.{Sums}
+
+-- a rule of a league of n teams whose keys have room, with the sum of its entries
+pub record IsReady {R : Type 0} (E : Ghosts R) (n room : ℕ) (k : Kept R) : Type 0 where
+  pub teams : n ≡ E.team_count k.weighted.rule
+  pub terms : length k.vector.items ≡ E.term_count k.weighted.rule
+  pub sum_is : k.deviation ≡ sum k.vector.items
+  pub small : k.deviation ≤ 2 ^ 64 * length k.vector.items
+  pub few : length k.vector.items < 2 ^ 31
+  pub penalty_fits : k.weighted.penalty < 2 ^ 32
+  pub room_is : length k.vector.items ≤ room
+
+-- the kept entries are those on these counts
+abbrev pub IsExact : {R : Type 0} → Ghosts R → Counts → Kept R → Type 0
+IsExact E m k = k.vector.items ≡ vector_on E m k.weighted.rule
+
+-- what a hard rule costs, and 0 for a soft one
+abbrev pub hard_cost : {R : Type 0} → Kept R → ℕ
+hard_cost k = if k.weighted.hard then k.weighted.penalty * k.deviation else 0
+
+-- what a soft rule costs, and 0 for a hard one
+abbrev pub soft_cost : {R : Type 0} → Kept R → ℕ
+soft_cost k = if k.weighted.hard then 0 else k.weighted.penalty * k.deviation
+
+-- rules of a league of n teams, with room for their keys and what they cost
+pub record AreReady {R : Type 0} (E : Ghosts R) (n keys_room : ℕ) (done : KeyList)
+    (rules : List (Kept R)) (sums : Sums) : Type 0 where
+  pub ready : All (IsReady E n done.room) rules
+  pub reach : All (λ k. E.reach_of k.weighted.rule ≤ keys_room) rules
+  pub few : sum_by (λ k. length k.vector.items) rules < 2 ^ 31
+  pub none_done : done.list ≡ []
+  pub infeasibility : sums.infeasibility ≡ sum_by hard_cost rules
+  pub objective : sums.objective ≡ sum_by soft_cost rules
+
+-- and their entries are those on the counts
+pub record IsTallied {R : Type 0} (E : Ghosts R) (rules : List (Kept R)) (table : Table) (keys_room : ℕ)
+    (done : KeyList) (sums : Sums) : Type 0 where
+  pub ready : AreReady E table.n keys_room done rules sums
+  pub exact : All (IsExact E (table_counts table)) rules

@@ -1,0 +1,17 @@
+//! Kept deviations: weighted rules with their deviation vectors and costs, kept exact while games come and go.
+//!
+//! A `Tally` is seen as its weighted rules and the counts of its games. What it keeps, the vectors, the infeasibility
+//! and the objective, is at every moment what these rules give on these counts. An edit evaluates each key that its
+//! games touch once, and takes no memory.
+#![tactic(auto)]
+
+mod exchange;
+mod keep;
+mod kept;
+mod key_set;
+mod tally;
+mod weigh;
+mod weighted;
+
+pub use tally::Tally;
+pub use weighted::Weighted;

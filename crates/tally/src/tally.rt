@@ -1,0 +1,175 @@
+//! Weighted rules with their deviation vectors and costs, kept exact while games come and go.
+ghost use Rattle.std.specs.Prelude.{◌≡◌, ℕ, ◌<◌, ◌≤◌, ◌+◌, ◌++◌, ◌^◌, length, map, slice_get, Some, IfOk, OnOk};
+ghost use Rattle.std.specs.List.{All, sum};
+ghost use Rattle.league.specs.Counts.{counts_of};
+ghost use Rattle.league.specs.Instance.{IsGame};
+ghost use Rattle.cells.specs.Table.{table_counts};
+ghost use Rattle.tally.specs.Tallies.{all_terms, all_touched, infeasibility_on, objective_on, vector_on};
+
+use crate::exchange::exchange_games;
+use crate::keep::{costs, greatest_reach, greatest_terms, keep_rules};
+use crate::kept::Kept;
+use crate::key_set::KeySet;
+use crate::weigh::{Sums, renew_rules};
+use crate::weighted::Weighted;
+use league::Game;
+use moves::Edit;
+use rule_core::{Cells, Entries, Keys, Rule, Steps};
+use std::alloc::{AllocError, Global};
+use std::marker::Model;
+
+/// Weighted rules, and the counts of a schedule's games. The rules' deviation vectors, what the hard ones cost (the
+/// infeasibility) and what the soft ones cost (the objective) are kept, and are at every moment those on these counts.
+#[derive(Drop)]
+pub struct Tally<R: Entries> {
+    rules: Vec<Kept<R>>,
+    cells: Cells,
+    keys: Keys,
+    done: KeySet,
+    sums: Sums,
+}
+
+impl<R: Entries> Model for Tally<R> {
+    ghost use Rattle.std.specs.Prelude.{map};
+    ghost use Rattle.tally.specs.Ready.{IsTallied};
+    ghost use Rattle.tally.specs.Tallies.{Tallied};
+
+    ghost Value = { Tallied R };
+
+    ghost view = { λ t. record { weights = map (λ k. k.weighted) t.rules.items; table = t.cells } };
+
+    ghost invariant = { λ t. IsTallied R.Entries t.rules.items t.cells t.keys.room t.done t.sums };
+}
+
+impl<R: Entries> Tally<R> {
+    /// Evaluates each entry of the rules once on these counts.
+    ///
+    /// # Errors
+    /// Only where memory runs out; then the rules and the counts are given up.
+    pub fn new<L>(
+        alloc: Global,
+        rules: Vec<Weighted<R>>,
+        cells: Cells,
+        steps: &mut Steps<L>,
+    ) -> Result<Tally<R>, AllocError>
+    where
+        R: Rule<L>,
+        requires teams { All (λ w. R.team_count w.rule ≡ cells.n) rules.items }
+        requires few { all_terms R.Entries rules.items < 2 ^ 31 }
+        ensures weights { IfOk result (λ tally. tally.weights ≡ rules.items) }
+        ensures table { IfOk result (λ tally. tally.table ≡ cells) }
+        ensures steps { steps.new ≤ steps.old + all_terms R.Entries rules.items }
+    {
+        let keys = Keys::new(alloc, greatest_reach(&rules))?;
+        let room = greatest_terms(&rules);
+        let done = KeySet::new(alloc, room)?;
+        let rules = keep_rules(alloc, rules, &cells, room, steps)?;
+        let sums = costs(&rules, &cells, room);
+        Ok(Tally {
+            rules,
+            cells,
+            keys,
+            done,
+            sums,
+        })
+    }
+
+    /// Takes the games of an edit's `out` off the counts and puts those of its `into` on. Each key that one of these
+    /// games touches is evaluated once, and no other. It takes no memory.
+    pub fn apply<L>(&mut self, edit: &Edit, steps: &mut Steps<L>)
+    where
+        R: Rule<L>,
+        requires out_fit { All (IsGame self.old.table.n) edit.now.out }
+        requires into_fit { All (IsGame self.old.table.n) edit.now.into }
+        requires there { (i j s : ℕ) → counts_of edit.now.out i j s ≤ table_counts self.old.table i j s }
+        requires room { sum self.old.table.list + length edit.now.into ≤ 10000 + length edit.now.out }
+        ensures weights { self.new.weights ≡ self.old.weights }
+        ensures n { self.new.table.n ≡ self.old.table.n }
+        ensures counts { (i j s : ℕ) → table_counts self.new.table i j s + counts_of edit.now.out i j s
+            ≡ table_counts self.old.table i j s + counts_of edit.now.into i j s }
+        ensures total { sum self.new.table.list + length edit.now.out
+            ≡ sum self.old.table.list + length edit.now.into }
+        ensures steps { steps.new ≤ steps.old
+            + all_touched R.Entries self.old.weights (edit.now.out ++ edit.now.into) }
+    {
+        self.exchange(edit.out(), edit.into_games(), steps);
+    }
+
+    /// Takes an edit back: `apply` with its two lists exchanged.
+    pub fn undo<L>(&mut self, edit: &Edit, steps: &mut Steps<L>)
+    where
+        R: Rule<L>,
+        requires out_fit { All (IsGame self.old.table.n) edit.now.out }
+        requires into_fit { All (IsGame self.old.table.n) edit.now.into }
+        requires there { (i j s : ℕ) → counts_of edit.now.into i j s ≤ table_counts self.old.table i j s }
+        requires room { sum self.old.table.list + length edit.now.out ≤ 10000 + length edit.now.into }
+        ensures weights { self.new.weights ≡ self.old.weights }
+        ensures n { self.new.table.n ≡ self.old.table.n }
+        ensures counts { (i j s : ℕ) → table_counts self.new.table i j s + counts_of edit.now.into i j s
+            ≡ table_counts self.old.table i j s + counts_of edit.now.out i j s }
+        ensures total { sum self.new.table.list + length edit.now.into
+            ≡ sum self.old.table.list + length edit.now.out }
+        ensures steps { steps.new ≤ steps.old
+            + all_touched R.Entries self.old.weights (edit.now.into ++ edit.now.out) }
+    {
+        self.exchange(edit.into_games(), edit.out(), steps);
+    }
+
+    /// Takes some games off the counts and puts others on.
+    fn exchange<L>(&mut self, out: &[Game], into: &[Game], steps: &mut Steps<L>)
+    where
+        R: Rule<L>,
+        requires out_fit { All (IsGame self.old.table.n) out.now }
+        requires into_fit { All (IsGame self.old.table.n) into.now }
+        requires there { (i j s : ℕ) → counts_of out.now i j s ≤ table_counts self.old.table i j s }
+        requires room { sum self.old.table.list + length into.now ≤ 10000 + length out.now }
+        ensures weights { self.new.weights ≡ self.old.weights }
+        ensures n { self.new.table.n ≡ self.old.table.n }
+        ensures counts { (i j s : ℕ) → table_counts self.new.table i j s + counts_of out.now i j s
+            ≡ table_counts self.old.table i j s + counts_of into.now i j s }
+        ensures total { sum self.new.table.list + length out.now ≡ sum self.old.table.list + length into.now }
+        ensures steps { steps.new ≤ steps.old + all_touched R.Entries self.old.weights (out.now ++ into.now) }
+    {
+        exchange_games(&mut self.cells, out, into);
+        renew_rules(
+            &mut self.rules,
+            out,
+            into,
+            &self.cells,
+            &mut self.keys,
+            &mut self.done,
+            &mut self.sums,
+            steps,
+        );
+    }
+
+    /// What the hard rules cost: penalty times deviation, summed.
+    pub fn infeasibility(&self) -> u128
+        ensures { result ≡ infeasibility_on R.Entries (table_counts self.now.table) self.now.weights }
+    {
+        self.sums.infeasibility
+    }
+
+    /// The same over the soft rules.
+    pub fn objective(&self) -> u128
+        ensures { result ≡ objective_on R.Entries (table_counts self.now.table) self.now.weights }
+    {
+        self.sums.objective
+    }
+
+    /// The deviation vector of the rule at place k, from 0.
+    pub fn vector(&self, k: usize) -> &[u64]
+        requires { k < length self.now.weights }
+        ensures { slice_get (map (λ w. vector_on R.Entries (table_counts self.now.table) w.rule) self.now.weights) k
+            ≡ Some result.now }
+    {
+        &self.rules[k].vector
+    }
+
+    /// The counts of the games.
+    pub fn cells(&self) -> &Cells
+        ensures { result.now ≡ self.now.table }
+    {
+        &self.cells
+    }
+}
