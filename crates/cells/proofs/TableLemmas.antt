@@ -233,7 +233,7 @@ pub kept-no_other : (n games : ℕ) (c h a : Counters) → AreKept n games c h a
 kept-no_other n games c h a kept i j s past =
     let w : ℕ = slot_count n in
     let beyond : get_or c.numbers.items ((i * n + j) * w + s) 0 ≡ 0 =
-        get_or_past c.numbers.items ((i * n + j) * w + s) 0 (omega (arith, kept.count_rows.long, past_last n j w s i past)) in
+    get_or_past c.numbers.items ((i * n + j) * w + s) 0 (omega (arith, kept.count_rows.long, past_last n j w s i past)) in
     cond_both (nat_lt j n) (number w c.numbers.items (i * n + j) s) 0 (λ x. x ≡ 0)
     (λ e. cond_both (nat_lt s w) (get_or c.numbers.items ((i * n + j) * w + s) 0) 0 (λ x. x ≡ 0) (λ e. beyond) (λ e. refl))
     (λ e. refl)
