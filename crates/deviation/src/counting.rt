@@ -1,6 +1,6 @@
 //! The counts of a schedule.
 ghost use Rattle.std.specs.Prelude.{◌≡◌, ◌≤◌, length, IfOk};
-ghost use Rattle.std.specs.List.{All};
+ghost use Rattle.std.specs.List.{All, sum};
 ghost use Rattle.league.specs.Counts.{counts_of};
 ghost use Rattle.league.specs.Instance.{IsGame, IsTeamCount};
 ghost use Rattle.cells.specs.Table.{table_counts};
@@ -13,12 +13,13 @@ use std::alloc::{AllocError, Global};
 ///
 /// # Errors
 /// Only where memory runs out.
-pub(crate) fn counted(alloc: Global, n: u16, games: &[Game]) -> Result<Cells, AllocError>
+pub fn counted(alloc: Global, n: u16, games: &[Game]) -> Result<Cells, AllocError>
     requires teams { IsTeamCount n }
     requires few { length games.now ≤ 10000 }
     requires fit { All (IsGame n) games.now }
     ensures n { IfOk result (λ cells. cells.n ≡ n) }
     ensures counts { IfOk result (λ cells. table_counts cells ≡ counts_of games.now) }
+    ensures total { IfOk result (λ cells. sum cells.list ≡ length games.now) }
 {
     let mut cells = Cells::new(alloc, n)?;
     for game in games {

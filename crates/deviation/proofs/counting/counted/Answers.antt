@@ -1,6 +1,6 @@
 use Rattle.std.proofs.Common.{arith, ◌∙◌}
 use Rattle.deviation.proofs.EntryLemmas.{counts-next}
-use Rattle.deviation.proofs.counted.counted.Goals as goal
+use Rattle.deviation.proofs.counting.counted.Goals as goal
 
 pub loop-game-preserved : goal.loop-game-preserved
 loop-game-preserved c = record {
