@@ -1,7 +1,8 @@
 -- A made league accepts the double circle schedule, whatever the words of its generator are.
 use Rattle.std.proofs.Common.{◌≡◌, ◌≢◌, ℕ, ◌+◌, ◌-◌, ◌*◌, ◌/◌, ◌%◌, ◌<◌, ◌≤◌, Bool, true, false, max}
 use Rattle.std.proofs.Common.{List, [], ◌∷◌, ◌++◌, length, get_or, map, refl, sym, ap, ◌∙◌, arith, length-append}
-use Rattle.std.proofs.lemmas.List.Elements.{All-append, All-cons, All-filter, All-map, All-nil, All-weaker, filter_passes}
+use Rattle.std.proofs.lemmas.List.Elements.{All-append, All-cons, All-filter, All-map, All-nil, All-weaker}
+use Rattle.std.proofs.lemmas.List.Elements.{filter_passes}
 use Rattle.std.proofs.Math.Nat.{mul-le-mul_left}
 use Rattle.std.proofs.lemmas.List.FromFn.{length-map-range_with_len}
 use Rattle.std.specs.List.{All, filter, range_with_len}
@@ -25,7 +26,8 @@ use Rattle.circle_method.specs.Circle.{double_games, last_team_game}
 use Rattle.circle_method.proofs.RoundRobinLemmas.{IsRoundRobin-double_games, length-double_games}
 use Rattle.rand_pcg.specs.Lcg.{Lcg}
 use Rattle.instance_gen.specs.Draws.{after, draw, set_of}
-use Rattle.instance_gen.specs.Made.{circle, circle_breaks, circle_games, ca1_with, ca3_on, game_at, ga1_with, hard, side_of, soft}
+use Rattle.instance_gen.specs.Made.{circle, circle_breaks, circle_games, ca1_with, ca3_on, game_at, ga1_with}
+use Rattle.instance_gen.specs.Made.{hard, side_of, soft}
 use Rattle.instance_gen.specs.Made.{made_ca1, made_ca2, made_ca4, made_ga1, made_br1, made_list, made_constraints}
 use Rattle.instance_gen.specs.Made.{fixed_first, fixed_last, from_ca2, from_ca4, from_ga1, from_br1, made_league}
 use Rattle.instance_gen.proofs.CircleLemmas.{far_apart, game-once, pairs_of-range}
@@ -63,7 +65,8 @@ All-made_constraints P n g ca1 ca2 first ca4 ga1 br1 last =
     last
 
 length-seven : (a b c d e f h : List Constraint)
-    → length (a ++ b ++ c ++ d ++ e ++ f ++ h) ≡ length a + length b + length c + length d + length e + length f + length h
+    → length (a ++ b ++ c ++ d ++ e ++ f ++ h)
+    ≡ length a + length b + length c + length d + length e + length f + length h
 length-seven a b c d e f h =
     omega (
       arith,
@@ -85,7 +88,8 @@ length-made_constraints n g size =
     let ga1s : List Constraint = made_list (made_ga1 n) 2 4 (from_ga1 n g) in
     let br1s : List Constraint = made_list (made_br1 n) 3 (n / 2) (from_br1 n g) in
     let ca1_count : length ca1s ≡ n / 2 = length-map-range_with_len (λ k. made_ca1 n (after (5 * k) g)) 0 (n / 2) in
-    let br1_count : length br1s ≡ n / 2 = length-map-range_with_len (λ k. made_br1 n (after (3 * k) (from_br1 n g))) 0 (n / 2) in
+    let br1_count : length br1s ≡ n / 2 =
+    length-map-range_with_len (λ k. made_br1 n (after (3 * k) (from_br1 n g))) 0 (n / 2) in
     let whole : length (made_constraints n g) ≡ length ca1s + 4 + 2 + 2 + 4 + length br1s + 5 =
     length-seven ca1s ca2s (fixed_first n) ca4s ga1s br1s (fixed_last n) in
     omega arith
@@ -130,7 +134,8 @@ ga1-met : (n place slot : ℕ) → IsTeamCount n → place < n * (n - 1) → slo
 ga1-met n place slot size within in_season _ =
     let game : Game = game_at n place in
     one_entry (ga1_entry (circle n) ((game.home.0, game.away.0) ∷ []) 1 1 (set_of (game.slot.0 ∷ slot ∷ [])))
-    (one_is_enough _ (game-once n place slot (last_team_game n 0) size (omega (arith, length-double_games n size)) in_season))
+    (one_is_enough _
+    (game-once n place slot (last_team_game n 0) size (omega (arith, length-double_games n size)) in_season))
 
 br2-met : (n : ℕ) → IsMetIfHard n (hard (Br2 (teams_of n) (circle_breaks n) (slots_of n)))
 br2-met n _ =
@@ -188,7 +193,8 @@ hard-met : (n : ℕ) (constraints : List Constraint) → All (IsMetIfHard n) con
     → All (λ c. All (λ entry. entry ≡ 0) (vector_of n (circle n) c.class)) (hard_of constraints)
 hard-met n constraints met =
     λ k d within.
-    All-filter (λ c. c.hard) (IsMetIfHard n) constraints met k d within (filter_passes (λ c. c.hard) constraints k d within)
+    All-filter (λ c. c.hard) (IsMetIfHard n) constraints met k d within
+    (filter_passes (λ c. c.hard) constraints k d within)
 
 -- the law: whatever the generator is, the league accepts the double circle schedule
 pub accepts_circle : (n : ℕ) (g : Lcg) → IsTeamCount n → IsAccepted (made_league n g) (circle n)

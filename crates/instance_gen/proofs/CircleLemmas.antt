@@ -1,5 +1,5 @@
--- What the double circle schedule has of the demands of a made league: each game of its list in its slot, and n - 2 slots
--- between the two games of any two teams.
+-- What the double circle schedule has of the demands of a made league: each game of its list in its slot, and n - 2
+-- slots between the two games of any two teams.
 use Rattle.std.proofs.Common.{◌≡◌, ◌≢◌, ℕ, zero, suc, ◌+◌, ◌-◌, ◌*◌, ◌/◌, ◌%◌, ◌<◌, ◌≤◌, Bool, true, false, ◌&&◌, ◌==◌}
 use Rattle.std.proofs.Common.{List, [], ◌∷◌, ◌++◌, length, get_or, map, inl, inr, refl, sym, ap, ◌∙◌, arith, zero-add}
 use Rattle.std.specs.Prelude.{replicate}
@@ -147,8 +147,10 @@ alone : (c : ℕ → ℕ) (m a k : ℕ) → ((s : ℕ) → a ≤ s → s < a + k
 alone c m a zero same one = absurd (omega arith)
 alone c m a (suc k) same one =
     let place : a + m + 1 ≡ a + 1 + m = omega arith in
-    let split : c a + sum_by c (range_with_len (a + 1) k) ≡ 1 = omega (arith, sum_by-cons c a (range_with_len (a + 1) k)) in
-    let rest_same : (s : ℕ) → a + 1 ≤ s → s < a + 1 + k → c (s + m) ≡ c s = λ s low high. same s (omega arith) (omega arith) in
+    let split : c a + sum_by c (range_with_len (a + 1) k) ≡ 1 =
+    omega (arith, sum_by-cons c a (range_with_len (a + 1) k)) in
+    let rest_same : (s : ℕ) → a + 1 ≤ s → s < a + 1 + k → c (s + m) ≡ c s =
+    λ s low high. same s (omega arith) (omega arith) in
     elim (cases_eq (c a) 0) as (λ _. (t : ℕ) × IsAlone c m a (suc k) t) [
       | inl none ↦
           let found : (t : ℕ) × IsAlone c m (a + 1) k t = alone c m (a + 1) k rest_same (omega arith) in
@@ -223,7 +225,8 @@ far_apart n i j size first second differ =
     ap (lacking ((n - 2) / 2)) found.1 ∙ omega arith
 
 -- the pairs of the teams of a range
-pub pairs_of-range : (n a k : ℕ) → a + k ≤ n → All (λ p. (p.0 < n) × (p.1 < n) × (p.0 ≢ p.1)) (pairs_of (range_with_len a k))
+pub pairs_of-range : (n a k : ℕ) → a + k ≤ n
+    → All (λ p. (p.0 < n) × (p.1 < n) × (p.0 ≢ p.1)) (pairs_of (range_with_len a k))
 pairs_of-range n a zero within = All-nil (λ (p : ℕ × ℕ). (p.0 < n) × (p.1 < n) × (p.0 ≢ p.1))
 pairs_of-range n a (suc k) within =
     let IsPair : ℕ × ℕ → Type 0 = λ p. (p.0 < n) × (p.1 < n) × (p.0 ≢ p.1) in

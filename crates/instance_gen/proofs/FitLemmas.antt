@@ -5,7 +5,8 @@ use Rattle.std.proofs.lemmas.Bool.{and_from, lt-ltb, ne_eqb}
 use Rattle.std.proofs.lemmas.List.Elements.{All-cons, All-nil}
 use Rattle.std.specs.List.{All, range_with_len}
 use Rattle.league.specs.Counts.{slot_count, slots_of, teams_of}
-use Rattle.league.specs.Instance.{IsGame, IsTeamCount, are_meetings, are_slots, are_teams, class_fits, is_meeting, is_one_side}
+use Rattle.league.specs.Instance.{IsGame, IsTeamCount, are_meetings, are_slots, are_teams, class_fits}
+use Rattle.league.specs.Instance.{is_meeting, is_one_side}
 use Rattle.league.specs.Structure.{first_half}
 use Rattle.league.specs.declared.class.Class.TheVariants.{Br2, Fa2, Se1}
 use Rattle.league.specs.declared.class.Constraint.{Constraint}
@@ -93,10 +94,13 @@ ca4-fits n h size =
 
 is_meeting-yes : (n i j : ℕ) → i < n → j < n → i ≢ j → is_meeting n (i, j) ≡ true
 is_meeting-yes n i j first second differ =
-    three_pass (nat_lt i n) (nat_lt j n) (not (i == j)) (lt-ltb i n first) (lt-ltb j n second) (ap not (ne_eqb i j differ))
+    three_pass (nat_lt i n) (nat_lt j n) (not (i == j)) (lt-ltb i n first) (lt-ltb j n second)
+    (ap not (ne_eqb i j differ))
 
 one_meeting : (n i j : ℕ) → i < n → j < n → i ≢ j → are_meetings n ((i, j) ∷ []) ≡ true
-one_meeting n i j first second differ = and_from (is_meeting n (i, j) && true) true (and_from (is_meeting n (i, j)) true (is_meeting-yes n i j first second differ) refl) refl
+one_meeting n i j first second differ =
+    and_from (is_meeting n (i, j) && true) true
+    (and_from (is_meeting n (i, j)) true (is_meeting-yes n i j first second differ) refl) refl
 
 pub game_at-fits : (n place : ℕ) → IsTeamCount n → place < n * (n - 1) → IsGame n (game_at n place)
 game_at-fits n place size within =
@@ -106,10 +110,12 @@ ga1-fits : (n : ℕ) (h : Lcg) → IsTeamCount n → Fits n (made_ga1 n h)
 ga1-fits n h size =
     let some : 2 ≤ n = size.at_least in
     let game : Game = game_at n (draw h 0 (n * (n - 1))) in
-    let fits : IsGame n game = game_at-fits n (draw h 0 (n * (n - 1))) size (draw-below h 0 (n * (n - 1)) (some_games n size)) in
+    let fits : IsGame n game =
+    game_at-fits n (draw h 0 (n * (n - 1))) size (draw-below h 0 (n * (n - 1)) (some_games n size)) in
     and_from _ _
     (one_meeting n game.home.0 game.away.0 fits.home fits.away fits.differ)
-    (two_set (slot_count n) game.slot.0 (draw h 1 (slot_count n)) fits.slot (draw-below h 1 (slot_count n) (omega arith)))
+    (two_set (slot_count n) game.slot.0 (draw h 1 (slot_count n)) fits.slot
+    (draw-below h 1 (slot_count n) (omega arith)))
 
 br1-fits : (n : ℕ) (h : Lcg) → IsTeamCount n → Fits n (made_br1 n h)
 br1-fits n h size =

@@ -74,7 +74,8 @@ read_made {X} f k i made x is read =
     ∙ get_or-map-range_with_len f 0 k i i x within (omega arith)
 
 -- the game that is read at a place of the double circle schedule
-pub game_read : (n place : ℕ) (games : List Game) (game : Game) → games ≡ double_games n → slice_get games place ≡ Some game
+pub game_read : (n place : ℕ) (games : List Game) (game : Game) → games ≡ double_games n
+    → slice_get games place ≡ Some game
     → game ≡ game_at n place
 game_read n place games game is read =
     sym (get_or_from_slice_get games place game (last_team_game n 0) read)
@@ -103,7 +104,8 @@ away_letter : (home away : ℕ) → home + away ≡ 1 → away ≡ one_if (is_re
 away_letter home away one =
     let P : ℕ → Type 0 = λ x. one_if (is_repeat (side_with x) A) ≡ 1 - x in
     elim (cases_eq home 0) as (λ _. away ≡ one_if (is_repeat (side_with home) A)) [
-      | inl none ↦ let letter : one_if (is_repeat (side_with home) A) ≡ 1 - home = subst P (sym none) refl in omega arith
+      | inl none ↦ let letter : one_if (is_repeat (side_with home) A) ≡ 1 - home = subst P (sym none) refl in omega
+          arith
       | inr some ↦
           let is : home ≡ 1 = omega arith in
           let letter : one_if (is_repeat (side_with home) A) ≡ 1 - home = subst P (sym is) refl in
@@ -120,22 +122,19 @@ games_on-letter n i s A size team slot one =
 games_on-letter n i s Both size team slot one = absurd (cc)
 
 -- the games in some slots, with those in the next slot
-pub games_in-next : (n i k games found next : ℕ) (side letter : Side) (same : Bool) (patterns : List (List Side))
-    (pattern : List Side) (slots : List ℕ) → IsTeamCount n → i < n → is_one_side side ≡ true → k < length slots → All (λ s. s < slot_count n) slots
-    → patterns ≡ patterns_of n (circle n) → slice_get patterns i ≡ Some pattern
-    → slice_get pattern (get_or slots k 0) ≡ Some letter
-    → same ≡ is_repeat letter side → found ≡ from_bool same
+pub games_in-next : (n i k games found next : ℕ) (side letter : Side) (row : List Side) (slots : List ℕ)
+    → IsTeamCount n → i < n → is_one_side side ≡ true → k < length slots → All (λ s. s < slot_count n) slots
+    → row ≡ pattern_of n (circle n) i → slice_get row (get_or slots k 0) ≡ Some letter
+    → found ≡ from_bool (is_repeat letter side)
     → games ≡ sum_by (λ s. games_on n (circle n) side i s) (take k slots) → next ≡ games + found
     → next ≡ sum_by (λ s. games_on n (circle n) side i s) (take (k + 1) slots)
-games_in-next n i k games found next side letter same patterns pattern slots size team one within below are at_team read is told so_far more =
+games_in-next n i k games found next side letter row slots size team one within below is_row read told so_far more =
     let s : ℕ = get_or slots k 0 in
-    let is_pattern : pattern ≡ pattern_of n (circle n) i = read_made (pattern_of n (circle n)) n i patterns pattern are at_team in
     let is_letter : letter ≡ letter_of n (circle n) i s =
-    read_made (letter_of n (circle n) i) (slot_count n) s pattern letter is_pattern read in
+    read_made (letter_of n (circle n) i) (slot_count n) s row letter is_row read in
     let here : found ≡ games_on n (circle n) side i s =
     told
-    ∙ from_bool-is same
-    ∙ ap one_if is
+    ∙ from_bool-is (is_repeat letter side)
     ∙ ap (λ (x : Side). one_if (is_repeat x side)) is_letter
     ∙ sym (games_on-letter n i s side size team (below k 0 within) one) in
     omega (arith, sum_by_more (λ s. games_on n (circle n) side i s) slots k 0 within)
@@ -148,12 +147,14 @@ slots_few n slots size ascending below =
     omega (arith, length-ascending slots (slot_count n) ascending below)
 
 -- the breaks of the first teams, with those of the next one
-pub breaks-next : (n i breaks next found : ℕ) (patterns : List (List Side)) (pattern : List Side) → IsTeamCount n → i < n
+pub breaks-next : (n i breaks next found : ℕ) (patterns : List (List Side)) (pattern : List Side) → IsTeamCount n
+    → i < n
     → patterns ≡ patterns_of n (circle n) → slice_get patterns i ≡ Some pattern → found ≡ breaks_in pattern
     → breaks ≡ sum_by (breaks_among n (circle n) Both (slots_of n)) (range_with_len 0 i) → next ≡ breaks + found
     → next ≡ sum_by (breaks_among n (circle n) Both (slots_of n)) (range_with_len 0 (i + 1))
 breaks-next n i breaks next found patterns pattern size team are read is so_far more =
-    let is_pattern : pattern ≡ pattern_of n (circle n) i = read_made (pattern_of n (circle n)) n i patterns pattern are read in
+    let is_pattern : pattern ≡ pattern_of n (circle n) i =
+    read_made (pattern_of n (circle n)) n i patterns pattern are read in
     let here : found ≡ breaks_among n (circle n) Both (slots_of n) i =
     is
     ∙ ap breaks_in is_pattern

@@ -143,10 +143,12 @@ are_below-true : (bound : ℕ) (numbers : List ℕ) → All (λ y. y < bound) nu
     → are_below bound numbers ≡ true
 are_below-true bound numbers below ascending =
     and_from (list_all (λ y. nat_lt y bound) numbers) (ascends nat_cmp numbers)
-    (list_all-from_AllPass (λ y. nat_lt y bound) numbers (λ k d within. lt-ltb (get_or numbers k d) bound (below k d within)))
+    (list_all-from_AllPass (λ y. nat_lt y bound) numbers
+    (λ k d within. lt-ltb (get_or numbers k d) bound (below k d within)))
     (ascends-true nat_cmp numbers ascending)
 
-pub are_below-set_of : (bound : ℕ) (numbers : List ℕ) → All (λ y. y < bound) numbers → are_below bound (set_of numbers) ≡ true
+pub are_below-set_of : (bound : ℕ) (numbers : List ℕ) → All (λ y. y < bound) numbers
+    → are_below bound (set_of numbers) ≡ true
 are_below-set_of bound numbers below =
     are_below-true bound (set_of numbers) (set_of-below bound numbers below) (set_of-ascending numbers)
 
@@ -159,4 +161,5 @@ range-ascending a (suc k) =
 
 pub are_below-range : (bound a k : ℕ) → a + k ≤ bound → are_below bound (range_with_len a k) ≡ true
 are_below-range bound a k within =
-    are_below-true bound (range_with_len a k) (All-range (λ y. y < bound) a k (λ y low high. omega arith)) (range-ascending a k)
+    are_below-true bound (range_with_len a k) (All-range (λ y. y < bound) a k (λ y low high. omega arith))
+    (range-ascending a k)

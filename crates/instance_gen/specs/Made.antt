@@ -1,5 +1,6 @@
--- Made leagues (own): for each number of teams and each seed one phased league, whose hard constraints the double circle
--- schedule meets. Each constraint with draws is made of the next words of the generator, as many as its kind takes.
+-- Made leagues (own): for each number of teams and each seed one phased league, whose hard constraints the double
+-- circle schedule meets. Each constraint with draws is made of the next words of the generator, as many as its kind
+-- takes.
 use Rattle.std.specs.Prelude.{ℕ, ◌+◌, ◌-◌, ◌*◌, ◌/◌, true, false, ◌==◌, if◌then◌else◌, List, [], ◌∷◌, ◌++◌, map}
 use Rattle.std.specs.Prelude.{slice_index_or}
 use Rattle.std.specs.List.{range_with_len, sum_by}

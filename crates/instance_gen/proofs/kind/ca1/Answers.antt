@@ -13,4 +13,5 @@ games_in-max-requires-clause-slots c =
     let third : ℕ = c.next_draw-third.result in
     let P : List ℕ → Type 0 = λ set. All (λ s. s < season) set in
     subst P (sym c.in_ok-slots.ensures)
-    (set_of-below season (first ∷ second ∷ third ∷ []) (three_below season first second third (omega arith) (omega arith) (omega arith)))
+    (set_of-below season (first ∷ second ∷ third ∷ [])
+    (three_below season first second third (omega arith) (omega arith) (omega arith)))

@@ -13,7 +13,12 @@ pub new-requires-2-clause-few : goal.new-requires-2-clause-few
 new-requires-2-clause-few c =
     let made : c.in_ok-constraints.constraints.items ≡ made_constraints c.args.n (seeded c.args.seed) =
     c.in_ok-constraints.ensures ∙ ap (λ (k : ℕ). made_constraints k (seeded c.args.seed)) c.in_ok-circle.ensures in
-    omega (arith, ap length made, length-made_constraints c.args.n (seeded c.args.seed) c.requires.teams, c.requires.teams.at_most)
+    omega (
+      arith,
+      ap length made,
+      length-made_constraints c.args.n (seeded c.args.seed) c.requires.teams,
+      c.requires.teams.at_most,
+    )
 
 pub new-requires-2-clause-fit : goal.new-requires-2-clause-fit
 new-requires-2-clause-fit c =
@@ -24,14 +29,17 @@ new-requires-2-clause-fit c =
 
 pub returns-clause-league : goal.returns-clause-league
 returns-clause-league c =
-    league-made c.args.n c.in_ok-circle.circle.n (seeded c.args.seed) c.in_ok-constraints.constraints.items c.new-2.result c.in_ok-circle.ensures c.in_ok-constraints.ensures c.new-2.ensures
+    league-made c.args.n c.in_ok-circle.circle.n (seeded c.args.seed) c.in_ok-constraints.constraints.items
+    c.new-2.result c.in_ok-circle.ensures c.in_ok-constraints.ensures c.new-2.ensures
 
 pub returns-clause-count : goal.returns-clause-count
 returns-clause-count c =
     league-count c.args.n (seeded c.args.seed) c.new-2.result c.requires.teams
-    (league-made c.args.n c.in_ok-circle.circle.n (seeded c.args.seed) c.in_ok-constraints.constraints.items c.new-2.result c.in_ok-circle.ensures c.in_ok-constraints.ensures c.new-2.ensures)
+    (league-made c.args.n c.in_ok-circle.circle.n (seeded c.args.seed) c.in_ok-constraints.constraints.items
+    c.new-2.result c.in_ok-circle.ensures c.in_ok-constraints.ensures c.new-2.ensures)
 
 pub returns-clause-accepts : goal.returns-clause-accepts
 returns-clause-accepts c =
     league-accepts c.args.n (seeded c.args.seed) c.new-2.result c.requires.teams
-    (league-made c.args.n c.in_ok-circle.circle.n (seeded c.args.seed) c.in_ok-constraints.constraints.items c.new-2.result c.in_ok-circle.ensures c.in_ok-constraints.ensures c.new-2.ensures)
+    (league-made c.args.n c.in_ok-circle.circle.n (seeded c.args.seed) c.in_ok-constraints.constraints.items
+    c.new-2.result c.in_ok-circle.ensures c.in_ok-constraints.ensures c.new-2.ensures)
