@@ -1,0 +1,2 @@
+-- How long the lines of a log are:
+pub mod LineLemmas

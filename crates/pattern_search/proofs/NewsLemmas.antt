@@ -1,0 +1,288 @@
+-- A log over lowered rows, raised, is one over all rows.
+use Rattle.std.proofs.Common.{◌≡◌, ℕ, zero, suc, ◌+◌, ◌<◌, ◌≤◌, nat_lt, ◌&&◌, Bool, true, false, cond, zero-add}
+use Rattle.std.proofs.Common.{List, [], ◌∷◌, ◌++◌, length, map, get_or, take, Option, Some, None, Ok}
+use Rattle.std.proofs.Common.{refl, arith, ap, sym, subst, ◌∙◌}
+use Rattle.std.specs.Prelude.{nat_le, IsSomeAnd}
+use Rattle.std.specs.Option.{option_map_or}
+use Rattle.std.specs.List.{All, cons_option, filter_map}
+use Rattle.std.proofs.lemmas.Bool.{and_parts, leb-true, ltb-true}
+use Rattle.std.proofs.lemmas.List.{append-nil, append_assoc, length-take-le, map-append, take_more}
+use Rattle.std.proofs.lemmas.List.Elements.{All-cons, All-head, All-map, All-nil, All-tail, filter_map-append}
+use Rattle.std.proofs.lemmas.Option.{slice_get-get_or}
+use Rattle.rows.specs.Literals.{Literal}
+use Rattle.rows.specs.Partials.{IsEmpowering}
+use Rattle.rows.specs.Rows.{Row}
+use Rattle.refutation.specs.Following.{judged, no_demand, row_numbered}
+use Rattle.refutation.specs.Steps.{Step, clause_at, clause_of, hints_at, hints_of, is_linear}
+use Rattle.refutation.specs.Steps.Step.{Clause, Linear}
+use Rattle.clause_search.specs.News.{AreNews, IsTidy, row_of}
+use Rattle.pattern_search.specs.PatternLogs.{ArePatternNews}
+use Rattle.pattern_search.specs.PatternRows.{is_pattern_row}
+use Rattle.pattern_search.specs.Raised.{IsFromOne, number_of, raised_literal, raised_row, raised_step, raised_steps}
+use Rattle.pattern_search.specs.Raised.{renumbered}
+use Rattle.pattern_search.proofs.NumberLemmas.{IsNumbering, judged-raised, numbering-push, numbering-same}
+use Rattle.pattern_search.proofs.RaiseLemmas.{clause_row-from_one, clause_row-raised, differ-raised, empowering-raised}
+use Rattle.pattern_search.proofs.RaiseLemmas.{pattern_row-raised}
+
+-- ---- steps that are news are clauses
+
+none_of_nothing : (rows : List Row) → IsEmpowering rows [] → ⊥
+none_of_nothing rows (values, l, quiet, among, free, others) = omega (arith, among.1)
+
+not_linear : (rows : List Row) (step : Step) → IsEmpowering rows (clause_of step) → is_linear step ≡ false
+not_linear rows (Clause clause hints) empowering = refl
+not_linear rows (Linear parts divisor) empowering = absurd (none_of_nothing rows empowering)
+
+pub news-clauses : (rows : List Row) (vars : ℕ) (steps : List Step) → AreNews rows vars steps
+    → All (λ step. is_linear step ≡ false) steps
+news-clauses rows vars [] news = All-nil (λ step. is_linear step ≡ false)
+news-clauses rows vars (step ∷ steps) news =
+    All-cons (λ s. is_linear s ≡ false) step steps (not_linear rows step news.0.empowering)
+    (news-clauses (rows ++ row_of step ∷ []) vars steps news.1)
+
+pub pattern_news-clauses : (games vars : ℕ) (rows patterns : List Row) (steps : List Step)
+    → ArePatternNews games vars rows patterns steps → All (λ step. is_linear step ≡ false) steps
+pattern_news-clauses games vars rows patterns [] news = All-nil (λ step. is_linear step ≡ false)
+pattern_news-clauses games vars rows patterns (step ∷ steps) news =
+    All-cons (λ s. is_linear s ≡ false) step steps (not_linear patterns step news.0.empowering)
+    (pattern_news-clauses games vars (rows ++ row_of step ∷ []) (patterns ++ row_of step ∷ []) steps news.1)
+
+-- ---- hints
+
+module _ (x : ℕ) (numbers : List ℕ) (all before : ℕ) (low whole : List Row)
+    (is : IsNumbering x numbers all before low whole) where
+  -- a row of this number among the lowered rows
+  row_at : (h : ℕ) → 1 ≤ h → h ≤ length low → (row : Row) × (row_numbered low h ≡ Some row) × IsFromOne row
+  row_at zero some within = absurd (omega (arith, some))
+  row_at (suc k) some within =
+      let there : k < length low = omega (arith, within) in
+      (get_or low k no_demand, slice_get-get_or low k no_demand there, is.from_one k no_demand there)
+
+  named_one : (h : ℕ) → 1 ≤ h → h ≤ length low
+      → IsSomeAnd (row_numbered whole (renumbered numbers all h)) (λ row. is_pattern_row x row ≡ true)
+  named_one h some within =
+      let at = row_at h some within in
+      subst (λ (o : Option Row). IsSomeAnd o (λ row. is_pattern_row x row ≡ true)) (sym (is.gives h at.0 at.1))
+      (pattern_row-raised x at.0.terms at.2)
+
+  pub hints-named : (hints : List ℕ)
+      → All (λ hint. IsSomeAnd (row_numbered whole hint) (λ row. is_pattern_row x row ≡ true))
+      (filter_map (number_of numbers all before) hints)
+  hints-named [] = All-nil (λ hint. IsSomeAnd (row_numbered whole hint) (λ row. is_pattern_row x row ≡ true))
+  hints-named (h ∷ hints) =
+      by (hints-named hints) (nat_lt 0 h && nat_le h (length numbers + before)) refl where
+        by : All (λ hint. IsSomeAnd (row_numbered whole hint) (λ row. is_pattern_row x row ≡ true))
+            (filter_map (number_of numbers all before) hints)
+            → (b : Bool) → nat_lt 0 h && nat_le h (length numbers + before) ≡ b
+            → All (λ hint. IsSomeAnd (row_numbered whole hint) (λ row. is_pattern_row x row ≡ true))
+            (cons_option (cond b (Some (renumbered numbers all h)) None)
+            (filter_map (number_of numbers all before) hints))
+        by rest true there =
+            let both = and_parts (nat_lt 0 h) (nat_le h (length numbers + before)) there in
+            All-cons (λ hint. IsSomeAnd (row_numbered whole hint) (λ row. is_pattern_row x row ≡ true))
+            (renumbered numbers all h) (filter_map (number_of numbers all before) hints)
+            (named_one h (ltb-true 0 h both.0)
+            (omega (arith, leb-true h (length numbers + before) both.1, is.low_count))) rest
+        by rest false there = rest
+
+-- there are no more than there were
+hints-few : (test : ℕ → Option ℕ) (hints : List ℕ) → length (filter_map test hints) ≤ length hints
+hints-few test [] = omega arith
+hints-few test (h ∷ hints) = by (hints-few test hints) (test h) where
+  by : length (filter_map test hints) ≤ length hints → (o : Option ℕ)
+      → length (cons_option o (filter_map test hints)) ≤ length (h ∷ hints)
+  by rest None = omega (arith, rest)
+  by rest (Some n) = omega (arith, rest)
+
+some_named : (games : ℕ) (rows : List Row) (hint : ℕ)
+    → IsSomeAnd (row_numbered rows hint) (λ row. is_pattern_row games row ≡ true) → 1 ≤ hint
+some_named games rows zero named = absurd named
+some_named games rows (suc k) named = omega arith
+
+-- ---- a step
+
+pub step-tidy : (x : ℕ) (numbers : List ℕ) (all before vars : ℕ) (low whole : List Row) (step : Step)
+    → IsNumbering x numbers all before low whole → IsTidy vars step
+    → IsTidy (vars + x) (raised_step x numbers all before step)
+step-tidy x numbers all before vars low whole step is tidy = record {
+  variables = differ-raised x (clause_of step) tidy.variables;
+  from_one = All-map (λ (l : Literal). 1 ≤ l.var) (raised_literal x) (clause_of step)
+      (λ k d within. omega (arith, tidy.from_one k d within));
+  known = All-map (λ (l : Literal). l.var ≤ vars + x) (raised_literal x) (clause_of step)
+      (λ k d within. omega (arith, tidy.known k d within));
+  few = omega (arith, hints-few (number_of numbers all before) (hints_of step), tidy.few);
+  named = λ k d within.
+      some_named x whole (get_or (filter_map (number_of numbers all before) (hints_of step)) k d)
+      (hints-named x numbers all before low whole is (hints_of step) k d within);
+}
+
+-- the row of a raised step
+row_of-raised : (x : ℕ) (numbers : List ℕ) (all before vars : ℕ) (step : Step) → IsTidy vars step
+    → row_of (raised_step x numbers all before step) ≡ raised_row x (row_of step)
+row_of-raised x numbers all before vars step tidy = clause_row-raised x (clause_of step) tidy.variables
+
+-- a step more
+numbering-step : (x : ℕ) (numbers : List ℕ) (all before vars : ℕ) (low whole : List Row) (step : Step)
+    → IsNumbering x numbers all before low whole → IsTidy vars step
+    → IsNumbering x numbers all (before + 1) (low ++ row_of step ∷ [])
+    (whole ++ row_of (raised_step x numbers all before step) ∷ [])
+numbering-step x numbers all before vars low whole step is tidy =
+    numbering-same x numbers all (before + 1) (before + 1) (low ++ row_of step ∷ []) (low ++ row_of step ∷ [])
+    (whole ++ raised_row x (row_of step) ∷ []) (whole ++ row_of (raised_step x numbers all before step) ∷ []) refl refl
+    (ap (λ (row : Row). whole ++ row ∷ []) (sym (row_of-raised x numbers all before vars step tidy)))
+    (numbering-push x numbers all before low whole (row_of step) is
+    (clause_row-from_one (clause_of step) tidy.variables tidy.from_one))
+
+pub step-follows : (x : ℕ) (numbers : List ℕ) (all before vars : ℕ) (low whole : List Row) (step : Step)
+    → IsNumbering x numbers all before low whole → IsTidy vars step → is_linear step ≡ false
+    → judged low vars step ≡ Ok (row_of step)
+    → judged whole (vars + x) (raised_step x numbers all before step)
+    ≡ Ok (row_of (raised_step x numbers all before step))
+step-follows x numbers all before vars low whole (Clause clause hints) is tidy kind follows =
+    judged-raised x numbers all before vars low whole clause hints is tidy.variables tidy.known follows
+step-follows x numbers all before vars low whole (Linear parts divisor) is tidy kind follows = absurd (cc)
+
+-- ---- a log
+
+rows-push : (x : ℕ) (numbers : List ℕ) (all before vars : ℕ) (low : List Row) (step : Step) → IsTidy vars step
+    → map (raised_row x) (low ++ row_of step ∷ [])
+    ≡ map (raised_row x) low ++ row_of (raised_step x numbers all before step) ∷ []
+rows-push x numbers all before vars low step tidy =
+    map-append (raised_row x) low (row_of step ∷ [])
+    ∙ ap (λ (row : Row). map (raised_row x) low ++ row ∷ [])
+    (sym (row_of-raised x numbers all before vars step tidy))
+
+pub news-raised : (x : ℕ) (numbers : List ℕ) (all vars : ℕ) (steps : List Step) (before : ℕ) (low whole : List Row)
+    → IsNumbering x numbers all before low whole → AreNews low vars steps → All (IsTidy vars) steps
+    → ArePatternNews x (vars + x) whole (map (raised_row x) low) (raised_steps x numbers all before steps)
+news-raised x numbers all vars [] before low whole is news tidy = tt
+news-raised x numbers all vars (step ∷ steps) before low whole is news tidy =
+    let tidy_one : IsTidy vars step = All-head (IsTidy vars) step steps tidy in (
+      record {
+        follows = step-follows x numbers all before vars low whole step is tidy_one
+            (not_linear low step news.0.empowering) news.0.follows;
+        named = hints-named x numbers all before low whole is (hints_of step);
+        empowering = empowering-raised x low (clause_of step) news.0.empowering;
+      },
+      subst (λ (rows : List Row). ArePatternNews x (vars + x)
+          (whole ++ row_of (raised_step x numbers all before step) ∷ []) rows
+          (raised_steps x numbers all (before + 1) steps))
+          (rows-push x numbers all before vars low step tidy_one)
+          (news-raised x numbers all vars steps (before + 1) (low ++ row_of step ∷ [])
+          (whole ++ row_of (raised_step x numbers all before step) ∷ [])
+          (numbering-step x numbers all before vars low whole step is tidy_one) news.1
+          (All-tail (IsTidy vars) step steps tidy)),
+    )
+
+-- behind the steps
+pub numbering-steps : (x : ℕ) (numbers : List ℕ) (all vars : ℕ) (steps : List Step) (before : ℕ) (low whole : List Row)
+    → IsNumbering x numbers all before low whole → All (IsTidy vars) steps
+    → IsNumbering x numbers all (before + length steps) (low ++ map row_of steps)
+    (whole ++ map row_of (raised_steps x numbers all before steps))
+numbering-steps x numbers all vars [] before low whole is tidy =
+    numbering-same x numbers all before (before + 0) low (low ++ []) whole (whole ++ []) (omega arith)
+    (sym (append-nil low)) (sym (append-nil whole)) is
+numbering-steps x numbers all vars (step ∷ steps) before low whole is tidy =
+    numbering-same x numbers all (before + 1 + length steps) (before + length (step ∷ steps))
+    ((low ++ row_of step ∷ []) ++ map row_of steps) (low ++ map row_of (step ∷ steps))
+    ((whole ++ row_of (raised_step x numbers all before step) ∷ [])
+    ++ map row_of (raised_steps x numbers all (before + 1) steps))
+    (whole ++ map row_of (raised_steps x numbers all before (step ∷ steps))) (omega arith)
+    (append_assoc low (row_of step ∷ []) (map row_of steps))
+    (append_assoc whole (row_of (raised_step x numbers all before step) ∷ [])
+    (map row_of (raised_steps x numbers all (before + 1) steps)))
+    (numbering-steps x numbers all vars steps (before + 1) (low ++ row_of step ∷ [])
+    (whole ++ row_of (raised_step x numbers all before step) ∷ [])
+    (numbering-step x numbers all before vars low whole step is (All-head (IsTidy vars) step steps tidy))
+    (All-tail (IsTidy vars) step steps tidy))
+
+pub steps-tidy : (x : ℕ) (numbers : List ℕ) (all vars : ℕ) (steps : List Step) (before : ℕ) (low whole : List Row)
+    → IsNumbering x numbers all before low whole → All (IsTidy vars) steps
+    → All (IsTidy (vars + x)) (raised_steps x numbers all before steps)
+steps-tidy x numbers all vars [] before low whole is tidy = All-nil (IsTidy (vars + x))
+steps-tidy x numbers all vars (step ∷ steps) before low whole is tidy =
+    All-cons (IsTidy (vars + x)) (raised_step x numbers all before step)
+    (raised_steps x numbers all (before + 1) steps)
+    (step-tidy x numbers all before vars low whole step is (All-head (IsTidy vars) step steps tidy))
+    (steps-tidy x numbers all vars steps (before + 1) (low ++ row_of step ∷ [])
+    (whole ++ row_of (raised_step x numbers all before step) ∷ [])
+    (numbering-step x numbers all before vars low whole step is (All-head (IsTidy vars) step steps tidy))
+    (All-tail (IsTidy vars) step steps tidy))
+
+-- the rows of the steps
+pub rows-raised : (x : ℕ) (numbers : List ℕ) (all vars : ℕ) (steps : List Step) (before : ℕ) → All (IsTidy vars) steps
+    → map (raised_row x) (map row_of steps) ≡ map row_of (raised_steps x numbers all before steps)
+rows-raised x numbers all vars [] before tidy = refl
+rows-raised x numbers all vars (step ∷ steps) before tidy =
+    ap (λ (row : Row). row ∷ map (raised_row x) (map row_of steps))
+    (sym (row_of-raised x numbers all before vars step (All-head (IsTidy vars) step steps tidy)))
+    ∙ ap (λ (rows : List Row). row_of (raised_step x numbers all before step) ∷ rows)
+    (rows-raised x numbers all vars steps (before + 1) (All-tail (IsTidy vars) step steps tidy))
+
+pub length-raised : (x : ℕ) (numbers : List ℕ) (all : ℕ) (steps : List Step) (before : ℕ)
+    → length (raised_steps x numbers all before steps) ≡ length steps
+length-raised x numbers all [] before = refl
+length-raised x numbers all (step ∷ steps) before = ap suc (length-raised x numbers all steps (before + 1))
+
+-- ---- steps, one after another
+
+pub raised_steps-push : (x : ℕ) (numbers : List ℕ) (all : ℕ) (steps : List Step) (step : Step) (before : ℕ)
+    → raised_steps x numbers all before (steps ++ step ∷ [])
+    ≡ raised_steps x numbers all before steps ++ raised_step x numbers all (before + length steps) step ∷ []
+raised_steps-push x numbers all [] step before =
+    let same : before ≡ before + 0 = omega arith in
+    ap (λ (n : ℕ). raised_step x numbers all n step ∷ []) same
+raised_steps-push x numbers all (s ∷ steps) step before =
+    let same : before + 1 + length steps ≡ before + length (s ∷ steps) = omega arith in
+    ap (λ (ss : List Step). raised_step x numbers all before s ∷ ss)
+    (raised_steps-push x numbers all steps step (before + 1)
+    ∙ ap (λ (n : ℕ). raised_steps x numbers all (before + 1) steps ++ raised_step x numbers all n step ∷ []) same)
+
+pub raised_steps-more : (x : ℕ) (numbers : List ℕ) (all : ℕ) (steps : List Step) (k : ℕ) (d : Step) → k < length steps
+    → raised_steps x numbers all 0 (take (k + 1) steps)
+    ≡ raised_steps x numbers all 0 (take k steps) ++ raised_step x numbers all k (get_or steps k d) ∷ []
+raised_steps-more x numbers all steps k d within =
+    ap (λ (ss : List Step). raised_steps x numbers all 0 ss) (take_more steps k d within)
+    ∙ raised_steps-push x numbers all (take k steps) (get_or steps k d) 0
+    ∙ ap (λ (n : ℕ). raised_steps x numbers all 0 (take k steps)
+    ++ raised_step x numbers all n (get_or steps k d) ∷ [])
+    (zero-add (length (take k steps)) ∙ length-take-le k steps (omega (arith, within)))
+
+-- what a step at a place has
+clause_at-is : (steps : List Step) (k : ℕ) (d : Step) → k < length steps
+    → clause_at steps k ≡ clause_of (get_or steps k d)
+clause_at-is steps k d within =
+    ap (λ (o : Option Step). option_map_or clause_of o []) (slice_get-get_or steps k d within)
+
+hints_at-is : (steps : List Step) (k : ℕ) (d : Step) → k < length steps → hints_at steps k ≡ hints_of (get_or steps k d)
+hints_at-is steps k d within =
+    ap (λ (o : Option Step). option_map_or hints_of o []) (slice_get-get_or steps k d within)
+
+-- a step more, as it was read
+pub raised-more : (x : ℕ) (numbers : List ℕ) (all : ℕ) (steps : List Step) (k : ℕ) (clause : List Literal)
+    (hints : List ℕ) (old new : List Step) → k < length steps → clause ≡ map (raised_literal x) (clause_at steps k)
+    → hints ≡ filter_map (number_of numbers all k) (hints_at steps k)
+    → old ≡ raised_steps x numbers all 0 (take k steps) → new ≡ old ++ Clause clause hints ∷ []
+    → new ≡ raised_steps x numbers all 0 (take (k + 1) steps)
+raised-more x numbers all steps k clause hints old new within clause_is hints_are was more =
+    more
+    ∙ ap (λ (ss : List Step). ss ++ Clause clause hints ∷ []) was
+    ∙ ap (λ (c : List Literal). raised_steps x numbers all 0 (take k steps) ++ Clause c hints ∷ [])
+    (clause_is ∙ ap (λ (c : List Literal). map (raised_literal x) c) (clause_at-is steps k (Clause [] []) within))
+    ∙ ap (λ (hs : List ℕ). raised_steps x numbers all 0 (take k steps)
+    ++ Clause (map (raised_literal x) (clause_of (get_or steps k (Clause [] [])))) hs ∷ [])
+    (hints_are
+    ∙ ap (λ (hs : List ℕ). filter_map (number_of numbers all k) hs) (hints_at-is steps k (Clause [] []) within))
+    ∙ sym (raised_steps-more x numbers all steps k (Clause [] []) within)
+
+-- a hint more, as it was read
+pub hints-more : (test : ℕ → Option ℕ) (hints : List ℕ) (k hint : ℕ) (found : Option ℕ) (old new : List ℕ)
+    → k < length hints → hint ≡ get_or hints k 0 → found ≡ test hint → old ≡ filter_map test (take k hints)
+    → new ≡ old ++ cons_option found [] → new ≡ filter_map test (take (k + 1) hints)
+hints-more test hints k hint found old new within is tested was more =
+    more
+    ∙ ap (λ (hs : List ℕ). hs ++ cons_option found []) was
+    ∙ ap (λ (o : Option ℕ). filter_map test (take k hints) ++ cons_option o [])
+    (tested ∙ ap (λ (h : ℕ). test h) is)
+    ∙ sym (ap (λ (hs : List ℕ). filter_map test hs) (take_more hints k 0 within)
+    ∙ filter_map-append test (take k hints) (get_or hints k 0 ∷ []))

@@ -1,0 +1,13 @@
+-- What is answered of a league's patterns.
+use Rattle.std.specs.Prelude.{ℕ, Option}
+use Rattle.league.specs.Instance.{Instance}
+use Rattle.pattern_search.specs.PatternLogs.{IsPatternSpent, RefutesPatterns}
+use Rattle.pattern_search.specs.PatternSets.{IsPatternSet}
+use Rattle.pattern_search.specs.declared.found.PatternFound.{PatternFound}
+use Rattle.pattern_search.specs.declared.found.PatternFound.TheVariants.{Patterns, Refuted, Spent}
+
+-- patterns that the pattern rows allow, a log that refutes them, or one that is spent
+abbrev pub IsPatternAnswer : Instance → Option ℕ → PatternFound → Type 0
+IsPatternAnswer league limit (Patterns patterns) = IsPatternSet league patterns
+IsPatternAnswer league limit (Refuted log) = RefutesPatterns league limit log
+IsPatternAnswer league limit (Spent log) = IsPatternSpent league limit log

@@ -1,0 +1,14 @@
+-- What a reader of a claim must believe:
+--
+-- Read in this order. Which rows are pattern rows, when patterns satisfy them, when a log refutes them or is spent, and
+-- what is answered:
+pub mod PatternRows
+pub mod PatternSets
+pub mod PatternLogs
+pub mod Answers
+-- Kept inside (laws, and how fields are seen):
+--
+-- Rows and logs whose variables are numbered anew:
+pub mod Raised
+-- The patterns that values show:
+pub mod Letters

@@ -1,0 +1,76 @@
+//! The search for patterns.
+ghost use Rattle.std.specs.Prelude.{◌≡◌, ◌+◌, ◌-◌, length, IfOk};
+ghost use Rattle.encoding_base.specs.Encoding.{rows_of};
+ghost use Rattle.encoding_base.specs.Variables.{var_count};
+ghost use Rattle.encoding_base.specs.Variables as variables;
+ghost use Rattle.clause_search.specs.Answers.{IsAnswer};
+ghost use Rattle.pattern_search.specs.Answers.{IsPatternAnswer};
+ghost use Rattle.pattern_search.specs.Raised.{IsPicked};
+
+use crate::found::PatternFound;
+use crate::letters::patterns_by;
+use crate::picked::{Picked, pick};
+use crate::raised::raised;
+use clause_search::{Found, search};
+use encoding::Encoding;
+use encoding_base::x_count;
+use std::alloc::{AllocError, Global};
+
+/// Finds patterns that the pattern rows of a league allow, a pattern for each team, or a log that refutes them. With a
+/// limit the search learns at most so many clauses, and then its log is the answer; without one, or with one of 3 to
+/// the number of variables that aren't those of games, it goes on to the end.
+///
+/// A log is one over all rows of the encoding: each hint is the number of a pattern row there, or of an earlier step.
+/// So where the pattern rows are refuted, the league accepts no schedule.
+///
+/// # Errors
+/// Only where memory runs out.
+pub fn pattern_set(
+    alloc: Global,
+    encoding: &Encoding,
+    limit: Option<u64>,
+) -> Result<PatternFound, AllocError>
+    ensures { IfOk result (IsPatternAnswer encoding.now limit) }
+{
+    let games = x_count(encoding.n());
+    let vars = encoding.vars() - games;
+    let picked = pick(alloc, encoding.rows(), games)?;
+    let found = search(alloc, &picked.rows, vars, &[], limit)?;
+    answer(alloc, encoding, games, &picked, found, limit)
+}
+
+/// What the search found, said of the league.
+///
+/// # Errors
+/// Only where memory runs out.
+fn answer(
+    alloc: Global,
+    encoding: &Encoding,
+    games: u32,
+    picked: &Picked,
+    found: Found,
+    limit: Option<u64>,
+) -> Result<PatternFound, AllocError>
+    requires games { games ≡ variables.x_count encoding.now.n }
+    requires picked { IsPicked games (rows_of encoding.now) (length (rows_of encoding.now)) picked.now.rows
+        picked.now.numbers.items }
+    requires found { IsAnswer picked.now.rows (var_count encoding.now - games) limit found }
+    ensures { IfOk result (IsPatternAnswer encoding.now limit) }
+{
+    let _vars = encoding.vars();
+    let all = encoding.rows().len();
+    match found {
+        Found::Sat(values) => {
+            let patterns = patterns_by(alloc, encoding, &values, games)?;
+            Ok(PatternFound::Patterns(patterns))
+        }
+        Found::Refuted(log) => {
+            let log = raised(alloc, &log, games, &picked.numbers, all)?;
+            Ok(PatternFound::Refuted(log))
+        }
+        Found::Spent(log) => {
+            let log = raised(alloc, &log, games, &picked.numbers, all)?;
+            Ok(PatternFound::Spent(log))
+        }
+    }
+}

@@ -1,0 +1,16 @@
+//! Home-away patterns that a league's pattern rows allow, or a proof that there are none.
+//!
+//! The pattern rows are those of a league's rows that speak of no game: of venues and breaks alone. What refutes them
+//! refutes the league; patterns that satisfy them needn't be those of a schedule. `specs/PatternSets.antt` and
+//! `specs/PatternLogs.antt` say what each answer promises.
+#![tactic(auto)]
+
+mod finder;
+mod found;
+mod letters;
+mod lowered;
+mod picked;
+mod raised;
+
+pub use finder::pattern_set;
+pub use found::PatternFound;
