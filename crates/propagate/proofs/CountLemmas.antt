@@ -21,7 +21,7 @@ use Rattle.rows.specs.declared.partial.Value.TheVariants.{True, False, Free}
 use Rattle.rows.proofs.TrailLemmas.{valued-set, valued-set_other, valued-set_same}
 use Rattle.rows.proofs.UnitLemmas.{IsRow-at_least}
 use Rattle.propagate.specs.Numbered.{row_at}
-use Rattle.propagate.specs.Links.{AreLinked, IsLastBelow, Lacks, LeadsBelow}
+use Rattle.propagate.specs.Links.{AreLinked, IsEmptyLink, IsLastBelow, Lacks, LeadsBelow}
 use Rattle.propagate.specs.Counters.{SeenCounters}
 use Rattle.propagate.specs.Tables.{AreCounted, IsCounted, IsEnough, IsSameTable}
 use Rattle.propagate.specs.Trails.{KnowsVariables}
@@ -34,12 +34,10 @@ use Rattle.propagate.proofs.ValueLemmas.{AreApart, set_true-other, set_true-same
 -- ---- building
 
 -- no row yet
-pub AreCounted-none : (rows : List Row) (values : ℕ → Value) (slots : ℕ) (table : Table) → table.heads.items ≡ replicate slots 0 → table.links.items ≡ [] → table.reach.items ≡ [] → table.enough.items ≡ []
-    → AreCounted rows 0 values table
-AreCounted-none rows values slots table heads links reaches enoughs = record {
-  linked =
-      subst (λ (hs : List ℕ). AreLinked rows 0 hs table.links.items) (sym heads)
-      (subst (λ (ls : List Link). AreLinked rows 0 (replicate slots 0) ls) (sym links) (AreLinked-none rows slots));
+pub AreCounted-none : (rows : List Row) (values : ℕ → Value) (slots : ℕ) (table : Table) → table.heads.items ≡ replicate slots 0 → All IsEmptyLink table.links.items → table.reach.items ≡ []
+    → table.enough.items ≡ [] → AreCounted rows 0 values table
+AreCounted-none rows values slots table heads empty reaches enoughs = record {
+  linked = subst (λ (hs : List ℕ). AreLinked rows 0 hs table.links.items) (sym heads) (AreLinked-none rows slots table.links.items empty);
   reach_length = ap (λ (ns : List ℕ). length ns) reaches;
   enough_length = ap (λ (ns : List ℕ). length ns) enoughs;
   reached = λ k below. absurd (omega arith);
@@ -170,9 +168,6 @@ pub next-read : (rows : List Row) (n : ℕ) (heads : List ℕ) (links : List Lin
 next-read rows n heads links i x linked within read =
     subst (λ (y : Link). LeadsBelow rows links y.term.lit y.row y.next) (sym read) (linked.next i x within)
 
-pub falls-read : (rows : List Row) (n : ℕ) (heads : List ℕ) (links : List Link) (i : ℕ) (x : Link) → AreLinked rows n heads links → i < length links → x ≡ get_or links i x → x.next ≤ i
-falls-read rows n heads links i x linked within read = subst (λ (y : Link). y.next ≤ i) (sym read) (linked.falls i x within)
-
 -- ---- one literal more or less
 
 -- Of the rows in which a literal stands, those from a bound on are counted anew, the others as before.
@@ -203,7 +198,6 @@ IsMoving-none rows values table l after at counted leads = record {
 pub record IsStep (rows : List Row) (links : List Link) (l : Literal) (before : ℕ → Value) (bound at : ℕ) (reaches : List ℕ) (x : Link) : Type 0 where
   pub last : IsLastBelow rows l bound x
   pub leads : LeadsBelow rows links l x.row x.next
-  pub falls : x.next < at
   pub there : x.row < length rows
   pub was : get_or reaches x.row 0 ≡ reach before (row_at rows x.row).terms
 
@@ -216,7 +210,6 @@ moving-step rows n heads links l before after at reaches x linked moving some re
     record {
       last = last;
       leads = subst (λ (m : Literal). LeadsBelow rows links m x.row x.next) last.literal (next-read rows n heads links (at - 1) x linked within read);
-      falls = omega (arith, falls-read rows n heads links (at - 1) x linked within read);
       there = omega (arith, last.below, moving.within);
       was = moving.below x.row last.below;
     }

@@ -30,5 +30,19 @@ pub record AreLinked (rows : List Row) (n : ℕ) (heads : List ℕ) (links : Lis
   pub first : (l : Literal) → code_of l < length heads → LeadsBelow rows links l n (slice_index_or heads (code_of l) 0)
   pub next : (i : ℕ) (d : Link) → i < length links
       → LeadsBelow rows links (slice_index_or links i d).term.lit (slice_index_or links i d).row (slice_index_or links i d).next
-  pub falls : (i : ℕ) (d : Link) → i < length links → (slice_index_or links i d).next ≤ i
-  pub inside : (i : ℕ) (d : Link) → i < length links → (slice_index_or links i d).row < n
+  pub inside : (i : ℕ) (d : Link) → i < length links → (slice_index_or links i d).row ≤ n
+
+-- a link that leads nowhere and stands for no term
+pub record IsEmptyLink (link : Link) : Type 0 where
+  pub coef : link.term.coef ≡ 0
+  pub row : link.row ≡ 0
+  pub next : link.next ≡ 0
+
+-- a link was put at a place: behind the others, or where an empty one was
+pub record IsPut (old new : List Link) (place : ℕ) (link : Link) : Type 0 where
+  pub there : place < length new
+  pub is : (d : Link) → slice_index_or new place d ≡ link
+  pub others : (i : ℕ) (d : Link) → i < length old → i ≢ place → slice_index_or new i d ≡ slice_index_or old i d
+  pub longer : length old ≤ length new
+  pub only : (i : ℕ) → length old ≤ i → i < length new → i ≡ place
+  pub was_empty : (d : Link) → place < length old → (slice_index_or old place d).term.coef ≡ 0

@@ -57,7 +57,7 @@ impl<'a> Counters<'a> {
         let values = Partial::new(alloc, vars)?;
         let rows = NumberedRows::new(alloc, given);
         let _len = rows.len();
-        let mut table = Table::new(alloc, vars, given.len(), size_of(given))?;
+        let mut table = Table::new(alloc, vars, given)?;
         count_all(given.len(), &rows, &values, &mut table)?;
         Ok(Counters {
             rows,
@@ -130,7 +130,6 @@ impl<'a> Counters<'a> {
         requires there { at ≤ length self.now.links }
         ensures is { slice_get self.now.links (at - 1) ≡ Some result }
         ensures next { LeadsBelow self.now.rows self.now.links result.term.lit result.row result.next }
-        ensures falls { result.next < at }
     {
         self.table.links[at as usize - 1]
     }
@@ -186,15 +185,6 @@ impl<'a> Counters<'a> {
         self.table.count(&self.rows, k, &self.values);
         Ok(())
     }
-}
-
-/// How many terms these rows have.
-fn size_of(given: &RowStore) -> usize {
-    let mut terms: usize = 0;
-    for k in 0..given.len() {
-        terms = terms.saturating_add(given.terms(k).len());
-    }
-    terms
 }
 
 /// Counts so many rows, which are all, under values that are free.

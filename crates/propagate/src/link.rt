@@ -1,6 +1,7 @@
 //! Where a literal stands in rows.
 ghost use Rattle.std.specs.Prelude.{◌≡◌};
 ghost use Rattle.rows.specs.Codes.{code_of};
+ghost use Rattle.propagate.specs.Links.{IsEmptyLink};
 
 use rows::{Lit, Term};
 
@@ -12,6 +13,22 @@ pub(crate) struct Link {
     pub(crate) row: u32,
     /// One above the place of the next link, or 0 where there is none.
     pub(crate) next: u32,
+}
+
+impl Link {
+    /// A link that leads nowhere and stands for no term.
+    pub(crate) fn empty() -> Link
+        ensures { IsEmptyLink result }
+    {
+        Link {
+            term: Term {
+                coef: 0,
+                lit: Lit::new(1, true),
+            },
+            row: 0,
+            next: 0,
+        }
+    }
 }
 
 /// The place of a literal in a list by literals: twice its variable, and one more for a negation.

@@ -101,7 +101,6 @@ impl<'a> Path<'a> {
         requires there { at ≤ length self.now.links }
         ensures is { slice_get self.now.links (at - 1) ≡ Some result }
         ensures next { LeadsBelow self.now.rows self.now.links result.term.lit result.row result.next }
-        ensures falls { result.next < at }
     {
         self.counters.link(at)
     }

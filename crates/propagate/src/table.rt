@@ -8,12 +8,13 @@ ghost use Rattle.rows.specs.Values.{valued};
 ghost use Rattle.rows.specs.declared.partial.Value.TheVariants.{Free};
 ghost use Rattle.propagate.specs.Trails.{KnowsVariables};
 ghost use Rattle.propagate.specs.Numbered.{row_at};
-ghost use Rattle.propagate.specs.Links.{AreLinked};
+ghost use Rattle.std.specs.Vec.{vec_capacity};
+ghost use Rattle.propagate.specs.Links.{AreLinked, IsEmptyLink, IsPut};
 ghost use Rattle.propagate.specs.Tables.{AreCounted, HasRoom, HasRoomForLinks, IsEnough, IsSameTable};
 
 use crate::link::{Link, slot};
 use crate::numbered::NumberedRows;
-use rows::{Partial, Term};
+use rows::{Partial, RowStore, Term};
 use std::alloc::{AllocError, Global};
 
 /// More links than there may be.
@@ -26,28 +27,35 @@ pub(crate) struct Table {
     /// For each literal one above the place of its first link, or 0.
     pub(crate) heads: Vec<u32>,
     pub(crate) links: Vec<Link>,
+    /// For each literal where its next link may stand, so that its links lie together: no more than a hint.
+    pub(crate) rooms: Vec<usize>,
     pub(crate) reach: Vec<u64>,
     pub(crate) enough: Vec<u64>,
 }
 
 impl Table {
-    /// No row yet, for so many variables, with room for so many rows and terms.
-    pub(crate) fn new(
-        alloc: Global,
-        vars: u32,
-        rows: usize,
-        terms: usize,
-    ) -> Result<Table, AllocError>
+    /// No row yet, for so many variables, with room for these rows.
+    ///
+    /// # Errors
+    /// Only where memory runs out, or there would be 2^32 terms.
+    pub(crate) fn new(alloc: Global, vars: u32, given: &RowStore) -> Result<Table, AllocError>
         ensures heads { IfOk result (λ t. t.heads.items ≡ replicate (2 * vars + 2) 0) }
-        ensures links { IfOk result (λ t. t.links.items ≡ []) }
+        ensures links { IfOk result (λ t. All IsEmptyLink t.links.items) }
         ensures reach { IfOk result (λ t. t.reach.items ≡ []) }
         ensures enough { IfOk result (λ t. t.enough.items ≡ []) }
     {
+        let slots = 2 * vars as usize + 2;
+        let Plan {
+            terms,
+            longest,
+            rooms,
+        } = plan_of(alloc, given, slots)?;
         Ok(Table {
-            heads: vec![in alloc; 0; 2 * vars as usize + 2]?,
-            links: Vec::with_capacity(alloc, terms)?,
-            reach: Vec::with_capacity(alloc, rows)?,
-            enough: Vec::with_capacity(alloc, rows)?,
+            heads: vec![in alloc; 0; slots]?,
+            links: empty_links(alloc, terms, longest)?,
+            rooms,
+            reach: Vec::with_capacity(alloc, given.len())?,
+            enough: Vec::with_capacity(alloc, given.len())?,
         })
     }
 
@@ -75,7 +83,7 @@ impl Table {
         requires there { k < length numbered.now }
         requires few { k < 2 ^ 32 }
         requires room { HasRoom self.old (length (row_at numbered.now k).terms) }
-        requires proper { IsRow (row_at numbered.now k) }
+        requires proper { All IsRow numbered.now }
         requires known { KnowsVariables (length values.now) (row_at numbered.now k) }
         requires fits { reach (λ v. Free) (row_at numbered.now k).terms + 1 < 2 ^ 64 }
         ensures counted { AreCounted numbered.now (k + 1) (valued values.now) self.new }
@@ -97,7 +105,7 @@ impl Table {
         requires there { k < length numbered.now }
         requires few { k < 2 ^ 32 }
         requires room { HasRoomForLinks self.old (length (row_at numbered.now k).terms) }
-        requires proper { IsRow (row_at numbered.now k) }
+        requires proper { All IsRow numbered.now }
         requires slots { All (λ t. code_of t.lit < length self.old.heads.items) (row_at numbered.now k).terms }
         ensures linked { AreLinked numbered.now (k + 1) self.new.heads.items self.new.links.items }
         ensures slots { length self.new.heads.items ≡ length self.old.heads.items }
@@ -107,16 +115,123 @@ impl Table {
         let terms = numbered.terms(k);
         for term in terms {
             let at = slot(term.lit);
-            let next = self.heads[at];
-            let pushed = self.links.push(Link {
+            let link = Link {
                 term: *term,
                 row: k as u32,
-                next,
-            });
-            pushed.unwrap();
-            self.heads[at] = self.links.len() as u32;
+                next: self.heads[at],
+            };
+            let place = self.put(link, at);
+            self.heads[at] = place as u32 + 1;
         }
     }
+
+    /// Puts a link where the next one of its literal may stand, if that place is empty, or else behind all others.
+    fn put(&mut self, link: Link, at: usize) -> usize
+        requires { length self.old.links.items < vec_capacity self.old.links }
+        ensures put { IsPut self.old.links.items self.new.links.items result link }
+        ensures within { length self.new.links.items ≤ length self.old.links.items + 1 }
+        ensures room { vec_capacity self.old.links ≤ vec_capacity self.new.links }
+        ensures heads { self.new.heads ≡ self.old.heads }
+        ensures reach { self.new.reach ≡ self.old.reach }
+        ensures enough { self.new.enough ≡ self.old.enough }
+    {
+        let room = self.room(at);
+        if room < self.links.len() && self.links[room].term.coef == 0 {
+            self.links[room] = link;
+            self.take(at);
+            return room;
+        }
+        let place = self.links.len();
+        let pushed = self.links.push(link);
+        pushed.unwrap();
+        place
+    }
+
+    /// Where the next link of a literal may stand.
+    fn room(&self, at: usize) -> usize {
+        if at < self.rooms.len() {
+            self.rooms[at]
+        } else {
+            0
+        }
+    }
+
+    /// The next link may stand one place further.
+    fn take(&mut self, at: usize)
+        ensures { self.new ≡ record self.old { rooms = self.new.rooms } }
+    {
+        if at < self.rooms.len() {
+            self.rooms[at] = self.rooms[at].saturating_add(1);
+        }
+    }
+}
+
+/// How the links of some rows are to lie.
+#[derive(Drop)]
+struct Plan {
+    /// How many terms there are, and in the longest row.
+    terms: usize,
+    longest: usize,
+    /// For each literal where its first link is to stand.
+    rooms: Vec<usize>,
+}
+
+/// The links of each literal together, one literal after another.
+///
+/// # Errors
+/// Only where memory runs out.
+fn plan_of(alloc: Global, given: &RowStore, slots: usize) -> Result<Plan, AllocError> {
+    let mut rooms = vec![in alloc; 0; slots]?;
+    let mut longest = 0;
+    for k in 0..given.len() {
+        let terms = given.terms(k);
+        longest = longest.max(terms.len());
+        count_terms(terms, &mut rooms);
+    }
+    let terms = add_up(&mut rooms);
+    Ok(Plan {
+        terms,
+        longest,
+        rooms,
+    })
+}
+
+/// Counts terms by their literals.
+fn count_terms(terms: &[Term], counts: &mut [usize]) {
+    for term in terms {
+        let at = slot(term.lit);
+        if at < counts.len() {
+            counts[at] = counts[at].saturating_add(1);
+        }
+    }
+}
+
+/// Makes of each count the sum of those before it. The answer is the sum of all.
+fn add_up(counts: &mut [usize]) -> usize {
+    let mut sum: usize = 0;
+    for at in 0..counts.len() {
+        let count = counts[at];
+        counts[at] = sum;
+        sum = sum.saturating_add(count);
+    }
+    sum
+}
+
+/// So many empty links, with room for some more.
+///
+/// # Errors
+/// Only where memory runs out, or they would be 2^32.
+fn empty_links(alloc: Global, count: usize, more: usize) -> Result<Vec<Link>, AllocError>
+    ensures { IfOk result (λ links. All IsEmptyLink links.items) }
+{
+    if count >= MANY || more >= MANY {
+        return Err(AllocError);
+    }
+    let mut links = Vec::with_capacity(alloc, count + more)?;
+    for _made in 0..count {
+        links.push(Link::empty())?;
+    }
+    Ok(links)
 }
 
 /// A reach that is enough for a row: its degree and its greatest coefficient.

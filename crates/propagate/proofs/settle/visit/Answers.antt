@@ -1,4 +1,4 @@
-use Rattle.std.proofs.Common.{◌≡◌, ℕ, ◌<◌, ◌+◌, get_or, length, refl, arith, ap, sym, subst, ◌∙◌}
+use Rattle.std.proofs.Common.{◌≡◌, ℕ, ◌<◌, ◌+◌, ◌-◌, get_or, length, refl, arith, ap, sym, subst, ◌∙◌}
 use Rattle.std.proofs.lemmas.Option.{get_or_from_slice_get}
 use Rattle.rows.specs.Literals.{Literal, negate}
 use Rattle.propagate.specs.Links.{IsLastBelow, LeadsBelow}
@@ -7,6 +7,7 @@ use Rattle.propagate.specs.Trails.{values_of}
 use Rattle.propagate.specs.declared.entry.Entry.{Entry}
 use Rattle.propagate.specs.declared.entry.Conflict.{Conflict}
 use Rattle.propagate.proofs.EntryLemmas.{no_entry}
+use Rattle.propagate.proofs.LinkLemmas.{bound_of, bound-falls}
 use Rattle.propagate.proofs.LookLemmas.{IsGrownOver-trans, IsReady-grown, IsReady-visited, IsVisiting-more, IsVisiting-none, NamesConflict-at, visiting_last}
 use Rattle.propagate.proofs.settle.visit.Goals as goal
 
@@ -37,6 +38,15 @@ links-preserved c =
     IsVisiting-more c.args.path.now c.links.path c.look.new.path c.args.looked (negate (get_or c.args.path.now.entries c.args.looked.entries no_entry).lit) c.links.at c.link-link.result c.links.invariant last
     (subst (λ (l : Literal). LeadsBelow c.links.path.rows c.links.path.links l c.link-link.result.row c.link-link.result.next) last.literal c.link-link.ensures.next)
     c.look.ensures.grown (c.if-not-look.ensures.met refl)
+
+pub links-smaller : goal.links-smaller
+links-smaller c =
+    let last : IsLastBelow c.links.path.rows (negate (get_or c.args.path.now.entries c.args.looked.entries no_entry).lit) c.links.invariant.bound c.link-link.result =
+    visiting_last c.args.path.now c.links.path c.args.looked (negate (get_or c.args.path.now.entries c.args.looked.entries no_entry).lit) c.links.at c.link-link.result c.links.invariant (omega arith) c.link-link.ensures.is in
+    let falls : bound_of c.links.path.links c.link-link.result.next < bound_of c.links.path.links c.links.at =
+    bound-falls c.links.path.rows c.links.path.links c.link-link.result.term.lit c.links.at c.link-link.result (omega arith) c.links.invariant.leads.within
+    (sym (get_or_from_slice_get c.links.path.links (c.links.at - 1) c.link-link.result c.link-link.result c.link-link.ensures.is)) c.link-link.ensures.next in
+    subst (λ (p : SeenPath). bound_of p.links c.link-link.result.next < bound_of c.links.path.links c.links.at) (sym c.look.ensures.grown.same) falls
 
 pub returns-then-not-look-clause-grown : goal.returns-then-not-look-clause-grown
 returns-then-not-look-clause-grown c = IsGrownOver-trans c.args.path.now c.links.path c.look.new.path c.links.invariant.grown c.look.ensures.grown

@@ -29,7 +29,7 @@ count-requires-clause-proper c =
     let addable : IsAddable c.add.new.self c.len-k.result c.self.inside.values c.reserve.new.self =
     IsAddable-clause c.self.inside.rows c.add.new.self c.self.inside.values c.len-k.result c.self.inside.table c.reserve.new.self c.args.clause.now c.self.invariant c.reserve.ensures.same
     c.len-k.ensures.len c.in_ok-add.ensures.ok within c.requires.variables few in
-    addable.proper
+    addable.all_proper
 
 pub count-requires-clause-known : goal.count-requires-clause-known
 count-requires-clause-known c =

@@ -12,6 +12,7 @@ use Rattle.propagate.specs.Links.{LeadsBelow}
 use Rattle.propagate.specs.Tables.{AreCounted, IsCounted}
 use Rattle.propagate.specs.declared.link.Link.{Link}
 use Rattle.propagate.proofs.CountLemmas.{IsCounted-moved, IsLoss, IsLoss-unset, IsMoving-end, IsMoving-none, IsStep, gain-fits, leads-read, moving-gained, moving-step, same_counters}
+use Rattle.propagate.proofs.LinkLemmas.{bound-falls}
 use Rattle.propagate.proofs.counters.Counters.unset.Goals as goal
 
 pub links-init : goal.links-init
@@ -99,7 +100,9 @@ links-smaller c =
     c.links.self-inside.table.reach.items c.index-link.result.now =
     moving-step c.self.inside.rows (length c.self.inside.rows) c.self.inside.table.heads.items c.self.inside.table.links.items (negate c.args.lit) (valued c.args.self.now.values) (valued c.unset.new.self) c.links.at
     c.links.self-inside.table.reach.items c.index-link.result.now c.self.invariant.counted.linked c.links.invariant.moving (omega arith) read in
-    omega (arith, step.falls)
+    let within : c.links.at ≤ length c.links.self-inside.table.links.items = omega (arith, c.links.invariant.moving.leads.within, ap (λ (ls : List Link). length ls) c.links.invariant.links) in
+    bound-falls c.self.inside.rows c.links.self-inside.table.links.items (negate c.args.lit) c.links.at c.index-link.result.now (omega arith) within c.index-link.ensures
+    (subst (λ (ls : List Link). LeadsBelow c.self.inside.rows ls (negate c.args.lit) c.index-link.result.now.row c.index-link.result.now.next) (sym c.links.invariant.links) step.leads)
 
 pub invariant_of-self : goal.invariant_of-self
 invariant_of-self c =

@@ -2,6 +2,7 @@ use Rattle.std.proofs.Common.{◌≡◌}
 use Rattle.rows.specs.Literals.{negate}
 use Rattle.rows.specs.Values.{valued}
 use Rattle.propagate.proofs.CountLemmas.{IsMoving}
+use Rattle.propagate.proofs.LinkLemmas.{bound_of}
 use Rattle.propagate.proofs.counters.Counters.unset.Given as goal
 
 abbrev pub invariant-links : goal.invariant-links
@@ -16,4 +17,4 @@ invariant-links l = record {
 }
 
 abbrev pub decreases-links : goal.decreases-links
-decreases-links l = l.at
+decreases-links l = bound_of l.self-inside.table.links.items l.at
