@@ -1,8 +1,8 @@
 -- What is learnt where a walk ends: a clause that follows, and is empowering.
-use Rattle.std.proofs.Common.{◌≡◌, ◌≢◌, ℕ, zero, suc, ◌+◌, ◌<◌, ◌≤◌, List, [], ◌∷◌, ◌++◌, length, get_or, take, drop}
-use Rattle.std.proofs.Common.{replicate, Ok}
+use Rattle.std.proofs.Common.{◌≡◌, ◌≢◌, ℕ, zero, suc, ◌+◌, ◌<◌, ◌≤◌, List, [], ◌∷◌, ◌++◌, length}
+use Rattle.std.proofs.Common.{Ok}
 use Rattle.std.proofs.Common.{refl, inl, inr, arith, ap, sym, subst, ◌∙◌}
-use Rattle.std.proofs.lemmas.List.{append-nil, drop_all, get_or-replicate, get_or_past, length-replicate, take_all}
+use Rattle.std.proofs.lemmas.List.{append-nil}
 use Rattle.std.proofs.lemmas.Bool.{cases_eq, cases_lt}
 use Rattle.rows.specs.Cardinality.{at_least}
 use Rattle.rows.specs.Literals.{Literal}
@@ -15,7 +15,7 @@ use Rattle.refutation.specs.Following.{clause_row, judged}
 use Rattle.clause_search.specs.Analysis.{IsAnalysis, clause_below, hint_of, hints_below, literal_of}
 use Rattle.clause_search.specs.Marks.{AreResolved, IsAnalyzed, IsBackLevel, IsLastDecision, IsTraced, IsWalked, role_at}
 use Rattle.clause_search.specs.News.{IsNews, IsTidy}
-use Rattle.clause_search.specs.Trails.{before, entry_at, lit_at, no_entry, number_of, reason_at}
+use Rattle.clause_search.specs.Trails.{before, lit_at, no_entry, reason_at}
 use Rattle.clause_search.specs.Turns.{Closes, IsLearnable, IsQuietRowUpTo}
 use Rattle.clause_search.specs.declared.role.Role.{Role}
 use Rattle.clause_search.specs.declared.role.Role.TheVariants.{Apart, Kept, Used}
@@ -191,20 +191,16 @@ hints_more reason role k =
     let next : k + 1 ≡ suc k = omega arith in
     ap (λ (i : ℕ). hints_below reason role i) next
 
-pub collected_clause : (es : List Entry) (roles : List Role) (k : ℕ) (e : Entry) (old new : List Literal)
-    → entry_at es k ≡ e → old ≡ clause_below (lit_at es) (role_at roles) k
-    → new ≡ old ++ literal_of e.lit (role_at roles k) → new ≡ clause_below (lit_at es) (role_at roles) (k + 1)
-collected_clause es roles k e old new at old_is new_is =
-    new_is ∙ ap (λ (ls : List Literal). ls ++ literal_of e.lit (role_at roles k)) old_is
-    ∙ ap (λ (x : Entry). clause_below (lit_at es) (role_at roles) k ++ literal_of x.lit (role_at roles k)) (sym at)
+pub collected_clause : (es : List Entry) (roles : List Role) (k : ℕ) (old new : List Literal)
+    → old ≡ clause_below (lit_at es) (role_at roles) k → new ≡ old ++ literal_of (lit_at es k) (role_at roles k)
+    → new ≡ clause_below (lit_at es) (role_at roles) (k + 1)
+collected_clause es roles k old new old_is new_is =
+    new_is ∙ ap (λ (ls : List Literal). ls ++ literal_of (lit_at es k) (role_at roles k)) old_is
     ∙ sym (clause_more (lit_at es) (role_at roles) k)
 
-pub collected_hints : (es : List Entry) (roles : List Role) (k : ℕ) (e : Entry) (old new : List ℕ) → entry_at es k
-    ≡ e → old ≡ hints_below (reason_at es) (role_at roles) k
-    → new ≡ old ++ hint_of (number_of e.reason) (role_at roles k) → new ≡ hints_below (reason_at es) (role_at roles)
-    (k + 1)
-collected_hints es roles k e old new at old_is new_is =
-    new_is ∙ ap (λ (hs : List ℕ). hs ++ hint_of (number_of e.reason) (role_at roles k)) old_is
-    ∙ ap (λ (x : Entry). hints_below (reason_at es) (role_at roles) k
-    ++ hint_of (number_of x.reason) (role_at roles k)) (sym at)
+pub collected_hints : (es : List Entry) (roles : List Role) (k : ℕ) (old new : List ℕ)
+    → old ≡ hints_below (reason_at es) (role_at roles) k → new ≡ old ++ hint_of (reason_at es k) (role_at roles k)
+    → new ≡ hints_below (reason_at es) (role_at roles) (k + 1)
+collected_hints es roles k old new old_is new_is =
+    new_is ∙ ap (λ (hs : List ℕ). hs ++ hint_of (reason_at es k) (role_at roles k)) old_is
     ∙ sym (hints_more (reason_at es) (role_at roles) k)

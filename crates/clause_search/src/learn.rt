@@ -3,14 +3,15 @@ ghost use Rattle.std.specs.Prelude.{◌≡◌, ◌++◌, ℕ, ◌<◌, [], ◌�
 ghost use Rattle.propagate.specs.Trails.{IsQuietBelow, NamesConflict, is_decision, values_of};
 ghost use Rattle.clause_search.specs.Analysis.{clause_below, hint_of, hints_below, literal_of};
 ghost use Rattle.clause_search.specs.Marks.{IsAnalyzed, IsLastDecision, IsTraced, role_at};
-ghost use Rattle.clause_search.specs.Trails.{entry_at, lit_at, number_of, reason_at};
+ghost use Rattle.clause_search.specs.Trails.{entry_at, lit_at, reason_at};
 ghost use Rattle.clause_search.specs.Turns.{Closes, IsLearnable, Learns};
 
 use crate::analyze::{analyze, trace};
 use crate::desk::Desk;
-use crate::places::{back_level, raise_all, release_above};
+use crate::levels::{back_level, release_above};
+use crate::order::Order;
 use crate::role::Role;
-use propagate::{Conflict, Entry, Trail};
+use propagate::{Conflict, Trail};
 use refutation::Log;
 use rows::Lit;
 use std::alloc::AllocError;
@@ -69,6 +70,21 @@ fn explain(
     )?;
     raise_all(trail, &desk.roles, &mut desk.order);
     Ok(back_level(trail, &desk.roles, start))
+}
+
+/// Makes the variables that have a part in a conflict more active.
+pub(crate) fn raise_all(trail: &Trail, roles: &[Role], order: &mut Order)
+    requires vars { order.old.vars ≡ trail.now.vars }
+    requires roles { length roles.now ≡ length trail.now.entries }
+    ensures { order.new.vars ≡ order.old.vars }
+{
+    for k in 0..trail.len() {
+        if let Role::Apart = roles[k] {
+            continue;
+        }
+        order.raise(trail.entry(k).lit);
+    }
+    order.age();
 }
 
 /// A clause comes behind the rows and into the log, and the trail goes back to a level.
@@ -179,7 +195,7 @@ fn collect(
     clause.clear();
     hints.clear();
     for k in 0..trail.len() {
-        collect_place(trail.entry(k), roles[k], clause, hints)?;
+        collect_place(trail, k, roles[k], clause, hints)?;
     }
     hints.push(conflict.row)?;
     Ok(())
@@ -187,21 +203,25 @@ fn collect(
 
 /// What a place with this part adds to the clause and to the hints.
 fn collect_place(
-    entry: Entry,
+    trail: &Trail,
+    k: usize,
     role: Role,
     clause: &mut Vec<Lit>,
     hints: &mut Vec<u64>,
 ) -> Result<(), AllocError>
-    ensures clause { OnOk result (clause.new.items ≡ clause.old.items ++ literal_of entry.lit role) }
-    ensures hints { OnOk result (hints.new.items ≡ hints.old.items ++ hint_of (number_of entry.reason) role) }
+    requires { k < length trail.now.entries }
+    ensures clause { OnOk result (clause.new.items ≡ clause.old.items ++ literal_of (lit_at trail.now.entries k) role) }
+    ensures hints { OnOk result (hints.new.items ≡ hints.old.items ++ hint_of (reason_at trail.now.entries k) role) }
 {
     match role {
         Role::Kept => {
-            clause.push(entry.lit.negate())?;
+            let lit = trail.entry(k).lit;
+            clause.push(lit.negate())?;
             Ok(())
         }
         Role::Used => {
-            hints.push(entry.reason.unwrap_or(0))?;
+            let reason = trail.entry(k).reason;
+            hints.push(reason.unwrap_or(0))?;
             Ok(())
         }
         Role::Apart => Ok(()),

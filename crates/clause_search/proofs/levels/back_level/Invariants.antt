@@ -1,5 +1,5 @@
 use Rattle.std.proofs.Common.{◌≤◌}
-use Rattle.clause_search.proofs.places.back_level.Given as goal
+use Rattle.clause_search.proofs.levels.back_level.Given as goal
 
 abbrev pub invariant-places : goal.invariant-places
 invariant-places l = l.k ≤ l.start

@@ -1,5 +1,5 @@
 use Rattle.std.proofs.Common.{◌≡◌, ◌≤◌, length}
-use Rattle.clause_search.proofs.places.release_above.Given as goal
+use Rattle.clause_search.proofs.levels.release_above.Given as goal
 
 abbrev pub invariant-places : goal.invariant-places
 invariant-places l = record {

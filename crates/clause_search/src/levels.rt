@@ -1,4 +1,4 @@
-//! The levels of a trail: its last decision, and the level of a place.
+//! The levels of a trail: where its last one begins, to which one a search goes back, and what it takes off then.
 ghost use Rattle.std.specs.Prelude.{◌≡◌, ℕ, ◌<◌, ◌≤◌, length, false, None, IfSome};
 ghost use Rattle.propagate.specs.Trails.{IsQuietBelow, is_decision};
 ghost use Rattle.clause_search.specs.Marks.{IsBackLevel, IsLastDecision};
@@ -56,19 +56,4 @@ pub(crate) fn release_above(trail: &Trail, level: u32, order: &mut Order)
         }
         order.release(entry.lit);
     }
-}
-
-/// Makes the variables that have a part in a conflict more active.
-pub(crate) fn raise_all(trail: &Trail, roles: &[Role], order: &mut Order)
-    requires vars { order.old.vars ≡ trail.now.vars }
-    requires roles { length roles.now ≡ length trail.now.entries }
-    ensures { order.new.vars ≡ order.old.vars }
-{
-    for k in 0..trail.len() {
-        if let Role::Apart = roles[k] {
-            continue;
-        }
-        order.raise(trail.entry(k).lit);
-    }
-    order.age();
 }

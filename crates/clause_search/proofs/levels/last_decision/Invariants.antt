@@ -1,7 +1,7 @@
 use Rattle.std.proofs.Common.{◌≡◌, ℕ, ◌<◌, ◌≤◌, length, false}
 use Rattle.propagate.specs.Trails.{is_decision}
 use Rattle.clause_search.specs.Trails.{entry_at}
-use Rattle.clause_search.proofs.places.last_decision.Given as goal
+use Rattle.clause_search.proofs.levels.last_decision.Given as goal
 
 abbrev pub invariant-places : goal.invariant-places
 invariant-places l = record {

@@ -5,7 +5,7 @@ use Rattle.propagate.specs.Trails.{is_decision}
 use Rattle.clause_search.specs.Trails.{entry_at}
 use Rattle.clause_search.proofs.TrailLaws.{some_by}
 use Rattle.clause_search.proofs.WalkLemmas.{entry_is}
-use Rattle.clause_search.proofs.places.last_decision.Goals as goal
+use Rattle.clause_search.proofs.levels.last_decision.Goals as goal
 
 pub places-preserved : goal.places-preserved
 places-preserved c = record {
