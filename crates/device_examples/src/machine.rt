@@ -1,7 +1,6 @@
 //! Files and writers of the machine. A folder can be opened and not read, and `/dev/zero` has no end.
-use crate::telling::{TEXT, outcome, reading, tell, text_of};
+use crate::telling::{TEXT, outcome, tell, tell_quoted, tell_reading, text_of};
 use robin_io::{HostShelf, HostSink, Shelf, put_all, read_all};
-use std::alloc::AllocError;
 use std::rt::Files;
 use std::{fs, io};
 
@@ -30,29 +29,23 @@ fn read(
 ) -> io::Result<()> {
     let mut shelf = HostShelf::new(rt);
     let read = read_all(rt.alloc(), &mut shelf, name, usize::from(limit));
-    let got = reading(rt.alloc(), &read)?;
-    tell(rt, what, &got, wanted)
+    tell_reading(rt, what, &read, wanted)
 }
 
 /// A writer that takes all, and one that is full after 7 bytes.
 fn show_writers(rt: &(impl AllocGlobal + Print)) -> io::Result<()> {
     let mut bytes = Vec::new(rt.alloc());
-    let mut sink = HostSink::new(&mut bytes);
-    tell(
-        rt,
-        "a writer that takes all",
-        outcome(put_all(&mut sink, TEXT)),
-        "Ok",
-    )?;
+    let done = outcome(put_all(&mut HostSink::new(&mut bytes), TEXT));
+    tell(rt, "a writer that takes all", done, "Ok")?;
     tell(rt, "it has", text_of(&bytes), "seven bytes, and a few more")?;
+    show_full_writer(rt)
+}
+
+/// A writer that is full after 7 bytes.
+fn show_full_writer(rt: &impl Print) -> io::Result<()> {
     let mut room = [0u8; 7];
-    let mut full = HostSink::new(room.as_mut_slice());
-    tell(
-        rt,
-        "a writer of 7 bytes",
-        outcome(put_all(&mut full, TEXT)),
-        "Failed",
-    )?;
+    let done = outcome(put_all(&mut HostSink::new(room.as_mut_slice()), TEXT));
+    tell(rt, "a writer of 7 bytes", done, "Failed")?;
     tell(rt, "it has", text_of(&room), "seven b")
 }
 
@@ -60,28 +53,49 @@ fn show_writers(rt: &(impl AllocGlobal + Print)) -> io::Result<()> {
 fn show_starts(rt: &(impl AllocGlobal + Files + Print)) -> io::Result<()> {
     let mut shelf = HostShelf::new(rt);
     fs::write(rt, "there", TEXT)?;
-    tell(
+    start(
         rt,
+        &mut shelf,
         "the start of a file",
-        outcome(shelf.start("there")),
-        "Ok",
+        "there",
+        ("Ok", WHOLE),
     )?;
-    tell(rt, "the file then", &kept(rt, "there")?, WHOLE)?;
-    for name in ["absent", "there/absent", ""] {
+    for name in &["absent", "there/absent", ""] {
         println!(rt; "the name '{name}'")?;
-        tell(rt, "its start", outcome(shelf.start(name)), "Failed")?;
-        tell(rt, "the file then", &kept(rt, name)?, "absent")?;
+        start(rt, &mut shelf, "its start", name, ("Failed", "absent"))?;
     }
-    tell(rt, "the other file then", &kept(rt, "there")?, WHOLE)?;
-    fs::remove_file(rt, "there")?;
-    read(rt, "the file once it is removed", "there", 27, "Failed")?;
-    tell(rt, "the file then", &kept(rt, "there")?, "absent")
+    show_kept(rt)
 }
 
-/// What the machine itself reads of a file.
-fn kept(rt: &(impl AllocGlobal + Files), name: &str) -> Result<String, AllocError> {
+/// Starts a file, and tells what it is then.
+fn start(
+    rt: &(impl AllocGlobal + Files + Print),
+    shelf: &mut impl Shelf,
+    what: &str,
+    name: &str,
+    (wanted, left): (&str, &str),
+) -> io::Result<()> {
+    tell(rt, what, outcome(shelf.start(name)), wanted)?;
+    tell_kept(rt, "the file then", name, left)
+}
+
+/// The file that was started is as it was, and can't be read once it is removed.
+fn show_kept(rt: &(impl AllocGlobal + Files + Print)) -> io::Result<()> {
+    tell_kept(rt, "the other file then", "there", WHOLE)?;
+    fs::remove_file(rt, "there")?;
+    read(rt, "the file once it is removed", "there", 27, "Failed")?;
+    tell_kept(rt, "the file then", "there", "absent")
+}
+
+/// Tells what the machine itself reads of a file.
+fn tell_kept(
+    rt: &(impl AllocGlobal + Files + Print),
+    what: &str,
+    name: &str,
+    wanted: &str,
+) -> io::Result<()> {
     match fs::read(rt, name) {
-        Ok(bytes) => format!(in rt.alloc(); "'{}'", text_of(&bytes)),
-        Err(_) => String::from_str(rt.alloc(), "absent"),
+        Ok(bytes) => tell_quoted(rt, what, &bytes, wanted),
+        Err(_) => tell(rt, what, "absent", wanted),
     }
 }

@@ -1,7 +1,6 @@
 //! Decimal numbers, read and written.
 use crate::telling::{tell, text_of};
 use robin_io::{NumberFault, decimal, put_decimal};
-use std::alloc::{AllocError, Global};
 use std::io;
 
 /// Texts, and what each is read as.
@@ -24,23 +23,28 @@ const WRITTEN: [(u128, &str); 2] = [
 
 /// Reads texts, and writes numbers.
 pub fn show(rt: &(impl AllocGlobal + Print)) -> io::Result<()> {
-    for (text, wanted) in READ {
-        println!(rt; "the text '{text}'")?;
-        tell(rt, "the number", &read_as(rt.alloc(), text)?, wanted)?;
+    for (text, wanted) in &READ {
+        show_read(rt, text, wanted)?;
     }
-    for (number, wanted) in WRITTEN {
-        let mut out = Vec::new(rt.alloc());
-        put_decimal(&mut out, number)?;
-        tell(rt, "a number", text_of(&out), wanted)?;
+    for (number, wanted) in &WRITTEN {
+        show_written(rt, *number, wanted)?;
     }
     Ok(())
 }
 
-/// What a text is read as.
-fn read_as(alloc: Global, text: &str) -> Result<String, AllocError> {
+/// Reads a text.
+fn show_read(rt: &impl Print, text: &str, wanted: &str) -> io::Result<()> {
+    println!(rt; "the text '{text}'")?;
     match decimal(text.as_bytes()) {
-        Ok(number) => format!(in alloc; "{number}"),
-        Err(NumberFault::Bad) => String::from_str(alloc, "Bad"),
-        Err(NumberFault::TooLarge) => String::from_str(alloc, "TooLarge"),
+        Ok(number) => println!(rt; "the number: {number}, wanted {wanted}"),
+        Err(NumberFault::Bad) => tell(rt, "the number", "Bad", wanted),
+        Err(NumberFault::TooLarge) => tell(rt, "the number", "TooLarge", wanted),
     }
+}
+
+/// Writes a number.
+fn show_written(rt: &(impl AllocGlobal + Print), number: u128, wanted: &str) -> io::Result<()> {
+    let mut out = Vec::new(rt.alloc());
+    put_decimal(&mut out, number)?;
+    tell(rt, "a number", text_of(&out), wanted)
 }

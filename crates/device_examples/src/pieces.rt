@@ -57,16 +57,28 @@ const FILES: [(&[u8], &str); 40] = [
 
 /// Reads small files, tags that are cut at any byte, and tags of many attributes.
 pub fn show(rt: &(impl AllocGlobal + Print)) -> io::Result<()> {
-    for (bytes, wanted) in FILES {
+    for (bytes, wanted) in &FILES {
         println!(rt; "the file {:?}", text_of(bytes))?;
-        tell(rt, "its pieces", &pieces_of(rt.alloc(), bytes)?, wanted)?;
+        tell_pieces(rt, "its pieces", bytes, wanted)?;
     }
     show_cuts(rt)?;
     show_attributes(rt)?;
-    show_words(rt)
+    show_words(rt)?;
+    show_default(rt)
 }
 
-/// A fault in words, and the attribute that has neither name nor value.
+/// Tells the pieces of a file.
+fn tell_pieces(
+    rt: &(impl AllocGlobal + Print),
+    what: &str,
+    bytes: &[u8],
+    wanted: &str,
+) -> io::Result<()> {
+    let pieces = pieces_of(rt.alloc(), bytes)?;
+    tell(rt, what, &pieces, wanted)
+}
+
+/// A fault in words.
 fn show_words(rt: &(impl AllocGlobal + Print)) -> io::Result<()> {
     let kind = FormKind::TooManyAttributes;
     let fault = format!(in rt.alloc(); "{}", TagFault::Form { kind, line: 7 })?;
@@ -75,7 +87,11 @@ fn show_words(rt: &(impl AllocGlobal + Print)) -> io::Result<()> {
         "a fault in words",
         &fault,
         "line 7: a tag has more than 64 attributes",
-    )?;
+    )
+}
+
+/// The attribute that has neither name nor value.
+fn show_default(rt: &impl Print) -> io::Result<()> {
     let attr = Attr::default();
     tell(rt, "no name", text_of(attr.name), "")?;
     tell(rt, "no value", text_of(attr.value), "")
@@ -85,21 +101,11 @@ fn show_words(rt: &(impl AllocGlobal + Print)) -> io::Result<()> {
 fn show_cuts(rt: &(impl AllocGlobal + Print)) -> io::Result<()> {
     let tag: &[u8] = b"\n<a b = '1'\n c=\"2\" />";
     for len in 2..tag.len() {
-        tell(
-            rt,
-            "a cut tag",
-            &pieces_of(rt.alloc(), &tag[..len])?,
-            "1:\"\\n\"|Truncated 2",
-        )?;
+        tell_pieces(rt, "a cut tag", &tag[..len], "1:\"\\n\"|Truncated 2")?;
     }
     let comment: &[u8] = b"<!-- -->";
     for len in 4..comment.len() {
-        tell(
-            rt,
-            "a cut comment",
-            &pieces_of(rt.alloc(), &comment[..len])?,
-            "Truncated 1",
-        )?;
+        tell_pieces(rt, "a cut comment", &comment[..len], "Truncated 1")?;
     }
     Ok(())
 }
@@ -107,41 +113,44 @@ fn show_cuts(rt: &(impl AllocGlobal + Print)) -> io::Result<()> {
 /// A tag of as many attributes as it may have, and one of one more.
 fn show_attributes(rt: &(impl AllocGlobal + Print)) -> io::Result<()> {
     let most = with_attributes(rt.alloc(), 64)?;
-    if let Some(Ok(Some(tag))) = reader_of(most.as_bytes()).map(|mut reader| reader.next(
-        rt.alloc(),
-    )) {
-        let count = tag.attrs.as_slice().len();
-        println!(rt; "attributes: {count}, wanted 64")?;
-        tell(
-            rt,
-            "a63",
-            text_of(tag.attrs.get(b"a63").unwrap_or(b"none")),
-            "63",
-        )?;
-        tell(
-            rt,
-            "a64",
-            text_of(tag.attrs.get(b"a64").unwrap_or(b"none")),
-            "none",
-        )?;
-        tell(
-            rt,
-            "is a0 there",
-            if tag.attrs.contains(b"a0") {
-                "yes"
-            } else {
-                "no"
-            },
-            "yes",
-        )?;
-    }
+    show_first(rt, most.as_bytes())?;
     let more = with_attributes(rt.alloc(), 65)?;
+    tell_pieces(rt, "65 attributes", more.as_bytes(), "TooManyAttributes 1")
+}
+
+/// The attributes of the first tag of a file, which has 64.
+fn show_first(rt: &(impl AllocGlobal + Print), bytes: &[u8]) -> io::Result<()> {
+    let Some(mut reader) = reader_of(bytes) else {
+        return Ok(());
+    };
+    match reader.next(rt.alloc()) {
+        Ok(Some(tag)) => show_tag(rt, &tag),
+        _ => Ok(()),
+    }
+}
+
+/// The same of this tag.
+fn show_tag(rt: &impl Print, tag: &Tag) -> io::Result<()> {
+    let count = tag.attrs.as_slice().len();
+    println!(rt; "attributes: {count}, wanted 64")?;
     tell(
         rt,
-        "65 attributes",
-        &pieces_of(rt.alloc(), more.as_bytes())?,
-        "TooManyAttributes 1",
-    )
+        "a63",
+        text_of(tag.attrs.get(b"a63").unwrap_or(b"none")),
+        "63",
+    )?;
+    tell(
+        rt,
+        "a64",
+        text_of(tag.attrs.get(b"a64").unwrap_or(b"none")),
+        "none",
+    )?;
+    let got = if tag.attrs.contains(b"a0") {
+        "yes"
+    } else {
+        "no"
+    };
+    tell(rt, "is a0 there", got, "yes")
 }
 
 /// `<t` with so many attributes of different names, and `/>`.
@@ -162,43 +171,57 @@ fn reader_of(bytes: &[u8]) -> Option<TagReader<'_>> {
 /// All pieces as a text, then the line of the end or the fault, which is asked for twice.
 fn pieces_of(alloc: Global, bytes: &[u8]) -> Result<String, AllocError> {
     let mut out = String::new(alloc);
-    let Some(mut reader) = reader_of(bytes) else {
-        return String::from_str(alloc, "too long");
-    };
-    for _ in 0..bytes.len() + 1 {
+    match reader_of(bytes) {
+        Some(mut reader) => put_pieces(&mut out, alloc, &mut reader, bytes.len() + 1)?,
+        None => out.push_str("too long")?,
+    }
+    Ok(out)
+}
+
+/// The same of a reader, of which so many pieces are asked for at most.
+fn put_pieces(
+    out: &mut String,
+    alloc: Global,
+    reader: &mut TagReader,
+    most: usize,
+) -> Result<(), AllocError> {
+    for _ in 0..most {
         match reader.next(alloc) {
-            Ok(Some(tag)) => put_tag(&mut out, &tag)?,
-            Ok(None) => {
-                write!(out, "end {}", reader.end_line())?;
-                return Ok(out);
-            }
-            Err(fault) => {
-                put_fault(&mut out, &fault)?;
-                if reader.next(alloc).err() != Some(fault) {
-                    write!(out, ", and then not")?;
-                }
-                return Ok(out);
-            }
+            Ok(Some(tag)) => put_tag(out, &tag)?,
+            Ok(None) => return write!(out, "end {}", reader.end_line()),
+            Err(fault) => return put_twice(out, fault, reader.next(alloc).err()),
         }
     }
-    write!(out, "too many pieces")?;
-    Ok(out)
+    write!(out, "too many pieces")
+}
+
+/// A fault, and whether the same is said again.
+fn put_twice(out: &mut String, fault: TagFault, again: Option<TagFault>) -> Result<(), AllocError> {
+    put_fault(out, &fault)?;
+    if again != Some(fault) {
+        write!(out, ", and then not")?;
+    }
+    Ok(())
 }
 
 /// A piece as its line, its kind and its name or text, and its attributes.
 fn put_tag(out: &mut String, tag: &Tag) -> Result<(), AllocError> {
-    let line = tag.line;
-    let name = text_of(tag.name);
-    match tag.kind {
-        TagKind::Start => write!(out, "{line}:<{name}")?,
-        TagKind::End => write!(out, "{line}:</{name}")?,
-        TagKind::Empty => write!(out, "{line}:/{name}")?,
-        TagKind::Text => write!(out, "{line}:{:?}", text_of(tag.text))?,
-    }
+    put_head(out, tag)?;
     for attr in tag.attrs.as_slice() {
         write!(out, " {}={}", text_of(attr.name), text_of(attr.value))?;
     }
-    write!(out, "|")
+    out.push_str("|")
+}
+
+/// A piece as its line, its kind and its name or text.
+fn put_head(out: &mut String, tag: &Tag) -> Result<(), AllocError> {
+    let sign = match tag.kind {
+        TagKind::Start => "<",
+        TagKind::End => "</",
+        TagKind::Empty => "/",
+        TagKind::Text => return write!(out, "{}:{:?}", tag.line, text_of(tag.text)),
+    };
+    write!(out, "{}:{sign}{}", tag.line, text_of(tag.name))
 }
 
 /// A fault as its kind and its line.

@@ -1,5 +1,5 @@
 //! Files of a store in memory: up to the limit, above it, absent, and at each call that is planned to fail.
-use crate::telling::{TEXT, reading, tell};
+use crate::telling::{TEXT, tell_reading};
 use robin_io::{MemShelf, read_all};
 use std::alloc::{AllocError, Global};
 use std::io;
@@ -50,21 +50,35 @@ fn read(
     wanted: &str,
 ) -> io::Result<()> {
     let read = read_all(rt.alloc(), shelf, name, usize::from(limit));
-    let got = reading(rt.alloc(), &read)?;
-    tell(rt, what, &got, wanted)
+    tell_reading(rt, what, &read, wanted)
 }
 
 /// A reading takes three calls: a start, a take of all the bytes, and a take that finds the end. After a planned one
 /// failed, the next reading gives the file.
 fn show_planned(rt: &(impl AllocGlobal + Print), call: u64) -> io::Result<()> {
-    let mut shelf = shelf_of(rt.alloc())?;
+    println!(rt; "the store fails at its call {call}")?;
+    let mut shelf = failing_shelf(rt.alloc(), call)?;
+    read_twice(rt, &mut shelf, call < 4)
+}
+
+/// The same store, planned to fail at a call.
+fn failing_shelf(alloc: Global, call: u64) -> Result<MemShelf, AllocError> {
+    let mut shelf = shelf_of(alloc)?;
     shelf.fail_at(call)?;
-    let (first, second) = if call < 4 {
+    Ok(shelf)
+}
+
+/// Reads a file of the store twice, where the first reading is to fail or else the second.
+fn read_twice(
+    rt: &(impl AllocGlobal + Print),
+    shelf: &mut MemShelf,
+    first_fails: bool,
+) -> io::Result<()> {
+    let (first, second) = if first_fails {
         ("Failed", WHOLE)
     } else {
         (WHOLE, "Failed")
     };
-    println!(rt; "the store fails at its call {call}")?;
-    read(rt, &mut shelf, "the first reading", "a", 27, first)?;
-    read(rt, &mut shelf, "the second reading", "a", 27, second)
+    read(rt, shelf, "the first reading", "a", 27, first)?;
+    read(rt, shelf, "the second reading", "a", 27, second)
 }
