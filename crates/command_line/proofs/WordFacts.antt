@@ -1,7 +1,7 @@
 -- Worked readings of words, so that a wrong definition does not check.
 use Rattle.std.proofs.Common.{◌≡◌, true, false, [], ◌∷◌, Some, None, codes, refl}
 use Rattle.command_line.specs.Words.{budget_in, is_file_name, is_shortest, number_in, reading, team_count_in, NeedsNoFile}
-use Rattle.command_line.specs.Words.Command.{Check, Circle, Solve, Validate}
+use Rattle.command_line.specs.Words.Command.{Check, Circle, Make, Solve, Validate}
 
 -- a number: 0 itself, no leading zero, no sign, no blank, at most 2 ^ 64 - 1
 pub number_in-some : (number_in (codes "0") ≡ Some 0) × (number_in (codes "10") ≡ Some 10) × (number_in (codes "18446744073709551615") ≡ Some 18446744073709551615)
@@ -37,6 +37,13 @@ check-none = (refl, refl, refl, refl, refl, refl)
 pub circle-teams : (reading (codes "circle" ∷ codes "2" ∷ []) ≡ Some (Circle 2)) × (reading (codes "circle" ∷ codes "40" ∷ []) ≡ Some (Circle 40))
 circle-teams = (refl, refl)
 
+-- `make` with the least and the greatest numbers, and with words that are no number of teams or no seed
+pub make-reads : (reading (codes "make" ∷ codes "2" ∷ codes "0" ∷ []) ≡ Some (Make 2 0)) × (reading (codes "make" ∷ codes "40" ∷ codes "18446744073709551615" ∷ []) ≡ Some (Make 40 18446744073709551615))
+make-reads = (refl, refl)
+
+pub make-none : (reading (codes "make" ∷ codes "4" ∷ []) ≡ None) × (reading (codes "make" ∷ codes "5" ∷ codes "1" ∷ []) ≡ None) × (reading (codes "make" ∷ codes "42" ∷ codes "1" ∷ []) ≡ None) × (reading (codes "make" ∷ codes "4" ∷ codes "01" ∷ []) ≡ None) × (reading (codes "make" ∷ codes "4" ∷ codes "-1" ∷ []) ≡ None) × (reading (codes "make" ∷ codes "4" ∷ codes "18446744073709551616" ∷ []) ≡ None) × (reading (codes "make" ∷ codes "4" ∷ codes "1" ∷ codes "1" ∷ []) ≡ None) × (reading (codes "Make" ∷ codes "4" ∷ codes "1" ∷ []) ≡ None)
+make-none = (refl, refl, refl, refl, refl, refl, refl, refl)
+
 -- a budget: a number, or `all`, and nothing else
 pub budget_in-some : (budget_in (codes "all") ≡ Some None) × (budget_in (codes "0") ≡ Some (Some 0)) × (budget_in (codes "18446744073709551615") ≡ Some (Some 18446744073709551615))
 budget_in-some = (refl, refl, refl)
@@ -61,5 +68,5 @@ pub reading-longer : (reading (codes "validate" ∷ codes "a" ∷ codes "b" ∷ 
 reading-longer = (refl, refl, refl, refl)
 
 -- which words need no file
-pub needs_no_file : NeedsNoFile (reading []) × NeedsNoFile (reading (codes "circle" ∷ codes "4" ∷ [])) × (NeedsNoFile (reading (codes "validate" ∷ codes "a" ∷ codes "b" ∷ [])) → ⊥) × (NeedsNoFile (reading (codes "check" ∷ codes "a" ∷ codes "b" ∷ [])) → ⊥) × (NeedsNoFile (reading (codes "solve" ∷ codes "a" ∷ [])) → ⊥)
-needs_no_file = (tt, tt, λ h. h, λ h. h, λ h. h)
+pub needs_no_file : NeedsNoFile (reading []) × NeedsNoFile (reading (codes "circle" ∷ codes "4" ∷ [])) × NeedsNoFile (reading (codes "make" ∷ codes "4" ∷ codes "1" ∷ [])) × (NeedsNoFile (reading (codes "validate" ∷ codes "a" ∷ codes "b" ∷ [])) → ⊥) × (NeedsNoFile (reading (codes "check" ∷ codes "a" ∷ codes "b" ∷ [])) → ⊥) × (NeedsNoFile (reading (codes "solve" ∷ codes "a" ∷ [])) → ⊥)
+needs_no_file = (tt, tt, tt, λ h. h, λ h. h, λ h. h)

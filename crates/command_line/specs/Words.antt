@@ -12,6 +12,7 @@ pub data Command : Type 0 where
   Check : (instance log : List ℕ) → Command
   Solve : (instance : List ℕ) → (conflicts : Option ℕ) → Command
   Circle : (n : ℕ) → Command
+  Make : (n seed : ℕ) → Command
 
 -- whether a word names a file: any word that doesn't begin with `-`
 abbrev pub is_file_name : List ℕ → Bool
@@ -55,6 +56,10 @@ over_files command first second =
     if bytes_eq command (codes "validate") then Some (Validate first second)
     else (if bytes_eq command (codes "check") then Some (Check first second) else None)
 
+-- `make` with a number of teams and a seed
+abbrev pub making : List ℕ → List ℕ → Option Command
+making teams seed = option_and_then (λ n. option_map (Make n) (number_in seed)) (team_count_in teams)
+
 -- `solve` over a file with a budget
 abbrev pub solving : List ℕ → List ℕ → Option Command
 solving file budget = if is_file_name file then option_map (Solve file) (budget_in budget) else None
@@ -69,7 +74,8 @@ with_option first second third =
 abbrev pub reading : List (List ℕ) → Option Command
 reading (command ∷ argument ∷ []) = over_one command argument
 reading (command ∷ first ∷ second ∷ []) =
-    if is_file_name first && is_file_name second then over_files command first second else None
+    if bytes_eq command (codes "make") then making first second
+    else (if is_file_name first && is_file_name second then over_files command first second else None)
 reading (command ∷ first ∷ second ∷ third ∷ []) =
     if bytes_eq command (codes "solve") then with_option first second third else None
 reading _ = None
@@ -80,11 +86,13 @@ HasTeams (Validate instance solution) = Unit {0}
 HasTeams (Check instance log) = Unit {0}
 HasTeams (Solve instance conflicts) = Unit {0}
 HasTeams (Circle n) = IsTeamCount n
+HasTeams (Make n seed) = IsTeamCount n
 
--- whether the words need no file: they are refused, or ask for a schedule that is made
+-- whether the words need no file: they are refused, or ask for a schedule or a league that is made
 abbrev pub NeedsNoFile : Option Command → Type 0
 NeedsNoFile None = Unit {0}
 NeedsNoFile (Some (Circle n)) = Unit {0}
+NeedsNoFile (Some (Make n seed)) = Unit {0}
 NeedsNoFile (Some (Validate instance solution)) = ⊥
 NeedsNoFile (Some (Check instance log)) = ⊥
 NeedsNoFile (Some (Solve instance conflicts)) = ⊥

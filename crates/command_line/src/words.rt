@@ -1,6 +1,6 @@
 //! The words of the command line.
 ghost use Rattle.std.specs.Prelude.{◌≡◌, if◌then◌else◌, [], ◌∷◌, None, Some, map, string_bytes, option_map, IfSome};
-ghost use Rattle.command_line.specs.Words.{reading, budget_in, is_file_name, HasTeams, number_in, solving};
+ghost use Rattle.command_line.specs.Words.{reading, budget_in, is_file_name, HasTeams, making, number_in, solving};
 ghost use Rattle.command_line.specs.Words.{team_count_in, usual_conflicts, with_option};
 ghost use Rattle.command_line.specs.Words.Command.{Circle, Solve};
 ghost use Rattle.command_line.specs.SeenWords.{command_of};
@@ -31,6 +31,11 @@ pub enum Words<'a> {
     Circle {
         n: u16,
     },
+    /// Write the league that a seed makes for n teams, n even and from 2 to 40.
+    Make {
+        n: u16,
+        seed: u64,
+    },
 }
 
 /// How many clauses a search may learn where the words don't say it.
@@ -60,7 +65,9 @@ fn with_two<'a>(command: &str, first: &'a str, second: &'a str) -> Option<Words<
     ensures reading { option_map command_of result ≡ reading (command.now ∷ first.now ∷ second.now ∷ []) }
     ensures teams { IfSome result (λ command. HasTeams (command_of command)) }
 {
-    if !is_name(first) || !is_name(second) {
+    if command == "make" {
+        make_of(first, second)
+    } else if !is_name(first) || !is_name(second) {
         None
     } else if command == "validate" {
         Some(Words::Validate {
@@ -75,6 +82,16 @@ fn with_two<'a>(command: &str, first: &'a str, second: &'a str) -> Option<Words<
     } else {
         None
     }
+}
+
+/// `make` with a number of teams and a seed.
+fn make_of<'a>(teams: &str, seed: &str) -> Option<Words<'a>>
+    ensures reading { option_map command_of result ≡ making teams.now seed.now }
+    ensures teams { IfSome result (λ command. HasTeams (command_of command)) }
+{
+    let n = team_count(teams)?;
+    let seed = number(seed)?;
+    Some(Words::Make { n, seed })
 }
 
 /// The command of this name with one argument.

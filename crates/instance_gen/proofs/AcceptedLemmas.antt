@@ -1,12 +1,12 @@
 -- A made league accepts the double circle schedule, whatever the words of its generator are.
-use Rattle.std.proofs.Common.{◌≡◌, ◌≢◌, ℕ, ◌+◌, ◌-◌, ◌*◌, ◌/◌, ◌%◌, ◌<◌, ◌≤◌, Bool, true, false, max}
-use Rattle.std.proofs.Common.{List, [], ◌∷◌, ◌++◌, length, get_or, map, refl, sym, ap, ◌∙◌, arith, length-append}
+use Rattle.std.proofs.Common.{◌≡◌, ◌≢◌, ℕ, ◌+◌, ◌-◌, ◌*◌, ◌/◌, ◌%◌, ◌<◌, ◌≤◌, true}
+use Rattle.std.proofs.Common.{List, [], ◌∷◌, ◌++◌, length, get_or, arith, length-append}
 use Rattle.std.proofs.lemmas.List.Elements.{All-append, All-cons, All-filter, All-map, All-nil, All-weaker}
 use Rattle.std.proofs.lemmas.List.Elements.{filter_passes}
 use Rattle.std.proofs.Math.Nat.{mul-le-mul_left}
 use Rattle.std.proofs.lemmas.List.FromFn.{length-map-range_with_len}
-use Rattle.std.specs.List.{All, filter, range_with_len}
-use Rattle.league.specs.Accepted.{IsAccepted, MeetsHard, hard_of}
+use Rattle.std.specs.List.{All, range_with_len}
+use Rattle.league.specs.Accepted.{IsAccepted, hard_of}
 use Rattle.league.specs.Bounds.{excess, outside}
 use Rattle.league.specs.Breaks.{br2_entry}
 use Rattle.league.specs.Capacity.{ca1_entry}
@@ -22,7 +22,7 @@ use Rattle.league.specs.declared.class.Constraint.{Constraint}
 use Rattle.league.specs.declared.class.Side.{Side}
 use Rattle.league.specs.declared.class.Side.TheVariants.{H, A}
 use Rattle.league.specs.declared.game.Game.{Game}
-use Rattle.circle_method.specs.Circle.{double_games, last_team_game}
+use Rattle.circle_method.specs.Circle.{last_team_game}
 use Rattle.circle_method.proofs.RoundRobinLemmas.{IsRoundRobin-double_games, length-double_games}
 use Rattle.rand_pcg.specs.Lcg.{Lcg}
 use Rattle.instance_gen.specs.Draws.{after, draw, set_of}

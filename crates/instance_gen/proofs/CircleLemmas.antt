@@ -1,7 +1,7 @@
 -- What the double circle schedule has of the demands of a made league: each game of its list in its slot, and n - 2
 -- slots between the two games of any two teams.
-use Rattle.std.proofs.Common.{◌≡◌, ◌≢◌, ℕ, zero, suc, ◌+◌, ◌-◌, ◌*◌, ◌/◌, ◌%◌, ◌<◌, ◌≤◌, Bool, true, false, ◌&&◌, ◌==◌}
-use Rattle.std.proofs.Common.{List, [], ◌∷◌, ◌++◌, length, get_or, map, inl, inr, refl, sym, ap, ◌∙◌, arith, zero-add}
+use Rattle.std.proofs.Common.{◌≡◌, ◌≢◌, ℕ, zero, suc, ◌+◌, ◌-◌, ◌*◌, ◌/◌, ◌<◌, ◌≤◌, Bool, ◌&&◌, ◌==◌}
+use Rattle.std.proofs.Common.{List, [], ◌∷◌, ◌++◌, length, get_or, map, inl, inr, refl, ap, ◌∙◌, arith, zero-add}
 use Rattle.std.specs.Prelude.{replicate}
 use Rattle.std.proofs.lemmas.Bool.{cases_eq}
 use Rattle.std.proofs.lemmas.Bool.Decides.{nat_tests}
@@ -9,7 +9,7 @@ use Rattle.std.proofs.lemmas.List.Concat.{flat_map-append}
 use Rattle.std.proofs.lemmas.List.Elements.{All-append, All-map, All-nil}
 use Rattle.std.proofs.lemmas.List.Sums.{get_or-le-sum_by, sum_by-cons}
 use Rattle.std.specs.List.{All, flat_map, range_with_len, sum_by}
-use Rattle.league.specs.Counts.{counts_of, is_game, slot_count, teams_of}
+use Rattle.league.specs.Counts.{counts_of, is_game, slot_count}
 use Rattle.league.specs.Instance.{IsGame, IsTeamCount}
 use Rattle.league.specs.Meetings.{games_of, pairs_of}
 use Rattle.league.specs.Separation.{lacking, mutual_games, se1_entry}

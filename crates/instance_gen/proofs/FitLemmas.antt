@@ -1,9 +1,9 @@
 -- The constraints of a made league fit it, whatever the words of its generator are.
-use Rattle.std.proofs.Common.{◌≡◌, ◌≢◌, ℕ, ◌+◌, ◌-◌, ◌*◌, ◌/◌, ◌%◌, ◌<◌, ◌≤◌, Bool, true, false, not, ◌&&◌, ◌==◌}
-use Rattle.std.proofs.Common.{List, [], ◌∷◌, length, get_or, nat_lt, cond, IsTrue, refl, sym, ap, ◌∙◌, arith}
+use Rattle.std.proofs.Common.{◌≡◌, ◌≢◌, ℕ, ◌-◌, ◌*◌, ◌/◌, ◌<◌, ◌≤◌, Bool, true, false, not, ◌&&◌, ◌==◌}
+use Rattle.std.proofs.Common.{[], ◌∷◌, nat_lt, cond, IsTrue, refl, ap, arith}
 use Rattle.std.proofs.lemmas.Bool.{and_from, lt-ltb, ne_eqb}
 use Rattle.std.proofs.lemmas.List.Elements.{All-cons, All-nil}
-use Rattle.std.specs.List.{All, range_with_len}
+use Rattle.std.specs.List.{All}
 use Rattle.league.specs.Counts.{slot_count, slots_of, teams_of}
 use Rattle.league.specs.Instance.{IsGame, IsTeamCount, are_meetings, are_slots, are_teams, class_fits}
 use Rattle.league.specs.Instance.{is_meeting, is_one_side}
@@ -13,7 +13,7 @@ use Rattle.league.specs.declared.class.Constraint.{Constraint}
 use Rattle.league.specs.declared.class.Side.{Side}
 use Rattle.league.specs.declared.class.Side.TheVariants.{H, A}
 use Rattle.league.specs.declared.game.Game.{Game}
-use Rattle.circle_method.specs.Circle.{double_games, last_team_game}
+use Rattle.circle_method.specs.Circle.{last_team_game}
 use Rattle.circle_method.proofs.GameLemmas.{IsGame-double_games}
 use Rattle.circle_method.proofs.RoundRobinLemmas.{length-double_games}
 use Rattle.rand_pcg.specs.Lcg.{Lcg}

@@ -1,6 +1,6 @@
 -- What the functions of this crate have made so far.
-use Rattle.std.proofs.Common.{◌≡◌, ℕ, zero, suc, ◌+◌, ◌*◌, ◌-◌, ◌<◌, ◌≤◌, Bool, true, false, ◌==◌, nat_lt, ◌≢◌}
-use Rattle.std.proofs.Common.{List, [], ◌∷◌, ◌++◌, length, get_or, map, take, slice_get, Some, IsTrue, subst}
+use Rattle.std.proofs.Common.{◌≡◌, ℕ, zero, suc, ◌+◌, ◌*◌, ◌-◌, ◌<◌, ◌≤◌, true}
+use Rattle.std.proofs.Common.{List, [], ◌∷◌, ◌++◌, length, get_or, map, take, slice_get, Some, subst}
 use Rattle.std.proofs.Common.{refl, sym, ap, ◌∙◌, arith, zero-add, append_assoc, inl, inr}
 use Rattle.std.proofs.lemmas.Bool.{cases_eq}
 use Rattle.std.proofs.lemmas.List.FromFn.{get_or-map-range_with_len, length-map-range_with_len, map-range_with_len_more}
@@ -11,7 +11,7 @@ use Rattle.std.specs.List.{All, range_with_len, sum_by}
 use Rattle.std.specs.Ordering.{nat_cmp}
 use Rattle.league.specs.Accepted.{IsAccepted}
 use Rattle.league.specs.Breaks.{breaks_among}
-use Rattle.league.specs.Counts.{slot_count, slots_of, teams_of}
+use Rattle.league.specs.Counts.{slot_count, slots_of}
 use Rattle.league.specs.Instance.{Instance, IsTeamCount, is_one_side}
 use Rattle.league.specs.Sets.{IsAscending}
 use Rattle.league.specs.Venues.{away_games, games_on, home_games}

@@ -9,7 +9,7 @@ use Rattle.robinx_form.specs.SolutionFile.{solution_of}
 use Rattle.robinx_form.specs.Walk.{Fault}
 use Rattle.robinx_read.specs.declared.instance.TheConstants.{INSTANCE_LIMIT, SOLUTION_LIMIT}
 use Rattle.command_line.specs.Words.{Command}
-use Rattle.command_line.specs.Words.Command.{Check, Circle, Solve, Validate}
+use Rattle.command_line.specs.Words.Command.{Check, Circle, Make, Solve, Validate}
 use Rattle.answers.specs.Reply.{Answer}
 use Rattle.answers.specs.Stages.{IsWritten, Outcome, reads, says}
 use Rattle.answers.specs.declared.status.Status.{Status}
@@ -113,6 +113,7 @@ answer-memory (Some (Validate instance solution)) contents took_more failed answ
 answer-memory (Some (Check instance log)) contents took_more failed answer ended given = checked-memory contents took_more failed instance log answer ended given
 answer-memory (Some (Solve instance conflicts)) contents took_more failed answer ended given = solved-memory contents took_more failed instance conflicts answer ended given
 answer-memory (Some (Circle n)) contents took_more failed answer ended given = let same : Yes ≡ Memory = status-of answer _ given ended in cc
+answer-memory (Some (Make n seed)) contents took_more failed answer ended given = let same : Yes ≡ Memory = status-of answer _ given ended in cc
 
 -- where an answer is written, the run doesn't end as want of memory does
 pub written-memory : (words : Option Command) (contents : List ℕ → Option (List ℕ)) (took_more : ℕ → Type 0) (failed : List ℕ → Type 0) (answer : Answer) (ended : Status) (old new : Option (List ℕ)) (sink_failed : Type 0) → IsAnswer words contents took_more failed answer → IsWritten answer ended old new sink_failed → ended ≡ Memory → ⊥

@@ -7,7 +7,8 @@ use Rattle.check_answer.proofs.CheckFacts as checks
 use Rattle.check_answer.proofs.CheckFacts.{checked-bad, checked-good}
 use Rattle.check_answer.specs.Check.{log_malformed}
 use Rattle.circle_answer.specs.Circle.{circle_season}
-use Rattle.command_line.specs.Words.Command.{Check, Circle, Validate}
+use Rattle.command_line.specs.Words.Command.{Check, Circle, Make, Validate}
+use Rattle.make_answer.specs.MadeInstance.{made_instance}
 use Rattle.refutation.specs.declared.fault.LogKind.TheVariants.{BadLine}
 use Rattle.robin_run.specs.Answer.{IsAnswer}
 use Rattle.validate_answer.proofs.ValidateFacts.{contents, never, nowhere, the_answer, validated-fault, validated-one}
@@ -27,9 +28,12 @@ check-good answer h = checked-good answer h
 pub check-bad : (answer : Answer) → IsAnswer (Some (Check (codes "league") (codes "bad"))) checks.contents checks.never checks.nowhere answer → answer ≡ log_malformed BadLine 3
 check-bad answer h = checked-bad answer h
 
--- refused words, and `circle`
+-- refused words, `circle` and `make`
 pub words-one : (answer : Answer) → IsAnswer None contents never nowhere answer → answer ≡ refused_words
 words-one answer h = h
 
 pub circle-one : (answer : Answer) → IsAnswer (Some (Circle 2)) contents never nowhere answer → answer ≡ circle_season 2
 circle-one answer h = h
+
+pub make-one : (answer : Answer) → IsAnswer (Some (Make 4 1)) contents never nowhere answer → answer ≡ made_instance 4 1
+make-one answer h = h

@@ -23,6 +23,7 @@ use answers::{Reply, Status, words_refused, write_answer};
 use check_answer::check;
 use circle_answer::circle;
 use command_line::{Words, read_words};
+use make_answer::make_league;
 use robin_io::{Shelf, Sink};
 use solve_answer::solve_file;
 use std::alloc::{AllocError, Global};
@@ -46,6 +47,7 @@ fn follow<S: Shelf>(alloc: Global, command: Words, shelf: &mut S) -> Result<Repl
             conflicts,
         } => solve_file(alloc, shelf, instance, conflicts),
         Words::Circle { n } => circle(alloc, n),
+        Words::Make { n, seed } => make_league(alloc, n, seed),
     }
 }
 
@@ -69,7 +71,8 @@ fn answer<S: Shelf>(alloc: Global, words: &[String], shelf: &mut S) -> Result<Re
 /// `words` are the words of the command line without the program's name. `validate INSTANCE SOLUTION` judges the
 /// season of one file by the league of the other, `check INSTANCE LOG` checks the refutation log of one file over the
 /// rows of the league of the other, `solve INSTANCE` finds a season or a log of the league of a file, `circle N` makes a
-/// season, and any other words are refused. The whole text is made before its first byte is written.
+/// season, `make N SEED` makes a league, and any other words are refused. The whole text is made before its first byte is
+/// written.
 ///
 /// - `answer` needs nothing of the store, of the sink or of the files: whatever they do, the answer is one of those
 ///   that are allowed for the words and the files, and each refusal has its cause.
@@ -144,7 +147,7 @@ pub fn run<S: Shelf, K: Sink>(alloc: Global, words: &[String], shelf: &mut S, ou
     // The files keep their contents, whatever the answer.
     ensures contents { (n : List ℕ) → S.contents shelf.new n ≡ S.contents shelf.old n }
 
-    // Refused words, and `circle`, leave the whole store as it was.
+    // Refused words, `circle` and `make` leave the whole store as it was.
     ensures untouched { NeedsNoFile (reading (map string_bytes words.now)) → shelf.new ≡ shelf.old }
 
     // Where memory ran out, nothing is written.

@@ -3,7 +3,7 @@ use Rattle.std.specs.List.{All}
 use Rattle.league.specs.Instance.{class_fits}
 use Rattle.league.specs.declared.class.Constraint.{Constraint}
 use Rattle.instance_gen.specs.Draws.{seeded}
-use Rattle.instance_gen.specs.Made.{made_constraints, made_league}
+use Rattle.instance_gen.specs.Made.{made_constraints}
 use Rattle.instance_gen.proofs.AcceptedLemmas.{length-made_constraints}
 use Rattle.instance_gen.proofs.FitLemmas.{All-fits}
 use Rattle.instance_gen.proofs.MadeLemmas.{league-accepts, league-count, league-made}

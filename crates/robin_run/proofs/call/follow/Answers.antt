@@ -8,3 +8,6 @@ returns-in-Check-clause-answer g c = rw c.in-Check.is c.check.ensures.answer
 
 pub returns-in-Solve-clause-answer : goal.returns-in-Solve-clause-answer
 returns-in-Solve-clause-answer g c = rw c.in-Solve.is c.solve_file.ensures.answer
+
+pub returns-in-Make-clause-answer : goal.returns-in-Make-clause-answer
+returns-in-Make-clause-answer g c = rw c.in-Make.is c.make_league.ensures.answer
