@@ -1,0 +1,73 @@
+-- What follows from an answer of `patterns`.
+use Rattle.std.proofs.Common.{◌≡◌, ℕ, ◌≤◌, List, length, Option, Some, Ok, codes, ap, inl, inr, sym, subst, ◌∙◌}
+use Rattle.std.specs.Prelude.{IfSome}
+use Rattle.league.specs.Instance.{Instance}
+use Rattle.robinx_tags.specs.Pieces.{pieces}
+use Rattle.robinx_form.specs.InstanceFile.{instance_of}
+use Rattle.robinx_read.specs.declared.instance.TheConstants.{INSTANCE_LIMIT}
+use Rattle.answers.specs.Reply.{Answer}
+use Rattle.answers.specs.Stages.{Outcome, reads, says}
+use Rattle.answers.specs.declared.status.Status.TheVariants.{Yes, File, Refuted, Spent, ReadFault}
+use Rattle.season_check.specs.Excluded.{NoneAccepted}
+use Rattle.answers.proofs.StageLemmas.{reads-known, says-known}
+use Rattle.encoding_base.specs.Encoding.{encoding_size, rows_of}
+use Rattle.check_answer.specs.Check.{encodes, most_terms}
+use Rattle.check_answer.proofs.AnswerLemmas.{encodes-small}
+use Rattle.patterns_answer.specs.Patterns.{AreFound, patterned}
+
+-- what is found behind the instance file
+abbrev pub found_of : Option ℕ → Instance → Outcome
+found_of conflicts league = encodes league (λ rows. AreFound league conflicts)
+
+abbrev pub said_of : Option ℕ → List ℕ → Outcome
+said_of conflicts bytes = says (codes "instance") (instance_of (pieces bytes)) (found_of conflicts)
+
+-- a file whose bytes are known and within the limit, at which nothing fails, and which says a league whose rows aren't
+-- too many: the answer is what is found of its patterns
+pub patterned-well_formed : (contents : List ℕ → Option (List ℕ)) (took_more : ℕ → Type 0) (failed : List ℕ → Type 0)
+    (instance bytes : List ℕ) (conflicts : Option ℕ) (league : Instance) (answer : Answer)
+    → contents instance ≡ Some bytes → length bytes ≤ INSTANCE_LIMIT → instance_of (pieces bytes) ≡ Ok league
+    → encoding_size league ≤ most_terms → (failed instance → ⊥)
+    → patterned contents took_more failed instance conflicts answer → AreFound league conflicts answer
+patterned-well_formed contents took_more failed instance bytes conflicts league answer known within says_league small
+    works given =
+    encodes-small league (λ rows. AreFound league conflicts) answer small
+    (says-known (codes "instance") (instance_of (pieces bytes)) league (found_of conflicts) answer says_league
+    (reads-known (codes "instance") (contents instance) INSTANCE_LIMIT (took_more INSTANCE_LIMIT) (failed instance)
+    (said_of conflicts) answer bytes known within works given))
+
+found-refuted : (league : Instance) (conflicts : Option ℕ) (answer : Answer) → answer.status ≡ Refuted
+    → AreFound league conflicts answer → NoneAccepted league
+found-refuted league conflicts answer ended (inl found) =
+    let same : Yes ≡ Refuted = sym found.status ∙ ended in absurd (cc)
+found-refuted league conflicts answer ended (inr (inl refuted)) = refuted.refutes.none
+found-refuted league conflicts answer ended (inr (inr spent)) =
+    let same : Spent ≡ Refuted = sym spent.status ∙ ended in absurd (cc)
+
+encoded-refuted : (league : Instance) (conflicts : Option ℕ) (answer : Answer) → answer.status ≡ Refuted
+    → found_of conflicts league answer → NoneAccepted league
+encoded-refuted league conflicts answer ended (inl h) = found-refuted league conflicts answer ended h.1
+encoded-refuted league conflicts answer ended (inr h) =
+    let same : File ≡ Refuted = sym (ap (λ (a : Answer). a.status) h.1) ∙ ended in absurd (cc)
+
+read-refuted : (which : List ℕ) (known : Option (List ℕ)) (limit : ℕ) (long failed : Type 0) (next : List ℕ → Outcome)
+    (answer : Answer) (bytes : List ℕ) → known ≡ Some bytes → answer.status ≡ Refuted
+    → reads which known limit long failed next answer → next bytes answer
+read-refuted which known limit long failed next answer bytes is ended (inl read) =
+    let same : read.0 ≡ bytes = subst (λ (k : Option (List ℕ)). IfSome k (λ file. read.0 ≡ file)) is read.1.same in
+    subst (λ (b : List ℕ). next b answer) same read.2
+read-refuted which known limit long failed next answer bytes is ended (inr (inl h)) =
+    let same : File ≡ Refuted = sym (ap (λ (a : Answer). a.status) h.2) ∙ ended in absurd (cc)
+read-refuted which known limit long failed next answer bytes is ended (inr (inr h)) =
+    let same : ReadFault ≡ Refuted = sym (ap (λ (a : Answer). a.status) h.1) ∙ ended in absurd (cc)
+
+-- where the answer is a refutation, the league of the instance file accepts no list of games
+pub patterned-refuted : (contents : List ℕ → Option (List ℕ)) (took_more : ℕ → Type 0) (failed : List ℕ → Type 0)
+    (instance bytes : List ℕ) (conflicts : Option ℕ) (league : Instance) (answer : Answer)
+    → contents instance ≡ Some bytes → instance_of (pieces bytes) ≡ Ok league → answer.status ≡ Refuted
+    → patterned contents took_more failed instance conflicts answer → NoneAccepted league
+patterned-refuted contents took_more failed instance bytes conflicts league answer known says_league ended given =
+    encoded-refuted league conflicts answer ended
+    (says-known (codes "instance") (instance_of (pieces bytes)) league (found_of conflicts) answer says_league
+    (read-refuted (codes "instance") (contents instance) INSTANCE_LIMIT (took_more INSTANCE_LIMIT) (failed instance)
+    (said_of conflicts) answer bytes known ended given))

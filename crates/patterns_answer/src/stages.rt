@@ -1,0 +1,64 @@
+//! The stages of `patterns`.
+ghost use Rattle.std.specs.Prelude.{◌≡◌, ℕ, List, IfOk};
+ghost use Rattle.robin_io.specs.Counts.{Rose, TookMore};
+ghost use Rattle.answers.specs.SeenReply.{answer_of, Answers};
+ghost use Rattle.check_answer.specs.Check.{encodes};
+ghost use Rattle.patterns_answer.specs.Patterns.{AreFound, patterned};
+
+use crate::replies::{found_reply, rows_refused};
+use answers::{NoValue, Reply, file, league_in};
+use encoding::{EncodeFault, encode};
+use league::League;
+use robin_io::Shelf;
+use robinx_read::INSTANCE_LIMIT;
+use std::alloc::{AllocError, Global};
+
+/// Finds patterns of a league, or a log, and answers it.
+fn found_of(alloc: Global, league: &League, conflicts: Option<u64>) -> Result<Reply, NoValue>
+    ensures { Answers (encodes league.now (λ rows. AreFound league.now conflicts)) result }
+{
+    match encode(alloc, league) {
+        Ok(encoding) => Ok(found_reply(alloc, &encoding, conflicts)?),
+        Err(EncodeFault::TooLarge { terms }) => Err(NoValue::Refused(rows_refused(alloc, terms)?)),
+        Err(EncodeFault::Mem) => Err(NoValue::Memory),
+    }
+}
+
+/// The stages of `patterns`.
+fn patterns_stages<S: Shelf>(
+    alloc: Global,
+    shelf: &mut S,
+    instance: &str,
+    conflicts: Option<u64>,
+) -> Result<Reply, NoValue>
+    ensures answer { Answers (patterned (S.contents shelf.old)
+        (λ limit. TookMore limit (S.taken shelf.old) (S.taken shelf.new))
+        (λ name. Rose (S.faults shelf.old name) (S.faults shelf.new name))
+        instance.now conflicts) result }
+    ensures contents { (n : List ℕ) → S.contents shelf.new n ≡ S.contents shelf.old n }
+{
+    let bytes = file(alloc, shelf, "instance", instance, INSTANCE_LIMIT)?;
+    let league = league_in(alloc, &bytes)?;
+    found_of(alloc, &league, conflicts)
+}
+
+/// Finds patterns that the pattern rows of the league of a file allow, or a log that refutes them, and so the league.
+/// With a budget the search learns at most so many clauses, and its log is the answer where it is spent.
+pub fn patterns_file<S: Shelf>(
+    alloc: Global,
+    shelf: &mut S,
+    instance: &str,
+    conflicts: Option<u64>,
+) -> Result<Reply, AllocError>
+    ensures answer { IfOk result (λ reply. patterned (S.contents shelf.old)
+        (λ limit. TookMore limit (S.taken shelf.old) (S.taken shelf.new))
+        (λ name. Rose (S.faults shelf.old name) (S.faults shelf.new name))
+        instance.now conflicts (answer_of reply)) }
+    ensures contents { (n : List ℕ) → S.contents shelf.new n ≡ S.contents shelf.old n }
+{
+    match patterns_stages(alloc, shelf, instance, conflicts) {
+        Ok(reply) => Ok(reply),
+        Err(NoValue::Refused(reply)) => Ok(reply),
+        Err(NoValue::Memory) => Err(AllocError),
+    }
+}
