@@ -85,11 +85,11 @@ no_limit : (steps : List Step) → ◌≡◌ {A = Option ℕ} None (Some (length
 no_limit steps is = cc
 
 -- what is found without a limit
-pub any_limit : (league : Instance) (limit : Option ℕ) (solved : Solved) → IsSolution league None solved
-    → IsSolution league limit solved
-any_limit league limit (Schedule games objective) is = is
-any_limit league limit (Refuted log) is = is
-any_limit league limit (Spent log) is = absurd (no_limit log is.limited)
+pub any_limit : (league : Instance) (limit : Option ℕ) (moves : ℕ) (solved : Solved)
+    → IsSolution league None moves solved → IsSolution league limit moves solved
+any_limit league limit moves (Schedule games objective descent) is = is
+any_limit league limit moves (Refuted log) is = is
+any_limit league limit moves (Spent log) is = absurd (no_limit log is.limited)
 
 pub same_acceptance : (league : Instance) (games more : List Game) → IsPermutation games more
     → IsAccepted league (counts_of games) → IsAccepted league (counts_of more)

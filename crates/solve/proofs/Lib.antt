@@ -2,6 +2,10 @@
 pub mod GameLemmas
 -- How long the lines of a log are:
 pub mod LineLemmas
+-- How many games a double round robin has:
+pub mod FewLemmas
+-- What a descent makes of an accepted schedule:
+pub mod LowerLemmas
 -- What the answers say:
 pub mod AnswerLemmas
 -- Worked answers:

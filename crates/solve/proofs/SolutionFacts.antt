@@ -1,8 +1,9 @@
 -- Worked answers: what a league of two teams is solved by, and what no answer is.
-use Rattle.std.proofs.Common.{◌≡◌, ℕ, ◌<◌, ◌≤◌, List, [], ◌∷◌, length, true, Option, Some, None, arith, refl}
+use Rattle.std.proofs.Common.{◌≡◌, ℕ, ◌<◌, ◌≤◌, ◌&&◌, ◌||◌, ◌==◌, nat_lt, List, [], ◌∷◌, length, true, false, Option, Some, None, arith, refl}
 use Rattle.std.specs.Prelude.{IsTrue}
-use Rattle.std.specs.List.{AllPairs}
+use Rattle.std.specs.List.{All, AllPairs}
 use Rattle.std.specs.Ordering.{is_le}
+use Rattle.std.proofs.lemmas.Bool.Decides.{nat_tests}
 use Rattle.std.proofs.lemmas.List.Elements.{All-cons, All-nil}
 use Rattle.std.proofs.lemmas.List.Kept.{AllPairs-cons}
 use Rattle.league.specs.Accepted.{IsAccepted}
@@ -11,11 +12,17 @@ use Rattle.league.specs.Instance.{Instance, IsGame}
 use Rattle.league.specs.Order.{IsInOrder, game_cmp}
 use Rattle.league.specs.declared.game.Game.{Game}
 use Rattle.league.proofs.AcceptedLemmas.{MeetsHard-from_sum}
-use Rattle.league.proofs.DoubleFour.{game}
+use Rattle.league.specs.declared.class.Class.TheVariants.{Ca1}
+use Rattle.league.specs.declared.class.Side.TheVariants.{A, H}
+use Rattle.league.proofs.DoubleFour.{four, game}
 use Rattle.circle_method.specs.Circle.{double_games}
 use Rattle.refutation.specs.Steps.{Step}
 use Rattle.refutation.specs.Steps.Step.{Clause}
-use Rattle.solve.specs.Solutions.{IsSchedule, IsSpentOn, IsWritable}
+use Rattle.moves.specs.Moves.{moved}
+use Rattle.moves.specs.Neighbours.{home_swap}
+use Rattle.descent.specs.Descended.{Descended}
+use Rattle.descent.specs.Settled.{IsSettled}
+use Rattle.solve.specs.Solutions.{IsSchedule, IsSpentOn, IsWritable, league_score}
 
 abbrev two : Instance
 two = record { n = 2; phased = true; constraints = [] }
@@ -52,28 +59,83 @@ in_order-two =
     (All-cons (comes_before (game 1 0 0)) (game 0 1 1) [] refl (All-nil (comes_before (game 1 0 0))))
     (AllPairs-cons comes_before (game 0 1 1) [] (All-nil (comes_before (game 0 1 1))) none_before)
 
+-- a descent that has no move to make
+abbrev still : Descended
+still = record { first = both_games; trail = []; settled = true }
+
+both_fit : All (IsGame 2) both_games
+both_fit =
+    All-cons (IsGame 2) (game 1 0 0) (game 0 1 1 ∷ []) first_fits
+    (All-cons (IsGame 2) (game 0 1 1) [] second_fits (All-nil (IsGame 2)))
+
+-- nothing is lower than nothing
+nothing_lower : (a b : ℕ) → (nat_lt a 0 || ((a == 0) && nat_lt b 0)) ≡ true → ⊥
+nothing_lower a b lower =
+    let none : (nat_lt a 0 || ((a == 0) && nat_lt b 0)) ≡ false = grind (arith, nat_tests) in
+    cc
+
+pub settled-two : IsSettled 2 true (league_score two) (counts_of both_games)
+settled-two step lowers =
+    nothing_lower (league_score two (moved 2 (counts_of both_games) step)).infeasibility
+    (league_score two (moved 2 (counts_of both_games) step)).objective lowers.lower
+
 -- they are an answer, and cost nothing
-pub solved-two : IsSchedule two both_games 0
+pub solved-two : IsSchedule two 0 both_games 0 still
 solved-two = record {
   accepted = accepted-two;
-  fit = All-cons (IsGame 2) (game 1 0 0) (game 0 1 1 ∷ []) first_fits
-      (All-cons (IsGame 2) (game 0 1 1) [] second_fits (All-nil (IsGame 2)));
+  fit = both_fit;
   in_order = in_order-two;
   cost = refl;
+  descends = record {
+    first = accepted-two;
+    fit = both_fit;
+    in_order = in_order-two;
+    trail = refl;
+    few = omega arith;
+    settled = (λ yes. settled-two, λ settled. refl);
+    spent = λ no. absurd (cc);
+  };
 }
 
 dear_two : (objective : ℕ) → 0 < objective → objective ≡ 0 → ⊥
 dear_two objective some none = omega (arith, some, none)
 
-pub costs_nothing : (objective : ℕ) → 0 < objective → IsSchedule two both_games objective → ⊥
+pub costs_nothing : (objective : ℕ) → 0 < objective → IsSchedule two 0 both_games objective still → ⊥
 costs_nothing objective some is = dear_two objective some is.cost
+
+none_made : (made : ℕ) → made ≡ 0 → made ≡ 1 → ⊥
+none_made made none one = omega (arith, none, one)
+
+-- that it isn't settled is no answer, where it may make a move
+pub settles : IsSchedule two 1 both_games 0 (record { first = both_games; trail = []; settled = false }) → ⊥
+settles is = none_made 0 refl (is.descends.spent refl)
 
 -- the later game first is no answer
 not_first : IsTrue (is_le (game_cmp (game 0 1 1) (game 1 0 0))) → ⊥
 not_first is = cc
 
-pub late_first : (objective : ℕ) → IsSchedule two (game 0 1 1 ∷ game 1 0 0 ∷ []) objective → ⊥
+pub late_first : (objective : ℕ) → IsSchedule two 0 (game 0 1 1 ∷ game 1 0 0 ∷ []) objective still → ⊥
 late_first objective is = not_first (is.in_order 0 1 (game 0 1 1) (omega arith) (omega arith))
+
+-- ---- what a free constraint counts: team 0 isn't at home in slot 0 (hard, penalty 0), and plays away there once
+
+abbrev free : Instance
+free =
+    record {
+      n = 4;
+      phased = true;
+      constraints =
+          record { hard = true; penalty = 0; class = Ca1 (0 ∷ []) 0 0 H (0 ∷ []) }
+          ∷ record { hard = false; penalty = 1; class = Ca1 (0 ∷ []) 0 0 A (0 ∷ []) }
+          ∷ [];
+    }
+
+pub score-free : league_score free four ≡ record { infeasibility = 0; objective = 1 }
+score-free = refl
+
+-- at home in slot 0 it breaks the free constraint, which counts 1, so the move isn't lower
+pub score-home : league_score free (moved 4 four (home_swap (0, 3))) ≡ record { infeasibility = 1; objective = 0 }
+score-home = refl
 
 -- a hint that names no row can't be written
 zero_named : (n : ℕ) → n ≡ 0 → 1 ≤ n → ⊥

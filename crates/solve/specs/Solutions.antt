@@ -1,10 +1,9 @@
 -- What is found of a league: a schedule, a log that refutes its rows, or one that is spent.
-use Rattle.std.specs.Prelude.{◌≡◌, ℕ, ◌<◌, ◌^◌, List, length, Option, Some}
+use Rattle.std.specs.Prelude.{◌≡◌, ◌↔◌, ℕ, ◌<◌, ◌≤◌, ◌^◌, false, List, length, Option, Some, IsTrue}
 use Rattle.std.specs.List.{All}
-use Rattle.std.specs.List.Sorted.{IsPermutation}
 use Rattle.league.specs.Accepted.{IsAccepted}
 use Rattle.league.specs.Accepted as costs
-use Rattle.league.specs.Counts.{counts_of}
+use Rattle.league.specs.Counts.{Counts, counts_of}
 use Rattle.league.specs.Instance.{Instance, IsGame}
 use Rattle.league.specs.Order.{IsInOrder}
 use Rattle.league.specs.declared.game.Game.{Game}
@@ -15,16 +14,40 @@ use Rattle.refutation.specs.Verdict.{verdict_of}
 use Rattle.refutation.specs.Writable.{HasShortLines}
 use Rattle.refutation.specs.declared.verdict.Verdict.TheVariants.{Accepted}
 use Rattle.clause_search.specs.News.{IsSpent}
+use Rattle.tally.specs.League.{hard_sum}
+use Rattle.descent.specs.Descended.{Descended}
+use Rattle.descent.specs.Settled.{IsSettled}
+use Rattle.descent.specs.Trail.{IsTrail}
+use Rattle.descent.specs.declared.score.Score.{Score}
 use Rattle.season_check.specs.Excluded.{NoneAccepted}
 use Rattle.solve.specs.declared.solved.Solved.{Solved}
 use Rattle.solve.specs.declared.solved.Solved.TheVariants.{Schedule, Refuted, Spent}
 
--- games of the league that it accepts, in order, and what they cost
-pub record IsSchedule (league : Instance) (games : List Game) (objective : ℕ) : Type 0 where
+-- what a descent compares in a league: what the hard constraints cost, where a penalty of 0 counts as 1, and then the
+-- objective
+abbrev pub league_score : Instance → Counts → Score
+league_score league m = record { infeasibility = hard_sum 1 league m; objective = costs.objective league m }
+
+-- a descent of at most so many moves from accepted games to these, settled exactly where no legal move lowers the score
+-- any more, and not settled only where it has as many moves as it may
+pub record IsDescent (league : Instance) (moves : ℕ) (games : List Game) (descent : Descended) : Type 0 where
+  pub first : IsAccepted league (counts_of descent.first)
+  pub fit : All (IsGame league.n) descent.first
+  pub in_order : IsInOrder descent.first
+  pub trail : IsTrail league.n league.phased (league_score league) (counts_of descent.first) descent.trail
+      (counts_of games)
+  pub few : length descent.trail ≤ moves
+  pub settled : IsTrue descent.settled ↔ IsSettled league.n league.phased (league_score league) (counts_of games)
+  pub spent : descent.settled ≡ false → length descent.trail ≡ moves
+
+-- games of the league that it accepts, in order, what they cost, and the descent that led to them
+pub record IsSchedule (league : Instance) (moves : ℕ) (games : List Game) (objective : ℕ) (descent : Descended)
+    : Type 0 where
   pub accepted : IsAccepted league (counts_of games)
   pub fit : All (IsGame league.n) games
   pub in_order : IsInOrder games
   pub cost : objective ≡ costs.objective league (counts_of games)
+  pub descends : IsDescent league moves games descent
 
 -- A log whose text can be written and read back: each hint names a row, and no line passes the limit of a line.
 pub record IsWritable (steps : List Step) : Type 0 where
@@ -44,14 +67,15 @@ pub record IsSpentOn (league : Instance) (limit : Option ℕ) (steps : List Step
   pub few : length steps < 3 ^ var_count league
   pub writable : IsWritable steps
 
--- what each answer says of the league, where the search learns at most so many clauses
-abbrev pub IsSolution : Instance → Option ℕ → Solved → Type 0
-IsSolution league limit (Schedule games objective) = IsSchedule league games objective
-IsSolution league limit (Refuted log) = RefutesLeague league log
-IsSolution league limit (Spent log) = IsSpentOn league limit log
+-- what each answer says of the league, where the search of a try learns at most so many clauses and its descent makes at
+-- most so many moves
+abbrev pub IsSolution : Instance → Option ℕ → ℕ → Solved → Type 0
+IsSolution league limit moves (Schedule games objective descent) = IsSchedule league moves games objective descent
+IsSolution league limit moves (Refuted log) = RefutesLeague league log
+IsSolution league limit moves (Spent log) = IsSpentOn league limit log
 
--- the answer is the games of the circle method, in order
-abbrev pub IsThoseGames : List Game → Solved → Type 0
-IsThoseGames games (Schedule found objective) = IsPermutation games found
-IsThoseGames games (Refuted log) = ⊥
-IsThoseGames games (Spent log) = ⊥
+-- the answer is a schedule
+abbrev pub HasSchedule : Solved → Type 0
+HasSchedule (Schedule games objective descent) = Unit {0}
+HasSchedule (Refuted log) = ⊥
+HasSchedule (Spent log) = ⊥

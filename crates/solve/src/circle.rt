@@ -3,21 +3,26 @@ ghost use Rattle.std.specs.Prelude.{◌≡◌, None, Some, Ok, IfOk, IfSome};
 ghost use Rattle.league.specs.Accepted.{IsAccepted};
 ghost use Rattle.league.specs.Counts.{counts_of};
 ghost use Rattle.circle_method.specs.Circle.{double_games};
-ghost use Rattle.solve.specs.Solutions.{IsSolution, IsThoseGames};
+ghost use Rattle.solve.specs.Solutions.{HasSchedule, IsSolution};
 
+use crate::lower::lowered;
 use crate::solved::Solved;
 use circle_method::double;
 use deviation::assess;
 use league::League;
 use std::alloc::{AllocError, Global};
 
-/// The schedule of the circle method, in order, where the league accepts it.
+/// What a descent of at most so many moves makes of the schedule of the circle method, where the league accepts that.
 ///
 /// # Errors
 /// Only where memory runs out.
-pub(crate) fn try_circle(alloc: Global, league: &League) -> Result<Option<Solved>, AllocError>
-    ensures solution { IfOk result (λ tried. IfSome tried (IsSolution league.now None)) }
-    ensures those { IfOk result (λ tried. IfSome tried (IsThoseGames (double_games league.now.n))) }
+pub(crate) fn try_circle(
+    alloc: Global,
+    league: &League,
+    moves: u64,
+) -> Result<Option<Solved>, AllocError>
+    ensures solution { IfOk result (λ tried. IfSome tried (IsSolution league.now None moves)) }
+    ensures schedule { IfOk result (λ tried. IfSome tried HasSchedule) }
     ensures refused { result ≡ Ok None → IsAccepted league.now (counts_of (double_games league.now.n)) → ⊥ }
 {
     let mut schedule = double(alloc, league.n())?;
@@ -26,9 +31,6 @@ pub(crate) fn try_circle(alloc: Global, league: &League) -> Result<Option<Solved
     if !assessment.feasible {
         return Ok(None);
     }
-    let objective = assessment.objective;
-    Ok(Some(Solved::Schedule {
-        schedule,
-        objective,
-    }))
+    let solved = lowered(alloc, league, &schedule, moves)?;
+    Ok(Some(solved))
 }

@@ -6,9 +6,11 @@
 mod circle;
 mod fault;
 mod lines;
+mod lower;
 mod prefer;
 mod solved;
 mod solver;
+mod tries;
 
 pub use fault::SolveFault;
 pub use solved::Solved;

@@ -24,13 +24,18 @@ returns-then-not-assessment-clause-refused c is accepted =
     (circle_accepted c.args.league.now c.n.result c.in_ok-schedule.schedule c.put_in_order.new.self
     c.in_ok-schedule.ensures.games c.n.ensures.n c.put_in_order.ensures.permutation accepted))
 
-pub returns-clause-solution : goal.returns-clause-solution
-returns-clause-solution c = record {
-  accepted = c.in_ok-assessment.ensures.feasible.0
-      (passed c.in_ok-assessment.assessment.feasible c.if-not-assessment.false);
-  fit = All-permutation (IsGame c.args.league.now.n) c.in_ok-schedule.schedule c.put_in_order.new.self
-      c.put_in_order.ensures.permutation
-      (subst (λ (k : ℕ). All (IsGame k) c.in_ok-schedule.schedule) c.n.ensures.n c.in_ok-schedule.ensures.fit);
-  in_order = c.put_in_order.ensures.in_order;
-  cost = c.in_ok-assessment.ensures.objective;
-}
+pub lowered-requires-clause-accepted : goal.lowered-requires-clause-accepted
+lowered-requires-clause-accepted c =
+    c.in_ok-assessment.ensures.feasible.0
+    (passed c.in_ok-assessment.assessment.feasible c.if-not-assessment.false)
+
+pub lowered-requires-clause-few : goal.lowered-requires-clause-few
+lowered-requires-clause-few c =
+    double_few c.args.league.now.n c.n.result c.in_ok-schedule.schedule c.put_in_order.new.self c.n.ensures.n
+    c.n.ensures.instance.teams.at_most c.in_ok-schedule.ensures.count c.put_in_order.ensures.permutation
+
+pub lowered-requires-clause-fit : goal.lowered-requires-clause-fit
+lowered-requires-clause-fit c =
+    All-permutation (IsGame c.args.league.now.n) c.in_ok-schedule.schedule c.put_in_order.new.self
+    c.put_in_order.ensures.permutation
+    (subst (λ (k : ℕ). All (IsGame k) c.in_ok-schedule.schedule) c.n.ensures.n c.in_ok-schedule.ensures.fit)

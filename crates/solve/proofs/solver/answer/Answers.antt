@@ -9,19 +9,19 @@ use Rattle.solve.proofs.solver.answer.Goals as goal
 
 pub returns-in-Refuted : goal.returns-in-Refuted
 returns-in-Refuted c =
-    refuted c.args.league.now c.args.conflicts c.in-Refuted.log
+    refuted c.args.league.now c.args.budgets.conflicts c.in-Refuted.log
     (subst (λ (l : Instance). IsInstance l) c.requires.league c.vars-vars.ensures.instance)
     (few_variables c.args.league.now c.args.encoding.now c.vars-vars.result c.requires.league c.vars-vars.ensures.vars
     c.vars-vars.ensures.at_most)
     (subst
-    (λ (f : Found). IsAnswer (rows_of c.args.league.now) (var_count c.args.league.now) c.args.conflicts f)
+    (λ (f : Found). IsAnswer (rows_of c.args.league.now) (var_count c.args.league.now) c.args.budgets.conflicts f)
     c.in-Refuted.is c.requires.found) c.note_numbers.ensures
 
 pub returns-in-Spent : goal.returns-in-Spent
 returns-in-Spent c =
-    spent c.args.league.now c.args.conflicts c.in-Spent.log
+    spent c.args.league.now c.args.budgets.conflicts c.in-Spent.log
     (few_variables c.args.league.now c.args.encoding.now c.vars-vars.result c.requires.league c.vars-vars.ensures.vars
     c.vars-vars.ensures.at_most)
     (subst
-    (λ (f : Found). IsAnswer (rows_of c.args.league.now) (var_count c.args.league.now) c.args.conflicts f)
+    (λ (f : Found). IsAnswer (rows_of c.args.league.now) (var_count c.args.league.now) c.args.budgets.conflicts f)
     c.in-Spent.is c.requires.found) c.note_numbers-in-Spent.ensures
