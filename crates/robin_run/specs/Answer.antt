@@ -5,7 +5,8 @@ use Rattle.answers.specs.Stages.{Outcome}
 use Rattle.check_answer.specs.Check.{checked}
 use Rattle.circle_answer.specs.Circle.{circle_season}
 use Rattle.command_line.specs.Words.{Command}
-use Rattle.command_line.specs.Words.Command.{Validate, Check, Solve, Circle}
+use Rattle.command_line.specs.Words.Command.{Validate, Check, Solve, Patterns, Circle}
+use Rattle.patterns_answer.specs.Patterns.{patterned}
 use Rattle.solve_answer.specs.Solve.{solved}
 use Rattle.validate_answer.specs.Validate.{validated}
 
@@ -18,4 +19,6 @@ IsAnswer (Some (Check instance log)) contents took_more failed answer =
     checked contents took_more failed instance log answer
 IsAnswer (Some (Solve instance conflicts)) contents took_more failed answer =
     solved contents took_more failed instance conflicts answer
+IsAnswer (Some (Patterns instance conflicts)) contents took_more failed answer =
+    patterned contents took_more failed instance conflicts answer
 IsAnswer (Some (Circle n)) contents took_more failed answer = answer ≡ circle_season n

@@ -8,3 +8,6 @@ returns-in-Check-clause-answer g c = rw c.in-Check.is c.check.ensures.answer
 
 pub returns-in-Solve-clause-answer : goal.returns-in-Solve-clause-answer
 returns-in-Solve-clause-answer g c = rw c.in-Solve.is c.solve_file.ensures.answer
+
+pub returns-in-Patterns-clause-answer : goal.returns-in-Patterns-clause-answer
+returns-in-Patterns-clause-answer g c = rw c.in-Patterns.is c.patterns_file.ensures.answer
