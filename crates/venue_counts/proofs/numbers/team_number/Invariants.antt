@@ -1,0 +1,8 @@
+use Rattle.std.proofs.Common.{◌≡◌, map, take}
+use Rattle.row_sums.specs.Sums.{literal}
+use Rattle.encoding_base.specs.Variables.{h_var}
+use Rattle.venue_counts.proofs.numbers.team_number.Given as goal
+
+abbrev pub invariant-loop-slot : goal.invariant-loop-slot
+invariant-loop-slot l =
+    l.literals.items ≡ map (λ s. literal (h_var l.encoding.n l.team s) l.home) (take l.slot-index l.slots)
