@@ -1,8 +1,7 @@
 -- When a sum's row is in conflict with nothing set.
-use Rattle.std.proofs.Common.{◌≡◌, ℕ, ◌+◌, ◌-◌, ◌<◌, ◌≤◌, Bool, true, false, not, ◌&&◌, ◌==◌, nat_lt, min, max, cond}
-use Rattle.std.proofs.Common.{List, [], ◌∷◌, ◌++◌, refl, inl, inr, arith, ap, sym, ◌∙◌}
-use Rattle.std.specs.Bool.{beq}
-use Rattle.std.specs.List.{flat_map, range_with_len, sum_by}
+use Rattle.std.proofs.Common.{◌≡◌, ℕ, ◌+◌, ◌-◌, ◌<◌, ◌≤◌, Bool, true, false, nat_lt, min, max, cond}
+use Rattle.std.proofs.Common.{List, [], ◌∷◌, refl, arith}
+use Rattle.std.specs.List.{flat_map, sum_by}
 use Rattle.std.proofs.lemmas.Bool.{cond_both, lt-ltb, ltb-false, ltb-true}
 use Rattle.std.proofs.lemmas.List.Sums.{sum_by-append, sum_by-cons, sum_by-le-sum_by}
 use Rattle.league.proofs.SumLemmas.{sum_by-same}

@@ -1,10 +1,11 @@
 -- Why a count refutes: where the teams need more than there is, the sum of its rows is in conflict.
-use Rattle.std.proofs.Common.{◌≡◌, ℕ, ◌+◌, ◌*◌, ◌<◌, ◌≤◌, Bool, true, false, not, ◌&&◌, ◌==◌, nat_lt, cond, List, [], ◌∷◌, ◌++◌}
-use Rattle.std.proofs.Common.{length, map, refl, inl, inr, arith, ap, sym, ◌∙◌}
+use Rattle.std.proofs.Common.{◌≡◌, ℕ, ◌+◌, ◌*◌, ◌<◌, ◌≤◌, Bool, true, false, not, ◌&&◌, ◌==◌, nat_lt, cond, List, []}
+use Rattle.std.proofs.Common.{◌∷◌, ◌++◌}
+use Rattle.std.proofs.Common.{length, map, refl, arith, ap, sym, ◌∙◌}
 use Rattle.std.specs.Bool.{beq}
-use Rattle.std.specs.List.{filter, flat_map, sum_by}
+use Rattle.std.specs.List.{filter, sum_by}
 use Rattle.std.proofs.Math.Nat.{mul-le-mul}
-use Rattle.std.proofs.lemmas.Bool.{cond_both, ltb-false}
+use Rattle.std.proofs.lemmas.Bool.{ltb-false}
 use Rattle.std.proofs.lemmas.List.{length-map}
 use Rattle.std.proofs.lemmas.List.Concat.{flat_map-append}
 use Rattle.std.proofs.lemmas.List.Sums.{count_by-le-length, length-filter, sum_by-append, sum_by-cons, sum_by-le-sum_by}

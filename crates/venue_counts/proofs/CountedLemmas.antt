@@ -1,11 +1,12 @@
 -- What groups say of a league: where one needs more than there is, its log is accepted, and where none does, no hard
 -- CA1 makes the teams need more.
-use Rattle.std.proofs.Common.{◌≡◌, ℕ, ◌+◌, ◌*◌, ◌/◌, ◌%◌, ◌^◌, ◌<◌, ◌≤◌, Bool, true, false, not, nat_lt, List, [], ◌∷◌, ◌++◌, length}
-use Rattle.std.proofs.Common.{get_or, take, zero, suc, ◌&&◌, length-append, map, Option, Some, None, inl, inr, refl, arith, ap, sym, subst, ◌∙◌}
+use Rattle.std.proofs.Common.{◌≡◌, ℕ, ◌+◌, ◌*◌, ◌/◌, ◌^◌, ◌<◌, ◌≤◌, Bool, true, false, nat_lt, List, [], ◌∷◌, length}
+use Rattle.std.proofs.Common.{get_or, take, zero, suc, ◌&&◌, length-append, map, Option, Some, None, inl, inr, refl}
+use Rattle.std.proofs.Common.{arith, ap, sym, subst, ◌∙◌}
 use Rattle.std.specs.Prelude.{Contains, IsSome, IsTrue, IfSome, is_some, sum, ◌↔◌}
-use Rattle.std.specs.List.{All, filter, list_any, sum_by}
+use Rattle.std.specs.List.{All, filter, sum_by}
 use Rattle.std.proofs.Math.Nat.{mul-le-mul}
-use Rattle.std.proofs.lemmas.Bool.{and_parts, cases_Bool, le-ltb, ltb-true}
+use Rattle.std.proofs.lemmas.Bool.{and_parts, cases_Bool, ltb-true}
 use Rattle.std.proofs.lemmas.List.{length-map, take_all}
 use Rattle.std.proofs.lemmas.List.Elements.{All-contains, All-filter, All-more}
 use Rattle.std.proofs.lemmas.List.Folds.{list_any_at, list_any_none}
@@ -13,14 +14,13 @@ use Rattle.std.proofs.lemmas.List.FromFn.{fill_by_all, length-range_with_len}
 use Rattle.std.proofs.lemmas.List.Sums.{count_by-le-length, length-filter}
 use Rattle.league.proofs.SumLemmas.{sum_by-map, sum_by-same}
 use Rattle.league.specs.Accepted.{hard_of}
-use Rattle.league.specs.Counts.{slot_count, teams_of}
+use Rattle.league.specs.Counts.{teams_of}
 use Rattle.league.specs.Instance.{Instance, IsInstance, are_slots, are_teams, class_fits, is_one_side}
 use Rattle.league.specs.declared.class.Class.{Class}
 use Rattle.league.specs.declared.class.Class.TheVariants.{Ca1, Ca2, Ca3, Ca4, Ga1, Br1, Br2, Fa2, Se1}
 use Rattle.league.specs.declared.class.Constraint.{Constraint}
 use Rattle.league.specs.declared.class.Side.{Side}
 use Rattle.rows.specs.Literals.{Literal}
-use Rattle.rows.specs.Rows.{Row}
 use Rattle.row_sums.specs.Sums.{literal}
 use Rattle.encoding_base.specs.Encoding.{rows_of}
 use Rattle.encoding_base.specs.Variables.{h_var, var_count}
@@ -29,9 +29,10 @@ use Rattle.encoding_sizes.proofs.SizeLemmas.{sum_by-constant}
 use Rattle.refutation.specs.Steps.{Step}
 use Rattle.refutation.specs.Verdict.{verdict_of}
 use Rattle.refutation.specs.declared.verdict.Verdict.TheVariants.{Accepted}
-use Rattle.venue_counts.specs.CountLogs.{AddsUp, IsRefuting, IsShortCount, IsCrowdedCount, counted_rows, slot_row, team_row}
-use Rattle.venue_counts.specs.VenueCounts.{are_short, are_crowded, are_those}
-use Rattle.venue_counts.specs.Needs.{IsCount, bounds_at, counts_home, exceeds, exceeds_at, exceeds_by, is_bounded, need_of}
+use Rattle.venue_counts.specs.CountLogs.{AddsUp, IsShortCount, IsCrowdedCount, counted_rows, slot_row, team_row}
+use Rattle.venue_counts.specs.VenueCounts.{are_short, are_crowded}
+use Rattle.venue_counts.specs.Needs.{IsCount, bounds_at, counts_home, exceeds, exceeds_at, exceeds_by, is_bounded}
+use Rattle.venue_counts.specs.Needs.{need_of}
 use Rattle.venue_counts.specs.Keys.{key_of}
 use Rattle.venue_counts.specs.Groups.{AreAllGroups, AreFound, AreGroups, IsGroup, IsOf, key_at}
 use Rattle.venue_counts.specs.declared.group.Group.{Group}
@@ -41,7 +42,8 @@ use Rattle.venue_counts.proofs.CountLaws.{conflict, degree-all, weight-all}
 use Rattle.venue_counts.proofs.GroupLemmas.{need-unbounded}
 use Rattle.venue_counts.proofs.KeyLemmas.{same_key}
 use Rattle.venue_counts.proofs.MemberLemmas.{any-implied}
-use Rattle.venue_counts.proofs.NeedLemmas.{are_short-exceeds, are_crowded-exceeds, is_short_at-exceeds, those-itself, those-same}
+use Rattle.venue_counts.proofs.NeedLemmas.{are_short-exceeds, are_crowded-exceeds, is_short_at-exceeds, those-itself}
+use Rattle.venue_counts.proofs.NeedLemmas.{those-same}
 use Rattle.venue_counts.proofs.VerdictLaws.{adds_up_accepted}
 
 -- ---- all groups
@@ -96,7 +98,8 @@ abbrev pub NoneExceeds : Limit → ℕ → List Constraint → List Group → Ty
 NoneExceeds limit n constraints groups =
     All (λ g. exceeds_at limit n constraints g.side g.slots.now ≡ false) groups
 
-own_bounds : (side : Side) (slots teams : List ℕ) (min max : ℕ) → bounds_at side slots (Ca1 teams min max side slots) ≡ true
+own_bounds : (side : Side) (slots teams : List ℕ) (min max : ℕ)
+    → bounds_at side slots (Ca1 teams min max side slots) ≡ true
 own_bounds side slots teams min max = those-itself side slots
 
 group-within : (limit : Limit) (n : ℕ) (constraints : List Constraint) (groups : List Group)
@@ -153,7 +156,9 @@ none-exceeds limit league groups instance all none =
 -- ---- where a group needs too much
 
 no_sum : (f : ℕ → ℕ) → ((i : ℕ) → f i ≡ 0) → (xs : List ℕ) → sum_by f xs ≡ 0
-no_sum f none xs = sum_by-same f (λ i. 0) none xs ∙ sum_by-constant 0 xs ∙ (let zero_times : length xs * 0 ≡ 0 = omega arith in zero_times)
+no_sum f none xs =
+    sum_by-same f (λ i. 0) none xs ∙ sum_by-constant 0 xs
+    ∙ (let zero_times : length xs * 0 ≡ 0 = omega arith in zero_times)
 
 bounded-above : (limit : Limit) (n : ℕ) (constraints : List Constraint) (side : Side) (slots : List ℕ)
     → exceeds_at limit n constraints side slots ≡ true → is_bounded constraints side slots ≡ true
@@ -218,7 +223,8 @@ pub count-accepted : (limit : Limit) (league : Instance) (g : Group) (log : List
     → IsGroup limit league.n league.constraints g → sum g.needs.items < 2 ^ 64
     → exceeds_at limit league.n league.constraints g.side g.slots.now ≡ true
     → AddsUp (rows_of league)
-    (counted_rows league.n (counts_home limit g.side) g.slots.now (need_of limit league.constraints g.side g.slots.now)) log
+    (counted_rows league.n (counts_home limit g.side) g.slots.now
+    (need_of limit league.constraints g.side g.slots.now)) log
     → verdict_of (rows_of league) (var_count league) log ≡ Accepted
 count-accepted limit league g log instance is small above adds =
     let n : ℕ = league.n in
@@ -303,7 +309,8 @@ item-exceeds limit n m constraints g answer same is tested =
 
 pub adds-of : (limit : Limit) (league encoded : Instance) (g : Group) (log : List Step) → encoded ≡ league
     → AddsUp (rows_of encoded)
-    (counted_rows encoded.n (counts_home limit g.side) g.slots.now (need_of limit encoded.constraints g.side g.slots.now))
+    (counted_rows encoded.n (counts_home limit g.side) g.slots.now
+    (need_of limit encoded.constraints g.side g.slots.now))
     log
     → AddsUp (rows_of league)
     (counted_rows league.n (counts_home limit g.side) g.slots.now (need_of limit league.constraints g.side g.slots.now))

@@ -1,18 +1,18 @@
 -- Groups, as constraints are added one after another.
-use Rattle.std.proofs.Common.{◌≡◌, ◌≢◌, ℕ, suc, ◌+◌, ◌-◌, ◌*◌, ◌/◌, ◌<◌, ◌≤◌, Bool, true, false, ◌&&◌, ◌||◌, nat_lt, max, cond}
-use Rattle.std.proofs.Common.{List, [], ◌∷◌, ◌++◌, length, get_or, set, Option, Some, None, inl, inr, refl, arith, ap, sym, subst, ◌∙◌}
-use Rattle.std.specs.Prelude.{Contains, IsSome, IsTrue, ◌⊎◌}
-use Rattle.std.specs.List.{All, fold, list_any, sum_by}
+use Rattle.std.proofs.Common.{◌≡◌, ◌≢◌, ℕ, ◌<◌, Bool, true, false, ◌&&◌, max, cond}
+use Rattle.std.proofs.Common.{List, [], ◌∷◌, ◌++◌, length, get_or, set, Option, Some, None, inl, inr, refl, arith, ap}
+use Rattle.std.proofs.Common.{sym, subst, ◌∙◌}
+use Rattle.std.specs.Prelude.{IsSome}
+use Rattle.std.specs.List.{All, fold, list_any}
 use Rattle.std.proofs.lemmas.Bool.{cases_Bool, cases_eq, or_cases, or_parts}
 use Rattle.std.proofs.Math.Seq.{get_or-append_seam}
-use Rattle.std.proofs.lemmas.List.{get_or-set_other, get_or-set_same, get_or_append_left, get_or_default, length-set, length_push}
+use Rattle.std.proofs.lemmas.List.{get_or-set_other, get_or-set_same, get_or_append_left, get_or_default, length-set}
+use Rattle.std.proofs.lemmas.List.{length_push}
 use Rattle.std.proofs.lemmas.List.Elements.{All-push, All-weaker}
 use Rattle.std.proofs.lemmas.Option.{same_Some}
 use Rattle.league.specs.Accepted.{hard_of}
-use Rattle.league.specs.Counts.{teams_of}
 use Rattle.league.specs.Instance.{are_slots, is_one_side}
 use Rattle.league.specs.Sets.{is_in}
-use Rattle.league.specs.declared.class.Class.{Class}
 use Rattle.league.specs.declared.class.Class.TheVariants.{Ca1}
 use Rattle.league.specs.declared.class.Constraint.{Constraint}
 use Rattle.league.specs.declared.class.Side.{Side}
@@ -22,9 +22,8 @@ use Rattle.venue_counts.specs.Keys.{key_of}
 use Rattle.venue_counts.specs.Groups.{AreFound, AreGroups, IsFresh, IsGroup, IsRaised, key_at}
 use Rattle.venue_counts.specs.declared.group.Group.{Group}
 use Rattle.venue_counts.specs.declared.limit.Limit.{Limit}
-use Rattle.venue_counts.proofs.KeyLemmas.{same_key}
 use Rattle.venue_counts.proofs.NeedLemmas.{is_bounded-push, need_by-others, need_by-own, need_folded, need_of-folded}
-use Rattle.venue_counts.proofs.NeedLemmas.{need_of-push, those-itself, those-same}
+use Rattle.venue_counts.proofs.NeedLemmas.{need_of-push, those-same}
 
 -- ---- a constraint that is in no group
 
@@ -165,7 +164,8 @@ found-put n groups g find found side slots fresh put are =
     new_place : (q p : ℕ) → found q ≡ Some p → q ≡ new_key → p ≡ length groups
     new_place q p is same = same_Some p (length groups) (sym is ∙ ap found same ∙ put.new)
 
-    placed : (p : ℕ) (d : Group) → p < length (groups ++ g ∷ []) → found (key_at (get_or (groups ++ g ∷ []) p d)) ≡ Some p
+    placed : (p : ℕ) (d : Group) → p < length (groups ++ g ∷ [])
+        → found (key_at (get_or (groups ++ g ∷ []) p d)) ≡ Some p
     placed p d inside =
         elim (cases_eq p (length groups)) [
           | inl last ↦

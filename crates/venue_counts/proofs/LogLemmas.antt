@@ -1,12 +1,14 @@
 -- The parts of a count's log, one after another, and how long its lines are.
-use Rattle.std.proofs.Common.{◌≡◌, ℕ, zero, suc, ◌+◌, ◌-◌, ◌*◌, ◌^◌, ◌<◌, ◌≤◌, Bool, true, false, not, nat_lt, cond, List, [], ◌∷◌, ◌++◌}
-use Rattle.std.proofs.Common.{length, get_or, take, map, decimal, Option, Some, None, refl, arith, ap, sym, subst, ◌∙◌, length-append}
+use Rattle.std.proofs.Common.{◌≡◌, ℕ, zero, suc, ◌+◌, ◌*◌, ◌^◌, ◌<◌, ◌≤◌, Bool, true, false, not, nat_lt, cond, List}
+use Rattle.std.proofs.Common.{[], ◌∷◌, ◌++◌}
+use Rattle.std.proofs.Common.{length, get_or, take, map, decimal, Option, Some, refl, arith, ap, sym, subst, ◌∙◌}
+use Rattle.std.proofs.Common.{length-append}
 use Rattle.std.specs.Prelude.{Contains, codes}
-use Rattle.std.specs.List.{All, filter, flat_map, range_with_len, slice_get, sum_by}
+use Rattle.std.specs.List.{All, filter, flat_map, range_with_len, sum_by}
 use Rattle.std.proofs.lemmas.Fmt.{length-decimal-le}
 use Rattle.std.proofs.lemmas.List.{append-nil, append_assoc, get_or_read, length-map, map-append, take_more}
 use Rattle.std.proofs.lemmas.List.Concat.{length-flat_map}
-use Rattle.std.proofs.lemmas.List.Elements.{All-cons, All-head, All-nil, All-push, All-tail, All-weaker, filter-append}
+use Rattle.std.proofs.lemmas.List.Elements.{All-cons, All-nil, All-push, All-tail, All-weaker, filter-append}
 use Rattle.std.proofs.lemmas.List.Sums.{sum_by-le}
 use Rattle.std.proofs.lemmas.Option.{slice_get_within}
 use Rattle.std.proofs.lemmas.Bool.{le-ltb, lt-ltb}
@@ -81,7 +83,8 @@ needing-more f need k =
 
 pub named-team : (rows front : List Row) (f : ℕ → Row) (need : ℕ → ℕ) (parts : List Part) (k number : ℕ)
     → AreNamed rows parts (front ++ needing f need k) → nat_lt 0 (need k) ≡ true
-    → row_numbered rows number ≡ Some (f k) → AreNamed rows (parts ++ part number ∷ []) (front ++ needing f need (k + 1))
+    → row_numbered rows number ≡ Some (f k)
+    → AreNamed rows (parts ++ part number ∷ []) (front ++ needing f need (k + 1))
 named-team rows front f need parts k number are some is =
     let more : front ++ needing f need (k + 1) ≡ (front ++ needing f need k) ++ f k ∷ [] =
     ap (λ (rest : List Row). front ++ rest)
@@ -180,7 +183,8 @@ parts-within rows (p ∷ parts) (row ∷ named) are =
 parts-count : (rows : List Row) (parts : List Part) (named : List Row) → AreNamed rows parts named
     → length parts ≡ length named
 parts-count rows parts named are =
-    sym (length-map parts (λ (p : Part). row_numbered rows p.row)) ∙ ap (λ (os : List (Option Row)). length os) are.numbers
+    sym (length-map parts (λ (p : Part). row_numbered rows p.row))
+    ∙ ap (λ (os : List (Option Row)). length os) are.numbers
     ∙ length-map named (λ (r : Row). Some r)
 
 pub names-rows : (rows named : List Row) (log : List Step) → AddsUp rows named log → All NamesRows log
@@ -197,7 +201,8 @@ names-rows rows named log is =
 
 number_short : (n : ℕ) → n < 2 ^ 64 → length (number_text n) ≤ 21
 number_short n small =
-    omega (arith, length-append (decimal n) (codes " "), length-decimal-le 20 n (omega arith) (omega (arith, small)) small)
+    omega
+    (arith, length-append (decimal n) (codes " "), length-decimal-le 20 n (omega arith) (omega (arith, small)) small)
 
 part_short : (p : Part) → p.factor ≡ 1 → p.row < 2 ^ 64 → length (part_text p) ≤ 42
 part_short p once small =

@@ -1,19 +1,20 @@
 -- What teams need, constraint by constraint, and how it goes with their bounds.
-use Rattle.std.proofs.Common.{◌≡◌, ℕ, ◌+◌, ◌-◌, ◌*◌, ◌/◌, ◌%◌, ◌<◌, ◌≤◌, Bool, true, false, ◌&&◌, ◌||◌, nat_lt, min, max, cond}
+use Rattle.std.proofs.Common.{◌≡◌, ℕ, ◌+◌, ◌-◌, ◌*◌, ◌/◌, ◌%◌, ◌<◌, ◌≤◌, Bool, true, false, ◌&&◌, ◌||◌, nat_lt, min}
+use Rattle.std.proofs.Common.{max, cond}
 use Rattle.std.proofs.Common.{List, [], ◌∷◌, ◌++◌, length, suc, inl, inr, refl, arith, ap, sym, ◌∙◌}
 use Rattle.std.specs.Prelude.{Contains, bytes_eq, ◌⊎◌}
-use Rattle.std.specs.List.{filter, fold, list_any, slice_index_or, sum_by}
-use Rattle.std.proofs.lemmas.Bool.{cases_lt, le-ltb, lt-ltb, ltb-true, or_cases}
+use Rattle.std.specs.List.{fold, list_any, slice_index_or, sum_by}
+use Rattle.std.proofs.lemmas.Bool.{cases_lt}
 use Rattle.std.proofs.lemmas.Bool.Decides.{nat_tests}
 use Rattle.std.proofs.lemmas.List.Elements.{filter-append}
 use Rattle.std.proofs.lemmas.List.Folds.{fold_along, list_any-append}
 use Rattle.std.proofs.lemmas.List.FromFn.{length-range_with_len}
-use Rattle.std.proofs.lemmas.List.Sums.{fold_push, sum_by-cons}
+use Rattle.std.proofs.lemmas.List.Sums.{fold_push}
 use Rattle.std.proofs.lemmas.Slice.Eq.{bytes_eq-Decides}
 use Rattle.league.proofs.SumLemmas.{sum_by-add, sum_by-same}
 use Rattle.league.specs.Accepted.{hard_of}
 use Rattle.league.specs.Counts.{teams_of}
-use Rattle.league.specs.Instance.{Instance, is_one_side}
+use Rattle.league.specs.Instance.{Instance}
 use Rattle.league.specs.Sets.{is_in}
 use Rattle.league.specs.declared.class.Class.{Class}
 use Rattle.league.specs.declared.class.Class.TheVariants.{Ca1, Ca2, Ca3, Ca4, Ga1, Br1, Br2, Fa2, Se1}
@@ -21,7 +22,7 @@ use Rattle.league.specs.declared.class.Constraint.{Constraint}
 use Rattle.league.specs.declared.class.Side.{Side}
 use Rattle.league.specs.declared.class.Side.TheVariants.{H, A, Both}
 use Rattle.encoding_sizes.proofs.SizeLemmas.{sum_by-constant}
-use Rattle.venue_counts.specs.VenueCounts.{allowed_by, are_short, are_crowded, are_those, asked_by, bound_of, floor_of}
+use Rattle.venue_counts.specs.VenueCounts.{allowed_by, are_short, are_crowded, are_those, bound_of}
 use Rattle.venue_counts.specs.VenueCounts.{is_crowded_by, is_short_at, is_short_by, is_side}
 use Rattle.venue_counts.specs.Needs.{bounds_at, exceeds, exceeds_at, exceeds_by, is_bounded, need_by, need_of, own_need}
 use Rattle.venue_counts.specs.declared.limit.Limit.{Limit}
@@ -95,7 +96,8 @@ hard_of-push : (constraints : List Constraint) (c : Constraint)
     → hard_of (constraints ++ c ∷ []) ≡ hard_of constraints ++ cond c.hard (c ∷ []) []
 hard_of-push constraints c = filter-append (λ (d : Constraint). d.hard) constraints (c ∷ [])
 
-folded-more : (limit : Limit) (hard : List Constraint) (c : Constraint) (here : Bool) (side : Side) (slots : List ℕ) (i : ℕ)
+folded-more : (limit : Limit) (hard : List Constraint) (c : Constraint) (here : Bool) (side : Side)
+    (slots : List ℕ) (i : ℕ)
     → need_folded limit (hard ++ cond here (c ∷ []) []) side slots i
     ≡ cond here (max (need_folded limit hard side slots i) (need_by limit side slots i c.class))
     (need_folded limit hard side slots i)
@@ -108,7 +110,8 @@ folded-more limit hard c false side slots i =
       append-none (d ∷ cs) = ap (λ (ds : List Constraint). d ∷ ds) (append-none cs)
 
 -- one constraint more
-pub need_of-push : (limit : Limit) (constraints : List Constraint) (c : Constraint) (side : Side) (slots : List ℕ) (i : ℕ)
+pub need_of-push : (limit : Limit) (constraints : List Constraint) (c : Constraint) (side : Side) (slots : List ℕ)
+    (i : ℕ)
     → need_of limit (constraints ++ c ∷ []) side slots i
     ≡ cond c.hard (max (need_of limit constraints side slots i) (need_by limit side slots i c.class))
     (need_of limit constraints side slots i)

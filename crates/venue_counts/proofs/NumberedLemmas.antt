@@ -1,9 +1,9 @@
 -- The literals of a row as they are listed, and the row that they make.
-use Rattle.std.proofs.Common.{◌≡◌, ℕ, ◌+◌, ◌/◌, ◌%◌, ◌<◌, ◌≤◌, Bool, List, [], ◌∷◌, ◌++◌, length, get_or, take, map, Option, Some}
+use Rattle.std.proofs.Common.{◌≡◌, ℕ, ◌+◌, ◌/◌, ◌<◌, ◌≤◌, Bool, List, [], ◌∷◌, ◌++◌, length, get_or, take, map, Some}
 use Rattle.std.proofs.Common.{arith, ap, sym, subst, ◌∙◌}
 use Rattle.std.specs.Prelude.{Contains}
 use Rattle.std.specs.List.{range_with_len}
-use Rattle.std.proofs.lemmas.List.{get_or-map, get_or_default, length-map, take_all}
+use Rattle.std.proofs.lemmas.List.{get_or-map, length-map, take_all}
 use Rattle.std.proofs.lemmas.List.FromFn.{map-range_with_len_more}
 use Rattle.league.specs.Counts.{slot_count, teams_of}
 use Rattle.league.specs.Instance.{Instance, IsTeamCount}
@@ -29,7 +29,8 @@ units-differ terms literals k term lit there at its differ same =
     ∙ ap unit (sym its))
 
 -- one literal more
-pub literals-more : (f : ℕ → Literal) (items : List Literal) (k : ℕ) (lit : Literal) → items ≡ map f (range_with_len 0 k)
+pub literals-more : (f : ℕ → Literal) (items : List Literal) (k : ℕ) (lit : Literal)
+    → items ≡ map f (range_with_len 0 k)
     → lit ≡ f k → items ++ lit ∷ [] ≡ map f (range_with_len 0 (k + 1))
 literals-more f items k lit are is =
     ap (λ (ls : List Literal). ls ++ lit ∷ []) are ∙ ap (λ (l : Literal). map f (range_with_len 0 k) ++ l ∷ []) is

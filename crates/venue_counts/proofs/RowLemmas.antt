@@ -1,8 +1,8 @@
 -- The rows that a count adds up are rows of the league.
-use Rattle.std.proofs.Common.{◌≡◌, ℕ, ◌+◌, ◌-◌, ◌/◌, ◌%◌, ◌<◌, Bool, true, false, not, nat_lt, cond, List, [], ◌∷◌, ◌++◌, length, map}
-use Rattle.std.proofs.Common.{get_or, inl, inr, refl, arith, ap, sym, subst, ◌∙◌}
+use Rattle.std.proofs.Common.{◌≡◌, ℕ, ◌+◌, ◌-◌, ◌/◌, ◌%◌, ◌<◌, Bool, true, false, not, cond, List, ◌++◌, length, map}
+use Rattle.std.proofs.Common.{inl, inr, refl, arith, ap, sym, subst, ◌∙◌}
 use Rattle.std.specs.Prelude.{Contains}
-use Rattle.std.specs.List.{filter, flat_map, range_with_len}
+use Rattle.std.specs.List.{flat_map}
 use Rattle.std.proofs.lemmas.Bool.{cases_Bool, lt-ltb}
 use Rattle.std.proofs.lemmas.List.{length-map}
 use Rattle.std.proofs.lemmas.List.Elements.{Contains-append_left, Contains-append_right}
@@ -133,7 +133,8 @@ own_row limit n side slots i need teams min max one is some =
           let rows_of_team : ℕ → List Row = ca1_rows n min max side slots in
           let here : Contains (rows_of_team i) (other_row limit n side slots i need) =
           subst (λ (r : Row). Contains (rows_of_team i) r) same (limit_row-in limit n min max side slots i) in
-          Contains-filter demands (flat_map (λ rows. rows) (map rows_of_team teams)) (other_row limit n side slots i need)
+          Contains-filter demands (flat_map (λ rows. rows) (map rows_of_team teams))
+          (other_row limit n side slots i need)
           (Contains-flat_map (λ (rows : List Row). rows) (map rows_of_team teams) (rows_of_team i)
           (other_row limit n side slots i need)
           (Contains-map rows_of_team teams i (Contains-from_is_in i teams inside)) here)

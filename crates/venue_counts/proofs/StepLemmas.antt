@@ -1,5 +1,6 @@
 -- The steps by which groups are made: keys, places, and one constraint more.
-use Rattle.std.proofs.Common.{◌≡◌, ◌≢◌, ℕ, ◌+◌, ◌*◌, ◌%◌, ◌^◌, ◌<◌, ◌≤◌, Bool, true, false, ◌&&◌, ◌==◌, nat_lt, cond, List, [], ◌∷◌, ◌++◌}
+use Rattle.std.proofs.Common.{◌≡◌, ◌≢◌, ℕ, ◌+◌, ◌*◌, ◌%◌, ◌^◌, ◌<◌, ◌≤◌, Bool, true, false, ◌&&◌, ◌==◌, nat_lt, cond}
+use Rattle.std.proofs.Common.{List, [], ◌∷◌, ◌++◌}
 use Rattle.std.proofs.Common.{length, get_or, set, take, Option, Some, None, refl, arith, ap, sym, subst, ◌∙◌}
 use Rattle.std.specs.Prelude.{IsTrue}
 use Rattle.std.specs.List.{All}
@@ -8,10 +9,10 @@ use Rattle.std.specs.Ordering.{is_eq, nat_cmp}
 use Rattle.std.specs.declared.cmp.Ordering.TheVariants.{Less, Equal, Greater}
 use Rattle.std.proofs.Math.Nat.{pow-le-pow_right}
 use Rattle.std.proofs.lemmas.Bool.Decides.{nat_tests}
-use Rattle.std.proofs.lemmas.List.{get_or_default, take_all, take_more}
+use Rattle.std.proofs.lemmas.List.{take_all, take_more}
 use Rattle.std.proofs.lemmas.List.Sums.{sum_by_more}
 use Rattle.std.proofs.lemmas.Nat.{one_shl}
-use Rattle.league.specs.Instance.{are_slots, class_fits, is_one_side}
+use Rattle.league.specs.Instance.{class_fits}
 use Rattle.league.specs.declared.class.Class.{Class}
 use Rattle.league.specs.declared.class.Class.TheVariants.{Ca1, Ca2, Ca3, Ca4, Ga1, Br1, Br2, Fa2, Se1}
 use Rattle.league.specs.declared.class.Constraint.{Constraint}
@@ -79,8 +80,8 @@ put-of before after key place wanted count is at updates absent =
     (put-from before after key place updates absent))
 
 -- the group at a place
-pub group-at : (limit : Limit) (n : ℕ) (constraints : List Constraint) (groups : List Group) (find : ℕ → Option ℕ) (p : ℕ)
-    (g : Group) → AreGroups limit n constraints groups find → p < length groups → g ≡ get_or groups p g
+pub group-at : (limit : Limit) (n : ℕ) (constraints : List Constraint) (groups : List Group) (find : ℕ → Option ℕ)
+    (p : ℕ) (g : Group) → AreGroups limit n constraints groups find → p < length groups → g ≡ get_or groups p g
     → IsGroup limit n constraints g
 group-at limit n constraints groups find p g are within at =
     subst (λ (e : Group). IsGroup limit n constraints e) (sym at) (are.each p g within)

@@ -1,5 +1,5 @@
 -- Venue counts of four teams by hand: in k slots there are 2 k home games, and as many away.
-use Rattle.std.proofs.Common.{◌≡◌, ℕ, ◌-◌, Bool, true, false, List, [], ◌∷◌, map, length, refl}
+use Rattle.std.proofs.Common.{◌≡◌, ℕ, ◌-◌, Bool, true, false, List, [], ◌∷◌, map, refl}
 use Rattle.league.specs.Instance.{Instance}
 use Rattle.league.specs.declared.class.Class.TheVariants.{Ca1}
 use Rattle.league.specs.declared.class.Constraint.{Constraint}
@@ -79,7 +79,8 @@ pub least : map
     ≡ 2 ∷ 1 ∷ 2 ∷ 2 ∷ []
 least = refl
 
-pub no_more_than_slots : map (bound_of (at_most (0 ∷ 1 ∷ []) 9 H three_slots ∷ []) H three_slots) all ≡ 3 ∷ 3 ∷ 3 ∷ 3 ∷ []
+pub no_more_than_slots : map (bound_of (at_most (0 ∷ 1 ∷ []) 9 H three_slots ∷ []) H three_slots) all
+    ≡ 3 ∷ 3 ∷ 3 ∷ 3 ∷ []
 no_more_than_slots = refl
 
 -- a lower bound allows nothing more or less
@@ -105,7 +106,8 @@ pub one_too_many : are_crowded
 one_too_many = refl
 
 pub most : map
-    (floor_of (ca1 true all 1 3 H three_slots ∷ ca1 true (1 ∷ []) 2 3 H three_slots ∷ ca1 false all 3 3 H three_slots ∷ [])
+    (floor_of
+    (ca1 true all 1 3 H three_slots ∷ ca1 true (1 ∷ []) 2 3 H three_slots ∷ ca1 false all 3 3 H three_slots ∷ [])
     H three_slots)
     all
     ≡ 1 ∷ 2 ∷ 1 ∷ 1 ∷ []

@@ -1,21 +1,21 @@
 -- A log of two steps is accepted where the sum that it begins with is in conflict.
-use Rattle.std.proofs.Common.{◌≡◌, ℕ, zero, suc, ◌+◌, ◌≤◌, Bool, true, List, [], ◌∷◌, ◌++◌, length, cond, Option, Some, None}
+use Rattle.std.proofs.Common.{◌≡◌, ℕ, suc, ◌+◌, ◌≤◌, Bool, true, List, [], ◌∷◌, ◌++◌, length, cond, Option, Some, None}
 use Rattle.std.proofs.Common.{refl, arith, ap, ◌∙◌}
-use Rattle.std.specs.Prelude.{Result, Ok, Err}
+use Rattle.std.specs.Prelude.{Result, Ok}
 use Rattle.std.specs.List.{slice_get, sum_by}
 use Rattle.rows.specs.Rows.{Row}
 use Rattle.rows.specs.Forcing.{with_forced}
-use Rattle.row_sums.specs.Sums.{Totals, cancelled, divided, no_totals, weight_of, widest}
-use Rattle.refutation.specs.Following.{add_parts, after_row, all_free, is_in_conflict, judged, replay, row_numbered, row_of}
+use Rattle.row_sums.specs.Sums.{Totals, cancelled, no_totals, weight_of, widest}
+use Rattle.refutation.specs.Following.{add_parts, after_row, all_free, is_in_conflict, judged, replay, row_numbered}
+use Rattle.refutation.specs.Following.{row_of}
 use Rattle.refutation.specs.Following.{row_unless}
 use Rattle.refutation.specs.Steps.{Step}
 use Rattle.refutation.specs.Steps.Step.{Clause, Linear}
-use Rattle.refutation.specs.Verdict.{ends_empty, fault_or, first_fault, verdict_by, verdict_of}
+use Rattle.refutation.specs.Verdict.{fault_or, first_fault, verdict_by, verdict_of}
 use Rattle.refutation.specs.declared.step.Part.{Part}
 use Rattle.refutation.specs.declared.verdict.Cause.{Cause}
-use Rattle.refutation.specs.declared.verdict.Verdict.{Verdict}
 use Rattle.refutation.specs.declared.verdict.Verdict.TheVariants.{Accepted}
-use Rattle.venue_counts.specs.CountLogs.{AddsUp, AreNamed}
+use Rattle.venue_counts.specs.CountLogs.{AddsUp}
 use Rattle.venue_counts.proofs.AddedLemmas.{all_added, divided-one, parts-added, terms_of}
 
 -- the row behind these

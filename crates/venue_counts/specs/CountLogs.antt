@@ -1,13 +1,12 @@
 -- The log of venue counts: the rows of some slots and of the teams that are bounded there, added up, and then the empty
 -- clause.
-use Rattle.std.specs.Prelude.{◌≡◌, ℕ, ◌+◌, ◌-◌, ◌/◌, Bool, true, not, nat_lt, List, [], ◌∷◌, ◌++◌, length, map, Option, Some}
+use Rattle.std.specs.Prelude.{◌≡◌, ℕ, ◌+◌, ◌-◌, ◌/◌, Bool, true, not, nat_lt, List, [], ◌∷◌, ◌++◌, length, map, Some}
 use Rattle.std.specs.List.{All, filter}
 use Rattle.league.specs.Counts.{teams_of}
 use Rattle.league.specs.Instance.{Instance}
 use Rattle.league.specs.declared.class.Side.{Side}
 use Rattle.league.specs.declared.class.Side.TheVariants.{H, A}
 use Rattle.rows.specs.Cardinality.{at_least}
-use Rattle.rows.specs.Literals.{Literal}
 use Rattle.rows.specs.Rows.{Row}
 use Rattle.row_sums.specs.Sums.{literal}
 use Rattle.encoding_base.specs.Encoding.{rows_of}

@@ -1,5 +1,6 @@
 -- Venue counts (own): in a slot half of the teams play at home and half away, so that in k slots all teams together
--- have k times n/2 games on either side. Hard constraints CA1 over exactly these slots may allow fewer, or ask for more.
+-- have k times n/2 games on either side. Hard constraints CA1 over exactly these slots may allow fewer, or ask for
+-- more.
 use Rattle.std.specs.Prelude.{ℕ, ◌*◌, ◌/◌, Bool, true, false, ◌&&◌, nat_lt, min as smaller, max as larger}
 use Rattle.std.specs.Prelude.{if◌then◌else◌, List, length, bytes_eq}
 use Rattle.std.specs.List.{fold, list_any, sum_by}
@@ -54,7 +55,8 @@ are_short league = list_any (λ c. is_short_by league.n league.constraints c.cla
 
 -- ---- too many games are asked for
 
--- how many games on a side in exactly these slots a class asks of team i: `min` of a CA1 that bounds them, and else none
+-- how many games on a side in exactly these slots a class asks of team i: `min` of a CA1 that bounds them, and
+-- else none
 abbrev pub asked_by : Side → List ℕ → ℕ → Class → ℕ
 asked_by side slots i (Ca1 teams min max other others) =
     if are_those side slots other others && is_in i teams then min else 0

@@ -1,5 +1,6 @@
 //! The hard CA1 of a league, grouped by side and set of slots.
-ghost use Rattle.std.specs.Prelude.{◌≡◌, ℕ, List, ◌+◌, ◌*◌, ◌^◌, ◌<◌, ◌≤◌, length, take, None, IfOk, OnOk, IsTrue, slice_index_or};
+ghost use Rattle.std.specs.Prelude.{◌≡◌, ℕ, List, ◌+◌, ◌*◌, ◌^◌, ◌<◌, ◌≤◌, length, take, None, IfOk, OnOk, IsTrue};
+ghost use Rattle.std.specs.Prelude.{slice_index_or};
 ghost use Rattle.std.specs.BTreeMap.{get};
 ghost use Rattle.std.specs.List.{All};
 ghost use Rattle.std.specs.Ordering.{nat_cmp};
@@ -59,7 +60,8 @@ impl<'a> Groups<'a> {
         requires there { k < length constraints.now }
         requires fit { All (λ c. IsTrue (class_fits n c.class)) constraints.now }
         requires found { AreFound self.old.groups.items (get nat_cmp self.old.places) }
-        requires groups { AreGroups limit n (take k constraints.now) self.old.groups.items (get nat_cmp self.old.places) }
+        requires groups { AreGroups limit n (take k constraints.now)
+            self.old.groups.items (get nat_cmp self.old.places) }
         ensures found { OnOk result (AreFound self.new.groups.items (get nat_cmp self.new.places)) }
         ensures groups { OnOk result (AreGroups limit n (take (k + 1) constraints.now)
             self.new.groups.items (get nat_cmp self.new.places)) }

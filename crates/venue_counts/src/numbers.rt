@@ -1,5 +1,6 @@
 //! The numbers of a league's rows, from 1.
-ghost use Rattle.std.specs.Prelude.{◌≡◌, ◌%◌, ◌^◌, ◌<◌, ◌≤◌, ◌↔◌, true, Some, length, map, IfOk, IsTrue, Contains, slice_get};
+ghost use Rattle.std.specs.Prelude.{◌≡◌, ◌%◌, ◌^◌, ◌<◌, ◌≤◌, ◌↔◌, true, Some, length, map, IfOk, IsTrue, Contains};
+ghost use Rattle.std.specs.Prelude.{slice_get};
 ghost use Rattle.league.specs.Counts.{slot_count};
 ghost use Rattle.league.specs.Instance.{are_slots};
 ghost use Rattle.rows.specs.Cardinality.{at_least, unit};

@@ -2,7 +2,8 @@ use Rattle.std.proofs.Common.{arith, sym, true, ◌≡◌, ◌∙◌}
 use Rattle.encoding_base.proofs.FewLemmas.{slots_few}
 use Rattle.venue_counts.specs.Groups.{IsGroup}
 use Rattle.venue_counts.specs.Needs.{exceeds_at}
-use Rattle.venue_counts.proofs.CountedLemmas.{adds-of, all-within, count-accepted, exceeds-from, item-exceeds, item-group, more-within}
+use Rattle.venue_counts.proofs.CountedLemmas.{adds-of, all-within, count-accepted, exceeds-from, item-exceeds}
+use Rattle.venue_counts.proofs.CountedLemmas.{item-group, more-within}
 use Rattle.venue_counts.proofs.counts.count.Goals as goal
 
 pub exceeds-requires-clause-slots : goal.exceeds-requires-clause-slots

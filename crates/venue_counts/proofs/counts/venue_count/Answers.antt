@@ -1,7 +1,4 @@
-use Rattle.std.proofs.Common.{Option, List}
 use Rattle.std.proofs.lemmas.Result.{IfOk-weaker}
-use Rattle.refutation.specs.Steps.{Step}
-use Rattle.venue_counts.specs.declared.limit.Limit.TheVariants.{Most}
 use Rattle.venue_counts.proofs.CountedLemmas.{are_short-told, short-counted}
 use Rattle.venue_counts.proofs.counts.venue_count.Goals as goal
 

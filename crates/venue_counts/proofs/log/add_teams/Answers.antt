@@ -7,8 +7,8 @@ pub team_number-requires-clause-there : goal.team_number-requires-clause-there
 team_number-requires-clause-there c =
     team-there c.args.limit c.args.encoding.now c.args.group.now c.requires.group c.loop-team.team c.from.result
     c.index-need.result.now c.counts_home-home.result
-    (omega (arith, c.loop-team-test.true, c.n-team-end.ensures.n)) c.from.ensures c.index-need.ensures c.if-need-gt0.true
-    c.counts_home-home.ensures
+    (omega (arith, c.loop-team-test.true, c.n-team-end.ensures.n)) c.from.ensures c.index-need.ensures
+    c.if-need-gt0.true c.counts_home-home.ensures
 
 pub loop-team-preserved : goal.loop-team-preserved
 loop-team-preserved c =

@@ -1,10 +1,8 @@
 use Rattle.std.proofs.Common.{ap, arith, ◌∙◌}
 use Rattle.row_sums.specs.Sums.{literal}
-use Rattle.encoding_base.specs.Encoding.{rows_of}
 use Rattle.encoding_base.specs.Variables.{h_var}
 use Rattle.rows.specs.Cardinality.{at_least}
-use Rattle.venue_counts.specs.CountLogs.{slot_row}
-use Rattle.venue_counts.proofs.NumberedLemmas.{literals-more, numbered-as, slot_row-as, slot_row-shown}
+use Rattle.venue_counts.proofs.NumberedLemmas.{literals-more, slot_row-as, slot_row-shown}
 use Rattle.venue_counts.proofs.numbers.slot_number.Goals as goal
 
 pub loop-team-preserved : goal.loop-team-preserved
