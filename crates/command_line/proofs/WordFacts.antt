@@ -1,7 +1,7 @@
 -- Worked readings of words, so that a wrong definition does not check.
 use Rattle.std.proofs.Common.{◌≡◌, true, false, [], ◌∷◌, Some, None, codes, refl}
 use Rattle.command_line.specs.Words.{budget_in, is_file_name, is_shortest, number_in, reading, team_count_in, NeedsNoFile}
-use Rattle.command_line.specs.Words.Command.{Check, Circle, Make, Solve, Validate}
+use Rattle.command_line.specs.Words.Command.{Check, Circle, Make, Patterns, Solve, Validate}
 
 -- a number: 0 itself, no leading zero, no sign, no blank, at most 2 ^ 64 - 1
 pub number_in-some : (number_in (codes "0") ≡ Some 0) × (number_in (codes "10") ≡ Some 10) × (number_in (codes "18446744073709551615") ≡ Some 18446744073709551615)
@@ -59,6 +59,21 @@ solve-reads = (refl, refl, refl, refl)
 pub solve-none : (reading (codes "solve" ∷ []) ≡ None) × (reading (codes "solve" ∷ codes "a" ∷ codes "b" ∷ []) ≡ None) × (reading (codes "solve" ∷ codes "--conflicts" ∷ codes "7" ∷ []) ≡ None) × (reading (codes "solve" ∷ codes "--conflicts" ∷ codes "7" ∷ codes "--conflicts" ∷ codes "7" ∷ codes "a" ∷ []) ≡ None) × (reading (codes "solve" ∷ codes "a" ∷ codes "--conflicts" ∷ []) ≡ None) × (reading (codes "solve" ∷ codes "--conflicts" ∷ codes "07" ∷ codes "a" ∷ []) ≡ None) × (reading (codes "solve" ∷ codes "--conflicts" ∷ codes "7" ∷ codes "-a" ∷ []) ≡ None) × (reading (codes "solve" ∷ codes "--conflicts" ∷ codes "--conflicts" ∷ codes "7" ∷ []) ≡ None) × (reading (codes "solve" ∷ codes "--conflict" ∷ codes "7" ∷ codes "a" ∷ []) ≡ None) × (reading (codes "solve" ∷ codes "a" ∷ codes "b" ∷ codes "c" ∷ []) ≡ None) × (reading (codes "circle" ∷ codes "--conflicts" ∷ codes "7" ∷ codes "4" ∷ []) ≡ None) × (reading (codes "solve" ∷ codes "-a" ∷ []) ≡ None)
 solve-none = (refl, refl, refl, refl, refl, refl, refl, refl, refl, refl, refl, refl)
 
+-- `patterns` with the usual budget, and with another before the file or behind it
+pub patterns-reads : (reading (codes "patterns" ∷ codes "a" ∷ []) ≡ Some (Patterns (codes "a") (Some 2000)))
+    × (reading (codes "patterns" ∷ codes "--conflicts" ∷ codes "7" ∷ codes "a" ∷ []) ≡ Some (Patterns (codes "a") (Some 7)))
+    × (reading (codes "patterns" ∷ codes "a" ∷ codes "--conflicts" ∷ codes "all" ∷ []) ≡ Some (Patterns (codes "a") None))
+patterns-reads = (refl, refl, refl)
+
+-- an option of `solve` alone, two files, none, an option alone or without its value, a wrong one, another spelling
+pub patterns-none : (reading (codes "patterns" ∷ codes "a" ∷ codes "--moves" ∷ codes "1" ∷ []) ≡ None)
+    × (reading (codes "patterns" ∷ codes "a" ∷ codes "b" ∷ []) ≡ None) × (reading (codes "patterns" ∷ []) ≡ None)
+    × (reading (codes "patterns" ∷ codes "--conflicts" ∷ codes "7" ∷ []) ≡ None)
+    × (reading (codes "patterns" ∷ codes "a" ∷ codes "--conflicts" ∷ []) ≡ None)
+    × (reading (codes "patterns" ∷ codes "a" ∷ codes "--conflicts" ∷ codes "07" ∷ []) ≡ None)
+    × (reading (codes "patterns" ∷ codes "-a" ∷ []) ≡ None) × (reading (codes "pattern" ∷ codes "a" ∷ []) ≡ None)
+patterns-none = (refl, refl, refl, refl, refl, refl, refl, refl)
+
 -- no words, one, too few or too many for a command, an option, another command
 pub reading-none : (reading [] ≡ None) × (reading (codes "circle" ∷ []) ≡ None) × (reading (codes "circle" ∷ codes "4" ∷ codes "4" ∷ []) ≡ None) × (reading (codes "validate" ∷ codes "a" ∷ []) ≡ None) × (reading (codes "validate" ∷ codes "a" ∷ codes "--b" ∷ []) ≡ None) × (reading (codes "validate" ∷ codes "-a" ∷ codes "b" ∷ []) ≡ None) × (reading (codes "Validate" ∷ codes "a" ∷ codes "b" ∷ []) ≡ None) × (reading (codes "Circle" ∷ codes "4" ∷ []) ≡ None)
 reading-none = (refl, refl, refl, refl, refl, refl, refl, refl)
@@ -68,5 +83,5 @@ pub reading-longer : (reading (codes "validate" ∷ codes "a" ∷ codes "b" ∷ 
 reading-longer = (refl, refl, refl, refl)
 
 -- which words need no file
-pub needs_no_file : NeedsNoFile (reading []) × NeedsNoFile (reading (codes "circle" ∷ codes "4" ∷ [])) × NeedsNoFile (reading (codes "make" ∷ codes "4" ∷ codes "1" ∷ [])) × (NeedsNoFile (reading (codes "validate" ∷ codes "a" ∷ codes "b" ∷ [])) → ⊥) × (NeedsNoFile (reading (codes "check" ∷ codes "a" ∷ codes "b" ∷ [])) → ⊥) × (NeedsNoFile (reading (codes "solve" ∷ codes "a" ∷ [])) → ⊥)
-needs_no_file = (tt, tt, tt, λ h. h, λ h. h, λ h. h)
+pub needs_no_file : NeedsNoFile (reading []) × NeedsNoFile (reading (codes "circle" ∷ codes "4" ∷ [])) × NeedsNoFile (reading (codes "make" ∷ codes "4" ∷ codes "1" ∷ [])) × (NeedsNoFile (reading (codes "validate" ∷ codes "a" ∷ codes "b" ∷ [])) → ⊥) × (NeedsNoFile (reading (codes "check" ∷ codes "a" ∷ codes "b" ∷ [])) → ⊥) × (NeedsNoFile (reading (codes "solve" ∷ codes "a" ∷ [])) → ⊥) × (NeedsNoFile (reading (codes "patterns" ∷ codes "a" ∷ [])) → ⊥)
+needs_no_file = (tt, tt, tt, λ h. h, λ h. h, λ h. h, λ h. h)

@@ -1,6 +1,6 @@
 -- What a contract sees of a command.
 use Rattle.command_line.specs.Words.{Command}
-use Rattle.command_line.specs.Words.Command.{Validate, Check, Solve, Circle, Make}
+use Rattle.command_line.specs.Words.Command.{Validate, Check, Solve, Patterns, Circle, Make}
 use Rattle.command_line.specs.declared.words.Words.{Words}
 use Rattle.command_line.specs.declared.words.Words.TheVariants as words
 
@@ -9,5 +9,6 @@ abbrev pub command_of : Words → Command
 command_of (words.Validate instance solution) = Validate instance.now solution.now
 command_of (words.Check instance log) = Check instance.now log.now
 command_of (words.Solve instance conflicts) = Solve instance.now conflicts
+command_of (words.Patterns instance conflicts) = Patterns instance.now conflicts
 command_of (words.Circle n) = Circle n
 command_of (words.Make n seed) = Make n seed

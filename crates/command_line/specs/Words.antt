@@ -11,6 +11,7 @@ pub data Command : Type 0 where
   Validate : (instance solution : List ℕ) → Command
   Check : (instance log : List ℕ) → Command
   Solve : (instance : List ℕ) → (conflicts : Option ℕ) → Command
+  Patterns : (instance : List ℕ) → (conflicts : Option ℕ) → Command
   Circle : (n : ℕ) → Command
   Make : (n seed : ℕ) → Command
 
@@ -48,7 +49,9 @@ abbrev pub over_one : List ℕ → List ℕ → Option Command
 over_one command argument =
     if bytes_eq command (codes "solve")
     then (if is_file_name argument then Some (Solve argument (Some usual_conflicts)) else None)
-    else (if bytes_eq command (codes "circle") then option_map Circle (team_count_in argument) else None)
+    else (if bytes_eq command (codes "patterns")
+    then (if is_file_name argument then Some (Patterns argument (Some usual_conflicts)) else None)
+    else (if bytes_eq command (codes "circle") then option_map Circle (team_count_in argument) else None))
 
 -- the command of this name over two files
 abbrev pub over_files : List ℕ → List ℕ → List ℕ → Option Command
@@ -70,6 +73,15 @@ with_option first second third =
     if bytes_eq first (codes "--conflicts") then solving third second
     else (if bytes_eq second (codes "--conflicts") then solving first third else None)
 
+-- the same for `patterns`
+abbrev pub patterning : List ℕ → List ℕ → Option Command
+patterning file budget = if is_file_name file then option_map (Patterns file) (budget_in budget) else None
+
+abbrev pub patterns_with : List ℕ → List ℕ → List ℕ → Option Command
+patterns_with first second third =
+    if bytes_eq first (codes "--conflicts") then patterning third second
+    else (if bytes_eq second (codes "--conflicts") then patterning first third else None)
+
 -- the one reading of the words, or none
 abbrev pub reading : List (List ℕ) → Option Command
 reading (command ∷ argument ∷ []) = over_one command argument
@@ -77,7 +89,8 @@ reading (command ∷ first ∷ second ∷ []) =
     if bytes_eq command (codes "make") then making first second
     else (if is_file_name first && is_file_name second then over_files command first second else None)
 reading (command ∷ first ∷ second ∷ third ∷ []) =
-    if bytes_eq command (codes "solve") then with_option first second third else None
+    if bytes_eq command (codes "solve") then with_option first second third
+    else (if bytes_eq command (codes "patterns") then patterns_with first second third else None)
 reading _ = None
 
 -- a league may have the teams of a command, where it names a number of them
@@ -85,6 +98,7 @@ abbrev pub HasTeams : Command → Type 0
 HasTeams (Validate instance solution) = Unit {0}
 HasTeams (Check instance log) = Unit {0}
 HasTeams (Solve instance conflicts) = Unit {0}
+HasTeams (Patterns instance conflicts) = Unit {0}
 HasTeams (Circle n) = IsTeamCount n
 HasTeams (Make n seed) = IsTeamCount n
 
@@ -96,3 +110,4 @@ NeedsNoFile (Some (Make n seed)) = Unit {0}
 NeedsNoFile (Some (Validate instance solution)) = ⊥
 NeedsNoFile (Some (Check instance log)) = ⊥
 NeedsNoFile (Some (Solve instance conflicts)) = ⊥
+NeedsNoFile (Some (Patterns instance conflicts)) = ⊥

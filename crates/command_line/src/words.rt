@@ -1,8 +1,8 @@
 //! The words of the command line.
 ghost use Rattle.std.specs.Prelude.{◌≡◌, if◌then◌else◌, [], ◌∷◌, None, Some, map, string_bytes, option_map, IfSome};
-ghost use Rattle.command_line.specs.Words.{reading, budget_in, is_file_name, HasTeams, making, number_in, solving};
-ghost use Rattle.command_line.specs.Words.{team_count_in, usual_conflicts, with_option};
-ghost use Rattle.command_line.specs.Words.Command.{Circle, Solve};
+ghost use Rattle.command_line.specs.Words.{reading, budget_in, is_file_name, HasTeams, making, number_in, patterning};
+ghost use Rattle.command_line.specs.Words.{patterns_with, solving, team_count_in, usual_conflicts, with_option};
+ghost use Rattle.command_line.specs.Words.Command.{Circle, Patterns, Solve};
 ghost use Rattle.command_line.specs.SeenWords.{command_of};
 
 use league::is_team_count;
@@ -24,6 +24,12 @@ pub enum Words<'a> {
     /// Search a schedule that the league of an instance file accepts, or a log that refutes the league. The search
     /// may learn so many clauses, or any number of them.
     Solve {
+        instance: &'a str,
+        conflicts: Option<u64>,
+    },
+    /// Search patterns that the pattern rows of the league of an instance file allow, or a log that refutes them. The
+    /// search may learn so many clauses, or any number of them.
+    Patterns {
         instance: &'a str,
         conflicts: Option<u64>,
     },
@@ -102,6 +108,9 @@ fn with_one<'a>(command: &str, argument: &'a str) -> Option<Words<'a>>
     if command == "solve" {
         return usual_solve(argument);
     }
+    if command == "patterns" {
+        return usual_patterns(argument);
+    }
     if command != "circle" {
         return None;
     }
@@ -124,6 +133,22 @@ fn usual_solve(file: &str) -> Option<Words<'_>>
     })
 }
 
+/// `patterns` over a file, with the usual budget.
+fn usual_patterns(file: &str) -> Option<Words<'_>>
+    ensures reading { option_map command_of result
+        ≡ if is_file_name file.now then Some (Patterns file.now (Some usual_conflicts)) else None }
+    ensures teams { IfSome result (λ command. HasTeams (command_of command)) }
+{
+    if !is_name(file) {
+        return None;
+    }
+    let conflicts = Some(USUAL_CONFLICTS);
+    Some(Words::Patterns {
+        instance: file,
+        conflicts,
+    })
+}
+
 /// The command of this name with three words.
 fn with_three<'a>(
     command: &str,
@@ -135,10 +160,13 @@ fn with_three<'a>(
         ≡ reading (command.now ∷ first.now ∷ second.now ∷ third.now ∷ []) }
     ensures teams { IfSome result (λ command. HasTeams (command_of command)) }
 {
-    if command != "solve" {
-        return None;
+    if command == "solve" {
+        with_option(first, second, third)
+    } else if command == "patterns" {
+        patterns_with(first, second, third)
+    } else {
+        None
     }
-    with_option(first, second, third)
 }
 
 /// `solve` over a file with the option `--conflicts` and its value, before the file or behind it.
@@ -165,6 +193,35 @@ fn solve_within<'a>(file: &'a str, word: &str) -> Option<Words<'a>>
     }
     let conflicts = budget(word)?;
     Some(Words::Solve {
+        instance: file,
+        conflicts,
+    })
+}
+
+/// `patterns` over a file with the option `--conflicts` and its value, before the file or behind it.
+fn patterns_with<'a>(first: &'a str, second: &'a str, third: &'a str) -> Option<Words<'a>>
+    ensures reading { option_map command_of result ≡ patterns_with first.now second.now third.now }
+    ensures teams { IfSome result (λ command. HasTeams (command_of command)) }
+{
+    if first == "--conflicts" {
+        patterns_within(third, second)
+    } else if second == "--conflicts" {
+        patterns_within(first, third)
+    } else {
+        None
+    }
+}
+
+/// `patterns` over a file, within a budget.
+fn patterns_within<'a>(file: &'a str, word: &str) -> Option<Words<'a>>
+    ensures reading { option_map command_of result ≡ patterning file.now word.now }
+    ensures teams { IfSome result (λ command. HasTeams (command_of command)) }
+{
+    if !is_name(file) {
+        return None;
+    }
+    let conflicts = budget(word)?;
+    Some(Words::Patterns {
         instance: file,
         conflicts,
     })

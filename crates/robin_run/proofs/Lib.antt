@@ -1,6 +1,8 @@
--- Lemmas on runs of `check` and of `solve`, and on want of memory:
+-- Lemmas on runs of each command, and on want of memory:
+mod ValidateLemmas
 mod CheckLemmas
 mod SolveLemmas
+mod PatternLemmas
 mod MemoryLemmas
 -- Worked examples, so that a wrong definition does not check:
 mod RunFacts

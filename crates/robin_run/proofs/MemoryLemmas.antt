@@ -9,7 +9,7 @@ use Rattle.robinx_form.specs.SolutionFile.{solution_of}
 use Rattle.robinx_form.specs.Walk.{Fault}
 use Rattle.robinx_read.specs.declared.instance.TheConstants.{INSTANCE_LIMIT, SOLUTION_LIMIT}
 use Rattle.command_line.specs.Words.{Command}
-use Rattle.command_line.specs.Words.Command.{Check, Circle, Make, Solve, Validate}
+use Rattle.command_line.specs.Words.Command.{Check, Circle, Make, Patterns, Solve, Validate}
 use Rattle.answers.specs.Reply.{Answer}
 use Rattle.answers.specs.Stages.{IsWritten, Outcome, reads, says}
 use Rattle.answers.specs.declared.status.Status.{Status}
@@ -22,6 +22,7 @@ use Rattle.refutation.specs.declared.verdict.Verdict.{Verdict}
 use Rattle.refutation.specs.declared.verdict.Verdict.TheVariants.{Accepted, Rejected}
 use Rattle.validate_answer.specs.Validate.{IsJudgement, validated}
 use Rattle.check_answer.specs.Check.{IsVerdict, checked, encodes, most_log_bytes, says_log, verdict_answer}
+use Rattle.patterns_answer.specs.Patterns.{AreFound, patterned}
 use Rattle.solve_answer.specs.Solve.{IsFound, solved}
 use Rattle.robin_run.specs.Answer.{IsAnswer}
 
@@ -105,6 +106,29 @@ solved-memory contents took_more failed instance conflicts answer ended given =
     (λ bytes at_bytes. said-memory (codes "instance") (instance_of (pieces bytes)) (λ league. encodes league (IsFound league conflicts)) answer ended
     (λ league at_league. encodes-memory league (IsFound league conflicts) answer ended (λ rows found. found-memory league conflicts rows answer ended found) at_league) at_bytes) given
 
+-- ---- `patterns`
+
+patterns-memory : (league : Instance) (conflicts : Option ℕ) (answer : Answer) → answer.status ≡ Memory
+    → AreFound league conflicts answer → ⊥
+patterns-memory league conflicts answer ended (inl found) =
+    let same : Yes ≡ Memory = sym found.status ∙ ended in cc
+patterns-memory league conflicts answer ended (inr (inl refuted)) =
+    let same : Refuted ≡ Memory = sym refuted.status ∙ ended in cc
+patterns-memory league conflicts answer ended (inr (inr spent)) =
+    let same : Spent ≡ Memory = sym spent.status ∙ ended in cc
+
+patterned-memory : (contents : List ℕ → Option (List ℕ)) (took_more : ℕ → Type 0) (failed : List ℕ → Type 0)
+    (instance : List ℕ) (conflicts : Option ℕ) (answer : Answer) → answer.status ≡ Memory
+    → patterned contents took_more failed instance conflicts answer → ⊥
+patterned-memory contents took_more failed instance conflicts answer ended given =
+    read-memory (codes "instance") (contents instance) INSTANCE_LIMIT (took_more INSTANCE_LIMIT) (failed instance)
+    (λ bytes. says (codes "instance") (instance_of (pieces bytes))
+    (λ league. encodes league (λ rows. AreFound league conflicts))) answer ended
+    (λ bytes at_bytes. said-memory (codes "instance") (instance_of (pieces bytes))
+    (λ league. encodes league (λ rows. AreFound league conflicts)) answer ended
+    (λ league at_league. encodes-memory league (λ rows. AreFound league conflicts) answer ended
+    (λ rows found. patterns-memory league conflicts answer ended found) at_league) at_bytes) given
+
 -- ---- a run
 
 answer-memory : (words : Option Command) (contents : List ℕ → Option (List ℕ)) (took_more : ℕ → Type 0) (failed : List ℕ → Type 0) (answer : Answer) → answer.status ≡ Memory → IsAnswer words contents took_more failed answer → ⊥
@@ -112,6 +136,7 @@ answer-memory None contents took_more failed answer ended given = let same : Wor
 answer-memory (Some (Validate instance solution)) contents took_more failed answer ended given = validated-memory contents took_more failed instance solution answer ended given
 answer-memory (Some (Check instance log)) contents took_more failed answer ended given = checked-memory contents took_more failed instance log answer ended given
 answer-memory (Some (Solve instance conflicts)) contents took_more failed answer ended given = solved-memory contents took_more failed instance conflicts answer ended given
+answer-memory (Some (Patterns instance conflicts)) contents took_more failed answer ended given = patterned-memory contents took_more failed instance conflicts answer ended given
 answer-memory (Some (Circle n)) contents took_more failed answer ended given = let same : Yes ≡ Memory = status-of answer _ given ended in cc
 answer-memory (Some (Make n seed)) contents took_more failed answer ended given = let same : Yes ≡ Memory = status-of answer _ given ended in cc
 

@@ -5,8 +5,9 @@ use Rattle.answers.specs.Stages.{Outcome}
 use Rattle.check_answer.specs.Check.{checked}
 use Rattle.circle_answer.specs.Circle.{circle_season}
 use Rattle.command_line.specs.Words.{Command}
-use Rattle.command_line.specs.Words.Command.{Validate, Check, Solve, Circle, Make}
+use Rattle.command_line.specs.Words.Command.{Validate, Check, Solve, Patterns, Circle, Make}
 use Rattle.make_answer.specs.MadeInstance.{made_instance}
+use Rattle.patterns_answer.specs.Patterns.{patterned}
 use Rattle.solve_answer.specs.Solve.{solved}
 use Rattle.validate_answer.specs.Validate.{validated}
 
@@ -19,5 +20,7 @@ IsAnswer (Some (Check instance log)) contents took_more failed answer =
     checked contents took_more failed instance log answer
 IsAnswer (Some (Solve instance conflicts)) contents took_more failed answer =
     solved contents took_more failed instance conflicts answer
+IsAnswer (Some (Patterns instance conflicts)) contents took_more failed answer =
+    patterned contents took_more failed instance conflicts answer
 IsAnswer (Some (Circle n)) contents took_more failed answer = answer ≡ circle_season n
 IsAnswer (Some (Make n seed)) contents took_more failed answer = answer ≡ made_instance n seed

@@ -6,13 +6,14 @@ ghost use Rattle.league.specs.Instance.{Instance};
 ghost use Rattle.league.specs.declared.game.Game.{Game};
 ghost use Rattle.command_line.specs.SeenWords.{command_of};
 ghost use Rattle.command_line.specs.Words.{reading, HasTeams, NeedsNoFile};
-ghost use Rattle.command_line.specs.Words.Command.{Check, Solve, Validate};
+ghost use Rattle.command_line.specs.Words.Command.{Check, Patterns, Solve, Validate};
 ghost use Rattle.answers.specs.Reply.{Answer};
 ghost use Rattle.answers.specs.SeenReply.{answer_of};
 ghost use Rattle.answers.specs.Stages.{IsWritten};
 ghost use Rattle.validate_answer.specs.Validate.{IsJudged, IsWellFormedPair};
 ghost use Rattle.check_answer.specs.Check.{IsChecked, IsWellFormedLog};
 ghost use Rattle.solve_answer.specs.Solve.{IsSolved, IsWellFormedInstance};
+ghost use Rattle.patterns_answer.specs.Patterns.{IsPatterned};
 ghost use Rattle.season_check.specs.Excluded.{NoneAccepted};
 ghost use Rattle.robinx_tags.specs.Pieces.{pieces};
 ghost use Rattle.robinx_form.specs.InstanceFile.{instance_of};
@@ -24,6 +25,7 @@ use check_answer::check;
 use circle_answer::circle;
 use command_line::{Words, read_words};
 use make_answer::make_league;
+use patterns_answer::patterns_file;
 use robin_io::{Shelf, Sink};
 use solve_answer::solve_file;
 use std::alloc::{AllocError, Global};
@@ -46,6 +48,10 @@ fn follow<S: Shelf>(alloc: Global, command: Words, shelf: &mut S) -> Result<Repl
             instance,
             conflicts,
         } => solve_file(alloc, shelf, instance, conflicts),
+        Words::Patterns {
+            instance,
+            conflicts,
+        } => patterns_file(alloc, shelf, instance, conflicts),
         Words::Circle { n } => circle(alloc, n),
         Words::Make { n, seed } => make_league(alloc, n, seed),
     }
@@ -70,9 +76,9 @@ fn answer<S: Shelf>(alloc: Global, words: &[String], shelf: &mut S) -> Result<Re
 ///
 /// `words` are the words of the command line without the program's name. `validate INSTANCE SOLUTION` judges the
 /// season of one file by the league of the other, `check INSTANCE LOG` checks the refutation log of one file over the
-/// rows of the league of the other, `solve INSTANCE` finds a season or a log of the league of a file, `circle N` makes a
-/// season, `make N SEED` makes a league, and any other words are refused. The whole text is made before its first byte is
-/// written.
+/// rows of the league of the other, `solve INSTANCE` finds a season or a log of the league of a file, `patterns INSTANCE`
+/// finds patterns or a log, `circle N` makes a season, `make N SEED` makes a league, and any other words are refused. The
+/// whole text is made before its first byte is written.
 ///
 /// - `answer` needs nothing of the store, of the sink or of the files: whatever they do, the answer is one of those
 ///   that are allowed for the words and the files, and each refusal has its cause.
@@ -88,6 +94,10 @@ fn answer<S: Shelf>(alloc: Global, words: &[String], shelf: &mut S) -> Result<Re
 ///   accepts with its objective, a log that `check` accepts, or a log that is spent at the budget; and a schedule
 ///   wherever the league accepts that of the circle method.
 /// - `unsolvable` is as `refuted`: where a run of `solve` ends with `Refuted`, the league accepts no list of games.
+/// - `patterned` says the same as `solved` of `patterns`: what is found is patterns that satisfy the pattern rows of the
+///   league, a log that refutes them, or one that is spent at the budget; a log's hints name pattern rows and earlier
+///   steps alone, as they are numbered among all rows of the league.
+/// - `patternless` is as `unsolvable`: where a run of `patterns` ends with `Refuted`, the league accepts no list of games.
 /// - That a count of faults rose says that it is larger after this call, or that it stands at its last value,
 ///   2^64 - 1.
 /// - Memory may run out at any time, and then nothing is written. Nothing is said of which files were read then.
@@ -139,6 +149,23 @@ pub fn run<S: Shelf, K: Sink>(alloc: Global, words: &[String], shelf: &mut S, ou
     // Where a league is refuted, it accepts no list of games.
     ensures unsolvable { (instance bytes : List ℕ) (conflicts : Option ℕ) (league : Instance)
         → reading (map string_bytes words.now) ≡ Some (Solve instance conflicts)
+        → S.contents shelf.old instance ≡ Some bytes
+        → instance_of (pieces bytes) ≡ Ok league
+        → result ≡ Status.Refuted
+        → NoneAccepted league }
+
+    // What is found of the patterns of a well-formed instance's league is written, unless memory runs out.
+    ensures patterned { (instance : List ℕ) (conflicts : Option ℕ) (league : Instance)
+        → reading (map string_bytes words.now) ≡ Some (Patterns instance conflicts)
+        → IsWellFormedInstance (S.contents shelf.old) (λ name. Rose (S.faults shelf.old name) (S.faults shelf.new name))
+        instance league
+        → (Rose (K.faults out.old) (K.faults out.new) → ⊥)
+        → result ≢ Status.Memory
+        → IsPatterned league conflicts result (K.written out.old) (K.written out.new) }
+
+    // Where a league's patterns are refuted, it accepts no list of games.
+    ensures patternless { (instance bytes : List ℕ) (conflicts : Option ℕ) (league : Instance)
+        → reading (map string_bytes words.now) ≡ Some (Patterns instance conflicts)
         → S.contents shelf.old instance ≡ Some bytes
         → instance_of (pieces bytes) ≡ Ok league
         → result ≡ Status.Refuted

@@ -11,3 +11,6 @@ returns-in-Solve-clause-answer g c = rw c.in-Solve.is c.solve_file.ensures.answe
 
 pub returns-in-Make-clause-answer : goal.returns-in-Make-clause-answer
 returns-in-Make-clause-answer g c = rw c.in-Make.is c.make_league.ensures.answer
+
+pub returns-in-Patterns-clause-answer : goal.returns-in-Patterns-clause-answer
+returns-in-Patterns-clause-answer g c = rw c.in-Patterns.is c.patterns_file.ensures.answer
