@@ -28,43 +28,62 @@ const FOUR: [(u16, u16, u16); 12] = [
     (1, 0, 5),
 ];
 
+/// A game, by its home team, its away team and its slot, and the keys that it is to touch.
+type Touched<'a> = ((u16, u16, u16), &'a [usize]);
+
 /// Evaluates a rule of windows, one of breaks and one of pairs.
 pub fn show(rt: &(impl AllocGlobal + Print)) -> io::Result<()> {
-    show_windows(rt)?;
-    show_break(rt)?;
-    show_pairs(rt)
+    let cells = counts(rt.alloc())?;
+    show_windows(rt, &cells)?;
+    show_break(rt, &cells)?;
+    show_pairs(rt, &cells)
 }
 
 /// At most two home games of team 0 in three slots in a row: the slots 2 to 4 alone have three. A game of other teams
 /// leaves them as they are.
-fn show_windows(rt: &(impl AllocGlobal + Print)) -> io::Result<()> {
+fn show_windows(rt: &(impl AllocGlobal + Print), cells: &Cells) -> io::Result<()> {
     println!(rt; "home games of team 0 in windows of three slots")?;
-    let entry = entry(counts(rt.alloc())?, windows(rt.alloc())?, 0);
-    tell(rt, "entry 0", entry, Some(1))?;
-    show_touched(rt, windows(rt.alloc())?, (0, 1, 2), &[0])?;
-    show_touched(rt, windows(rt.alloc())?, (3, 2, 2), &[])
+    let rule = windows(rt.alloc())?;
+    let touched: [Touched; 2] = [((0, 1, 2), &[0]), ((3, 2, 2), &[])];
+    show_rule(rt, cells, &rule, &["entry 0"], &touched)
 }
 
 /// No break of team 0 at slot 3. It has a home break there, which depends on slot 2 too.
-fn show_break(rt: &(impl AllocGlobal + Print)) -> io::Result<()> {
+fn show_break(rt: &(impl AllocGlobal + Print), cells: &Cells) -> io::Result<()> {
     println!(rt; "breaks of team 0 at slot 3")?;
-    let entry = entry(counts(rt.alloc())?, no_break(rt.alloc())?, 0);
-    tell(rt, "entry 0", entry, Some(1))?;
-    show_touched(rt, no_break(rt.alloc())?, (0, 1, 2), &[0])?;
-    show_touched(rt, no_break(rt.alloc())?, (0, 1, 1), &[])
+    let rule = no_break(rt.alloc())?;
+    let touched: [Touched; 2] = [((0, 1, 2), &[0]), ((0, 1, 1), &[])];
+    show_rule(rt, cells, &rule, &["entry 0"], &touched)
 }
 
 /// At least three slots between the two games of each two of the teams 0, 1 and 3, which have two between them.
-fn show_pairs(rt: &(impl AllocGlobal + Print)) -> io::Result<()> {
+fn show_pairs(rt: &(impl AllocGlobal + Print), cells: &Cells) -> io::Result<()> {
     println!(rt; "slots between the two games of the teams 0, 1 and 3")?;
-    for key in 0..3 {
-        let entry = entry(counts(rt.alloc())?, separated(rt.alloc())?, key);
-        tell(rt, "the next entry", entry, Some(1))?;
+    let rule = separated(rt.alloc())?;
+    let touched: [Touched; 4] = [
+        ((1, 0, 5), &[0]),
+        ((0, 3, 3), &[1]),
+        ((3, 1, 4), &[2]),
+        ((3, 2, 2), &[]),
+    ];
+    show_rule(rt, cells, &rule, &["the next entry"; 3], &touched)
+}
+
+/// Tells a rule's first entries, each of which is to be 1, and which keys games touch.
+fn show_rule(
+    rt: &(impl AllocGlobal + Print),
+    cells: &Cells,
+    rule: &Option<AnyRule>,
+    entries: &[&str],
+    touched: &[Touched],
+) -> io::Result<()> {
+    for (key, what) in entries.iter().enumerate() {
+        tell(rt, what, entry(cells, rule, key), Some(1))?;
     }
-    show_touched(rt, separated(rt.alloc())?, (1, 0, 5), &[0])?;
-    show_touched(rt, separated(rt.alloc())?, (0, 3, 3), &[1])?;
-    show_touched(rt, separated(rt.alloc())?, (3, 1, 4), &[2])?;
-    show_touched(rt, separated(rt.alloc())?, (3, 2, 2), &[])
+    for (played, wanted) in touched {
+        show_touched(rt, rule, *played, wanted)?;
+    }
+    Ok(())
 }
 
 /// The rule of at most two home games of team 0 in three slots in a row.
@@ -103,7 +122,7 @@ fn separated(alloc: Global) -> Result<Option<AnyRule>, AllocError> {
 /// Tells which of a rule's keys a game touches.
 fn show_touched(
     rt: &(impl AllocGlobal + Print),
-    rule: Option<AnyRule>,
+    rule: &Option<AnyRule>,
     played: (u16, u16, u16),
     wanted: &[usize],
 ) -> io::Result<()> {
@@ -142,10 +161,10 @@ fn counts(alloc: Global) -> Result<Cells, AllocError> {
 }
 
 /// A rule's entry of a key, on counts of four teams.
-fn entry(cells: Cells, rule: Option<AnyRule>, key: usize) -> Option<u64> {
+fn entry(cells: &Cells, rule: &Option<AnyRule>, key: usize) -> Option<u64> {
     match rule {
         Some(rule) if cells.n() == 4 && rule.teams() == 4 && key < rule.terms() => {
-            Some(rule.term(key, &cells, &mut Steps::<Plain>::start()))
+            Some(rule.term(key, cells, &mut Steps::<Plain>::start()))
         }
         _ => None,
     }
@@ -154,14 +173,12 @@ fn entry(cells: Cells, rule: Option<AnyRule>, key: usize) -> Option<u64> {
 /// The keys that a game of four teams touches.
 fn touched(
     alloc: Global,
-    rule: Option<AnyRule>,
+    rule: &Option<AnyRule>,
     played: (u16, u16, u16),
 ) -> Result<Vec<usize>, AllocError> {
     let mut list = Vec::new(alloc);
     if let Some(keys) = keys_of(alloc, rule, played)? {
-        for k in 0..keys.len() {
-            list.push(keys.get(k))?;
-        }
+        list_keys(&keys, &mut list)?;
     }
     Ok(list)
 }
@@ -169,7 +186,7 @@ fn touched(
 /// The same as the rule gives it.
 fn keys_of(
     alloc: Global,
-    rule: Option<AnyRule>,
+    rule: &Option<AnyRule>,
     played: (u16, u16, u16),
 ) -> Result<Option<Keys>, AllocError> {
     match (rule, game(played)) {
@@ -180,6 +197,14 @@ fn keys_of(
         }
         _ => Ok(None),
     }
+}
+
+/// Adds keys to a list.
+fn list_keys(keys: &Keys, list: &mut Vec<usize>) -> Result<(), AllocError> {
+    for k in 0..keys.len() {
+        list.push(keys.get(k))?;
+    }
+    Ok(())
 }
 
 /// The set of these teams.

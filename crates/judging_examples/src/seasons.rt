@@ -41,40 +41,47 @@ const SINGLE: [(u16, u16, u16); 15] = [
     (2, 1, 4),
 ];
 
+/// The patterns of the first, and their breaks.
+const OF_DOUBLE: [(&str, u32); 4] = [("AAHHHA", 3), ("HHAAAH", 3), ("AHAHAH", 0), ("HAHAHA", 0)];
+
+/// The canonical patterns of four teams, and their breaks.
+const CANONICAL: [(&str, u32); 4] = [("AAH", 1), ("HHA", 1), ("AHA", 0), ("HAH", 0)];
+
 /// Makes seasons and their patterns.
 pub fn show(rt: &(impl AllocGlobal + Print)) -> io::Result<()> {
     laws::fewest_breaks();
-    show_seasons(rt)?;
-    let wanted = [("AAHHHA", 3), ("HHAAAH", 3), ("AHAHAH", 0), ("HAHAHA", 0)];
-    show_patterns(
-        rt,
-        "the patterns of the first",
-        &patterns_of_four(rt.alloc())?,
-        &wanted,
-    )?;
-    let wanted = [("AAH", 1), ("HHA", 1), ("AHA", 0), ("HAH", 0)];
+    show_double(rt)?;
+    show_single(rt)?;
+    let patterns = patterns_of_four(rt.alloc());
+    show_patterns(rt, "the patterns of the first", patterns, &OF_DOUBLE)?;
+    let patterns = canonical(rt.alloc(), 4);
     show_patterns(
         rt,
         "the canonical patterns of four teams",
-        &canonical(rt.alloc(), 4)?,
-        &wanted,
+        patterns,
+        &CANONICAL,
     )?;
-    tell(
-        rt,
-        "those of forty teams",
-        canonical(rt.alloc(), 40)?.len(),
-        40,
-    )?;
+    let forty = canonical(rt.alloc(), 40)?.len();
+    tell(rt, "those of forty teams", forty, 40)?;
+    show_empty(rt)
+}
+
+/// The pattern of no slot.
+fn show_empty(rt: &(impl AllocGlobal + Print)) -> io::Result<()> {
     let empty = Pattern::new(rt.alloc());
     tell(rt, "a pattern of no slot is empty", empty.is_empty(), true)?;
     tell(rt, "its breaks", breaks_of(&empty), 0)
 }
 
-/// A double round robin of four teams, in order, and a single one of six.
-fn show_seasons(rt: &(impl AllocGlobal + Print)) -> io::Result<()> {
+/// A double round robin of four teams, in order.
+fn show_double(rt: &(impl AllocGlobal + Print)) -> io::Result<()> {
     let mut four = double(rt.alloc(), 4)?;
     four.put_in_order();
-    show_games(rt, "the double round robin of four teams", &four, &DOUBLE)?;
+    show_games(rt, "the double round robin of four teams", &four, &DOUBLE)
+}
+
+/// A single round robin of six teams.
+fn show_single(rt: &(impl AllocGlobal + Print)) -> io::Result<()> {
     let six = single(rt.alloc(), 6)?;
     show_games(rt, "the single round robin of six teams", &six, &SINGLE)
 }
@@ -105,24 +112,37 @@ fn show_games(
 fn show_patterns(
     rt: &(impl AllocGlobal + Print),
     what: &str,
-    patterns: &PatternSet,
+    patterns: Result<PatternSet, AllocError>,
     wanted: &[(&str, u32)],
 ) -> io::Result<()> {
     println!(rt; "{what}")?;
+    list_patterns(rt, &patterns?, wanted)
+}
+
+/// The same of a set of patterns.
+fn list_patterns(
+    rt: &(impl AllocGlobal + Print),
+    patterns: &PatternSet,
+    wanted: &[(&str, u32)],
+) -> io::Result<()> {
     tell(rt, "teams", patterns.len(), wanted.len())?;
-    for (team, (letters, breaks)) in wanted.iter().enumerate() {
+    for (team, wanted) in wanted.iter().enumerate() {
         if team < patterns.len() {
-            let pattern = patterns.pattern(TeamId(team as u16));
-            tell(
-                rt,
-                "pattern",
-                letters_of(rt.alloc(), pattern)?.as_str(),
-                *letters,
-            )?;
-            tell(rt, "its breaks", breaks_of(pattern), *breaks)?;
+            show_pattern(rt, patterns.pattern(TeamId(team as u16)), *wanted)?;
         }
     }
     Ok(())
+}
+
+/// A pattern, and its breaks.
+fn show_pattern(
+    rt: &(impl AllocGlobal + Print),
+    pattern: &Pattern,
+    (letters, breaks): (&str, u32),
+) -> io::Result<()> {
+    let got = letters_of(rt.alloc(), pattern)?;
+    tell(rt, "pattern", got.as_str(), letters)?;
+    tell(rt, "its breaks", breaks_of(pattern), breaks)
 }
 
 /// A pattern as a text of its letters.

@@ -41,29 +41,34 @@ const EXCHANGED: [(u16, u16, u16); 12] = [
     (1, 0, 5),
 ];
 
+/// The two games of two teams.
+const TWO: [(u16, u16, u16); 2] = [(1, 0, 0), (0, 1, 1)];
+
+/// How many of the games of two teams are played, and what is wrong then.
+const OF_TWO: [(&str, usize, Wrongs); 3] = [
+    ("two teams", 2, (0, 0, 0)),
+    ("two teams, one game", 1, (1, 2, 0)),
+    ("two teams, no game", 0, (2, 4, 1)),
+];
+
+/// The same of the first schedule of four teams.
+const OF_FOUR: [(&str, usize, Wrongs); 3] = [
+    ("four teams", 12, (0, 0, 0)),
+    ("the last game is missing", 11, (1, 2, 0)),
+    ("the last game is there twice", 13, (1, 2, 0)),
+];
+
+/// Wrong pairs, cells and phases.
+type Wrongs = (u32, u32, u32);
+
 /// Counts the wrong pairs, cells and phases of schedules of two and of four teams.
 pub fn show(rt: &(impl AllocGlobal + Print)) -> io::Result<()> {
-    let two = [(1, 0, 0), (0, 1, 1)];
-    show_wrongs(rt, "two teams", 2, true, &two, (0, 0, 0))?;
-    show_wrongs(rt, "two teams, one game", 2, true, &two[..1], (1, 2, 0))?;
-    show_wrongs(rt, "two teams, no game", 2, true, &[], (2, 4, 1))?;
-    show_wrongs(rt, "four teams", 4, true, &FOUR[..12], (0, 0, 0))?;
-    show_wrongs(
-        rt,
-        "the last game is missing",
-        4,
-        true,
-        &FOUR[..11],
-        (1, 2, 0),
-    )?;
-    show_wrongs(
-        rt,
-        "the last game is there twice",
-        4,
-        true,
-        &FOUR,
-        (1, 2, 0),
-    )?;
+    for (what, count, wanted) in &OF_TWO {
+        show_wrongs(rt, what, 2, true, front(&TWO, *count), *wanted)?;
+    }
+    for (what, count, wanted) in &OF_FOUR {
+        show_wrongs(rt, what, 4, true, front(&FOUR, *count), *wanted)?;
+    }
     show_wrongs(
         rt,
         "slots exchanged, phased",
@@ -82,6 +87,13 @@ pub fn show(rt: &(impl AllocGlobal + Print)) -> io::Result<()> {
     )
 }
 
+/// The first of some games, so many of them.
+fn front(games: &[(u16, u16, u16)], count: usize) -> &[(u16, u16, u16)]
+    ensures { length result.now ≤ length games.now }
+{
+    &games[..count.min(games.len())]
+}
+
 /// The wrong pairs, cells and phases of these games of a league of n teams.
 fn show_wrongs(
     rt: &(impl AllocGlobal + Print),
@@ -89,7 +101,7 @@ fn show_wrongs(
     n: u16,
     phased: bool,
     games: &[(u16, u16, u16)],
-    wanted: (u32, u32, u32),
+    wanted: Wrongs,
 ) -> io::Result<()>
     requires teams { IsTeamCount n }
     requires few { length games.now ≤ 10000 }

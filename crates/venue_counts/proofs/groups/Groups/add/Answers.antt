@@ -41,7 +41,7 @@ returns-clause-groups c =
     added c.args.limit c.args.n c.args.constraints.now c.args.k constraint c.in-Ca1.side c.in-Ca1.slots c.in-Ca1.teams
     c.in-Ca1.min c.in-Ca1.max c.need-need.result groups (get nat_cmp c.place_of.new.self.places) place
     c.index_mut.result.now c.raise.new.self c.requires.there c.index-constraints-k.is
-    c.if-not-constraint.false c.in-Ca1.is
+    (cc) c.in-Ca1.is
     (subst (λ (x : Constraint). IsTrue (class_fits c.args.n x.class)) (sym c.index-constraints-k.is)
     (c.requires.fit c.args.k constraint c.requires.there))
     (c.need-need.ensures ∙ ap (λ (ss : List ℕ). own_need c.args.limit c.in-Ca1.min c.in-Ca1.max (length ss)) slots_are)
