@@ -1,6 +1,7 @@
 -- Worked readings of words, so that a wrong definition does not check.
-use Rattle.std.proofs.Common.{◌≡◌, true, false, [], ◌∷◌, Some, None, codes, refl}
-use Rattle.command_line.specs.Words.{budget_in, is_file_name, is_shortest, number_in, reading, team_count_in, NeedsNoFile}
+use Rattle.std.proofs.Common.{◌≡◌, ℕ, true, false, List, [], ◌∷◌, Some, None, codes, refl}
+use Rattle.budgets.specs.declared.budgets.Budgets.{Budgets}
+use Rattle.command_line.specs.Words.{arguments_of, budget_in, has_options, is_file_name, is_option, is_shortest, number_in, one_file, reading, said, team_count_in, tries_in, values_of, NeedsNoFile}
 use Rattle.command_line.specs.Words.Command.{Check, Circle, Solve, Validate}
 
 -- a number: 0 itself, no leading zero, no sign, no blank, at most 2 ^ 64 - 1
@@ -44,13 +45,57 @@ budget_in-some = (refl, refl, refl)
 pub budget_in-none : (budget_in [] ≡ None) × (budget_in (codes "All") ≡ None) × (budget_in (codes "00") ≡ None) × (budget_in (codes "-1") ≡ None) × (budget_in (codes "18446744073709551616") ≡ None)
 budget_in-none = (refl, refl, refl, refl, refl)
 
--- `solve` with the usual budget, and with another before the file or behind it
-pub solve-reads : (reading (codes "solve" ∷ codes "a" ∷ []) ≡ Some (Solve (codes "a") (Some 2000))) × (reading (codes "solve" ∷ codes "--conflicts" ∷ codes "7" ∷ codes "a" ∷ []) ≡ Some (Solve (codes "a") (Some 7))) × (reading (codes "solve" ∷ codes "a" ∷ codes "--conflicts" ∷ codes "all" ∷ []) ≡ Some (Solve (codes "a") None)) × (reading (codes "solve" ∷ codes "--conflicts" ∷ codes "all" ∷ codes "all" ∷ []) ≡ Some (Solve (codes "all") None))
-solve-reads = (refl, refl, refl, refl)
+-- ---- `solve`
+
+abbrev usual : Budgets
+usual = record { conflicts = Some 2000; moves = 10000; tries = 1; seed = 0 }
+
+-- with the usual budgets, and with options before the file, between and behind it, in any order
+pub solve-usual : reading (codes "solve" ∷ codes "a" ∷ []) ≡ Some (Solve (codes "a") usual)
+solve-usual = refl
+
+pub solve-conflicts : (reading (codes "solve" ∷ codes "--conflicts" ∷ codes "7" ∷ codes "a" ∷ []) ≡ Some (Solve (codes "a") (record usual { conflicts = Some 7 }))) × (reading (codes "solve" ∷ codes "a" ∷ codes "--conflicts" ∷ codes "all" ∷ []) ≡ Some (Solve (codes "a") (record usual { conflicts = None }))) × (reading (codes "solve" ∷ codes "--conflicts" ∷ codes "all" ∷ codes "all" ∷ []) ≡ Some (Solve (codes "all") (record usual { conflicts = None })))
+solve-conflicts = (refl, refl, refl)
+
+pub solve-moves : (reading (codes "solve" ∷ codes "--moves" ∷ codes "0" ∷ codes "a" ∷ []) ≡ Some (Solve (codes "a") (record usual { moves = 0 }))) × (reading (codes "solve" ∷ codes "a" ∷ codes "--moves" ∷ codes "18446744073709551615" ∷ []) ≡ Some (Solve (codes "a") (record usual { moves = 18446744073709551615 })))
+solve-moves = (refl, refl)
+
+pub solve-all : reading (codes "solve" ∷ codes "--seed" ∷ codes "5" ∷ codes "--tries" ∷ codes "100" ∷ codes "a" ∷ codes "--moves" ∷ codes "1" ∷ codes "--conflicts" ∷ codes "0" ∷ []) ≡ Some (Solve (codes "a") (record { conflicts = Some 0; moves = 1; tries = 100; seed = 5 }))
+solve-all = refl
+
+-- a leading zero, an option twice, its value behind `=`, no try and too many
+pub solve-wrong_values : (reading (codes "solve" ∷ codes "a" ∷ codes "--moves" ∷ codes "01" ∷ []) ≡ None) × (reading (codes "solve" ∷ codes "a" ∷ codes "--moves" ∷ codes "1" ∷ codes "--moves" ∷ codes "2" ∷ []) ≡ None) × (reading (codes "solve" ∷ codes "a" ∷ codes "--moves=1" ∷ []) ≡ None) × (reading (codes "solve" ∷ codes "a" ∷ codes "--tries" ∷ codes "0" ∷ []) ≡ None) × (reading (codes "solve" ∷ codes "a" ∷ codes "--tries" ∷ codes "101" ∷ []) ≡ None) × (reading (codes "solve" ∷ codes "a" ∷ codes "--seed" ∷ codes "all" ∷ []) ≡ None)
+solve-wrong_values = (refl, refl, refl, refl, refl, refl)
 
 -- no file or two, an option alone, twice, without its value or with a wrong one, another option, another command
 pub solve-none : (reading (codes "solve" ∷ []) ≡ None) × (reading (codes "solve" ∷ codes "a" ∷ codes "b" ∷ []) ≡ None) × (reading (codes "solve" ∷ codes "--conflicts" ∷ codes "7" ∷ []) ≡ None) × (reading (codes "solve" ∷ codes "--conflicts" ∷ codes "7" ∷ codes "--conflicts" ∷ codes "7" ∷ codes "a" ∷ []) ≡ None) × (reading (codes "solve" ∷ codes "a" ∷ codes "--conflicts" ∷ []) ≡ None) × (reading (codes "solve" ∷ codes "--conflicts" ∷ codes "07" ∷ codes "a" ∷ []) ≡ None) × (reading (codes "solve" ∷ codes "--conflicts" ∷ codes "7" ∷ codes "-a" ∷ []) ≡ None) × (reading (codes "solve" ∷ codes "--conflicts" ∷ codes "--conflicts" ∷ codes "7" ∷ []) ≡ None) × (reading (codes "solve" ∷ codes "--conflict" ∷ codes "7" ∷ codes "a" ∷ []) ≡ None) × (reading (codes "solve" ∷ codes "a" ∷ codes "b" ∷ codes "c" ∷ []) ≡ None) × (reading (codes "circle" ∷ codes "--conflicts" ∷ codes "7" ∷ codes "4" ∷ []) ≡ None) × (reading (codes "solve" ∷ codes "-a" ∷ []) ≡ None)
 solve-none = (refl, refl, refl, refl, refl, refl, refl, refl, refl, refl, refl, refl)
+
+-- ---- words with options: `--` begins the name of one, and the next word is its value, whatever that is
+
+abbrev some_words : List (List ℕ)
+some_words = codes "a" ∷ codes "--x" ∷ codes "--y" ∷ codes "b" ∷ codes "--x" ∷ codes "1" ∷ codes "-c" ∷ []
+
+pub arguments-some : arguments_of some_words ≡ codes "a" ∷ codes "b" ∷ codes "-c" ∷ []
+arguments-some = refl
+
+pub values-some : (values_of (codes "--x") some_words ≡ codes "--y" ∷ codes "1" ∷ []) × (values_of (codes "--y") some_words ≡ [])
+values-some = (refl, refl)
+
+pub has_options-some : (has_options (codes "--x" ∷ []) some_words ≡ true) × (has_options (codes "--y" ∷ []) some_words ≡ false) × (has_options (codes "--x" ∷ []) (codes "a" ∷ codes "--x" ∷ []) ≡ false) × (has_options [] (codes "a" ∷ codes "-x" ∷ []) ≡ true)
+has_options-some = (refl, refl, refl, refl)
+
+pub is_option-some : (is_option (codes "--") ≡ true) × (is_option (codes "--a") ≡ true) × (is_option (codes "-a") ≡ false) × (is_option (codes "-") ≡ false) × (is_option [] ≡ false)
+is_option-some = (refl, refl, refl, refl, refl)
+
+pub said-some : (said 5 number_in [] ≡ Some 5) × (said 5 number_in (codes "7" ∷ []) ≡ Some 7) × (said 5 number_in (codes "x" ∷ []) ≡ None) × (said 5 number_in (codes "7" ∷ codes "7" ∷ []) ≡ None)
+said-some = (refl, refl, refl, refl)
+
+pub tries_in-some : (tries_in (codes "1") ≡ Some 1) × (tries_in (codes "100") ≡ Some 100) × (tries_in (codes "0") ≡ None) × (tries_in (codes "101") ≡ None)
+tries_in-some = (refl, refl, refl, refl)
+
+pub one_file-some : (one_file (codes "a" ∷ []) ≡ Some (codes "a")) × (one_file (codes "-a" ∷ []) ≡ None) × (one_file [] ≡ None) × (one_file (codes "a" ∷ codes "a" ∷ []) ≡ None)
+one_file-some = (refl, refl, refl, refl)
 
 -- no words, one, too few or too many for a command, an option, another command
 pub reading-none : (reading [] ≡ None) × (reading (codes "circle" ∷ []) ≡ None) × (reading (codes "circle" ∷ codes "4" ∷ codes "4" ∷ []) ≡ None) × (reading (codes "validate" ∷ codes "a" ∷ []) ≡ None) × (reading (codes "validate" ∷ codes "a" ∷ codes "--b" ∷ []) ≡ None) × (reading (codes "validate" ∷ codes "-a" ∷ codes "b" ∷ []) ≡ None) × (reading (codes "Validate" ∷ codes "a" ∷ codes "b" ∷ []) ≡ None) × (reading (codes "Circle" ∷ codes "4" ∷ []) ≡ None)
