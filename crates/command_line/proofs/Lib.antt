@@ -1,2 +1,4 @@
 -- Worked examples, so that a wrong definition does not check:
 mod WordFacts
+-- Lemmas on options:
+pub mod StandingLemmas

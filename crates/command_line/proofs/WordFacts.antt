@@ -1,6 +1,7 @@
 -- Worked readings of words, so that a wrong definition does not check.
-use Rattle.std.proofs.Common.{◌≡◌, true, false, [], ◌∷◌, Some, None, codes, refl}
-use Rattle.command_line.specs.Words.{budget_in, is_file_name, is_shortest, number_in, reading, team_count_in, NeedsNoFile}
+use Rattle.std.proofs.Common.{◌≡◌, ℕ, true, false, List, [], ◌∷◌, Some, None, codes, refl}
+use Rattle.budgets.specs.declared.budgets.Budgets.{Budgets}
+use Rattle.command_line.specs.Words.{arguments_of, budget_in, has_options, is_file_name, is_option, is_shortest, number_in, one_file, reading, said, team_count_in, tries_in, values_of, NeedsNoFile}
 use Rattle.command_line.specs.Words.Command.{Check, Circle, Make, Patterns, Solve, Validate}
 
 -- a number: 0 itself, no leading zero, no sign, no blank, at most 2 ^ 64 - 1
@@ -37,13 +38,6 @@ check-none = (refl, refl, refl, refl, refl, refl)
 pub circle-teams : (reading (codes "circle" ∷ codes "2" ∷ []) ≡ Some (Circle 2)) × (reading (codes "circle" ∷ codes "40" ∷ []) ≡ Some (Circle 40))
 circle-teams = (refl, refl)
 
--- `make` with the least and the greatest numbers, and with words that are no number of teams or no seed
-pub make-reads : (reading (codes "make" ∷ codes "2" ∷ codes "0" ∷ []) ≡ Some (Make 2 0)) × (reading (codes "make" ∷ codes "40" ∷ codes "18446744073709551615" ∷ []) ≡ Some (Make 40 18446744073709551615))
-make-reads = (refl, refl)
-
-pub make-none : (reading (codes "make" ∷ codes "4" ∷ []) ≡ None) × (reading (codes "make" ∷ codes "5" ∷ codes "1" ∷ []) ≡ None) × (reading (codes "make" ∷ codes "42" ∷ codes "1" ∷ []) ≡ None) × (reading (codes "make" ∷ codes "4" ∷ codes "01" ∷ []) ≡ None) × (reading (codes "make" ∷ codes "4" ∷ codes "-1" ∷ []) ≡ None) × (reading (codes "make" ∷ codes "4" ∷ codes "18446744073709551616" ∷ []) ≡ None) × (reading (codes "make" ∷ codes "4" ∷ codes "1" ∷ codes "1" ∷ []) ≡ None) × (reading (codes "Make" ∷ codes "4" ∷ codes "1" ∷ []) ≡ None)
-make-none = (refl, refl, refl, refl, refl, refl, refl, refl)
-
 -- a budget: a number, or `all`, and nothing else
 pub budget_in-some : (budget_in (codes "all") ≡ Some None) × (budget_in (codes "0") ≡ Some (Some 0)) × (budget_in (codes "18446744073709551615") ≡ Some (Some 18446744073709551615))
 budget_in-some = (refl, refl, refl)
@@ -51,28 +45,57 @@ budget_in-some = (refl, refl, refl)
 pub budget_in-none : (budget_in [] ≡ None) × (budget_in (codes "All") ≡ None) × (budget_in (codes "00") ≡ None) × (budget_in (codes "-1") ≡ None) × (budget_in (codes "18446744073709551616") ≡ None)
 budget_in-none = (refl, refl, refl, refl, refl)
 
--- `solve` with the usual budget, and with another before the file or behind it
-pub solve-reads : (reading (codes "solve" ∷ codes "a" ∷ []) ≡ Some (Solve (codes "a") (Some 2000))) × (reading (codes "solve" ∷ codes "--conflicts" ∷ codes "7" ∷ codes "a" ∷ []) ≡ Some (Solve (codes "a") (Some 7))) × (reading (codes "solve" ∷ codes "a" ∷ codes "--conflicts" ∷ codes "all" ∷ []) ≡ Some (Solve (codes "a") None)) × (reading (codes "solve" ∷ codes "--conflicts" ∷ codes "all" ∷ codes "all" ∷ []) ≡ Some (Solve (codes "all") None))
-solve-reads = (refl, refl, refl, refl)
+-- ---- `solve`
+
+abbrev usual : Budgets
+usual = record { conflicts = Some 2000; moves = 10000; tries = 1; seed = 0 }
+
+-- with the usual budgets, and with options before the file, between and behind it, in any order
+pub solve-usual : reading (codes "solve" ∷ codes "a" ∷ []) ≡ Some (Solve (codes "a") usual)
+solve-usual = refl
+
+pub solve-conflicts : (reading (codes "solve" ∷ codes "--conflicts" ∷ codes "7" ∷ codes "a" ∷ []) ≡ Some (Solve (codes "a") (record usual { conflicts = Some 7 }))) × (reading (codes "solve" ∷ codes "a" ∷ codes "--conflicts" ∷ codes "all" ∷ []) ≡ Some (Solve (codes "a") (record usual { conflicts = None }))) × (reading (codes "solve" ∷ codes "--conflicts" ∷ codes "all" ∷ codes "all" ∷ []) ≡ Some (Solve (codes "all") (record usual { conflicts = None })))
+solve-conflicts = (refl, refl, refl)
+
+pub solve-moves : (reading (codes "solve" ∷ codes "--moves" ∷ codes "0" ∷ codes "a" ∷ []) ≡ Some (Solve (codes "a") (record usual { moves = 0 }))) × (reading (codes "solve" ∷ codes "a" ∷ codes "--moves" ∷ codes "18446744073709551615" ∷ []) ≡ Some (Solve (codes "a") (record usual { moves = 18446744073709551615 })))
+solve-moves = (refl, refl)
+
+pub solve-all : reading (codes "solve" ∷ codes "--seed" ∷ codes "5" ∷ codes "--tries" ∷ codes "100" ∷ codes "a" ∷ codes "--moves" ∷ codes "1" ∷ codes "--conflicts" ∷ codes "0" ∷ []) ≡ Some (Solve (codes "a") (record { conflicts = Some 0; moves = 1; tries = 100; seed = 5 }))
+solve-all = refl
+
+-- a leading zero, an option twice, its value behind `=`, no try and too many
+pub solve-wrong_values : (reading (codes "solve" ∷ codes "a" ∷ codes "--moves" ∷ codes "01" ∷ []) ≡ None) × (reading (codes "solve" ∷ codes "a" ∷ codes "--moves" ∷ codes "1" ∷ codes "--moves" ∷ codes "2" ∷ []) ≡ None) × (reading (codes "solve" ∷ codes "a" ∷ codes "--moves=1" ∷ []) ≡ None) × (reading (codes "solve" ∷ codes "a" ∷ codes "--tries" ∷ codes "0" ∷ []) ≡ None) × (reading (codes "solve" ∷ codes "a" ∷ codes "--tries" ∷ codes "101" ∷ []) ≡ None) × (reading (codes "solve" ∷ codes "a" ∷ codes "--seed" ∷ codes "all" ∷ []) ≡ None)
+solve-wrong_values = (refl, refl, refl, refl, refl, refl)
 
 -- no file or two, an option alone, twice, without its value or with a wrong one, another option, another command
 pub solve-none : (reading (codes "solve" ∷ []) ≡ None) × (reading (codes "solve" ∷ codes "a" ∷ codes "b" ∷ []) ≡ None) × (reading (codes "solve" ∷ codes "--conflicts" ∷ codes "7" ∷ []) ≡ None) × (reading (codes "solve" ∷ codes "--conflicts" ∷ codes "7" ∷ codes "--conflicts" ∷ codes "7" ∷ codes "a" ∷ []) ≡ None) × (reading (codes "solve" ∷ codes "a" ∷ codes "--conflicts" ∷ []) ≡ None) × (reading (codes "solve" ∷ codes "--conflicts" ∷ codes "07" ∷ codes "a" ∷ []) ≡ None) × (reading (codes "solve" ∷ codes "--conflicts" ∷ codes "7" ∷ codes "-a" ∷ []) ≡ None) × (reading (codes "solve" ∷ codes "--conflicts" ∷ codes "--conflicts" ∷ codes "7" ∷ []) ≡ None) × (reading (codes "solve" ∷ codes "--conflict" ∷ codes "7" ∷ codes "a" ∷ []) ≡ None) × (reading (codes "solve" ∷ codes "a" ∷ codes "b" ∷ codes "c" ∷ []) ≡ None) × (reading (codes "circle" ∷ codes "--conflicts" ∷ codes "7" ∷ codes "4" ∷ []) ≡ None) × (reading (codes "solve" ∷ codes "-a" ∷ []) ≡ None)
 solve-none = (refl, refl, refl, refl, refl, refl, refl, refl, refl, refl, refl, refl)
 
--- `patterns` with the usual budget, and with another before the file or behind it
-pub patterns-reads : (reading (codes "patterns" ∷ codes "a" ∷ []) ≡ Some (Patterns (codes "a") (Some 2000)))
-    × (reading (codes "patterns" ∷ codes "--conflicts" ∷ codes "7" ∷ codes "a" ∷ []) ≡ Some (Patterns (codes "a") (Some 7)))
-    × (reading (codes "patterns" ∷ codes "a" ∷ codes "--conflicts" ∷ codes "all" ∷ []) ≡ Some (Patterns (codes "a") None))
-patterns-reads = (refl, refl, refl)
+-- ---- words with options: `--` begins the name of one, and the next word is its value, whatever that is
 
--- an option of `solve` alone, two files, none, an option alone or without its value, a wrong one, another spelling
-pub patterns-none : (reading (codes "patterns" ∷ codes "a" ∷ codes "--moves" ∷ codes "1" ∷ []) ≡ None)
-    × (reading (codes "patterns" ∷ codes "a" ∷ codes "b" ∷ []) ≡ None) × (reading (codes "patterns" ∷ []) ≡ None)
-    × (reading (codes "patterns" ∷ codes "--conflicts" ∷ codes "7" ∷ []) ≡ None)
-    × (reading (codes "patterns" ∷ codes "a" ∷ codes "--conflicts" ∷ []) ≡ None)
-    × (reading (codes "patterns" ∷ codes "a" ∷ codes "--conflicts" ∷ codes "07" ∷ []) ≡ None)
-    × (reading (codes "patterns" ∷ codes "-a" ∷ []) ≡ None) × (reading (codes "pattern" ∷ codes "a" ∷ []) ≡ None)
-patterns-none = (refl, refl, refl, refl, refl, refl, refl, refl)
+abbrev some_words : List (List ℕ)
+some_words = codes "a" ∷ codes "--x" ∷ codes "--y" ∷ codes "b" ∷ codes "--x" ∷ codes "1" ∷ codes "-c" ∷ []
+
+pub arguments-some : arguments_of some_words ≡ codes "a" ∷ codes "b" ∷ codes "-c" ∷ []
+arguments-some = refl
+
+pub values-some : (values_of (codes "--x") some_words ≡ codes "--y" ∷ codes "1" ∷ []) × (values_of (codes "--y") some_words ≡ [])
+values-some = (refl, refl)
+
+pub has_options-some : (has_options (codes "--x" ∷ []) some_words ≡ true) × (has_options (codes "--y" ∷ []) some_words ≡ false) × (has_options (codes "--x" ∷ []) (codes "a" ∷ codes "--x" ∷ []) ≡ false) × (has_options [] (codes "a" ∷ codes "-x" ∷ []) ≡ true)
+has_options-some = (refl, refl, refl, refl)
+
+pub is_option-some : (is_option (codes "--") ≡ true) × (is_option (codes "--a") ≡ true) × (is_option (codes "-a") ≡ false) × (is_option (codes "-") ≡ false) × (is_option [] ≡ false)
+is_option-some = (refl, refl, refl, refl, refl)
+
+pub said-some : (said 5 number_in [] ≡ Some 5) × (said 5 number_in (codes "7" ∷ []) ≡ Some 7) × (said 5 number_in (codes "x" ∷ []) ≡ None) × (said 5 number_in (codes "7" ∷ codes "7" ∷ []) ≡ None)
+said-some = (refl, refl, refl, refl)
+
+pub tries_in-some : (tries_in (codes "1") ≡ Some 1) × (tries_in (codes "100") ≡ Some 100) × (tries_in (codes "0") ≡ None) × (tries_in (codes "101") ≡ None)
+tries_in-some = (refl, refl, refl, refl)
+
+pub one_file-some : (one_file (codes "a" ∷ []) ≡ Some (codes "a")) × (one_file (codes "-a" ∷ []) ≡ None) × (one_file [] ≡ None) × (one_file (codes "a" ∷ codes "a" ∷ []) ≡ None)
+one_file-some = (refl, refl, refl, refl)
 
 -- no words, one, too few or too many for a command, an option, another command
 pub reading-none : (reading [] ≡ None) × (reading (codes "circle" ∷ []) ≡ None) × (reading (codes "circle" ∷ codes "4" ∷ codes "4" ∷ []) ≡ None) × (reading (codes "validate" ∷ codes "a" ∷ []) ≡ None) × (reading (codes "validate" ∷ codes "a" ∷ codes "--b" ∷ []) ≡ None) × (reading (codes "validate" ∷ codes "-a" ∷ codes "b" ∷ []) ≡ None) × (reading (codes "Validate" ∷ codes "a" ∷ codes "b" ∷ []) ≡ None) × (reading (codes "Circle" ∷ codes "4" ∷ []) ≡ None)
@@ -81,6 +104,22 @@ reading-none = (refl, refl, refl, refl, refl, refl, refl, refl)
 -- a fourth word and a fifth, of which the first three are a command, and a third of which the first two are one
 pub reading-longer : (reading (codes "validate" ∷ codes "a" ∷ codes "b" ∷ codes "c" ∷ []) ≡ None) × (reading (codes "validate" ∷ codes "a" ∷ codes "b" ∷ [] ∷ []) ≡ None) × (reading (codes "validate" ∷ codes "a" ∷ codes "b" ∷ codes "c" ∷ codes "d" ∷ []) ≡ None) × (reading (codes "circle" ∷ codes "4" ∷ [] ∷ []) ≡ None)
 reading-longer = (refl, refl, refl, refl)
+
+-- ---- `patterns` and `make`
+
+pub patterns-some : (reading (codes "patterns" ∷ codes "a" ∷ []) ≡ Some (Patterns (codes "a") (Some 2000))) × (reading (codes "patterns" ∷ codes "--conflicts" ∷ codes "7" ∷ codes "a" ∷ []) ≡ Some (Patterns (codes "a") (Some 7))) × (reading (codes "patterns" ∷ codes "a" ∷ codes "--conflicts" ∷ codes "all" ∷ []) ≡ Some (Patterns (codes "a") None))
+patterns-some = (refl, refl, refl)
+
+-- an option of `solve` alone, no file or two, the option twice or without its value
+pub patterns-none : (reading (codes "patterns" ∷ codes "a" ∷ codes "--moves" ∷ codes "1" ∷ []) ≡ None) × (reading (codes "patterns" ∷ []) ≡ None) × (reading (codes "patterns" ∷ codes "a" ∷ codes "b" ∷ []) ≡ None) × (reading (codes "patterns" ∷ codes "--conflicts" ∷ codes "7" ∷ codes "--conflicts" ∷ codes "7" ∷ codes "a" ∷ []) ≡ None) × (reading (codes "patterns" ∷ codes "a" ∷ codes "--conflicts" ∷ []) ≡ None)
+patterns-none = (refl, refl, refl, refl, refl)
+
+pub make-some : (reading (codes "make" ∷ codes "2" ∷ codes "0" ∷ []) ≡ Some (Make 2 0)) × (reading (codes "make" ∷ codes "40" ∷ codes "18446744073709551615" ∷ []) ≡ Some (Make 40 18446744073709551615))
+make-some = (refl, refl)
+
+-- no seed or two, an odd number of teams, a seed with a leading zero, with a sign, or past 64 bits
+pub make-none : (reading (codes "make" ∷ codes "4" ∷ []) ≡ None) × (reading (codes "make" ∷ codes "4" ∷ codes "1" ∷ codes "1" ∷ []) ≡ None) × (reading (codes "make" ∷ codes "5" ∷ codes "1" ∷ []) ≡ None) × (reading (codes "make" ∷ codes "4" ∷ codes "01" ∷ []) ≡ None) × (reading (codes "make" ∷ codes "4" ∷ codes "-1" ∷ []) ≡ None) × (reading (codes "make" ∷ codes "4" ∷ codes "18446744073709551616" ∷ []) ≡ None)
+make-none = (refl, refl, refl, refl, refl, refl)
 
 -- which words need no file
 pub needs_no_file : NeedsNoFile (reading []) × NeedsNoFile (reading (codes "circle" ∷ codes "4" ∷ [])) × NeedsNoFile (reading (codes "make" ∷ codes "4" ∷ codes "1" ∷ [])) × (NeedsNoFile (reading (codes "validate" ∷ codes "a" ∷ codes "b" ∷ [])) → ⊥) × (NeedsNoFile (reading (codes "check" ∷ codes "a" ∷ codes "b" ∷ [])) → ⊥) × (NeedsNoFile (reading (codes "solve" ∷ codes "a" ∷ [])) → ⊥) × (NeedsNoFile (reading (codes "patterns" ∷ codes "a" ∷ [])) → ⊥)

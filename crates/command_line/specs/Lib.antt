@@ -2,3 +2,5 @@
 pub mod Words
 -- Kept inside (laws, and how fields are seen):
 pub mod SeenWords
+pub mod Standing
+pub mod SeenStanding

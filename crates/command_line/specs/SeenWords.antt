@@ -8,7 +8,7 @@ use Rattle.command_line.specs.declared.words.Words.TheVariants as words
 abbrev pub command_of : Words → Command
 command_of (words.Validate instance solution) = Validate instance.now solution.now
 command_of (words.Check instance log) = Check instance.now log.now
-command_of (words.Solve instance conflicts) = Solve instance.now conflicts
+command_of (words.Solve instance budgets) = Solve instance.now budgets
 command_of (words.Patterns instance conflicts) = Patterns instance.now conflicts
 command_of (words.Circle n) = Circle n
 command_of (words.Make n seed) = Make n seed

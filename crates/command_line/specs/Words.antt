@@ -1,16 +1,18 @@
 -- What the words of the command line, without the program's name, ask for.
-use Rattle.std.specs.Prelude.{ℕ, ◌^◌, nat_lt, ◌==◌, List, [], ◌∷◌, codes, bytes_eq}
-use Rattle.std.specs.Prelude.{Bool, true, not, ◌&&◌, if◌then◌else◌, Option, Some, None, option_and_then, option_map}
+use Rattle.std.specs.Prelude.{ℕ, ◌^◌, nat_le, nat_lt, ◌==◌, List, [], ◌∷◌, codes, bytes_eq}
+use Rattle.std.specs.Prelude.{Bool, true, false, not, ◌&&◌, if◌then◌else◌, Option, Some, None, option_and_then, option_map}
 use Rattle.std.specs.Str.{byte}
 use Rattle.std.specs.Str.Parse.{digits_value}
+use Rattle.std.specs.List.{list_any}
 use Rattle.league.specs.Instance.{IsTeamCount, is_team_count}
+use Rattle.budgets.specs.declared.budgets.Budgets.{Budgets}
 use Rattle.robin_io.specs.Numbers.{is_number}
 
 -- a command with its arguments
 pub data Command : Type 0 where
   Validate : (instance solution : List ℕ) → Command
   Check : (instance log : List ℕ) → Command
-  Solve : (instance : List ℕ) → (conflicts : Option ℕ) → Command
+  Solve : (instance : List ℕ) → (budgets : Budgets) → Command
   Patterns : (instance : List ℕ) → (conflicts : Option ℕ) → Command
   Circle : (n : ℕ) → Command
   Make : (n seed : ℕ) → Command
@@ -44,14 +46,97 @@ usual_conflicts = 2000
 abbrev pub budget_in : List ℕ → Option (Option ℕ)
 budget_in word = if bytes_eq word (codes "all") then Some None else option_map Some (number_in word)
 
--- the command of this name with one argument: a file, or a number of teams
-abbrev pub over_one : List ℕ → List ℕ → Option Command
-over_one command argument =
-    if bytes_eq command (codes "solve")
-    then (if is_file_name argument then Some (Solve argument (Some usual_conflicts)) else None)
-    else (if bytes_eq command (codes "patterns")
-    then (if is_file_name argument then Some (Patterns argument (Some usual_conflicts)) else None)
-    else (if bytes_eq command (codes "circle") then option_map Circle (team_count_in argument) else None))
+-- how many tries there may be
+abbrev pub tries_in : List ℕ → Option ℕ
+tries_in word = option_and_then (λ n. if nat_le 1 n && nat_le n 100 then Some n else None) (number_in word)
+
+-- ---- words with options
+
+-- whether a word names an option: it begins with `--`
+abbrev pub is_option : List ℕ → Bool
+is_option (first ∷ second ∷ rest) = (first == byte "-") && (second == byte "-")
+is_option _ = false
+
+-- The word behind an option's name is its value, whatever that begins with. All other words are arguments, in order.
+abbrev pub arguments_of : List (List ℕ) → List (List ℕ)
+arguments_of [] = []
+arguments_of (word ∷ []) = word ∷ []
+arguments_of (word ∷ next ∷ rest) = if is_option word then arguments_of rest else word ∷ arguments_of (next ∷ rest)
+
+-- the values of the option of a name
+abbrev pub values_of : List ℕ → List (List ℕ) → List (List ℕ)
+values_of name [] = []
+values_of name (word ∷ []) = []
+values_of name (word ∷ next ∷ rest) =
+    if is_option word
+    then (if bytes_eq word name then next ∷ values_of name rest else values_of name rest)
+    else values_of name (next ∷ rest)
+
+-- whether each option has one of these names, and a value
+abbrev pub has_options : List (List ℕ) → List (List ℕ) → Bool
+has_options names [] = true
+has_options names (word ∷ []) = not (is_option word)
+has_options names (word ∷ next ∷ rest) =
+    if is_option word
+    then list_any (λ name. bytes_eq word name) names && has_options names rest
+    else has_options names (next ∷ rest)
+
+-- what an option says that stands at most once, and what is usual where it doesn't stand
+abbrev pub said : {X : Type 0} → X → (List ℕ → Option X) → List (List ℕ) → Option X
+said usual read [] = Some usual
+said usual read (value ∷ []) = read value
+said usual read _ = None
+
+-- the one file among some arguments
+abbrev pub one_file : List (List ℕ) → Option (List ℕ)
+one_file (file ∷ []) = if is_file_name file then Some file else None
+one_file _ = None
+
+-- ---- `solve` and `patterns`
+
+infixl 10 ◌>>=◌
+-- what the next step makes of a value, if there is one
+abbrev ◌>>=◌ : {A B : Type 0} → Option A → (A → Option B) → Option B
+o >>= f = option_and_then f o
+
+-- what the words say of how far it goes; where they don't say it, own choices
+abbrev pub budgets_in : List (List ℕ) → Option Budgets
+budgets_in words = do
+  conflicts ← said (Some usual_conflicts) budget_in (values_of (codes "--conflicts") words)
+  moves ← said 10000 number_in (values_of (codes "--moves") words)
+  tries ← said 1 tries_in (values_of (codes "--tries") words)
+  seed ← said 0 number_in (values_of (codes "--seed") words)
+  Some (record { conflicts = conflicts; moves = moves; tries = tries; seed = seed })
+
+-- the names of options: of those that say how far a search goes, and how far `solve` goes
+abbrev pub search_options : List (List ℕ)
+search_options = codes "--conflicts" ∷ []
+
+abbrev pub solve_options : List (List ℕ)
+solve_options = codes "--conflicts" ∷ codes "--moves" ∷ codes "--tries" ∷ codes "--seed" ∷ []
+
+-- `solve` over one file, with options before, between and behind
+abbrev pub solving : List (List ℕ) → Option Command
+solving words =
+    if has_options solve_options words
+    then option_and_then (λ file. option_map (Solve file) (budgets_in words)) (one_file (arguments_of words))
+    else None
+
+-- how many clauses a search may learn, and the file's patterns, with the option before or behind the file
+abbrev pub patterning : List (List ℕ) → Option Command
+patterning words =
+    if has_options search_options words
+    then option_and_then
+    (λ file. option_map (Patterns file)
+    (said (Some usual_conflicts) budget_in (values_of (codes "--conflicts") words)))
+    (one_file (arguments_of words))
+    else None
+
+-- ---- commands
+
+-- `make` with a number of teams and a seed
+abbrev pub making : List ℕ → List ℕ → Option Command
+making teams seed = option_and_then (λ n. option_map (Make n) (number_in seed)) (team_count_in teams)
 
 -- the command of this name over two files
 abbrev pub over_files : List ℕ → List ℕ → List ℕ → Option Command
@@ -59,45 +144,27 @@ over_files command first second =
     if bytes_eq command (codes "validate") then Some (Validate first second)
     else (if bytes_eq command (codes "check") then Some (Check first second) else None)
 
--- `make` with a number of teams and a seed
-abbrev pub making : List ℕ → List ℕ → Option Command
-making teams seed = option_and_then (λ n. option_map (Make n) (number_in seed)) (team_count_in teams)
-
--- `solve` over a file with a budget
-abbrev pub solving : List ℕ → List ℕ → Option Command
-solving file budget = if is_file_name file then option_map (Solve file) (budget_in budget) else None
-
--- `solve` over a file with an option and its value, before the file or behind it
-abbrev pub with_option : List ℕ → List ℕ → List ℕ → Option Command
-with_option first second third =
-    if bytes_eq first (codes "--conflicts") then solving third second
-    else (if bytes_eq second (codes "--conflicts") then solving first third else None)
-
--- the same for `patterns`
-abbrev pub patterning : List ℕ → List ℕ → Option Command
-patterning file budget = if is_file_name file then option_map (Patterns file) (budget_in budget) else None
-
-abbrev pub patterns_with : List ℕ → List ℕ → List ℕ → Option Command
-patterns_with first second third =
-    if bytes_eq first (codes "--conflicts") then patterning third second
-    else (if bytes_eq second (codes "--conflicts") then patterning first third else None)
+-- the command of this name that has no options
+abbrev pub plain : List ℕ → List (List ℕ) → Option Command
+plain command (argument ∷ []) =
+    if bytes_eq command (codes "circle") then option_map Circle (team_count_in argument) else None
+plain command (first ∷ second ∷ []) =
+    if bytes_eq command (codes "make") then making first second
+    else (if is_file_name first && is_file_name second then over_files command first second else None)
+plain command _ = None
 
 -- the one reading of the words, or none
 abbrev pub reading : List (List ℕ) → Option Command
-reading (command ∷ argument ∷ []) = over_one command argument
-reading (command ∷ first ∷ second ∷ []) =
-    if bytes_eq command (codes "make") then making first second
-    else (if is_file_name first && is_file_name second then over_files command first second else None)
-reading (command ∷ first ∷ second ∷ third ∷ []) =
-    if bytes_eq command (codes "solve") then with_option first second third
-    else (if bytes_eq command (codes "patterns") then patterns_with first second third else None)
-reading _ = None
+reading [] = None
+reading (command ∷ words) =
+    if bytes_eq command (codes "solve") then solving words
+    else (if bytes_eq command (codes "patterns") then patterning words else plain command words)
 
 -- a league may have the teams of a command, where it names a number of them
 abbrev pub HasTeams : Command → Type 0
 HasTeams (Validate instance solution) = Unit {0}
 HasTeams (Check instance log) = Unit {0}
-HasTeams (Solve instance conflicts) = Unit {0}
+HasTeams (Solve instance budgets) = Unit {0}
 HasTeams (Patterns instance conflicts) = Unit {0}
 HasTeams (Circle n) = IsTeamCount n
 HasTeams (Make n seed) = IsTeamCount n
@@ -109,5 +176,5 @@ NeedsNoFile (Some (Circle n)) = Unit {0}
 NeedsNoFile (Some (Make n seed)) = Unit {0}
 NeedsNoFile (Some (Validate instance solution)) = ⊥
 NeedsNoFile (Some (Check instance log)) = ⊥
-NeedsNoFile (Some (Solve instance conflicts)) = ⊥
+NeedsNoFile (Some (Solve instance budgets)) = ⊥
 NeedsNoFile (Some (Patterns instance conflicts)) = ⊥

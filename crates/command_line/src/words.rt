@@ -1,10 +1,18 @@
 //! The words of the command line.
-ghost use Rattle.std.specs.Prelude.{◌≡◌, if◌then◌else◌, [], ◌∷◌, None, Some, map, string_bytes, option_map, IfSome};
-ghost use Rattle.command_line.specs.Words.{reading, budget_in, is_file_name, HasTeams, making, number_in, patterning};
-ghost use Rattle.command_line.specs.Words.{patterns_with, solving, team_count_in, usual_conflicts, with_option};
-ghost use Rattle.command_line.specs.Words.Command.{Circle, Patterns, Solve};
+ghost use Rattle.std.specs.Prelude.{◌≡◌, ◌==◌, if◌then◌else◌, [], ◌∷◌, None, Some, map, length, codes, string_bytes, bytes_eq};
+ghost use Rattle.std.specs.Prelude.{option_map, IfSome};
+ghost use Rattle.std.specs.List.{list_any};
+ghost use Rattle.std.specs.Option.{option_copied};
+ghost use Rattle.command_line.specs.Words as options;
+ghost use Rattle.command_line.specs.Words.{arguments_of, budget_in, budgets_in, has_options, is_file_name, making};
+ghost use Rattle.command_line.specs.Words.{HasTeams, number_in, patterning, plain, reading, said, search_options, solve_options, solving};
+ghost use Rattle.command_line.specs.Words.{team_count_in, tries_in, usual_conflicts, values_of};
+ghost use Rattle.command_line.specs.Words.Command.{Circle};
 ghost use Rattle.command_line.specs.SeenWords.{command_of};
+ghost use Rattle.command_line.specs.Standing.{once_more, standing};
+ghost use Rattle.command_line.specs.SeenStanding.{seen};
 
+use budgets::Budgets;
 use league::is_team_count;
 use robin_io::decimal;
 
@@ -21,11 +29,11 @@ pub enum Words<'a> {
         instance: &'a str,
         log: &'a str,
     },
-    /// Search a schedule that the league of an instance file accepts, or a log that refutes the league. The search
-    /// may learn so many clauses, or any number of them.
+    /// Search a schedule that the league of an instance file accepts, or a log that refutes the league, within these
+    /// budgets.
     Solve {
         instance: &'a str,
-        conflicts: Option<u64>,
+        budgets: Budgets,
     },
     /// Search patterns that the pattern rows of the league of an instance file allow, or a log that refutes them. The
     /// search may learn so many clauses, or any number of them.
@@ -47,6 +55,9 @@ pub enum Words<'a> {
 /// How many clauses a search may learn where the words don't say it.
 const USUAL_CONFLICTS: u64 = 2000;
 
+/// How many moves a descent may make where the words don't say it.
+const USUAL_MOVES: u64 = 10_000;
+
 /// What the arguments, without the program's name, ask for: None exactly where they are no command. It takes no
 /// memory.
 pub fn read_words(words: &[String]) -> Option<Words<'_>>
@@ -54,21 +65,40 @@ pub fn read_words(words: &[String]) -> Option<Words<'_>>
     ensures teams { IfSome result (λ command. HasTeams (command_of command)) }
 {
     match words {
-        [command, argument] => with_one(command.as_str(), argument.as_str()),
-        [command, first, second] => { with_two(command.as_str(), first.as_str(), second.as_str()) }
-        [command, first, second, third] => with_three(
-            command.as_str(),
-            first.as_str(),
-            second.as_str(),
-            third.as_str(),
-        ),
+        [] => None,
+        [command, rest @ ..] => follow(command.as_str(), rest),
+    }
+}
+
+/// The command of this name with its words.
+fn follow<'a>(command: &str, words: &'a [String]) -> Option<Words<'a>>
+    ensures reading { option_map command_of result ≡ reading (command.now ∷ map string_bytes words.now) }
+    ensures teams { IfSome result (λ command. HasTeams (command_of command)) }
+{
+    if command == "solve" {
+        read_solve(words)
+    } else if command == "patterns" {
+        read_patterns(words)
+    } else {
+        read_plain(command, words)
+    }
+}
+
+/// The command of this name that has no options.
+fn read_plain<'a>(command: &str, words: &'a [String]) -> Option<Words<'a>>
+    ensures reading { option_map command_of result ≡ plain command.now (map string_bytes words.now) }
+    ensures teams { IfSome result (λ command. HasTeams (command_of command)) }
+{
+    match words {
+        [argument] => with_one(command, argument.as_str()),
+        [first, second] => with_two(command, first.as_str(), second.as_str()),
         _ => None,
     }
 }
 
 /// The command of this name with two arguments.
 fn with_two<'a>(command: &str, first: &'a str, second: &'a str) -> Option<Words<'a>>
-    ensures reading { option_map command_of result ≡ reading (command.now ∷ first.now ∷ second.now ∷ []) }
+    ensures reading { option_map command_of result ≡ plain command.now (first.now ∷ second.now ∷ []) }
     ensures teams { IfSome result (λ command. HasTeams (command_of command)) }
 {
     if command == "make" {
@@ -102,15 +132,9 @@ fn make_of<'a>(teams: &str, seed: &str) -> Option<Words<'a>>
 
 /// The command of this name with one argument.
 fn with_one<'a>(command: &str, argument: &'a str) -> Option<Words<'a>>
-    ensures reading { option_map command_of result ≡ reading (command.now ∷ argument.now ∷ []) }
+    ensures reading { option_map command_of result ≡ plain command.now (argument.now ∷ []) }
     ensures teams { IfSome result (λ command. HasTeams (command_of command)) }
 {
-    if command == "solve" {
-        return usual_solve(argument);
-    }
-    if command == "patterns" {
-        return usual_patterns(argument);
-    }
     if command != "circle" {
         return None;
     }
@@ -118,113 +142,190 @@ fn with_one<'a>(command: &str, argument: &'a str) -> Option<Words<'a>>
     Some(Words::Circle { n })
 }
 
-/// `solve` over a file, with the usual budget.
-fn usual_solve(file: &str) -> Option<Words<'_>>
-    ensures reading { option_map command_of result
-        ≡ if is_file_name file.now then Some (Solve file.now (Some usual_conflicts)) else None }
+/// `solve` over one file, with its options.
+fn read_solve(words: &[String]) -> Option<Words<'_>>
+    ensures reading { option_map command_of result ≡ solving (map string_bytes words.now) }
     ensures teams { IfSome result (λ command. HasTeams (command_of command)) }
 {
-    if !is_name(file) {
+    if !has_solve_options(words) {
         return None;
     }
-    Some(Words::Solve {
-        instance: file,
-        conflicts: Some(USUAL_CONFLICTS),
-    })
+    let instance = one_file(words)?;
+    let budgets = budgets(words)?;
+    Some(Words::Solve { instance, budgets })
 }
 
-/// `patterns` over a file, with the usual budget.
-fn usual_patterns(file: &str) -> Option<Words<'_>>
-    ensures reading { option_map command_of result
-        ≡ if is_file_name file.now then Some (Patterns file.now (Some usual_conflicts)) else None }
+/// `patterns` over one file, with its option.
+fn read_patterns(words: &[String]) -> Option<Words<'_>>
+    ensures reading { option_map command_of result ≡ patterning (map string_bytes words.now) }
     ensures teams { IfSome result (λ command. HasTeams (command_of command)) }
 {
-    if !is_name(file) {
+    if !has_search_options(words) {
         return None;
     }
-    let conflicts = Some(USUAL_CONFLICTS);
+    let instance = one_file(words)?;
+    let conflicts = conflicts_said(words)?;
     Some(Words::Patterns {
-        instance: file,
+        instance,
         conflicts,
     })
 }
 
-/// The command of this name with three words.
-fn with_three<'a>(
-    command: &str,
-    first: &'a str,
-    second: &'a str,
-    third: &'a str,
-) -> Option<Words<'a>>
-    ensures reading { option_map command_of result
-        ≡ reading (command.now ∷ first.now ∷ second.now ∷ third.now ∷ []) }
-    ensures teams { IfSome result (λ command. HasTeams (command_of command)) }
+/// What the words say of how far `solve` goes.
+fn budgets(words: &[String]) -> Option<Budgets>
+    ensures { result ≡ budgets_in (map string_bytes words.now) }
 {
-    if command == "solve" {
-        with_option(first, second, third)
-    } else if command == "patterns" {
-        patterns_with(first, second, third)
+    let conflicts = conflicts_said(words)?;
+    let moves = number_said(words, "--moves", USUAL_MOVES)?;
+    let tries = tries_said(words)?;
+    let seed = number_said(words, "--seed", 0)?;
+    Some(Budgets {
+        conflicts,
+        moves,
+        tries,
+        seed,
+    })
+}
+
+/// How many clauses a search may learn.
+fn conflicts_said(words: &[String]) -> Option<Option<u64>>
+    ensures { result ≡ said (Some usual_conflicts) budget_in (values_of (codes "--conflicts") (map string_bytes words.now)) }
+{
+    match value_of(words, "--conflicts") {
+        Standing::Never => Some(Some(USUAL_CONFLICTS)),
+        Standing::Once(word) => budget(word),
+        Standing::Often => None,
+    }
+}
+
+/// How many tries there are.
+fn tries_said(words: &[String]) -> Option<u64>
+    ensures { result ≡ said 1 tries_in (values_of (codes "--tries") (map string_bytes words.now)) }
+{
+    match value_of(words, "--tries") {
+        Standing::Never => Some(1),
+        Standing::Once(word) => tries(word),
+        Standing::Often => None,
+    }
+}
+
+/// The number that an option says, or the usual one where it doesn't stand.
+fn number_said(words: &[String], name: &str, usual: u64) -> Option<u64>
+    ensures { result ≡ said usual number_in (values_of name.now (map string_bytes words.now)) }
+{
+    match value_of(words, name) {
+        Standing::Never => Some(usual),
+        Standing::Once(word) => number(word),
+        Standing::Often => None,
+    }
+}
+
+/// How often an option stands, and its value where that is once.
+enum Standing<'a> {
+    Never,
+    Once(&'a str),
+    Often,
+}
+
+/// How often the option of a name stands among the words.
+fn value_of<'a>(words: &'a [String], name: &str) -> Standing<'a>
+    ensures { seen result ≡ standing (values_of name.now (map string_bytes words.now)) }
+{
+    match words {
+        [first, value, rest @ ..] if is_option(first.as_str()) => {
+            let later = value_of(rest, name);
+            if first.as_str() == name {
+                one_more(value.as_str(), later)
+            } else {
+                later
+            }
+        }
+        [_, rest @ ..] => value_of(rest, name),
+        [] => Standing::Never,
+    }
+}
+
+/// How often an option stands that stands once more, with this value.
+fn one_more<'a>(value: &'a str, later: Standing<'a>) -> Standing<'a>
+    ensures { seen result ≡ once_more value.now (seen later.entry) }
+{
+    match later {
+        Standing::Never => Standing::Once(value),
+        Standing::Once(_) => Standing::Often,
+        Standing::Often => Standing::Often,
+    }
+}
+
+/// The one file among the arguments.
+fn one_file(words: &[String]) -> Option<&str>
+    ensures { option_copied result ≡ options.one_file (arguments_of (map string_bytes words.now)) }
+{
+    match words {
+        [] => None,
+        [first, _, rest @ ..] if is_option(first.as_str()) => one_file(rest),
+        [first, rest @ ..] => file_alone(first.as_str(), rest),
+    }
+}
+
+/// A file, where no argument comes behind it.
+fn file_alone<'a>(file: &'a str, rest: &[String]) -> Option<&'a str>
+    ensures { option_copied result ≡ options.one_file (file.now ∷ arguments_of (map string_bytes rest.now)) }
+{
+    if is_name(file) && has_no_argument(rest) {
+        Some(file)
     } else {
         None
     }
 }
 
-/// `solve` over a file with the option `--conflicts` and its value, before the file or behind it.
-fn with_option<'a>(first: &'a str, second: &'a str, third: &'a str) -> Option<Words<'a>>
-    ensures reading { option_map command_of result ≡ with_option first.now second.now third.now }
-    ensures teams { IfSome result (λ command. HasTeams (command_of command)) }
+/// Whether there is no argument.
+fn has_no_argument(words: &[String]) -> bool
+    ensures { result ≡ (length (arguments_of (map string_bytes words.now)) == 0) }
 {
-    if first == "--conflicts" {
-        solve_within(third, second)
-    } else if second == "--conflicts" {
-        solve_within(first, third)
-    } else {
-        None
+    match words {
+        [first, _, rest @ ..] => is_option(first.as_str()) && has_no_argument(rest),
+        _ => words.is_empty(),
     }
 }
 
-/// `solve` over a file, within a budget.
-fn solve_within<'a>(file: &'a str, word: &str) -> Option<Words<'a>>
-    ensures reading { option_map command_of result ≡ solving file.now word.now }
-    ensures teams { IfSome result (λ command. HasTeams (command_of command)) }
+/// Whether each option is one of `solve`, and has a value.
+fn has_solve_options(words: &[String]) -> bool
+    ensures { result ≡ has_options solve_options (map string_bytes words.now) }
 {
-    if !is_name(file) {
-        return None;
-    }
-    let conflicts = budget(word)?;
-    Some(Words::Solve {
-        instance: file,
-        conflicts,
-    })
-}
-
-/// `patterns` over a file with the option `--conflicts` and its value, before the file or behind it.
-fn patterns_with<'a>(first: &'a str, second: &'a str, third: &'a str) -> Option<Words<'a>>
-    ensures reading { option_map command_of result ≡ patterns_with first.now second.now third.now }
-    ensures teams { IfSome result (λ command. HasTeams (command_of command)) }
-{
-    if first == "--conflicts" {
-        patterns_within(third, second)
-    } else if second == "--conflicts" {
-        patterns_within(first, third)
-    } else {
-        None
+    match words {
+        [first, _, rest @ ..] if is_option(first.as_str()) => {
+            is_solve_option(first.as_str()) && has_solve_options(rest)
+        }
+        [first, rest @ ..] => !is_option(first.as_str()) && has_solve_options(rest),
+        [] => true,
     }
 }
 
-/// `patterns` over a file, within a budget.
-fn patterns_within<'a>(file: &'a str, word: &str) -> Option<Words<'a>>
-    ensures reading { option_map command_of result ≡ patterning file.now word.now }
-    ensures teams { IfSome result (λ command. HasTeams (command_of command)) }
+/// Whether each option says how far a search goes, and has a value.
+fn has_search_options(words: &[String]) -> bool
+    ensures { result ≡ has_options search_options (map string_bytes words.now) }
 {
-    if !is_name(file) {
-        return None;
+    match words {
+        [first, _, rest @ ..] if is_option(first.as_str()) => {
+            first.as_str() == "--conflicts" && has_search_options(rest)
+        }
+        [first, rest @ ..] => !is_option(first.as_str()) && has_search_options(rest),
+        [] => true,
     }
-    let conflicts = budget(word)?;
-    Some(Words::Patterns {
-        instance: file,
-        conflicts,
-    })
+}
+
+/// Whether a word is the name of an option of `solve`.
+fn is_solve_option(word: &str) -> bool
+    ensures { result ≡ list_any (λ name. bytes_eq word.now name) solve_options }
+{
+    word == "--conflicts" || word == "--moves" || word == "--tries" || word == "--seed"
+}
+
+/// Whether a word names an option: it begins with `--`.
+fn is_option(word: &str) -> bool
+    ensures { result ≡ options.is_option word.now }
+{
+    matches!(word.as_bytes(), [b'-', b'-', ..])
 }
 
 /// The budget that a word writes: a number of conflicts, or `all`, which is none.
@@ -253,6 +354,14 @@ fn number(word: &str) -> Option<u64>
         [b'0', _, ..] => None,
         digits => decimal(digits).ok(),
     }
+}
+
+/// The number of tries that a word writes: from 1 to 100.
+fn tries(word: &str) -> Option<u64>
+    ensures { result ≡ tries_in word.now }
+{
+    let n = number(word)?;
+    if 1 <= n && n <= 100 { Some(n) } else { None }
 }
 
 /// The number of teams that a word writes: an even number from 2 to 40.

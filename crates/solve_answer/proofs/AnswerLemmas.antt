@@ -2,6 +2,7 @@
 use Rattle.std.proofs.Common.{◌≡◌, ℕ, List, Option, Some, Ok, codes, ap, inl, inr, sym, subst, ◌∙◌}
 use Rattle.std.specs.Prelude.{IfSome}
 use Rattle.rows.specs.Rows.{Row}
+use Rattle.budgets.specs.declared.budgets.Budgets.{Budgets}
 use Rattle.league.specs.Instance.{Instance}
 use Rattle.robinx_tags.specs.Pieces.{pieces}
 use Rattle.robinx_form.specs.InstanceFile.{instance_of}
@@ -17,24 +18,24 @@ use Rattle.check_answer.proofs.AnswerLemmas.{encodes-small}
 use Rattle.solve_answer.specs.Solve.{IsFound, IsWellFormedInstance, solved}
 
 -- a well-formed instance at which nothing fails: the answer is what is found of its league
-pub solved-well_formed : (contents : List ℕ → Option (List ℕ)) (took_more : ℕ → Type 0) (failed : List ℕ → Type 0) (instance : List ℕ) (conflicts : Option ℕ) (league : Instance) (answer : Answer)
-    → IsWellFormedInstance contents failed instance league → solved contents took_more failed instance conflicts answer → IsFound league conflicts (rows_of league) answer
-solved-well_formed contents took_more failed instance conflicts league answer good given =
-    encodes-small league (IsFound league conflicts) answer good.small
-    (says-known (codes "instance") (instance_of (pieces good.bytes)) league (λ l. encodes l (IsFound l conflicts)) answer good.says_league
-    (reads-known (codes "instance") (contents instance) INSTANCE_LIMIT (took_more INSTANCE_LIMIT) (failed instance) (λ bytes. says (codes "instance") (instance_of (pieces bytes)) (λ l. encodes l (IsFound l conflicts))) answer good.bytes good.known good.within good.works given))
+pub solved-well_formed : (contents : List ℕ → Option (List ℕ)) (took_more : ℕ → Type 0) (failed : List ℕ → Type 0) (instance : List ℕ) (budgets : Budgets) (league : Instance) (answer : Answer)
+    → IsWellFormedInstance contents failed instance league → solved contents took_more failed instance budgets answer → IsFound league budgets (rows_of league) answer
+solved-well_formed contents took_more failed instance budgets league answer good given =
+    encodes-small league (IsFound league budgets) answer good.small
+    (says-known (codes "instance") (instance_of (pieces good.bytes)) league (λ l. encodes l (IsFound l budgets)) answer good.says_league
+    (reads-known (codes "instance") (contents instance) INSTANCE_LIMIT (took_more INSTANCE_LIMIT) (failed instance) (λ bytes. says (codes "instance") (instance_of (pieces bytes)) (λ l. encodes l (IsFound l budgets))) answer good.bytes good.known good.within good.works given))
 
-found-refuted : (league : Instance) (conflicts : Option ℕ) (rows : List Row) (answer : Answer) → answer.status ≡ Refuted → IsFound league conflicts rows answer → NoneAccepted league
-found-refuted league conflicts rows answer ended found =
+found-refuted : (league : Instance) (budgets : Budgets) (rows : List Row) (answer : Answer) → answer.status ≡ Refuted → IsFound league budgets rows answer → NoneAccepted league
+found-refuted league budgets rows answer ended found =
     elim found.found [
       | inl schedule ↦ let same : Yes ≡ Refuted = sym schedule.status ∙ ended in absurd (cc)
       | inr (inl refuted) ↦ refuted.none
       | inr (inr spent) ↦ let same : Spent ≡ Refuted = sym spent.status ∙ ended in absurd (cc)
     ]
 
-encoded-refuted : (league : Instance) (conflicts : Option ℕ) (answer : Answer) → answer.status ≡ Refuted → encodes league (IsFound league conflicts) answer → NoneAccepted league
-encoded-refuted league conflicts answer ended (inl h) = found-refuted league conflicts (rows_of league) answer ended h.1
-encoded-refuted league conflicts answer ended (inr h) = let same : File ≡ Refuted = sym (ap (λ (a : Answer). a.status) h.1) ∙ ended in absurd (cc)
+encoded-refuted : (league : Instance) (budgets : Budgets) (answer : Answer) → answer.status ≡ Refuted → encodes league (IsFound league budgets) answer → NoneAccepted league
+encoded-refuted league budgets answer ended (inl h) = found-refuted league budgets (rows_of league) answer ended h.1
+encoded-refuted league budgets answer ended (inr h) = let same : File ≡ Refuted = sym (ap (λ (a : Answer). a.status) h.1) ∙ ended in absurd (cc)
 
 read-refuted : (which : List ℕ) (known : Option (List ℕ)) (limit : ℕ) (long failed : Type 0) (next : List ℕ → Outcome) (answer : Answer) (bytes : List ℕ) → known ≡ Some bytes → answer.status ≡ Refuted → reads which known limit long failed next answer → next bytes answer
 read-refuted which known limit long failed next answer bytes is ended (inl read) =
@@ -44,9 +45,9 @@ read-refuted which known limit long failed next answer bytes is ended (inr (inl 
 read-refuted which known limit long failed next answer bytes is ended (inr (inr h)) = let same : ReadFault ≡ Refuted = sym (ap (λ (a : Answer). a.status) h.1) ∙ ended in absurd (cc)
 
 -- where the answer is a refutation, the league of the instance file accepts no list of games
-pub solved-refuted : (contents : List ℕ → Option (List ℕ)) (took_more : ℕ → Type 0) (failed : List ℕ → Type 0) (instance bytes : List ℕ) (conflicts : Option ℕ) (league : Instance) (answer : Answer)
-    → contents instance ≡ Some bytes → instance_of (pieces bytes) ≡ Ok league → answer.status ≡ Refuted → solved contents took_more failed instance conflicts answer → NoneAccepted league
-solved-refuted contents took_more failed instance bytes conflicts league answer known says_league ended given =
-    encoded-refuted league conflicts answer ended
-    (says-known (codes "instance") (instance_of (pieces bytes)) league (λ l. encodes l (IsFound l conflicts)) answer says_league
-    (read-refuted (codes "instance") (contents instance) INSTANCE_LIMIT (took_more INSTANCE_LIMIT) (failed instance) (λ first. says (codes "instance") (instance_of (pieces first)) (λ l. encodes l (IsFound l conflicts))) answer bytes known ended given))
+pub solved-refuted : (contents : List ℕ → Option (List ℕ)) (took_more : ℕ → Type 0) (failed : List ℕ → Type 0) (instance bytes : List ℕ) (budgets : Budgets) (league : Instance) (answer : Answer)
+    → contents instance ≡ Some bytes → instance_of (pieces bytes) ≡ Ok league → answer.status ≡ Refuted → solved contents took_more failed instance budgets answer → NoneAccepted league
+solved-refuted contents took_more failed instance bytes budgets league answer known says_league ended given =
+    encoded-refuted league budgets answer ended
+    (says-known (codes "instance") (instance_of (pieces bytes)) league (λ l. encodes l (IsFound l budgets)) answer says_league
+    (read-refuted (codes "instance") (contents instance) INSTANCE_LIMIT (took_more INSTANCE_LIMIT) (failed instance) (λ first. says (codes "instance") (instance_of (pieces first)) (λ l. encodes l (IsFound l budgets))) answer bytes known ended given))

@@ -1,4 +1,5 @@
 -- Lemmas on what is found, and on the stages:
+mod CommentLemmas
 mod FoundLemmas
 mod StageLemmas
 -- What follows from an answer:

@@ -1,9 +1,11 @@
 -- Worked answers, so that a wrong definition of what `solve` may answer does not check.
-use Rattle.std.proofs.Common.{◌≡◌, ℕ, ◌≤◌, ◌∙◌, true, if◌then◌else◌, List, [], Option, Some, None, Ok, codes, IsTrue, zero, suc, inl, inr, arith, refl, sym}
+use Rattle.std.proofs.Common.{◌≡◌, ℕ, ◌≤◌, ◌∙◌, true, false, if◌then◌else◌, List, [], ◌∷◌, Option, Some, None, Ok, codes, IsTrue, zero, suc, inl, inr, arith, refl, sym}
 use Rattle.std.specs.Prelude.{bytes_eq}
+use Rattle.std.specs.Fmt.{digits}
 use Rattle.std.specs.List.{All}
 use Rattle.robinx_tags.specs.Pieces.{pieces, pieces_from}
 use Rattle.robinx_tags.specs.Tags.{attributes_at}
+use Rattle.budgets.specs.declared.budgets.Budgets.{Budgets}
 use Rattle.league.specs.Accepted.{IsAccepted}
 use Rattle.league.specs.Counts.{counts_of}
 use Rattle.league.specs.Instance.{Instance, IsInstance, IsTeamCount, class_fits}
@@ -23,7 +25,9 @@ use Rattle.season_check.specs.Excluded.{NoneAccepted}
 use Rattle.season_check.proofs.SeasonLemmas.{accepted_logs_exclude}
 use Rattle.check_answer.specs.Check.{most_terms}
 use Rattle.check_answer.proofs.CheckFacts.{good_steps, homeless, league_file, never, nowhere}
-use Rattle.solve_answer.specs.Solve.{IsFound, IsWellFormedInstance, solved}
+use Rattle.moves.specs.declared.swap.Swap.TheVariants.{HomeSwap, RoundSwap, TeamSwap, PartRoundSwap, PartTeamSwap}
+use Rattle.descent.specs.Descended.{Descended}
+use Rattle.solve_answer.specs.Solve.{IsFound, IsWellFormedInstance, descent_text, move_line, solved}
 use Rattle.solve_answer.proofs.AnswerLemmas.{solved-well_formed}
 
 -- a league of two teams without constraints
@@ -71,19 +75,22 @@ none : NoneAccepted homeless
 none = accepted_logs_exclude homeless good_steps homeless-instance homeless-verdict
 
 -- whatever the budget, no schedule is the answer to `solve homeless`
-pub solve-no_schedule : (conflicts : Option ℕ) (answer : Answer) → solved contents never nowhere (codes "homeless") conflicts answer → answer.status ≡ Yes → ⊥
-solve-no_schedule conflicts answer given ended =
-    let told : IsFound homeless conflicts (rows_of homeless) answer = solved-well_formed contents never nowhere (codes "homeless") conflicts homeless answer homeless-formed given in
+pub solve-no_schedule : (budgets : Budgets) (answer : Answer) → solved contents never nowhere (codes "homeless") budgets answer → answer.status ≡ Yes → ⊥
+solve-no_schedule budgets answer given ended =
+    let told : IsFound homeless budgets (rows_of homeless) answer = solved-well_formed contents never nowhere (codes "homeless") budgets homeless answer homeless-formed given in
     elim told.found [
       | inl schedule ↦ none schedule.games schedule.accepted
       | inr (inl refuted) ↦ let same : Refuted ≡ Yes = sym refuted.status ∙ ended in cc
       | inr (inr spent) ↦ let same : Spent ≡ Yes = sym spent.status ∙ ended in cc
     ]
 
+abbrev unlimited : Budgets
+unlimited = record { conflicts = None; moves = 0; tries = 1; seed = 0 }
+
 -- and without a budget it is refuted
-pub solve-refuted : (answer : Answer) → solved contents never nowhere (codes "homeless") None answer → answer.status ≡ Refuted
+pub solve-refuted : (answer : Answer) → solved contents never nowhere (codes "homeless") unlimited answer → answer.status ≡ Refuted
 solve-refuted answer given =
-    let told : IsFound homeless None (rows_of homeless) answer = solved-well_formed contents never nowhere (codes "homeless") None homeless answer homeless-formed given in
+    let told : IsFound homeless unlimited (rows_of homeless) answer = solved-well_formed contents never nowhere (codes "homeless") unlimited homeless answer homeless-formed given in
     elim told.found [
       | inl schedule ↦ absurd (none schedule.games schedule.accepted)
       | inr (inl refuted) ↦ refuted.status
@@ -109,11 +116,27 @@ circle-accepted : IsAccepted plain (counts_of (double_games 2))
 circle-accepted = record { round_robin = IsRoundRobin-double_games 2 two; hard = λ k d h. absurd (omega arith) }
 
 -- whatever the budget, a schedule is the answer to `solve plain`, since its league accepts that of the circle method
-pub solve-circle : (conflicts : Option ℕ) (answer : Answer) → solved contents never nowhere (codes "plain") conflicts answer → answer.status ≡ Yes
-solve-circle conflicts answer given = (solved-well_formed contents never nowhere (codes "plain") conflicts plain answer plain-formed given).circle circle-accepted
+pub solve-circle : (budgets : Budgets) (answer : Answer) → solved contents never nowhere (codes "plain") budgets answer → answer.status ≡ Yes
+solve-circle budgets answer given = (solved-well_formed contents never nowhere (codes "plain") budgets plain answer plain-formed given).circle circle-accepted
 
 -- ---- texts
 
 -- a log of no step, which is spent at 0
 pub log_text-none : log_text [] ≡ codes "refutation 1\nend\n"
 log_text-none = refl
+
+-- a descent of two moves that isn't settled, and one of none that is
+abbrev step : Descended
+step = record { first = []; trail = HomeSwap (record { 0 = 0 }) (record { 0 = 13 }) ∷ PartTeamSwap (record { 0 = 1 }) (record { 0 = 2 }) (record { 0 = 30 }) ∷ []; settled = false }
+
+pub descent_text-two : descent_text 7 step ≡ codes "<!-- descent first=7 moves=2 settled=no -->\n<!-- move HomeSwap 0 13 -->\n<!-- move PartTeamSwap 1 2 30 -->\n"
+unfolding digits
+descent_text-two = refl
+
+pub descent_text-none : descent_text 0 (record { first = []; trail = []; settled = true }) ≡ codes "<!-- descent first=0 moves=0 settled=yes -->\n"
+unfolding digits
+descent_text-none = refl
+
+pub move_line-each : (move_line (RoundSwap (record { 0 = 2 }) (record { 0 = 3 })) ≡ codes "<!-- move RoundSwap 2 3 -->\n") × (move_line (TeamSwap (record { 0 = 1 }) (record { 0 = 2 })) ≡ codes "<!-- move TeamSwap 1 2 -->\n") × (move_line (PartRoundSwap (record { 0 = 0 }) (record { 0 = 1 }) (record { 0 = 4 })) ≡ codes "<!-- move PartRoundSwap 0 1 4 -->\n")
+unfolding digits
+move_line-each = (refl, refl, refl)

@@ -1,6 +1,7 @@
 -- What `solve` answers: its stages in their order, and what is found of a league.
-use Rattle.std.specs.Prelude.{◌≡◌, ℕ, ◌<◌, ◌≤◌, ◌^◌, ◌⊎◌, List, length, codes, Option, Some, Ok}
+use Rattle.std.specs.Prelude.{◌≡◌, ℕ, ◌<◌, ◌≤◌, ◌^◌, ◌++◌, ◌⊎◌, true, if◌then◌else◌, List, length, reverse, codes, decimal, Option, Some, Ok}
 use Rattle.std.specs.Io.KnownBytes.{Appends}
+use Rattle.std.specs.List.{flat_map}
 use Rattle.league.specs.Accepted.{IsAccepted, objective}
 use Rattle.league.specs.Counts.{counts_of}
 use Rattle.league.specs.Instance.{Instance}
@@ -25,18 +26,63 @@ use Rattle.refutation.specs.Texts.{log_text}
 use Rattle.refutation.specs.Verdict.{verdict_of}
 use Rattle.refutation.specs.declared.verdict.Verdict.TheVariants.{Accepted}
 use Rattle.clause_search.specs.News.{IsSpent}
+use Rattle.budgets.specs.declared.budgets.Budgets.{Budgets}
+use Rattle.moves.specs.declared.swap.Swap.{Swap}
+use Rattle.moves.specs.declared.swap.Swap.TheVariants.{HomeSwap, RoundSwap, TeamSwap, PartRoundSwap, PartTeamSwap}
+use Rattle.descent.specs.Descended.{Descended}
+use Rattle.descent.specs.Trail.{IsClimb}
+use Rattle.solve.specs.Solutions.{IsDescent, league_score}
 use Rattle.season_check.specs.Excluded.{NoneAccepted}
 use Rattle.check_answer.specs.Check.{encodes, most_terms}
 
 -- ---- what is found
 
--- a schedule that the league accepts, in order, is written as a solution file, with its objective
-pub record IsSchedule (league : Instance) (answer : Answer) : Type 0 where
+-- the comment of a move by its name, with two numbers or three
+abbrev pub move_of_two : List ℕ → ℕ → ℕ → List ℕ
+move_of_two name a b =
+    codes "<!-- move " ++ (name ++ (codes " " ++ (decimal a ++ (codes " " ++ (decimal b ++ codes " -->\n")))))
+
+abbrev pub move_of_three : List ℕ → ℕ → ℕ → ℕ → List ℕ
+move_of_three name a b c =
+    codes "<!-- move "
+    ++ (name
+    ++ (codes " " ++ (decimal a ++ (codes " " ++ (decimal b ++ (codes " " ++ (decimal c ++ codes " -->\n")))))))
+
+abbrev pub move_line : Swap → List ℕ
+move_line (HomeSwap i j) = move_of_two (codes "HomeSwap") i.0 j.0
+move_line (RoundSwap s t) = move_of_two (codes "RoundSwap") s.0 t.0
+move_line (TeamSwap i j) = move_of_two (codes "TeamSwap") i.0 j.0
+move_line (PartRoundSwap i s t) = move_of_three (codes "PartRoundSwap") i.0 s.0 t.0
+move_line (PartTeamSwap i j s) = move_of_three (codes "PartTeamSwap") i.0 j.0 s.0
+
+-- the comment of a descent: the objective that it began with, how many moves it made, and whether its end is settled
+abbrev pub descent_line : ℕ → Descended → List ℕ
+descent_line cost descent =
+    codes "<!-- descent first="
+    ++ (decimal cost
+    ++ (codes " moves="
+    ++ (decimal (length descent.trail)
+    ++ (if descent.settled then codes " settled=yes -->\n" else codes " settled=no -->\n"))))
+
+-- the comments behind a schedule: its descent, and the moves
+abbrev pub descent_text : ℕ → Descended → List ℕ
+descent_text cost descent = descent_line cost descent ++ flat_map move_line descent.trail
+
+-- A schedule that the league accepts, in order, is written as a solution file, with its objective, and behind it the
+-- descent that led to it. Taken backwards from the schedule, its moves are legal, each raises the score, and they end in an
+-- accepted schedule, whose objective is written too. As many moves as that objective says are enough to settle.
+pub record IsSchedule (league : Instance) (moves : ℕ) (answer : Answer) : Type 0 where
   pub games : List Game
+  pub descent : Descended
   pub accepted : IsAccepted league (counts_of games)
   pub in_order : IsInOrder games
+  pub descends : IsDescent league moves games descent
+  pub climbs : IsClimb league.n league.phased (league_score league) (counts_of games) (reverse descent.trail)
+      (counts_of descent.first)
+  pub settles : objective league (counts_of descent.first) ≤ moves → descent.settled ≡ true
   pub status : answer.status ≡ Yes
   pub text : answer.text ≡ solution_text games (Some (0, objective league (counts_of games)))
+      ++ descent_text (objective league (counts_of descent.first)) descent
 
 -- A log that is accepted over the league's rows is written, and reads back as it: so the league accepts no list of
 -- games, of whatever length.
@@ -59,22 +105,24 @@ pub record IsBudgetSpent (league : Instance) (rows : List Row) (conflicts : Opti
   pub text : answer.text ≡ log_text steps
   pub reads_back : log_of answer.text ≡ Ok steps
 
--- What is found of a league, over its rows and within a budget of conflicts. Where the league accepts the schedule of
+-- What is found of a league, over its rows and within budgets. Where the league accepts the schedule of
 -- the circle method, a schedule is.
-pub record IsFound (league : Instance) (conflicts : Option ℕ) (rows : List Row) (answer : Answer) : Type 0 where
-  pub found : IsSchedule league answer ⊎ (IsRefuted league rows answer ⊎ IsBudgetSpent league rows conflicts answer)
+pub record IsFound (league : Instance) (budgets : Budgets) (rows : List Row) (answer : Answer) : Type 0 where
+  pub found :
+      IsSchedule league budgets.moves answer
+      ⊎ (IsRefuted league rows answer ⊎ IsBudgetSpent league rows budgets.conflicts answer)
   pub circle : IsAccepted league (counts_of (double_games league.n)) → answer.status ≡ Yes
 
 -- ---- stages
 
 -- `solve`, over the contents of the store's files where they are known, how many bytes it gave more than, and the files
 -- at which it failed
-abbrev pub solved : (List ℕ → Option (List ℕ)) → (ℕ → Type 0) → (List ℕ → Type 0) → List ℕ → Option ℕ → Outcome
-solved contents took_more failed instance conflicts = do
+abbrev pub solved : (List ℕ → Option (List ℕ)) → (ℕ → Type 0) → (List ℕ → Type 0) → List ℕ → Budgets → Outcome
+solved contents took_more failed instance budgets = do
   bytes ← reads (codes "instance") (contents instance) INSTANCE_LIMIT (took_more INSTANCE_LIMIT) (failed instance)
   league ← says (codes "instance") (instance_of (pieces bytes))
   rows ← encodes league
-  IsFound league conflicts rows
+  IsFound league budgets rows
 
 -- ---- a run
 
@@ -94,8 +142,8 @@ pub record IsWellFormedInstance
   pub works : failed instance → ⊥
 
 -- what is found is written whole
-pub record IsSolved (league : Instance) (conflicts : Option ℕ) (ended : Status) (old new : Option (List ℕ)) : Type 0 where
+pub record IsSolved (league : Instance) (budgets : Budgets) (ended : Status) (old new : Option (List ℕ)) : Type 0 where
   pub answer : Answer
-  pub found : IsFound league conflicts (rows_of league) answer
+  pub found : IsFound league budgets (rows_of league) answer
   pub status : ended ≡ answer.status
   pub written : Appends old new answer.text

@@ -3,6 +3,7 @@
 //! A contract sees the answer by the stages of `specs/Solve.antt`, and what is found by the definitions of `solve`.
 #![tactic(auto)]
 
+mod comments;
 mod replies;
 mod stages;
 

@@ -1,8 +1,10 @@
 //! The answers of `solve`.
-ghost use Rattle.std.specs.Prelude.{◌≡◌, IfOk, Ok, Some};
+ghost use Rattle.std.specs.Prelude.{◌≡◌, ◌≤◌, ◌++◌, length, IfOk, Ok, Some};
 ghost use Rattle.std.specs.List.{All};
+ghost use Rattle.league.specs.Accepted as costs;
 ghost use Rattle.league.specs.Accepted.{IsAccepted};
 ghost use Rattle.league.specs.Counts.{counts_of};
+ghost use Rattle.league.specs.Instance.{IsGame};
 ghost use Rattle.circle_method.specs.Circle.{double_games};
 ghost use Rattle.encoding_base.specs.Encoding.{rows_of};
 ghost use Rattle.robinx_form.specs.Texts as solutions;
@@ -13,10 +15,14 @@ ghost use Rattle.refutation.specs.Steps.{NamesRows};
 ghost use Rattle.refutation.specs.Texts as logs;
 ghost use Rattle.refutation.specs.Writable.{HasShortLines};
 ghost use Rattle.check_answer.specs.Check.{too_large};
-ghost use Rattle.solve.specs.Solutions.{IsSolution, IsThoseGames};
-ghost use Rattle.solve_answer.specs.Solve.{IsFound};
+ghost use Rattle.solve.specs.Solutions.{HasSchedule, IsSolution};
+ghost use Rattle.solve_answer.specs.Solve.{IsFound, descent_text};
 
+use crate::comments::add_descent;
 use answers::{Reply, Status};
+use budgets::Budgets;
+use descent::Descent;
+use deviation::assess;
 use league::{League, Schedule};
 use refutation::{Log, log_text};
 use robinx_write::solution_text;
@@ -34,13 +40,24 @@ pub(crate) fn rows_refused(alloc: Global, terms: u64) -> Result<Reply, AllocErro
     })
 }
 
-/// A schedule that is accepted, with its objective.
-fn schedule_reply(alloc: Global, schedule: &Schedule, objective: u128) -> Result<Reply, AllocError>
+/// A schedule that is accepted, with its objective, and the descent that led to it.
+fn schedule_reply(
+    alloc: Global,
+    league: &League,
+    schedule: &Schedule,
+    objective: u128,
+    descent: &Descent,
+) -> Result<Reply, AllocError>
+    requires fit { All (IsGame league.now.n) descent.now.first }
+    requires few { length descent.now.first ≤ 10000 }
     ensures status { IfOk result (λ reply. (answer_of reply).status ≡ Yes) }
     ensures text { IfOk result (λ reply. (answer_of reply).text
-        ≡ solutions.solution_text schedule.now (Some (0, objective))) }
+        ≡ solutions.solution_text schedule.now (Some (0, objective))
+        ++ descent_text (costs.objective league.now (counts_of descent.now.first)) descent.now) }
 {
-    let text = solution_text(alloc, schedule, Some((0, objective)))?;
+    let first = assess(alloc, league, descent.first())?.objective;
+    let mut text = solution_text(alloc, schedule, Some((0, objective)))?;
+    add_descent(alloc, &mut text, first, descent)?;
     Ok(Reply {
         status: Status::Yes,
         text,
@@ -59,23 +76,24 @@ fn log_reply(alloc: Global, status: Status, log: &Log) -> Result<Reply, AllocErr
     Ok(Reply { status, text })
 }
 
-/// What is found of a league within this budget.
+/// What is found of a league within budgets.
 pub(crate) fn found_reply(
     alloc: Global,
     league: &League,
-    conflicts: Option<u64>,
+    budgets: Budgets,
     solved: &Solved,
 ) -> Result<Reply, AllocError>
-    requires solution { IsSolution league.now conflicts solved.now }
-    requires circle { IsAccepted league.now (counts_of (double_games league.now.n))
-        → IsThoseGames (double_games league.now.n) solved.now }
-    ensures { IfOk result (λ reply. IsFound league.now conflicts (rows_of league.now) (answer_of reply)) }
+    requires solution { IsSolution league.now budgets.conflicts budgets.moves solved.now }
+    requires circle { IsAccepted league.now (counts_of (double_games league.now.n)) → HasSchedule solved.now }
+    ensures { IfOk result (λ reply. IsFound league.now budgets (rows_of league.now) (answer_of reply)) }
 {
+    let _n = league.n();
     match solved {
         Solved::Schedule {
             schedule,
             objective,
-        } => schedule_reply(alloc, schedule, *objective),
+            descent,
+        } => schedule_reply(alloc, league, schedule, *objective, descent),
         Solved::Refuted(log) => log_reply(alloc, Status::Refuted, log),
         Solved::Spent(log) => log_reply(alloc, Status::Spent, log),
     }

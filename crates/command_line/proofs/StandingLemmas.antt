@@ -1,0 +1,72 @@
+-- What an option says, by how often it stands, and what words are no command.
+use Rattle.std.proofs.Common.{◌≡◌, ℕ, ◌<◌, ◌≤◌, ◌==◌, if◌then◌else◌, suc, Bool, true, false, List, [], ◌∷◌, length, map, string_bytes, String, Option, Some, None, refl, arith, ap, sym}
+use Rattle.std.proofs.lemmas.Bool.Decides.{nat_tests}
+use Rattle.command_line.specs.Standing.{once_more, standing}
+use Rattle.command_line.specs.Standing.Standing.{Never, Once, Often}
+use Rattle.command_line.specs.Words.{is_file_name, one_file, plain, said}
+
+pub standing-more : (value : List ℕ) (values : List (List ℕ)) → once_more value (standing values) ≡ standing (value ∷ values)
+standing-more value [] = refl
+standing-more value (first ∷ []) = refl
+standing-more value (first ∷ second ∷ rest) = refl
+
+pub said-never : {X : Type 0} (usual : X) (read : List ℕ → Option X) (values : List (List ℕ)) → Never ≡ standing values
+    → Some usual ≡ said usual read values
+said-never {X} usual read [] is = refl
+said-never {X} usual read (value ∷ []) is = absurd (cc)
+said-never {X} usual read (first ∷ second ∷ rest) is = absurd (cc)
+
+once-value : (a b : List ℕ) → Once a ≡ Once b → a ≡ b
+once-value a b same = cc
+
+pub said-once : {X : Type 0} (usual : X) (read : List ℕ → Option X) (values : List (List ℕ)) (word : List ℕ)
+    → Once word ≡ standing values → read word ≡ said usual read values
+said-once {X} usual read [] word is = absurd (cc)
+said-once {X} usual read (value ∷ []) word is = ap read (once-value word value is)
+said-once {X} usual read (first ∷ second ∷ rest) word is = absurd (cc)
+
+pub said-often : {X : Type 0} (usual : X) (read : List ℕ → Option X) (values : List (List ℕ)) → Often ≡ standing values
+    → None ≡ said usual read values
+said-often {X} usual read [] is = absurd (cc)
+said-often {X} usual read (value ∷ []) is = absurd (cc)
+said-often {X} usual read (first ∷ second ∷ rest) is = refl
+
+-- ---- one file
+
+named : (file : List ℕ) (b : Bool) → b ≡ true → (if b then Some file else None) ≡ Some file
+named file true is = refl
+named file false is = absurd (cc)
+
+unnamed : (file : List ℕ) (b : Bool) → b ≡ false → (if b then Some file else None) ≡ None
+unnamed file true is = absurd (cc)
+unnamed file false is = refl
+
+longer : (k : ℕ) → (suc k == 0) ≡ true → ⊥
+longer k is = grind (arith, nat_tests)
+
+pub one_file-alone : (file : List ℕ) (more : List (List ℕ)) → is_file_name file ≡ true → (length more == 0) ≡ true
+    → Some file ≡ one_file (file ∷ more)
+one_file-alone file [] name none = sym (named file (is_file_name file) name)
+one_file-alone file (x ∷ more) name none = absurd (longer (length more) none)
+
+pub one_file-refused : (file : List ℕ) (more : List (List ℕ)) → is_file_name file ≡ false → None ≡ one_file (file ∷ more)
+one_file-refused file [] name = sym (unnamed file (is_file_name file) name)
+one_file-refused file (x ∷ more) name = refl
+
+pub one_file-more : (file : List ℕ) (more : List (List ℕ)) → (length more == 0) ≡ false → None ≡ one_file (file ∷ more)
+one_file-more file [] some = absurd (cc)
+one_file-more file (x ∷ more) some = refl
+
+-- ---- words that are no command
+
+pub plain-few : {Z : Type 0} (command : List ℕ) (words : List (String Z)) → length words < 1
+    → None ≡ plain command (map string_bytes words)
+plain-few {Z} command [] few = refl
+plain-few {Z} command (a ∷ rest) few = absurd (omega arith)
+
+pub plain-many : {Z : Type 0} (command : List ℕ) (words : List (String Z)) → 3 ≤ length words
+    → None ≡ plain command (map string_bytes words)
+plain-many {Z} command [] many = absurd (omega arith)
+plain-many {Z} command (a ∷ []) many = absurd (omega arith)
+plain-many {Z} command (a ∷ b ∷ []) many = absurd (omega arith)
+plain-many {Z} command (a ∷ b ∷ c ∷ rest) many = refl

@@ -1,0 +1,20 @@
+-- How often an option stands.
+use Rattle.std.specs.Prelude.{ℕ, List, [], ◌∷◌}
+
+-- never, once with its value, or more often
+pub data Standing : Type 0 where
+  Never : Standing
+  Once : (value : List ℕ) → Standing
+  Often : Standing
+
+-- by the values of the option
+abbrev pub standing : List (List ℕ) → Standing
+standing [] = Never
+standing (value ∷ []) = Once value
+standing _ = Often
+
+-- once more, with this value
+abbrev pub once_more : List ℕ → Standing → Standing
+once_more value Never = Once value
+once_more value (Once other) = Often
+once_more value Often = Often
