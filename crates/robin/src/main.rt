@@ -14,6 +14,7 @@ const NO_ARGUMENTS: u8 = 10;
 /// What is said on standard error where the words are refused.
 const USAGE: &str = r#"usage: robin validate INSTANCE SOLUTION
        robin solve INSTANCE [--conflicts N|all]
+       robin patterns INSTANCE [--conflicts N|all]
        robin check INSTANCE LOG
        robin circle N
 validate judges the season of a solution file by the league of an instance file
@@ -21,11 +22,14 @@ validate judges the season of a solution file by the league of an instance file
 solve    finds a season that the league of an instance file accepts, or a log of
          steps that refutes the league; its search may learn N clauses, or any
          number (all), and 2000 where the option is left out
+patterns finds home-away patterns, a line for each team, that the rows of the
+         league of an instance file allow which speak of no game, or a log of
+         steps that refutes these rows, and so the league
 check    checks a log of steps that refutes the league of an instance file
 circle   writes the season of the circle method for N teams, N even, 2 to 40
 The option stands before or behind INSTANCE. There are no others.
 status 0 accepted, found or made 1 not accepted     2 these words are refused
-       3 a file is refused, or a league of too many rows for solve or check
+       3 a file is refused, or a league of too many rows (but for validate)
        4 the league is refuted by the log  5 the search is spent, at the log
        6 a file can't be read 7 the text can't be written
        8 no memory           10 the words can't be read (they aren't UTF-8, say)
