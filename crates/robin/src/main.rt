@@ -17,6 +17,7 @@ const USAGE: &str = r#"usage: robin validate INSTANCE SOLUTION
        robin patterns INSTANCE [--conflicts N|all]
        robin check INSTANCE LOG
        robin circle N
+       robin make N SEED
 validate judges the season of a solution file by the league of an instance file
          (RobinX); a file's name doesn't begin with -
 solve    finds a season that the league of an instance file accepts, or a log of
@@ -27,6 +28,8 @@ patterns finds home-away patterns, a line for each team, that the rows of the
          steps that refutes these rows, and so the league
 check    checks a log of steps that refutes the league of an instance file
 circle   writes the season of the circle method for N teams, N even, 2 to 40
+make     writes a league of N teams, N even, 2 to 40, with N + 17 constraints that
+         are drawn by SEED, a number; it accepts the season that circle writes
 The option stands before or behind INSTANCE. There are no others.
 status 0 accepted, found or made 1 not accepted     2 these words are refused
        3 a file is refused, or a league of too many rows (but for validate)

@@ -2,12 +2,13 @@
 //!
 //! Each line of standard input is the words of a command, one space between two; an empty line has no words. It is run
 //! over the files of the folder `data`, and the transcript has the command, its text and its exit status. After them
-//! come what files can't show: devices that fail, files beyond their limits, every front of a file, and the texts that
-//! no command writes.
+//! come what files can't show: devices that fail, files beyond their limits, every front of a file, made leagues that
+//! are read back, and the texts that no command writes.
 #![tactic(auto)]
 
 mod devices;
 mod limits;
+mod made;
 mod session;
 mod writing;
 
@@ -22,5 +23,6 @@ fn main(rt: HostRuntime) -> io::Result<()> {
     }
     devices::show(&rt)?;
     limits::show(&rt)?;
+    made::show(&rt)?;
     writing::show(&rt)
 }
