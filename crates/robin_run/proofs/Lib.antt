@@ -1,4 +1,5 @@
--- Lemmas on runs of `check` and of `solve`, and on want of memory:
+-- Lemmas on runs of `validate`, of `check` and of `solve`, and on want of memory:
+mod JudgeLemmas
 mod CheckLemmas
 mod SolveLemmas
 mod MemoryLemmas

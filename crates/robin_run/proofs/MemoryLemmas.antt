@@ -8,6 +8,7 @@ use Rattle.robinx_form.specs.InstanceFile.{instance_of}
 use Rattle.robinx_form.specs.SolutionFile.{solution_of}
 use Rattle.robinx_form.specs.Walk.{Fault}
 use Rattle.robinx_read.specs.declared.instance.TheConstants.{INSTANCE_LIMIT, SOLUTION_LIMIT}
+use Rattle.budgets.specs.declared.budgets.Budgets.{Budgets}
 use Rattle.command_line.specs.Words.{Command}
 use Rattle.command_line.specs.Words.Command.{Check, Circle, Solve, Validate}
 use Rattle.answers.specs.Reply.{Answer}
@@ -87,8 +88,8 @@ checked-memory contents took_more failed instance log answer ended given =
 
 -- ---- `solve`
 
-found-memory : (league : Instance) (conflicts : Option ℕ) (rows : List Row) (answer : Answer) → answer.status ≡ Memory → IsFound league conflicts rows answer → ⊥
-found-memory league conflicts rows answer ended found =
+found-memory : (league : Instance) (budgets : Budgets) (rows : List Row) (answer : Answer) → answer.status ≡ Memory → IsFound league budgets rows answer → ⊥
+found-memory league budgets rows answer ended found =
     elim found.found [
       | inl schedule ↦ let same : Yes ≡ Memory = sym schedule.status ∙ ended in cc
       | inr (inl refuted) ↦ let same : Refuted ≡ Memory = sym refuted.status ∙ ended in cc
@@ -99,11 +100,11 @@ encodes-memory : (league : Instance) (next : List Row → Outcome) (answer : Ans
 encodes-memory league next answer ended later (inl h) = later (rows_of league) h.1
 encodes-memory league next answer ended later (inr h) = let same : File ≡ Memory = status-of answer _ h.1 ended in cc
 
-solved-memory : (contents : List ℕ → Option (List ℕ)) (took_more : ℕ → Type 0) (failed : List ℕ → Type 0) (instance : List ℕ) (conflicts : Option ℕ) (answer : Answer) → answer.status ≡ Memory → solved contents took_more failed instance conflicts answer → ⊥
-solved-memory contents took_more failed instance conflicts answer ended given =
-    read-memory (codes "instance") (contents instance) INSTANCE_LIMIT (took_more INSTANCE_LIMIT) (failed instance) (λ bytes. says (codes "instance") (instance_of (pieces bytes)) (λ league. encodes league (IsFound league conflicts))) answer ended
-    (λ bytes at_bytes. said-memory (codes "instance") (instance_of (pieces bytes)) (λ league. encodes league (IsFound league conflicts)) answer ended
-    (λ league at_league. encodes-memory league (IsFound league conflicts) answer ended (λ rows found. found-memory league conflicts rows answer ended found) at_league) at_bytes) given
+solved-memory : (contents : List ℕ → Option (List ℕ)) (took_more : ℕ → Type 0) (failed : List ℕ → Type 0) (instance : List ℕ) (budgets : Budgets) (answer : Answer) → answer.status ≡ Memory → solved contents took_more failed instance budgets answer → ⊥
+solved-memory contents took_more failed instance budgets answer ended given =
+    read-memory (codes "instance") (contents instance) INSTANCE_LIMIT (took_more INSTANCE_LIMIT) (failed instance) (λ bytes. says (codes "instance") (instance_of (pieces bytes)) (λ league. encodes league (IsFound league budgets))) answer ended
+    (λ bytes at_bytes. said-memory (codes "instance") (instance_of (pieces bytes)) (λ league. encodes league (IsFound league budgets)) answer ended
+    (λ league at_league. encodes-memory league (IsFound league budgets) answer ended (λ rows found. found-memory league budgets rows answer ended found) at_league) at_bytes) given
 
 -- ---- a run
 
@@ -111,7 +112,7 @@ answer-memory : (words : Option Command) (contents : List ℕ → Option (List �
 answer-memory None contents took_more failed answer ended given = let same : Words ≡ Memory = status-of answer _ given ended in cc
 answer-memory (Some (Validate instance solution)) contents took_more failed answer ended given = validated-memory contents took_more failed instance solution answer ended given
 answer-memory (Some (Check instance log)) contents took_more failed answer ended given = checked-memory contents took_more failed instance log answer ended given
-answer-memory (Some (Solve instance conflicts)) contents took_more failed answer ended given = solved-memory contents took_more failed instance conflicts answer ended given
+answer-memory (Some (Solve instance budgets)) contents took_more failed answer ended given = solved-memory contents took_more failed instance budgets answer ended given
 answer-memory (Some (Circle n)) contents took_more failed answer ended given = let same : Yes ≡ Memory = status-of answer _ given ended in cc
 
 -- where an answer is written, the run doesn't end as want of memory does

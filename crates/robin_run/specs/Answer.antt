@@ -16,6 +16,6 @@ IsAnswer (Some (Validate instance solution)) contents took_more failed answer =
     validated contents took_more failed instance solution answer
 IsAnswer (Some (Check instance log)) contents took_more failed answer =
     checked contents took_more failed instance log answer
-IsAnswer (Some (Solve instance conflicts)) contents took_more failed answer =
-    solved contents took_more failed instance conflicts answer
+IsAnswer (Some (Solve instance budgets)) contents took_more failed answer =
+    solved contents took_more failed instance budgets answer
 IsAnswer (Some (Circle n)) contents took_more failed answer = answer ≡ circle_season n

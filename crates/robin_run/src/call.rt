@@ -4,6 +4,7 @@ ghost use Rattle.std.specs.Io.KnownBytes.{Keeps};
 ghost use Rattle.robin_io.specs.Counts.{Rose, TookMore};
 ghost use Rattle.league.specs.Instance.{Instance};
 ghost use Rattle.league.specs.declared.game.Game.{Game};
+ghost use Rattle.budgets.specs.declared.budgets.Budgets.{Budgets};
 ghost use Rattle.command_line.specs.SeenWords.{command_of};
 ghost use Rattle.command_line.specs.Words.{reading, HasTeams, NeedsNoFile};
 ghost use Rattle.command_line.specs.Words.Command.{Check, Solve, Validate};
@@ -41,10 +42,7 @@ fn follow<S: Shelf>(alloc: Global, command: Words, shelf: &mut S) -> Result<Repl
     match command {
         Words::Validate { instance, solution } => validate(alloc, shelf, instance, solution),
         Words::Check { instance, log } => check(alloc, shelf, instance, log),
-        Words::Solve {
-            instance,
-            conflicts,
-        } => solve_file(alloc, shelf, instance, conflicts),
+        Words::Solve { instance, budgets } => solve_file(alloc, shelf, instance, budgets),
         Words::Circle { n } => circle(alloc, n),
     }
 }
@@ -83,7 +81,10 @@ fn answer<S: Shelf>(alloc: Global, words: &[String], shelf: &mut S) -> Result<Re
 /// - `solved` says the same as `checked` of `solve`: where the instance file is within its limit and well-formed, and the
 ///   rows of its league have at most 40,000,000 terms, what is found is written whole. It is a schedule that the league
 ///   accepts with its objective, a log that `check` accepts, or a log that is spent at the budget; and a schedule
-///   wherever the league accepts that of the circle method.
+///   wherever the league accepts that of the circle method. Behind a schedule stand the moves of the descent that led to
+///   it, at most as many as the budget of moves: taken backwards from the schedule they are legal, each raises the
+///   score, and they end in a schedule that is accepted too, whose objective is written. It says `settled=yes` exactly
+///   where no legal move lowers the score of the schedule, and a budget of as many moves as the first objective settles.
 /// - `unsolvable` is as `refuted`: where a run of `solve` ends with `Refuted`, the league accepts no list of games.
 /// - That a count of faults rose says that it is larger after this call, or that it stands at its last value,
 ///   2^64 - 1.
@@ -125,17 +126,17 @@ pub fn run<S: Shelf, K: Sink>(alloc: Global, words: &[String], shelf: &mut S, ou
         → NoneAccepted league }
 
     // What is found of the league of a well-formed instance, at which nothing fails, is written, unless memory runs out.
-    ensures solved { (instance : List ℕ) (conflicts : Option ℕ) (league : Instance)
-        → reading (map string_bytes words.now) ≡ Some (Solve instance conflicts)
+    ensures solved { (instance : List ℕ) (budgets : Budgets) (league : Instance)
+        → reading (map string_bytes words.now) ≡ Some (Solve instance budgets)
         → IsWellFormedInstance (S.contents shelf.old) (λ name. Rose (S.faults shelf.old name) (S.faults shelf.new name))
         instance league
         → (Rose (K.faults out.old) (K.faults out.new) → ⊥)
         → result ≢ Status.Memory
-        → IsSolved league conflicts result (K.written out.old) (K.written out.new) }
+        → IsSolved league budgets result (K.written out.old) (K.written out.new) }
 
     // Where a league is refuted, it accepts no list of games.
-    ensures unsolvable { (instance bytes : List ℕ) (conflicts : Option ℕ) (league : Instance)
-        → reading (map string_bytes words.now) ≡ Some (Solve instance conflicts)
+    ensures unsolvable { (instance bytes : List ℕ) (budgets : Budgets) (league : Instance)
+        → reading (map string_bytes words.now) ≡ Some (Solve instance budgets)
         → S.contents shelf.old instance ≡ Some bytes
         → instance_of (pieces bytes) ≡ Ok league
         → result ≡ Status.Refuted

@@ -2,6 +2,7 @@ use Rattle.std.proofs.Common.{ℕ, List, Option, map, string_bytes}
 use Rattle.robin_io.specs.Counts.{Rose, TookMore}
 use Rattle.command_line.specs.Words.{reading}
 use Rattle.answers.specs.SeenReply.{answer_of}
+use Rattle.robin_run.proofs.JudgeLemmas.{run-judged}
 use Rattle.robin_run.proofs.CheckLemmas.{run-checked, run-refuted}
 use Rattle.robin_run.proofs.SolveLemmas.{run-solved, run-unsolvable}
 use Rattle.robin_run.proofs.MemoryLemmas.{written-memory}
@@ -30,15 +31,22 @@ returns-in-Ok-clause-checked g c = λ instance log league steps is good works la
     run-checked (reading (map string_bytes c.args.words.now)) contents took_more failed instance log league steps (answer_of c.in-Ok.reply) c.write_answer.result _ _ _ c.in-Ok.ensures.answer c.write_answer.ensures is good works
 
 pub returns-in-Ok-clause-solved : goal.returns-in-Ok-clause-solved
-returns-in-Ok-clause-solved g c = λ instance conflicts league is good works later.
+returns-in-Ok-clause-solved g c = λ instance budgets league is good works later.
     let contents : List ℕ → Option (List ℕ) = g.S.Shelf.contents c.args.shelf.now in
     let took_more : ℕ → Type 0 = λ limit. TookMore limit (g.S.Shelf.taken c.args.shelf.now) (g.S.Shelf.taken c.answer.new.shelf) in
     let failed : List ℕ → Type 0 = λ name. Rose (g.S.Shelf.faults c.args.shelf.now name) (g.S.Shelf.faults c.answer.new.shelf name) in
-    run-solved (reading (map string_bytes c.args.words.now)) contents took_more failed instance conflicts league (answer_of c.in-Ok.reply) c.write_answer.result _ _ _ c.in-Ok.ensures.answer c.write_answer.ensures is good works
+    run-solved (reading (map string_bytes c.args.words.now)) contents took_more failed instance budgets league (answer_of c.in-Ok.reply) c.write_answer.result _ _ _ c.in-Ok.ensures.answer c.write_answer.ensures is good works
 
 pub returns-in-Ok-clause-unsolvable : goal.returns-in-Ok-clause-unsolvable
-returns-in-Ok-clause-unsolvable g c = λ instance bytes conflicts league is known says_league ended.
+returns-in-Ok-clause-unsolvable g c = λ instance bytes budgets league is known says_league ended.
     let contents : List ℕ → Option (List ℕ) = g.S.Shelf.contents c.args.shelf.now in
     let took_more : ℕ → Type 0 = λ limit. TookMore limit (g.S.Shelf.taken c.args.shelf.now) (g.S.Shelf.taken c.answer.new.shelf) in
     let failed : List ℕ → Type 0 = λ name. Rose (g.S.Shelf.faults c.args.shelf.now name) (g.S.Shelf.faults c.answer.new.shelf name) in
-    run-unsolvable (reading (map string_bytes c.args.words.now)) contents took_more failed instance bytes conflicts league (answer_of c.in-Ok.reply) c.write_answer.result _ _ _ c.in-Ok.ensures.answer c.write_answer.ensures is known says_league ended
+    run-unsolvable (reading (map string_bytes c.args.words.now)) contents took_more failed instance bytes budgets league (answer_of c.in-Ok.reply) c.write_answer.result _ _ _ c.in-Ok.ensures.answer c.write_answer.ensures is known says_league ended
+
+pub returns-in-Ok-clause-judged : goal.returns-in-Ok-clause-judged
+returns-in-Ok-clause-judged g c = λ instance solution league games is good works later.
+    let contents : List ℕ → Option (List ℕ) = g.S.Shelf.contents c.args.shelf.now in
+    let took_more : ℕ → Type 0 = λ limit. TookMore limit (g.S.Shelf.taken c.args.shelf.now) (g.S.Shelf.taken c.answer.new.shelf) in
+    let failed : List ℕ → Type 0 = λ name. Rose (g.S.Shelf.faults c.args.shelf.now name) (g.S.Shelf.faults c.answer.new.shelf name) in
+    run-judged (reading (map string_bytes c.args.words.now)) contents took_more failed instance solution league games (answer_of c.in-Ok.reply) c.write_answer.result _ _ _ c.in-Ok.ensures.answer c.write_answer.ensures is good works
