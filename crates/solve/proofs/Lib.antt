@@ -6,6 +6,8 @@ pub mod LineLemmas
 pub mod FewLemmas
 -- What a descent makes of an accepted schedule:
 pub mod LowerLemmas
+-- What venue counts say:
+pub mod CountingLemmas
 -- What the answers say:
 pub mod AnswerLemmas
 -- Worked answers:

@@ -1,5 +1,5 @@
 -- What a descent makes of an accepted schedule.
-use Rattle.std.proofs.Common.{◌≡◌, ◌↔◌, ℕ, ◌<◌, ◌≤◌, Bool, true, false, List, length, reverse, inl, inr, arith, ap, sym, subst, ◌∙◌}
+use Rattle.std.proofs.Common.{◌≡◌, ◌↔◌, ℕ, ◌≤◌, Bool, true, false, List, length, reverse, inl, inr, arith, ap, sym, subst, ◌∙◌}
 use Rattle.std.specs.Prelude.{IsTrue}
 use Rattle.std.specs.List.{All}
 use Rattle.std.proofs.Math.Path.{fun_ext}
@@ -13,7 +13,7 @@ use Rattle.league.specs.declared.game.Game.{Game}
 use Rattle.moves.specs.Moves.{moved}
 use Rattle.rule_core.specs.declared.rule.Entries.{Ghosts}
 use Rattle.tally.specs.League.{AreRulesOf, hard_sum}
-use Rattle.tally.specs.Tallies.{infeasibility_on, objective_on}
+use Rattle.tally.specs.Tallies.{objective_on}
 use Rattle.tally.specs.declared.weighted.Weighted.{Weighted}
 use Rattle.tally.proofs.LeagueLemmas.{hard_sum-met, infeasibility-league, objective-league}
 use Rattle.descent.specs.Descended.{Descended}

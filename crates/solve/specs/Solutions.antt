@@ -79,3 +79,9 @@ abbrev pub HasSchedule : Solved → Type 0
 HasSchedule (Schedule games objective descent) = Unit {0}
 HasSchedule (Refuted log) = ⊥
 HasSchedule (Spent log) = ⊥
+
+-- the answer is a log that refutes
+abbrev pub IsRefuted : Solved → Type 0
+IsRefuted (Schedule games objective descent) = ⊥
+IsRefuted (Refuted log) = Unit {0}
+IsRefuted (Spent log) = ⊥

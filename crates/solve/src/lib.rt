@@ -4,6 +4,7 @@
 #![tactic(auto)]
 
 mod circle;
+mod counting;
 mod fault;
 mod lines;
 mod lower;

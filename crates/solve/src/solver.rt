@@ -1,5 +1,5 @@
 //! The solver.
-ghost use Rattle.std.specs.Prelude.{◌≡◌, ℕ, ◌<◌, ◌≤◌, length, None, IfOk, IsOk, Err};
+ghost use Rattle.std.specs.Prelude.{◌≡◌, ℕ, ◌<◌, ◌≤◌, length, true, None, IfOk, IsOk, Err};
 ghost use Rattle.std.specs.List.{All};
 ghost use Rattle.league.specs.Accepted.{IsAccepted};
 ghost use Rattle.league.specs.Counts.{counts_of};
@@ -9,9 +9,11 @@ ghost use Rattle.rows.specs.Values.{assigned};
 ghost use Rattle.encoding_base.specs.Encoding.{encoding_size, rows_of};
 ghost use Rattle.encoding_base.specs.Variables.{var_count};
 ghost use Rattle.clause_search.specs.Answers.{IsAnswer};
-ghost use Rattle.solve.specs.Solutions.{HasSchedule, IsSolution};
+ghost use Rattle.solve.specs.Solutions.{HasSchedule, IsRefuted, IsSolution};
+ghost use Rattle.venue_counts.specs.VenueCounts.{are_crowded, are_short};
 
 use crate::circle::try_circle;
+use crate::counting::count_out;
 use crate::fault::SolveFault;
 use crate::lines::note_numbers;
 use crate::lower::lowered;
@@ -28,7 +30,7 @@ use std::alloc::{AllocError, Global};
 
 /// Finds a schedule that the league accepts, or a proof that there is none.
 ///
-/// The first try starts from the schedule of the circle method where the league accepts it, and else from one that a
+/// Where the venue counts of the league refute it, that is the answer. The first try starts from the schedule of the circle method where the league accepts it, and else from one that a
 /// search finds; each later try from one that a search with another random order finds. With a limit of conflicts the
 /// search of a try learns at most so many clauses, and then its log is the answer; without one it goes on to the end. From
 /// a schedule that is accepted a descent goes on by moves to better ones, at most so many moves a try. The schedule of the
@@ -47,8 +49,15 @@ pub fn solve(alloc: Global, league: &League, budgets: Budgets) -> Result<Solved,
 
     // Where the league accepts the schedule of the circle method, the answer is a schedule.
     ensures circle { IsAccepted league.now (counts_of (double_games league.now.n)) → IfOk result HasSchedule }
+
+    // Where the venue counts of the league are short, or crowded, it is refuted whatever the budgets.
+    ensures short { are_short league.now ≡ true → IfOk result IsRefuted }
+    ensures crowded { are_crowded league.now ≡ true → IfOk result IsRefuted }
 {
     let encoding = encode(alloc, league)?;
+    if let Some(log) = count_out(alloc, league, &encoding)? {
+        return Ok(Solved::Refuted(log));
+    }
     let solved = best_try(alloc, league, &encoding, budgets)?;
     Ok(solved)
 }

@@ -5,11 +5,8 @@ use Rattle.league.specs.Instance.{IsGame}
 use Rattle.league.specs.Structure.{IsRoundRobin}
 use Rattle.league.specs.declared.game.Game.{Game}
 use Rattle.cells.specs.Table.{Table, table_counts}
-use Rattle.tally.specs.Tallies.{objective_on}
-use Rattle.tally.specs.declared.weighted.Weighted.{Weighted}
-use Rattle.tally.proofs.LeagueLemmas.{objective-league}
 use Rattle.solve.specs.Solutions.{league_score}
-use Rattle.solve.proofs.LowerLemmas.{Descends, Descends-same, IsSchedule-of, cost-is, scores-are}
+use Rattle.solve.proofs.LowerLemmas.{Descends-same, IsSchedule-of, cost-is, scores-are}
 use Rattle.solve.proofs.lower.lowered.Goals as goal
 
 pub descend-requires : goal.descend-requires

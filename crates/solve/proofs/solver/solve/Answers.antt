@@ -1,0 +1,13 @@
+use Rattle.std.proofs.Common.{List, Option, subst}
+use Rattle.std.specs.Prelude.{IfSome}
+use Rattle.circle_method.specs.Circle.{double_games}
+use Rattle.refutation.specs.Steps.{Step}
+use Rattle.solve.specs.Solutions.{RefutesLeague}
+use Rattle.solve.proofs.solver.solve.Goals as goal
+
+pub returns-in-Some-clause-circle : goal.returns-in-Some-clause-circle
+returns-in-Some-clause-circle c = λ accepted.
+    let refutes : RefutesLeague c.args.league.now c.in-Some.log =
+    subst (λ (found : Option (List Step)). IfSome found (RefutesLeague c.args.league.now)) c.in-Some.is
+    c.in_ok-log.ensures.refuted in
+    refutes.none (double_games c.args.league.now.n) accepted
