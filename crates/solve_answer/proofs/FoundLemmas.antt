@@ -1,5 +1,5 @@
 -- What is found of a league, answered.
-use Rattle.std.proofs.Common.{◌≡◌, ℕ, ◌++◌, List, Some, Result, Ok, Err, ap, inl, inr, ◌∙◌}
+use Rattle.std.proofs.Common.{◌≡◌, ℕ, ◌++◌, true, List, Some, Result, Ok, Err, ap, inl, inr, ◌∙◌}
 use Rattle.std.specs.Prelude.{IfOk}
 use Rattle.budgets.specs.declared.budgets.Budgets.{Budgets}
 use Rattle.league.specs.Accepted as costs
@@ -21,14 +21,16 @@ use Rattle.solve.specs.Solutions.{IsSpentOn, RefutesLeague}
 use Rattle.solve.specs.Solutions as solutions
 use Rattle.solve.proofs.LowerLemmas.{IsDescent-climbs, IsDescent-settles}
 use Rattle.descent.specs.Descended.{Descended}
+use Rattle.venue_counts.specs.VenueCounts.{are_crowded, are_short}
 use Rattle.solve_answer.specs.Solve.{IsFound, descent_text}
 
 pub found-schedule : (league : Instance) (budgets : Budgets) (games : List Game) (objective : ℕ) (descent : Descended)
-    (answer : Answer) → solutions.IsSchedule league budgets.moves games objective descent → answer.status ≡ Yes
+    (answer : Answer) → solutions.IsSchedule league budgets.moves games objective descent
+    → (are_short league ≡ true → ⊥) → (are_crowded league ≡ true → ⊥) → answer.status ≡ Yes
     → answer.text
     ≡ solution_text games (Some (0, objective)) ++ descent_text (costs.objective league (counts_of descent.first)) descent
     → IsFound league budgets (rows_of league) answer
-found-schedule league budgets games objective descent answer schedule status text = record {
+found-schedule league budgets games objective descent answer schedule not_short not_crowded status text = record {
   found = inl (record {
     games = games;
     descent = descent;
@@ -45,39 +47,47 @@ found-schedule league budgets games objective descent answer schedule status tex
         schedule.cost;
   });
   circle = λ accepted. status;
+  short = λ is. absurd (not_short is);
+  crowded = λ is. absurd (not_crowded is);
 }
 
 pub found-refuted : (league : Instance) (budgets : Budgets) (steps : List Step) (answer : Answer) → RefutesLeague league steps → (IsAccepted league (counts_of (double_games league.n)) → ⊥) → answer.status ≡ Refuted → answer.text ≡ log_text steps → log_of answer.text ≡ Ok steps → IsFound league budgets (rows_of league) answer
 found-refuted league budgets steps answer refutes no_circle status text reads_back = record {
   found = inr (inl (record { steps = steps; accepted = refutes.accepted; none = refutes.none; status = status; text = text; reads_back = reads_back }));
   circle = λ accepted. absurd (no_circle accepted);
+  short = λ is. status;
+  crowded = λ is. status;
 }
 
-pub found-spent : (league : Instance) (budgets : Budgets) (steps : List Step) (answer : Answer) → IsSpentOn league budgets.conflicts steps → (IsAccepted league (counts_of (double_games league.n)) → ⊥) → answer.status ≡ Spent → answer.text ≡ log_text steps → log_of answer.text ≡ Ok steps → IsFound league budgets (rows_of league) answer
-found-spent league budgets steps answer spent no_circle status text reads_back = record {
+pub found-spent : (league : Instance) (budgets : Budgets) (steps : List Step) (answer : Answer) → IsSpentOn league budgets.conflicts steps → (IsAccepted league (counts_of (double_games league.n)) → ⊥) → (are_short league ≡ true → ⊥) → (are_crowded league ≡ true → ⊥) → answer.status ≡ Spent → answer.text ≡ log_text steps → log_of answer.text ≡ Ok steps → IsFound league budgets (rows_of league) answer
+found-spent league budgets steps answer spent no_circle not_short not_crowded status text reads_back = record {
   found = inr (inr (record { steps = steps; budget = spent.limited; spent = spent.spent; few = spent.few; status = status; text = text; reads_back = reads_back }));
   circle = λ accepted. absurd (no_circle accepted);
+  short = λ is. absurd (not_short is);
+  crowded = λ is. absurd (not_crowded is);
 }
 
 -- ---- the same of a reply, unless memory ran out
 
 pub replied-schedule : {E : Type 0} (league : Instance) (budgets : Budgets) (games : List Game) (objective : ℕ)
     (descent : Descended) (result : Result Reply E) → solutions.IsSchedule league budgets.moves games objective descent
+    → (are_short league ≡ true → ⊥) → (are_crowded league ≡ true → ⊥)
     → IfOk result (λ reply. (answer_of reply).status ≡ Yes)
     → IfOk result (λ reply. (answer_of reply).text
     ≡ solution_text games (Some (0, objective))
     ++ descent_text (costs.objective league (counts_of descent.first)) descent)
     → IfOk result (λ reply. IsFound league budgets (rows_of league) (answer_of reply))
-replied-schedule league budgets games objective descent (Ok reply) schedule status text =
-    found-schedule league budgets games objective descent (answer_of reply) schedule status text
-replied-schedule league budgets games objective descent (Err error) schedule status text = tt
+replied-schedule league budgets games objective descent (Ok reply) schedule not_short not_crowded status text =
+    found-schedule league budgets games objective descent (answer_of reply) schedule not_short not_crowded status text
+replied-schedule league budgets games objective descent (Err error) schedule not_short not_crowded status text = tt
 
 pub replied-refuted : {E : Type 0} (league : Instance) (budgets : Budgets) (steps : List Step) (result : Result Reply E) → RefutesLeague league steps → (IsAccepted league (counts_of (double_games league.n)) → ⊥)
     → IfOk result (λ reply. (answer_of reply).status ≡ Refuted) → IfOk result (λ reply. (answer_of reply).text ≡ log_text steps) → IfOk result (λ reply. log_of (answer_of reply).text ≡ Ok steps) → IfOk result (λ reply. IsFound league budgets (rows_of league) (answer_of reply))
 replied-refuted league budgets steps (Ok reply) refutes no_circle status text reads_back = found-refuted league budgets steps (answer_of reply) refutes no_circle status text reads_back
 replied-refuted league budgets steps (Err error) refutes no_circle status text reads_back = tt
 
-pub replied-spent : {E : Type 0} (league : Instance) (budgets : Budgets) (steps : List Step) (result : Result Reply E) → IsSpentOn league budgets.conflicts steps → (IsAccepted league (counts_of (double_games league.n)) → ⊥)
+pub replied-spent : {E : Type 0} (league : Instance) (budgets : Budgets) (steps : List Step) (result : Result Reply E) → IsSpentOn league budgets.conflicts steps → (IsAccepted league (counts_of (double_games league.n)) → ⊥) → (are_short league ≡ true → ⊥) → (are_crowded league ≡ true → ⊥)
     → IfOk result (λ reply. (answer_of reply).status ≡ Spent) → IfOk result (λ reply. (answer_of reply).text ≡ log_text steps) → IfOk result (λ reply. log_of (answer_of reply).text ≡ Ok steps) → IfOk result (λ reply. IsFound league budgets (rows_of league) (answer_of reply))
-replied-spent league budgets steps (Ok reply) spent no_circle status text reads_back = found-spent league budgets steps (answer_of reply) spent no_circle status text reads_back
-replied-spent league budgets steps (Err error) spent no_circle status text reads_back = tt
+replied-spent league budgets steps (Ok reply) spent no_circle not_short not_crowded status text reads_back =
+    found-spent league budgets steps (answer_of reply) spent no_circle not_short not_crowded status text reads_back
+replied-spent league budgets steps (Err error) spent no_circle not_short not_crowded status text reads_back = tt

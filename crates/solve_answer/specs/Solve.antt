@@ -10,7 +10,6 @@ use Rattle.league.specs.declared.game.Game.{Game}
 use Rattle.circle_method.specs.Circle.{double_games}
 use Rattle.robinx_tags.specs.Pieces.{pieces}
 use Rattle.robinx_form.specs.InstanceFile.{instance_of}
-use Rattle.robinx_form.specs.SolutionFile.{solution_of}
 use Rattle.robinx_form.specs.Texts.{solution_text}
 use Rattle.robinx_read.specs.declared.instance.TheConstants.{INSTANCE_LIMIT}
 use Rattle.answers.specs.Reply.{Answer}
@@ -32,6 +31,7 @@ use Rattle.moves.specs.declared.swap.Swap.TheVariants.{HomeSwap, RoundSwap, Team
 use Rattle.descent.specs.Descended.{Descended}
 use Rattle.descent.specs.Trail.{IsClimb}
 use Rattle.solve.specs.Solutions.{IsDescent, league_score}
+use Rattle.venue_counts.specs.VenueCounts.{are_crowded, are_short}
 use Rattle.season_check.specs.Excluded.{NoneAccepted}
 use Rattle.check_answer.specs.Check.{encodes, most_terms}
 
@@ -106,12 +106,14 @@ pub record IsBudgetSpent (league : Instance) (rows : List Row) (conflicts : Opti
   pub reads_back : log_of answer.text ≡ Ok steps
 
 -- What is found of a league, over its rows and within budgets. Where the league accepts the schedule of
--- the circle method, a schedule is.
+-- the circle method, a schedule is; where its venue counts are short, or crowded, a refutation is, whatever the budgets.
 pub record IsFound (league : Instance) (budgets : Budgets) (rows : List Row) (answer : Answer) : Type 0 where
   pub found :
       IsSchedule league budgets.moves answer
       ⊎ (IsRefuted league rows answer ⊎ IsBudgetSpent league rows budgets.conflicts answer)
   pub circle : IsAccepted league (counts_of (double_games league.n)) → answer.status ≡ Yes
+  pub short : are_short league ≡ true → answer.status ≡ Refuted
+  pub crowded : are_crowded league ≡ true → answer.status ≡ Refuted
 
 -- ---- stages
 

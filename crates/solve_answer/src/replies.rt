@@ -1,5 +1,5 @@
 //! The answers of `solve`.
-ghost use Rattle.std.specs.Prelude.{◌≡◌, ◌≤◌, ◌++◌, length, IfOk, Ok, Some};
+ghost use Rattle.std.specs.Prelude.{true, ◌≡◌, ◌≤◌, ◌++◌, length, IfOk, Ok, Some};
 ghost use Rattle.std.specs.List.{All};
 ghost use Rattle.league.specs.Accepted as costs;
 ghost use Rattle.league.specs.Accepted.{IsAccepted};
@@ -15,7 +15,8 @@ ghost use Rattle.refutation.specs.Steps.{NamesRows};
 ghost use Rattle.refutation.specs.Texts as logs;
 ghost use Rattle.refutation.specs.Writable.{HasShortLines};
 ghost use Rattle.check_answer.specs.Check.{too_large};
-ghost use Rattle.solve.specs.Solutions.{HasSchedule, IsSolution};
+ghost use Rattle.solve.specs.Solutions.{HasSchedule, IsRefuted, IsSolution};
+ghost use Rattle.venue_counts.specs.VenueCounts.{are_crowded, are_short};
 ghost use Rattle.solve_answer.specs.Solve.{IsFound, descent_text};
 
 use crate::comments::add_descent;
@@ -85,6 +86,8 @@ pub(crate) fn found_reply(
 ) -> Result<Reply, AllocError>
     requires solution { IsSolution league.now budgets.conflicts budgets.moves solved.now }
     requires circle { IsAccepted league.now (counts_of (double_games league.now.n)) → HasSchedule solved.now }
+    requires short { are_short league.now ≡ true → IsRefuted solved.now }
+    requires crowded { are_crowded league.now ≡ true → IsRefuted solved.now }
     ensures { IfOk result (λ reply. IsFound league.now budgets (rows_of league.now) (answer_of reply)) }
 {
     let _n = league.n();
