@@ -4,7 +4,7 @@ use Rattle.std.proofs.Math.Path.{fun_ext}
 use Rattle.std.proofs.lemmas.Bool.{cases_eq, cases_lt, cond_both}
 use Rattle.std.proofs.lemmas.Bool.Decides.{nat_tests}
 use Rattle.std.proofs.lemmas.List.FromFn.{get_or-range_with_len, length-range_with_len}
-use Rattle.std.proofs.lemmas.List.{length-replicate}
+use Rattle.std.proofs.lemmas.List.{get_or_past, length-replicate}
 use Rattle.std.proofs.lemmas.List.Folds.{sum_by-replicate}
 use Rattle.std.proofs.lemmas.List.Sums.{get_or-le-sum_by, sum_by-cons, sum_by-le}
 use Rattle.std.proofs.lemmas.Nat.{mul-add-lt, mul-le, same_from_place}
@@ -223,3 +223,17 @@ kept-away-le n games c h a kept i s =
 pub kept-count : (n games : ℕ) (c h a : Counters) → AreKept n games c h a → (i j s : ℕ) → j < n → number c.columns c.numbers.items (i * n + j) s ≡ counts_in n c i j s
 kept-count n games c h a kept i j s inside =
     ap (λ (w : ℕ). number w c.numbers.items (i * n + j) s) kept.count_rows.wide ∙ sym (counts-in_row (record { n = n; list = c.numbers.items }) i j s inside)
+
+-- no game of a team beyond the league is counted
+past_last : (n j w s k : ℕ) → n ≤ k → n * n * w ≤ (k * n + j) * w + s
+past_last n j w s k past =
+    omega (arith, mul-le (n * n) w (k * n + j) w (omega (arith, mul-le n n k n past (omega arith))) (omega arith))
+
+pub kept-no_other : (n games : ℕ) (c h a : Counters) → AreKept n games c h a → (i j s : ℕ) → n ≤ i → counts_in n c i j s ≡ 0
+kept-no_other n games c h a kept i j s past =
+    let w : ℕ = slot_count n in
+    let beyond : get_or c.numbers.items ((i * n + j) * w + s) 0 ≡ 0 =
+    get_or_past c.numbers.items ((i * n + j) * w + s) 0 (omega (arith, kept.count_rows.long, past_last n j w s i past)) in
+    cond_both (nat_lt j n) (number w c.numbers.items (i * n + j) s) 0 (λ x. x ≡ 0)
+    (λ e. cond_both (nat_lt s w) (get_or c.numbers.items ((i * n + j) * w + s) 0) 0 (λ x. x ≡ 0) (λ e. beyond) (λ e. refl))
+    (λ e. refl)

@@ -1,5 +1,5 @@
 //! How often each game is played, kept while games come and go.
-ghost use Rattle.std.specs.Prelude.{◌≡◌, ◌<◌, ◌≤◌, ◌+◌, ◌*◌, [], IfOk};
+ghost use Rattle.std.specs.Prelude.{◌≡◌, ℕ, ◌<◌, ◌≤◌, ◌+◌, ◌*◌, [], IfOk};
 ghost use Rattle.std.specs.List.{sum};
 ghost use Rattle.league.specs.Counts as counts;
 ghost use Rattle.league.specs.Counts.{counts_of, one_more};
@@ -75,10 +75,11 @@ impl Cells {
         slot_count(self.n)
     }
 
-    /// The number of games, at most 10,000.
+    /// The number of games, at most 10,000. They are games of the league's teams: of no other team is a game counted.
     pub fn games(&self) -> u32
         ensures total { result ≡ sum self.now.list }
         ensures at_most { result ≤ 10000 }
+        ensures no_other { (i j s : ℕ) → self.now.n ≤ i → table_counts self.now i j s ≡ 0 }
     {
         self.games
     }

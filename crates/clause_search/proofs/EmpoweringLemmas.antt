@@ -25,7 +25,8 @@ one_holds m Used l (k, within, is) = absurd (omega (arith, within))
 one_holds m Kept l (zero, within, is) = (refl, sym is)
 one_holds m Kept l (suc k, within, is) = absurd (omega (arith, within))
 
-pub clause_holds : (lit : ℕ → Literal) (role : ℕ → Role) (n : ℕ) (l : Literal) → Contains (clause_below lit role n) l → IsKeptAt lit role n l
+pub clause_holds : (lit : ℕ → Literal) (role : ℕ → Role) (n : ℕ) (l : Literal) → Contains (clause_below lit role n) l
+    → IsKeptAt lit role n l
 clause_holds lit role zero l (k, within, is) = absurd (omega (arith, within))
 clause_holds lit role (suc n) l there =
     elim (Contains-append_cases (clause_below lit role n) (literal_of (lit n) (role n)) l there) [
@@ -42,16 +43,19 @@ one_held m Apart is = cc
 one_held m Used is = cc
 one_held m Kept is = (0, omega arith, refl)
 
-pub clause_held : (lit : ℕ → Literal) (role : ℕ → Role) (n j : ℕ) → j < n → role j ≡ Kept → Contains (clause_below lit role n) (negate (lit j))
+pub clause_held : (lit : ℕ → Literal) (role : ℕ → Role) (n j : ℕ) → j < n → role j
+    ≡ Kept → Contains (clause_below lit role n) (negate (lit j))
 clause_held lit role zero j within kept = absurd (omega (arith, within))
 clause_held lit role (suc n) j within kept =
     elim (cases_lt j n) [
       | inl before ↦
-          Contains-append_left (clause_below lit role n) (literal_of (lit n) (role n)) (negate (lit j)) (clause_held lit role n j before kept)
+          Contains-append_left (clause_below lit role n) (literal_of (lit n) (role n)) (negate (lit j))
+          (clause_held lit role n j before kept)
       | inr past ↦
           let same : n ≡ j = omega (arith, within, past) in
           subst (λ (i : ℕ). role i ≡ Kept → Contains (clause_below lit role (suc n)) (negate (lit i))) same
-          (λ is. Contains-append_right (clause_below lit role n) (literal_of (lit n) (role n)) (negate (lit n)) (one_held (lit n) (role n) is)) kept
+          (λ is. Contains-append_right (clause_below lit role n) (literal_of (lit n) (role n)) (negate (lit n))
+          (one_held (lit n) (role n) is)) kept
     ]
 
 -- ---- empowering
@@ -80,14 +84,22 @@ negate_free values l is = negate_free_by l.positive (values l.var) is
 
 -- Of n literals, the values are quiet over the rows and make true all that stand before a place, and none from there
 -- on; from there on one alone is kept.
-pub analysis_empowers : (rows : List Row) (n : ℕ) (lit : ℕ → Literal) (role : ℕ → Role) (values : ℕ → Value) (start point : ℕ) → IsQuiet values rows
+pub analysis_empowers : (rows : List Row) (n : ℕ) (lit : ℕ → Literal) (role : ℕ → Role) (values : ℕ → Value)
+    (start point : ℕ) → IsQuiet values rows
     → ((j : ℕ) → j < start → j < n → value_of values (lit j) ≡ True) → value_of values (lit point) ≡ Free
     → start ≤ point → point < n → role point ≡ Kept → ((j : ℕ) → start ≤ j → j < n → role j ≡ Kept → j ≡ point)
     → IsEmpowering rows (clause_below lit role n)
-analysis_empowers rows n lit role values start point quiet set free from within kept alone =
-    (values, negate (lit point), quiet, clause_held lit role n point within kept, negate_free values (lit point) free, others)
+analysis_empowers rows n lit role values start point quiet set free from within kept alone = (
+  values,
+  negate (lit point),
+  quiet,
+  clause_held lit role n point within kept,
+  negate_free values (lit point) free,
+  others,
+)
   where
-    others : (other : Literal) → Contains (clause_below lit role n) other → other ≢ negate (lit point) → value_of values other ≡ False
+    others : (other : Literal) → Contains (clause_below lit role n) other → other ≢ negate (lit point)
+        → value_of values other ≡ False
     others other there differs =
         let at : IsKeptAt lit role n other = clause_holds lit role n other there in
         elim (cases_lt at.0 start) [

@@ -10,6 +10,7 @@ pub mod MarkLemmas
 pub mod WalkLemmas
 -- What is learnt:
 pub mod TidyLemmas
+pub mod BackLemmas
 pub mod LearnLemmas
 pub mod SearchLemmas
 pub mod TurnLemmas

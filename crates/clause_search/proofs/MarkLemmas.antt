@@ -14,12 +14,12 @@ use Rattle.propagate.specs.Trails.{EachEntry, IsNew, values_of}
 use Rattle.propagate.specs.declared.entry.Entry.{Entry}
 use Rattle.propagate.proofs.ValueLemmas.{value_of-other, value_of-same}
 use Rattle.clause_search.specs.Analysis.{IsMarked}
-use Rattle.clause_search.specs.Marks.{ArePlaces, Marks, role_at}
+use Rattle.clause_search.specs.Marks.{Marks, role_at}
 use Rattle.clause_search.specs.Trails.{before, lit_at}
 use Rattle.clause_search.specs.declared.role.Role.{Role}
 use Rattle.clause_search.specs.declared.role.Role.TheVariants.{Apart, Kept, Used}
 use Rattle.clause_search.proofs.EmpoweringLemmas.{negate_false}
-use Rattle.clause_search.proofs.TrailLaws.{before-more, trail_free_at, trail_true}
+use Rattle.clause_search.proofs.TrailLaws.{before-more, trail_free_at, trail_fresh, trail_true}
 
 -- ---- where a false literal's negation stands
 
@@ -45,10 +45,13 @@ free_not_false : Free ≡ False → ⊥
 free_not_false same = cc
 
 -- of the literal that was made true last
-false_last : (values : ℕ → Value) (m l : Literal) → value_of values m ≡ Free → l.var ≡ m.var → value_of (set_true values m) l ≡ False → m ≡ negate l
+false_last : (values : ℕ → Value) (m l : Literal) → value_of values m
+    ≡ Free → l.var ≡ m.var → value_of (set_true values m) l ≡ False → m ≡ negate l
 false_last values m l free same is =
     other_sign l m l.positive m.positive refl refl same
-    (λ sign. true_not_false (sym (value_of-same values m free) ∙ ap (λ (x : Literal). value_of (set_true values m) x) (sym (same_lit l m same sign)) ∙ is))
+    (λ sign. true_not_false
+    (sym (value_of-same values m free) ∙ ap (λ (x : Literal). value_of (set_true values m) x)
+    (sym (same_lit l m same sign)) ∙ is))
 
 none_false_by : (b : Bool) → cond b Free (opposite_of Free) ≡ Free
 none_false_by true = refl
@@ -58,7 +61,8 @@ none_false_by false = refl
 abbrev pub StandsBefore : List Entry → ℕ → Literal → Type 0
 StandsBefore es k l = (j : ℕ) × (j < k) × (lit_at es j ≡ negate l)
 
-pub false_stands : (vars : ℕ) (es : List Entry) (k : ℕ) (l : Literal) → EachEntry (IsNew vars) es → k ≤ length es → value_of (before es k) l ≡ False → StandsBefore es k l
+pub false_stands : (vars : ℕ) (es : List Entry) (k : ℕ) (l : Literal) → EachEntry (IsNew vars) es → k ≤ length es
+    → value_of (before es k) l ≡ False → StandsBefore es k l
 false_stands vars es zero l each within is = absurd (free_not_false (sym (none_false_by l.positive) ∙ is))
 false_stands vars es (suc k) l each within is =
     let there : k < length es = omega (arith, within) in
@@ -66,9 +70,12 @@ false_stands vars es (suc k) l each within is =
     let now : value_of (set_true (before es k) (lit_at es k)) l ≡ False =
     ap (λ (w : ℕ → Value). value_of w l) (sym (before-more es k there) ∙ ap (λ (n : ℕ). before es n) one) ∙ is in
     elim (cases_eq l.var (lit_at es k).var) [
-      | inl same ↦ (k, omega arith, false_last (before es k) (lit_at es k) l (trail_free_at vars es k each there) same now)
+      | inl same ↦
+          (k, omega arith, false_last (before es k) (lit_at es k) l (trail_free_at vars es k each there) same now)
       | inr other ↦
-          let earlier : StandsBefore es k l = false_stands vars es k l each (omega (arith, within)) (sym (value_of-other (before es k) (lit_at es k) l other) ∙ now) in
+          let earlier : StandsBefore es k l =
+          false_stands vars es k l each (omega (arith, within))
+          (sym (value_of-other (before es k) (lit_at es k) l other) ∙ now) in
           (earlier.0, omega (arith, earlier.1), earlier.2)
     ]
 
@@ -80,16 +87,26 @@ negate_back l = ap (λ (s : Bool). let x : Literal = record { var = l.var; posit
     twice false = refl
 
 -- where the negation stands the literal is false behind it
-pub stands_false : (vars : ℕ) (es : List Entry) (k : ℕ) (l : Literal) → EachEntry (IsNew vars) es → k ≤ length es → StandsBefore es k l → value_of (before es k) l ≡ False
+pub stands_false : (vars : ℕ) (es : List Entry) (k : ℕ) (l : Literal) → EachEntry (IsNew vars) es → k ≤ length es
+    → StandsBefore es k l → value_of (before es k) l ≡ False
 stands_false vars es k l each within stands =
     subst (λ (x : Literal). value_of (before es k) x ≡ False) (ap negate stands.2 ∙ negate_back l)
     (negate_false (before es k) (lit_at es stands.0) (trail_true vars es stands.0 k each stands.1 within))
 
--- the table knows the place
-pub place_is : (vars : ℕ) (es : List Entry) (places : List ℕ) (k : ℕ) (l : Literal) → ArePlaces vars es places → k ≤ length es → (stands : StandsBefore es k l) → get_or places l.var 0 ≡ stands.0
-place_is vars es places k l are within stands =
-    let same : (lit_at es stands.0).var ≡ l.var = ap (λ (x : Literal). x.var) stands.2 in
-    subst (λ (v : ℕ). get_or places v 0 ≡ stands.0) same (are.each stands.0 (omega (arith, stands.1, within)))
+-- and no other place has its variable
+same_place : (vars : ℕ) (es : List Entry) (k p : ℕ) (l : Literal) → EachEntry (IsNew vars) es → k ≤ length es
+    → p < length es → (lit_at es p).var ≡ l.var → (stands : StandsBefore es k l) → p ≡ stands.0
+same_place vars es k p l each within inside same stands =
+    let there : (lit_at es stands.0).var ≡ l.var = ap (λ (x : Literal). x.var) stands.2 in
+    elim (cases_lt p stands.0) [
+      | inl before ↦
+          absurd (trail_fresh vars es each p stands.0 before (omega (arith, stands.1, within)) (same ∙ sym there))
+      | inr past ↦ elim (cases_eq p stands.0) [
+        | inl here ↦ here
+        | inr other ↦
+            absurd (trail_fresh vars es each stands.0 p (omega (arith, past, other)) inside (there ∙ sym same))
+      ]
+    ]
 
 -- ---- roles
 
@@ -110,7 +127,8 @@ only_kept Apart some unused = absurd (some refl)
 only_kept Used some unused = absurd (unused refl)
 only_kept Kept some unused = refl
 
-pub Marks-none : (es : List Entry) (terms : List Term) (limit start lowest : ℕ) (roles : List Role) → ((j : ℕ) → j < limit → role_at roles j ≢ Used)
+pub Marks-none : (es : List Entry) (terms : List Term) (limit start lowest : ℕ) (roles : List Role)
+    → ((j : ℕ) → j < limit → role_at roles j ≢ Used)
     → Marks es terms 0 limit start lowest roles roles lowest
 Marks-none es terms limit start lowest roles unused = record {
   same_length = refl;
@@ -135,14 +153,18 @@ below_one terms k t P is within front here = λ i d below.
     ]
 
 -- a term whose literal wasn't false there
-pub Marks-pass : (es : List Entry) (terms : List Term) (k limit start lowest now : ℕ) (t : Term) (old mid : List Role) → Marks es terms k limit start lowest old mid now
-    → k < length terms → t ≡ get_or terms k t → value_of (before es limit) t.lit ≢ False → Marks es terms (k + 1) limit start lowest old mid now
+pub Marks-pass : (es : List Entry) (terms : List Term) (k limit start lowest now : ℕ) (t : Term) (old mid : List Role)
+    → Marks es terms k limit start lowest old mid now
+    → k < length terms → t ≡ get_or terms k t → value_of (before es limit) t.lit ≢ False
+    → Marks es terms (k + 1) limit start lowest old mid now
 Marks-pass es terms k limit start lowest now t old mid marks within is not_false = record {
   same_length = marks.same_length;
   keeps = marks.keeps;
   above = marks.above;
   unused = marks.unused;
-  marked = below_one terms k t (λ u. value_of (before es limit) u.lit ≡ False → IsMarked (lit_at es) (role_at mid) limit u.lit) is within marks.marked
+  marked =
+      below_one terms k t (λ u. value_of (before es limit) u.lit ≡ False → IsMarked (lit_at es) (role_at mid) limit
+      u.lit) is within marks.marked
       (λ is_false. absurd (not_false is_false));
   low = marks.low;
   late = marks.late;
@@ -150,9 +172,12 @@ Marks-pass es terms k limit start lowest now t old mid marks within is not_false
 }
 
 -- a term whose negation stands at a place
-pub Marks-mark : (es : List Entry) (terms : List Term) (k limit start lowest now next p : ℕ) (t : Term) (old mid new : List Role) → Marks es terms k limit start lowest old mid now
-    → k < length terms → t ≡ get_or terms k t → p < limit → p < length mid → lit_at es p ≡ negate t.lit → new ≡ slice_set mid p Kept
-    → (start ≤ p → p < now → next ≡ p) → ((start ≤ p → now ≤ p) → next ≡ now) → Marks es terms (k + 1) limit start lowest old new next
+pub Marks-mark : (es : List Entry) (terms : List Term) (k limit start lowest now next p : ℕ) (t : Term)
+    (old mid new : List Role) → Marks es terms k limit start lowest old mid now
+    → k < length terms → t ≡ get_or terms k t → p < limit → p < length mid → lit_at es p ≡ negate t.lit
+    → new ≡ slice_set mid p Kept
+    → (start ≤ p → p < now → next ≡ p) → ((start ≤ p → now ≤ p) → next ≡ now)
+    → Marks es terms (k + 1) limit start lowest old new next
 Marks-mark es terms k limit start lowest now next p t old mid new marks within is early inside stands set lower same =
     subst (λ (roles : List Role). Marks es terms (k + 1) limit start lowest old roles next) (sym set) (record {
       same_length = length-set mid p Kept ∙ marks.same_length;
@@ -160,37 +185,48 @@ Marks-mark es terms k limit start lowest now next p t old mid new marks within i
         | inl here ↦
             let kept_mid : role_at mid j ≡ role_at old j = marks.keeps j some in
             ap (λ (i : ℕ). role_at (slice_set mid p Kept) i) here ∙ role_set mid p Kept inside
-            ∙ only_kept (role_at mid j) (λ apart. some (sym kept_mid ∙ apart)) (marks.unused j (omega (arith, here, early)))
+            ∙ only_kept (role_at mid j) (λ apart. some (sym kept_mid ∙ apart))
+            (marks.unused j (omega (arith, here, early)))
             ∙ kept_mid
         | inr other ↦ role_other mid p j Kept other ∙ marks.keeps j some
       ];
       above = λ j past. role_other mid p j Kept (λ here. omega (arith, here, past, early)) ∙ marks.above j past;
       unused = λ j below. elim (cases_eq j p) [
-        | inl here ↦ λ used. used_not_kept (sym (ap (λ (i : ℕ). role_at (slice_set mid p Kept) i) here ∙ role_set mid p Kept inside) ∙ used)
+        | inl here ↦
+            λ used. used_not_kept
+            (sym (ap (λ (i : ℕ). role_at (slice_set mid p Kept) i) here ∙ role_set mid p Kept inside) ∙ used)
         | inr other ↦ λ used. marks.unused j below (sym (role_other mid p j Kept other) ∙ used)
       ];
-      marked = below_one terms k t (λ u. value_of (before es limit) u.lit ≡ False → IsMarked (lit_at es) (role_at (slice_set mid p Kept)) limit u.lit) is within
+      marked =
+          below_one terms k t (λ u. value_of (before es limit) u.lit
+          ≡ False → IsMarked (lit_at es) (role_at (slice_set mid p Kept)) limit u.lit) is within
           (λ i d below is_false. still (get_or terms i d).lit (marks.marked i d below is_false))
           (λ is_false. (p, early, (λ apart. kept_not_apart (sym (role_set mid p Kept inside) ∙ apart)), stands));
       low = omega (arith, marks.low, next_low);
-      late = λ j from below. role_other mid p j Kept (λ here. not_here j from below here) ∙ marks.late j from (omega (arith, below, next_low));
+      late =
+          λ j from below. role_other mid p j Kept (λ here. not_here j from below here)
+          ∙ marks.late j from (omega (arith, below, next_low));
       at = where_next;
     })
   where
-    still : (l : Literal) → IsMarked (lit_at es) (role_at mid) limit l → IsMarked (lit_at es) (role_at (slice_set mid p Kept)) limit l
+    still : (l : Literal) → IsMarked (lit_at es) (role_at mid) limit l
+        → IsMarked (lit_at es) (role_at (slice_set mid p Kept)) limit l
     still l mark = (mark.0, mark.1, part, mark.3)
       where
         part : role_at (slice_set mid p Kept) mark.0 ≢ Apart
         part apart =
             elim (cases_eq mark.0 p) [
-              | inl here ↦ kept_not_apart (sym (ap (λ (i : ℕ). role_at (slice_set mid p Kept) i) here ∙ role_set mid p Kept inside) ∙ apart)
+              | inl here ↦
+                  kept_not_apart (sym (ap (λ (i : ℕ). role_at (slice_set mid p Kept) i) here
+                  ∙ role_set mid p Kept inside) ∙ apart)
               | inr other ↦ mark.2 (sym (role_other mid p mark.0 Kept other) ∙ apart)
             ]
 
     by_case : (start ≤ p) × (p < now) × (next ≡ p) ⊎ (start ≤ p → now ≤ p) × (next ≡ now)
     by_case =
         elim (cases_lt p start) [
-          | inl early_on ↦ let none : start ≤ p → now ≤ p = λ from. absurd (omega (arith, from, early_on)) in inr (none, same none)
+          | inl early_on ↦
+              let none : start ≤ p → now ≤ p = λ from. absurd (omega (arith, from, early_on)) in inr (none, same none)
           | inr from ↦ elim (cases_lt p now) [
             | inl below ↦ inl (from, below, lower from below)
             | inr past ↦ let none : start ≤ p → now ≤ p = λ f. past in inr (none, same none)
@@ -211,7 +247,11 @@ Marks-mark es terms k limit start lowest now next p t old mid new marks within i
     where_next =
         elim by_case [
           | inl low ↦
-              inr (omega (arith, low.0, low.2), omega (arith, low.2, early), ap (λ (i : ℕ). role_at (slice_set mid p Kept) i) low.2 ∙ role_set mid p Kept inside)
+              inr (
+                omega (arith, low.0, low.2),
+                omega (arith, low.2, early),
+                ap (λ (i : ℕ). role_at (slice_set mid p Kept) i) low.2 ∙ role_set mid p Kept inside,
+              )
           | inr kept ↦ elim marks.at [
             | inl first ↦ inl (kept.1 ∙ first)
             | inr found ↦
@@ -228,25 +268,28 @@ Marks-mark es terms k limit start lowest now next p t old mid new marks within i
 
 -- ---- what the code finds
 
-at_end : (es : List Entry) (l : Literal) (v : Value) → value_of (values_of es) l ≡ v → value_of (before es (length es)) l ≡ v
+at_end : (es : List Entry) (l : Literal) (v : Value) → value_of (values_of es) l
+    ≡ v → value_of (before es (length es)) l ≡ v
 at_end es l v is = ap (λ (xs : List Entry). value_of (values_of xs) l) (take_all (length es) es (omega arith)) ∙ is
 
--- the literal is false at the end, and the table knows where it became so
-pub place_stands : (vars : ℕ) (es : List Entry) (places : List ℕ) (l : Literal) (v : ℕ) → ArePlaces vars es places → EachEntry (IsNew vars) es → v ≡ l.var
-    → value_of (values_of es) l ≡ False → lit_at es (get_or places v 0) ≡ negate l
-place_stands vars es places l v are each var is =
-    let stands : StandsBefore es (length es) l = false_stands vars es (length es) l each (omega arith) (at_end es l False is) in
-    ap (λ (k : ℕ). lit_at es k) (ap (λ (w : ℕ). get_or places w 0) var ∙ place_is vars es places (length es) l are (omega arith) stands) ∙ stands.2
+-- the literal is false at the end, and its negation stands at the place of its variable
+pub place_stands : (vars : ℕ) (es : List Entry) (l : Literal) (p : ℕ) → EachEntry (IsNew vars) es → p < length es
+    → (lit_at es p).var ≡ l.var → value_of (values_of es) l ≡ False → lit_at es p ≡ negate l
+place_stands vars es l p each inside same is =
+    let stands : StandsBefore es (length es) l =
+    false_stands vars es (length es) l each (omega arith) (at_end es l False is) in
+    ap (λ (k : ℕ). lit_at es k) (same_place vars es (length es) p l each (omega arith) inside same stands) ∙ stands.2
 
--- it became false before a place only where the table says so
-pub place_early : (vars : ℕ) (es : List Entry) (places : List ℕ) (l : Literal) (v limit : ℕ) → ArePlaces vars es places → EachEntry (IsNew vars) es → v ≡ l.var
-    → limit ≤ length es → value_of (before es limit) l ≡ False → get_or places v 0 < limit
-place_early vars es places l v limit are each var within is =
+-- it became false before a limit only where that place is before it
+pub place_early : (vars : ℕ) (es : List Entry) (l : Literal) (p limit : ℕ) → EachEntry (IsNew vars) es → p < length es
+    → (lit_at es p).var ≡ l.var → limit ≤ length es → value_of (before es limit) l ≡ False → p < limit
+place_early vars es l p limit each inside same within is =
     let stands : StandsBefore es limit l = false_stands vars es limit l each within is in
-    omega (arith, stands.1, ap (λ (w : ℕ). get_or places w 0) var, place_is vars es places limit l are within stands)
+    omega (arith, stands.1, same_place vars es limit p l each within inside same stands)
 
 -- what is false before a place is false at the end
-pub false_at_end : (vars : ℕ) (es : List Entry) (l : Literal) (limit : ℕ) → EachEntry (IsNew vars) es → limit ≤ length es → value_of (before es limit) l ≡ False
+pub false_at_end : (vars : ℕ) (es : List Entry) (l : Literal) (limit : ℕ) → EachEntry (IsNew vars) es
+    → limit ≤ length es → value_of (before es limit) l ≡ False
     → value_of (values_of es) l ≡ False
 false_at_end vars es l limit each within is =
     let stands : StandsBefore es limit l = false_stands vars es limit l each within is in

@@ -1,5 +1,6 @@
 -- Seven variables and six clauses, worked out by hand: what follows, what is empowering, and what is spent.
-use Rattle.std.proofs.Common.{◌≡◌, ◌≢◌, ℕ, zero, suc, ◌+◌, ◌<◌, ◌≤◌, List, [], ◌∷◌, get_or, map, Ok, Err, refl, arith, lit<, sym}
+use Rattle.std.proofs.Common.{◌≡◌, ◌≢◌, ℕ, zero, suc, ◌+◌, ◌<◌, ◌≤◌, List, [], ◌∷◌, get_or, map, Ok, Err, refl, arith}
+use Rattle.std.proofs.Common.{lit<, sym}
 use Rattle.std.specs.Prelude.{Contains}
 use Rattle.rows.specs.Literals.{Literal, yes, no}
 use Rattle.rows.specs.Rows.{Row}
@@ -17,7 +18,9 @@ use Rattle.refutation.specs.declared.verdict.Verdict.TheVariants.{Accepted}
 use Rattle.clause_search.specs.News.{IsNews, IsSpent}
 
 abbrev six : List Row
-six = map clause_row ((no 3 ∷ yes 4 ∷ []) ∷ (no 4 ∷ yes 5 ∷ []) ∷ (no 4 ∷ yes 6 ∷ []) ∷ (no 5 ∷ no 6 ∷ []) ∷ (yes 4 ∷ yes 7 ∷ []) ∷ (yes 4 ∷ no 7 ∷ []) ∷ [])
+six =
+    map clause_row ((no 3 ∷ yes 4 ∷ []) ∷ (no 4 ∷ yes 5 ∷ []) ∷ (no 4 ∷ yes 6 ∷ []) ∷ (no 5 ∷ no
+    6 ∷ []) ∷ (yes 4 ∷ yes 7 ∷ []) ∷ (yes 4 ∷ no 7 ∷ []) ∷ [])
 
 abbrev first : Step
 first = Clause (no 4 ∷ []) (2 ∷ 3 ∷ 4 ∷ [])
@@ -35,7 +38,8 @@ no_conflict = refl
 
 -- ---- where no variable has a value, a clause of two literals is quiet
 
-quiet_two : (l m : Literal) → reach all_free (at_least 1 (l ∷ m ∷ [])).terms ≡ 2 → IsQuietRow all_free (at_least 1 (l ∷ m ∷ []))
+quiet_two : (l m : Literal) → reach all_free (at_least 1 (l ∷ m ∷ [])).terms
+    ≡ 2 → IsQuietRow all_free (at_least 1 (l ∷ m ∷ []))
 quiet_two l m two = record {
   no_conflict = omega (arith, two);
   none_forced = λ k d within. slack_left k d within two;

@@ -1,5 +1,6 @@
 -- Where propagation stands still and every variable has a value, each row is satisfied.
-use Rattle.std.proofs.Common.{◌≡◌, ◌≢◌, ℕ, zero, suc, ◌+◌, ◌<◌, ◌≤◌, Bool, true, false, not, cond, List, [], ◌∷◌, get_or, length}
+use Rattle.std.proofs.Common.{◌≡◌, ◌≢◌, ℕ, zero, suc, ◌+◌, ◌<◌, ◌≤◌, Bool, true, false, not, cond, List, [], ◌∷◌}
+use Rattle.std.proofs.Common.{get_or, length}
 use Rattle.std.proofs.Common.{refl, inl, inr, arith, ap, sym, ◌∙◌}
 use Rattle.std.specs.Prelude.{Contains, ◌⊎◌}
 use Rattle.std.specs.List.{All}
@@ -22,7 +23,8 @@ use Rattle.clause_search.specs.Turns.{IsFilled}
 use Rattle.clause_search.proofs.ReplayLemmas.{AreApart}
 use Rattle.clause_search.proofs.TrailLaws.{before-more, lawful-new}
 
-counts_by : (coef : ℕ) (positive b : Bool) → cond (is_false (cond positive (as_value b) (opposite_of (as_value b)))) 0 coef ≡ cond (cond positive b (not b)) coef 0
+counts_by : (coef : ℕ) (positive b : Bool) → cond (is_false (cond positive (as_value b) (opposite_of (as_value b)))) 0
+    coef ≡ cond (cond positive b (not b)) coef 0
 counts_by coef true true = refl
 counts_by coef true false = refl
 counts_by coef false true = refl
@@ -32,7 +34,8 @@ counts_by coef false false = refl
 counts : (values : ℕ → Value) (assigned : ℕ → Bool) (t : Term) → values t.lit.var ≡ as_value (assigned t.lit.var)
     → cond (is_false (value_of values t.lit)) 0 t.coef ≡ cond (is_true assigned t.lit) t.coef 0
 counts values assigned t same =
-    ap (λ (v : Value). cond (is_false (cond t.lit.positive v (opposite_of v))) 0 t.coef) same ∙ counts_by t.coef t.lit.positive (assigned t.lit.var)
+    ap (λ (v : Value). cond (is_false (cond t.lit.positive v (opposite_of v))) 0 t.coef) same
+    ∙ counts_by t.coef t.lit.positive (assigned t.lit.var)
 
 -- ---- rows, whose terms may name no variable
 
@@ -61,12 +64,14 @@ reach_all : (values : ℕ → Value) (assigned : ℕ → Bool) (vars : ℕ) (ter
     → All (λ t. 1 ≤ t.lit.var) terms → All (λ t. t.lit.var ≤ vars) terms → reach values terms ≡ weight assigned terms
 reach_all values assigned vars terms agree from_one known =
     sum_by-agree (open_coef values) (true_coef assigned) terms
-    (λ k d within. counts values assigned (get_or terms k d) (agree (get_or terms k d).lit.var (from_one k d within) (known k d within)))
+    (λ k d within. counts values assigned (get_or terms k d)
+    (agree (get_or terms k d).lit.var (from_one k d within) (known k d within)))
 
 -- one term that is free, beside which as much is within reach as the true literals weigh
 abbrev HasFree : (ℕ → Value) → (ℕ → Bool) → List Term → Type 0
 HasFree values assigned terms =
-    (t : Term) × (Contains terms t) × (value_of values t.lit ≡ Free) × (reach values terms ≤ weight assigned terms + t.coef)
+    (t : Term) × (Contains terms t) × (value_of values t.lit ≡ Free)
+    × (reach values terms ≤ weight assigned terms + t.coef)
 
 positive : (v : ℕ) → (v ≡ 0 → ⊥) → 1 ≤ v
 positive zero other = absurd (other refl)
@@ -80,7 +85,8 @@ apart_tail : (t : Term) (ts : List Term) → AreApart (t ∷ ts) → AreApart ts
 apart_tail t ts apart = λ i j d before inside. apart (suc i) (suc j) d (omega (arith, before)) (omega (arith, inside))
 
 -- a first term that has a variable
-reach_more : (values : ℕ → Value) (assigned : ℕ → Bool) (x : Term) (terms : List Term) → open_coef values x ≡ true_coef assigned x
+reach_more : (values : ℕ → Value) (assigned : ℕ → Bool) (x : Term) (terms : List Term) → open_coef values x
+    ≡ true_coef assigned x
     → (reach values terms ≤ weight assigned terms) ⊎ HasFree values assigned terms
     → (reach values (x ∷ terms) ≤ weight assigned (x ∷ terms)) ⊎ HasFree values assigned (x ∷ terms)
 reach_more values assigned x terms same (inl less) =
@@ -94,39 +100,58 @@ reach_more values assigned x terms same (inr one) =
     )
 
 -- a first term that has none
-reach_none : (values : ℕ → Value) (assigned : ℕ → Bool) (vars : ℕ) (x : Term) (terms : List Term) → values 0 ≡ Free → Agree values assigned vars
+reach_none : (values : ℕ → Value) (assigned : ℕ → Bool) (vars : ℕ) (x : Term) (terms : List Term) → values 0
+    ≡ Free → Agree values assigned vars
     → AreApart (x ∷ terms) → All (λ t. t.lit.var ≤ vars) terms → x.lit.var ≡ 0 → HasFree values assigned (x ∷ terms)
 reach_none values assigned vars x terms none agree apart known at =
     let rest : reach values terms ≡ weight assigned terms =
     reach_all values assigned vars terms agree
-    (λ k d within. positive (get_or terms k d).lit.var (λ is. apart 0 (suc k) d (omega arith) (omega (arith, within)) (at ∙ sym is))) known in (
+    (λ k d within. positive (get_or terms k d).lit.var
+    (λ is. apart 0 (suc k) d (omega arith) (omega (arith, within)) (at ∙ sym is))) known in (
       x,
       (0, omega arith, refl),
       free_none values x.lit none at,
-      omega (arith, sum_by-cons (open_coef values) x terms, sum_by-cons (true_coef assigned) x terms, rest, coef_most (is_false (value_of values x.lit)) x.coef),
+      omega (
+        arith,
+        sum_by-cons (open_coef values) x terms,
+        sum_by-cons (true_coef assigned) x terms,
+        rest,
+        coef_most (is_false (value_of values x.lit)) x.coef,
+      ),
     )
 
-reach_one : (values : ℕ → Value) (assigned : ℕ → Bool) (vars : ℕ) (terms : List Term) → values 0 ≡ Free → Agree values assigned vars
-    → AreApart terms → All (λ t. t.lit.var ≤ vars) terms → (reach values terms ≤ weight assigned terms) ⊎ HasFree values assigned terms
+reach_one : (values : ℕ → Value) (assigned : ℕ → Bool) (vars : ℕ) (terms : List Term) → values 0
+    ≡ Free → Agree values assigned vars
+    → AreApart terms → All (λ t. t.lit.var ≤ vars) terms → (reach values terms ≤ weight assigned terms)
+    ⊎ HasFree values assigned terms
 reach_one values assigned vars [] none agree apart known = inl (omega arith)
 reach_one values assigned vars (x ∷ terms) none agree apart known =
     elim (cases_lt 0 x.lit.var) [
       | inl some ↦
           reach_more values assigned x terms
-          (counts values assigned x (agree x.lit.var (omega (arith, some)) (All-head (λ (t : Term). t.lit.var ≤ vars) x terms known)))
-          (reach_one values assigned vars terms none agree (apart_tail x terms apart) (All-tail (λ (t : Term). t.lit.var ≤ vars) x terms known))
+          (counts values assigned x
+          (agree x.lit.var (omega (arith, some)) (All-head (λ (t : Term). t.lit.var ≤ vars) x terms known)))
+          (reach_one values assigned vars terms none agree (apart_tail x terms apart)
+          (All-tail (λ (t : Term). t.lit.var ≤ vars) x terms known))
       | inr past ↦
-          inr (reach_none values assigned vars x terms none agree apart (All-tail (λ (t : Term). t.lit.var ≤ vars) x terms known) (omega (arith, past)))
+          inr (reach_none values assigned vars x terms none agree apart
+          (All-tail (λ (t : Term). t.lit.var ≤ vars) x terms known) (omega (arith, past)))
     ]
 
 -- so a quiet row is satisfied where every variable has a value
-pub satisfies-full : (values : ℕ → Value) (assigned : ℕ → Bool) (vars : ℕ) (row : Row) → values 0 ≡ Free → Agree values assigned vars
+pub satisfies-full : (values : ℕ → Value) (assigned : ℕ → Bool) (vars : ℕ) (row : Row) → values 0
+    ≡ Free → Agree values assigned vars
     → IsRow row → KnowsVariables vars row → IsQuietRow values row → Satisfies assigned row
 satisfies-full values assigned vars row none agree is known quiet =
     elim (reach_one values assigned vars row.terms none agree is.variables known) [
       | inl less ↦ omega (arith, less, quiet.no_conflict)
       | inr one ↦
-          omega (arith, one.3, All-contains (λ (u : Term). value_of values u.lit ≡ Free → row.degree + u.coef ≤ reach values row.terms) row.terms one.0 quiet.none_forced one.1 one.2)
+          omega (
+            arith,
+            one.3,
+            All-contains (λ (u : Term). value_of values u.lit ≡ Free → row.degree + u.coef ≤ reach values row.terms)
+                row.terms one.0 quiet.none_forced one.1 one.2,
+          )
     ]
 
 -- ---- a trail on which every variable has a value
@@ -141,8 +166,10 @@ none_zero vars es each (suc k) within =
     ∙ set_true-other (before es k) (lit_at es k) 0 (λ same. omega (arith, same, (each k no_entry there).from_one))
     ∙ none_zero vars es each k (omega (arith, within))
 
-pub filled_satisfies : (t : SeenTrail) (filled : List Bool) → All IsRow t.rows → All (KnowsVariables t.vars) t.rows → AreLawful t.rows t.vars t.entries → IsQuiet (values_of t.entries) t.rows
-    → ((v : ℕ) → 1 ≤ v → v ≤ t.vars → values_of t.entries v ≢ Free) → IsFilled (values_of t.entries) t.vars t.vars filled
+pub filled_satisfies : (t : SeenTrail) (filled : List Bool) → All IsRow t.rows → All (KnowsVariables t.vars) t.rows
+    → AreLawful t.rows t.vars t.entries → IsQuiet (values_of t.entries) t.rows
+    → ((v : ℕ) → 1 ≤ v → v ≤ t.vars → values_of t.entries v ≢ Free)
+    → IsFilled (values_of t.entries) t.vars t.vars filled
     → (length filled ≡ t.vars) × SatisfiesAll (assigned filled) t.rows
 filled_satisfies t filled proper known lawful quiet total is =
     let none : values_of t.entries 0 ≡ Free =
@@ -150,6 +177,7 @@ filled_satisfies t filled proper known lawful quiet total is =
     ∙ none_zero t.vars t.entries (lawful-new t.rows t.vars t.entries lawful) (length t.entries) (omega arith) in (
       is.length_is,
       λ k d within.
-          satisfies-full (values_of t.entries) (assigned filled) t.vars (get_or t.rows k d) none (λ v from_one most. is.each v from_one most (total v from_one most))
+          satisfies-full (values_of t.entries) (assigned filled) t.vars (get_or t.rows k d) none
+          (λ v from_one most. is.each v from_one most (total v from_one most))
           (proper k d within) (known k d within) (quiet k d within),
     )

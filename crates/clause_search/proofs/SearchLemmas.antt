@@ -1,5 +1,6 @@
 -- A log that grows step by step, and what it comes to.
-use Rattle.std.proofs.Common.{◌≡◌, ℕ, ◌+◌, ◌<◌, ◌≤◌, Bool, true, false, cond, List, [], ◌∷◌, ◌++◌, length, get_or, map, Ok, Option, None, Result}
+use Rattle.std.proofs.Common.{◌≡◌, ℕ, ◌+◌, ◌<◌, ◌≤◌, Bool, true, false, cond, List, [], ◌∷◌, ◌++◌, length, get_or, map}
+use Rattle.std.proofs.Common.{Ok, Option, None, Result}
 use Rattle.std.proofs.Common.{refl, arith, ap, sym, subst, ◌∙◌, append_assoc}
 use Rattle.std.proofs.lemmas.Bool.{false≢true}
 use Rattle.std.proofs.lemmas.List.{append-nil, map-append}
@@ -21,7 +22,8 @@ use Rattle.clause_search.proofs.ReplayLemmas.{Differ}
 
 -- ---- one step more
 
-pub AreNews-push : (rows : List Row) (vars : ℕ) (steps : List Step) (s : Step) → AreNews rows vars steps → IsNews (rows ++ map row_of steps) vars s → AreNews rows vars (steps ++ s ∷ [])
+pub AreNews-push : (rows : List Row) (vars : ℕ) (steps : List Step) (s : Step) → AreNews rows vars steps
+    → IsNews (rows ++ map row_of steps) vars s → AreNews rows vars (steps ++ s ∷ [])
 AreNews-push rows vars [] s news new = (subst (λ (rs : List Row). IsNews rs vars s) (append-nil rows) new, tt)
 AreNews-push rows vars (x ∷ steps) s news new = (
   news.0,
@@ -30,7 +32,8 @@ AreNews-push rows vars (x ∷ steps) s news new = (
 )
 
 -- the rows that stand then
-pub rows-push : (rows new : List Row) (steps : List Step) (clause : List Literal) (hints : List ℕ) → Differ clause → new ≡ (rows ++ map row_of steps) ++ at_least 1 clause ∷ []
+pub rows-push : (rows new : List Row) (steps : List Step) (clause : List Literal) (hints : List ℕ) → Differ clause
+    → new ≡ (rows ++ map row_of steps) ++ at_least 1 clause ∷ []
     → new ≡ rows ++ map row_of (steps ++ Clause clause hints ∷ [])
 rows-push rows new steps clause hints differ is =
     is
@@ -44,23 +47,31 @@ one_for : (b : Bool) → cond b 1 0 ≤ 0 → b ≡ false
 one_for true none = absurd (omega (arith, none))
 one_for false none = refl
 
-pub none_decided : (es : List Entry) → level_of es ≡ 0 → (k : ℕ) (d : Entry) → k < length es → is_decision (get_or es k d) ≡ false
+pub none_decided : (es : List Entry) → level_of es ≡ 0 → (k : ℕ) (d : Entry) → k < length es
+    → is_decision (get_or es k d) ≡ false
 none_decided es level k d within =
-    one_for (is_decision (get_or es k d)) (omega (arith, level, get_or-le-sum_by (λ (e : Entry). cond (is_decision e) 1 0) es k d within))
+    one_for (is_decision (get_or es k d))
+    (omega (arith, level, get_or-le-sum_by (λ (e : Entry). cond (is_decision e) 1 0) es k d within))
 
 pub quiet_below-root : (rows : List Row) (es : List Entry) → level_of es ≡ 0 → IsQuietBelow rows es
-quiet_below-root rows es level = λ k d within decided. absurd (false≢true (sym (none_decided es level k d within) ∙ decided))
+quiet_below-root rows es level =
+    λ k d within decided. absurd (false≢true (sym (none_decided es level k d within) ∙ decided))
 
 -- ---- a log that ends with the empty clause
 
 first_fault-none : (rows : List Row) (vars n : ℕ) (steps : List Step) (hints : List ℕ) → AreNews rows vars steps
-    → judged (rows ++ map row_of steps) vars (Clause [] hints) ≡ Ok (clause_row []) → first_fault rows vars n (steps ++ Clause [] hints ∷ []) ≡ None
+    → judged (rows ++ map row_of steps) vars (Clause [] hints) ≡ Ok (clause_row [])
+    → first_fault rows vars n (steps ++ Clause [] hints ∷ []) ≡ None
 first_fault-none rows vars n [] hints news last =
-    ap (λ (r : Result Row Cause). fault_or (n + 1) r (λ row. None)) (ap (λ (rs : List Row). judged rs vars (Clause [] hints)) (sym (append-nil rows)) ∙ last)
+    ap (λ (r : Result Row Cause). fault_or (n + 1) r (λ row. None))
+    (ap (λ (rs : List Row). judged rs vars (Clause [] hints)) (sym (append-nil rows)) ∙ last)
 first_fault-none rows vars n (x ∷ steps) hints news last =
-    ap (λ (r : Result Row Cause). fault_or (n + 1) r (λ row. first_fault (rows ++ row ∷ []) vars (n + 1) (steps ++ Clause [] hints ∷ []))) news.0.follows
+    ap (λ (r : Result Row Cause).
+    fault_or (n + 1) r (λ row. first_fault (rows ++ row ∷ []) vars (n + 1) (steps ++ Clause [] hints ∷ [])))
+    news.0.follows
     ∙ first_fault-none (rows ++ row_of x ∷ []) vars (n + 1) steps hints news.1
-    (ap (λ (rs : List Row). judged rs vars (Clause [] hints)) (append_assoc rows (row_of x ∷ []) (map row_of steps)) ∙ last)
+    (ap (λ (rs : List Row). judged rs vars (Clause [] hints)) (append_assoc rows (row_of x ∷ []) (map row_of steps))
+    ∙ last)
 
 ends_empty-push : (steps : List Step) (hints : List ℕ) → ends_empty (steps ++ Clause [] hints ∷ []) ≡ true
 ends_empty-push [] hints = refl
@@ -69,8 +80,10 @@ ends_empty-push (x ∷ y ∷ steps) hints = ends_empty-push (y ∷ steps) hints
 
 -- is accepted, where its steps are news and the empty clause follows
 pub verdict_of-refuted : (rows : List Row) (vars : ℕ) (steps : List Step) (hints : List ℕ) → AreNews rows vars steps
-    → judged (rows ++ map row_of steps) vars (Clause [] hints) ≡ Ok (clause_row []) → verdict_of rows vars (steps ++ Clause [] hints ∷ []) ≡ Accepted
+    → judged (rows ++ map row_of steps) vars (Clause [] hints) ≡ Ok (clause_row [])
+    → verdict_of rows vars (steps ++ Clause [] hints ∷ []) ≡ Accepted
 verdict_of-refuted rows vars steps hints news last =
-    ap (λ (fault : Option (ℕ × Cause)). verdict_by fault (ends_empty (steps ++ Clause [] hints ∷ [])) (length (steps ++ Clause [] hints ∷ [])))
+    ap (λ (fault : Option (ℕ × Cause)). verdict_by fault (ends_empty (steps ++ Clause [] hints ∷ []))
+    (length (steps ++ Clause [] hints ∷ [])))
     (first_fault-none rows vars 0 steps hints news last)
     ∙ ap (λ (ends : Bool). verdict_by None ends (length (steps ++ Clause [] hints ∷ []))) (ends_empty-push steps hints)

@@ -25,13 +25,16 @@ use Rattle.clause_search.proofs.ReplayLemmas.{Differ}
 contains_at : (c : List Literal) (k : ℕ) (d : Literal) → k < length c → Contains c (get_or c k d)
 contains_at c k d within = (k, within, get_or_default c k (get_or c k d) d within)
 
-differ_more : (c : List Literal) (m : Literal) (r : Role) → Differ c → ((l : Literal) → Contains c l → l.var ≢ m.var) → Differ (c ++ literal_of m r)
+differ_more : (c : List Literal) (m : Literal) (r : Role) → Differ c → ((l : Literal) → Contains c l → l.var ≢ m.var)
+    → Differ (c ++ literal_of m r)
 differ_more c m Apart differ apart = subst (λ (ls : List Literal). Differ ls) (sym (append-nil c)) differ
 differ_more c m Used differ apart = subst (λ (ls : List Literal). Differ ls) (sym (append-nil c)) differ
 differ_more c m Kept differ apart =
-    all_pairs_push (λ l m. l.var ≢ m.var) c (negate m) differ (λ k d within. apart (get_or c k d) (contains_at c k d within))
+    all_pairs_push (λ l m. l.var ≢ m.var) c (negate m) differ
+    (λ k d within. apart (get_or c k d) (contains_at c k d within))
 
-differ_below : (lit : ℕ → Literal) (role : ℕ → Role) (n : ℕ) → AreFresh n lit → (k : ℕ) → k ≤ n → Differ (clause_below lit role k)
+differ_below : (lit : ℕ → Literal) (role : ℕ → Role) (n : ℕ) → AreFresh n lit → (k : ℕ) → k ≤ n
+    → Differ (clause_below lit role k)
 differ_below lit role n fresh zero within = λ i j d before inside same. absurd (omega (arith, inside))
 differ_below lit role n fresh (suc k) within =
     differ_more (clause_below lit role k) (lit k) (role k) (differ_below lit role n fresh k (omega (arith, within)))
@@ -40,9 +43,12 @@ differ_below lit role n fresh (suc k) within =
     fresh kept.0 k kept.1 (omega (arith, within)) (ap (λ (m : Literal). m.var) (sym kept.3) ∙ same))
 
 -- what holds of each literal's variable
-each_below : (P : ℕ → Type 0) (lit : ℕ → Literal) (role : ℕ → Role) (n : ℕ) → ((j : ℕ) → j < n → P (lit j).var) → All (λ l. P l.var) (clause_below lit role n)
+each_below : (P : ℕ → Type 0) (lit : ℕ → Literal) (role : ℕ → Role) (n : ℕ) → ((j : ℕ) → j < n → P (lit j).var)
+    → All (λ l. P l.var) (clause_below lit role n)
 each_below P lit role n each = λ k d within.
-    let kept : IsKeptAt lit role n (get_or (clause_below lit role n) k d) = clause_holds lit role n (get_or (clause_below lit role n) k d) (contains_at (clause_below lit role n) k d within) in
+    let kept : IsKeptAt lit role n (get_or (clause_below lit role n) k d) =
+    clause_holds lit role n (get_or (clause_below lit role n) k d)
+    (contains_at (clause_below lit role n) k d within) in
     subst P (ap (λ (m : Literal). m.var) (sym kept.3)) (each kept.0 kept.1)
 
 -- ---- the hints
@@ -55,7 +61,12 @@ hint_short n Used = omega arith
 hints_short : (reason : ℕ → ℕ) (role : ℕ → Role) (k : ℕ) → length (hints_below reason role k) ≤ k
 hints_short reason role zero = omega arith
 hints_short reason role (suc k) =
-    omega (arith, length-append (hints_below reason role k) (hint_of (reason k) (role k)), hint_short (reason k) (role k), hints_short reason role k)
+    omega (
+      arith,
+      length-append (hints_below reason role k) (hint_of (reason k) (role k)),
+      hint_short (reason k) (role k),
+      hints_short reason role k,
+    )
 
 none_some : (row : Row) → ◌≡◌ {A = Option Row} None (Some row) → ⊥
 none_some row is = cc
@@ -69,16 +80,20 @@ hint_named n Apart is = All-nil (λ hint. 1 ≤ hint)
 hint_named n Kept is = All-nil (λ hint. 1 ≤ hint)
 hint_named n Used is = All-cons (λ hint. 1 ≤ hint) n [] (is refl) (All-nil (λ hint. 1 ≤ hint))
 
-hints_named : (reason : ℕ → ℕ) (role : ℕ → Role) (k : ℕ) → ((j : ℕ) → j < k → role j ≡ Used → 1 ≤ reason j) → All (λ hint. 1 ≤ hint) (hints_below reason role k)
+hints_named : (reason : ℕ → ℕ) (role : ℕ → Role) (k : ℕ) → ((j : ℕ) → j < k → role j ≡ Used → 1 ≤ reason j)
+    → All (λ hint. 1 ≤ hint) (hints_below reason role k)
 hints_named reason role zero named = All-nil (λ hint. 1 ≤ hint)
 hints_named reason role (suc k) named =
     All-append (λ hint. 1 ≤ hint) (hints_below reason role k) (hint_of (reason k) (role k))
-    (hints_named reason role k (λ j below. named j (omega (arith, below)))) (hint_named (reason k) (role k) (named k (omega arith)))
+    (hints_named reason role k (λ j below. named j (omega (arith, below))))
+    (hint_named (reason k) (role k) (named k (omega arith)))
 
 -- ---- the step
 
-pub tidy_of : (rows : List Row) (vars n : ℕ) (lit : ℕ → Literal) (reason : ℕ → ℕ) (role : ℕ → Role) (before : ℕ → ℕ → Value) (number : ℕ)
-    → IsAnalysis rows n lit reason role before number → AreFresh n lit → ((j : ℕ) → j < n → 1 ≤ (lit j).var) → ((j : ℕ) → j < n → (lit j).var ≤ vars) → n ≤ vars
+pub tidy_of : (rows : List Row) (vars n : ℕ) (lit : ℕ → Literal) (reason : ℕ → ℕ) (role : ℕ → Role)
+    (before : ℕ → ℕ → Value) (number : ℕ)
+    → IsAnalysis rows n lit reason role before number → AreFresh n lit → ((j : ℕ) → j < n → 1 ≤ (lit j).var)
+    → ((j : ℕ) → j < n → (lit j).var ≤ vars) → n ≤ vars
     → IsTidy vars (Clause (clause_below lit role n) (hints_below reason role n ++ number ∷ []))
 tidy_of rows vars n lit reason role before number is fresh from_ones known few = record {
   variables = differ_below lit role n fresh n (omega arith);

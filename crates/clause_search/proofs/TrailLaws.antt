@@ -1,8 +1,11 @@
 -- What a lawful trail says of the values before each place.
-use Rattle.std.proofs.Common.{◌≡◌, ℕ, zero, suc, ◌+◌, ◌-◌, ◌<◌, ◌≤◌, List, length, take}
+use Rattle.std.proofs.Common.{◌≡◌, ℕ, zero, suc, ◌+◌, ◌-◌, ◌<◌, ◌≤◌, true, false, List, length, take, Option, Some}
+use Rattle.std.proofs.Common.{None}
 use Rattle.std.proofs.Common.{refl, arith, ap, sym, subst, ◌∙◌}
+use Rattle.std.specs.Prelude.{is_none, is_some, slice_get}
 use Rattle.std.proofs.lemmas.Bool.{false≢true}
 use Rattle.std.proofs.lemmas.List.{take_more}
+use Rattle.std.proofs.lemmas.Option.{get_or_from_slice_get, slice_get_within}
 use Rattle.rows.specs.Forcing.{set_true}
 use Rattle.rows.specs.Rows.{Row}
 use Rattle.rows.specs.Partials.{is_free, value_of}
@@ -22,10 +25,12 @@ pub before-more : (es : List Entry) (k : ℕ) → k < length es → before es (k
 before-more es k within = ap values_of (take_more es k no_entry within) ∙ values_of-push (take k es) (entry_at es k)
 
 -- a literal is free before its place
-pub trail_free_at : (vars : ℕ) (es : List Entry) (j : ℕ) → EachEntry (IsNew vars) es → j < length es → value_of (before es j) (lit_at es j) ≡ Free
+pub trail_free_at : (vars : ℕ) (es : List Entry) (j : ℕ) → EachEntry (IsNew vars) es → j < length es
+    → value_of (before es j) (lit_at es j) ≡ Free
 trail_free_at vars es j each within = (each j no_entry within).free
 
-free_down : (vars : ℕ) (es : List Entry) (j : ℕ) → EachEntry (IsNew vars) es → j < length es → (gap k : ℕ) → k + gap ≡ j → value_of (before es k) (lit_at es j) ≡ Free
+free_down : (vars : ℕ) (es : List Entry) (j : ℕ) → EachEntry (IsNew vars) es → j < length es → (gap k : ℕ) → k + gap
+    ≡ j → value_of (before es k) (lit_at es j) ≡ Free
 free_down vars es j each within zero k at =
     let same : j ≡ k = omega (arith, at) in
     subst (λ (i : ℕ). value_of (before es i) (lit_at es j) ≡ Free) same (trail_free_at vars es j each within)
@@ -36,10 +41,12 @@ free_down vars es j each within (suc gap) k at =
     ∙ free_down vars es j each within gap (k + 1) (omega (arith, at)))
 
 -- and before any earlier place
-pub trail_free : (vars : ℕ) (es : List Entry) (j k : ℕ) → EachEntry (IsNew vars) es → k ≤ j → j < length es → value_of (before es k) (lit_at es j) ≡ Free
+pub trail_free : (vars : ℕ) (es : List Entry) (j k : ℕ) → EachEntry (IsNew vars) es → k ≤ j → j < length es
+    → value_of (before es k) (lit_at es j) ≡ Free
 trail_free vars es j k each earlier within = free_down vars es j each within (j - k) k (omega (arith, earlier))
 
-true_up : (vars : ℕ) (es : List Entry) (j : ℕ) → EachEntry (IsNew vars) es → (gap k : ℕ) → j + 1 + gap ≡ k → k ≤ length es → value_of (before es k) (lit_at es j) ≡ True
+true_up : (vars : ℕ) (es : List Entry) (j : ℕ) → EachEntry (IsNew vars) es → (gap k : ℕ) → j + 1 + gap
+    ≡ k → k ≤ length es → value_of (before es k) (lit_at es j) ≡ True
 true_up vars es j each zero k at within =
     let there : j < length es = omega (arith, at, within) in
     let same : j + 1 ≡ k = omega (arith, at) in
@@ -51,16 +58,19 @@ true_up vars es j each (suc gap) k at within =
     let same : j + 1 + gap + 1 ≡ k = omega (arith, at) in
     subst (λ (i : ℕ). value_of (before es i) (lit_at es j) ≡ True) same
     (ap (λ (w : ℕ → Value). value_of w (lit_at es j)) (before-more es (j + 1 + gap) there)
-    ∙ stays_true (before es (j + 1 + gap)) (lit_at es (j + 1 + gap)) (lit_at es j) (true_up vars es j each gap (j + 1 + gap) refl (omega (arith, there))))
+    ∙ stays_true (before es (j + 1 + gap)) (lit_at es (j + 1 + gap)) (lit_at es j)
+    (true_up vars es j each gap (j + 1 + gap) refl (omega (arith, there))))
 
 -- a literal is true behind its place
-pub trail_true : (vars : ℕ) (es : List Entry) (j k : ℕ) → EachEntry (IsNew vars) es → j < k → k ≤ length es → value_of (before es k) (lit_at es j) ≡ True
+pub trail_true : (vars : ℕ) (es : List Entry) (j k : ℕ) → EachEntry (IsNew vars) es → j < k → k ≤ length es
+    → value_of (before es k) (lit_at es j) ≡ True
 trail_true vars es j k each earlier within = true_up vars es j each (k - (j + 1)) k (omega (arith, earlier)) within
 
 -- so the literals have different variables
 pub trail_fresh : (vars : ℕ) (es : List Entry) → EachEntry (IsNew vars) es → AreFresh (length es) (lit_at es)
 trail_fresh vars es each = λ j k earlier within same.
-    let set : value_of (before es k) (lit_at es j) ≡ True = trail_true vars es j k each earlier (omega (arith, within)) in
+    let set : value_of (before es k) (lit_at es j) ≡ True =
+    trail_true vars es j k each earlier (omega (arith, within)) in
     let free : value_of (before es k) (lit_at es k) ≡ Free = trail_free_at vars es k each within in
     absurd (false≢true
     (ap is_free (sym set) ∙ is_free-value_of (before es k) (lit_at es j)
@@ -70,3 +80,15 @@ trail_fresh vars es each = λ j k earlier within same.
 -- the entries of a lawful trail are new
 pub lawful-new : (rows : List Row) (vars : ℕ) (es : List Entry) → AreLawful rows vars es → EachEntry (IsNew vars) es
 lawful-new rows vars es lawful = each-weaker (IsLawful rows vars) (IsNew vars) es (λ front e is. is.new) lawful
+
+-- an entry with a reason is no decision
+pub some_by : (o : Option ℕ) → is_some o ≡ true → is_none o ≡ false
+some_by None some = absurd (false≢true some)
+some_by (Some n) some = refl
+
+-- the variable of an entry is known
+pub known_entry : (rows : List Row) (vars : ℕ) (es : List Entry) (k : ℕ) (e : Entry) → AreLawful rows vars es
+    → slice_get es k ≡ Some e → e.lit.var ≤ vars
+known_entry rows vars es k e lawful read =
+    subst (λ (x : Entry). x.lit.var ≤ vars) (get_or_from_slice_get es k e no_entry read)
+    (lawful k no_entry (slice_get_within es k e read)).new.known

@@ -17,13 +17,15 @@ abbrev pub IsMarked : (ℕ → Literal) → (ℕ → Role) → ℕ → Literal �
 IsMarked lit role k l = (j : ℕ) × (j < k) × (role j ≢ Apart) × (lit j ≡ negate l)
 
 -- the number names a row whose literals that are false under these values are marked before place k
-pub record Resolves (rows : List Row) (lit : ℕ → Literal) (role : ℕ → Role) (k : ℕ) (values : ℕ → Value) (number : ℕ) (row : Row) : Type 0 where
+pub record Resolves (rows : List Row) (lit : ℕ → Literal) (role : ℕ → Role) (k : ℕ) (values : ℕ → Value) (number : ℕ)
+    (row : Row) : Type 0 where
   pub named : row_numbered rows number ≡ Some row
   pub apart : AllPairs (λ t u. t.lit.var ≢ u.lit.var) row.terms
   pub marked : (t : Term) → Contains row.terms t → value_of values t.lit ≡ False → IsMarked lit role k t.lit
 
 -- the literal at place k is forced by the row of its reason
-pub record IsResolved (rows : List Row) (lit : ℕ → Literal) (reason : ℕ → ℕ) (role : ℕ → Role) (k : ℕ) (values : ℕ → Value) : Type 0 where
+pub record IsResolved (rows : List Row) (lit : ℕ → Literal) (reason : ℕ → ℕ) (role : ℕ → Role) (k : ℕ)
+    (values : ℕ → Value) : Type 0 where
   pub row : Row
   pub term : Term
   pub resolves : Resolves rows lit role k values (reason k) row
@@ -32,7 +34,8 @@ pub record IsResolved (rows : List Row) (lit : ℕ → Literal) (reason : ℕ �
 
 -- of n literals of a trail, where `before k` are the values before place k: each that is used is resolved, and the row
 -- with this number is in conflict behind them all
-pub record IsAnalysis (rows : List Row) (n : ℕ) (lit : ℕ → Literal) (reason : ℕ → ℕ) (role : ℕ → Role) (before : ℕ → ℕ → Value) (number : ℕ) : Type 0 where
+pub record IsAnalysis (rows : List Row) (n : ℕ) (lit : ℕ → Literal) (reason : ℕ → ℕ) (role : ℕ → Role)
+    (before : ℕ → ℕ → Value) (number : ℕ) : Type 0 where
   pub used : (k : ℕ) → k < n → role k ≡ Used → IsResolved rows lit reason role k (before k)
   pub row : Row
   pub resolves : Resolves rows lit role n (before n) number row

@@ -1,50 +1,93 @@
 //! What is learnt from a conflict.
 ghost use Rattle.std.specs.Prelude.{◌≡◌, ◌++◌, ℕ, ◌<◌, [], ◌∷◌, length, false, replicate, IfOk, OnOk};
-ghost use Rattle.propagate.specs.Trails.{NamesConflict, is_decision, values_of};
-ghost use Rattle.refutation.specs.Steps.Step.{Clause};
+ghost use Rattle.propagate.specs.Trails.{IsQuietBelow, NamesConflict, is_decision, values_of};
 ghost use Rattle.clause_search.specs.Analysis.{clause_below, hint_of, hints_below, literal_of};
-ghost use Rattle.clause_search.specs.Marks.{IsAnalyzed, IsLastDecision, role_at};
-ghost use Rattle.clause_search.specs.News.{IsNews, IsTidy};
+ghost use Rattle.clause_search.specs.Marks.{IsAnalyzed, IsLastDecision, IsTraced, role_at};
 ghost use Rattle.clause_search.specs.Trails.{entry_at, lit_at, number_of, reason_at};
-ghost use Rattle.clause_search.specs.Turns.{Closes, Learns};
+ghost use Rattle.clause_search.specs.Turns.{Closes, IsLearnable, Learns};
 
-use crate::analyze::analyze;
-use crate::places::places_of;
+use crate::analyze::{analyze, trace};
+use crate::desk::Desk;
+use crate::places::{back_level, raise_all, release_above};
 use crate::role::Role;
 use propagate::{Conflict, Entry, Trail};
 use refutation::Log;
 use rows::Lit;
-use std::alloc::{AllocError, Global};
-
-/// A clause with the numbers of the rows by which it follows.
-#[derive(Drop)]
-pub(crate) struct Learnt {
-    pub(crate) clause: Vec<Lit>,
-    pub(crate) hints: Vec<u64>,
-}
+use std::alloc::AllocError;
 
 /// Learns from a conflict above level 0: the clause comes behind the rows and into the log, and the trail goes back to
-/// level 0.
+/// the highest level of the clause's literals before the last decision, where the clause forces its last literal; or to
+/// level 0, where the search begins again.
 ///
 /// # Errors
 /// Only where memory runs out.
 pub(crate) fn learn(
-    alloc: Global,
     trail: &mut Trail,
     log: &mut Log,
+    desk: &mut Desk,
     conflict: Conflict,
     start: usize,
-    vars: u32,
 ) -> Result<(), AllocError>
-    requires vars { trail.old.vars ≡ vars }
     requires conflict { NamesConflict trail.old.rows (values_of trail.old.entries) conflict }
     requires start { IsLastDecision trail.old start }
+    requires below { IsQuietBelow trail.old.rows trail.old.entries }
+    requires vars { desk.old.order.vars ≡ trail.old.vars }
+    ensures learns { OnOk result (Learns trail.old trail.new log.old log.new) }
+    ensures vars { desk.new.order.vars ≡ desk.old.order.vars }
+{
+    let _len = trail.len();
+    let back = explain(trail, desk, conflict, start)?;
+    let level = desk.restarts.level(back);
+    release_above(trail, level, &mut desk.order);
+    keep(trail, log, &desk.clause, &desk.hints, level)
+}
+
+/// Works out the clause of a conflict above level 0, and its hints. The answer is the level to go back to.
+///
+/// # Errors
+/// Only where memory runs out.
+fn explain(
+    trail: &Trail,
+    desk: &mut Desk,
+    conflict: Conflict,
+    start: usize,
+) -> Result<u32, AllocError>
+    requires conflict { NamesConflict trail.now.rows (values_of trail.now.entries) conflict }
+    requires start { IsLastDecision trail.now start }
+    requires vars { desk.old.order.vars ≡ trail.now.vars }
+    ensures learnable { IfOk result (IsLearnable trail.now desk.new.clause.items desk.new.hints.items) }
+    ensures vars { desk.new.order.vars ≡ desk.old.order.vars }
+{
+    let _len = trail.len();
+    find_roles(trail, conflict, start, &mut desk.roles)?;
+    collect(
+        trail,
+        conflict,
+        &desk.roles,
+        &mut desk.clause,
+        &mut desk.hints,
+    )?;
+    raise_all(trail, &desk.roles, &mut desk.order);
+    Ok(back_level(trail, &desk.roles, start))
+}
+
+/// A clause comes behind the rows and into the log, and the trail goes back to a level.
+fn keep(
+    trail: &mut Trail,
+    log: &mut Log,
+    clause: &[Lit],
+    hints: &[u64],
+    level: u32,
+) -> Result<(), AllocError>
+    requires learnable { IsLearnable trail.old clause.now hints.now level }
+    requires below { IsQuietBelow trail.old.rows trail.old.entries }
     ensures { OnOk result (Learns trail.old trail.new log.old log.new) }
 {
     let _len = trail.len();
-    let roles = roles_of(alloc, trail, conflict, start, vars)?;
-    let learnt = collect(alloc, trail, conflict, &roles)?;
-    keep(trail, log, &learnt.clause, &learnt.hints)
+    trail.back_to(level);
+    let _number = trail.add(clause)?;
+    log.push(clause, hints)?;
+    Ok(())
 }
 
 /// Learns the empty clause from a conflict at level 0: it comes into the log.
@@ -52,57 +95,66 @@ pub(crate) fn learn(
 /// # Errors
 /// Only where memory runs out.
 pub(crate) fn refute(
-    alloc: Global,
     trail: &Trail,
     log: &mut Log,
+    desk: &mut Desk,
     conflict: Conflict,
 ) -> Result<(), AllocError>
     requires conflict { NamesConflict trail.now.rows (values_of trail.now.entries) conflict }
     requires forced { (j : ℕ) → j < length trail.now.entries → is_decision (entry_at trail.now.entries j) ≡ false }
-    ensures { OnOk result (Closes trail.now log.old log.new) }
+    ensures closes { OnOk result (Closes trail.now log.old log.new) }
+    ensures vars { desk.new.order.vars ≡ desk.old.order.vars }
 {
-    let roles = all_of(alloc, Role::Used, trail.len())?;
-    let learnt = collect(alloc, trail, conflict, &roles)?;
-    log.push(&[], &learnt.hints)?;
-    Ok(())
-}
-
-/// A clause comes behind the rows and into the log, and the trail goes back to level 0.
-fn keep(trail: &mut Trail, log: &mut Log, clause: &[Lit], hints: &[u64]) -> Result<(), AllocError>
-    requires news { IsNews trail.old.rows trail.old.vars (Clause clause.now hints.now) }
-    requires tidy { IsTidy trail.old.vars (Clause clause.now hints.now) }
-    ensures { OnOk result (Learns trail.old trail.new log.old log.new) }
-{
-    trail.back_to(0);
-    let _number = trail.add(clause)?;
-    log.push(clause, hints)?;
+    let _len = trail.len();
+    find_root_roles(trail, conflict, &mut desk.roles)?;
+    collect(
+        trail,
+        conflict,
+        &desk.roles,
+        &mut desk.clause,
+        &mut desk.hints,
+    )?;
+    log.push(&[], &desk.hints)?;
     Ok(())
 }
 
 /// The part of each place of a trail in conflict above level 0.
-fn roles_of(
-    alloc: Global,
+fn find_roles(
     trail: &Trail,
     conflict: Conflict,
     start: usize,
-    vars: u32,
-) -> Result<Vec<Role>, AllocError>
-    requires vars { trail.now.vars ≡ vars }
+    roles: &mut Vec<Role>,
+) -> Result<(), AllocError>
     requires conflict { NamesConflict trail.now.rows (values_of trail.now.entries) conflict }
     requires start { IsLastDecision trail.now start }
-    ensures { IfOk result (λ roles. IsAnalyzed trail.now conflict.row start roles.items) }
+    ensures { OnOk result (IsAnalyzed trail.now conflict.row start roles.new.items) }
 {
-    let places = places_of(alloc, trail, vars)?;
-    let mut roles = all_of(alloc, Role::Apart, trail.len())?;
-    let _point = analyze(trail, conflict, start, &places, &mut roles);
-    Ok(roles)
+    set_apart(roles, trail.len())?;
+    let _point = analyze(trail, conflict, start, roles);
+    Ok(())
 }
 
-/// So many places, each with this part.
-fn all_of(alloc: Global, role: Role, len: usize) -> Result<Vec<Role>, AllocError>
-    ensures { IfOk result (λ roles. roles.items ≡ replicate len role) }
+/// The part of each place of a trail in conflict at level 0.
+fn find_root_roles(
+    trail: &Trail,
+    conflict: Conflict,
+    roles: &mut Vec<Role>,
+) -> Result<(), AllocError>
+    requires conflict { NamesConflict trail.now.rows (values_of trail.now.entries) conflict }
+    requires forced { (j : ℕ) → j < length trail.now.entries → is_decision (entry_at trail.now.entries j) ≡ false }
+    ensures { OnOk result (IsTraced trail.now conflict.row roles.new.items 0) }
 {
-    vec![in alloc; role; len]
+    set_apart(roles, trail.len())?;
+    trace(trail, conflict, roles);
+    Ok(())
+}
+
+/// So many places, none of which has a part.
+fn set_apart(roles: &mut Vec<Role>, len: usize) -> Result<(), AllocError>
+    ensures { OnOk result (roles.new.items ≡ replicate len Role.Apart) }
+{
+    roles.clear();
+    roles.resize(len, Role::Apart)
 }
 
 /// The negations of the literals that are kept, and the reasons of those that are used, both in the trail's order; the
@@ -111,25 +163,26 @@ fn all_of(alloc: Global, role: Role, len: usize) -> Result<Vec<Role>, AllocError
 /// # Errors
 /// Only where memory runs out.
 fn collect(
-    alloc: Global,
     trail: &Trail,
     conflict: Conflict,
     roles: &[Role],
-) -> Result<Learnt, AllocError>
+    clause: &mut Vec<Lit>,
+    hints: &mut Vec<u64>,
+) -> Result<(), AllocError>
     requires { length roles.now ≡ length trail.now.entries }
-    ensures clause { IfOk result (λ learnt. learnt.clause.items
+    ensures clause { OnOk result (clause.new.items
         ≡ clause_below (lit_at trail.now.entries) (role_at roles.now) (length trail.now.entries)) }
-    ensures hints { IfOk result (λ learnt. learnt.hints.items
+    ensures hints { OnOk result (hints.new.items
         ≡ hints_below (reason_at trail.now.entries) (role_at roles.now) (length trail.now.entries)
         ++ conflict.row ∷ []) }
 {
-    let mut clause = Vec::new(alloc);
-    let mut hints = Vec::new(alloc);
+    clause.clear();
+    hints.clear();
     for k in 0..trail.len() {
-        collect_place(trail.entry(k), roles[k], &mut clause, &mut hints)?;
+        collect_place(trail.entry(k), roles[k], clause, hints)?;
     }
     hints.push(conflict.row)?;
-    Ok(Learnt { clause, hints })
+    Ok(())
 }
 
 /// What a place with this part adds to the clause and to the hints.

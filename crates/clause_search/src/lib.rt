@@ -2,11 +2,14 @@
 #![tactic(auto)]
 
 mod analyze;
+mod desk;
 mod found;
 mod learn;
 mod mark;
+mod order;
 mod pick;
 mod places;
+mod restarts;
 mod role;
 mod turn;
 mod walk;

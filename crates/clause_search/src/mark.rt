@@ -3,7 +3,7 @@ ghost use Rattle.std.specs.Prelude.{◌≡◌, ◌≢◌, ℕ, ◌<◌, ◌≤�
 ghost use Rattle.std.specs.List.{All};
 ghost use Rattle.rows.specs.Literals.{negate};
 ghost use Rattle.rows.specs.Partials.{value_of};
-ghost use Rattle.clause_search.specs.Marks.{ArePlaces, Marks, role_at};
+ghost use Rattle.clause_search.specs.Marks.{Marks, role_at};
 ghost use Rattle.clause_search.specs.Trails.{before, lit_at};
 
 use crate::role::Role;
@@ -15,14 +15,12 @@ use rows::{Lit, Term, Value};
 pub(crate) fn mark(
     trail: &Trail,
     terms: &[Term],
-    places: &[usize],
     limit: usize,
     start: usize,
     lowest: usize,
     roles: &mut [Role],
 ) -> usize
     requires known { All (λ t. t.lit.var ≤ trail.now.vars) terms.now }
-    requires places { ArePlaces trail.now.vars trail.now.entries places.now }
     requires within { limit ≤ length trail.now.entries }
     requires roles { length roles.old ≡ length trail.now.entries }
     requires unused { (j : ℕ) → j < limit → role_at roles.old j ≢ Role.Used }
@@ -30,7 +28,7 @@ pub(crate) fn mark(
 {
     let mut now = lowest;
     for term in terms {
-        match false_place(trail, term.lit, places, limit) {
+        match false_place(trail, term.lit, limit) {
             Some(place) => now = mark_place(place, start, now, roles),
             None => {}
         }
@@ -38,10 +36,26 @@ pub(crate) fn mark(
     now
 }
 
+/// Whether each place before `limit` whose literal makes one of these terms' literals false has a part already. It only
+/// guides an analysis: no clause says what it answers.
+pub(crate) fn brings_nothing(trail: &Trail, terms: &[Term], limit: usize, roles: &[Role]) -> bool
+    requires known { All (λ t. t.lit.var ≤ trail.now.vars) terms.now }
+    requires within { limit ≤ length trail.now.entries }
+    requires roles { length roles.now ≡ length trail.now.entries }
+{
+    for term in terms {
+        if let Some(place) = false_place(trail, term.lit, limit) {
+            if let Role::Apart = roles[place] {
+                return false;
+            }
+        }
+    }
+    true
+}
+
 /// The place before `limit` at which a literal became false.
-fn false_place(trail: &Trail, lit: Lit, places: &[usize], limit: usize) -> Option<usize>
+fn false_place(trail: &Trail, lit: Lit, limit: usize) -> Option<usize>
     requires known { lit.var ≤ trail.now.vars }
-    requires places { ArePlaces trail.now.vars trail.now.entries places.now }
     requires within { limit ≤ length trail.now.entries }
     ensures before { IfSome result (λ place. place < limit) }
     ensures stands { IfSome result (λ place. lit_at trail.now.entries place ≡ negate lit) }
@@ -49,7 +63,7 @@ fn false_place(trail: &Trail, lit: Lit, places: &[usize], limit: usize) -> Optio
 {
     let _len = trail.len();
     if let Value::False = trail.value(lit) {
-        let place = places[lit.var() as usize];
+        let place = trail.place(lit);
         if place < limit {
             return Some(place);
         }

@@ -1,31 +1,27 @@
 //! Which literal is decided next, and the values where all variables have one.
 ghost use Rattle.std.specs.Prelude.{◌≡◌, ◌≢◌, ℕ, ◌≤◌, None, IfOk, IfSome};
-ghost use Rattle.std.specs.List.{All};
 ghost use Rattle.rows.specs.Partials.{IsQuiet, as_value, value_of};
 ghost use Rattle.propagate.specs.Trails.{IsQuietBelow, values_of};
 ghost use Rattle.clause_search.specs.Turns.{IsDecided, IsFilled};
 
+use crate::order::Order;
 use propagate::Trail;
 use rows::{Assignment, Lit, Value};
 use std::alloc::{AllocError, Global};
 
-/// The first preferred literal that is free, or else the lowest free variable, to be false. None where each variable
-/// has a value.
-pub(crate) fn pick(trail: &Trail, prefer: &[Lit], vars: u32) -> Option<Lit>
-    requires vars { trail.now.vars ≡ vars }
-    requires few { vars ≤ 2147483647 }
-    requires preferred { All (λ l. l.var ≤ vars) prefer.now }
-    ensures known { IfSome result (λ lit. lit.var ≤ vars) }
+/// The most active free variable, with the sign that it had last. None where each variable has a value.
+pub(crate) fn pick(trail: &Trail, order: &mut Order) -> Option<Lit>
+    requires { order.old.vars ≡ trail.now.vars }
+    ensures vars { order.new.vars ≡ order.old.vars }
+    ensures known { IfSome result (λ lit. lit.var ≤ trail.now.vars) }
     ensures free { IfSome result (λ lit. value_of (values_of trail.now.entries) lit ≡ Value.Free) }
     ensures none { result ≡ None
-        → ((v : ℕ) → 1 ≤ v → v ≤ vars → values_of trail.now.entries v ≢ Value.Free) }
+        → ((v : ℕ) → 1 ≤ v → v ≤ trail.now.vars → values_of trail.now.entries v ≢ Value.Free) }
 {
-    for lit in prefer {
-        if let Value::Free = trail.value(*lit) {
-            return Some(*lit);
-        }
+    match order.next(trail) {
+        Some(lit) => Some(lit),
+        None => lowest_free(trail, order.vars),
     }
-    lowest_free(trail, vars)
 }
 
 /// The lowest free variable, to be false.

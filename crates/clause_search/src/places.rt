@@ -1,27 +1,12 @@
-//! Where the variables of a trail stand, and its last decision.
-ghost use Rattle.std.specs.Prelude.{◌≡◌, ℕ, ◌<◌, length, false, None, IfOk, IfSome};
+//! The levels of a trail: its last decision, and the level of a place.
+ghost use Rattle.std.specs.Prelude.{◌≡◌, ℕ, ◌<◌, ◌≤◌, length, false, None, IfSome};
 ghost use Rattle.propagate.specs.Trails.{IsQuietBelow, is_decision};
-ghost use Rattle.clause_search.specs.Marks.{ArePlaces, IsLastDecision};
+ghost use Rattle.clause_search.specs.Marks.{IsBackLevel, IsLastDecision};
 ghost use Rattle.clause_search.specs.Trails.{entry_at};
 
+use crate::order::Order;
+use crate::role::{Role, is_kept};
 use propagate::Trail;
-use std::alloc::{AllocError, Global};
-
-/// The place of each variable that has a value, by variable.
-///
-/// # Errors
-/// Only where memory runs out.
-pub(crate) fn places_of(alloc: Global, trail: &Trail, vars: u32) -> Result<Vec<usize>, AllocError>
-    requires { trail.now.vars ≡ vars }
-    ensures { IfOk result (λ places. ArePlaces trail.now.vars trail.now.entries places.items) }
-{
-    let mut places = vec![in alloc; 0; vars as usize + 1]?;
-    for k in 0..trail.len() {
-        let var = trail.entry(k).lit.var();
-        places[var as usize] = k;
-    }
-    Ok(places)
-}
 
 /// The place of the last decision, if there is one.
 pub(crate) fn last_decision(trail: &Trail) -> Option<usize>
@@ -38,4 +23,52 @@ pub(crate) fn last_decision(trail: &Trail) -> Option<usize>
         }
     }
     None
+}
+
+/// The level to which the learnt clause lets the search go back: the highest of its literals before the last decision,
+/// which stands at `start`, or 0.
+pub(crate) fn back_level(trail: &Trail, roles: &[Role], start: usize) -> u32
+    requires inside { start ≤ length trail.now.entries }
+    requires roles { length roles.now ≡ length trail.now.entries }
+    ensures { IsBackLevel trail.now.entries roles.now start result }
+{
+    let mut k = start;
+    'places: while k > 0 {
+        k -= 1;
+        if is_kept(roles[k]) {
+            return trail.entry(k).level;
+        }
+    }
+    0
+}
+
+/// Lets the variables of later levels than this one wait for a decision again, with the signs that they had.
+pub(crate) fn release_above(trail: &Trail, level: u32, order: &mut Order)
+    requires { order.old.vars ≡ trail.now.vars }
+    ensures { order.new.vars ≡ order.old.vars }
+{
+    let mut k = trail.len();
+    'places: while k > 0 {
+        k -= 1;
+        let entry = trail.entry(k);
+        if entry.level <= level {
+            return;
+        }
+        order.release(entry.lit);
+    }
+}
+
+/// Makes the variables that have a part in a conflict more active.
+pub(crate) fn raise_all(trail: &Trail, roles: &[Role], order: &mut Order)
+    requires vars { order.old.vars ≡ trail.now.vars }
+    requires roles { length roles.now ≡ length trail.now.entries }
+    ensures { order.new.vars ≡ order.old.vars }
+{
+    for k in 0..trail.len() {
+        if let Role::Apart = roles[k] {
+            continue;
+        }
+        order.raise(trail.entry(k).lit);
+    }
+    order.age();
 }

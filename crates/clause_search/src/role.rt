@@ -1,4 +1,5 @@
 //! The parts that the literals of a trail play in an analysis.
+ghost use Rattle.std.specs.Prelude.{◌≡◌, ◌≢◌, true, false};
 
 /// What an analysis of a conflict does with a literal of the trail.
 #[derive(Clone, Copy, Debug)]
@@ -9,4 +10,11 @@ pub(crate) enum Role {
     Kept,
     /// It is resolved: its reason is a hint.
     Used,
+}
+
+pub(crate) fn is_kept(role: Role) -> bool
+    ensures kept { result ≡ true → role ≡ Role.Kept }
+    ensures other { result ≡ false → role ≢ Role.Kept }
+{
+    matches!(role, Role::Kept)
 }

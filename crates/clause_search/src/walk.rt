@@ -7,8 +7,10 @@ ghost use Rattle.refutation.specs.Steps.{Step};
 ghost use Rattle.clause_search.specs.Answers.{IsAnswer};
 ghost use Rattle.clause_search.specs.Turns.{IsTurn};
 
+use crate::desk::Desk;
 use crate::found::Found;
 use crate::learn::{learn, refute};
+use crate::order::Order;
 use crate::pick::{decide, filled, pick};
 use crate::places::last_decision;
 use crate::turn::Turn;
@@ -20,8 +22,9 @@ use std::alloc::{AllocError, Global};
 /// Searches for values of so many variables that satisfy every row, or a log that refutes them. With a limit it learns
 /// at most so many clauses.
 ///
-/// It decides the first preferred literal that is free, or else the lowest free variable, to be false; from each
-/// conflict above level 0 it learns the clause of the first unique implication point, and begins again. A conflict at
+/// It decides the most active free variable, with the sign that it had last: at first the preferred literals, in their
+/// order, then all other variables, to be false. From each conflict above level 0 it learns the clause of the first
+/// unique implication point, and goes back to where this clause forces a literal, or at times to level 0. A conflict at
 /// level 0 refutes the rows, whatever the limit. Without a limit it is never spent.
 ///
 /// # Errors
@@ -40,9 +43,10 @@ pub fn search(
 {
     let mut trail = Trail::new(alloc, rows, vars)?;
     let mut log = Log::new(alloc);
+    let mut desk = Desk::new(alloc, vars, prefer)?;
     'turns: loop {
         let found = trail.run();
-        let turn = take_turn(alloc, &mut trail, &mut log, found, prefer, vars, limit)?;
+        let turn = take_turn(alloc, &mut trail, &mut log, &mut desk, found, limit)?;
         match turn {
             Turn::Again => {}
             Turn::Satisfied(values) => return Ok(Found::Sat(values)),
@@ -57,50 +61,48 @@ fn take_turn(
     alloc: Global,
     trail: &mut Trail,
     log: &mut Log,
+    desk: &mut Desk,
     found: Option<Conflict>,
-    prefer: &[Lit],
-    vars: u32,
     limit: Option<u64>,
 ) -> Result<Turn, AllocError>
-    requires vars { trail.old.vars ≡ vars }
-    requires few { vars ≤ 2147483647 }
-    requires preferred { All (λ l. l.var ≤ vars) prefer.now }
+    requires vars { desk.old.order.vars ≡ trail.old.vars }
     requires found { IsSettled trail.old.rows (values_of trail.old.entries) found }
     requires below { IsQuietBelow trail.old.rows trail.old.entries }
     requires within { IfSome limit (λ most. length log.old ≤ most) }
-    ensures { IfOk result (IsTurn trail.old trail.new log.old log.new limit) }
+    ensures turn { IfOk result (IsTurn trail.old trail.new log.old log.new limit) }
+    ensures vars { desk.new.order.vars ≡ desk.old.order.vars }
 {
     match found {
-        Some(conflict) => meet(alloc, trail, log, conflict, vars, limit),
-        None => go_on(alloc, trail, prefer, vars),
+        Some(conflict) => meet(trail, log, desk, conflict, limit),
+        None => go_on(alloc, trail, &mut desk.order),
     }
 }
 
 /// What is done at a conflict.
 fn meet(
-    alloc: Global,
     trail: &mut Trail,
     log: &mut Log,
+    desk: &mut Desk,
     conflict: Conflict,
-    vars: u32,
     limit: Option<u64>,
 ) -> Result<Turn, AllocError>
-    requires vars { trail.old.vars ≡ vars }
+    requires vars { desk.old.order.vars ≡ trail.old.vars }
     requires conflict { NamesConflict trail.old.rows (values_of trail.old.entries) conflict }
     requires below { IsQuietBelow trail.old.rows trail.old.entries }
     requires within { IfSome limit (λ most. length log.old ≤ most) }
-    ensures { IfOk result (IsTurn trail.old trail.new log.old log.new limit) }
+    ensures turn { IfOk result (IsTurn trail.old trail.new log.old log.new limit) }
+    ensures vars { desk.new.order.vars ≡ desk.old.order.vars }
 {
     match last_decision(trail) {
         None => {
-            refute(alloc, trail, log, conflict)?;
+            refute(trail, log, desk, conflict)?;
             Ok(Turn::Refuted)
         }
         Some(start) => {
             if is_reached(limit, log.len()) {
                 return Ok(Turn::Spent);
             }
-            learn(alloc, trail, log, conflict, start, vars)?;
+            learn(trail, log, desk, conflict, start)?;
             Ok(Turn::Again)
         }
     }
@@ -119,23 +121,22 @@ fn is_reached(limit: Option<u64>, steps: usize) -> bool
 }
 
 /// What is done where propagation stands still.
-fn go_on(alloc: Global, trail: &mut Trail, prefer: &[Lit], vars: u32) -> Result<Turn, AllocError>
-    requires vars { trail.old.vars ≡ vars }
-    requires few { vars ≤ 2147483647 }
-    requires preferred { All (λ l. l.var ≤ vars) prefer.now }
+fn go_on(alloc: Global, trail: &mut Trail, order: &mut Order) -> Result<Turn, AllocError>
+    requires vars { order.old.vars ≡ trail.old.vars }
     requires quiet { IsQuiet (values_of trail.old.entries) trail.old.rows }
     requires below { IsQuietBelow trail.old.rows trail.old.entries }
-    ensures { (steps : List Step) (limit : Option ℕ)
+    ensures turn { (steps : List Step) (limit : Option ℕ)
         → IfOk result (IsTurn trail.old trail.new steps steps limit) }
+    ensures vars { order.new.vars ≡ order.old.vars }
 {
     let _len = trail.len();
-    match pick(trail, prefer, vars) {
+    match pick(trail, order) {
         Some(lit) => {
             decide(trail, lit);
             Ok(Turn::Again)
         }
         None => {
-            let values = filled(alloc, trail, vars)?;
+            let values = filled(alloc, trail, order.vars)?;
             Ok(Turn::Satisfied(values))
         }
     }

@@ -7,7 +7,7 @@ ghost use Rattle.league.specs.Deviation.{vector_of};
 ghost use Rattle.league.specs.Instance.{IsGame};
 ghost use Rattle.deviation.specs.Assess.{IsStructureOf};
 
-use crate::counted::counted;
+use crate::counting::counted;
 use crate::vectors::Vectors;
 use crate::weights::Weights;
 use league::{League, Schedule, Wrongs, structure};

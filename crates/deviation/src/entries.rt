@@ -6,20 +6,20 @@ ghost use Rattle.cells.specs.Table.{table_counts};
 use rule_core::{Cells, Rule, Steps};
 use std::alloc::{AllocError, Global};
 
-/// The entries of a rule on these counts, in the order of their keys: a step for each. The rule is let go.
+/// The entries of a rule on these counts, in the order of their keys: a step for each.
 ///
 /// # Errors
 /// Only where memory runs out.
-pub(crate) fn entries_of<L, R: Rule<L>>(
+pub fn entries_of<L, R: Rule<L>>(
     alloc: Global,
-    rule: R,
+    rule: &R,
     cells: &Cells,
     steps: &mut Steps<L>,
 ) -> Result<Vec<u64>, AllocError>
-    requires teams { cells.now.n ≡ R.team_count rule }
+    requires teams { cells.now.n ≡ R.team_count rule.now }
     ensures entries { IfOk result (λ entries. entries.items
-        ≡ map (λ k. R.entry rule k (table_counts cells.now)) (range_with_len 0 (R.term_count rule))) }
-    ensures steps { steps.new ≤ steps.old + R.term_count rule }
+        ≡ map (λ k. R.entry rule.now k (table_counts cells.now)) (range_with_len 0 (R.term_count rule.now))) }
+    ensures steps { steps.new ≤ steps.old + R.term_count rule.now }
 {
     let mut entries = Vec::new(alloc);
     for key in 0..rule.terms() {

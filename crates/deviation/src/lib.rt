@@ -6,12 +6,14 @@
 
 mod any_rule;
 mod assessment;
-mod counted;
+mod counting;
 mod entries;
 mod vectors;
 mod weights;
 
 pub use any_rule::AnyRule;
 pub use assessment::{Assessment, assess};
+pub use counting::counted;
+pub use entries::entries_of;
 pub use vectors::Vectors;
 pub use weights::total;

@@ -1,11 +1,10 @@
 //! What an encoding is shown as.
-ghost use Rattle.std.specs.Prelude.{◌<◌};
+ghost use Rattle.std.specs.Prelude.{◌<◌, length};
 ghost use Rattle.league.specs.Counts.{slot_count};
 
-use anyhow::{Result, ensure};
 use encoding::Encoding;
 use league::{SlotId, TeamId};
-use rows::{Partial, Term, slack};
+use rows::{Partial, RowStore, Term, slack};
 use std::alloc::{AllocError, Global};
 use std::io;
 
@@ -17,41 +16,63 @@ pub fn show_size(rt: &impl Print, encoding: &Encoding) -> io::Result<()> {
 }
 
 /// Shows the row of a number, from 1 on.
-pub fn show_row(rt: &impl Print, alloc: Global, encoding: &Encoding, number: usize) -> Result<()> {
+pub fn show_row(
+    rt: &(impl AllocGlobal + Print),
+    encoding: &Encoding,
+    number: usize,
+) -> io::Result<()> {
     let rows = encoding.rows();
-    ensure!(
-        1 <= number && number <= rows.len(),
-        "there is no row {number}"
-    );
+    if number == 0 || number > rows.len() {
+        return println!(rt; "there is no row {number}");
+    }
     print!(rt; "row {number}: ")?;
-    show_sum(rt, alloc, encoding, rows.terms(number - 1))?;
+    show_sum(rt, encoding, rows.terms(number - 1))?;
     let degree = rows.degree(number - 1);
-    println!(rt; " >= {degree}")?;
-    Ok(())
+    println!(rt; " >= {degree}")
 }
 
 /// Shows the sum of a row.
-fn show_sum(rt: &impl Print, alloc: Global, encoding: &Encoding, terms: &[Term]) -> io::Result<()> {
+fn show_sum(
+    rt: &(impl AllocGlobal + Print),
+    encoding: &Encoding,
+    terms: &[Term],
+) -> io::Result<()> {
     let mut sign = "";
     for term in terms {
-        let coef = term.coef;
-        let negation = if term.lit.positive() { "" } else { "not " };
-        let name = name_of(alloc, encoding, term.lit.var())?;
-        if coef == 1 {
-            print!(rt; "{sign}{negation}{name}")?;
-        } else {
-            print!(rt; "{sign}{coef} {negation}{name}")?;
-        }
+        print!(rt; "{sign}")?;
+        show_term(rt, encoding, term)?;
         sign = " + ";
     }
     Ok(())
 }
 
+/// Shows a literal with its coefficient, if that isn't 1.
+fn show_term(rt: &(impl AllocGlobal + Print), encoding: &Encoding, term: &Term) -> io::Result<()> {
+    let coef = term.coef;
+    if coef != 1 {
+        print!(rt; "{coef} ")?;
+    }
+    if !term.lit.positive() {
+        print!(rt; "not ")?;
+    }
+    show_name(rt, encoding, term.lit.var())
+}
+
 /// Shows a variable and its name.
-pub fn show_variable(rt: &impl Print, alloc: Global, encoding: &Encoding, var: u32) -> Result<()> {
-    let name = name_of(alloc, encoding, var)?;
-    println!(rt; "variable {var}: {name}")?;
-    Ok(())
+pub fn show_variable(
+    rt: &(impl AllocGlobal + Print),
+    encoding: &Encoding,
+    var: u32,
+) -> io::Result<()> {
+    print!(rt; "variable {var}: ")?;
+    show_name(rt, encoding, var)?;
+    println!(rt; "")
+}
+
+/// Shows the name of a variable.
+fn show_name(rt: &(impl AllocGlobal + Print), encoding: &Encoding, var: u32) -> io::Result<()> {
+    let name = name_of(rt.alloc(), encoding, var)?;
+    print!(rt; "{name}")
 }
 
 /// The name of a variable.
@@ -99,21 +120,37 @@ fn visitor_at(encoding: &Encoding, var: u32, home: TeamId, slot: SlotId) -> Opti
 }
 
 /// Shows which rows are in conflict while no variable has a value.
-pub fn show_conflicts(rt: &impl Print, alloc: Global, encoding: &Encoding) -> Result<()> {
-    let vars = encoding.vars();
-    let free = Partial::new(alloc, vars)?;
+pub fn show_conflicts(rt: &impl Print, alloc: Global, encoding: &Encoding) -> io::Result<()> {
     let rows = encoding.rows();
     for place in 0..rows.len() {
-        let terms = rows.terms(place);
-        ensure!(
-            terms.iter().all(|term| term.lit.var() <= vars),
-            "an unknown variable"
-        );
-        let slack = slack(terms, rows.degree(place), &free);
-        if slack < 0 {
-            let number = place + 1;
-            println!(rt; "row {number} is in conflict alone, by slack {slack}")?;
+        if let Some(slack) = slack_of(alloc, encoding.vars(), rows, place)? {
+            show_conflict(rt, place + 1, slack)?;
         }
     }
     Ok(())
+}
+
+/// The slack of a row while none of so many variables has a value, where it speaks of no others.
+fn slack_of(
+    alloc: Global,
+    vars: u32,
+    rows: &RowStore,
+    place: usize,
+) -> Result<Option<i128>, AllocError>
+    requires { place < length rows.now }
+{
+    let free = Partial::new(alloc, vars)?;
+    let terms = rows.terms(place);
+    if terms.iter().all(|term| term.lit.var() <= vars) {
+        return Ok(Some(slack(terms, rows.degree(place), &free)));
+    }
+    Ok(None)
+}
+
+/// Shows that the row of a number is in conflict, where its slack is negative.
+fn show_conflict(rt: &impl Print, number: usize, slack: i128) -> io::Result<()> {
+    if slack >= 0 {
+        return Ok(());
+    }
+    println!(rt; "row {number} is in conflict alone, by slack {slack}")
 }

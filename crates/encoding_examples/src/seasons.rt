@@ -1,87 +1,66 @@
-//! A season of four teams, its shadow, and what is decoded.
+//! What a season of four teams makes true, and which games are decoded from that.
 ghost use Rattle.std.specs.Prelude.{◌≡◌, length, IfOk};
 ghost use Rattle.std.specs.List.{All};
 ghost use Rattle.league.specs.Instance.{IsGame};
 ghost use Rattle.encoding.specs.Variables.{var_count};
 
-use crate::leagues::no_breaks_bounded;
+use crate::bytes_of;
 use crate::lines::show_variable;
-use anyhow::{Result, ensure};
+use anyhow::Result;
 use decoding::{decode, shadow};
-use encoding::{Encoding, encode};
-use league::{Game, Schedule, SlotId, TeamId};
+use encoding::Encoding;
+use league::{League, Schedule};
+use robinx_read::read_solution;
 use rows::Assignment;
-use std::alloc::Global;
+use std::io;
+use std::rt::Files;
 
-/// A phased double round robin of four teams, in order: home team, away team and slot.
-const FOUR: [(u16, u16, u16); 12] = [
-    (1, 2, 0),
-    (3, 0, 0),
-    (1, 3, 1),
-    (2, 0, 1),
-    (0, 1, 2),
-    (3, 2, 2),
-    (0, 3, 3),
-    (2, 1, 3),
-    (0, 2, 4),
-    (3, 1, 4),
-    (1, 0, 5),
-    (2, 3, 5),
-];
-
-/// Shows which breaks the shadow of the season has, which games are decoded from it, and which from nothing true.
-pub fn show(rt: &impl Print, alloc: Global) -> Result<()> {
-    let encoding = encode(alloc, &no_breaks_bounded(alloc)?)?;
-    let schedule = schedule_of(alloc, &encoding, &FOUR)?;
-    show_shadow(rt, alloc, &encoding, &schedule)?;
-    show_nothing(rt, alloc, &encoding)
-}
-
-/// Shows the shadow of a schedule, and what is decoded from it.
-fn show_shadow(
-    rt: &impl Print,
-    alloc: Global,
+/// Shows which breaks the shadow of the season of a file has, or which games are decoded from it or from nothing true.
+pub fn show(
+    rt: &(impl AllocGlobal + Files + Print),
+    league: &League,
     encoding: &Encoding,
-    schedule: &Schedule,
+    what: &str,
 ) -> Result<()>
-    requires { All (IsGame encoding.now.n) schedule.now }
+    requires { encoding.now ≡ league.now }
 {
-    let values = shadow(alloc, encoding, schedule)?;
-    println!(rt; "the breaks of a season's shadow")?;
-    show_breaks(rt, alloc, encoding, &values)?;
-    println!(rt; "the games decoded from it")?;
-    show_games(rt, &decode(alloc, encoding, &values)?)
-}
-
-/// Shows what is decoded where nothing is true.
-fn show_nothing(rt: &impl Print, alloc: Global, encoding: &Encoding) -> Result<()> {
-    println!(rt; "the games decoded from nothing true")?;
-    let nothing = Assignment::new(alloc, encoding.vars())?;
-    show_games(rt, &decode(alloc, encoding, &nothing)?)
-}
-
-/// The schedule of these games, if they fit the encoding's league.
-fn schedule_of(alloc: Global, encoding: &Encoding, games: &[(u16, u16, u16)]) -> Result<Schedule>
-    ensures { IfOk result (λ schedule. All (IsGame encoding.now.n) schedule) }
-{
-    let (teams, slots) = (encoding.n(), encoding.slots());
-    let mut schedule = Schedule::new(alloc);
-    for &(home, away, slot) in games {
-        ensure!(home < teams && away < teams, "an unknown team");
-        ensure!(home != away, "one team");
-        ensure!(slot < slots, "an unknown slot");
-        schedule.push(Game {
-            home: TeamId(home),
-            away: TeamId(away),
-            slot: SlotId(slot),
-        })?;
+    if let Some(file) = what.strip_prefix("breaks of ") {
+        let values = values_of(rt, league, encoding, file)?;
+        return Ok(show_breaks(rt, encoding, &values)?);
     }
-    Ok(schedule)
+    let file = what.strip_prefix("games of ").unwrap_or("nothing");
+    let values = values_of(rt, league, encoding, file)?;
+    Ok(show_games(rt, &decode(rt.alloc(), encoding, &values)?)?)
+}
+
+/// The shadow of the season of a file, or nothing true.
+fn values_of(
+    rt: &(impl AllocGlobal + Files),
+    league: &League,
+    encoding: &Encoding,
+    file: &str,
+) -> Result<Assignment>
+    requires { encoding.now ≡ league.now }
+    ensures { IfOk result (λ values. length values ≡ var_count encoding.now) }
+{
+    if file == "nothing" {
+        return Ok(Assignment::new(rt.alloc(), encoding.vars())?);
+    }
+    let season = season_of(rt, league, file)?;
+    Ok(shadow(rt.alloc(), encoding, &season)?)
+}
+
+/// The season of a file.
+fn season_of(rt: &(impl AllocGlobal + Files), league: &League, file: &str) -> Result<Schedule>
+    ensures { IfOk result (λ season. All (IsGame league.now.n) season) }
+{
+    let bytes = bytes_of(rt, file)?;
+    Ok(read_solution(rt.alloc(), &bytes, league)?)
 }
 
 /// Shows games, one a line.
-fn show_games(rt: &impl Print, schedule: &Schedule) -> Result<()> {
-    for game in schedule.games() {
+fn show_games(rt: &impl Print, season: &Schedule) -> io::Result<()> {
+    for game in season.games() {
         let (home, away, slot) = (game.home.0, game.away.0, game.slot.0);
         println!(rt; "{home} {away} {slot}")?;
     }
@@ -90,16 +69,15 @@ fn show_games(rt: &impl Print, schedule: &Schedule) -> Result<()> {
 
 /// Shows the variables of breaks that are true.
 fn show_breaks(
-    rt: &impl Print,
-    alloc: Global,
+    rt: &(impl AllocGlobal + Print),
     encoding: &Encoding,
     values: &Assignment,
-) -> Result<()>
+) -> io::Result<()>
     requires { length values.now ≡ var_count encoding.now }
 {
     for var in 97..encoding.vars() + 1 {
         if values.value(var) {
-            show_variable(rt, alloc, encoding, var)?;
+            show_variable(rt, encoding, var)?;
         }
     }
     Ok(())

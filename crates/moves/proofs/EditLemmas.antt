@@ -2,17 +2,18 @@
 use Rattle.std.proofs.Common.{◌≡◌, ◌≢◌, ℕ, ◌+◌, ◌<◌, ◌≤◌, Bool, true, false, ◌&&◌, ◌||◌, ◌==◌, nat_lt, if◌then◌else◌, ◌⊎◌, inl, inr, [], length, get_or, refl, arith, ap, subst, sym, ◌∙◌}
 use Rattle.std.proofs.lemmas.Bool.{cases_eq, cases_lt}
 use Rattle.std.proofs.lemmas.Bool.Decides.{nat_tests}
-use Rattle.std.proofs.lemmas.List.Elements.{All-from_get_or, Contains-get_or}
+use Rattle.std.proofs.lemmas.List.Elements.{All-from_get_or, All-nil, All-same, Contains-get_or}
 use Rattle.std.specs.List.{All}
 use Rattle.league.specs.Counts.{Counts, counts_of, slot_count}
 use Rattle.league.specs.Instance.{IsGame}
 use Rattle.league.specs.declared.game.Game.{Game}
 use Rattle.moves.specs.Moves.{do_meet, exchange, game}
 use Rattle.moves.specs.Parts.{AreExchangedBelow, AreTradedBelow, slots_exchanged, teams_exchanged}
-use Rattle.moves.specs.Round.{Edits, IsEdit}
+use Rattle.moves.specs.Places.{IsRound}
+use Rattle.moves.specs.Round.{Edits, IsEdit, Round, round_counts}
 use Rattle.moves.proofs.PlacedLemmas.{counted_in}
-use Rattle.moves.proofs.PlayLemmas.{IsPlayed, met-itself}
-use Rattle.moves.proofs.RoundLemmas.{IsWithin}
+use Rattle.moves.proofs.PlayLemmas.{IsPlayed, met-itself, played}
+use Rattle.moves.proofs.RoundLemmas.{IsWithin, IsWithin-of}
 use Rattle.moves.proofs.SumLemmas.{exchange-first, exchange-other, exchange-second}
 
 -- a step of a list of the games to be taken out
@@ -135,6 +136,17 @@ fit-of n phased before after edit is played within =
     let some : 1 ≤ counts_of edit.into g.home.0 g.away.0 g.slot.0 = counted_in edit.into g (Contains-get_or edit.into k (game 0 0 0) lt) in
     let there : 1 ≤ after g.home.0 g.away.0 g.slot.0 = omega (arith, some, is.moves g.home.0 g.away.0 g.slot.0, is.there g.home.0 g.away.0 g.slot.0) in
     IsGame-of n phased after g played within there)
+
+-- and so are those taken out, on a board, where no edit is made too
+pub out_fit-of : (r : Round) (after : Counts) (result : Bool) (edit : Edits) → IsRound r → (result ≡ true → IsEdit (round_counts r) after edit) → (result ≡ false → (edit.out ≡ []) × (edit.into ≡ [])) → All (IsGame r.n) edit.out
+out_fit-of r after true edit round change none =
+    let is : IsEdit (round_counts r) after edit = change refl in
+    All-from_get_or (IsGame r.n) edit.out (game 0 0 0) (λ k lt.
+    let g : Game = get_or edit.out k (game 0 0 0) in
+    let some : 1 ≤ counts_of edit.out g.home.0 g.away.0 g.slot.0 = counted_in edit.out g (Contains-get_or edit.out k (game 0 0 0) lt) in
+    let there : 1 ≤ round_counts r g.home.0 g.away.0 g.slot.0 = omega (arith, some, is.there g.home.0 g.away.0 g.slot.0) in
+    IsGame-of r.n r.phased (round_counts r) g (played r.n r.phased (round_counts r) round.round_robin) (IsWithin-of r round.table) there)
+out_fit-of r after false edit round change none = All-same (IsGame r.n) edit.out [] (none refl).0 (All-nil (IsGame r.n))
 
 -- a step of the games that two teams trade
 pub record IsTrade (m : Counts) (i j k : ℕ) (old new : Edits) : Type 0 where

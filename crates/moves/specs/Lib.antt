@@ -16,6 +16,8 @@ pub mod MoveList
 -- What moves of slots, and moves of teams, have in common, and what is answered of them:
 pub mod Parts
 pub mod Outcome
+-- Room for the games that an edit holds:
+pub mod Room
 -- Walks that mark the least sets:
 pub mod Walks
 -- The moves still to come:

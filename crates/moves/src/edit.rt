@@ -5,8 +5,8 @@ use league::Game;
 use std::alloc::{AllocError, Global};
 use std::marker::Model;
 
-/// The games that a move takes out of a board of n teams, and those that it puts in, with room for 4n of each. It is
-/// `edit_of` that fills it, with no game in both lists.
+/// The games that a move takes out of a board of n teams, and those that it puts in, with room for 4n of each. There are
+/// as many of both. It is `edit_of` that fills it, with no game in both lists.
 #[derive(Drop)]
 pub struct Edit {
     n: u16,
@@ -15,14 +15,15 @@ pub struct Edit {
 }
 
 impl Model for Edit {
-    ghost use Rattle.std.specs.Prelude.{◌≤◌, ◌*◌, vec_capacity};
+    ghost use Rattle.std.specs.Prelude.{vec_capacity};
+    ghost use Rattle.moves.specs.Room.{HasRoom};
     ghost use Rattle.moves.specs.Round.{Edits};
 
     ghost Value = { Edits };
 
     ghost view = { λ e. record { n = e.n; out = e.out.items; into = e.into.items } };
 
-    ghost invariant = { λ e. (4 * e.n ≤ vec_capacity e.out) × (4 * e.n ≤ vec_capacity e.into) };
+    ghost invariant = { λ e. HasRoom e.n (vec_capacity e.out) (vec_capacity e.into) e.out.items e.into.items };
 }
 
 impl Edit {
@@ -43,7 +44,10 @@ impl Edit {
 
     /// The games that are taken out.
     pub fn out(&self) -> &[Game]
-        ensures { result.now ≡ self.now.out }
+        ensures games { result.now ≡ self.now.out }
+
+        // As many are put in, so that an edit leaves the number of games.
+        ensures as_many { length self.now.into ≡ length self.now.out }
     {
         &self.out
     }

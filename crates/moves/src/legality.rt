@@ -33,9 +33,11 @@ pub fn edit_of(step: &Swap, board: &Board, edit: &mut Edit) -> bool
     ensures edit { result ≡ true
         → IsEdit (round_counts board.now) (moved board.now.n (round_counts board.now) step.now) edit.new }
     ensures apart { AreApart edit.new }
+    ensures out_fit { All (IsGame board.now.n) edit.new.out }
     ensures fit { All (IsGame board.now.n) edit.new.into }
     ensures none { result ≡ false → (edit.new.out ≡ []) × (edit.new.into ≡ []) }
 {
+    let _round = board.n();
     edit.clear();
     match *step {
         Swap::HomeSwap { i, j } => home_swap(board, i, j, edit),

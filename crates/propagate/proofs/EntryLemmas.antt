@@ -146,6 +146,22 @@ quiet_below-add rows new row es is below calm =
     subst (λ (rs : List Row). IsQuietBelow rs es) (sym is)
     (λ k d within decision. All-push (IsQuietRow (values_of (take k es))) rows row (below k d within decision) (calm k d within decision))
 
+-- ---- the same of one row
+
+abbrev QuietRowBefore : Row → List Entry → Entry → Type 0
+QuietRowBefore row before e = is_decision e ≡ true → IsQuietRow (values_of before) row
+
+pub quiet_row_below-grown : (row : Row) (old now : List Entry) → IsGrown old now → IsQuietRowBelow row old → IsQuietRowBelow row now
+quiet_row_below-grown row old now grown quiet =
+    each-grown (QuietRowBefore row) old now grown quiet (λ before e forced decision. absurd (false≢true (sym forced ∙ decision)))
+
+pub quiet_row_below-push : (row : Row) (old : List Entry) (e : Entry) → IsQuietRow (values_of old) row → IsQuietRowBelow row old → IsQuietRowBelow row (old ++ e ∷ [])
+quiet_row_below-push row old e quiet below = each-push (QuietRowBefore row) old e below (λ decision. quiet)
+
+pub quiet_row_below-back : (row : Row) (level : ℕ) (old now : List Entry) → IsBackTo level old now → IsQuietRowBelow row old → IsQuietRowBelow row now
+quiet_row_below-back row level old now back below =
+    subst (λ (es : List Entry). IsQuietRowBelow row es) (sym back.front) (each-take (QuietRowBefore row) old (length now) back.shorter below)
+
 -- ---- entries that are taken off, one by one
 
 -- down to a level or less
@@ -168,10 +184,10 @@ one_at_most true = omega arith
 one_at_most false = omega arith
 
 -- the level of one entry more
-level_of-more : (es : List Entry) (k : ℕ) (d : Entry) → k < length es → level_of (take (k + 1) es) ≡ level_of (take k es) + cond (is_decision (get_or es k d)) 1 0
+pub level_of-more : (es : List Entry) (k : ℕ) (d : Entry) → k < length es → level_of (take (k + 1) es) ≡ level_of (take k es) + cond (is_decision (get_or es k d)) 1 0
 level_of-more es k d within = ap level_of (take_more es k d within) ∙ level_of-push (take k es) (get_or es k d)
 
-no_entry : Entry
+pub no_entry : Entry
 no_entry = record { lit = record { var = 0; positive = true }; level = 0; reason = None }
 
 -- there is an entry where there is a decision
@@ -211,3 +227,46 @@ IsBackTo-end level old now back at_most = record {
       decides (is_decision (get_or old (length now) d)) level
       (omega (arith, back.above less, level_is, level_of-more old (length now) d less));
 }
+
+-- ---- what is left
+
+-- fewer decisions are fewer entries
+pub IsBackTo-less : (level : ℕ) (old now : List Entry) → IsBackTo level old now → level < level_of old → length now < length old
+IsBackTo-less level old now back less =
+    elim (cases_lt (length now) (length old)) [
+      | inl below ↦ below
+      | inr all ↦ absurd (omega (arith, back.level_is, ap level_of (back.front ∙ take_all (length now) old all)))
+    ]
+
+-- the rows were quiet where they were so before each decision
+pub quiet-back : (rows : List Row) (level : ℕ) (old now : List Entry) → IsBackTo level old now → level < level_of old → IsQuietBelow rows old → IsQuiet (values_of now) rows
+quiet-back rows level old now back less below =
+    let shorter : length now < length old = IsBackTo-less level old now back less in
+    subst (λ (es : List Entry). IsQuiet (values_of es) rows) (sym back.front) (below (length now) no_entry shorter (back.next no_entry shorter))
+
+pub quiet_row-back : (row : Row) (level : ℕ) (old now : List Entry) → IsBackTo level old now → level < level_of old → IsQuietRowBelow row old → IsQuietRow (values_of now) row
+quiet_row-back row level old now back less below =
+    let shorter : length now < length old = IsBackTo-less level old now back less in
+    subst (λ (es : List Entry). IsQuietRow (values_of es) row) (sym back.front) (below (length now) no_entry shorter (back.next no_entry shorter))
+
+-- nothing was taken off
+pub IsBackTo-none : (level : ℕ) (es : List Entry) → level ≡ level_of es → IsBackTo level es es
+IsBackTo-none level es is = record {
+  shorter = omega arith;
+  front = sym (take_all (length es) es (omega arith));
+  level_is = sym is;
+  next = λ d less. absurd (omega arith);
+}
+
+-- at level 0 there is no decision
+pub none_decided : (es : List Entry) (k : ℕ) (d : Entry) → level_of es ≡ 0 → k < length es → is_decision (get_or es k d) ≡ true → ⊥
+none_decided es k d none within decided =
+    absurd (omega (
+      arith,
+      level_of-more es k d within,
+      ap {B = ℕ} (λ (b : Bool). cond b 1 0) decided,
+      level_of-take_le es (k + 1),
+    ))
+
+pub quiet_row_below-none : (row : Row) (es : List Entry) → level_of es ≡ 0 → IsQuietRowBelow row es
+quiet_row_below-none row es none = λ k d within decided. absurd (none_decided es k d none within decided)

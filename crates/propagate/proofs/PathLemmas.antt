@@ -1,9 +1,9 @@
 -- The table of values through an entry more or less.
-use Rattle.std.proofs.Common.{◌≡◌, ℕ, zero, suc, ◌+◌, ◌-◌, ◌*◌, ◌<◌, ◌≤◌, ◌^◌, Bool, true, false, cond, List, [], ◌∷◌, ◌++◌, length, get_or, take, replicate}
+use Rattle.std.proofs.Common.{◌≡◌, ◌≢◌, ℕ, zero, suc, ◌+◌, ◌-◌, ◌*◌, ◌<◌, ◌≤◌, ◌^◌, Bool, true, false, cond, List, [], ◌∷◌, ◌++◌, length, get_or, take, replicate}
 use Rattle.std.proofs.Common.{refl, inl, inr, arith, ap, sym, subst, ◌∙◌}
 use Rattle.std.specs.Prelude.{slice_set}
 use Rattle.std.proofs.lemmas.Bool.{cases_eq}
-use Rattle.std.proofs.lemmas.List.{length-replicate, length-set, length_push, length-take-le, take_all, take_more}
+use Rattle.std.proofs.lemmas.List.{get_or_append_left, get_or_push, get_or-set_other, get_or-set_same, get_or-take, length-replicate, length-set, length_push, length-take-le, take_all, take_more}
 use Rattle.std.proofs.lemmas.List.Sums.{sum_by-cons, sum_by-le, sum_by-set}
 use mathlib.Core.Path.{fun_ext}
 use Rattle.rows.specs.Forcing.{set_true}
@@ -14,10 +14,11 @@ use Rattle.rows.specs.declared.partial.Value.{Value}
 use Rattle.rows.specs.declared.partial.Value.TheVariants.{True, False, Free}
 use Rattle.rows.proofs.TrailLemmas.{valued-at, valued-none, valued-set, valued-set_other, valued-set_same}
 use Rattle.propagate.specs.Trails.{EachEntry, IsNew, level_of, values_of}
-use Rattle.propagate.specs.Paths.{AreKept, SeenPath, one_if_set, set_count}
+use Rattle.propagate.specs.Counters.{SeenCounters}
+use Rattle.propagate.specs.Paths.{AreKept, AreStanding, IsPath, IsPlaceOf, SeenPath, one_if_set, set_count, with_entries}
 use Rattle.propagate.specs.declared.entry.Entry.{Entry}
 use Rattle.propagate.proofs.EntryLemmas.{each-nil, each-push, each-take, values_of-push}
-use Rattle.propagate.proofs.ValueLemmas.{free_is, is_free_var, set_true-other, set_true-same}
+use Rattle.propagate.proofs.ValueLemmas.{free_is, is_free_var, set_true-other, set_true-same, value_of-same}
 
 -- ---- how many have a value
 
@@ -73,13 +74,13 @@ AreKept-none n capacity few room = record {
   each = each-nil (IsNew (length (replicate n Free)));
 }
 
-abbrev pub path_of : List Value → List Entry → SeenPath
-path_of values es = record { vars = length values; entries = es }
+abbrev pub path_of : SeenCounters → List Entry → SeenPath
+path_of counters es = record { vars = length counters.values; rows = counters.rows; links = counters.links; entries = es }
 
 -- what a call asks of an entry, of the fields
-pub IsNew-inside : (values : List Value) (es : List Entry) (p : SeenPath) (e : Entry) → path_of values es ≡ p → 1 ≤ e.lit.var → e.lit.var ≤ p.vars
-    → value_of (values_of p.entries) e.lit ≡ Free → e.level ≡ level_of (p.entries ++ e ∷ []) → IsNew (length values) es e
-IsNew-inside values es p e is from_one known free level =
+pub IsNew-inside : (counters : SeenCounters) (es : List Entry) (p : SeenPath) (e : Entry) → path_of counters es ≡ p → 1 ≤ e.lit.var → e.lit.var ≤ p.vars
+    → value_of (values_of p.entries) e.lit ≡ Free → e.level ≡ level_of (p.entries ++ e ∷ []) → IsNew (length counters.values) es e
+IsNew-inside counters es p e is from_one known free level =
     let new : IsNew p.vars p.entries e = record { from_one = from_one; known = known; free = free; level = level } in
     subst (λ (q : SeenPath). IsNew q.vars q.entries e) (sym is) new
 
@@ -180,16 +181,108 @@ AreKept-pushed values new es items e capacity more kept grows is_new new_is item
     (AreKept-push values es e capacity more kept grows is_new))
 
 -- and after one was taken off
-pub AreKept-popped : (values new : List Value) (es items : List Entry) (last var : ℕ) (e : Entry) (capacity now : ℕ) → AreKept values es capacity → last + 1 ≡ length es → e ≡ get_or es last e
-    → now ≡ capacity → var ≡ e.lit.var → new ≡ slice_set values (var - 1) Free → items ≡ take last es → AreKept new items now
-AreKept-popped values new es items last var e capacity now kept end is same var_is new_is items_are =
-    subst (λ (vs : List Value). AreKept vs items now) (sym (new_is ∙ ap (λ (v : ℕ). slice_set values (v - 1) Free) var_is))
+pub AreKept-popped : (values new : List Value) (es items : List Entry) (last : ℕ) (e : Entry) (capacity now : ℕ) → AreKept values es capacity → last + 1 ≡ length es → e ≡ get_or es last e
+    → now ≡ capacity → new ≡ slice_set values (e.lit.var - 1) Free → items ≡ take last es → AreKept new items now
+AreKept-popped values new es items last e capacity now kept end is same new_is items_are =
+    subst (λ (vs : List Value). AreKept vs items now) (sym new_is)
     (subst (λ (xs : List Entry). AreKept (slice_set values (e.lit.var - 1) Free) xs now) (sym items_are)
     (subst (λ (n : ℕ). AreKept (slice_set values (e.lit.var - 1) Free) (take last es) n) (sym same)
     (AreKept-unset values es last e capacity kept end is)))
 
-pub room_inside : (values : List Value) (es : List Entry) (p : SeenPath) (capacity : ℕ) (l : Literal) → AreKept values es capacity → path_of values es ≡ p → 1 ≤ l.var → l.var ≤ p.vars
+-- the last literal is known, and true
+pub last_true : (values : List Value) (es : List Entry) (last : ℕ) (e : Entry) (capacity : ℕ) → AreKept values es capacity → last + 1 ≡ length es → e ≡ get_or es last e
+    → (e.lit.var ≤ length values) × (value_of (valued values) e.lit ≡ True)
+last_true values es last e capacity kept end is =
+    let there : last < length es = omega arith in
+    let new : IsNew (length values) (take last es) e = subst (λ (x : Entry). IsNew (length values) (take last es) x) (sym is) (kept.each last e there) in
+    let split : es ≡ take last es ++ e ∷ [] =
+    sym (take_all (last + 1) es (omega arith)) ∙ take_more es last e there ∙ ap (λ (x : Entry). take last es ++ x ∷ []) (sym is) in
+    (new.known, ap (λ (w : ℕ → Value). value_of w e.lit) (kept.same ∙ ap values_of split ∙ values_of-push (take last es) e) ∙ value_of-same (values_of (take last es)) e.lit new.free)
+
+pub room_inside : (counters : SeenCounters) (es : List Entry) (p : SeenPath) (capacity : ℕ) (l : Literal) → AreKept counters.values es capacity → path_of counters es ≡ p → 1 ≤ l.var → l.var ≤ p.vars
     → value_of (values_of p.entries) l ≡ Free → length p.entries < p.vars
-room_inside values es p capacity l kept is from_one known free =
+room_inside counters es p capacity l kept is from_one known free =
     subst (λ (q : SeenPath). l.var ≤ q.vars → value_of (values_of q.entries) l ≡ Free → length q.entries < q.vars) is
-    (λ inside is_free. AreKept-room values es l capacity kept from_one inside is_free) known free
+    (λ inside is_free. AreKept-room counters.values es l capacity kept from_one inside is_free) known free
+
+-- a path that differs in its entries alone, and then again
+pub same_but_entries : (old mid new : SeenPath) (es : List Entry) → mid ≡ with_entries old mid.entries → new ≡ with_entries mid es → new ≡ with_entries old new.entries
+same_but_entries old mid new es first then =
+    then ∙ ap (λ (p : SeenPath). with_entries p es) first ∙ ap (λ (xs : List Entry). with_entries old xs) (sym (ap (λ (p : SeenPath). p.entries) then))
+
+-- ---- where the variables stand
+
+pub AreStanding-none : (n : ℕ) (places : List ℕ) → length places ≡ n → AreStanding (replicate n Free) [] places
+AreStanding-none n places is = record {
+  count = is ∙ sym (length-replicate n Free);
+  each = λ v from_one within set. absurd (set (ap (λ (w : ℕ → Value). w v) (valued-none n)));
+}
+
+pub AreStanding-push : (values : List Value) (es : List Entry) (places : List ℕ) (e : Entry) (x : Value) → AreStanding values es places → 1 ≤ e.lit.var → e.lit.var ≤ length values
+    → AreStanding (slice_set values (e.lit.var - 1) x) (es ++ e ∷ []) (slice_set places (e.lit.var - 1) (length es))
+AreStanding-push values es places e x standing from_one known = record {
+  count = length-set places (e.lit.var - 1) (length es) ∙ standing.count ∙ sym (length-set values (e.lit.var - 1) x);
+  each = λ v at_least within set. elim (cases_eq v e.lit.var) [
+    | inl is ↦
+        let there : e.lit.var - 1 < length places = omega (arith, standing.count) in
+        let place : get_or (slice_set places (e.lit.var - 1) (length es)) (v - 1) 0 ≡ length es =
+        ap (λ (w : ℕ). get_or (slice_set places (e.lit.var - 1) (length es)) (w - 1) 0) is ∙ get_or-set_same places (e.lit.var - 1) (length es) 0 there in
+        subst (λ (p : ℕ). IsPlaceOf (es ++ e ∷ []) v p) (sym place) (record {
+          within = omega (arith, length_push es e);
+          var_is = λ d. ap (λ (y : Entry). y.lit.var) (get_or_push es e d (length es) refl) ∙ sym is;
+        })
+    | inr other ↦
+        let apart : v - 1 ≢ e.lit.var - 1 = λ same. other (omega arith) in
+        let had : IsPlaceOf es v (get_or places (v - 1) 0) =
+        standing.each v at_least (omega (arith, within, length-set values (e.lit.var - 1) x)) (λ free. set (valued-set_other values e.lit.var v x from_one other ∙ free)) in
+        subst (λ (p : ℕ). IsPlaceOf (es ++ e ∷ []) v p) (sym (get_or-set_other places (e.lit.var - 1) (v - 1) (length es) 0 apart)) (record {
+          within = omega (arith, had.within, length_push es e);
+          var_is = λ d. ap (λ (y : Entry). y.lit.var) (get_or_append_left es (e ∷ []) d (get_or places (v - 1) 0) had.within) ∙ had.var_is d;
+        })
+  ];
+}
+
+pub AreStanding-unset : (values : List Value) (es : List Entry) (places : List ℕ) (last : ℕ) (e : Entry) → AreStanding values es places → last + 1 ≡ length es → e ≡ get_or es last e
+    → 1 ≤ e.lit.var → e.lit.var ≤ length values → AreStanding (slice_set values (e.lit.var - 1) Free) (take last es) places
+AreStanding-unset values es places last e standing end is from_one known = record {
+  count = standing.count ∙ sym (length-set values (e.lit.var - 1) Free);
+  each = λ v at_least within set.
+      let other : v ≢ e.lit.var = λ same. set (ap (λ (w : ℕ). valued (slice_set values (e.lit.var - 1) Free) w) same ∙ valued-set_same values e.lit.var Free from_one known) in
+      let had : IsPlaceOf es v (get_or places (v - 1) 0) =
+      standing.each v at_least (omega (arith, within, length-set values (e.lit.var - 1) Free)) (λ free. set (valued-set_other values e.lit.var v Free from_one other ∙ free)) in
+      let not_last : get_or places (v - 1) 0 ≢ last = λ here. other (sym (ap (λ (y : Entry). y.lit.var) is ∙ ap (λ (k : ℕ). (get_or es k e).lit.var) (sym here) ∙ had.var_is e)) in
+      let before : get_or places (v - 1) 0 < last = omega (arith, had.within) in
+      record {
+        within = omega (arith, before, length-take-le last es (omega arith));
+        var_is = λ d. ap (λ (y : Entry). y.lit.var) (get_or-take last es (get_or places (v - 1) 0) d before) ∙ had.var_is d;
+      };
+}
+
+-- the places after an entry was added
+pub AreStanding-pushed : (values new : List Value) (es items : List Entry) (places : List ℕ) (e : Entry) (var count : ℕ) (x : Value) → AreStanding values es places → 1 ≤ e.lit.var
+    → e.lit.var ≤ length values → new ≡ slice_set values (e.lit.var - 1) x → items ≡ es ++ e ∷ [] → var ≡ e.lit.var → count ≡ length es
+    → AreStanding new items (slice_set places (var - 1) count)
+AreStanding-pushed values new es items places e var count x standing from_one known new_is items_are var_is count_is =
+    subst (λ (vs : List Value). AreStanding vs items (slice_set places (var - 1) count)) (sym new_is)
+    (subst (λ (xs : List Entry). AreStanding (slice_set values (e.lit.var - 1) x) xs (slice_set places (var - 1) count)) (sym items_are)
+    (subst (λ (v : ℕ). AreStanding (slice_set values (e.lit.var - 1) x) (es ++ e ∷ []) (slice_set places (v - 1) count)) (sym var_is)
+    (subst (λ (n : ℕ). AreStanding (slice_set values (e.lit.var - 1) x) (es ++ e ∷ []) (slice_set places (e.lit.var - 1) n)) (sym count_is)
+    (AreStanding-push values es places e x standing from_one known))))
+
+-- and after one was taken off
+pub AreStanding-popped : (values new : List Value) (es items : List Entry) (places : List ℕ) (last : ℕ) (e : Entry) (capacity : ℕ) → AreKept values es capacity → AreStanding values es places
+    → last + 1 ≡ length es → e ≡ get_or es last e → new ≡ slice_set values (e.lit.var - 1) Free → items ≡ take last es → AreStanding new items places
+AreStanding-popped values new es items places last e capacity kept standing end is new_is items_are =
+    let there : last < length es = omega arith in
+    let news : IsNew (length values) (take last es) e = subst (λ (x : Entry). IsNew (length values) (take last es) x) (sym is) (kept.each last e there) in
+    subst (λ (vs : List Value). AreStanding vs items places) (sym new_is)
+    (subst (λ (xs : List Entry). AreStanding (slice_set values (e.lit.var - 1) Free) xs places) (sym items_are)
+    (AreStanding-unset values es places last e standing end is news.from_one news.known))
+
+-- no entry yet
+pub IsPath-none : (n capacity : ℕ) (values : List Value) (es : List Entry) (places : List ℕ) → values ≡ replicate n Free → es ≡ [] → length places ≡ n → n < 2 ^ 32 → n ≤ capacity
+    → IsPath values es places capacity
+IsPath-none n capacity values es places values_are none count few room =
+    subst (λ (vs : List Value). IsPath vs es places capacity) (sym values_are)
+    (subst (λ (xs : List Entry). IsPath (replicate n Free) xs places capacity) (sym none)
+    (record { kept = AreKept-none n capacity few room; standing = AreStanding-none n places count }))

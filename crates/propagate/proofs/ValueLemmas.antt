@@ -58,16 +58,16 @@ sum_by-agree f g [] agree = refl
 sum_by-agree f g (x ∷ xs) agree =
     omega (arith, sum_by-cons f x xs, sum_by-cons g x xs, agree 0 x (omega arith), sum_by-agree f g xs (λ k d within. agree (suc k) d (omega arith)))
 
-abbrev open_coef : (ℕ → Value) → Term → ℕ
+abbrev pub open_coef : (ℕ → Value) → Term → ℕ
 open_coef values t = cond (is_false (value_of values t.lit)) 0 t.coef
 
-open_kept : (coef : ℕ) (v w : Value) → v ≡ True → w ≡ Free → cond (is_false v) 0 coef ≡ cond (is_false w) 0 coef
+pub open_kept : (coef : ℕ) (v w : Value) → v ≡ True → w ≡ Free → cond (is_false v) 0 coef ≡ cond (is_false w) 0 coef
 open_kept coef v w is was = ap (λ (x : Value). cond (is_false x) 0 coef) is ∙ sym (ap (λ (x : Value). cond (is_false x) 0 coef) was)
 
 abbrev pub AreApart : List Term → Type 0
 AreApart terms = AllPairs (λ t u. t.lit.var ≢ u.lit.var) terms
 
-apart_at : (terms : List Term) (j k : ℕ) (d : Term) → AreApart terms → j < length terms → k < length terms → j ≢ k → (get_or terms j d).lit.var ≢ (get_or terms k d).lit.var
+pub apart_at : (terms : List Term) (j k : ℕ) (d : Term) → AreApart terms → j < length terms → k < length terms → j ≢ k → (get_or terms j d).lit.var ≢ (get_or terms k d).lit.var
 apart_at terms j k d apart inside there differ =
     elim (cases_lt j k) [
       | inl before ↦ apart j k d before there
@@ -79,7 +79,7 @@ coef_own values t u same free =
     subst (λ (s : Term). open_coef (set_true values t.lit) s ≡ open_coef values s) same
     (open_kept t.coef (value_of (set_true values t.lit) t.lit) (value_of values t.lit) (value_of-same values t.lit free) free)
 
-coef_other : (values : ℕ → Value) (l : Literal) (u : Term) → u.lit.var ≢ l.var → open_coef (set_true values l) u ≡ open_coef values u
+pub coef_other : (values : ℕ → Value) (l : Literal) (u : Term) → u.lit.var ≢ l.var → open_coef (set_true values l) u ≡ open_coef values u
 coef_other values l u other = ap (λ (v : Value). cond (is_false v) 0 u.coef) (value_of-other values l u.lit other)
 
 -- a row's reach stays where one of its literals becomes true

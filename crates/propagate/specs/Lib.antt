@@ -4,6 +4,12 @@
 pub mod Trails
 -- Kept inside (laws, and how fields are seen):
 --
--- How a trail keeps its literals, and its rows:
+-- Rows by their places, and the rows in which a literal stands:
+pub mod Numbered
+pub mod Links
+-- The reaches of rows, and how a trail keeps its literals:
+pub mod Tables
+pub mod Counters
 pub mod Paths
-pub mod Passes
+-- What looks at rows leave:
+pub mod Looks

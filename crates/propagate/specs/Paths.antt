@@ -1,16 +1,20 @@
 -- How a trail keeps its literals.
-use Rattle.std.specs.Prelude.{◌≡◌, ℕ, ◌≤◌, ◌<◌, ◌^◌, [], List, length, if◌then◌else◌, slice_index_or}
+use Rattle.std.specs.Prelude.{◌≡◌, ◌≢◌, ℕ, ◌-◌, ◌≤◌, ◌<◌, ◌^◌, List, length, slice_index_or, if◌then◌else◌}
 use Rattle.std.specs.List.{sum_by}
 use Rattle.rows.specs.Rows.{Row}
 use Rattle.rows.specs.Partials.{is_free}
 use Rattle.rows.specs.Values.{valued}
 use Rattle.rows.specs.declared.partial.Value.{Value}
+use Rattle.rows.specs.declared.partial.Value.TheVariants.{Free}
 use Rattle.propagate.specs.declared.entry.Entry.{Entry}
+use Rattle.propagate.specs.declared.link.Link.{Link}
 use Rattle.propagate.specs.Trails.{EachEntry, IsNew, values_of}
 
--- the number of variables, and the entries
+-- the number of variables, the rows, how the rows are found in which a literal stands, and the entries
 pub record SeenPath : Type 0 where
   pub vars : ℕ
+  pub rows : List Row
+  pub links : List Link
   pub entries : List Entry
 
 -- 1 for a value, 0 where a variable is free
@@ -29,6 +33,20 @@ pub record AreKept (values : List Value) (entries : List Entry) (capacity : ℕ)
   pub room : length values ≤ capacity
   pub each : EachEntry (IsNew (length values)) entries
 
--- the row at a place, from 0
-abbrev pub row_at : List Row → ℕ → Row
-row_at rows k = slice_index_or rows k (record { terms = []; degree = 0 })
+-- the place of the entry that gave a variable its value
+pub record IsPlaceOf (entries : List Entry) (v place : ℕ) : Type 0 where
+  pub within : place < length entries
+  pub var_is : (d : Entry) → (slice_index_or entries place d).lit.var ≡ v
+
+-- for each variable that has a value the place of its entry
+pub record AreStanding (values : List Value) (entries : List Entry) (places : List ℕ) : Type 0 where
+  pub count : length places ≡ length values
+  pub each : (v : ℕ) → 1 ≤ v → v ≤ length values → valued values v ≢ Free → IsPlaceOf entries v (slice_index_or places (v - 1) 0)
+
+pub record IsPath (values : List Value) (entries : List Entry) (places : List ℕ) (capacity : ℕ) : Type 0 where
+  pub kept : AreKept values entries capacity
+  pub standing : AreStanding values entries places
+
+-- the same with other entries
+abbrev pub with_entries : SeenPath → List Entry → SeenPath
+with_entries path es = record path { entries = es }

@@ -5,10 +5,15 @@
 //! in their order. `specs/Trails.antt` says what these mean.
 #![tactic(auto)]
 
+mod calm;
+mod counters;
 mod entry;
+mod force;
+mod link;
 mod numbered;
-mod pass;
 mod path;
+mod settle;
+mod table;
 mod trail;
 
 pub use entry::{Conflict, Entry};

@@ -3,7 +3,7 @@ ghost use Rattle.std.specs.Prelude.{◌≡◌, ◌≢◌, ◌^◌, ◌<◌, ◌+
 ghost use Rattle.std.specs.List.{All, AllPairs};
 ghost use Rattle.rows.specs.Cardinality.{at_least};
 ghost use Rattle.rows.specs.Rows.{IsRow};
-ghost use Rattle.propagate.specs.Paths.{row_at};
+ghost use Rattle.propagate.specs.Numbered.{row_at};
 
 use rows::{Lit, RowStore, Term};
 use std::alloc::{AllocError, Global};

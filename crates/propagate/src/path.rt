@@ -1,44 +1,125 @@
-//! The entries of a trail, with the values that they give.
-ghost use Rattle.std.specs.Prelude.{◌≡◌, ◌+◌, ◌-◌, ◌*◌, ◌^◌, ◌<◌, ◌≤◌, ◌++◌, [], ◌∷◌, length, take, Some, None, slice_get, IfOk};
-ghost use Rattle.std.specs.List.{All};
+//! The entries of a trail, over rows under the values that they give.
+ghost use Rattle.std.specs.Prelude.{◌≡◌, ◌≢◌, ◌+◌, ◌-◌, ◌^◌, ◌<◌, ◌≤◌, ◌++◌, [], ◌∷◌, length, take, true, Some, None};
+ghost use Rattle.std.specs.Prelude.{slice_get, slice_index_or, IfOk, OnOk, OnErr};
+ghost use Rattle.std.specs.List.{All, AllPairs};
+ghost use Rattle.rows.specs.Cardinality.{at_least};
 ghost use Rattle.rows.specs.Partials as partials;
-ghost use Rattle.rows.specs.Partials.{value_of};
+ghost use Rattle.rows.specs.Partials.{IsQuietRow, value_of};
 ghost use Rattle.rows.specs.Literals.{Literal};
-ghost use Rattle.propagate.specs.Trails.{IsBackTo, level_of, values_of};
+ghost use Rattle.rows.specs.Rows.{IsRow};
+ghost use Rattle.propagate.specs.declared.entry.Entry.{Entry as AnEntry};
+ghost use Rattle.propagate.specs.Links.{LeadsBelow};
+ghost use Rattle.propagate.specs.Numbered.{row_at};
+ghost use Rattle.propagate.specs.Trails.{IsBackTo, KnowsVariables, level_of, values_of};
 
+use crate::counters::Counters;
 use crate::entry::Entry;
-use rows::{Lit, Partial, Term, Value};
+use crate::link::Link;
+use rows::{Lit, RowStore, Term, Value};
 use std::alloc::{AllocError, Global};
 use std::marker::Model;
 
-/// The entries, and the value of each variable: seen as the number of variables and the entries.
+/// The entries, and the rows under the values that they give: seen as the number of variables, the rows, the links to
+/// them, and the entries.
 #[derive(Drop)]
-pub(crate) struct Path {
-    values: Partial,
+pub(crate) struct Path<'a> {
+    counters: Counters<'a>,
     entries: Vec<Entry>,
+    /// For each variable that has a value the place of its entry.
+    places: Vec<usize>,
 }
 
-impl Model for Path {
+impl<'a> Model for Path<'a> {
     ghost use Rattle.std.specs.Prelude.{length};
-    ghost use Rattle.propagate.specs.Paths.{AreKept, SeenPath};
+    ghost use Rattle.propagate.specs.Paths.{IsPath, SeenPath};
     ghost use Rattle.std.specs.Vec.{vec_capacity};
 
     ghost Value = { SeenPath };
 
-    ghost view = { λ p. record { vars = length p.values; entries = p.entries.items } };
+    ghost view = { λ p. record {
+      vars = length p.counters.values;
+      rows = p.counters.rows;
+      links = p.counters.links;
+      entries = p.entries.items;
+    } };
 
-    ghost invariant = { λ p. AreKept p.values p.entries.items (vec_capacity p.entries) };
+    ghost invariant = { λ p. IsPath p.counters.values p.entries.items p.places.items (vec_capacity p.entries) };
 }
 
-impl Path {
-    /// So many variables, all of them free.
-    pub(crate) fn new(alloc: Global, vars: u32) -> Result<Path, AllocError>
-        ensures { IfOk result (λ path. path ≡ record { vars = vars; entries = [] }) }
+impl<'a> Path<'a> {
+    /// These rows, with so many variables, all of them free.
+    pub(crate) fn new(alloc: Global, given: &'a RowStore, vars: u32) -> Result<Path<'a>, AllocError>
+        requires { All (KnowsVariables vars) given.now }
+        ensures vars { IfOk result (λ path. path.vars ≡ vars) }
+        ensures rows { IfOk result (λ path. path.rows ≡ given.now) }
+        ensures entries { IfOk result (λ path. path.entries ≡ []) }
     {
         Ok(Path {
-            values: Partial::new(alloc, vars)?,
+            counters: Counters::new(alloc, given, vars)?,
             entries: Vec::with_capacity(alloc, vars as usize)?,
+            places: vec![in alloc; 0; vars as usize]?,
         })
+    }
+
+    /// The number of rows, below 2^33.
+    pub(crate) fn row_count(&self) -> usize
+        ensures len { result ≡ length self.now.rows }
+        ensures few { result < 2 ^ 33 }
+        ensures proper { All IsRow self.now.rows }
+        ensures known { All (KnowsVariables self.now.vars) self.now.rows }
+    {
+        self.counters.len()
+    }
+
+    /// The terms of the row at place k, from 0.
+    pub(crate) fn terms(&self, k: usize) -> &[Term]
+        requires { k < length self.now.rows }
+        ensures { result.now ≡ (row_at self.now.rows k).terms }
+    {
+        self.counters.terms(k)
+    }
+
+    /// The degree of the row at place k, from 0.
+    pub(crate) fn degree(&self, k: usize) -> u64
+        requires { k < length self.now.rows }
+        ensures { result ≡ (row_at self.now.rows k).degree }
+    {
+        self.counters.degree(k)
+    }
+
+    /// What leads to the last row in which a literal stands: one above the place of its link, or 0 where there is none.
+    pub(crate) fn head(&self, lit: Lit) -> u32
+        requires { lit.var ≤ self.now.vars }
+        ensures { LeadsBelow self.now.rows self.now.links lit (length self.now.rows) result }
+    {
+        self.counters.head(lit)
+    }
+
+    /// The link to which this number leads.
+    pub(crate) fn link(&self, at: u32) -> Link
+        requires from_one { 1 ≤ at }
+        requires there { at ≤ length self.now.links }
+        ensures is { slice_get self.now.links (at - 1) ≡ Some result }
+        ensures next { LeadsBelow self.now.rows self.now.links result.term.lit result.row result.next }
+        ensures falls { result.next < at }
+    {
+        self.counters.link(at)
+    }
+
+    /// The reach of the row at place k.
+    pub(crate) fn reach(&self, k: usize) -> u64
+        requires { k < length self.now.rows }
+        ensures { result ≡ partials.reach (values_of self.now.entries) (row_at self.now.rows k).terms }
+    {
+        self.counters.reach(k)
+    }
+
+    /// Whether the reach of the row at place k is so great that it is surely quiet.
+    pub(crate) fn is_enough(&self, k: usize) -> bool
+        requires { k < length self.now.rows }
+        ensures { result ≡ true → IsQuietRow (values_of self.now.entries) (row_at self.now.rows k) }
+    {
+        self.counters.is_enough(k)
     }
 
     /// The number of entries, at most that of the variables.
@@ -79,25 +160,27 @@ impl Path {
         requires { lit.var ≤ self.now.vars }
         ensures { result ≡ value_of (values_of self.now.entries) lit }
     {
-        self.values.value(lit)
+        self.counters.value(lit)
     }
 
-    /// The reach of a row.
-    pub(crate) fn reach(&self, terms: &[Term]) -> u128
-        requires { All (λ t. t.lit.var ≤ self.now.vars) terms.now }
-        ensures reach { result ≡ partials.reach (values_of self.now.entries) terms.now }
-        ensures at_most { result ≤ 2 ^ 32 * length terms.now }
+    /// The place of the entry that gave a literal its value.
+    pub(crate) fn place(&self, lit: Lit) -> usize
+        requires known { lit.var ≤ self.now.vars }
+        requires set { value_of (values_of self.now.entries) lit ≢ Value.Free }
+        ensures within { result < length self.now.entries }
+        ensures there { (d : AnEntry) → (slice_index_or self.now.entries result d).lit.var ≡ lit.var }
     {
-        rows::reach(terms, &self.values)
+        self.places[lit.var() as usize - 1]
     }
 
     /// Makes a free literal true, at the present level, for a reason.
     pub(crate) fn force(&mut self, lit: Lit, reason: u64)
         requires known { lit.var ≤ self.old.vars }
         requires free { value_of (values_of self.old.entries) lit ≡ Value.Free }
-        ensures vars { self.new.vars ≡ self.old.vars }
-        ensures entries { self.new.entries
-            ≡ self.old.entries ++ record { lit = lit; level = level_of self.old.entries; reason = Some reason } ∷ [] }
+        ensures forced { self.new ≡ record self.old {
+          entries
+              = self.old.entries ++ record { lit = lit; level = level_of self.old.entries; reason = Some reason } ∷ [];
+        } }
         ensures from_one { 1 ≤ lit.var }
     {
         let level = self.level();
@@ -112,9 +195,10 @@ impl Path {
     pub(crate) fn decide(&mut self, lit: Lit)
         requires known { lit.var ≤ self.old.vars }
         requires free { value_of (values_of self.old.entries) lit ≡ Value.Free }
-        ensures vars { self.new.vars ≡ self.old.vars }
-        ensures entries { self.new.entries
-            ≡ self.old.entries ++ record { lit = lit; level = level_of self.old.entries + 1; reason = None } ∷ [] }
+        ensures decided { self.new ≡ record self.old {
+          entries
+              = self.old.entries ++ record { lit = lit; level = level_of self.old.entries + 1; reason = None } ∷ [];
+        } }
         ensures from_one { 1 ≤ lit.var }
     {
         // Both say why there is a next level: a variable is at least 1, and a free one leaves room.
@@ -136,9 +220,8 @@ impl Path {
         ensures set { self.new ≡ record self.old { entries = self.old.entries ++ entry ∷ [] } }
         ensures from_one { 1 ≤ entry.lit.var }
     {
-        // It says that the variable is at least 1.
-        let _var = entry.lit.var();
-        self.values.set(entry.lit);
+        self.counters.set(entry.lit);
+        self.places[entry.lit.var() as usize - 1] = self.entries.len();
         let pushed = self.entries.push(entry);
         pushed.unwrap();
     }
@@ -149,19 +232,34 @@ impl Path {
         ensures { self.new ≡ record self.old { entries = take (length self.old.entries - 1) self.old.entries } }
     {
         let last = self.entries.len() - 1;
-        let var = self.entries[last].lit.var();
+        let lit = self.entries[last].lit;
         self.entries.truncate(last);
-        self.values.unset(var);
+        self.counters.unset(lit);
     }
 
     /// Takes off the entries of later levels than this one.
     pub(crate) fn back_to(&mut self, level: u32)
         requires { level ≤ level_of self.old.entries }
-        ensures vars { self.new.vars ≡ self.old.vars }
+        ensures same { self.new ≡ record self.old { entries = self.new.entries } }
         ensures back { IsBackTo level self.old.entries self.new.entries }
     {
         'levels: while self.level() > level {
             self.unset();
         }
+    }
+
+    /// Adds a clause behind the rows.
+    ///
+    /// # Errors
+    /// Only where memory runs out, or there would be 2^32 rows or terms: then nothing changes.
+    pub(crate) fn add(&mut self, clause: &[Lit]) -> Result<(), AllocError>
+        requires known { All (λ l. l.var ≤ self.old.vars) clause.now }
+        requires variables { AllPairs (λ l m. l.var ≢ m.var) clause.now }
+        ensures rows { OnOk result (self.new.rows ≡ self.old.rows ++ at_least 1 clause.now ∷ []) }
+        ensures vars { self.new.vars ≡ self.old.vars }
+        ensures entries { self.new.entries ≡ self.old.entries }
+        ensures err { OnErr result (self.new ≡ self.old) }
+    {
+        self.counters.add(clause)
     }
 }

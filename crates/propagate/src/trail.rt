@@ -1,16 +1,18 @@
 //! The trail.
-ghost use Rattle.std.specs.Prelude.{◌≡◌, ◌≢◌, ◌+◌, ◌-◌, ◌<◌, ◌≤◌, ◌++◌, ◌==◌, [], ◌∷◌, length, Some, None, slice_get, IfSome, IfOk, OnOk, OnErr};
+ghost use Rattle.std.specs.Prelude.{◌≡◌, ◌≢◌, ◌+◌, ◌-◌, ◌^◌, ◌<◌, ◌≤◌, ◌++◌, ◌==◌, ◌⊎◌, [], ◌∷◌, length, true, Some, None};
+ghost use Rattle.std.specs.Prelude.{slice_get, slice_index_or, IfSome, IfOk, OnOk, OnErr};
 ghost use Rattle.std.specs.List.{All, AllPairs};
 ghost use Rattle.rows.specs.Cardinality.{at_least};
 ghost use Rattle.rows.specs.Partials.{IsQuiet, value_of};
 ghost use Rattle.rows.specs.Rows.{IsRow};
+ghost use Rattle.propagate.specs.declared.entry.Entry.{Entry as AnEntry};
 ghost use Rattle.propagate.specs.Trails.{AreLawful, IsBackTo, IsGrown, IsQuietBelow, IsQuietRowBelow, IsSettled};
 ghost use Rattle.propagate.specs.Trails.{KnowsVariables, level_of, values_of};
 
+use crate::calm::is_calm;
 use crate::entry::{Conflict, Entry};
-use crate::numbered::NumberedRows;
-use crate::pass::settle;
 use crate::path::Path;
+use crate::settle::{Looked, settle};
 use rows::{Lit, RowStore, Term, Value};
 use std::alloc::{AllocError, Global};
 use std::marker::Model;
@@ -21,19 +23,21 @@ use std::marker::Model;
 /// with the clauses behind them, and the entries. Only `new` and `add` take memory.
 #[derive(Drop)]
 pub struct Trail<'a> {
-    rows: NumberedRows<'a>,
-    path: Path,
+    path: Path<'a>,
+    looked: Looked,
+    /// So many rows, from the first one, were quiet before each decision.
+    settled: usize,
 }
 
 impl<'a> Model for Trail<'a> {
     ghost use Rattle.propagate.specs.Trails.{SeenTrail};
-    ghost use Rattle.propagate.specs.Passes.{AreSound};
+    ghost use Rattle.propagate.specs.Looks.{IsTrail};
 
     ghost Value = { SeenTrail };
 
-    ghost view = { λ t. record { vars = t.path.vars; rows = t.rows; entries = t.path.entries } };
+    ghost view = { λ t. record { vars = t.path.vars; rows = t.path.rows; entries = t.path.entries } };
 
-    ghost invariant = { λ t. AreSound t.rows t.path };
+    ghost invariant = { λ t. IsTrail t.path t.looked t.settled };
 }
 
 impl<'a> Trail<'a> {
@@ -45,10 +49,17 @@ impl<'a> Trail<'a> {
         requires { All (KnowsVariables vars) rows.now }
         ensures { IfOk result (λ trail. trail ≡ record { vars = vars; rows = rows.now; entries = [] }) }
     {
-        let path = Path::new(alloc, vars)?;
-        let rows = NumberedRows::new(alloc, rows);
-        let _len = rows.len();
-        Ok(Trail { rows, path })
+        let path = Path::new(alloc, rows, vars)?;
+        let settled = path.row_count();
+        let looked = Looked {
+            entries: 0,
+            rows: 0,
+        };
+        Ok(Trail {
+            path,
+            looked,
+            settled,
+        })
     }
 
     /// Makes literals true that rows or clauses force, until none forces one: then the answer is None. Or one of them
@@ -60,7 +71,7 @@ impl<'a> Trail<'a> {
         ensures found { IsSettled self.new.rows (values_of self.new.entries) result }
         ensures below { IsQuietBelow self.old.rows self.old.entries → IsQuietBelow self.new.rows self.new.entries }
     {
-        settle(&self.rows, &mut self.path)
+        settle(&mut self.path, &mut self.looked)
     }
 
     /// Makes a free literal true that nothing forces: it begins the next level.
@@ -74,6 +85,8 @@ impl<'a> Trail<'a> {
             ≡ self.old.entries ++ record { lit = lit; level = level_of self.old.entries + 1; reason = None } ∷ [] }
         ensures below { IsQuietBelow self.old.rows self.old.entries → IsQuietBelow self.new.rows self.new.entries }
     {
+        // The rows are quiet, so nothing waits to be looked at.
+        self.looked.entries = self.path.len();
         self.path.decide(lit);
     }
 
@@ -84,14 +97,26 @@ impl<'a> Trail<'a> {
         ensures rows { self.new.rows ≡ self.old.rows }
         ensures back { IsBackTo level self.old.entries self.new.entries }
         ensures below { IsQuietBelow self.old.rows self.old.entries → IsQuietBelow self.new.rows self.new.entries }
+
+        // Where a level was taken off the rows are quiet at the one that is left, if they were before each decision.
+        ensures quiet { IsQuietBelow self.old.rows self.old.entries → level < level_of self.old.entries
+            → IsQuiet (values_of self.new.entries) self.new.rows }
     {
+        if level >= self.path.level() {
+            return;
+        }
         self.path.back_to(level);
+        self.looked = Looked {
+            entries: self.path.len(),
+            rows: self.settled,
+        };
+        self.settled = settled_at(level, self.settled, self.path.row_count());
     }
 
     /// Adds a clause behind the rows, and gives its number. No literal is made true.
     ///
     /// # Errors
-    /// Only where memory runs out, or 2^32 - 1 clauses are there: then nothing changes.
+    /// Only where memory runs out, or there would be 2^32 rows, or 2^32 terms: then nothing changes.
     pub fn add(&mut self, clause: &[Lit]) -> Result<u64, AllocError>
         requires known { All (λ l. l.var ≤ self.old.vars) clause.now }
         requires variables { AllPairs (λ l m. l.var ≢ m.var) clause.now }
@@ -103,8 +128,11 @@ impl<'a> Trail<'a> {
         ensures below { OnOk result (IsQuietBelow self.old.rows self.old.entries
             → IsQuietRowBelow (at_least 1 clause.now) self.old.entries → IsQuietBelow self.new.rows self.new.entries) }
     {
-        self.rows.add(clause)?;
-        Ok(self.rows.len() as u64)
+        let count = self.path.row_count();
+        let calm = is_calm(&self.path, clause);
+        self.path.add(clause)?;
+        self.settled = settled_with(calm, self.settled, count);
+        Ok(count as u64 + 1)
     }
 
     /// The value of a literal.
@@ -150,6 +178,16 @@ impl<'a> Trail<'a> {
         self.path.entry(k)
     }
 
+    /// The place, from 0, at which a literal that has a value, or its negation, was made true.
+    pub fn place(&self, lit: Lit) -> usize
+        requires known { lit.var ≤ self.now.vars }
+        requires set { value_of (values_of self.now.entries) lit ≢ Value.Free }
+        ensures within { result < length self.now.entries }
+        ensures there { (d : AnEntry) → (slice_index_or self.now.entries result d).lit.var ≡ lit.var }
+    {
+        self.path.place(lit)
+    }
+
     /// The terms of the row or clause with a number, from 1. An added clause stands as its literals, each with
     /// coefficient 1.
     pub fn terms(&self, number: u64) -> &[Term]
@@ -157,6 +195,25 @@ impl<'a> Trail<'a> {
         requires there { number ≤ length self.now.rows }
         ensures { IfSome (slice_get self.now.rows (number - 1)) (λ row. result.now ≡ row.terms) }
     {
-        self.rows.terms(number as usize - 1)
+        self.path.terms(number as usize - 1)
+    }
+}
+
+/// How many rows were quiet before each decision, at this level: at level 0 there is none.
+fn settled_at(level: u32, settled: usize, count: usize) -> usize
+    ensures { (result ≡ settled) ⊎ ((level ≡ 0) × (result ≡ count)) }
+{
+    if level == 0 { count } else { settled }
+}
+
+/// How many rows were quiet before each decision, with one more row that was so or not.
+fn settled_with(calm: bool, settled: usize, count: usize) -> usize
+    requires { count < 2 ^ 33 }
+    ensures { (result ≡ settled) ⊎ ((calm ≡ true) × (settled ≡ count) × (result ≡ count + 1)) }
+{
+    if calm && settled == count {
+        count + 1
+    } else {
+        settled
     }
 }

@@ -1,4 +1,6 @@
 //! Commands over the files of the machine, and over files in memory.
+ghost use Rattle.std.specs.Prelude.{◌≤◌, vec_len};
+
 use answers::code;
 use robin_io::{HostShelf, HostSink, MemShelf, MemSink, put_all, read_all};
 use robin_run::run;
@@ -9,6 +11,34 @@ use std::rt::Files;
 
 /// The command over the two files of a store.
 pub const VALIDATE: &str = "validate instance.xml solution.xml";
+
+/// What a run wrote, and the status that it ended with.
+#[derive(Drop)]
+pub struct Ended {
+    pub text: Vec<u8>,
+    pub status: u8,
+}
+
+/// A store and a sink in memory.
+#[derive(Clone, Copy)]
+pub struct Devices {
+    /// The call of the store that fails; none has the number 0.
+    pub call: u64,
+    /// The put of the sink that fails; none has the number 0.
+    pub put: u64,
+    /// How many bytes the sink has room for.
+    pub room: usize,
+    /// How many bytes a put takes at most, if not 0.
+    pub piece: usize,
+}
+
+/// Devices that don't fail.
+pub const SOUND: Devices = Devices {
+    call: 0,
+    put: 0,
+    room: 4096,
+    piece: 4096,
+};
 
 /// The words of a line.
 fn words_of(alloc: Global, line: &str) -> Result<Vec<String>, AllocError> {
@@ -25,23 +55,44 @@ fn words_of(alloc: Global, line: &str) -> Result<Vec<String>, AllocError> {
 /// Runs the command of a line over the files of the machine, and says how it ended.
 pub fn run_line(rt: &(impl AllocGlobal + Files + Print), line: &str) -> io::Result<()> {
     println!(rt; "robin {line}")?;
-    let words = words_of(rt.alloc(), line)?;
-    let mut shelf = HostShelf::new(rt);
-    let mut out = HostSink::new(io::writer(rt));
-    let status = code(run(rt.alloc(), &words, &mut shelf, &mut out));
+    let status = status_on_machine(rt, line)?;
     println!(rt; "status {status}")
 }
 
+/// Runs the command of a line over the files of the machine, and gives the exit status.
+fn status_on_machine(
+    rt: &(impl AllocGlobal + Files + Print),
+    line: &str,
+) -> Result<u8, AllocError> {
+    let words = words_of(rt.alloc(), line)?;
+    let mut shelf = HostShelf::new(rt);
+    let mut out = HostSink::new(io::writer(rt));
+    Ok(code(run(rt.alloc(), &words, &mut shelf, &mut out)))
+}
+
 /// A store of an instance and a solution.
-pub fn store(alloc: Global, instance: &[u8], solution: &[u8]) -> Result<MemShelf, AllocError> {
+fn store(
+    alloc: Global,
+    instance: &[u8],
+    solution: &[u8],
+    call: u64,
+) -> Result<MemShelf, AllocError> {
     let mut shelf = MemShelf::new(alloc);
     shelf.add("instance.xml", instance)?;
     shelf.add("solution.xml", solution)?;
+    shelf.fail_at(call)?;
     Ok(shelf)
 }
 
+/// An empty sink.
+fn sink(alloc: Global, devices: Devices) -> Result<MemSink, AllocError> {
+    let mut sink = MemSink::new(alloc, devices.room, devices.piece.max(1))?;
+    sink.fail_at(devices.put)?;
+    Ok(sink)
+}
+
 /// Runs the command of a line over devices in memory, and gives the exit status.
-pub fn status_of(
+fn status_of(
     alloc: Global,
     line: &str,
     shelf: &mut MemShelf,
@@ -51,12 +102,42 @@ pub fn status_of(
     Ok(code(run(alloc, &words, shelf, out)))
 }
 
-/// Judges a solution by an instance, both in memory, and writes the answer to the transcript.
-pub fn judge(rt: &(impl AllocGlobal + Print), instance: &[u8], solution: &[u8]) -> io::Result<()> {
-    let mut shelf = store(rt.alloc(), instance, solution)?;
-    let mut out = MemSink::new(rt.alloc(), 4096, 4096)?;
-    let status = status_of(rt.alloc(), VALIDATE, &mut shelf, &mut out)?;
-    tell(rt, out.written(), status)
+/// Runs the command of a line over an instance and a solution in memory, and gives what it wrote and how it ended.
+pub fn run_over(
+    alloc: Global,
+    line: &str,
+    instance: &[u8],
+    solution: &[u8],
+    devices: Devices,
+) -> Result<Ended, AllocError> {
+    let mut shelf = store(alloc, instance, solution, devices.call)?;
+    run_into(alloc, line, &mut shelf, devices)
+}
+
+/// The same over a store.
+fn run_into(
+    alloc: Global,
+    line: &str,
+    shelf: &mut MemShelf,
+    devices: Devices,
+) -> Result<Ended, AllocError> {
+    let mut out = sink(alloc, devices)?;
+    let status = status_of(alloc, line, shelf, &mut out)?;
+    let text = out.written().to_vec(alloc)?;
+    Ok(Ended { text, status })
+}
+
+/// Judges a solution by an instance, both in memory, and writes the answer to the transcript below a title.
+pub fn judge(
+    rt: &(impl AllocGlobal + Print),
+    title: &str,
+    instance: &[u8],
+    solution: &[u8],
+    devices: Devices,
+) -> io::Result<()> {
+    println!(rt; "{title}")?;
+    let ended = run_over(rt.alloc(), VALIDATE, instance, solution, devices)?;
+    tell(rt, &ended)
 }
 
 /// Writes bytes to the transcript. What can't be written is missed there.
@@ -65,20 +146,17 @@ pub fn print_bytes(rt: &impl Print, bytes: &[u8]) {
     let _ = put_all(&mut out, bytes);
 }
 
-/// Writes what a sink holds, and the status.
-pub fn tell(rt: &impl Print, written: &[u8], status: u8) -> io::Result<()> {
-    print_bytes(rt, written);
+/// Writes what a run wrote, and the status.
+pub fn tell(rt: &impl Print, ended: &Ended) -> io::Result<()> {
+    print_bytes(rt, &ended.text);
+    let status = ended.status;
     println!(rt; "status {status}")
 }
 
-/// Writes how many lines a sink holds, and the status.
-pub fn tell_lines(rt: &impl Print, written: &[u8], status: u8) -> io::Result<()> {
-    let lines = written.iter().filter(|byte| **byte == b'\n').count();
-    println!(rt; "lines {lines}\nstatus {status}")
-}
-
 /// What a file of the machine holds, and nothing where it can't be read.
-pub fn bytes_of(rt: &(impl AllocGlobal + Files), name: &str) -> Vec<u8> {
+pub fn bytes_of(rt: &(impl AllocGlobal + Files), name: &str) -> Vec<u8>
+    ensures { vec_len result ≤ INSTANCE_LIMIT }
+{
     let mut shelf = HostShelf::new(rt);
     match read_all(rt.alloc(), &mut shelf, name, INSTANCE_LIMIT) {
         Ok(bytes) => bytes,

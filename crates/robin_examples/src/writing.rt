@@ -1,20 +1,30 @@
 //! What the writers write beyond what commands ask of them: a season with its score, and a league.
-use crate::session::print_bytes;
-use league::{Class, Constraint, Game, League, PairSet, Schedule, SlotId, SlotSet, TeamId};
+ghost use Rattle.std.specs.Prelude.{◌≤◌, length};
+ghost use Rattle.robinx_read.specs.declared.instance.TheConstants.{INSTANCE_LIMIT};
+
+use crate::session::{bytes_of, print_bytes};
+use league::{Game, Schedule, SlotId, TeamId};
+use robinx_read::read_instance;
 use robinx_write::{instance_text, solution_text};
 use std::alloc::{AllocError, Global};
 use std::io;
+use std::rt::Files;
 
 /// Writes the two texts to the transcript.
-pub fn show(rt: &(impl AllocGlobal + Print)) -> io::Result<()> {
-    println!(rt; "a season with its score")?;
-    print_bytes(rt, &scored_season(rt.alloc())?);
-    println!(rt; "a league of two teams")?;
-    let constraints = one_constraint(rt.alloc())?;
-    if constraints.len() < 20 && constraints.iter().all(|constraint| constraint.fits(2)) {
-        let league = League::new(2, false, constraints);
-        print_bytes(rt, &instance_text(rt.alloc(), &league)?);
-    }
+pub fn show(rt: &(impl AllocGlobal + Files + Print)) -> io::Result<()> {
+    show_text(rt, "a season with its score", scored_season(rt.alloc()))?;
+    let league = bytes_of(rt, "greatest-bound.xml");
+    show_text(
+        rt,
+        "a league of two teams",
+        written_again(rt.alloc(), &league),
+    )
+}
+
+/// Writes a text below a title.
+fn show_text(rt: &impl Print, title: &str, text: Result<Vec<u8>, AllocError>) -> io::Result<()> {
+    println!(rt; "{title}")?;
+    print_bytes(rt, &text?);
     Ok(())
 }
 
@@ -34,24 +44,12 @@ fn scored_season(alloc: Global) -> Result<Vec<u8>, AllocError> {
     solution_text(alloc, &schedule, Some((3, u128::MAX)))
 }
 
-/// A hard game constraint on the game 0-1 in either slot, with the greatest upper bound.
-fn one_constraint(alloc: Global) -> Result<Vec<Constraint>, AllocError> {
-    let mut meetings = PairSet::new(alloc);
-    meetings.insert((TeamId(0), TeamId(1)))?;
-    let mut slots = SlotSet::new(alloc);
-    slots.insert(SlotId(1))?;
-    slots.insert(SlotId(0))?;
-    let class = Class::Ga1 {
-        meetings,
-        min: 1,
-        max: u32::MAX,
-        slots,
-    };
-    let mut constraints = Vec::new(alloc);
-    constraints.push(Constraint {
-        hard: true,
-        penalty: 7,
-        class,
-    })?;
-    Ok(constraints)
+/// The text of the league that an instance file says, or nothing where it has a fault.
+fn written_again(alloc: Global, bytes: &[u8]) -> Result<Vec<u8>, AllocError>
+    requires { length bytes.now ≤ INSTANCE_LIMIT }
+{
+    match read_instance(alloc, bytes) {
+        Ok(league) => instance_text(alloc, &league),
+        Err(_) => Ok(Vec::new(alloc)),
+    }
 }

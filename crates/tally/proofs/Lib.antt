@@ -4,4 +4,7 @@ pub mod FrameLemmas
 pub mod ExchangeLemmas
 pub mod CostLemmas
 pub mod KeepLemmas
+pub mod LeagueLemmas
+pub mod UndoLemmas
 mod TallyFacts
+mod LeagueFacts

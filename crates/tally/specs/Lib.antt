@@ -1,5 +1,6 @@
 -- What a reader of a claim must believe:
 pub mod Tallies
+pub mod League
 -- Kept inside (laws, and how fields are seen):
 pub mod KeySet
 pub mod Renewal

@@ -1,14 +1,14 @@
 //! Rules made ready: their entries evaluated once, and what they cost.
 ghost use Rattle.std.specs.Prelude.{◌≡◌, ◌<◌, ◌≤◌, ◌+◌, ◌*◌, ◌^◌, ℕ, length, map, IfOk};
-ghost use Rattle.std.specs.List.{All, range_with_len, sum_by};
+ghost use Rattle.std.specs.List.{All, sum_by};
 ghost use Rattle.cells.specs.Table.{table_counts};
 ghost use Rattle.tally.specs.Ready.{IsExact, IsReady, hard_cost, soft_cost};
-ghost use Rattle.tally.specs.Tallies.{all_terms, vector_on};
+ghost use Rattle.tally.specs.Tallies.{all_terms};
 
 use crate::kept::Kept;
 use crate::weigh::Sums;
 use crate::weighted::Weighted;
-use deviation::total;
+use deviation::{entries_of, total};
 use rule_core::{Cells, Entries, Rule, Steps};
 use std::alloc::{AllocError, Global};
 
@@ -34,25 +34,6 @@ pub(crate) fn greatest_terms<R: Entries>(rules: &[Weighted<R>]) -> usize
     greatest
 }
 
-/// The entries of a rule on these counts, in the order of their keys: a step for each.
-fn entries_on<L, R: Rule<L>>(
-    alloc: Global,
-    rule: &R,
-    cells: &Cells,
-    steps: &mut Steps<L>,
-) -> Result<Vec<u64>, AllocError>
-    requires teams { cells.now.n ≡ R.team_count rule.now }
-    ensures entries { IfOk result (λ entries. entries.items
-        ≡ vector_on R.Entries (table_counts cells.now) rule.now) }
-    ensures steps { steps.new ≤ steps.old + R.term_count rule.now }
-{
-    let mut entries = Vec::new(alloc);
-    for key in 0..rule.terms() {
-        entries.push(rule.term(key, cells, steps))?;
-    }
-    Ok(entries)
-}
-
 impl<R: Entries> Kept<R> {
     /// Evaluates each entry of a rule.
     fn new<L>(
@@ -71,7 +52,7 @@ impl<R: Entries> Kept<R> {
         ensures exact { IfOk result (λ kept. IsExact R.Entries (table_counts cells.now) kept) }
         ensures steps { steps.new ≤ steps.old + R.term_count weighted.rule }
     {
-        let vector = entries_on(alloc, &weighted.rule, cells, steps)?;
+        let vector = entries_of(alloc, &weighted.rule, cells, steps)?;
         let deviation = total(&vector);
         at_most_half_word(weighted.penalty);
         Ok(Kept {

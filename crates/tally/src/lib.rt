@@ -2,16 +2,20 @@
 //!
 //! A `Tally` is seen as its weighted rules and the counts of its games. What it keeps, the vectors, the infeasibility
 //! and the objective, is at every moment what these rules give on these counts. An edit evaluates each key that its
-//! games touch once, and takes no memory.
+//! games touch once, and takes no memory. Where the rules are those of a league's constraints, as `league_tally` makes
+//! them, the kept values are the league's own (`laws`).
 #![tactic(auto)]
 
 mod exchange;
 mod keep;
 mod kept;
 mod key_set;
+pub mod laws;
+mod league_rules;
 mod tally;
 mod weigh;
 mod weighted;
 
+pub use league_rules::{league_tally, weighted_rules};
 pub use tally::Tally;
 pub use weighted::Weighted;

@@ -74,21 +74,19 @@ impl<R: Entries> Tally<R> {
         })
     }
 
-    /// Takes the games of an edit's `out` off the counts and puts those of its `into` on. Each key that one of these
-    /// games touches is evaluated once, and no other. It takes no memory.
+    /// Takes the games of an edit's `out` off the counts and puts those of its `into` on, of which there are as many.
+    /// Each key that one of these games touches is evaluated once, and no other. It takes no memory.
     pub fn apply<L>(&mut self, edit: &Edit, steps: &mut Steps<L>)
     where
         R: Rule<L>,
         requires out_fit { All (IsGame self.old.table.n) edit.now.out }
         requires into_fit { All (IsGame self.old.table.n) edit.now.into }
         requires there { (i j s : ℕ) → counts_of edit.now.out i j s ≤ table_counts self.old.table i j s }
-        requires room { sum self.old.table.list + length edit.now.into ≤ 10000 + length edit.now.out }
         ensures weights { self.new.weights ≡ self.old.weights }
         ensures n { self.new.table.n ≡ self.old.table.n }
         ensures counts { (i j s : ℕ) → table_counts self.new.table i j s + counts_of edit.now.out i j s
             ≡ table_counts self.old.table i j s + counts_of edit.now.into i j s }
-        ensures total { sum self.new.table.list + length edit.now.out
-            ≡ sum self.old.table.list + length edit.now.into }
+        ensures total { sum self.new.table.list ≡ sum self.old.table.list }
         ensures steps { steps.new ≤ steps.old
             + all_touched R.Entries self.old.weights (edit.now.out ++ edit.now.into) }
     {
@@ -102,34 +100,33 @@ impl<R: Entries> Tally<R> {
         requires out_fit { All (IsGame self.old.table.n) edit.now.out }
         requires into_fit { All (IsGame self.old.table.n) edit.now.into }
         requires there { (i j s : ℕ) → counts_of edit.now.into i j s ≤ table_counts self.old.table i j s }
-        requires room { sum self.old.table.list + length edit.now.out ≤ 10000 + length edit.now.into }
         ensures weights { self.new.weights ≡ self.old.weights }
         ensures n { self.new.table.n ≡ self.old.table.n }
         ensures counts { (i j s : ℕ) → table_counts self.new.table i j s + counts_of edit.now.into i j s
             ≡ table_counts self.old.table i j s + counts_of edit.now.out i j s }
-        ensures total { sum self.new.table.list + length edit.now.into
-            ≡ sum self.old.table.list + length edit.now.out }
+        ensures total { sum self.new.table.list ≡ sum self.old.table.list }
         ensures steps { steps.new ≤ steps.old
             + all_touched R.Entries self.old.weights (edit.now.into ++ edit.now.out) }
     {
         self.exchange(edit.into_games(), edit.out(), steps);
     }
 
-    /// Takes some games off the counts and puts others on.
+    /// Takes some games off the counts and puts as many others on.
     fn exchange<L>(&mut self, out: &[Game], into: &[Game], steps: &mut Steps<L>)
     where
         R: Rule<L>,
         requires out_fit { All (IsGame self.old.table.n) out.now }
         requires into_fit { All (IsGame self.old.table.n) into.now }
         requires there { (i j s : ℕ) → counts_of out.now i j s ≤ table_counts self.old.table i j s }
-        requires room { sum self.old.table.list + length into.now ≤ 10000 + length out.now }
+        requires as_many { length into.now ≡ length out.now }
         ensures weights { self.new.weights ≡ self.old.weights }
         ensures n { self.new.table.n ≡ self.old.table.n }
         ensures counts { (i j s : ℕ) → table_counts self.new.table i j s + counts_of out.now i j s
             ≡ table_counts self.old.table i j s + counts_of into.now i j s }
-        ensures total { sum self.new.table.list + length out.now ≡ sum self.old.table.list + length into.now }
+        ensures total { sum self.new.table.list ≡ sum self.old.table.list }
         ensures steps { steps.new ≤ steps.old + all_touched R.Entries self.old.weights (out.now ++ into.now) }
     {
+        let _few = self.cells.games();
         exchange_games(&mut self.cells, out, into);
         renew_rules(
             &mut self.rules,
@@ -155,6 +152,13 @@ impl<R: Entries> Tally<R> {
         ensures { result ≡ objective_on R.Entries (table_counts self.now.table) self.now.weights }
     {
         self.sums.objective
+    }
+
+    /// The number of rules.
+    pub fn rule_count(&self) -> usize
+        ensures { result ≡ length self.now.weights }
+    {
+        self.rules.len()
     }
 
     /// The deviation vector of the rule at place k, from 0.

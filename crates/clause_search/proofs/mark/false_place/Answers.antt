@@ -1,19 +1,21 @@
 use Rattle.std.proofs.Common.{◌<◌, arith, sym, ◌∙◌}
-use Rattle.std.specs.Prelude.{slice_index_or}
+use Rattle.clause_search.specs.Trails.{no_entry}
 use Rattle.clause_search.proofs.MarkLemmas.{false_at_end, place_early, place_stands}
 use Rattle.clause_search.proofs.TrailLaws.{lawful-new}
 use Rattle.clause_search.proofs.mark.false_place.Goals as goal
 
 pub returns-then-place-limit-clause-stands : goal.returns-then-place-limit-clause-stands
 returns-then-place-limit-clause-stands c =
-    place_stands c.args.trail.now.vars c.args.trail.now.entries c.args.places.now c.args.lit c.var.result c.requires.places
-    (lawful-new c.args.trail.now.rows c.args.trail.now.vars c.args.trail.now.entries c.len-len.ensures.lawful) c.var.ensures.var (sym c.in-False.ensures)
+    place_stands c.args.trail.now.vars c.args.trail.now.entries c.args.lit c.place-place.result
+    (lawful-new c.args.trail.now.rows c.args.trail.now.vars c.args.trail.now.entries c.len-len.ensures.lawful)
+    c.place-place.ensures.within (c.place-place.ensures.there no_entry) (sym c.in-False.ensures)
 
 pub returns-else-place-limit-clause-none : goal.returns-else-place-limit-clause-none
 returns-else-place-limit-clause-none c = λ none is.
-    let early : slice_index_or c.args.places.now c.var.result 0 < c.args.limit =
-    place_early c.args.trail.now.vars c.args.trail.now.entries c.args.places.now c.args.lit c.var.result c.args.limit c.requires.places
-    (lawful-new c.args.trail.now.rows c.args.trail.now.vars c.args.trail.now.entries c.len-len.ensures.lawful) c.var.ensures.var c.requires.within is in
+    let early : c.place-place.result < c.args.limit =
+    place_early c.args.trail.now.vars c.args.trail.now.entries c.args.lit c.place-place.result c.args.limit
+    (lawful-new c.args.trail.now.rows c.args.trail.now.vars c.args.trail.now.entries c.len-len.ensures.lawful)
+    c.place-place.ensures.within (c.place-place.ensures.there no_entry) c.requires.within is in
     absurd (omega (arith, early))
 
 pub returns-in_default : goal.returns-in_default
@@ -24,5 +26,6 @@ returns-in_default c = record {
       c.in_default.not-False
       (c.value.ensures
       ∙ false_at_end c.args.trail.now.vars c.args.trail.now.entries c.args.lit c.args.limit
-      (lawful-new c.args.trail.now.rows c.args.trail.now.vars c.args.trail.now.entries c.len-len.ensures.lawful) c.requires.within is);
+      (lawful-new c.args.trail.now.rows c.args.trail.now.vars c.args.trail.now.entries c.len-len.ensures.lawful)
+      c.requires.within is);
 }

@@ -3,13 +3,16 @@ use Rattle.std.specs.Prelude.{IfSome}
 use Rattle.clause_search.specs.Trails.{before}
 use Rattle.clause_search.proofs.walk.meet.Goals as goal
 
-pub returns-then-is_reached : goal.returns-then-is_reached
-returns-then-is_reached c = (
+pub returns-then-is_reached-clause-turn : goal.returns-then-is_reached-clause-turn
+returns-then-is_reached-clause-turn c = (
   refl,
   c.if-is_reached.ensures.reached refl ∙ ap (λ (n : ℕ). Some n) c.len.ensures,
   (before c.args.trail.now.entries c.in-Some.start, c.in-Some.ensures.some.quiet),
 )
 
-pub returns-in_ok-learn-in-Some : goal.returns-in_ok-learn-in-Some
-returns-in_ok-learn-in-Some c =
-    inr (subst (λ (n : ℕ). IfSome c.args.limit (λ most. n < most)) c.len.ensures (c.if-is_reached.ensures.early refl), c.in_ok-learn-in-Some.ensures)
+pub returns-in_ok-learn-in-Some-clause-turn : goal.returns-in_ok-learn-in-Some-clause-turn
+returns-in_ok-learn-in-Some-clause-turn c =
+    inr (
+      subst (λ (n : ℕ). IfSome c.args.limit (λ most. n < most)) c.len.ensures (c.if-is_reached.ensures.early refl),
+      c.in_ok-learn-in-Some.ensures.learns,
+    )

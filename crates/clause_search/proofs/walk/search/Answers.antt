@@ -1,23 +1,28 @@
-use Rattle.std.proofs.Common.{length, inl, inr, arith, ap, subst}
+use Rattle.std.proofs.Common.{length, inl, inr, arith, ap, sym, subst, ◌∙◌}
 use Rattle.clause_search.specs.Turns.{IsTurn}
 use Rattle.clause_search.specs.declared.turn.Turn.{Turn}
-use Rattle.clause_search.proofs.TurnLemmas.{answer_refuted, answer_satisfied, answer_spent, few_steps, learnt_length, left_decided, left_learnt}
-use Rattle.clause_search.proofs.TurnLemmas.{under_decided, under_learnt, under_run, under_start, within_decided, within_learnt, within_start}
+use Rattle.clause_search.proofs.TurnLemmas.{answer_refuted, answer_satisfied, answer_spent, few_steps, learnt_length}
+use Rattle.clause_search.proofs.TurnLemmas.{left_decided, left_learnt}
+use Rattle.clause_search.proofs.TurnLemmas.{under_decided, under_learnt, under_run, under_start, within_decided}
+use Rattle.clause_search.proofs.TurnLemmas.{within_learnt, within_start}
 use Rattle.clause_search.proofs.walk.search.Goals as goal
 
 pub turns-init : goal.turns-init
 turns-init c = record {
-  under = under_start c.args.rows.now c.args.vars c.new-log.result c.in_ok-trail.trail c.new-log.ensures c.in_ok-trail.ensures;
+  vars = c.in_ok-desk.ensures;
+  under =
+      under_start c.args.rows.now c.args.vars c.new-log.result c.in_ok-trail.trail c.new-log.ensures
+      c.in_ok-trail.ensures;
   within = within_start c.args.limit c.new-log.result c.new-log.ensures;
 }
 
 pub take_turn-requires : goal.take_turn-requires
 take_turn-requires c =
-    let under = under_run c.args.rows.now c.args.vars c.turns.log c.turns.trail c.run-found.new.self c.turns.invariant.under c.run-found.ensures.vars c.run-found.ensures.rows c.run-found.ensures.below in
+    let under =
+    under_run c.args.rows.now c.args.vars c.turns.log c.turns.trail c.run-found.new.self c.turns.invariant.under
+    c.run-found.ensures.vars c.run-found.ensures.rows c.run-found.ensures.below in
     record {
-      vars = under.vars_are;
-      few = c.requires.few;
-      preferred = c.requires.preferred;
+      vars = c.turns.invariant.vars ∙ sym under.vars_are;
       found = c.run-found.ensures.found;
       below = under.quiet;
       within = c.turns.invariant.within;
@@ -25,45 +30,72 @@ take_turn-requires c =
 
 pub turns-preserved : goal.turns-preserved
 turns-preserved c =
-    let under = under_run c.args.rows.now c.args.vars c.turns.log c.turns.trail c.run-found.new.self c.turns.invariant.under c.run-found.ensures.vars c.run-found.ensures.rows c.run-found.ensures.below in
-    elim (subst (λ (t : Turn). IsTurn c.run-found.new.self c.take_turn.new.trail c.turns.log c.take_turn.new.log c.args.limit t) c.in-Again.is c.in_ok-turn.ensures) [
+    let under =
+    under_run c.args.rows.now c.args.vars c.turns.log c.turns.trail c.run-found.new.self c.turns.invariant.under
+    c.run-found.ensures.vars c.run-found.ensures.rows c.run-found.ensures.below in
+    elim (subst (λ (t : Turn). IsTurn c.run-found.new.self c.take_turn.new.trail c.turns.log c.take_turn.new.log
+    c.args.limit t) c.in-Again.is c.in_ok-turn.ensures.turn) [
       | inl decided ↦ record {
-        under = under_decided c.args.rows.now c.args.vars c.turns.log c.take_turn.new.log c.run-found.new.self c.take_turn.new.trail under decided.0 decided.1;
+        vars = c.take_turn.ensures.vars ∙ c.turns.invariant.vars;
+        under =
+            under_decided c.args.rows.now c.args.vars c.turns.log c.take_turn.new.log c.run-found.new.self
+            c.take_turn.new.trail under decided.0 decided.1;
         within = within_decided c.args.limit c.turns.log c.take_turn.new.log decided.0 c.turns.invariant.within;
       }
       | inr learnt ↦ record {
-        under = under_learnt c.args.rows.now c.args.vars c.turns.log c.take_turn.new.log c.run-found.new.self c.take_turn.new.trail under learnt.1;
-        within = within_learnt c.args.limit c.run-found.new.self c.take_turn.new.trail c.turns.log c.take_turn.new.log learnt.1 learnt.0;
+        vars = c.take_turn.ensures.vars ∙ c.turns.invariant.vars;
+        under =
+            under_learnt c.args.rows.now c.args.vars c.turns.log c.take_turn.new.log c.run-found.new.self
+            c.take_turn.new.trail under learnt.1;
+        within =
+            within_learnt c.args.limit c.run-found.new.self c.take_turn.new.trail c.turns.log c.take_turn.new.log
+            learnt.1 learnt.0;
       }
     ]
 
 pub turns-smaller : goal.turns-smaller
 turns-smaller c =
-    let under = under_run c.args.rows.now c.args.vars c.turns.log c.turns.trail c.run-found.new.self c.turns.invariant.under c.run-found.ensures.vars c.run-found.ensures.rows c.run-found.ensures.below in
-    elim (subst (λ (t : Turn). IsTurn c.run-found.new.self c.take_turn.new.trail c.turns.log c.take_turn.new.log c.args.limit t) c.in-Again.is c.in_ok-turn.ensures) [
+    let under =
+    under_run c.args.rows.now c.args.vars c.turns.log c.turns.trail c.run-found.new.self c.turns.invariant.under
+    c.run-found.ensures.vars c.run-found.ensures.rows c.run-found.ensures.below in
+    elim (subst (λ (t : Turn). IsTurn c.run-found.new.self c.take_turn.new.trail c.turns.log c.take_turn.new.log
+    c.args.limit t) c.in-Again.is c.in_ok-turn.ensures.turn) [
       | inl decided ↦
-          left_decided c.args.vars (length c.turns.log) (length c.take_turn.new.log) (length c.turns.trail.entries) (length c.take_turn.new.trail.entries)
-          (ap length decided.0) (omega (arith, c.run-found.ensures.grown.longer, decided.1.longer)) (omega (arith, decided.1.within, decided.1.vars, under.vars_are))
+          left_decided c.args.vars (length c.turns.log) (length c.take_turn.new.log) (length c.turns.trail.entries)
+          (length c.take_turn.new.trail.entries)
+          (ap length decided.0) (omega (arith, c.run-found.ensures.grown.longer, decided.1.longer))
+          (omega (arith, decided.1.within, decided.1.vars, under.vars_are))
       | inr learnt ↦
-          left_learnt c.args.vars (length c.turns.log) (length c.take_turn.new.log) (length c.turns.trail.entries) (length c.take_turn.new.trail.entries)
+          left_learnt c.args.vars (length c.turns.log) (length c.take_turn.new.log) (length c.turns.trail.entries)
+          (length c.take_turn.new.trail.entries)
           (learnt_length c.run-found.new.self c.take_turn.new.trail c.turns.log c.take_turn.new.log learnt.1)
           (few_steps c.args.rows.now c.args.vars c.turns.log c.run-found.new.self under)
     ]
 
 pub returns-in-Satisfied : goal.returns-in-Satisfied
 returns-in-Satisfied c =
-    let under = under_run c.args.rows.now c.args.vars c.turns.log c.turns.trail c.run-found.new.self c.turns.invariant.under c.run-found.ensures.vars c.run-found.ensures.rows c.run-found.ensures.below in
+    let under =
+    under_run c.args.rows.now c.args.vars c.turns.log c.turns.trail c.run-found.new.self c.turns.invariant.under
+    c.run-found.ensures.vars c.run-found.ensures.rows c.run-found.ensures.below in
     answer_satisfied c.args.rows.now c.args.vars c.turns.log c.run-found.new.self c.in-Satisfied.values under
-    (subst (λ (t : Turn). IsTurn c.run-found.new.self c.take_turn.new.trail c.turns.log c.take_turn.new.log c.args.limit t) c.in-Satisfied.is c.in_ok-turn.ensures)
+    (subst (λ (t : Turn). IsTurn c.run-found.new.self c.take_turn.new.trail c.turns.log c.take_turn.new.log
+    c.args.limit t) c.in-Satisfied.is c.in_ok-turn.ensures.turn)
 
 pub returns-in-Refuted : goal.returns-in-Refuted
 returns-in-Refuted c =
-    let under = under_run c.args.rows.now c.args.vars c.turns.log c.turns.trail c.run-found.new.self c.turns.invariant.under c.run-found.ensures.vars c.run-found.ensures.rows c.run-found.ensures.below in
-    answer_refuted c.args.rows.now c.args.vars c.args.limit c.turns.log c.take_turn.new.log c.run-found.new.self under c.turns.invariant.within
-    (subst (λ (t : Turn). IsTurn c.run-found.new.self c.take_turn.new.trail c.turns.log c.take_turn.new.log c.args.limit t) c.in-Refuted.is c.in_ok-turn.ensures)
+    let under =
+    under_run c.args.rows.now c.args.vars c.turns.log c.turns.trail c.run-found.new.self c.turns.invariant.under
+    c.run-found.ensures.vars c.run-found.ensures.rows c.run-found.ensures.below in
+    answer_refuted c.args.rows.now c.args.vars c.args.limit c.turns.log c.take_turn.new.log c.run-found.new.self under
+    c.turns.invariant.within
+    (subst (λ (t : Turn). IsTurn c.run-found.new.self c.take_turn.new.trail c.turns.log c.take_turn.new.log
+    c.args.limit t) c.in-Refuted.is c.in_ok-turn.ensures.turn)
 
 pub returns-in-Spent : goal.returns-in-Spent
 returns-in-Spent c =
-    let under = under_run c.args.rows.now c.args.vars c.turns.log c.turns.trail c.run-found.new.self c.turns.invariant.under c.run-found.ensures.vars c.run-found.ensures.rows c.run-found.ensures.below in
+    let under =
+    under_run c.args.rows.now c.args.vars c.turns.log c.turns.trail c.run-found.new.self c.turns.invariant.under
+    c.run-found.ensures.vars c.run-found.ensures.rows c.run-found.ensures.below in
     answer_spent c.args.rows.now c.args.vars c.args.limit c.turns.log c.take_turn.new.log c.run-found.new.self under
-    (subst (λ (t : Turn). IsTurn c.run-found.new.self c.take_turn.new.trail c.turns.log c.take_turn.new.log c.args.limit t) c.in-Spent.is c.in_ok-turn.ensures)
+    (subst (λ (t : Turn). IsTurn c.run-found.new.self c.take_turn.new.trail c.turns.log c.take_turn.new.log
+    c.args.limit t) c.in-Spent.is c.in_ok-turn.ensures.turn)

@@ -1,10 +1,11 @@
-use Rattle.std.proofs.Common.{◌≤◌, length}
+use Rattle.std.proofs.Common.{◌≡◌, ◌≤◌, length}
 use Rattle.std.specs.Prelude.{IfSome}
 use Rattle.clause_search.proofs.TurnLemmas.{IsUnder, left}
 use Rattle.clause_search.proofs.walk.search.Given as goal
 
 abbrev pub invariant-turns : goal.invariant-turns
 invariant-turns l = record {
+  vars : l.desk.order.vars ≡ l.vars;
   under : IsUnder l.rows l.vars l.log l.trail;
   within : IfSome l.limit (λ most. length l.log ≤ most);
 }

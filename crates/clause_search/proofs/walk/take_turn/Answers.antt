@@ -1,4 +1,4 @@
 use Rattle.clause_search.proofs.walk.take_turn.Goals as goal
 
-pub returns-in-None : goal.returns-in-None
-returns-in-None c = c.go_on.ensures c.args.log.now c.args.limit
+pub returns-in-None-clause-turn : goal.returns-in-None-clause-turn
+returns-in-None-clause-turn c = c.go_on.ensures.turn c.args.log.now c.args.limit

@@ -3,6 +3,7 @@ use Rattle.std.specs.Prelude.{IsTrue}
 use Rattle.moves.specs.Moves.{IsLegal, moved}
 use Rattle.moves.specs.Round.{IsEdit, round_counts}
 use Rattle.moves.specs.declared.swap.Swap.{Swap}
+use Rattle.moves.proofs.EditLemmas.{out_fit-of}
 use Rattle.moves.proofs.legality.edit_of.Goals as goal
 
 pub returns-in-HomeSwap-clause-legal : goal.returns-in-HomeSwap-clause-legal
@@ -59,3 +60,18 @@ returns-in-PartRoundSwap-clause-apart c = c.part_round_swap.ensures.apart
 
 pub returns-in-PartTeamSwap-clause-apart : goal.returns-in-PartTeamSwap-clause-apart
 returns-in-PartTeamSwap-clause-apart c = c.part_team_swap.ensures.apart
+
+pub returns-in-HomeSwap-clause-out_fit : goal.returns-in-HomeSwap-clause-out_fit
+returns-in-HomeSwap-clause-out_fit c = out_fit-of c.args.board.now _ c.home_swap.result c.home_swap.new.edit c.n-round.ensures.round c.home_swap.ensures.change c.home_swap.ensures.none
+
+pub returns-in-RoundSwap-clause-out_fit : goal.returns-in-RoundSwap-clause-out_fit
+returns-in-RoundSwap-clause-out_fit c = out_fit-of c.args.board.now _ c.round_swap.result c.round_swap.new.edit c.n-round.ensures.round c.round_swap.ensures.change c.round_swap.ensures.none
+
+pub returns-in-TeamSwap-clause-out_fit : goal.returns-in-TeamSwap-clause-out_fit
+returns-in-TeamSwap-clause-out_fit c = out_fit-of c.args.board.now _ c.team_swap.result c.team_swap.new.edit c.n-round.ensures.round c.team_swap.ensures.change c.team_swap.ensures.none
+
+pub returns-in-PartRoundSwap-clause-out_fit : goal.returns-in-PartRoundSwap-clause-out_fit
+returns-in-PartRoundSwap-clause-out_fit c = out_fit-of c.args.board.now _ c.part_round_swap.result c.part_round_swap.new.edit c.n-round.ensures.round c.part_round_swap.ensures.change c.part_round_swap.ensures.none
+
+pub returns-in-PartTeamSwap-clause-out_fit : goal.returns-in-PartTeamSwap-clause-out_fit
+returns-in-PartTeamSwap-clause-out_fit c = out_fit-of c.args.board.now _ c.part_team_swap.result c.part_team_swap.new.edit c.n-round.ensures.round c.part_team_swap.ensures.change c.part_team_swap.ensures.none

@@ -5,9 +5,9 @@ use Rattle.propagate.proofs.path.Path.len.Goals as goal
 
 pub returns-clause-at_most : goal.returns-clause-at_most
 returns-clause-at_most c =
-    let vars_are : length c.self.inside.values ≡ c.args.self.now.vars = ap (λ (p : SeenPath). p.vars) c.self.view_is in
-    omega (arith, vars_are, AreKept-few c.self.inside.values c.self.inside.entries.items _ c.self.invariant, c.self.inside.entries.ok)
+    let vars_are : length c.self.inside.counters.values ≡ c.args.self.now.vars = ap (λ (p : SeenPath). p.vars) c.self.view_is in
+    omega (arith, vars_are, AreKept-few c.self.inside.counters.values c.self.inside.entries.items _ c.self.invariant.kept, c.self.inside.entries.ok)
 
 pub returns-clause-room : goal.returns-clause-room
 returns-clause-room c = λ l from_one known free.
-    room_inside c.self.inside.values c.self.inside.entries.items c.args.self.now _ l c.self.invariant c.self.view_is from_one known free
+    room_inside c.self.inside.counters c.self.inside.entries.items c.args.self.now _ l c.self.invariant.kept c.self.view_is from_one known free

@@ -1,13 +1,16 @@
 use Rattle.std.proofs.Common.{sym, subst}
+use Rattle.propagate.specs.Paths.{SeenPath}
 use Rattle.propagate.specs.Trails.{IsQuietBelow, SeenTrail}
 use Rattle.propagate.proofs.EntryLemmas.{quiet_below-grown}
-use Rattle.propagate.proofs.PassLemmas.{AreSound-grown}
+use Rattle.propagate.proofs.LookLemmas.{IsTrail-run}
 use Rattle.propagate.proofs.trail.Trail.run.Goals as goal
 
 pub invariant_of-self : goal.invariant_of-self
-invariant_of-self c = AreSound-grown c.self.inside.rows c.self.inside.path c.settle.new.path c.self.invariant c.settle.ensures.grown
+invariant_of-self c =
+    IsTrail-run c.self.inside.path c.settle.new.path c.self.inside.looked c.settle.new.looked c.self.inside.settled c.self.invariant c.settle.ensures.grown c.settle.ensures.ready
 
 pub returns-clause-below : goal.returns-clause-below
 returns-clause-below c = λ below.
-    quiet_below-grown c.self.inside.rows c.self.inside.path.entries c.settle.new.path.entries c.settle.ensures.grown.grown
-    (subst (λ (t : SeenTrail). IsQuietBelow t.rows t.entries) (sym c.self.view_is) below)
+    subst (λ (p : SeenPath). IsQuietBelow p.rows c.settle.new.path.entries) (sym c.settle.ensures.grown.same)
+    (quiet_below-grown c.self.inside.path.rows c.self.inside.path.entries c.settle.new.path.entries c.settle.ensures.grown.grown
+    (subst (λ (t : SeenTrail). IsQuietBelow t.rows t.entries) (sym c.self.view_is) below))

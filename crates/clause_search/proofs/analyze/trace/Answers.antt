@@ -1,0 +1,21 @@
+use Rattle.std.proofs.Common.{ℕ, length, sym, subst}
+use Rattle.clause_search.specs.Marks.{IsTraced, Marks}
+use Rattle.clause_search.proofs.WalkLemmas.{read_terms, trace_start}
+use Rattle.clause_search.proofs.analyze.trace.Goals as goal
+
+pub walk-init : goal.walk-init
+walk-init c =
+    let conflict = c.requires.conflict in
+    subst (λ (n : ℕ). IsTraced c.args.trail.now c.args.conflict.row c.mark-lowest.new.roles n)
+    (sym c.len-len.ensures.len)
+    (trace_start c.args.trail.now c.args.conflict.row c.len-len.result c.len-len.result c.args.roles.now
+    c.mark-lowest.new.roles
+    c.mark-lowest.result c.terms-terms.result.now conflict.row c.len-len.ensures.rows conflict.numbered
+    conflict.conflict_is
+    (read_terms c.args.trail.now.rows c.args.conflict.row conflict.row c.terms-terms.result.now conflict.numbered
+    c.terms-terms.ensures)
+    c.requires.roles
+    (subst (λ (n : ℕ). Marks c.args.trail.now.entries c.terms-terms.result.now (length c.terms-terms.result.now) n
+    c.len-len.result
+    c.len-len.result c.args.roles.now c.mark-lowest.new.roles c.mark-lowest.result)
+    c.len-len.ensures.len c.mark-lowest.ensures))

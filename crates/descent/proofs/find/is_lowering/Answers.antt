@@ -1,0 +1,44 @@
+use Rattle.std.proofs.Common.{◌≡◌, ◌≤◌, List, true, ap, subst, sym, ◌∙◌}
+use Rattle.league.specs.Counts.{Counts, counts_of}
+use Rattle.cells.specs.Table.{table_counts}
+use Rattle.moves.specs.Moves.{moved}
+use Rattle.moves.specs.Round.{round_counts}
+use Rattle.tally.specs.declared.weighted.Weighted.{Weighted}
+use Rattle.descent.specs.Score.{score_on}
+use Rattle.descent.proofs.EditLemmas.{AreExchanged, edit-leads}
+use Rattle.descent.proofs.SettledLemmas.{lowering-read}
+use Rattle.descent.proofs.find.is_lowering.Goals as goal
+
+pub apply-requires-clause-there : goal.apply-requires-clause-there
+apply-requires-clause-there g c i j s =
+    let legal : c.edit_of.result ≡ true = c.if-not-edit_of.false in
+    subst (λ (m : Counts). counts_of c.edit_of.new.edit.out i j s ≤ m i j s) (sym c.requires.counts)
+    ((c.edit_of.ensures.edit legal).there i j s)
+
+pub returns-clause-lowers : goal.returns-clause-lowers
+returns-clause-lowers g c =
+    let n = c.args.board.now.n in
+    let m = round_counts c.args.board.now in
+    let weights = c.args.tally.now.weights in
+    let legal : c.edit_of.result ≡ true = c.if-not-edit_of.false in
+    let after : Counts = table_counts c.apply.new.self.table in
+    let leads : AreExchanged m after c.edit_of.new.edit.out c.edit_of.new.edit.into =
+    subst (λ (k : Counts). AreExchanged k after c.edit_of.new.edit.out c.edit_of.new.edit.into) c.requires.counts
+    c.apply.ensures.counts in
+    lowering-read n c.args.board.now.phased (score_on g.R.Entries weights) m c.args.step c.is_lower.result
+    c.of-before.result c.of-after.result c.requires.league (c.edit_of.ensures.legal.0 legal)
+    (c.of-before.ensures ∙ ap (λ (k : Counts). score_on g.R.Entries weights k) c.requires.counts)
+    (c.of-after.ensures
+    ∙ ap (λ (w : List (Weighted g.row.R.Denot)). score_on g.R.Entries w after) c.apply.ensures.weights
+    ∙ ap (λ (k : Counts). score_on g.R.Entries weights k)
+    (edit-leads m (moved n m c.args.step) after c.edit_of.new.edit (c.edit_of.ensures.edit legal) leads))
+    c.is_lower.ensures
+
+pub returns-clause-edit : goal.returns-clause-edit
+returns-clause-edit g c lower =
+    let legal : c.edit_of.result ≡ true = c.if-not-edit_of.false in
+    record {
+      change = c.edit_of.ensures.edit legal;
+      out_fit = c.edit_of.ensures.out_fit;
+      into_fit = c.edit_of.ensures.fit;
+    }

@@ -1,0 +1,108 @@
+//! A descent from the games of a tally.
+ghost use Rattle.std.specs.Prelude.{◌≡◌, ◌≤◌, ◌↔◌, false, length, IfOk, IsTrue};
+ghost use Rattle.std.specs.List.{All};
+ghost use Rattle.league.specs.Counts.{counts_of};
+ghost use Rattle.league.specs.Instance.{IsGame};
+ghost use Rattle.league.specs.Order.{IsInOrder};
+ghost use Rattle.league.specs.Structure.{IsRoundRobin};
+ghost use Rattle.cells.specs.Table.{table_counts};
+ghost use Rattle.descent.specs.Score.{IsNoWorse, score_on};
+ghost use Rattle.descent.specs.Settled.{IsSettled};
+ghost use Rattle.descent.specs.Trail.{IsTrail};
+
+use crate::season::season_of;
+use crate::walk::Walk;
+use league::Schedule;
+use moves::MoveList;
+use rule_core::{Rule, Steps};
+use std::alloc::{AllocError, Global};
+use std::marker::Model;
+use tally::Tally;
+
+/// What a descent did: the games at its start in order, its moves, and whether the games at its end are settled. It is
+/// `descend` alone that makes one.
+#[derive(Drop)]
+pub struct Descent {
+    first: Schedule,
+    trail: MoveList,
+    settled: bool,
+}
+
+impl Model for Descent {
+    ghost use Rattle.descent.specs.Descended.{Descended};
+
+    ghost Value = { Descended };
+
+    ghost view = { λ d. record { first = d.first; trail = d.trail.list; settled = d.settled } };
+}
+
+impl Descent {
+    /// The games at the start, in order.
+    pub fn first(&self) -> &Schedule
+        ensures { result.now ≡ self.now.first }
+    {
+        &self.first
+    }
+
+    /// The moves, from those games on.
+    pub fn trail(&self) -> &MoveList
+        ensures { result.now.list ≡ self.now.trail }
+    {
+        &self.trail
+    }
+
+    /// Whether no legal move lowers the score of the games at the end.
+    pub fn settled(&self) -> bool
+        ensures { result ≡ self.now.settled }
+    {
+        self.settled
+    }
+}
+
+/// Makes moves on a tally's games, a double round robin, each of which is legal and lowers the score by the tally's
+/// rules, at most `limit` of them. After a move it goes on with the move behind it, and it ends after one whole round of
+/// all moves of which none lowers the score, or at the limit.
+///
+/// # Errors
+/// Only where memory runs out. Then the moves made so far stay made: the tally has a double round robin that isn't worse
+/// than at the start.
+pub fn descend<R: Rule<L>, L>(
+    alloc: Global,
+    phased: bool,
+    tally: &mut Tally<R>,
+    limit: u64,
+    steps: &mut Steps<L>,
+) -> Result<Descent, AllocError>
+    requires round_robin { IsRoundRobin tally.old.table.n phased (table_counts tally.old.table) }
+
+    // The rules stay, and the games are a double round robin of the same league that isn't worse: after an error too.
+    ensures weights { tally.new.weights ≡ tally.old.weights }
+    ensures teams { tally.new.table.n ≡ tally.old.table.n }
+    ensures round_robin { IsRoundRobin tally.old.table.n phased (table_counts tally.new.table) }
+    ensures no_worse { IsNoWorse (score_on R.Entries tally.old.weights (table_counts tally.new.table))
+        (score_on R.Entries tally.old.weights (table_counts tally.old.table)) }
+
+    // The first games are those at the start, in order.
+    ensures first { IfOk result (λ descent. counts_of descent.first ≡ table_counts tally.old.table) }
+    ensures fit { IfOk result (λ descent. All (IsGame tally.old.table.n) descent.first) }
+    ensures in_order { IfOk result (λ descent. IsInOrder descent.first) }
+
+    // The moves lead from there to the games at the end.
+    ensures trail { IfOk result (λ descent. IsTrail tally.old.table.n phased (score_on R.Entries tally.old.weights)
+        (table_counts tally.old.table) descent.trail (table_counts tally.new.table)) }
+    ensures few { IfOk result (λ descent. length descent.trail ≤ limit) }
+
+    // It is settled exactly where no legal move of any kind lowers the score, and not settled only at the limit.
+    ensures settled { IfOk result (λ descent. IsTrue descent.settled ↔ IsSettled tally.old.table.n phased
+        (score_on R.Entries tally.old.weights) (table_counts tally.new.table)) }
+    ensures spent { IfOk result (λ descent. descent.settled ≡ false → length descent.trail ≡ limit) }
+{
+    let first = season_of(alloc, phased, tally.cells())?;
+    let mut walk = Walk::new(alloc, tally.cells().n(), phased, &first)?;
+    let settled = walk.go_down(tally, limit, steps)?;
+    Ok(Descent {
+        first,
+        trail: walk.into_trail(),
+        settled,
+    })
+}

@@ -1,0 +1,163 @@
+-- Literals that weren't false before any decision, and clauses of which two weren't.
+use Rattle.std.proofs.Common.{◌≡◌, ◌≢◌, ℕ, zero, suc, ◌+◌, ◌-◌, ◌<◌, ◌≤◌, ◌⊎◌, Bool, true, false, cond, if◌then◌else◌, List, [], ◌∷◌, ◌++◌, length, get_or, map, take}
+use Rattle.std.proofs.Common.{refl, inl, inr, arith, ap, sym, subst, ◌∙◌}
+use Rattle.std.proofs.lemmas.Bool.{cases_lt, false≢true}
+use Rattle.std.proofs.lemmas.List.{map-append, take-take, take_all, take_more}
+use Rattle.std.proofs.lemmas.List.Elements.{All-map}
+use Rattle.std.proofs.lemmas.List.Sums.{sum_by_push}
+use Rattle.rows.specs.Cardinality.{at_least, unit}
+use Rattle.rows.specs.Forcing.{set_true}
+use Rattle.rows.specs.Literals.{Literal}
+use Rattle.rows.specs.Partials.{is_false, is_free, opposite_of, reach, value_of}
+use Rattle.rows.specs.declared.lit.Term.{Term}
+use Rattle.rows.specs.declared.partial.Value.{Value}
+use Rattle.rows.specs.declared.partial.Value.TheVariants.{True, False, Free}
+use Rattle.propagate.specs.Trails.{EachEntry, IsNew, IsQuietRowBelow, is_decision, level_of, values_of}
+use Rattle.propagate.specs.Looks.{WasOpen}
+use Rattle.propagate.specs.declared.entry.Entry.{Entry}
+use Rattle.propagate.proofs.EntryLemmas.{level_of-more, level_of-take_le, no_entry, values_of-push}
+use Rattle.propagate.proofs.ValueLemmas.{is_free_var, open_coef, set_true-other}
+
+free_is_free : (v : Value) → v ≡ Free → is_free v ≡ true
+free_is_free v is = ap is_free is
+
+-- a variable keeps its value while entries come
+value_kept : (vars : ℕ) (es : List Entry) (v m n : ℕ) → EachEntry (IsNew vars) es → m + n ≤ length es → values_of (take m es) v ≢ Free
+    → values_of (take (m + n) es) v ≡ values_of (take m es) v
+value_kept vars es v m zero each within set =
+    let same : m + zero ≡ m = omega arith in
+    ap (λ (k : ℕ). values_of (take k es) v) same
+value_kept vars es v m (suc n) each within set =
+    let there : m < length es = omega arith in
+    let e : Entry = get_or es m no_entry in
+    let step : values_of (take (m + 1) es) v ≡ set_true (values_of (take m es)) e.lit v =
+    ap (λ (xs : List Entry). values_of xs v) (take_more es m no_entry there) ∙ ap (λ (w : ℕ → Value). w v) (values_of-push (take m es) e) in
+    let other : v ≢ e.lit.var = λ same. taken (values_of (take m es)) v e.lit same set (each m no_entry there).free in
+    let kept : values_of (take (m + 1) es) v ≡ values_of (take m es) v = step ∙ set_true-other (values_of (take m es)) e.lit v other in
+    let sums : m + suc n ≡ m + 1 + n = omega arith in
+    ap (λ (k : ℕ). values_of (take k es) v) sums
+    ∙ value_kept vars es v (m + 1) n each (omega arith) (λ free. set (sym kept ∙ free)) ∙ kept where
+      free_of : (x : Value) → is_free x ≡ true → x ≡ Free
+      free_of True is = absurd (false≢true is)
+      free_of False is = absurd (false≢true is)
+      free_of Free is = refl
+
+      taken : (values : ℕ → Value) (v : ℕ) (l : Literal) → v ≡ l.var → values v ≢ Free → value_of values l ≡ Free → ⊥
+      taken values v l same set free = set (ap (λ (w : ℕ). values w) same ∙ free_of (values l.var) (is_free_var values l free))
+
+-- a false literal's variable has a value
+false_is_set : (values : ℕ → Value) (l : Literal) → value_of values l ≡ False → values l.var ≢ Free
+false_is_set values l is free = by l.positive (values l.var) is free where
+  clash : False ≡ Free → ⊥
+  clash same = cc
+
+  by : (p : Bool) (v : Value) → cond p v (opposite_of v) ≡ False → v ≡ Free → ⊥
+  by true v is free = clash (sym is ∙ free)
+  by false v is free = clash (sym is ∙ ap opposite_of free)
+
+value_of-kept : (before now : ℕ → Value) (l : Literal) → now l.var ≡ before l.var → value_of now l ≡ value_of before l
+value_of-kept before now l same = ap (λ (v : Value). cond l.positive v (opposite_of v)) same
+
+-- a literal that isn't false now never was
+pub WasOpen-now : (vars : ℕ) (es : List Entry) (l : Literal) → EachEntry (IsNew vars) es → value_of (values_of es) l ≢ False → WasOpen l es
+WasOpen-now vars es l each open_now = λ k d within decided is.
+    let sums : k + (length es - k) ≡ length es = omega arith in
+    let kept : values_of es l.var ≡ values_of (take k es) l.var =
+    ap (λ (xs : List Entry). values_of xs l.var) (sym (take_all (length es) es (omega arith)))
+    ∙ ap (λ (n : ℕ). values_of (take n es) l.var) (sym sums)
+    ∙ value_kept vars es l.var k (length es - k) each (omega arith) (false_is_set (values_of (take k es)) l is) in
+    open_now (value_of-kept (values_of (take k es)) (values_of es) l kept ∙ is)
+
+-- nor one that became false at the last level
+pub WasOpen-level : (vars : ℕ) (es : List Entry) (l : Literal) (place : ℕ) (e : Entry) → EachEntry (IsNew vars) es → place < length es → e ≡ get_or es place e → e.lit.var ≡ l.var
+    → e.level ≡ level_of es → WasOpen l es
+WasOpen-level vars es l place e each there at var level = λ k d within decided is.
+    let new : IsNew vars (take place es) e = subst (λ (x : Entry). IsNew vars (take place es) x) (sym at) (each place e there) in
+    let whole : take (place + 1) es ≡ take place es ++ e ∷ [] = take_more es place e there ∙ ap (λ (x : Entry). take place es ++ x ∷ []) (sym at) in
+    let level_is : level_of (take (place + 1) es) ≡ level_of es = ap level_of whole ∙ sym new.level ∙ level in
+    let more : level_of (take (k + 1) es) ≡ level_of (take k es) + 1 =
+    level_of-more es k d within ∙ ap (λ (b : Bool). level_of (take k es) + cond b 1 0) decided in
+    elim (cases_lt place k) [
+      | inl before ↦
+          absurd (omega (
+            arith,
+            more,
+            level_is,
+            level_of-take_le es (k + 1),
+            level_of-take_le (take k es) (place + 1),
+            ap level_of (take-take (place + 1) k es (omega arith)),
+          ))
+      | inr past ↦
+          let sums : k + (place - k) ≡ place = omega arith in
+          let set : values_of (take k es) l.var ≢ Free = false_is_set (values_of (take k es)) l is in
+          let kept : values_of (take place es) l.var ≡ values_of (take k es) l.var =
+          ap (λ (n : ℕ). values_of (take n es) l.var) (sym sums) ∙ value_kept vars es l.var k (place - k) each (omega arith) set in
+          let free : is_free (values_of (take place es) l.var) ≡ true =
+          ap (λ (v : ℕ). is_free (values_of (take place es) v)) (sym var) ∙ is_free_var (values_of (take place es)) e.lit new.free in
+          set (sym kept ∙ free_of (values_of (take place es) l.var) free)
+    ] where
+      free_of : (x : Value) → is_free x ≡ true → x ≡ Free
+      free_of True is = absurd (false≢true is)
+      free_of False is = absurd (false≢true is)
+      free_of Free is = refl
+
+-- ---- clauses
+
+-- of the first n literals at least so many weren't false before each decision
+abbrev pub WereOpen : List Literal → ℕ → ℕ → List Entry → Type 0
+WereOpen clause n open_count es = EachEntry (λ before e. is_decision e ≡ true → open_count ≤ reach (values_of before) (map unit (take n clause))) es
+
+-- 1 where a value isn't false
+abbrev one_if_open : Value → ℕ
+one_if_open v = if is_false v then 0 else 1
+
+reach-more : (values : ℕ → Value) (clause : List Literal) (n : ℕ) (l : Literal) → n < length clause → l ≡ get_or clause n l
+    → reach values (map unit (take (n + 1) clause)) ≡ reach values (map unit (take n clause)) + one_if_open (value_of values l)
+reach-more values clause n l there at =
+    ap (λ (ls : List Literal). reach values (map unit ls)) (take_more clause n l there ∙ ap (λ (m : Literal). take n clause ++ m ∷ []) (sym at))
+    ∙ ap (λ ts. reach values ts) (map-append unit (take n clause) (l ∷ []))
+    ∙ sum_by_push (open_coef values) (map unit (take n clause)) (unit l)
+
+pub WereOpen-none : (clause : List Literal) (es : List Entry) → WereOpen clause 0 0 es
+WereOpen-none clause es = λ k d within decided. omega arith
+
+pub WereOpen-pass : (clause : List Literal) (n open_count : ℕ) (l : Literal) (es : List Entry) → n < length clause → l ≡ get_or clause n l → WereOpen clause n open_count es
+    → WereOpen clause (n + 1) open_count es
+WereOpen-pass clause n open_count l es there at so_far = λ k d within decided.
+    omega (arith, so_far k d within decided, reach-more (values_of (take k es)) clause n l there at)
+
+pub WereOpen-more : (clause : List Literal) (n open_count : ℕ) (l : Literal) (es : List Entry) → n < length clause → l ≡ get_or clause n l → WasOpen l es → WereOpen clause n open_count es
+    → WereOpen clause (n + 1) (open_count + 1) es
+WereOpen-more clause n open_count l es there at opened so_far = λ k d within decided.
+    omega (
+      arith,
+      so_far k d within decided,
+      reach-more (values_of (take k es)) clause n l there at,
+      counts (value_of (values_of (take k es)) l) (opened k d within decided),
+    ) where
+      counts : (v : Value) → v ≢ False → one_if_open v ≡ 1
+      counts True other = refl
+      counts False other = absurd (other refl)
+      counts Free other = refl
+
+unit_coef : (clause : List Literal) → (j : ℕ) (d : Term) → j < length (map unit clause) → (get_or (map unit clause) j d).coef ≡ 1
+unit_coef clause = All-map (λ t. t.coef ≡ 1) unit clause (λ k d within. refl)
+
+-- two were enough
+pub IsQuietRowBelow-open : (clause : List Literal) (open_count : ℕ) (es : List Entry) → 2 ≤ open_count → WereOpen clause (length clause) open_count es → IsQuietRowBelow (at_least 1 clause) es
+IsQuietRowBelow-open clause open_count es two so_far = λ k d within decided.
+    let reached : open_count ≤ reach (values_of (take k es)) (map unit clause) =
+    subst (λ (ls : List Literal). open_count ≤ reach (values_of (take k es)) (map unit ls)) (take_all (length clause) clause (omega arith)) (so_far k d within decided) in
+    record {
+      no_conflict = omega arith;
+      none_forced = λ j t inside free. omega (arith, unit_coef clause j t inside);
+    }
+
+-- one literal more, which was open or not
+pub WereOpen-step : (clause : List Literal) (n open_count now : ℕ) (l : Literal) (test : Bool) (es : List Entry) → n < length clause → l ≡ get_or clause n l → open_count ≤ n
+    → WereOpen clause n open_count es → (test ≡ true → WasOpen l es) → (now ≡ open_count) ⊎ ((test ≡ true) × (now ≡ open_count + 1))
+    → (now ≤ n + 1) × WereOpen clause (n + 1) now es
+WereOpen-step clause n open_count now l test es there at few so_far opened (inl same) =
+    (omega (arith, same), subst (λ (k : ℕ). WereOpen clause (n + 1) k es) (sym same) (WereOpen-pass clause n open_count l es there at so_far))
+WereOpen-step clause n open_count now l test es there at few so_far opened (inr one) =
+    (omega (arith, one.1), subst (λ (k : ℕ). WereOpen clause (n + 1) k es) (sym one.1) (WereOpen-more clause n open_count l es there at (opened one.0) so_far))

@@ -1,0 +1,618 @@
+-- Looks at rows: what they force, and which rows still wait for one.
+use Rattle.std.proofs.Common.{◌≡◌, ◌≢◌, ℕ, zero, suc, ◌+◌, ◌-◌, ◌<◌, ◌≤◌, ◌⊎◌, Bool, true, false, List, [], ◌∷◌, ◌++◌, length, get_or, take}
+use Rattle.std.proofs.Common.{Some, None, refl, inl, inr, arith, ap, sym, subst, ◌∙◌}
+use Rattle.std.specs.Prelude.{slice_get}
+use Rattle.std.specs.List.{All, AllPairs}
+use Rattle.std.proofs.lemmas.Bool.{cases_lt}
+use Rattle.std.proofs.lemmas.List.{get_or_default, get_or_push, get_or-take, length_push, take_all, take_more}
+use Rattle.std.proofs.lemmas.List.Elements.{All-from_get_or, All-map, All-push}
+use Rattle.std.proofs.lemmas.Option.{IfSome_then, get_or_from_slice_get, none-some, slice_get-get_or}
+use Rattle.rows.specs.Forcing.{set_true}
+use Rattle.rows.specs.Cardinality.{at_least, unit}
+use Rattle.rows.specs.Literals.{Literal, negate}
+use Rattle.rows.specs.Rows.{IsRow, Row}
+use Rattle.rows.specs.Partials.{IsInConflict, IsQuiet, IsQuietRow, reach, value_of}
+use Rattle.rows.specs.declared.lit.Term.{Term}
+use Rattle.rows.specs.declared.partial.Value.{Value}
+use Rattle.rows.specs.declared.partial.Value.TheVariants.{True, Free}
+use Rattle.rows.proofs.UnitLemmas.{IsRow-at_least}
+use Rattle.propagate.specs.Trails.{AreLawful, EachEntry, IsBackTo, IsForcedBy, IsGrown, IsLawful, IsNew, IsNumbered, IsQuietRowBelow, KnowsVariables, NamesConflict, level_of, values_of}
+use Rattle.propagate.specs.Links.{IsLastBelow, Lacks, LeadsBelow}
+use Rattle.propagate.specs.Numbered.{row_at}
+use Rattle.propagate.specs.Paths.{SeenPath, with_entries}
+use Rattle.propagate.specs.Looks.{AreSound, IsForcedIn, IsGrownOver, IsReady, IsSeen, IsTrail, IsUnforced}
+use Rattle.propagate.specs.declared.entry.Conflict.{Conflict}
+use Rattle.propagate.specs.declared.entry.Entry.{Entry}
+use Rattle.propagate.specs.declared.force.Forced.{Forced}
+use Rattle.propagate.specs.declared.link.Link.{Link}
+use Rattle.propagate.specs.declared.settle.Looked.{Looked}
+use Rattle.propagate.proofs.EntryLemmas.{IsGrown-none, IsGrown-push, IsGrown-trans, each-push, each-take, each-weaker, level_of-push, quiet_row_below-back, quiet_row_below-grown, quiet_row_below-none, quiet_row_below-push, quiet_row-back, values_of-push}
+use Rattle.propagate.proofs.LinkLemmas.{row_at-end, row_at-front}
+use Rattle.propagate.proofs.ReachLemmas.{reach-lacks}
+use Rattle.propagate.proofs.ValueLemmas.{AreApart, reach-own, value_of-same, was_free}
+
+-- ---- growing
+
+pub IsGrownOver-none : (path : SeenPath) → AreSound path → IsGrownOver path path
+IsGrownOver-none path sound = record { same = refl; grown = IsGrown-none path.entries; lawful = sound.lawful }
+
+pub IsGrownOver-trans : (old mid new : SeenPath) → IsGrownOver old mid → IsGrownOver mid new → IsGrownOver old new
+IsGrownOver-trans old mid new first then = record {
+  same = then.same ∙ ap (λ (p : SeenPath). with_entries p new.entries) first.same;
+  grown = IsGrown-trans old.entries mid.entries new.entries first.grown then.grown;
+  lawful = subst (λ (p : SeenPath). AreLawful p.rows p.vars new.entries) first.same then.lawful;
+}
+
+pub AreSound-grown : (old new : SeenPath) → AreSound old → IsGrownOver old new → AreSound new
+AreSound-grown old new sound grown =
+    let next : AreSound (with_entries old new.entries) = record { proper = sound.proper; known = sound.known; lawful = grown.lawful } in
+    subst (λ (p : SeenPath). AreSound p) (sym grown.same) next
+
+-- ---- one row
+
+-- the row at a place has the number one above it
+pub IsNumbered-at : (rows : List Row) (place number : ℕ) → place < length rows → number ≡ place + 1 → IsNumbered rows number (row_at rows place)
+IsNumbered-at rows place number there is = record {
+  from_one = omega arith;
+  there =
+      let before : number - 1 ≡ place = omega arith in
+      ap (λ (k : ℕ). slice_get rows k) before ∙ slice_get-get_or rows place (record { terms = []; degree = 0 }) there;
+}
+
+-- an entry that a row forces
+abbrev pub forced_entry : List Entry → Literal → ℕ → Entry
+forced_entry es l number = record { lit = l; level = level_of es; reason = Some number }
+
+IsLawful-forced : (rows : List Row) (vars place number k : ℕ) (t : Term) (es : List Entry) → place < length rows → number ≡ place + 1
+    → k < length (row_at rows place).terms → t ≡ get_or (row_at rows place).terms k t → 1 ≤ t.lit.var → t.lit.var ≤ vars
+    → value_of (values_of es) t.lit ≡ Free → (row_at rows place).degree ≤ reach (values_of es) (row_at rows place).terms
+    → reach (values_of es) (row_at rows place).terms < (row_at rows place).degree + t.coef
+    → IsLawful rows vars es (forced_entry es t.lit number)
+IsLawful-forced rows vars place number k t es there is inside at from_one known free no_conflict needed = record {
+  new = record {
+    from_one = from_one;
+    known = known;
+    free = free;
+    level = omega (arith, level_of-push es (forced_entry es t.lit number));
+  };
+  reason = record {
+    row = row_at rows place;
+    numbered = IsNumbered-at rows place number there is;
+    term = t;
+    literal = refl;
+    forces = record { no_conflict = no_conflict; there = (k, inside, sym at); free = free; needed = needed };
+  };
+}
+
+no_row : Row
+no_row = record { terms = []; degree = 0 }
+
+no_term : Term
+no_term = record { coef = 0; lit = record { var = 0; positive = false } }
+
+apart_in : (path : SeenPath) (place : ℕ) → AreSound path → place < length path.rows → AreApart (row_at path.rows place).terms
+apart_in path place sound there = (sound.proper place (record { terms = []; degree = 0 }) there).variables
+
+-- the terms of a row before a place force nothing, where the row has so much slack
+pub record IsForcedUpTo (place slack from : ℕ) (old now : SeenPath) : Type 0 where
+  pub grown : IsGrownOver old now
+  pub reach_is : (row_at now.rows place).degree + slack ≡ reach (values_of now.entries) (row_at now.rows place).terms
+  pub done : IsUnforced (values_of now.entries) (row_at now.rows place).terms slack 0 from
+
+pub IsForcedUpTo-none : (place slack : ℕ) (path : SeenPath) → AreSound path
+    → (row_at path.rows place).degree + slack ≡ reach (values_of path.entries) (row_at path.rows place).terms → IsForcedUpTo place slack 0 path path
+IsForcedUpTo-none place slack path sound is = record {
+  grown = IsGrownOver-none path sound;
+  reach_is = is;
+  done = λ j d from below free. absurd (omega arith);
+}
+
+true_not_free : True ≡ Free → ⊥
+true_not_free same = cc
+
+-- the next forced literal is made true
+pub IsForcedUpTo-more : (place slack from number : ℕ) (f : Forced) (old now new : SeenPath) → AreSound old → place < length now.rows → number ≡ place + 1 → 1 ≤ f.lit.var
+    → IsForcedUpTo place slack from old now → IsForcedIn (values_of now.entries) (row_at now.rows place).terms slack from f
+    → new ≡ with_entries now (now.entries ++ forced_entry now.entries f.lit number ∷ []) → IsForcedUpTo place slack (f.place + 1) old new
+IsForcedUpTo-more place slack from number f old now new sound there is from_one so_far forced grows =
+    subst (λ (p : SeenPath). IsForcedUpTo place slack (f.place + 1) old p) (sym grows) next where
+      row : Row
+      row = row_at now.rows place
+
+      t : Term
+      t = get_or row.terms f.place no_term
+
+      lit_is : t.lit ≡ f.lit
+      lit_is = forced.literal no_term
+
+      at : t ≡ get_or row.terms f.place t
+      at = get_or_default row.terms f.place no_term t forced.there
+
+      e : Entry
+      e = forced_entry now.entries f.lit number
+
+      es : List Entry
+      es = now.entries ++ e ∷ []
+
+      values_are : values_of es ≡ set_true (values_of now.entries) f.lit
+      values_are = values_of-push now.entries e
+
+      sound_now : AreSound now
+      sound_now = AreSound-grown old now sound so_far.grown
+
+      free : value_of (values_of now.entries) t.lit ≡ Free
+      free = ap (λ (l : Literal). value_of (values_of now.entries) l) lit_is ∙ forced.free
+
+      known : t.lit.var ≤ now.vars
+      known = sound_now.known place (record { terms = []; degree = 0 }) there f.place no_term forced.there
+
+      lawful_t : IsLawful now.rows now.vars now.entries (forced_entry now.entries t.lit number)
+      lawful_t = IsLawful-forced now.rows now.vars place number f.place t now.entries there is forced.there at
+          (subst (λ (l : Literal). 1 ≤ l.var) (sym lit_is) from_one) known free (omega (arith, so_far.reach_is)) (omega (arith, so_far.reach_is, forced.needed no_term))
+
+      lawful : IsLawful now.rows now.vars now.entries e
+      lawful = subst (λ (l : Literal). IsLawful now.rows now.vars now.entries (forced_entry now.entries l number)) lit_is lawful_t
+
+      reach_same : reach (values_of es) row.terms ≡ reach (values_of now.entries) row.terms
+      reach_same =
+          ap (λ (w : ℕ → Value). reach w row.terms) (values_are ∙ ap (λ (l : Literal). set_true (values_of now.entries) l) (sym lit_is))
+          ∙ reach-own (values_of now.entries) row.terms f.place t (apart_in now place sound_now there) forced.there at free
+
+      still_free : (j : ℕ) (d : Term) → value_of (values_of es) (get_or row.terms j d).lit ≡ Free → value_of (values_of now.entries) (get_or row.terms j d).lit ≡ Free
+      still_free j d is_free =
+          was_free (values_of now.entries) f.lit (get_or row.terms j d).lit forced.free
+          (ap (λ (w : ℕ → Value). value_of w (get_or row.terms j d).lit) (sym values_are) ∙ is_free)
+
+      not_here : (j : ℕ) (d : Term) → j ≡ f.place → value_of (values_of es) (get_or row.terms j d).lit ≡ Free → ⊥
+      not_here j d here is_free =
+          let lit : (get_or row.terms j d).lit ≡ f.lit = ap (λ (i : ℕ). (get_or row.terms i d).lit) here ∙ forced.literal d in
+          true_not_free (sym (value_of-same (values_of now.entries) f.lit forced.free)
+          ∙ ap (λ (w : ℕ → Value). value_of w f.lit) (sym values_are)
+          ∙ ap (λ (l : Literal). value_of (values_of es) l) (sym lit) ∙ is_free)
+
+      next : IsForcedUpTo place slack (f.place + 1) old (with_entries now es)
+      next = record {
+        grown = record {
+          same = ap (λ (p : SeenPath). with_entries p es) so_far.grown.same;
+          grown = IsGrown-push old.entries now.entries e so_far.grown.grown refl;
+          lawful =
+              subst (λ (p : SeenPath). AreLawful p.rows p.vars es) so_far.grown.same
+              (each-push (IsLawful now.rows now.vars) now.entries e sound_now.lawful lawful);
+        };
+        reach_is = so_far.reach_is ∙ sym reach_same;
+        done = λ j d past below is_free.
+            elim (cases_lt j from) [
+              | inl before ↦ so_far.done j d (omega arith) before (still_free j d is_free)
+              | inr later ↦ elim (cases_lt j f.place) [
+                | inl before ↦ forced.before j d later before (still_free j d is_free)
+                | inr here ↦ absurd (not_here j d (omega arith) is_free)
+              ]
+            ];
+      }
+
+-- no term forces anything
+pub IsQuietRow-forced : (place slack from : ℕ) (old now : SeenPath) → IsForcedUpTo place slack from old now
+    → IsUnforced (values_of now.entries) (row_at now.rows place).terms slack from (length (row_at now.rows place).terms)
+    → IsQuietRow (values_of now.entries) (row_at now.rows place)
+IsQuietRow-forced place slack from old now so_far rest = record {
+  no_conflict = omega (arith, so_far.reach_is);
+  none_forced = λ j d inside is_free.
+      let small : (get_or (row_at now.rows place).terms j d).coef ≤ slack =
+      elim (cases_lt j from) [
+        | inl before ↦ so_far.done j d (omega arith) before is_free
+        | inr later ↦ rest j d later inside is_free
+      ] in
+      omega (arith, so_far.reach_is);
+}
+
+-- ---- rows that wait
+
+-- a literal more is true whose negation the row lacks
+quiet-push : (row : Row) (before : List Entry) (e : Entry) → value_of (values_of before) e.lit ≡ Free → Lacks (negate e.lit) row.terms
+    → IsQuietRow (values_of before) row → IsQuietRow (values_of (before ++ e ∷ [])) row
+quiet-push row before e free lacks quiet =
+    let next : IsQuietRow (set_true (values_of before) e.lit) row = record {
+      no_conflict = omega (arith, reach-lacks (values_of before) e.lit row.terms free lacks, quiet.no_conflict);
+      none_forced = λ j d inside is_free.
+          omega (
+            arith,
+            reach-lacks (values_of before) e.lit row.terms free lacks,
+            quiet.none_forced j d inside (was_free (values_of before) e.lit (get_or row.terms j d).lit free is_free),
+          );
+    } in
+    subst (λ (w : ℕ → Value). IsQuietRow w row) (sym (values_of-push before e)) next
+
+-- no entry from a place on makes one of these literals false
+abbrev pub NoneFalse : List Term → List Entry → ℕ → Type 0
+NoneFalse terms es from = (j : ℕ) (d : Entry) → from ≤ j → j < length es → Lacks (negate (get_or es j d).lit) terms
+
+quiet-steps : (row : Row) (vars : ℕ) (es : List Entry) (m n : ℕ) → EachEntry (IsNew vars) es → m + n ≤ length es → NoneFalse row.terms es m
+    → IsQuietRow (values_of (take m es)) row → IsQuietRow (values_of (take (m + n) es)) row
+quiet-steps row vars es m zero each within none quiet =
+    let same : m ≡ m + zero = omega arith in
+    subst (λ (k : ℕ). IsQuietRow (values_of (take k es)) row) same quiet
+quiet-steps row vars es m (suc n) each within none quiet =
+    let there : m < length es = omega arith in
+    let e : Entry = get_or es m (record { lit = record { var = 0; positive = true }; level = 0; reason = None }) in
+    let step : IsQuietRow (values_of (take m es ++ e ∷ [])) row =
+    quiet-push row (take m es) e (each m _ there).free (none m _ (omega arith) there) quiet in
+    let next : IsQuietRow (values_of (take (m + 1) es)) row =
+    subst (λ (xs : List Entry). IsQuietRow (values_of xs) row) (sym (take_more es m _ there)) step in
+    let sums : m + 1 + n ≡ m + suc n = omega arith in
+    subst (λ (k : ℕ). IsQuietRow (values_of (take k es)) row) sums
+    (quiet-steps row vars es (m + 1) n each (omega arith) (λ j d past inside. none j d (omega arith) inside) next)
+
+-- entries that are lawful are new
+pub news : (rows : List Row) (vars : ℕ) (es : List Entry) → AreLawful rows vars es → EachEntry (IsNew vars) es
+news rows vars es lawful = each-weaker (IsLawful rows vars) (IsNew vars) es (λ before e is. is.new) lawful
+
+-- rows that wait still wait where entries came
+seen-grown : (row : Row) (rows : List Row) (vars : ℕ) (old new : List Entry) (from : ℕ) → from ≤ length old → AreLawful rows vars new → IsGrown old new
+    → IsSeen row old from → IsSeen row new from
+seen-grown row rows vars old new from within lawful grown seen = λ none.
+    let quiet : IsQuietRow (values_of old) row = seen (λ j d past inside.
+    subst (λ (e : Entry). Lacks (negate e.lit) row.terms)
+    (sym (get_or-take (length old) new j d inside) ∙ ap (λ (es : List Entry). get_or es j d) grown.kept)
+    (none j d past (omega (arith, grown.longer)))) in
+    let sums : length old + (length new - length old) ≡ length new = omega (arith, grown.longer) in
+    subst (λ (es : List Entry). IsQuietRow (values_of es) row) (take_all (length new) new (omega arith))
+    (subst (λ (k : ℕ). IsQuietRow (values_of (take k new)) row) sums
+    (quiet-steps row vars new (length old) (length new - length old) (news rows vars new lawful) (omega (arith, grown.longer))
+    (λ j d past inside. none j d (omega arith) inside)
+    (subst (λ (es : List Entry). IsQuietRow (values_of es) row) (sym grown.kept) quiet)))
+
+-- a row that the next entry doesn't touch
+seen-next : (row : Row) (es : List Entry) (from : ℕ) → ((d : Entry) → Lacks (negate (get_or es from d).lit) row.terms) → IsSeen row es from → IsSeen row es (from + 1)
+seen-next row es from lacks seen = λ none.
+    seen (λ j d past inside. elim (cases_lt from j) [
+      | inl later ↦ none j d (omega arith) inside
+      | inr here ↦
+          let is : from ≡ j = omega arith in
+          subst (λ (i : ℕ). Lacks (negate (get_or es i d).lit) row.terms) is (lacks d)
+    ])
+
+-- ---- how far a path was looked at
+
+ready-entries : (path : SeenPath) (looked : Looked) (es : List Entry) → IsReady path looked → IsGrown path.entries es → AreLawful path.rows path.vars es
+    → IsReady (with_entries path es) looked
+ready-entries path looked es ready grown lawful = record {
+  sound = record { proper = ready.sound.proper; known = ready.sound.known; lawful = lawful };
+  entries = omega (arith, ready.entries, grown.longer);
+  rows = ready.rows;
+  seen = λ k below. seen-grown (row_at path.rows k) path.rows path.vars path.entries es looked.entries ready.entries lawful grown (ready.seen k below);
+}
+
+pub IsReady-grown : (old new : SeenPath) (looked : Looked) → IsReady old looked → IsGrownOver old new → IsReady new looked
+IsReady-grown old new looked ready grown =
+    subst (λ (p : SeenPath). IsReady p looked) (sym grown.same) (ready-entries old looked new.entries ready grown.grown grown.lawful)
+
+-- the next row is quiet
+pub IsReady-row : (path : SeenPath) (old new : Looked) → IsReady path old → old.rows < length path.rows → IsQuietRow (values_of path.entries) (row_at path.rows old.rows)
+    → new ≡ record old { rows = old.rows + 1 } → IsReady path new
+IsReady-row path old new ready there quiet is =
+    let next : IsReady path (record old { rows = old.rows + 1 }) = record {
+      sound = ready.sound;
+      entries = ready.entries;
+      rows = omega arith;
+      seen = λ k below. elim (cases_lt k old.rows) [
+        | inl before ↦ ready.seen k before
+        | inr past ↦
+            let here : old.rows ≡ k = omega arith in
+            subst (λ (i : ℕ). IsSeen (row_at path.rows i) path.entries old.entries) here (λ none. quiet)
+      ];
+    } in
+    subst (λ (l : Looked). IsReady path l) (sym is) next
+
+-- nothing waits
+pub IsQuiet-ready : (path : SeenPath) (looked : Looked) → IsReady path looked → length path.entries ≤ looked.entries → looked.rows ≡ length path.rows
+    → IsQuiet (values_of path.entries) path.rows
+IsQuiet-ready path looked ready entries rows =
+    All-from_get_or (IsQuietRow (values_of path.entries)) path.rows (record { terms = []; degree = 0 })
+    (λ j inside. ready.seen j (omega (arith, rows)) (λ i d past within. absurd (omega arith)))
+
+pub NamesConflict-at : (rows : List Row) (values : ℕ → Value) (place : ℕ) (conflict : Conflict) → place < length rows → conflict ≡ record { row = place + 1 }
+    → IsInConflict values (row_at rows place) → NamesConflict rows values conflict
+NamesConflict-at rows values place conflict there is in_conflict =
+    let named : NamesConflict rows values (record { row = place + 1 }) = record {
+      row = row_at rows place;
+      numbered = IsNumbered-at rows place (place + 1) there refl;
+      conflict_is = in_conflict;
+    } in
+    subst (λ (c : Conflict). NamesConflict rows values c) (sym is) named
+
+-- ---- the rows of one entry
+
+-- Of the rows in which the literal stands, those from a bound on no longer wait for this entry.
+pub record IsVisiting (old now : SeenPath) (looked : Looked) (l : Literal) (at : ℕ) : Type 0 where
+  pub grown : IsGrownOver old now
+  pub ready : IsReady now looked
+  pub there : looked.entries < length now.entries
+  pub literal : (d : Entry) → negate (get_or now.entries looked.entries d).lit ≡ l
+  pub bound : ℕ
+  pub within : bound ≤ length now.rows
+  pub leads : LeadsBelow now.rows now.links l bound at
+  pub above : (k : ℕ) → bound ≤ k → k < looked.rows → IsSeen (row_at now.rows k) now.entries (looked.entries + 1)
+
+pub IsVisiting-none : (path : SeenPath) (looked : Looked) (e : Entry) (l : Literal) (at : ℕ) → IsReady path looked → looked.entries < length path.entries
+    → slice_get path.entries looked.entries ≡ Some e → l ≡ negate e.lit
+    → LeadsBelow path.rows path.links l (length path.rows) at → IsVisiting path path looked l at
+IsVisiting-none path looked e l at ready there got is leads = record {
+  grown = IsGrownOver-none path ready.sound;
+  ready = ready;
+  there = there;
+  literal = λ d. ap (λ (x : Entry). negate x.lit) (get_or_from_slice_get path.entries looked.entries e d got) ∙ sym is;
+  bound = length path.rows;
+  within = omega arith;
+  leads = leads;
+  above = λ k past below. absurd (omega (arith, ready.rows));
+}
+
+lacked : (row : Row) (es : List Entry) (from : ℕ) (l : Literal) → ((d : Entry) → negate (get_or es from d).lit ≡ l) → Lacks l row.terms → IsSeen row es from → IsSeen row es (from + 1)
+lacked row es from l is lacks seen = seen-next row es from (λ d. subst (λ (m : Literal). Lacks m row.terms) (sym (is d)) lacks) seen
+
+-- one row more was looked at
+pub IsVisiting-more : (old now new : SeenPath) (looked : Looked) (l : Literal) (at : ℕ) (link : Link) → (visiting : IsVisiting old now looked l at)
+    → IsLastBelow now.rows l visiting.bound link → LeadsBelow now.rows now.links l link.row link.next
+    → IsGrownOver now new → IsQuietRow (values_of new.entries) (row_at new.rows link.row) → IsVisiting old new looked l link.next
+IsVisiting-more old now new looked l at link visiting last leads grown quiet =
+    subst (λ (p : SeenPath). IsVisiting old p looked l link.next) (sym grown.same) next where
+      es : List Entry
+      es = new.entries
+
+      quiet_now : IsQuietRow (values_of es) (row_at now.rows link.row)
+      quiet_now = subst (λ (p : SeenPath). IsQuietRow (values_of es) (row_at p.rows link.row)) grown.same quiet
+
+      grow : (k : ℕ) → IsSeen (row_at now.rows k) now.entries (looked.entries + 1) → IsSeen (row_at now.rows k) es (looked.entries + 1)
+      grow k seen = seen-grown (row_at now.rows k) now.rows now.vars now.entries es (looked.entries + 1) (omega (arith, visiting.there)) grown.lawful grown.grown seen
+
+      next : IsVisiting old (with_entries now es) looked l link.next
+      next = record {
+        grown = record {
+          same = ap (λ (p : SeenPath). with_entries p es) visiting.grown.same;
+          grown = IsGrown-trans old.entries now.entries es visiting.grown.grown grown.grown;
+          lawful = subst (λ (p : SeenPath). AreLawful p.rows p.vars es) visiting.grown.same grown.lawful;
+        };
+        ready = ready-entries now looked es visiting.ready grown.grown grown.lawful;
+        there = omega (arith, visiting.there, grown.grown.longer);
+        literal = λ d.
+            ap (λ (e : Entry). negate e.lit)
+            (sym (get_or-take (length now.entries) es looked.entries d visiting.there) ∙ ap (λ (xs : List Entry). get_or xs looked.entries d) grown.grown.kept)
+            ∙ visiting.literal d;
+        bound = link.row;
+        within = omega (arith, last.below, visiting.within);
+        leads = leads;
+        above = λ k past below. elim (cases_lt link.row k) [
+          | inl later ↦ elim (cases_lt k visiting.bound) [
+            | inl between ↦
+                grow k (lacked (row_at now.rows k) now.entries looked.entries l visiting.literal (last.between k later between) (visiting.ready.seen k below))
+            | inr above ↦ grow k (visiting.above k above below)
+          ]
+          | inr here ↦
+              let is : link.row ≡ k = omega arith in
+              subst (λ (i : ℕ). IsSeen (row_at now.rows i) es (looked.entries + 1)) is (λ none. quiet_now)
+        ];
+      }
+
+-- all rows of the entry were
+pub IsReady-visited : (old now : SeenPath) (looked : Looked) (l : Literal) (at : ℕ) → IsVisiting old now looked l at → at ≡ 0
+    → IsReady now (record looked { entries = looked.entries + 1 })
+IsReady-visited old now looked l at visiting ended = record {
+  sound = visiting.ready.sound;
+  entries = omega (arith, visiting.there);
+  rows = visiting.ready.rows;
+  seen = λ k below. elim (cases_lt k visiting.bound) [
+    | inl before ↦ lacked (row_at now.rows k) now.entries looked.entries l visiting.literal (visiting.leads.none ended k before) (visiting.ready.seen k below)
+    | inr past ↦ visiting.above k past below
+  ];
+}
+
+-- ---- the trail's other calls
+
+slice_get-append : {X : Type 0} (xs ys : List X) (k : ℕ) (x : X) → slice_get xs k ≡ Some x → slice_get (xs ++ ys) k ≡ Some x
+slice_get-append [] ys k x is = absurd (none-some x is)
+slice_get-append (y ∷ xs) ys zero x is = is
+slice_get-append (y ∷ xs) ys (suc k) x is = slice_get-append xs ys k x is
+
+forced_among : (rows more : List Row) (before : List Entry) (lit : Literal) (number : ℕ) → IsForcedBy rows before lit number → IsForcedBy (rows ++ more) before lit number
+forced_among rows more before lit number by = record {
+  row = by.row;
+  numbered = record {
+    from_one = by.numbered.from_one;
+    there = slice_get-append rows more (number - 1) by.row by.numbered.there;
+  };
+  term = by.term;
+  literal = by.literal;
+  forces = by.forces;
+}
+
+-- what is lawful over rows is so where more rows come
+pub AreLawful-more : (rows more : List Row) (vars : ℕ) (es : List Entry) → AreLawful rows vars es → AreLawful (rows ++ more) vars es
+AreLawful-more rows more vars es lawful =
+    each-weaker (IsLawful rows vars) (IsLawful (rows ++ more) vars) es (λ before e is. record {
+      new = is.new;
+      reason = IfSome_then e.reason is.reason (λ number by. forced_among rows more before e.lit number by);
+    }) lawful
+
+-- a clause more
+pub AreSound-add : (old new : SeenPath) (clause : List Literal) → AreSound old → new.vars ≡ old.vars → new.entries ≡ old.entries → new.rows ≡ old.rows ++ at_least 1 clause ∷ []
+    → All (λ l. l.var ≤ old.vars) clause → AllPairs (λ l m. l.var ≢ m.var) clause → AreSound new
+AreSound-add old new clause sound vars entries rows known differ = record {
+  proper = subst (λ (rs : List Row). All IsRow rs) (sym rows) (All-push IsRow old.rows (at_least 1 clause) sound.proper (IsRow-at_least 1 clause differ));
+  known =
+      subst (λ (n : ℕ). All (KnowsVariables n) new.rows) (sym vars)
+      (subst (λ (rs : List Row). All (KnowsVariables old.vars) rs) (sym rows)
+      (All-push (KnowsVariables old.vars) old.rows (at_least 1 clause) sound.known (All-map (λ t. t.lit.var ≤ old.vars) unit clause known)));
+  lawful =
+      subst (λ (n : ℕ). AreLawful new.rows n new.entries) (sym vars)
+      (subst (λ (es : List Entry). AreLawful new.rows old.vars es) (sym entries)
+      (subst (λ (rs : List Row). AreLawful rs old.vars old.entries) (sym rows) (AreLawful-more old.rows (at_least 1 clause ∷ []) old.vars old.entries sound.lawful)));
+}
+
+pub IsTrail-add : (old new : SeenPath) (looked : Looked) (settled now count : ℕ) (calm : Bool) (clause : List Literal) → IsTrail old looked settled
+    → new.vars ≡ old.vars → new.entries ≡ old.entries → new.rows ≡ old.rows ++ at_least 1 clause ∷ []
+    → All (λ l. l.var ≤ old.vars) clause → AllPairs (λ l m. l.var ≢ m.var) clause
+    → count ≡ length old.rows → (calm ≡ true → IsQuietRowBelow (at_least 1 clause) old.entries)
+    → (now ≡ settled) ⊎ ((calm ≡ true) × (settled ≡ count) × (now ≡ count + 1))
+    → IsTrail new looked now
+IsTrail-add old new looked settled now count calm clause trail vars entries rows known differ count_is quiet choice = record {
+  ready = record {
+    sound = AreSound-add old new clause trail.ready.sound vars entries rows known differ;
+    entries = omega (arith, trail.ready.entries, ap (λ (es : List Entry). length es) entries);
+    rows = omega (arith, trail.ready.rows, longer);
+    seen = λ k below.
+        subst (λ (es : List Entry). IsSeen (row_at new.rows k) es looked.entries) (sym entries)
+        (subst (λ (r : Row). IsSeen r old.entries looked.entries) (sym (front k (omega (arith, trail.ready.rows)))) (trail.ready.seen k below));
+  };
+  within = bounded choice;
+  below = quiet_below choice;
+} where
+  longer : length new.rows ≡ length old.rows + 1
+  longer = ap (λ (rs : List Row). length rs) rows ∙ length_push old.rows (at_least 1 clause)
+
+  front : (k : ℕ) → k < length old.rows → row_at new.rows k ≡ row_at old.rows k
+  front k within = ap (λ (rs : List Row). row_at rs k) rows ∙ row_at-front old.rows (at_least 1 clause ∷ []) k within
+
+  old_below : (k : ℕ) → k < settled → IsQuietRowBelow (row_at new.rows k) new.entries
+  old_below k less =
+      subst (λ (es : List Entry). IsQuietRowBelow (row_at new.rows k) es) (sym entries)
+      (subst (λ (r : Row). IsQuietRowBelow r old.entries) (sym (front k (omega (arith, trail.within)))) (trail.below k less))
+
+  last_below : calm ≡ true → IsQuietRowBelow (row_at new.rows (length old.rows)) new.entries
+  last_below is_calm =
+      subst (λ (es : List Entry). IsQuietRowBelow (row_at new.rows (length old.rows)) es) (sym entries)
+      (subst (λ (r : Row). IsQuietRowBelow r old.entries)
+      (sym (ap (λ (rs : List Row). row_at rs (length old.rows)) rows ∙ row_at-end old.rows (at_least 1 clause) (length old.rows) refl)) (quiet is_calm))
+
+  bounded : (now ≡ settled) ⊎ ((calm ≡ true) × (settled ≡ count) × (now ≡ count + 1)) → now ≤ length new.rows
+  bounded (inl same) = omega (arith, same, trail.within, longer)
+  bounded (inr more) = omega (arith, more.2, longer, count_is)
+
+  quiet_below : (now ≡ settled) ⊎ ((calm ≡ true) × (settled ≡ count) × (now ≡ count + 1)) → (k : ℕ) → k < now
+      → IsQuietRowBelow (row_at new.rows k) new.entries
+  quiet_below (inl same) k less = old_below k (omega (arith, same))
+  quiet_below (inr more) k less = elim (cases_lt k settled) [
+    | inl before ↦ old_below k before
+    | inr past ↦
+        let here : length old.rows ≡ k = omega (arith, more.1, more.2, count_is) in
+        subst (λ (i : ℕ). IsQuietRowBelow (row_at new.rows i) new.entries) here (last_below more.0)
+  ]
+
+-- ---- the trail's calls
+
+pub IsTrail-none : (path : SeenPath) (settled : ℕ) → All IsRow path.rows → All (KnowsVariables path.vars) path.rows → path.entries ≡ [] → settled ≡ length path.rows
+    → IsTrail path (record { entries = 0; rows = 0 }) settled
+IsTrail-none path settled proper known none is = record {
+  ready = record {
+    sound = record { proper = proper; known = known; lawful = λ k d within. absurd (nothing k within) };
+    entries = omega arith;
+    rows = omega arith;
+    seen = λ k below. absurd (omega arith);
+  };
+  within = omega (arith, is);
+  below = λ k less i d within. absurd (nothing i within);
+} where
+  nothing : (k : ℕ) → k < length path.entries → ⊥
+  nothing k within = absurd (omega (arith, ap (λ (es : List Entry). length es) none))
+
+pub IsTrail-run : (old new : SeenPath) (before after : Looked) (settled : ℕ) → IsTrail old before settled → IsGrownOver old new → IsReady new after → IsTrail new after settled
+IsTrail-run old new before after settled trail grown ready = record {
+  ready = ready;
+  within = subst (λ (p : SeenPath). settled ≤ length p.rows) (sym grown.same) trail.within;
+  below = λ k less.
+      subst (λ (p : SeenPath). IsQuietRowBelow (row_at p.rows k) new.entries) (sym grown.same)
+      (quiet_row_below-grown (row_at old.rows k) old.entries new.entries grown.grown (trail.below k less));
+}
+
+-- a decision where all rows are quiet
+pub IsTrail-decide : (old new : SeenPath) (before after : Looked) (settled : ℕ) (lit : Literal) → IsTrail old before settled → 1 ≤ lit.var → lit.var ≤ old.vars
+    → value_of (values_of old.entries) lit ≡ Free → IsQuiet (values_of old.entries) old.rows
+    → after ≡ record before { entries = length old.entries }
+    → new ≡ with_entries old (old.entries ++ record { lit = lit; level = level_of old.entries + 1; reason = None } ∷ [])
+    → IsTrail new after settled
+IsTrail-decide old new before after settled lit trail from_one known free quiet is grows =
+    subst (λ (l : Looked). IsTrail new l settled) (sym is)
+    (subst (λ (p : SeenPath). IsTrail p (record before { entries = length old.entries }) settled) (sym grows) next) where
+      e : Entry
+      e = record { lit = lit; level = level_of old.entries + 1; reason = None }
+
+      es : List Entry
+      es = old.entries ++ e ∷ []
+
+      lawful_e : IsLawful old.rows old.vars old.entries e
+      lawful_e = record {
+        new = record { from_one = from_one; known = known; free = free; level = sym (level_of-push old.entries e) };
+        reason = tt;
+      }
+
+      quiet_at : (k : ℕ) → k < length old.rows → IsQuietRow (values_of old.entries) (row_at old.rows k)
+      quiet_at k within = quiet k (record { terms = []; degree = 0 }) within
+
+      next : IsTrail (with_entries old es) (record before { entries = length old.entries }) settled
+      next = record {
+        ready = record {
+          sound = record {
+            proper = trail.ready.sound.proper;
+            known = trail.ready.sound.known;
+            lawful = each-push (IsLawful old.rows old.vars) old.entries e trail.ready.sound.lawful lawful_e;
+          };
+          entries = omega (arith, length_push old.entries e);
+          rows = trail.ready.rows;
+          seen = λ k below none.
+              let lacks : Lacks (negate e.lit) (row_at old.rows k).terms =
+              subst (λ (x : Entry). Lacks (negate x.lit) (row_at old.rows k).terms) (get_or_push old.entries e e (length old.entries) refl)
+              (none (length old.entries) e (omega arith) (omega (arith, length_push old.entries e))) in
+              quiet-push (row_at old.rows k) old.entries e free lacks (quiet_at k (omega (arith, trail.ready.rows)));
+        };
+        within = trail.within;
+        below = λ k less. quiet_row_below-push (row_at old.rows k) old.entries e (quiet_at k (omega (arith, trail.within))) (trail.below k less);
+      }
+
+-- levels were taken off
+pub IsTrail-back : (old new : SeenPath) (before after : Looked) (settled now level count : ℕ) → IsTrail old before settled → new ≡ with_entries old new.entries
+    → IsBackTo level old.entries new.entries → level < level_of old.entries → after ≡ record { entries = length new.entries; rows = settled }
+    → count ≡ length new.rows → (now ≡ settled) ⊎ ((level ≡ 0) × (now ≡ count)) → IsTrail new after now
+IsTrail-back old new before after settled now level count trail same back less is count_is choice =
+    subst (λ (l : Looked). IsTrail new l now) (sym is)
+    (subst (λ (p : SeenPath). IsTrail p (record { entries = length new.entries; rows = settled }) now) (sym same) next) where
+      es : List Entry
+      es = new.entries
+
+      as_many : length new.rows ≡ length old.rows
+      as_many = ap (λ (p : SeenPath). length p.rows) same
+
+      bounded : (now ≡ settled) ⊎ ((level ≡ 0) × (now ≡ count)) → now ≤ length old.rows
+      bounded (inl kept) = omega (arith, kept, trail.within)
+      bounded (inr all) = omega (arith, all.1, count_is, as_many)
+
+      quiet_below : (now ≡ settled) ⊎ ((level ≡ 0) × (now ≡ count)) → (k : ℕ) → k < now → IsQuietRowBelow (row_at old.rows k) es
+      quiet_below (inl kept) k below = quiet_row_below-back (row_at old.rows k) level old.entries es back (trail.below k (omega (arith, kept)))
+      quiet_below (inr all) k below = quiet_row_below-none (row_at old.rows k) es (back.level_is ∙ all.0)
+
+      next : IsTrail (with_entries old es) (record { entries = length es; rows = settled }) now
+      next = record {
+        ready = record {
+          sound = record {
+            proper = trail.ready.sound.proper;
+            known = trail.ready.sound.known;
+            lawful =
+                subst (λ (xs : List Entry). AreLawful old.rows old.vars xs) (sym back.front)
+                (each-take (IsLawful old.rows old.vars) old.entries (length es) back.shorter trail.ready.sound.lawful);
+          };
+          entries = omega arith;
+          rows = trail.within;
+          seen = λ k below none. quiet_row-back (row_at old.rows k) level old.entries es back less (trail.below k below);
+        };
+        within = bounded choice;
+        below = quiet_below choice;
+      }
+
+pub forced_known : (path : SeenPath) (place slack from : ℕ) (f : Forced) → AreSound path → place < length path.rows
+    → IsForcedIn (values_of path.entries) (row_at path.rows place).terms slack from f → f.lit.var ≤ path.vars
+forced_known path place slack from f sound there forced =
+    subst (λ (l : Literal). l.var ≤ path.vars) (forced.literal no_term) (sound.known place (record { terms = []; degree = 0 }) there f.place no_term forced.there)
+
+-- the next row of a literal
+pub visiting_last : (old now : SeenPath) (looked : Looked) (l : Literal) (at : ℕ) (x : Link) → (visiting : IsVisiting old now looked l at) → 0 < at → slice_get now.links (at - 1) ≡ Some x
+    → IsLastBelow now.rows l visiting.bound x
+visiting_last old now looked l at x visiting some got =
+    subst (λ (y : Link). IsLastBelow now.rows l visiting.bound y) (get_or_from_slice_get now.links (at - 1) x x got) (visiting.leads.some (at - 1) x (omega arith))

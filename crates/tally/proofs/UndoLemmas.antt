@@ -1,0 +1,15 @@
+-- An edit that is applied can be taken back, and then the counts are what they were.
+use Rattle.std.proofs.Common.{◌≡◌, ℕ, ◌+◌, ◌≤◌, ◌⊎◌, inl, inr, arith}
+use Rattle.league.specs.Counts.{Counts, counts_of}
+use Rattle.cells.proofs.TableLemmas.{same_counts}
+use Rattle.moves.specs.Round.{AreApart, Edits}
+
+-- the games put on are there, where none of them was taken off
+pub into_there : (before after : Counts) (edit : Edits) → AreApart edit → ((i j s : ℕ) → after i j s + counts_of edit.out i j s ≡ before i j s + counts_of edit.into i j s) → (i j s : ℕ) → counts_of edit.into i j s ≤ after i j s
+into_there before after edit apart change i j s = elim (apart i j s) as (λ _. counts_of edit.into i j s ≤ after i j s) [
+  | inl none ↦ omega (arith, none, change i j s)
+  | inr none ↦ omega (arith, none)
+]
+
+pub undone : (before after back : Counts) (edit : Edits) → ((i j s : ℕ) → after i j s + counts_of edit.out i j s ≡ before i j s + counts_of edit.into i j s) → ((i j s : ℕ) → back i j s + counts_of edit.into i j s ≡ after i j s + counts_of edit.out i j s) → back ≡ before
+undone before after back edit change undo = same_counts back before (λ i j s. omega (arith, change i j s, undo i j s))
