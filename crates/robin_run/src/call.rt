@@ -90,7 +90,8 @@ fn answer<S: Shelf>(alloc: Global, words: &[String], shelf: &mut S) -> Result<Re
 /// - `solved` says the same as `checked` of `solve`: where the instance file is within its limit and well-formed, and the
 ///   rows of its league have at most 40,000,000 terms, what is found is written whole. It is a schedule that the league
 ///   accepts with its objective, a log that `check` accepts, or a log that is spent at the budget; and a schedule
-///   wherever the league accepts that of the circle method. Behind a schedule stand the moves of the descent that led to
+///   wherever the league accepts that of the circle method, a log that `check` accepts wherever its venue counts are short
+///   or crowded. Behind a schedule stand the moves of the descent that led to
 ///   it, at most as many as the budget of moves: taken backwards from the schedule they are legal, each raises the
 ///   score, and they end in a schedule that is accepted too, whose objective is written. It says `settled=yes` exactly
 ///   where no legal move lowers the score of the schedule, and a budget of as many moves as the first objective settles.
