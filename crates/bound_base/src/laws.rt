@@ -1,0 +1,11 @@
+//! Laws of bound rows: a function that does nothing and whose contract is proved.
+ghost use Rattle.bound_base.specs.Faithful.{AnswersAreBounded, BoundedHaveValues, RefutedBoundsHold};
+
+/// The bound rows are faithful both ways, for every league and bound. An accepted schedule with an objective of at most
+/// the bound gives values that satisfy them; an assignment that satisfies them decodes to such a schedule. So where no
+/// assignment satisfies the rows of one less than a number, every accepted schedule has an objective of at least it.
+pub fn faithful()
+    ensures values { BoundedHaveValues }
+    ensures answers { AnswersAreBounded }
+    ensures refuted { RefutedBoundsHold }
+{}
