@@ -1,5 +1,5 @@
 //! Rows that are being written.
-ghost use Rattle.std.specs.Prelude.{◌≡◌, ◌≢◌, ◌+◌, ◌^◌, ◌<◌, ◌≤◌, ◌++◌, length, IfOk, OnOk};
+ghost use Rattle.std.specs.Prelude.{◌≡◌, ◌≢◌, ◌+◌, ◌^◌, ◌<◌, ◌≤◌, ◌++◌, [], length, IfOk, OnOk};
 ghost use Rattle.std.specs.List.{AllPairs};
 ghost use Rattle.rows.specs.Cardinality.{exactly};
 ghost use Rattle.encoding_base.specs.Ascending.{AreMeetings, AreSlots};
@@ -19,6 +19,17 @@ pub(crate) struct Draft {
 }
 
 impl Draft {
+    /// No rows.
+    pub(crate) fn new(alloc: Global) -> Draft
+        ensures { result.rows ≡ [] }
+    {
+        Draft {
+            rows: RowStore::new(alloc),
+            literals: Vec::new(alloc),
+            terms: Vec::new(alloc),
+        }
+    }
+
     /// Some rows, with room for the longest list of a league of n teams: none is longer than that of all its games.
     pub(crate) fn with_room(alloc: Global, rows: RowStore, n: u16) -> Result<Draft, AllocError>
         requires { n ≤ 40 }

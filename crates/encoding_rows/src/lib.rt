@@ -12,4 +12,5 @@ mod season_rows;
 mod venue_rows;
 mod writer;
 
-pub use writer::write_rows;
+pub use season::Season;
+pub use writer::{write_class, write_rows, write_rows_with};

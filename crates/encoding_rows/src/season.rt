@@ -13,7 +13,7 @@ use std::marker::Model;
 
 /// The season of n teams, with its teams, slots and meetings in order: seen as n.
 #[derive(Drop)]
-pub(crate) struct Season {
+pub struct Season {
     n: u16,
     teams: Vec<u16>,
     slots: Vec<u16>,
@@ -33,7 +33,10 @@ impl Model for Season {
 
 impl Season {
     /// The season of n teams.
-    pub(crate) fn new(alloc: Global, n: u16) -> Result<Season, AllocError>
+    ///
+    /// # Errors
+    /// Only where memory runs out.
+    pub fn new(alloc: Global, n: u16) -> Result<Season, AllocError>
         requires { IsTeamCount n }
         ensures { IfOk result (λ season. season ≡ n) }
     {
@@ -49,7 +52,7 @@ impl Season {
     }
 
     /// The number of teams.
-    pub(crate) fn n(&self) -> u16
+    pub fn n(&self) -> u16
         ensures n { result ≡ self.now }
         ensures count { IsTeamCount self.now }
     {
