@@ -1,7 +1,9 @@
 pub mod KeptMeetingLemmas
 pub mod ListedLemmas
+pub mod OpponentLemmas
 pub mod PlaceLemmas
 pub mod RowLemmas
+pub mod SeenLemmas
 pub mod SpareLemmas
 pub mod TableFacts
 pub mod TableLemmas

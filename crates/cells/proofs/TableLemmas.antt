@@ -1,12 +1,12 @@
 -- The counts of a table of places with its spare games, and what is kept beside it, with one game more or less.
 use Rattle.std.proofs.Common.{◌≡◌, ◌≢◌, ◌⊎◌, ℕ, ◌+◌, ◌*◌, ◌-◌, ◌<◌, ◌≤◌, zero, suc, Bool, true, false, ◌&&◌, ◌==◌, nat_lt, List, [], ◌∷◌, length, get_or, replicate, refl, arith, ap, ◌∙◌, sym, subst, inl, inr, mul_comm, zero-add}
-use Rattle.std.proofs.lemmas.Bool.{cases_eq, cases_lt, cond_both}
+use Rattle.std.proofs.lemmas.Bool.{cases_eq, cases_lt, cond_both, false≢true}
 use Rattle.std.proofs.lemmas.Bool.Decides.{nat_tests}
 use Rattle.std.proofs.lemmas.List.FromFn.{get_or-range_with_len, length-range_with_len}
 use Rattle.std.proofs.lemmas.List.{length-replicate}
-use Rattle.std.proofs.lemmas.List.Sums.{get_or-le-sum_by, sum_by-cons, sum_by-le}
+use Rattle.std.proofs.lemmas.List.Sums.{get_or-le-sum_by, sum-map, sum_by-cons, sum_by-le}
 use Rattle.std.proofs.lemmas.Nat.{mul-add-lt, mul-le}
-use Rattle.std.specs.List.{All, sum, sum_by}
+use Rattle.std.specs.List.{All, range_with_len, sum, sum_by}
 use Rattle.league.specs.Counts.{Counts, counts_of, is_game, one_more, slot_count, teams_of}
 use Rattle.league.specs.Instance.{IsGame, IsTeamCount}
 use Rattle.league.specs.Venues.{away_games, home_games}
@@ -18,14 +18,16 @@ use Rattle.league.proofs.TableLemmas.{number-replicate}
 use Rattle.league.specs.Grid.{number}
 use Rattle.cells.proofs.ListedLemmas as listed_lemmas
 use Rattle.cells.proofs.ListedLemmas.{IsWithin, counts-listed, sum-one_more, table_of}
+use Rattle.cells.proofs.OpponentLemmas.{sum_of_none}
 use Rattle.cells.proofs.PlaceLemmas.{place_at-outside}
 use Rattle.cells.specs.Opponents.{AreMirrored, place_at}
-use Rattle.cells.specs.Places.{hosts}
+use Rattle.cells.specs.Places.{hosts, visits}
 use Rattle.cells.specs.Spare.{IsSpare}
 use Rattle.cells.specs.Table.{Table, table_counts}
 use Rattle.cells.specs.Tables.{AreKept, AreOpponents, HasRows, IsOneMore, kept_counts, listed}
 use Rattle.cells.specs.declared.counters.Counters.{Counters}
 use Rattle.cells.specs.declared.place.Place.{Place}
+use Rattle.cells.specs.declared.place.Place.TheVariants.{Free, Home, Away}
 
 -- functions that give equal counts are one
 pub same_counts : (m k : Counts) → ((i j s : ℕ) → m i j s ≡ k i j s) → m ≡ k
@@ -37,7 +39,7 @@ fails true h = absurd (h refl)
 fails false h = refl
 
 -- games of the league have no other team, and no other slot
-none_of : (n i j s : ℕ) (spare : List Game) → All (IsGame n) spare → (n ≤ i) ⊎ (n ≤ j) ⊎ (slot_count n ≤ s) → counts_of spare i j s ≡ 0
+pub none_of : (n i j s : ℕ) (spare : List Game) → All (IsGame n) spare → (n ≤ i) ⊎ (n ≤ j) ⊎ (slot_count n ≤ s) → counts_of spare i j s ≡ 0
 none_of n i j s spare fit past = omega (arith, sum_by-le (λ x. one_if (is_game i j s x)) 0 spare (λ k d lt. other (get_or spare k d) (fit k d lt))) where
   other : (g : Game) → IsGame n g → one_if (is_game i j s g) ≤ 0
   other g fits = elim past [
@@ -134,3 +136,114 @@ spare-few n places (g ∷ gs) fit =
     let rest : All (IsGame n) gs = λ k d lt. fit (suc k) d (omega arith) in
     let more : (i j s : ℕ) → kept_counts n places (g ∷ gs) i j s ≡ one_more (kept_counts n places gs) g i j s = λ i j s. omega (arith, sum_by-cons (λ x. one_if (is_game i j s x)) g gs) in
     omega (arith, sum_more n (kept_counts n places gs) (kept_counts n places (g ∷ gs)) g (fit 0 g (omega arith)) more, spare-few n places gs rest)
+
+-- a place that is free reads free, and so does all of a new table
+free_at : (size k : ℕ) → get_or (replicate size Free) k Free ≡ Free
+free_at zero k = refl
+free_at (suc size) zero = refl
+free_at (suc size) (suc k) = free_at size k
+
+new_place : (slots size i s : ℕ) → place_at slots (replicate size Free) i s ≡ Free
+new_place slots size i s = cond_both (nat_lt s slots) (get_or (replicate size Free) (i * slots + s) Free) Free (λ (p : Place). p ≡ Free) (λ e. free_at size (i * slots + s)) (λ e. refl)
+
+-- new tables
+pub AreOpponents-none : (n : ℕ) (places : List Place) (spare : List Game) → places ≡ replicate (n * slot_count n) Free → spare ≡ [] → AreOpponents n places spare
+AreOpponents-none n places spare free none =
+    let at : (i s : ℕ) → place_at (slot_count n) places i s ≡ Free = λ i s. ap (λ (ps : List Place). place_at (slot_count n) ps i s) free ∙ new_place (slot_count n) (n * slot_count n) i s in
+    record {
+      size = ap length free ∙ length-replicate {A = Place} (n * slot_count n) Free;
+      mirrored = record {
+        same = λ i j s. ap (λ (p : Place). hosts p j) (at i s) ∙ sym (ap (λ (p : Place). visits p i) (at j s));
+        teams = λ i j s is. absurd (false≢true (sym (ap (λ (p : Place). hosts p j) (at i s)) ∙ is));
+      };
+      fit = λ k d lt. absurd (omega (arith, ap length none));
+      ordered = λ i j d le lt. absurd (omega (arith, ap length none));
+    }
+
+-- they count nothing
+pub kept-none : (n : ℕ) (places : List Place) (spare : List Game) → places ≡ replicate (n * slot_count n) Free → spare ≡ [] → kept_counts n places spare ≡ counts_of []
+kept-none n places spare free none =
+    same_counts (kept_counts n places spare) (counts_of [])
+    (λ i j s.
+    let at : place_at (slot_count n) places i s ≡ Free = ap (λ (ps : List Place). place_at (slot_count n) ps i s) free ∙ new_place (slot_count n) (n * slot_count n) i s in
+    omega (arith, ap (λ (p : Place). one_if (hosts p j)) at, ap (λ (xs : List Game). counts_of xs i j s) none))
+
+-- nor do those of no games add up to any
+sum-none : (n : ℕ) → sum (listed n (counts_of [])) ≡ 0
+sum-none n = sum-map (λ p. 0) (range_with_len 0 (n * n * slot_count n)) ∙ sum_of_none (λ p. 0) (λ p. refl) (range_with_len 0 (n * n * slot_count n))
+
+pub AreKept-none : (n : ℕ) (places : List Place) (spare : List Game) (h a : Counters) → IsTeamCount n → places ≡ replicate (n * slot_count n) Free → spare ≡ [] → h.columns ≡ slot_count n → h.numbers.items ≡ replicate (n * slot_count n) 0 → a.columns ≡ slot_count n → a.numbers.items ≡ replicate (n * slot_count n) 0 → AreKept n 0 places spare h a
+AreKept-none n places spare h a teams free none h_wide h_items a_wide a_items =
+    let empty : kept_counts n places spare ≡ counts_of [] = kept-none n places spare free none in
+    record {
+      teams = teams;
+      table = AreOpponents-none n places spare free none;
+      home_rows = record { wide = h_wide; long = ap length h_items ∙ length-replicate {A = ℕ} (n * slot_count n) 0 };
+      away_rows = record { wide = a_wide; long = ap length a_items ∙ length-replicate {A = ℕ} (n * slot_count n) 0 };
+      total = omega (arith, ap (λ (m : Counts). sum (listed n m)) empty, sum-none n);
+      few = omega arith;
+      home = λ i s. omega (arith, ap (λ (xs : List ℕ). number h.columns xs i s) h_items, number-replicate h.columns (n * slot_count n) i s, ap (λ (m : Counts). home_games n m i s) empty, home_games-none n i s);
+      away = λ i s. omega (arith, ap (λ (xs : List ℕ). number a.columns xs i s) a_items, number-replicate a.columns (n * slot_count n) i s, ap (λ (m : Counts). away_games n m i s) empty, away_games-none n i s);
+    }
+
+-- each number of a list is at most their sum
+get_or-le-sum : (xs : List ℕ) (place : ℕ) → get_or xs place 0 ≤ sum xs
+get_or-le-sum [] place = omega arith
+get_or-le-sum (x ∷ xs) zero = omega (arith, sum_by-cons (λ y. y) x xs)
+get_or-le-sum (x ∷ xs) (suc place) = omega (arith, sum_by-cons (λ y. y) x xs, get_or-le-sum xs place)
+
+-- so each in rows is
+number-le-sum : (columns : ℕ) (xs : List ℕ) (row column : ℕ) → number columns xs row column ≤ sum xs
+number-le-sum columns xs row column =
+    cond_both (nat_lt column columns) (get_or xs (row * columns + column) 0) 0 (λ x. x ≤ sum xs) (λ e. get_or-le-sum xs (row * columns + column)) (λ e. omega arith)
+
+-- a count is at most the number of games
+counts-le : (t : Table) (i j s : ℕ) → table_counts t i j s ≤ sum t.list
+counts-le t i j s =
+    cond_both (nat_lt j t.n) (number (slot_count t.n) t.list (i * t.n + j) s) 0 (λ x. x ≤ sum t.list) (λ e. number-le-sum (slot_count t.n) t.list (i * t.n + j) s) (λ e. omega arith)
+
+pub kept-le : (n games : ℕ) (ps : List Place) (xs : List Game) (h a : Counters) → AreKept n games ps xs h a → (i j s : ℕ) → kept_counts n ps xs i j s ≤ 10000
+kept-le n games ps xs h a kept i j s =
+    omega (arith, ap (λ (m : Counts). m i j s) (kept-counts n ps xs kept.table), counts-le (table_of n (kept_counts n ps xs)) i j s, kept.total, kept.few)
+
+-- so a team has at most n times as many at home in a slot, and away
+pub kept-home-le : (n games : ℕ) (ps : List Place) (xs : List Game) (h a : Counters) → AreKept n games ps xs h a → (i s : ℕ) → number h.columns h.numbers.items i s ≤ 400000
+kept-home-le n games ps xs h a kept i s =
+    omega (
+      arith,
+      kept.home i s,
+      sum_by-le (λ j. kept_counts n ps xs i j s) 10000 (teams_of n) (λ k d lt. kept-le n games ps xs h a kept i (get_or (teams_of n) k d) s),
+      ap (λ (k : ℕ). k * 10000) (length-range_with_len 0 n),
+      mul-le n 10000 40 10000 kept.teams.at_most (omega arith),
+    )
+
+pub kept-away-le : (n games : ℕ) (ps : List Place) (xs : List Game) (h a : Counters) → AreKept n games ps xs h a → (i s : ℕ) → number a.columns a.numbers.items i s ≤ 400000
+kept-away-le n games ps xs h a kept i s =
+    omega (
+      arith,
+      kept.away i s,
+      sum_by-le (λ j. kept_counts n ps xs j i s) 10000 (teams_of n) (λ k d lt. kept-le n games ps xs h a kept (get_or (teams_of n) k d) i s),
+      ap (λ (k : ℕ). k * 10000) (length-range_with_len 0 n),
+      mul-le n 10000 40 10000 kept.teams.at_most (omega arith),
+    )
+
+-- a game that is counted is one of its home team and of its away team
+pub home_games-ge : (n : ℕ) (m : Counts) (i j s : ℕ) → j < n → m i j s ≤ home_games n m i s
+home_games-ge n m i j s h =
+    omega (arith, get_or-le-sum_by (λ k. m i k s) (teams_of n) j 0 (omega (arith, length-range_with_len 0 n)), ap (λ (k : ℕ). m i k s) (get_or-range_with_len 0 n j 0 h ∙ zero-add j))
+
+pub away_games-ge : (n : ℕ) (m : Counts) (i j s : ℕ) → i < n → m i j s ≤ away_games n m j s
+away_games-ge n m i j s h =
+    omega (arith, get_or-le-sum_by (λ k. m k j s) (teams_of n) i 0 (omega (arith, length-range_with_len 0 n)), ap (λ (k : ℕ). m k j s) (get_or-range_with_len 0 n i 0 h ∙ zero-add i))
+
+-- a row and column that there are have a place
+pub place_in_rows : (n row column columns size : ℕ) → columns ≡ slot_count n → size ≡ n * slot_count n → row < n → column < slot_count n → row * columns + column < size
+place_in_rows n row column columns size wide long in_row in_column =
+    omega (arith, ap (λ (w : ℕ). row * w + column) wide, long, mul-add-lt row (slot_count n) column n in_row in_column, mul_comm n (slot_count n))
+
+-- the spare games of what is kept
+pub kept-spare : (n games : ℕ) (ps : List Place) (xs : List Game) (h a : Counters) → AreKept n games ps xs h a → IsSpare xs
+kept-spare n games ps xs h a kept = spare-small n ps xs kept.teams.at_most kept.table
+
+pub kept-few : (n games : ℕ) (ps : List Place) (xs : List Game) (h a : Counters) → AreKept n games ps xs h a → length xs ≤ games
+kept-few n games ps xs h a kept = omega (arith, kept.total, spare-few n ps xs kept.table.fit)

@@ -113,7 +113,7 @@ impl Cells {
     {
         let place = read_place(&self.places, slot_count(self.n) as usize, home, slot);
         let placed = once_if(place.is_home_to(away));
-        if self.homes.at(home.0 as usize, slot.0 as usize) == place.home_games() {
+        if self.home(home, slot) == place.home_games() {
             return placed;
         }
         placed + copies(&self.spare, Game { home, away, slot })
@@ -151,7 +151,7 @@ impl Cells {
         let numbers = others.numbers();
         let place = read_place(&self.places, slot_count(self.n) as usize, team, slot);
         let placed = place.games_at_home_to(others);
-        if self.homes.at(team.0 as usize, slot.0 as usize) == place.home_games() {
+        if self.home(team, slot) == place.home_games() {
             return placed;
         }
         placed + copies_at_home(&self.spare, team, numbers, slot)
@@ -169,7 +169,7 @@ impl Cells {
         let numbers = others.numbers();
         let place = read_place(&self.places, slot_count(self.n) as usize, team, slot);
         let placed = place.games_away_at(others);
-        if self.aways.at(team.0 as usize, slot.0 as usize) == place.away_games() {
+        if self.away(team, slot) == place.away_games() {
             return placed;
         }
         placed + copies_away(&self.spare, team, numbers, slot)
@@ -189,13 +189,11 @@ impl Cells {
             + away_games self.now.n (table_counts self.now) team.0 slot.0) }
     {
         let place = read_place(&self.places, slot_count(self.n) as usize, team, slot);
-        let homes = self.homes.at(team.0 as usize, slot.0 as usize);
-        let aways = self.aways.at(team.0 as usize, slot.0 as usize);
-        if homes == place.home_games() && aways == place.away_games() {
-            Some(place)
-        } else {
-            None
+        let settled = self.home(team, slot) == place.home_games();
+        if settled && self.away(team, slot) == place.away_games() {
+            return Some(place);
         }
+        None
     }
 
     /// Counts a game once more, where fewer than 10,000 are counted. It takes no memory.
