@@ -1,6 +1,8 @@
+pub mod KeepLemmas
 pub mod KeptMeetingLemmas
 pub mod ListedLemmas
 pub mod OpponentLemmas
+pub mod PlaceFacts
 pub mod PlaceLemmas
 pub mod RowLemmas
 pub mod SeenLemmas

@@ -123,34 +123,28 @@ place_is : (x p : ℕ) → (true && (x == p)) ≡ true → x ≡ p
 place_is x p h = grind (arith, nat_tests)
 
 -- the game of a place of the table is a game of the league where the place is its own
+game_place : (n p : ℕ) (g : Game) → is_game (p / slot_count n / n) (p / slot_count n % n) (p % slot_count n) g ≡ true → (true && (count_place n g.home.0 g.away.0 g.slot.0 == p)) ≡ true
+game_place n p g passes =
+    let parts = three_parts g.home.0 (p / slot_count n / n) g.away.0 (p / slot_count n % n) g.slot.0 (p % slot_count n) passes in
+    is_place (count_place n g.home.0 g.away.0 g.slot.0) p
+    (ap (λ (i : ℕ). (i * n + g.away.0) * slot_count n + g.slot.0) parts.0
+    ∙ ap (λ (j : ℕ). (p / slot_count n / n * n + j) * slot_count n + g.slot.0) parts.1
+    ∙ ap (λ (r : ℕ). r * slot_count n + g.slot.0) (div-add-mod' (p / slot_count n) n)
+    ∙ ap (λ (s : ℕ). p / slot_count n * slot_count n + s) parts.2
+    ∙ div-add-mod' p (slot_count n))
+
+place_game : (n p : ℕ) (g : Game) → IsGame n g → (true && (count_place n g.home.0 g.away.0 g.slot.0 == p)) ≡ true → is_game (p / slot_count n / n) (p / slot_count n % n) (p % slot_count n) g ≡ true
+place_game n p g fits passes =
+    let same : count_place n g.home.0 g.away.0 g.slot.0 ≡ p = place_is (count_place n g.home.0 g.away.0 g.slot.0) p passes in
+    let row : g.home.0 * n + g.away.0 ≡ p / slot_count n = sym (div-mul-add (g.home.0 * n + g.away.0) (slot_count n) g.slot.0 fits.slot) ∙ ap (λ (x : ℕ). x / slot_count n) same in
+    three_pass g.home.0 (p / slot_count n / n) g.away.0 (p / slot_count n % n) g.slot.0 (p % slot_count n)
+    (sym (div-mul-add g.home.0 n g.away.0 fits.away) ∙ ap (λ (r : ℕ). r / n) row)
+    (sym (mod-mul-add g.home.0 n g.away.0 fits.away) ∙ ap (λ (r : ℕ). r % n) row)
+    (sym (mod-mul-add (g.home.0 * n + g.away.0) (slot_count n) g.slot.0 fits.slot) ∙ ap (λ (x : ℕ). x % slot_count n) same)
+
 same_place : (n : ℕ) (g : Game) → IsGame n g → (p : ℕ) → is_game (p / slot_count n / n) (p / slot_count n % n) (p % slot_count n) g ≡ (true && (count_place n g.home.0 g.away.0 g.slot.0 == p))
-same_place n g fits p = same_tests (is_game (p / w / n) (p / w % n) (p % w) g) (true && (place == p)) to from where
-  w : ℕ
-  w = slot_count n
-
-  place : ℕ
-  place = count_place n g.home.0 g.away.0 g.slot.0
-
-  to : is_game (p / w / n) (p / w % n) (p % w) g ≡ true → (true && (place == p)) ≡ true
-  unfolding w place
-  to passes =
-      let parts = three_parts g.home.0 (p / slot_count n / n) g.away.0 (p / slot_count n % n) g.slot.0 (p % slot_count n) passes in
-      is_place (count_place n g.home.0 g.away.0 g.slot.0) p
-      (ap (λ (i : ℕ). (i * n + g.away.0) * slot_count n + g.slot.0) parts.0
-      ∙ ap (λ (j : ℕ). (p / slot_count n / n * n + j) * slot_count n + g.slot.0) parts.1
-      ∙ ap (λ (r : ℕ). r * slot_count n + g.slot.0) (div-add-mod' (p / slot_count n) n)
-      ∙ ap (λ (s : ℕ). p / slot_count n * slot_count n + s) parts.2
-      ∙ div-add-mod' p (slot_count n))
-
-  from : (true && (place == p)) ≡ true → is_game (p / w / n) (p / w % n) (p % w) g ≡ true
-  unfolding w place
-  from passes =
-      let same : count_place n g.home.0 g.away.0 g.slot.0 ≡ p = place_is (count_place n g.home.0 g.away.0 g.slot.0) p passes in
-      let row : g.home.0 * n + g.away.0 ≡ p / slot_count n = sym (div-mul-add (g.home.0 * n + g.away.0) (slot_count n) g.slot.0 fits.slot) ∙ ap (λ (x : ℕ). x / slot_count n) same in
-      three_pass g.home.0 (p / slot_count n / n) g.away.0 (p / slot_count n % n) g.slot.0 (p % slot_count n)
-      (sym (div-mul-add g.home.0 n g.away.0 fits.away) ∙ ap (λ (r : ℕ). r / n) row)
-      (sym (mod-mul-add g.home.0 n g.away.0 fits.away) ∙ ap (λ (r : ℕ). r % n) row)
-      (sym (mod-mul-add (g.home.0 * n + g.away.0) (slot_count n) g.slot.0 fits.slot) ∙ ap (λ (x : ℕ). x % slot_count n) same)
+same_place n g fits p =
+    same_tests (is_game (p / slot_count n / n) (p / slot_count n % n) (p % slot_count n) g) (true && (count_place n g.home.0 g.away.0 g.slot.0 == p)) (game_place n p g) (place_game n p g fits)
 
 is_below : (x k : ℕ) → x < k → one_if (true && nat_lt x k) ≡ 1
 is_below x k h = grind (arith, nat_tests)

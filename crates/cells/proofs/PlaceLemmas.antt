@@ -19,7 +19,7 @@ pub place_at-inside : (slots : ℕ) (places : List Place) (i s : ℕ) → s < sl
 place_at-inside slots places i s h = grind (arith, nat_tests)
 
 -- and in one that there isn't
-place_at-outside : (slots : ℕ) (places : List Place) (i s : ℕ) → slots ≤ s → place_at slots places i s ≡ Free
+pub place_at-outside : (slots : ℕ) (places : List Place) (i s : ℕ) → slots ≤ s → place_at slots places i s ≡ Free
 place_at-outside slots places i s h = grind (arith, nat_tests)
 
 -- a place that was written, and another
@@ -175,19 +175,16 @@ one_of_two true false true h passes = inr refl
 one_of_two true false false h passes = absurd (omega arith)
 one_of_two false b c h passes = absurd (cc)
 
+teams_from : (a b c d e f n : ℕ) → ((a == b) && (c == d) && (e == f)) ≡ true → a < n → c < n → (b < n) × (d < n)
+teams_from a b c d e f n h first second = (home, away) where
+  home : b < n
+  home = grind (arith, nat_tests)
+
+  away : d < n
+  away = grind (arith, nat_tests)
+
 is_game-teams : (n : ℕ) (g : Game) (i j s : ℕ) → IsGame n g → is_game i j s g ≡ true → (i < n) × (j < n)
-is_game-teams n g i j s fits is = (home_in, away_in) where
-  home : (a b c : ℕ) (t : Bool) → ((a == b) && t) ≡ true → a < c → b < c
-  home a b c t h lt = grind (arith, nat_tests)
-
-  second : (t u v : Bool) → (t && u && v) ≡ true → (u && true) ≡ true
-  second t u v h = grind arith
-
-  home_in : i < n
-  home_in = home g.home.0 i n ((g.away.0 == j) && (g.slot.0 == s)) is fits.home
-
-  away_in : j < n
-  away_in = home g.away.0 j n true (second (g.home.0 == i) (g.away.0 == j) (g.slot.0 == s) is) fits.away
+is_game-teams n g i j s fits is = teams_from g.home.0 i g.away.0 j g.slot.0 s n is fits.home fits.away
 
 -- the two halves of the table fit each other with a game that is put, and with one that is taken off
 pub AreMirrored-put : (n : ℕ) (g : Game) (before after : ℕ → ℕ → Place) → IsGame n g → IsPut g before after → AreMirrored n before → AreMirrored n after

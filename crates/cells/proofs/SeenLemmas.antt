@@ -138,6 +138,9 @@ module _ (n games : ℕ) (ps : List Place) (xs : List Game) (h a : Counters) (ke
   count_all j placed copies hosted listed =
       omega (arith, ap (λ (m : Counts). m i j s) (seen n ps xs t kept.table is), hosted, listed, ap (λ (q : Place). one_if (hosts q j)) place_is)
 
+  pub count_le : (j : ℕ) → table_counts t i j s ≤ 10000
+  count_le j = omega (arith, ap (λ (m : Counts). m i j s) (seen n ps xs t kept.table is), kept-le n games ps xs h a kept i j s)
+
   -- a team whose place tells all its home games
   pub no_more_home : (homes placed : ℕ) → homes ≡ home_games t.n (table_counts t) i s → placed ≡ one_if (is_home p) → homes ≡ placed → (j : ℕ) → counts_of xs i j s ≡ 0
   no_more_home homes placed are is_placed same =

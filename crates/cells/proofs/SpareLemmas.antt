@@ -153,6 +153,10 @@ first_is xs g place spare home away before after there =
     nowhere : All (λ x. one_if (order_of x == order_of g) ≤ 0) xs → ⊥
     nowhere fail = omega (arith, there, counts_of-by_number xs g spare home away, none_pass (λ x. order_of x == order_of g) xs fail)
 
+pub first_at : (xs : List Game) (g : Game) (place order : ℕ) → IsSpare xs → g.home.0 < 40 → g.away.0 < 40 → order ≡ order_of g → ((k : ℕ) (d : Game) → k < place → order_of (get_or xs k d) < order) → ((k : ℕ) (d : Game) → place ≤ k → k < length xs → order ≤ order_of (get_or xs k d)) → 0 < counts_of xs g.home.0 g.away.0 g.slot.0 → (place < length xs) × (is_game g.home.0 g.away.0 g.slot.0 (get_or xs place g) ≡ true)
+first_at xs g place order spare home away is before after there =
+    first_is xs g place spare home away (λ k d lt. omega (arith, is, before k d lt)) (λ k d le lt. omega (arith, is, after k d le lt)) there
+
 -- the list with a game less
 pub counts_of-remove : (xs : List Game) (place : ℕ) (g : Game) → place < length xs → is_game g.home.0 g.away.0 g.slot.0 (get_or xs place g) ≡ true → (i j s : ℕ) → counts_of xs i j s ≡ one_more (counts_of (remove xs place)) g i j s
 counts_of-remove xs place g inside is i j s =

@@ -82,7 +82,7 @@ away_more n m more g fits same i s =
     sum_by-same (λ j. more j i s) (λ j. one_more m g j i s) (λ j. same j i s) (teams_of n) ∙ away_games-one_more n m g i s fits
 
 -- and the sum of the table
-sum_more : (n : ℕ) (m more : Counts) (g : Game) → IsGame n g → ((i j s : ℕ) → more i j s ≡ one_more m g i j s) → sum (listed n more) ≡ sum (listed n m) + 1
+pub sum_more : (n : ℕ) (m more : Counts) (g : Game) → IsGame n g → ((i j s : ℕ) → more i j s ≡ one_more m g i j s) → sum (listed n more) ≡ sum (listed n m) + 1
 sum_more n m more g fits same = ap (λ (k : Counts). sum (listed n k)) (same_counts more (one_more m g) same) ∙ sum-one_more n m g fits
 
 -- rows that have one more somewhere are as many and as long

@@ -49,7 +49,8 @@ pub(crate) fn copies_at_home(spare: &Vec<Game>, team: TeamId, others: &[u16], sl
     requires team { team.0 < 40 }
     requires others { All (λ j. j < 40) others.now }
     requires few_others { length others.now ≤ 78 }
-    ensures { result ≡ sum_by (λ j. counts_of spare.now.items team.0 j slot.0) others.now }
+    ensures games { result ≡ sum_by (λ j. counts_of spare.now.items team.0 j slot.0) others.now }
+    ensures at_most { result ≤ 780000 }
 {
     let mut games: u32 = 0;
     for other in others {
@@ -70,7 +71,8 @@ pub(crate) fn copies_away(spare: &Vec<Game>, team: TeamId, others: &[u16], slot:
     requires team { team.0 < 40 }
     requires others { All (λ j. j < 40) others.now }
     requires few_others { length others.now ≤ 78 }
-    ensures { result ≡ sum_by (λ j. counts_of spare.now.items j team.0 slot.0) others.now }
+    ensures games { result ≡ sum_by (λ j. counts_of spare.now.items j team.0 slot.0) others.now }
+    ensures at_most { result ≤ 780000 }
 {
     let mut games: u32 = 0;
     for other in others {
