@@ -2,4 +2,4 @@ use Rattle.std.proofs.Common.{◌≡◌, ◌+◌}
 use Rattle.steps.proofs.Steps.tick_all.Given as goal
 
 abbrev pub invariant-loop-counted : goal.invariant-loop-counted
-invariant-loop-counted g l = l.self ≡ l.fn.self + l.counted
+invariant-loop-counted g l = l.self ≡ l.fn.self + l._counted
