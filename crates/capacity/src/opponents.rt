@@ -137,6 +137,7 @@ fn games_against(cells: &Cells, side: Side, team: TeamId, opponents: &Listed, sl
     match side {
         Side::H => cells.at_home_to(team, opponents, slot),
         Side::A => cells.away_at(team, opponents, slot),
-        Side::Both => cells.at_home_to(team, opponents, slot) + cells.away_at(team, opponents, slot),
+        Side::Both => cells.at_home_to(team, opponents, slot)
+            + cells.away_at(team, opponents, slot),
     }
 }
