@@ -1,0 +1,2 @@
+-- Sets put together of numbers that ascend:
+pub mod SetLemmas
