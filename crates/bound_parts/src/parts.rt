@@ -25,6 +25,19 @@ use std::alloc::{AllocError, Global};
 pub fn parts_of(alloc: Global, n: u16, constraint: &Constraint) -> Result<Vec<Class>, AllocError>
     requires n { n ≤ 40 }
     requires fits { IsTrue (class_fits n constraint.now.class) }
+    ensures parts { IfOk result (λ made. made.items ≡ parts.parts_of n constraint.now.class) }
+
+    // Each of them fits the league, too.
+    ensures fit { IfOk result (λ made. All (λ part. IsTrue (class_fits n part)) made.items) }
+{
+    let made = made_of(alloc, n, constraint)?;
+    Ok(made)
+}
+
+/// The same.
+fn made_of(alloc: Global, n: u16, constraint: &Constraint) -> Result<Vec<Class>, AllocError>
+    requires n { n ≤ 40 }
+    requires fits { IsTrue (class_fits n constraint.now.class) }
     ensures { IfOk result (λ made. made.items ≡ parts.parts_of n constraint.now.class) }
 {
     match &constraint.class {
@@ -177,7 +190,7 @@ fn ca3_parts(
     intp: u32,
 ) -> Result<Vec<Class>, AllocError>
     requires n { n ≤ 40 }
-    requires { IsAscending nat_cmp teams2.now }
+    requires teams2 { IsAscending nat_cmp teams2.now }
     ensures { IfOk result (λ made. made.items
         ≡ flat_map (parts.ca3_parts n teams2.now bounds.min bounds.max intp bounds.side) teams1.now) }
 {
