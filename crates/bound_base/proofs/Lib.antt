@@ -1,13 +1,4 @@
--- Softened rows, and what their units cost:
-pub mod SoftLaws
--- What the rows of a part lack:
-pub mod SeparationNeeds
-pub mod PartNeeds
--- What all units cost that are needed:
-pub mod ObjectiveLaws
--- Values of the units:
-pub mod UnitLemmas
--- The bound rows are faithful both ways:
-pub mod Faithful
+-- The constraints that are paid for:
+pub mod PaidLemmas
 -- Worked leagues:
 pub mod BoundFacts

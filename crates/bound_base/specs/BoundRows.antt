@@ -18,9 +18,13 @@ use Rattle.bound_base.specs.Softening.{Group, objective_row, order_rows, softene
 abbrev pub paid_of : List Constraint → List Constraint
 paid_of constraints = filter (λ c. nat_lt 0 c.penalty) (soft_of constraints)
 
+-- whether a constraint that is paid for bounds breaks
+abbrev pub has_paid_breaks : List Constraint → Bool
+has_paid_breaks constraints = list_any (λ c. bounds_breaks c.class) (paid_of constraints)
+
 -- whether breaks have variables: a hard constraint bounds them, or one that is paid for
 abbrev pub needs_breaks : List Constraint → Bool
-needs_breaks constraints = has_breaks constraints || list_any (λ c. bounds_breaks c.class) (paid_of constraints)
+needs_breaks constraints = has_breaks constraints || has_paid_breaks constraints
 
 -- the rows of the league's encoding, but with variables for breaks where a soft constraint needs them
 abbrev pub base_rows : Instance → List Row

@@ -6,9 +6,3 @@ pub mod Softening
 pub mod Parts
 -- The bound rows of a league, their variables and their size:
 pub mod BoundRows
--- What they say of schedules:
-pub mod Faithful
--- Kept inside (laws, and how fields are seen):
---
--- Values that satisfy them:
-pub mod Units

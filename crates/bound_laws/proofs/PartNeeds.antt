@@ -42,9 +42,9 @@ use Rattle.decoding.proofs.MeetingLists.{pairs_of-fit, windows_of-fit}
 use Rattle.decoding.proofs.ShortfallLemmas.{largest-cons}
 use Rattle.bound_base.specs.BoundRows.{units_of}
 use Rattle.bound_base.specs.Parts.{ca3_parts, parts_of, se1_parts}
-use Rattle.bound_base.specs.Units.{need_of}
-use Rattle.bound_base.proofs.SeparationNeeds.{needs-se1, steps-se1}
-use Rattle.bound_base.proofs.SoftLaws.{needs_of_key}
+use Rattle.bound_laws.specs.Units.{need_of}
+use Rattle.bound_laws.proofs.SeparationNeeds.{needs-se1, steps-se1}
+use Rattle.bound_laws.proofs.SoftLaws.{needs_of_key}
 
 -- ---- the sets of a class that fits
 

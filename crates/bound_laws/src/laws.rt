@@ -1,5 +1,5 @@
 //! Laws of bound rows: a function that does nothing and whose contract is proved.
-ghost use Rattle.bound_base.specs.Faithful.{AnswersAreBounded, BoundedHaveValues, RefutedBoundsHold};
+ghost use Rattle.bound_laws.specs.Faithful.{AnswersAreBounded, BoundedHaveValues, RefutedBoundsHold};
 
 /// The bound rows are faithful both ways, for every league and bound. An accepted schedule with an objective of at most
 /// the bound gives values that satisfy them; an assignment that satisfies them decodes to such a schedule. So where no

@@ -17,8 +17,8 @@ use Rattle.rows.proofs.ListLemmas.{list_all-range}
 use Rattle.rows.proofs.TestLemmas.{satisfied-at_least}
 use Rattle.decoding.specs.Shortfalls.{units_needed}
 use Rattle.bound_base.specs.Softening.{Group, one_before, order_rows, units_from}
-use Rattle.bound_base.specs.Units.{cost_needed, paid, with_units}
-use Rattle.bound_base.proofs.SoftLaws.{are_enough}
+use Rattle.bound_laws.specs.Units.{cost_needed, paid, with_units}
+use Rattle.bound_laws.proofs.SoftLaws.{are_enough}
 
 -- ---- where the values come from
 

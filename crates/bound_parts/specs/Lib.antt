@@ -1,0 +1,3 @@
+-- What a reader of a claim must believe:
+--
+-- Nothing beside the definitions of bound_base.
