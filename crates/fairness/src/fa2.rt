@@ -7,6 +7,7 @@ ghost use Rattle.league.specs.declared.class.Class.TheVariants as class;
 ghost use Rattle.rule_core.specs.Ready.{IsReady};
 
 use crate::leads::largest_lead;
+use crate::played::{fill_played, lead_in_rows};
 use league::{Class, ClassName, Constraint, Game};
 use rule_core::{Cells, Entries, Keys, Pairs, Rule, Steps};
 use std::alloc::{AllocError, Global};

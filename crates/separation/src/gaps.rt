@@ -28,7 +28,7 @@ pub(crate) fn lacking(cells: &Cells, first: TeamId, second: TeamId, min: u32) ->
 }
 
 /// What is lacking between the last game before a slot, if there is one, and the games in it, and between these.
-fn lacking_at(last: Option<u16>, slot: u16, games: u32, min: u32) -> u64
+pub(crate) fn lacking_at(last: Option<u16>, slot: u16, games: u32, min: u32) -> u64
     requires last { IfSome last (λ before. before < slot) }
     requires some { 0 < games }
     requires few { games ≤ 20000 }
@@ -43,7 +43,7 @@ fn lacking_at(last: Option<u16>, slot: u16, games: u32, min: u32) -> u64
 }
 
 /// How often two teams play each other in a slot.
-fn games_at(cells: &Cells, first: TeamId, second: TeamId, slot: SlotId) -> u32
+pub(crate) fn games_at(cells: &Cells, first: TeamId, second: TeamId, slot: SlotId) -> u32
     requires first { first.0 < cells.now.n }
     requires second { second.0 < cells.now.n }
     requires slot { slot.0 < slot_count cells.now.n }
