@@ -101,6 +101,18 @@ impl<L> Rule<L> for Fa2 {
         let (first, second) = self.pairs.get(key);
         largest_lead(cells, first, second, self.intp, &self.slots)
     }
+
+    /// Each team's row of home games played is filled once for all its pairs.
+    fn every(&self, cells: &Cells, entries: &mut Vec<u64>, steps: &mut Steps<L>) {
+        let slots: &[u16] = &self.slots;
+        let mut played = [0; 3120];
+        fill_played(cells, self.pairs.teams(), slots, &mut played);
+        for key in 0..self.pairs.len() {
+            let (first, second) = self.pairs.get(key);
+            entries.push_reserved(lead_in_rows(&played, first, second, self.intp, slots));
+        }
+        steps.tick_all(self.pairs.len());
+    }
 }
 
 /// Whether one of these slots is a given one or a later one: the last decides.
