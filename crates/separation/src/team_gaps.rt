@@ -1,5 +1,5 @@
 //! What the slots between the games of one team with each other team lack, in one pass over its slots.
-ghost use Rattle.std.specs.Prelude.{◌≡◌, ◌≢◌, ℕ, ◌<◌, ◌≤◌, ◌+◌, ◌*◌, ◌×◌, ◌++◌, length, map, slice_index};
+ghost use Rattle.std.specs.Prelude.{◌≡◌, ◌≢◌, ℕ, ◌<◌, ◌≤◌, ◌+◌, ◌*◌, ◌++◌, length, map, slice_index};
 ghost use Rattle.std.specs.Prelude.{vec_capacity, vec_len};
 ghost use Rattle.std.specs.List.{All};
 ghost use Rattle.league.specs.Counts.{Counts, slot_count};
@@ -7,7 +7,7 @@ ghost use Rattle.league.specs.Meetings.{pairs_of};
 ghost use Rattle.league.specs.Separation.{se1_entry};
 ghost use Rattle.cells.specs.Table.{table_counts};
 ghost use Rattle.separation.specs.TeamGaps as specs;
-ghost use Rattle.separation.specs.TeamGaps.{AreSummed, HasRoom, IsSummed};
+ghost use Rattle.separation.specs.TeamGaps.{ArePlaced, AreSummed, HasRoom, IsPlaceOf, IsSummed};
 
 use crate::gaps::{games_at, lacking_at};
 use league::{SlotId, TeamId};
@@ -69,10 +69,24 @@ impl TeamGaps {
         ensures summed { AreSummed cells.now.n (table_counts cells.now) min team.0 (slot + 1) self.new }
     {
         match cells.place(team, SlotId(slot)) {
-            Some(Place::Free) => {}
-            Some(Place::Home(other)) => self.add_games(other, slot, 1, min),
-            Some(Place::Away(other)) => self.add_games(other, slot, 1, min),
+            Some(place) => self.add_place(place, slot, min),
             None => self.add_each(cells, team, slot, min),
+        }
+    }
+
+    /// With the game of a slot that stands in the team's place, if there is one.
+    fn add_place(&mut self, place: Place, slot: u16, min: u32)
+        requires slot { slot < 78 }
+        requires room { HasRoom self.old }
+        requires summed { ArePlaced place slot self.old }
+        ensures room { HasRoom self.new }
+        ensures summed { (n : ℕ) (m : Counts) (i : ℕ) → slot < slot_count n → IsPlaceOf n m i slot place
+            → AreSummed n m min i slot self.old → AreSummed n m min i (slot + 1) self.new }
+    {
+        match place {
+            Place::Free => {}
+            Place::Home(other) => self.add_games(other, slot, 1, min),
+            Place::Away(other) => self.add_games(other, slot, 1, min),
         }
     }
 
@@ -147,6 +161,7 @@ fn push_team(cells: &Cells, first: TeamId, later: &[u16], min: u32, entries: &mu
     requires room { vec_len entries.old + length later.now ≤ vec_capacity entries.old }
     ensures entries { entries.new.items ≡ entries.old.items
         ++ map (λ second. se1_entry cells.now.n (table_counts cells.now) min (first.0, second)) later.now }
+    ensures pushed { vec_len entries.new ≡ vec_len entries.old + length later.now }
     ensures room { vec_capacity entries.new ≡ vec_capacity entries.old }
 {
     let gaps = TeamGaps::of_team(cells, first, min);
