@@ -98,16 +98,16 @@ module _ (m : Counts) (side : Side) (teams1 teams2 : List ℕ) (s : ℕ) where
       ])
 
   -- a home team that meets one other team alone in the slot
-  pub games_one_guest : (n i o games : ℕ) → o < n → ((j : ℕ) → m i j s ≡ cond (o == j) 1 0) → games ≡ counted side teams1 teams2 i o → games ≡ games_of m (filter test (meetings_at_home n i)) (s ∷ [])
+  pub games_one_guest : (n i o games : ℕ) → o < n → ((j : ℕ) → m i j s ≡ cond {A = ℕ} (o == j) 1 0) → games ≡ counted side teams1 teams2 i o → games ≡ games_of m (filter test (meetings_at_home n i)) (s ∷ [])
   games_one_guest n i o games below each is =
       let none : (j : ℕ) → j ≢ o → at_home_to i j ≡ 0 = λ j differ.
       let zero : m i j s ≡ 0 = each j ∙ other o j differ in omega (arith, ap (λ (x : ℕ). counted side teams1 teams2 i j * x) zero) in
       let once : m i o s ≡ 1 = each o ∙ itself o in
       let here : at_home_to i o ≡ counted side teams1 teams2 i o = ap (λ (x : ℕ). counted side teams1 teams2 i o * x) once ∙ omega arith in
       is ∙ sym here ∙ sym ((only_one (at_home_to i) o n none).1 below) ∙ sym (games_by_guest n i) where
-        other : (o j : ℕ) → j ≢ o → cond (o == j) 1 0 ≡ 0
+        other : (o j : ℕ) → j ≢ o → cond {A = ℕ} (o == j) 1 0 ≡ 0
         other o j differ = grind (arith, nat_tests)
-        itself : (o : ℕ) → cond (o == o) 1 0 ≡ 1
+        itself : (o : ℕ) → cond {A = ℕ} (o == o) 1 0 ≡ 1
         itself o = grind (arith, nat_tests)
 
   -- and one that is at home to none

@@ -1,9 +1,10 @@
 //! The games of some teams with others, slot by slot and home team by home team: at most one look-up each.
-ghost use Rattle.std.specs.Prelude.{◌≡◌, ◌<◌, ◌≤◌, [], ◌∷◌, length};
+ghost use Rattle.std.specs.Prelude.{◌≡◌, ℕ, ◌<◌, ◌≤◌, true, if◌then◌else◌, [], ◌∷◌, length};
 ghost use Rattle.std.specs.List.{All, filter};
 ghost use Rattle.league.specs.Capacity.{is_between};
-ghost use Rattle.league.specs.Counts.{slot_count, teams_of};
+ghost use Rattle.league.specs.Counts.{Counts, slot_count, teams_of};
 ghost use Rattle.league.specs.Meetings.{games_of, meetings_of};
+ghost use Rattle.cells.specs.Places.{hosts};
 ghost use Rattle.cells.specs.Table.{table_counts};
 ghost use Rattle.capacity.specs.Between.{can_host, counted, meetings_at_home};
 
@@ -58,9 +59,21 @@ impl Opponents {
         ensures at_most { result ≤ 400000 }
     {
         match cells.place(host, slot) {
-            Some(Place::Home(guest)) => self.one_game(host, guest),
-            Some(_) => 0,
+            Some(place) => self.games_in_place(host, place),
             None => self.games_with_each(cells, host, slot),
+        }
+    }
+
+    /// The game of a home team that stands in its place, where it is of these meetings.
+    fn games_in_place(&self, host: TeamId, place: Place) -> u32
+        ensures games { (n : ℕ) (m : Counts) (s : ℕ) → ((j : ℕ) → m host.0 j s ≡ (if hosts place j then 1 else 0))
+            → ((j : ℕ) → hosts place j ≡ true → j < n) → result ≡ games_of m
+            (filter (is_between self.now.side self.now.teams1 self.now.teams2) (meetings_at_home n host.0)) (s ∷ []) }
+        ensures at_most { result ≤ 1 }
+    {
+        match place {
+            Place::Home(guest) => self.one_game(host, guest),
+            Place::Free | Place::Away(_) => 0,
         }
     }
 
