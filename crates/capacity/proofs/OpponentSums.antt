@@ -2,18 +2,9 @@
 use Rattle.std.proofs.Common.{◌≡◌, ℕ, ◌≤◌, List, [], ◌∷◌, length, take, ap, sym, ◌∙◌}
 use Rattle.std.proofs.lemmas.List.{take_all}
 use Rattle.std.specs.List.{sum_by}
-use Rattle.league.specs.Capacity.{meetings_with}
 use Rattle.league.specs.Counts.{Counts}
 use Rattle.league.specs.Meetings.{games_of}
-use Rattle.league.specs.declared.class.Side.{Side}
-use Rattle.rule_core.proofs.OpponentLemmas.{against, games_of-by_opponent, games_of-by_slot}
-
--- a sum over all opponents
-pub games_of_all : (m : Counts) (side : Side) (team : ℕ) (opponents : List ℕ) (s index games : ℕ) → length opponents ≤ index → games ≡ sum_by (against m side team s) (take index opponents) → games ≡ games_of m (meetings_with side team opponents) (s ∷ [])
-games_of_all m side team opponents s index games all so_far =
-    so_far
-    ∙ ap (sum_by (against m side team s)) (take_all index opponents all)
-    ∙ sym (games_of-by_opponent m side team opponents s)
+use Rattle.rule_core.proofs.OpponentLemmas.{games_of-by_slot}
 
 -- a sum over all slots
 pub games_of_slots : (m : Counts) (meetings : List (ℕ × ℕ)) (slots : List ℕ) (index games : ℕ) → length slots ≤ index → games ≡ sum_by (λ s. games_of m meetings (s ∷ [])) (take index slots) → games ≡ games_of m meetings slots

@@ -106,8 +106,11 @@ impl Entries for Ca3 {
 impl<L> Rule<L> for Ca3 {
     fn term(&self, key: usize, cells: &Cells, steps: &mut Steps<L>) -> u64 {
         steps.tick();
-        let before = self.opponents.games_before(key, cells);
         let slots = cells.slots() as usize;
+        if self.intp as usize > slots {
+            return 0;
+        }
+        let before = self.opponents.games_before(key, cells);
         outside_in_windows(&before, slots, self.intp as usize, self.min, self.max)
     }
 }

@@ -5,7 +5,6 @@ ghost use Rattle.league.specs.Capacity.{meetings_with};
 ghost use Rattle.league.specs.Counts.{slot_count};
 ghost use Rattle.league.specs.Instance.{are_teams};
 ghost use Rattle.league.specs.Meetings.{games_of};
-ghost use Rattle.league.specs.Venues.{on_side};
 ghost use Rattle.keys.specs.Keys.{keys_where, with_keys};
 ghost use Rattle.cells.specs.Table.{table_counts};
 ghost use Rattle.rule_core.specs.Touched.{plays_against};
@@ -74,8 +73,8 @@ impl Opponents {
         }
     }
 
-    /// The games of the team of a key against the others, itself left out, in some slots: for each slot and each of the
-    /// others one look-up, or two for both sides.
+    /// The games of the team of a key against the others, itself left out, in some slots: one look-up for each slot, or
+    /// two for both sides.
     pub(crate) fn games_in(&self, key: usize, cells: &Cells, slots: &[u16]) -> u64
         requires key { key < length self.now.teams1 }
         requires teams1 { All (λ t. t < cells.now.n) self.now.teams1 }
@@ -122,41 +121,23 @@ impl Opponents {
         ensures at_most { result ≤ 1560000 }
     {
         let team = TeamId(self.teams1.get(key));
-        games_against(cells, self.side, team, self.teams2.numbers(), slot)
+        u64::from(games_against(cells, self.side, team, &self.teams2, slot))
     }
 }
 
-/// The games of a team against some others, itself left out, in a slot.
-fn games_against(cells: &Cells, side: Side, team: TeamId, opponents: &[u16], slot: SlotId) -> u64
+/// The games of a team against some others, itself left out, in a slot: one look-up, or two for both sides.
+fn games_against(cells: &Cells, side: Side, team: TeamId, opponents: &Listed, slot: SlotId) -> u32
     requires team { team.0 < cells.now.n }
     requires opponents { All (λ j. j < cells.now.n) opponents.now }
-    requires few { length opponents.now ≤ 78 }
     requires slot { slot.0 < slot_count cells.now.n }
     ensures games { result
         ≡ games_of (table_counts cells.now) (meetings_with side team.0 opponents.now) (slot.0 ∷ []) }
     ensures at_most { result ≤ 1560000 }
 {
-    let mut games: u64 = 0;
-    for opponent in opponents {
-        if *opponent != team.0 {
-            games += u64::from(games_between(cells, side, team, TeamId(*opponent), slot));
-        }
-    }
-    games
-}
-
-/// The games of a team with another, on the team's side, in a slot.
-fn games_between(cells: &Cells, side: Side, team: TeamId, opponent: TeamId, slot: SlotId) -> u32
-    requires team { team.0 < cells.now.n }
-    requires opponent { opponent.0 < cells.now.n }
-    requires slot { slot.0 < slot_count cells.now.n }
-    ensures games { result ≡ on_side side (table_counts cells.now team.0 opponent.0 slot.0)
-        (table_counts cells.now opponent.0 team.0 slot.0) }
-    ensures at_most { result ≤ 20000 }
-{
     match side {
-        Side::H => cells.at(team, opponent, slot),
-        Side::A => cells.at(opponent, team, slot),
-        Side::Both => cells.at(team, opponent, slot) + cells.at(opponent, team, slot),
+        Side::H => cells.at_home_to(team, opponents, slot),
+        Side::A => cells.away_at(team, opponents, slot),
+        Side::Both => cells.at_home_to(team, opponents, slot)
+            + cells.away_at(team, opponents, slot),
     }
 }

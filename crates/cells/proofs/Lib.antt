@@ -1,4 +1,11 @@
+pub mod KeepLemmas
 pub mod KeptMeetingLemmas
+pub mod ListedLemmas
+pub mod OpponentLemmas
+pub mod PlaceFacts
+pub mod PlaceLemmas
 pub mod RowLemmas
+pub mod SeenLemmas
+pub mod SpareLemmas
 pub mod TableFacts
 pub mod TableLemmas

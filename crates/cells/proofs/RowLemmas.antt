@@ -1,8 +1,6 @@
 -- Counters in which one number is one more, or one less.
 use Rattle.std.proofs.Common.{◌≡◌, ℕ, ◌+◌, ◌*◌, ◌-◌, ◌<◌, List, length, get_or, set, arith, ap, ◌∙◌}
 use Rattle.std.proofs.lemmas.List.{length-set}
-use Rattle.std.proofs.lemmas.List.Sums.{sum_by-set}
-use Rattle.std.specs.List.{sum}
 use Rattle.league.specs.Grid.{number}
 use Rattle.league.proofs.TableLemmas.{number-inside, number-set_less, number-set_more, read_at}
 use Rattle.cells.specs.Tables.{IsOneMore}
@@ -17,7 +15,6 @@ IsOneMore-set_more before after row column read value wide items inside within w
     record {
       as_wide = wide;
       as_long = ap length items ∙ length-set xs place value;
-      total = ap sum items ∙ omega (arith, sum_by-set (λ x. x) xs place value 0 within, old);
       each = λ i k. ap (λ (w : ℕ). number w after.numbers.items i k) wide ∙ ap (λ (ys : List ℕ). number before.columns ys i k) items ∙ number-set_more before.columns xs row column value inside within (omega arith) i k;
     }
 
@@ -29,10 +26,8 @@ IsOneMore-set_less before after row column read value wide items inside within w
     let old : read ≡ get_or xs place 0 = read_at xs place read within was in
     let back : value + 1 ≡ get_or xs place 0 = omega (arith, old, number-inside after.columns xs row column inside) in
     let less : (i k : ℕ) → number before.columns before.numbers.items i k ≡ number after.columns (set xs place value) i k = λ i k. ap (λ (w : ℕ). number w before.numbers.items i k) wide ∙ ap (λ (ys : List ℕ). number after.columns ys i k) items in
-    let smaller : sum before.numbers.items ≡ sum (set xs place value) = ap sum items in
     record {
       as_wide = omega arith;
       as_long = omega (arith, ap length items, length-set xs place value);
-      total = omega (arith, smaller, sum_by-set (λ x. x) xs place value 0 within, back);
       each = λ i k. omega (arith, less i k, number-set_less after.columns xs row column value inside within back i k);
     }

@@ -1,18 +1,22 @@
 -- The tables in which the counts are kept.
-use Rattle.std.specs.Prelude.{◌≡◌, ℕ, ◌+◌, ◌*◌, ◌≤◌, ◌&&◌, ◌==◌, if◌then◌else◌, length}
-use Rattle.std.specs.List.{sum}
-use Rattle.league.specs.Counts.{slot_count}
-use Rattle.league.specs.Instance.{IsTeamCount}
+use Rattle.std.specs.Prelude.{◌≡◌, ℕ, ◌+◌, ◌*◌, ◌/◌, ◌%◌, ◌≤◌, ◌&&◌, ◌==◌, if◌then◌else◌, List, length, map}
+use Rattle.std.specs.List.{All, range_with_len, sum}
+use Rattle.std.specs.List.Sorted.{IsNonDecreasingBy}
+use Rattle.league.specs.Counts.{Counts, counts_of, slot_count}
+use Rattle.league.specs.Instance.{IsGame, IsTeamCount}
 use Rattle.league.specs.Venues.{away_games, home_games}
 use Rattle.league.specs.Grid.{number}
-use Rattle.cells.specs.Table.{table_counts}
+use Rattle.league.specs.declared.game.Game.{Game}
+use Rattle.cells.specs.Opponents.{AreMirrored, place_at}
+use Rattle.cells.specs.Places.{hosts}
+use Rattle.cells.specs.Spare.{order_of}
 use Rattle.cells.specs.declared.counters.Counters.{Counters}
+use Rattle.cells.specs.declared.place.Place.{Place}
 
 -- the number in a row and column is one more, and all else is the same
 pub record IsOneMore (row column : ℕ) (before after : Counters) : Type 0 where
   pub as_wide : after.columns ≡ before.columns
   pub as_long : length after.numbers.items ≡ length before.numbers.items
-  pub total : sum after.numbers.items ≡ sum before.numbers.items + 1
   pub each : (i k : ℕ) → number after.columns after.numbers.items i k
       ≡ number before.columns before.numbers.items i k + (if (row == i) && (column == k) then 1 else 0)
 
@@ -21,15 +25,32 @@ pub record HasRows (n rows : ℕ) (counters : Counters) : Type 0 where
   pub wide : counters.columns ≡ slot_count n
   pub long : length counters.numbers.items ≡ rows * slot_count n
 
--- the counts of at most 10,000 games, with each team's home games and away games in each slot beside them
-pub record AreKept (n games : ℕ) (counts homes aways : Counters) : Type 0 where
+-- how often a game stands in the table, at most once, and in the list of spare games
+abbrev pub kept_counts : ℕ → List Place → List Game → Counts
+kept_counts n places spare i j s =
+    (if hosts (place_at (slot_count n) places i s) j then 1 else 0) + counts_of spare i j s
+
+-- counts as one list, by home team, then away team, then slot
+abbrev pub listed : ℕ → Counts → List ℕ
+listed n m =
+    map (λ p. m (p / slot_count n / n) (p / slot_count n % n) (p % slot_count n)) (range_with_len 0 (n * n * slot_count n))
+
+-- a table of what each team does in each slot, and spare games in order
+pub record AreOpponents (n : ℕ) (places : List Place) (spare : List Game) : Type 0 where
+  pub size : length places ≡ n * slot_count n
+  pub mirrored : AreMirrored n (place_at (slot_count n) places)
+  pub fit : All (IsGame n) spare
+  pub ordered : IsNonDecreasingBy order_of spare
+
+-- at most 10,000 games, with each team's home games and away games in each slot beside them
+pub record AreKept (n games : ℕ) (places : List Place) (spare : List Game) (homes aways : Counters) : Type 0 where
   pub teams : IsTeamCount n
-  pub count_rows : HasRows n (n * n) counts
+  pub table : AreOpponents n places spare
   pub home_rows : HasRows n n homes
   pub away_rows : HasRows n n aways
-  pub total : games ≡ sum counts.numbers.items
+  pub total : games ≡ sum (listed n (kept_counts n places spare))
   pub few : games ≤ 10000
   pub home : (i s : ℕ) → number homes.columns homes.numbers.items i s
-      ≡ home_games n (table_counts (record { n = n; list = counts.numbers.items })) i s
+      ≡ home_games n (kept_counts n places spare) i s
   pub away : (i s : ℕ) → number aways.columns aways.numbers.items i s
-      ≡ away_games n (table_counts (record { n = n; list = counts.numbers.items })) i s
+      ≡ away_games n (kept_counts n places spare) i s

@@ -1,25 +1,40 @@
 //! How often each game is played, kept while games come and go.
-ghost use Rattle.std.specs.Prelude.{◌≡◌, ℕ, ◌<◌, ◌≤◌, ◌+◌, ◌*◌, [], IfOk};
-ghost use Rattle.std.specs.List.{sum};
+ghost use Rattle.std.specs.Prelude.{◌≡◌, ℕ, ◌<◌, ◌≤◌, ◌+◌, ◌||◌, true, if◌then◌else◌, [], ◌∷◌};
+ghost use Rattle.std.specs.Prelude.{IfOk, IfSome, IfNone};
+ghost use Rattle.std.specs.List.{All, sum};
+ghost use Rattle.league.specs.Capacity.{meetings_with};
 ghost use Rattle.league.specs.Counts as counts;
 ghost use Rattle.league.specs.Counts.{counts_of, one_more};
 ghost use Rattle.league.specs.Instance.{IsGame, IsTeamCount};
+ghost use Rattle.league.specs.Meetings.{games_of};
 ghost use Rattle.league.specs.Venues.{away_games, home_games};
+ghost use Rattle.league.specs.declared.class.Side.TheVariants.{A, H};
+ghost use Rattle.cells.specs.Places.{hosts, visits};
 ghost use Rattle.cells.specs.Table.{table_counts};
 
 use crate::counters::Counters;
+use crate::keep::{keep, let_go};
+use crate::place::{Place, once_if, read_place};
+use crate::spare::{copies, copies_at_home, copies_away};
+use keys::Listed;
 use league::{Game, SlotId, TeamId, slot_count};
 use std::alloc::{AllocError, Global};
 use std::marker::Model;
 
 /// The counts of at most 10,000 games of a league, seen as the number of teams with the list of the counts, by home
 /// team, then away team, then slot.
+///
+/// Each team has one place in each slot. A game stands in the places of its two teams, if both were free when it came,
+/// and else in a list of spare games, in order, for which there is room from the start. Beside them the home games and
+/// the away games of each team in each slot are counted.
 #[derive(Drop)]
 pub struct Cells {
     n: u16,
     games: u32,
-    /// By home and away team in one row, and by slot.
-    counts: Counters,
+    /// What each team does in each slot, by team, then slot.
+    places: Vec<Place>,
+    /// The games that don't stand in their places, in order.
+    spare: Vec<Game>,
     /// The home games, by team and slot.
     homes: Counters,
     /// The away games, by team and slot.
@@ -27,14 +42,16 @@ pub struct Cells {
 }
 
 impl Model for Cells {
+    ghost use Rattle.std.specs.Prelude.{◌≤◌, vec_capacity};
     ghost use Rattle.cells.specs.Table.{Table};
-    ghost use Rattle.cells.specs.Tables.{AreKept};
+    ghost use Rattle.cells.specs.Tables.{AreKept, kept_counts, listed};
 
     ghost Value = { Table };
 
-    ghost view = { λ c. record { n = c.n; list = c.counts.numbers.items } };
+    ghost view = { λ c. record { n = c.n; list = listed c.n (kept_counts c.n c.places.items c.spare.items) } };
 
-    ghost invariant = { λ c. AreKept c.n c.games c.counts c.homes c.aways };
+    ghost invariant = { λ c. AreKept c.n c.games c.places.items c.spare.items c.homes c.aways
+        × (10000 ≤ vec_capacity c.spare) };
 }
 
 impl Cells {
@@ -53,7 +70,8 @@ impl Cells {
         Ok(Cells {
             n,
             games: 0,
-            counts: Counters::new(alloc, teams * teams, slots)?,
+            places: vec![in alloc; Place::Free; teams * slots]?,
+            spare: Vec::with_capacity(alloc, 10000)?,
             homes: Counters::new(alloc, teams, slots)?,
             aways: Counters::new(alloc, teams, slots)?,
         })
@@ -84,7 +102,8 @@ impl Cells {
         self.games
     }
 
-    /// How often the home team plays the away team in the slot.
+    /// How often the home team plays the away team in the slot. It is one look-up, unless the home team has a spare home
+    /// game in the slot.
     pub fn at(&self, home: TeamId, away: TeamId, slot: SlotId) -> u32
         requires home { home.0 < self.now.n }
         requires away { away.0 < self.now.n }
@@ -92,7 +111,12 @@ impl Cells {
         ensures count { result ≡ table_counts self.now home.0 away.0 slot.0 }
         ensures at_most { result ≤ 10000 }
     {
-        self.counts.at(row_of(self.n, home, away), slot.0 as usize)
+        let place = read_place(&self.places, slot_count(self.n) as usize, home, slot);
+        let placed = once_if(place.is_home_to(away));
+        if self.home(home, slot) == place.home_games() {
+            return placed;
+        }
+        placed + copies(&self.spare, Game { home, away, slot })
     }
 
     /// How often a team is at home in a slot. It is one look-up.
@@ -115,6 +139,63 @@ impl Cells {
         self.aways.at(team.0 as usize, slot.0 as usize)
     }
 
+    /// The games of a team at home to some others in a slot, itself left out. It is one look-up, unless the team has a
+    /// spare home game in the slot.
+    pub fn at_home_to(&self, team: TeamId, others: &Listed, slot: SlotId) -> u32
+        requires team { team.0 < self.now.n }
+        requires others { All (λ j. j < self.now.n) others.now }
+        requires slot { slot.0 < counts.slot_count self.now.n }
+        ensures games { result ≡ games_of (table_counts self.now) (meetings_with H team.0 others.now) (slot.0 ∷ []) }
+        ensures at_most { result ≤ 780000 }
+    {
+        let numbers = others.numbers();
+        let place = read_place(&self.places, slot_count(self.n) as usize, team, slot);
+        let placed = place.games_at_home_to(others);
+        if self.home(team, slot) == place.home_games() {
+            return placed;
+        }
+        placed + copies_at_home(&self.spare, team, numbers, slot)
+    }
+
+    /// The games of a team away at some others in a slot, itself left out. It is one look-up, unless the team has a
+    /// spare away game in the slot.
+    pub fn away_at(&self, team: TeamId, others: &Listed, slot: SlotId) -> u32
+        requires team { team.0 < self.now.n }
+        requires others { All (λ j. j < self.now.n) others.now }
+        requires slot { slot.0 < counts.slot_count self.now.n }
+        ensures games { result ≡ games_of (table_counts self.now) (meetings_with A team.0 others.now) (slot.0 ∷ []) }
+        ensures at_most { result ≤ 780000 }
+    {
+        let numbers = others.numbers();
+        let place = read_place(&self.places, slot_count(self.n) as usize, team, slot);
+        let placed = place.games_away_at(others);
+        if self.away(team, slot) == place.away_games() {
+            return placed;
+        }
+        placed + copies_away(&self.spare, team, numbers, slot)
+    }
+
+    /// What a team does in a slot, where its place tells that: a team that has a spare game in the slot gives None, and
+    /// then its games are to be looked up one by one.
+    pub fn place(&self, team: TeamId, slot: SlotId) -> Option<Place>
+        requires team { team.0 < self.now.n }
+        requires slot { slot.0 < counts.slot_count self.now.n }
+        ensures home { IfSome result (λ place. (j : ℕ) → table_counts self.now team.0 j slot.0
+            ≡ (if hosts place j then 1 else 0)) }
+        ensures away { IfSome result (λ place. (j : ℕ) → table_counts self.now j team.0 slot.0
+            ≡ (if visits place j then 1 else 0)) }
+        ensures teams { IfSome result (λ place. (j : ℕ) → (hosts place j || visits place j) ≡ true → j < self.now.n) }
+        ensures none { IfNone result (0 < home_games self.now.n (table_counts self.now) team.0 slot.0
+            + away_games self.now.n (table_counts self.now) team.0 slot.0) }
+    {
+        let place = read_place(&self.places, slot_count(self.n) as usize, team, slot);
+        let settled = self.home(team, slot) == place.home_games();
+        if settled && self.away(team, slot) == place.away_games() {
+            return Some(place);
+        }
+        None
+    }
+
     /// Counts a game once more, where fewer than 10,000 are counted. It takes no memory.
     pub fn add(&mut self, game: Game)
         requires fits { IsGame self.old.n game }
@@ -124,9 +205,9 @@ impl Cells {
         ensures total { sum self.new.list ≡ sum self.old.list + 1 }
     {
         let slot = game.slot.0 as usize;
-        self.counts.add(row_of(self.n, game.home, game.away), slot);
         self.homes.add(game.home.0 as usize, slot);
         self.aways.add(game.away.0 as usize, slot);
+        keep(self.n, &mut self.places, &mut self.spare, game);
         self.games += 1;
     }
 
@@ -139,16 +220,9 @@ impl Cells {
         ensures total { sum self.new.list + 1 ≡ sum self.old.list }
     {
         let slot = game.slot.0 as usize;
-        self.counts.take(row_of(self.n, game.home, game.away), slot);
         self.homes.take(game.home.0 as usize, slot);
         self.aways.take(game.away.0 as usize, slot);
+        let_go(self.n, &mut self.places, &mut self.spare, game);
         self.games -= 1;
     }
-}
-
-/// The row of the counts of a home team's games with an away team.
-pub(crate) fn row_of(n: u16, home: TeamId, away: TeamId) -> usize
-    ensures { result ≡ home.0 * n + away.0 }
-{
-    home.0 as usize * n as usize + away.0 as usize
 }

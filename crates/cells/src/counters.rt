@@ -15,7 +15,7 @@ pub(crate) struct Counters {
 impl Counters {
     /// All numbers are 0.
     pub(crate) fn new(alloc: Global, rows: usize, columns: usize) -> Result<Counters, AllocError>
-        requires rows { rows ≤ 1600 }
+        requires rows { rows ≤ 40 }
         requires columns { columns ≤ 78 }
         ensures columns { IfOk result (λ counters. counters.columns ≡ columns) }
         ensures numbers { IfOk result (λ counters. counters.numbers.items ≡ replicate (rows * columns) 0) }

@@ -6,7 +6,11 @@
 
 mod cells;
 mod counters;
+mod keep;
 mod meetings;
+mod place;
+mod spare;
 
 pub use cells::Cells;
 pub use meetings::Meetings;
+pub use place::Place;

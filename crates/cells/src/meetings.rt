@@ -1,5 +1,5 @@
 //! Some meetings, how often they take place, and whether a meeting is one of them: one look-up in place of a search.
-ghost use Rattle.std.specs.Prelude.{◌≡◌, ◌<◌, ◌≤◌, length, IfOk, IsTrue};
+ghost use Rattle.std.specs.Prelude.{◌≡◌, ◌<◌, ◌≤◌, ◌+◌, ◌*◌, length, IfOk, IsTrue};
 ghost use Rattle.std.specs.List.{All, list_all, sum_by};
 ghost use Rattle.league.specs.Counts.{slot_count};
 ghost use Rattle.league.specs.Instance.{are_meetings, is_meeting};
@@ -7,7 +7,7 @@ ghost use Rattle.league.specs.Meetings.{games_of};
 ghost use Rattle.cells.specs.Meetings.{is_listed};
 ghost use Rattle.cells.specs.Table.{table_counts};
 
-use crate::cells::{Cells, row_of};
+use crate::cells::Cells;
 use league::{PairSet, SlotId, TeamId};
 use std::alloc::{AllocError, Global};
 use std::marker::Model;
@@ -113,4 +113,11 @@ fn games_between(cells: &Cells, home: TeamId, away: TeamId, slots: &[u16]) -> u6
         games += cells.at(home, away, SlotId(*slot)) as u64;
     }
     games
+}
+
+/// The place of the meeting of a home team with an away team, in rows of n.
+fn row_of(n: u16, home: TeamId, away: TeamId) -> usize
+    ensures { result ≡ home.0 * n + away.0 }
+{
+    home.0 as usize * n as usize + away.0 as usize
 }

@@ -242,4 +242,18 @@ impl<L> Rule<L> for AnyRule {
             AnyRule::Se1(rule) => rule.term(key, cells, steps),
         }
     }
+
+    fn every(&self, cells: &Cells, entries: &mut Vec<u64>, steps: &mut Steps<L>) {
+        match self {
+            AnyRule::Ca1(rule) => rule.every(cells, entries, steps),
+            AnyRule::Ca2(rule) => rule.every(cells, entries, steps),
+            AnyRule::Ca3(rule) => rule.every(cells, entries, steps),
+            AnyRule::Ca4(rule) => rule.every(cells, entries, steps),
+            AnyRule::Ga1(rule) => rule.every(cells, entries, steps),
+            AnyRule::Br1(rule) => rule.every(cells, entries, steps),
+            AnyRule::Br2(rule) => rule.every(cells, entries, steps),
+            AnyRule::Fa2(rule) => rule.every(cells, entries, steps),
+            AnyRule::Se1(rule) => rule.every(cells, entries, steps),
+        }
+    }
 }

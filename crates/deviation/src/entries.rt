@@ -21,9 +21,7 @@ pub fn entries_of<L, R: Rule<L>>(
         ≡ map (λ k. R.entry rule.now k (table_counts cells.now)) (range_with_len 0 (R.term_count rule.now))) }
     ensures steps { steps.new ≤ steps.old + R.term_count rule.now }
 {
-    let mut entries = Vec::new(alloc);
-    for key in 0..rule.terms() {
-        entries.push(rule.term(key, cells, steps))?;
-    }
+    let mut entries = Vec::with_capacity(alloc, rule.terms())?;
+    rule.every(cells, &mut entries, steps);
     Ok(entries)
 }

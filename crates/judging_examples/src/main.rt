@@ -5,6 +5,7 @@
 //! file `stdout`, so that a run that gives something else is seen.
 #![tactic(auto)]
 
+mod clashes;
 mod leagues;
 mod rules;
 mod seasons;
@@ -20,5 +21,6 @@ fn main(rt: HostRuntime) -> io::Result<()> {
     structures::show(&rt)?;
     seasons::show(&rt)?;
     tables::show(&rt)?;
+    clashes::show(&rt)?;
     rules::show(&rt)
 }

@@ -132,7 +132,7 @@ fn show_touched(
 }
 
 /// The game of two of four teams.
-fn game(played: (u16, u16, u16)) -> Option<Game>
+pub fn game(played: (u16, u16, u16)) -> Option<Game>
     ensures { IfSome result (IsGame 4) }
 {
     let (home, away, slot) = played;
@@ -148,7 +148,7 @@ fn game(played: (u16, u16, u16)) -> Option<Game>
 }
 
 /// The counts of that schedule.
-fn counts(alloc: Global) -> Result<Cells, AllocError> {
+pub fn counts(alloc: Global) -> Result<Cells, AllocError> {
     let mut cells = Cells::new(alloc, 4)?;
     for played in FOUR {
         if let Some(game) = game(played) {

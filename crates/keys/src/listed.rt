@@ -74,6 +74,7 @@ impl Listed {
     pub fn numbers(&self) -> &[u16]
         ensures numbers { result.now ≡ self.now }
         ensures few { length self.now ≤ 78 }
+        ensures ascending { IsAscending nat_cmp self.now }
     {
         &self.numbers
     }

@@ -11,20 +11,13 @@ use Rattle.league.specs.Venues.{on_side}
 use Rattle.league.specs.declared.game.Game.{Game}
 use Rattle.league.specs.declared.class.Side.{Side}
 use Rattle.league.specs.declared.class.Side.TheVariants.{H, A, Both}
-use Rattle.league.proofs.SumLemmas.{sum_by-add, sum_by-filter, sum_by-map, sum_by-same, sum_by-same_in}
+use Rattle.league.proofs.SumLemmas.{sum_by-add, sum_by-same, sum_by-same_in}
+use Rattle.cells.proofs.OpponentLemmas.{at_home, games_of-one_slot, is_away}
 
 -- a sum of zeros
 sum_by-none : (xs : List ℕ) → sum_by (λ x. 0) xs ≡ 0
 sum_by-none [] = refl
 sum_by-none (x ∷ xs) = omega (arith, sum_by-cons (λ y. 0) x xs, sum_by-none xs)
-
--- a sum of one
-sum_by-one : (f : ℕ → ℕ) (s : ℕ) → sum_by f (s ∷ []) ≡ f s
-sum_by-one f s = omega (arith, sum_by-cons f s [])
-
--- the games of some meetings in one slot
-games_of-one_slot : (m : Counts) (meetings : List (ℕ × ℕ)) (s : ℕ) → games_of m meetings (s ∷ []) ≡ sum_by (λ p. m p.0 p.1 s) meetings
-games_of-one_slot m meetings s = sum_by-same (λ p. sum_by (λ t. m p.0 p.1 t) (s ∷ [])) (λ p. m p.0 p.1 s) (λ p. sum_by-one (λ t. m p.0 p.1 t) s) meetings
 
 -- with one meeting more
 games_of-cons : (m : Counts) (p : ℕ × ℕ) (ps : List (ℕ × ℕ)) (s : ℕ) → games_of m (p ∷ ps) (s ∷ []) ≡ m p.0 p.1 s + games_of m ps (s ∷ [])
@@ -54,13 +47,6 @@ against m side i s j = if not (j == i) then between m side i s j else 0
 cond-add : (b : Bool) (x y : ℕ) → cond b x 0 + cond b y 0 ≡ cond b (x + y) 0
 cond-add true x y = refl
 cond-add false x y = refl
-
--- the games of a team at home, and away
-at_home : (m : Counts) (i : ℕ) (teams : List ℕ) (s : ℕ) → games_of m (map (λ j. (i, j)) (others i teams)) (s ∷ []) ≡ sum_by (against m H i s) teams
-at_home m i teams s = games_of-one_slot m (map (λ j. (i, j)) (others i teams)) s ∙ sum_by-map (λ p. m p.0 p.1 s) (λ j. (i, j)) (others i teams) ∙ sum_by-filter (λ j. m i j s) (λ j. not (j == i)) teams
-
-is_away : (m : Counts) (i : ℕ) (teams : List ℕ) (s : ℕ) → games_of m (map (λ j. (j, i)) (others i teams)) (s ∷ []) ≡ sum_by (against m A i s) teams
-is_away m i teams s = games_of-one_slot m (map (λ j. (j, i)) (others i teams)) s ∙ sum_by-map (λ p. m p.0 p.1 s) (λ j. (j, i)) (others i teams) ∙ sum_by-filter (λ j. m j i s) (λ j. not (j == i)) teams
 
 -- the games of a team in a slot, counted opponent by opponent
 pub games_of-by_opponent : (m : Counts) (side : Side) (i : ℕ) (teams : List ℕ) (s : ℕ) → games_of m (meetings_with side i teams) (s ∷ []) ≡ sum_by (against m side i s) teams

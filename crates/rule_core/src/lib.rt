@@ -9,7 +9,7 @@ mod bounds;
 mod rule;
 
 pub use bounds::outside;
-pub use cells::{Cells, Meetings};
+pub use cells::{Cells, Meetings, Place};
 pub use keys::{Keys, Listed, Pairs};
 pub use rule::{Entries, Rule};
 pub use steps::{Plain, Steps};

@@ -1,6 +1,6 @@
 //! What a constraint's class is, once it is made ready for evaluation.
-ghost use Rattle.std.specs.Prelude.{◌≡◌, ◌<◌, ◌≤◌, ◌+◌, ◌++◌, ℕ, List, length, Contains};
-ghost use Rattle.std.specs.List.{All};
+ghost use Rattle.std.specs.Prelude.{◌≡◌, ◌<◌, ◌≤◌, ◌+◌, ◌++◌, ℕ, List, length, map, Contains, vec_capacity, vec_len};
+ghost use Rattle.std.specs.List.{All, range_with_len};
 ghost use Rattle.std.specs.List.Sorted.{IsStrictlyIncreasing};
 ghost use Rattle.league.specs.Counts.{Counts, one_more};
 ghost use Rattle.league.specs.Instance.{IsGame};
@@ -64,4 +64,17 @@ pub trait Rule<L>: Entries {
         requires teams { cells.now.n ≡ Self.team_count self.now }
         ensures entry { result ≡ Self.entry self.now key (table_counts cells.now) }
         ensures tick { steps.new ≡ steps.old + 1 };
+
+    /// Adds all entries to a list that has room for them, in the order of their keys. It takes no memory.
+    fn every(&self, cells: &Cells, entries: &mut Vec<u64>, steps: &mut Steps<L>)
+        requires teams { cells.now.n ≡ Self.team_count self.now }
+        requires room { vec_len entries.old + Self.term_count self.now ≤ vec_capacity entries.old }
+        ensures entries { entries.new.items ≡ entries.old.items
+            ++ map (λ k. Self.entry self.now k (table_counts cells.now)) (range_with_len 0 (Self.term_count self.now)) }
+        ensures ticks { steps.new ≡ steps.old + Self.term_count self.now }
+    {
+        for key in 0..self.terms() {
+            entries.push_reserved(self.term(key, cells, steps));
+        }
+    }
 }

@@ -1,7 +1,7 @@
 //! The number of steps that an evaluation took. It stands in proofs alone, and costs nothing at run time.
 //!
 //! A body that is lent a `Steps<L>` can't cheat. The fields are private, and `tick` alone changes the number, by
-//! one more. Nor can a second counter take its place: `start` makes one at the ledger `Plain` alone, and code
+//! one more (`tick_all` calls it so many times). Nor can a second counter take its place: `start` makes one at the ledger `Plain` alone, and code
 //! that knows `L` only as a type parameter can make none of an `L`. So a bound on the steps of a function that is
 //! generic in `L` holds of every evaluation that its body makes. (A bound that is stated at `Plain` itself says
 //! nothing, since a body there may start again.)
@@ -53,5 +53,14 @@ impl<L> Steps<L> {
         ensures { self.new ≡ self.old + 1 }
     {
         self.taken = self.taken.next();
+    }
+
+    /// Counts so many steps more.
+    pub fn tick_all(&mut self, count: usize)
+        ensures { self.new ≡ self.old + count }
+    {
+        for _counted in 0..count {
+            self.tick();
+        }
     }
 }

@@ -1,9 +1,12 @@
 use Rattle.std.proofs.Common.{◌≡◌, ℕ, ◌≤◌, ap, sym, subst, ◌∙◌}
-use Rattle.cells.specs.Table.{Table, table_counts}
-use Rattle.cells.proofs.TableLemmas.{kept-no_other}
+use Rattle.league.specs.Counts.{Counts}
+use Rattle.cells.specs.Table.{Table}
+use Rattle.cells.proofs.SeenLemmas.{seen}
+use Rattle.cells.proofs.TableLemmas.{kept-within}
 use Rattle.cells.proofs.cells.Cells.games.Goals as goal
 
 pub returns-clause-no_other : goal.returns-clause-no_other
 returns-clause-no_other c i j s past =
-    sym (ap (λ (t : Table). table_counts t i j s) c.self.view_is)
-    ∙ kept-no_other c.self.inside.n c.self.inside.games c.self.inside.counts c.self.inside.homes c.self.inside.aways c.self.invariant i j s (subst (λ (t : Table). t.n ≤ i) (sym c.self.view_is) past)
+    let table = c.self.invariant.0.table in
+    ap (λ (m : Counts). m i j s) (seen c.self.inside.n c.self.inside.places.items c.self.inside.spare.items c.args.self.now table c.self.view_is)
+    ∙ (kept-within c.self.inside.n c.self.inside.places.items c.self.inside.spare.items table).home i j s (subst (λ (t : Table). t.n ≤ i) (sym c.self.view_is) past)
