@@ -73,7 +73,8 @@ impl Opponents {
     {
         match place {
             Place::Home(guest) => self.one_game(host, guest),
-            Place::Free | Place::Away(_) => 0,
+            Place::Free => 0,
+            Place::Away(_) => 0,
         }
     }
 

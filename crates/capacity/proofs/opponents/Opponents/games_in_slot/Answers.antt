@@ -10,6 +10,10 @@ pub games_at_home-requires-clause-host : goal.games_at_home-requires-clause-host
 games_at_home-requires-clause-host c =
     hosts_below c.args.cells.now.n (can_host c.args.self.now.side c.args.self.now.teams1 c.args.self.now.teams2) c.args.hosts.now c.requires.hosts c.loop-host.host-index 0 c.loop-host-test.true
 
+pub overflow_add-games : goal.overflow_add-games
+overflow_add-games c =
+    omega (arith, c.loop-host.invariant.bounded, c.games_at_home.ensures.at_most, c.from-games.ensures, c.requires.few, hosts_few c.args.cells.now.n (can_host c.args.self.now.side c.args.self.now.teams1 c.args.self.now.teams2) c.args.hosts.now c.requires.hosts)
+
 pub returns-clause-games : goal.returns-clause-games
 returns-clause-games c =
     let self = c.args.self.now in
