@@ -1,5 +1,5 @@
 -- The table with its spare games, with one game more or less.
-use Rattle.std.proofs.Common.{◌≡◌, ℕ, ◌+◌, ◌*◌, ◌<◌, ◌≤◌, Bool, true, false, List, length, refl, arith, ap, subst, sym, ◌∙◌}
+use Rattle.std.proofs.Common.{◌≡◌, ℕ, ◌<◌, Bool, true, false, List, length, arith, ap, subst, sym, ◌∙◌}
 use Rattle.std.specs.List.{All}
 use Rattle.std.specs.List.Sorted.{IsNonDecreasingBy}
 use Rattle.league.specs.Counts.{counts_of, one_more, slot_count}
@@ -15,14 +15,16 @@ use Rattle.cells.specs.declared.place.Place.{Place}
 use Rattle.cells.specs.declared.place.Place.TheVariants.{Free, Home, Away}
 
 -- a game that is put in its two places
-module _ (n w : ℕ) (g : Game) (ps qs : List Place) (xs : List Game) (wide : w ≡ slot_count n) (fits : IsGame n g) (put : IsPut g (place_at w ps) (place_at w qs)) where
+module _ (n w : ℕ) (g : Game) (ps qs : List Place) (xs : List Game) (wide : w ≡ slot_count n) (fits : IsGame n g)
+    (put : IsPut g (place_at w ps) (place_at w qs)) where
   by_slots : IsPut g (place_at (slot_count n) ps) (place_at (slot_count n) qs)
   by_slots = subst (λ (v : ℕ). IsPut g (place_at v ps) (place_at v qs)) wide put
 
   pub put_kept : length qs ≡ length ps → AreOpponents n ps xs → AreOpponents n qs xs
   put_kept long table = record {
     size = long ∙ table.size;
-    mirrored = AreMirrored-put n g (place_at (slot_count n) ps) (place_at (slot_count n) qs) fits by_slots table.mirrored;
+    mirrored = AreMirrored-put n g (place_at (slot_count n) ps) (place_at (slot_count n) qs) fits by_slots
+        table.mirrored;
     fit = table.fit;
     ordered = table.ordered;
   }
@@ -30,27 +32,36 @@ module _ (n w : ℕ) (g : Game) (ps qs : List Place) (xs : List Game) (wide : w 
   pub taken_kept : length ps ≡ length qs → AreOpponents n qs xs → AreOpponents n ps xs
   taken_kept long table = record {
     size = long ∙ table.size;
-    mirrored = AreMirrored-taken n g (place_at (slot_count n) ps) (place_at (slot_count n) qs) fits by_slots table.mirrored;
+    mirrored = AreMirrored-taken n g (place_at (slot_count n) ps) (place_at (slot_count n) qs) fits by_slots
+        table.mirrored;
     fit = table.fit;
     ordered = table.ordered;
   }
 
   pub put_counts : (i j s : ℕ) → kept_counts n qs xs i j s ≡ one_more (kept_counts n ps xs) g i j s
-  put_counts i j s = omega (arith, hosts-put g (place_at (slot_count n) ps) (place_at (slot_count n) qs) fits.differ by_slots i j s)
+  put_counts i j s = omega
+      (arith, hosts-put g (place_at (slot_count n) ps) (place_at (slot_count n) qs) fits.differ by_slots i j s)
 
 -- other spare games
-pub listed_kept : (n : ℕ) (ps : List Place) (xs ys : List Game) → AreOpponents n ps xs → All (IsGame n) ys → IsNonDecreasingBy order_of ys → AreOpponents n ps ys
-listed_kept n ps xs ys table fit ordered = record { size = table.size; mirrored = table.mirrored; fit = fit; ordered = ordered }
+pub listed_kept : (n : ℕ) (ps : List Place) (xs ys : List Game) → AreOpponents n ps xs → All (IsGame n) ys
+    → IsNonDecreasingBy order_of ys → AreOpponents n ps ys
+listed_kept n ps xs ys table fit ordered = record
+    { size = table.size; mirrored = table.mirrored; fit = fit; ordered = ordered }
 
 -- a place that was read as free, by its row
-pub read_free : (w i s : ℕ) (ps : List Place) (p : Place) (free : Bool) → p ≡ place_at w ps i s → free ≡ is_free p → free ≡ true → place_at w ps i s ≡ Free
+pub read_free : (w i s : ℕ) (ps : List Place) (p : Place) (free : Bool) → p ≡ place_at w ps i s → free ≡ is_free p
+    → free ≡ true → place_at w ps i s ≡ Free
 read_free w i s ps p free read test passes = sym read ∙ free_is p (sym test ∙ passes)
 
 -- a place that was read as that of a home game, and the guest's
-pub read_home : (w : ℕ) (g : Game) (ps : List Place) (p : Place) (hosted : Bool) → p ≡ place_at w ps g.home.0 g.slot.0 → hosted ≡ hosts p g.away.0 → hosted ≡ true → place_at w ps g.home.0 g.slot.0 ≡ Home g.away
+pub read_home : (w : ℕ) (g : Game) (ps : List Place) (p : Place) (hosted : Bool)
+    → p ≡ place_at w ps g.home.0 g.slot.0 → hosted ≡ hosts p g.away.0 → hosted ≡ true
+    → place_at w ps g.home.0 g.slot.0 ≡ Home g.away
 read_home w g ps p hosted read test passes = sym read ∙ home_is p g.away (sym test ∙ passes)
 
-pub read_guest : (n w : ℕ) (g : Game) (ps : List Place) (xs : List Game) (p : Place) (hosted : Bool) → w ≡ slot_count n → AreOpponents n ps xs → p ≡ place_at w ps g.home.0 g.slot.0 → hosted ≡ hosts p g.away.0 → hosted ≡ true → place_at w ps g.away.0 g.slot.0 ≡ Away g.home
+pub read_guest : (n w : ℕ) (g : Game) (ps : List Place) (xs : List Game) (p : Place) (hosted : Bool)
+    → w ≡ slot_count n → AreOpponents n ps xs → p ≡ place_at w ps g.home.0 g.slot.0 → hosted ≡ hosts p g.away.0
+    → hosted ≡ true → place_at w ps g.away.0 g.slot.0 ≡ Away g.home
 read_guest n w g ps xs p hosted wide table read test passes =
     away_is (place_at w ps g.away.0 g.slot.0) g.home
     (subst (λ (v : ℕ). visits (place_at v ps g.away.0 g.slot.0) g.home.0 ≡ true) (sym wide)
@@ -61,7 +72,9 @@ read_guest n w g ps xs p hosted wide table read test passes =
     ∙ passes))
 
 -- a game that isn't in the table is in the list
-pub listed_there : (n w : ℕ) (g : Game) (ps : List Place) (xs : List Game) (p : Place) (hosted : Bool) → w ≡ slot_count n → p ≡ place_at w ps g.home.0 g.slot.0 → hosted ≡ hosts p g.away.0 → hosted ≡ false → 0 < kept_counts n ps xs g.home.0 g.away.0 g.slot.0 → 0 < counts_of xs g.home.0 g.away.0 g.slot.0
+pub listed_there : (n w : ℕ) (g : Game) (ps : List Place) (xs : List Game) (p : Place) (hosted : Bool)
+    → w ≡ slot_count n → p ≡ place_at w ps g.home.0 g.slot.0 → hosted ≡ hosts p g.away.0 → hosted ≡ false
+    → 0 < kept_counts n ps xs g.home.0 g.away.0 g.slot.0 → 0 < counts_of xs g.home.0 g.away.0 g.slot.0
 listed_there n w g ps xs p hosted wide read test fails there =
     let none : one_if (hosts (place_at (slot_count n) ps g.home.0 g.slot.0) g.away.0) ≡ 0 =
     ap (λ (v : ℕ). one_if (hosts (place_at v ps g.home.0 g.slot.0) g.away.0)) (sym wide)

@@ -1,5 +1,6 @@
 -- The table of what each team does in each slot.
-use Rattle.std.specs.Prelude.{◌≡◌, ◌≢◌, ◌⊎◌, ℕ, ◌+◌, ◌*◌, ◌<◌, Bool, true, false, nat_lt, if◌then◌else◌, List, slice_index_or}
+use Rattle.std.specs.Prelude.{◌≡◌, ◌≢◌, ◌⊎◌, ℕ, ◌+◌, ◌*◌, ◌<◌, Bool, true, false, nat_lt, if◌then◌else◌, List}
+use Rattle.std.specs.Prelude.{slice_index_or}
 use Rattle.league.specs.Sets.{is_in}
 use Rattle.league.specs.declared.game.Game.{Game}
 use Rattle.cells.specs.Places.{hosts, visits}

@@ -1,7 +1,7 @@
 -- What a team does in a slot in which it has at most one game.
 use Rattle.std.specs.Prelude.{ℕ, Bool, false, ◌==◌}
 use Rattle.cells.specs.declared.place.Place.{Place}
-use Rattle.cells.specs.declared.place.Place.TheVariants.{Free, Home, Away}
+use Rattle.cells.specs.declared.place.Place.TheVariants.{Home, Away}
 
 -- whether a team in this place is at home to team j
 abbrev pub hosts : Place → ℕ → Bool

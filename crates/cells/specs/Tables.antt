@@ -33,7 +33,8 @@ kept_counts n places spare i j s =
 -- counts as one list, by home team, then away team, then slot
 abbrev pub listed : ℕ → Counts → List ℕ
 listed n m =
-    map (λ p. m (p / slot_count n / n) (p / slot_count n % n) (p % slot_count n)) (range_with_len 0 (n * n * slot_count n))
+    map (λ p. m (p / slot_count n / n) (p / slot_count n % n) (p % slot_count n))
+    (range_with_len 0 (n * n * slot_count n))
 
 -- a table of what each team does in each slot, and spare games in order
 pub record AreOpponents (n : ℕ) (places : List Place) (spare : List Game) : Type 0 where

@@ -102,8 +102,8 @@ impl Cells {
         self.games
     }
 
-    /// How often the home team plays the away team in the slot. It is one look-up, unless the home team has a spare home
-    /// game in the slot.
+    /// How often the home team plays the away team in the slot. It is one look-up, unless the home team has a spare
+    /// home game in the slot.
     pub fn at(&self, home: TeamId, away: TeamId, slot: SlotId) -> u32
         requires home { home.0 < self.now.n }
         requires away { away.0 < self.now.n }

@@ -4,17 +4,27 @@ use Rattle.cells.proofs.TableLemmas.{place_in_rows}
 use Rattle.cells.proofs.keep.keep.Goals as goal
 
 pub read_place-home-requires-clause-place : goal.read_place-home-requires-clause-place
-read_place-home-requires-clause-place c = place_in_rows c.args.n c.args.game.home.0 c.args.game.slot.0 c.slot_count-slots.result (length c.args.places.now.items) c.slot_count-slots.ensures c.requires.table.size c.requires.fits.home c.requires.fits.slot
+read_place-home-requires-clause-place c = place_in_rows c.args.n c.args.game.home.0 c.args.game.slot.0
+    c.slot_count-slots.result (length c.args.places.now.items) c.slot_count-slots.ensures c.requires.table.size
+    c.requires.fits.home c.requires.fits.slot
 
 pub read_place-away-requires-clause-place : goal.read_place-away-requires-clause-place
-read_place-away-requires-clause-place c = place_in_rows c.args.n c.args.game.away.0 c.args.game.slot.0 c.slot_count-slots.result (length c.args.places.now.items) c.slot_count-slots.ensures c.requires.table.size c.requires.fits.away c.requires.fits.slot
+read_place-away-requires-clause-place c = place_in_rows c.args.n c.args.game.away.0 c.args.game.slot.0
+    c.slot_count-slots.result (length c.args.places.now.items) c.slot_count-slots.ensures c.requires.table.size
+    c.requires.fits.away c.requires.fits.slot
 
 pub put-requires-clause-home : goal.put-requires-clause-home
-put-requires-clause-home c = place_in_rows c.args.n c.args.game.home.0 c.args.game.slot.0 c.slot_count-slots.result (length c.args.places.now.items) c.slot_count-slots.ensures c.requires.table.size c.requires.fits.home c.requires.fits.slot
+put-requires-clause-home c = place_in_rows c.args.n c.args.game.home.0 c.args.game.slot.0 c.slot_count-slots.result
+    (length c.args.places.now.items) c.slot_count-slots.ensures c.requires.table.size c.requires.fits.home
+    c.requires.fits.slot
 
 pub put-requires-clause-away : goal.put-requires-clause-away
-put-requires-clause-away c = place_in_rows c.args.n c.args.game.away.0 c.args.game.slot.0 c.slot_count-slots.result (length c.args.places.now.items) c.slot_count-slots.ensures c.requires.table.size c.requires.fits.away c.requires.fits.slot
+put-requires-clause-away c = place_in_rows c.args.n c.args.game.away.0 c.args.game.slot.0 c.slot_count-slots.result
+    (length c.args.places.now.items) c.slot_count-slots.ensures c.requires.table.size c.requires.fits.away
+    c.requires.fits.slot
 
 pub returns-then-is_free-2-clause-table : goal.returns-then-is_free-2-clause-table
 returns-then-is_free-2-clause-table c =
-    put_kept c.args.n c.slot_count-slots.result c.args.game c.args.places.now.items c.put.new.places.items c.args.spare.now.items c.slot_count-slots.ensures c.requires.fits c.put.ensures.put c.put.ensures.size c.requires.table
+    put_kept c.args.n c.slot_count-slots.result c.args.game c.args.places.now.items c.put.new.places.items
+    c.args.spare.now.items c.slot_count-slots.ensures c.requires.fits c.put.ensures.put c.put.ensures.size
+    c.requires.table

@@ -8,4 +8,5 @@ returns-clause-put c =
     let game = c.args.game in
     let places = c.args.places.now.items in
     IsPut-written game (place_at c.args.slots places) _ c.requires.home_free c.requires.away_free
-    (AreWritten-set c.args.slots places game (Home game.away) (Away game.home) c.requires.slot c.requires.home c.requires.away c.requires.differ)
+    (AreWritten-set c.args.slots places game (Home game.away) (Away game.home) c.requires.slot c.requires.home
+    c.requires.away c.requires.differ)

@@ -8,4 +8,5 @@ returns-clause-put c =
     let game = c.args.game in
     let places = c.args.places.now.items in
     IsPut-cleared game (place_at c.args.slots places) _ c.requires.at_home c.requires.is_away
-    (AreWritten-set c.args.slots places game Free Free c.requires.slot c.requires.home c.requires.away c.requires.differ)
+    (AreWritten-set c.args.slots places game Free Free c.requires.slot c.requires.home c.requires.away
+    c.requires.differ)

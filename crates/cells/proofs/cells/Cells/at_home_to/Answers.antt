@@ -1,4 +1,4 @@
-use Rattle.std.proofs.Common.{◌≡◌, ℕ, ◌<◌, List, length, arith, ap, sym, ◌∙◌}
+use Rattle.std.proofs.Common.{ℕ, List, length, arith, ap, ◌∙◌}
 use Rattle.std.specs.List.{sum_by}
 use Rattle.league.specs.Counts.{counts_of, slot_count}
 use Rattle.cells.specs.Table.{Table}
@@ -10,20 +10,55 @@ pub read_place-place-requires-clause-place : goal.read_place-place-requires-clau
 read_place-place-requires-clause-place c =
     let teams = ap (λ (t : Table). t.n) c.self.view_is in
     let slots = ap (λ (t : Table). slot_count t.n) c.self.view_is in
-    place_in_rows c.self.inside.n c.args.team.0 c.args.slot.0 c.slot_count.result (length c.self.inside.places.items) c.slot_count.ensures c.self.invariant.0.table.size (omega (arith, teams, c.requires.team)) (omega (arith, slots, c.requires.slot))
+    place_in_rows c.self.inside.n c.args.team.0 c.args.slot.0 c.slot_count.result
+    (length c.self.inside.places.items) c.slot_count.ensures c.self.invariant.0.table.size
+    (omega (arith, teams, c.requires.team)) (omega (arith, slots, c.requires.slot))
 
 pub returns-then-home-home_games-clause-games : goal.returns-then-home-home_games-clause-games
 returns-then-home-home_games-clause-games c =
-    let none = no_more_home c.self.inside.n c.self.inside.games c.self.inside.places.items c.self.inside.spare.items c.self.inside.homes c.self.inside.aways c.self.invariant.0 c.args.self.now c.self.view_is c.args.team.0 c.args.slot.0 c.slot_count.result c.read_place-place.result c.slot_count.ensures c.read_place-place.ensures c.home.result c.home_games.result c.home.ensures.count c.home_games.ensures c.if-home-home_games.true in
-    at_home_settled c.self.inside.n c.self.inside.games c.self.inside.places.items c.self.inside.spare.items c.self.inside.homes c.self.inside.aways c.self.invariant.0 c.args.self.now c.self.view_is c.args.team.0 c.args.slot.0 c.args.others.now c.numbers-numbers.ensures.ascending c.slot_count.result c.read_place-place.result c.slot_count.ensures c.read_place-place.ensures c.games_at_home_to-placed.result c.games_at_home_to-placed.ensures none
+    let none = no_more_home c.self.inside.n c.self.inside.games c.self.inside.places.items c.self.inside.spare.items
+    c.self.inside.homes c.self.inside.aways c.self.invariant.0 c.args.self.now c.self.view_is c.args.team.0
+    c.args.slot.0 c.slot_count.result c.read_place-place.result c.slot_count.ensures c.read_place-place.ensures
+    c.home.result c.home_games.result c.home.ensures.count c.home_games.ensures c.if-home-home_games.true in
+    at_home_settled c.self.inside.n c.self.inside.games c.self.inside.places.items c.self.inside.spare.items
+    c.self.inside.homes c.self.inside.aways c.self.invariant.0 c.args.self.now c.self.view_is c.args.team.0
+    c.args.slot.0 c.args.others.now c.numbers-numbers.ensures.ascending c.slot_count.result
+    c.read_place-place.result c.slot_count.ensures c.read_place-place.ensures c.games_at_home_to-placed.result
+    c.games_at_home_to-placed.ensures none
 
 pub copies_at_home-requires-clause-few : goal.copies_at_home-requires-clause-few
-copies_at_home-requires-clause-few c = omega (arith, kept-few c.self.inside.n c.self.inside.games c.self.inside.places.items c.self.inside.spare.items c.self.inside.homes c.self.inside.aways c.self.invariant.0, c.self.invariant.0.few)
+copies_at_home-requires-clause-few c = omega (
+  arith,
+  kept-few c.self.inside.n c.self.inside.games c.self.inside.places.items c.self.inside.spare.items
+      c.self.inside.homes c.self.inside.aways c.self.invariant.0,
+  c.self.invariant.0.few,
+)
 
 pub returns-clause-games : goal.returns-clause-games
 returns-clause-games c =
-    at_home_all c.self.inside.n c.self.inside.games c.self.inside.places.items c.self.inside.spare.items c.self.inside.homes c.self.inside.aways c.self.invariant.0 c.args.self.now c.self.view_is c.args.team.0 c.args.slot.0 c.args.others.now c.numbers-numbers.ensures.ascending c.slot_count.result c.read_place-place.result c.slot_count.ensures c.read_place-place.ensures c.games_at_home_to-placed.result c.copies_at_home.result c.games_at_home_to-placed.ensures (c.copies_at_home.ensures.games ∙ ap (λ (xs : List ℕ). sum_by (λ j. counts_of c.self.inside.spare.items c.args.team.0 j c.args.slot.0) xs) c.numbers-numbers.ensures.numbers)
+    at_home_all c.self.inside.n c.self.inside.games c.self.inside.places.items c.self.inside.spare.items
+    c.self.inside.homes c.self.inside.aways c.self.invariant.0 c.args.self.now c.self.view_is c.args.team.0
+    c.args.slot.0 c.args.others.now c.numbers-numbers.ensures.ascending c.slot_count.result
+    c.read_place-place.result c.slot_count.ensures c.read_place-place.ensures c.games_at_home_to-placed.result
+    c.copies_at_home.result c.games_at_home_to-placed.ensures
+    (c.copies_at_home.ensures.games
+    ∙ ap (λ (xs : List ℕ). sum_by (λ j. counts_of c.self.inside.spare.items c.args.team.0 j c.args.slot.0) xs)
+    c.numbers-numbers.ensures.numbers)
 
 pub returns-clause-at_most : goal.returns-clause-at_most
 returns-clause-at_most c =
-    omega (arith, at_home_all c.self.inside.n c.self.inside.games c.self.inside.places.items c.self.inside.spare.items c.self.inside.homes c.self.inside.aways c.self.invariant.0 c.args.self.now c.self.view_is c.args.team.0 c.args.slot.0 c.args.others.now c.numbers-numbers.ensures.ascending c.slot_count.result c.read_place-place.result c.slot_count.ensures c.read_place-place.ensures c.games_at_home_to-placed.result c.copies_at_home.result c.games_at_home_to-placed.ensures (c.copies_at_home.ensures.games ∙ ap (λ (xs : List ℕ). sum_by (λ j. counts_of c.self.inside.spare.items c.args.team.0 j c.args.slot.0) xs) c.numbers-numbers.ensures.numbers), at_home-le c.self.inside.n c.self.inside.games c.self.inside.places.items c.self.inside.spare.items c.self.inside.homes c.self.inside.aways c.self.invariant.0 c.args.self.now c.self.view_is c.args.team.0 c.args.slot.0 c.args.others.now c.numbers-numbers.ensures.ascending c.numbers-numbers.ensures.few)
+    omega (
+      arith,
+      at_home_all c.self.inside.n c.self.inside.games c.self.inside.places.items
+          c.self.inside.spare.items c.self.inside.homes c.self.inside.aways c.self.invariant.0 c.args.self.now
+          c.self.view_is c.args.team.0 c.args.slot.0 c.args.others.now c.numbers-numbers.ensures.ascending
+          c.slot_count.result c.read_place-place.result c.slot_count.ensures c.read_place-place.ensures
+          c.games_at_home_to-placed.result c.copies_at_home.result c.games_at_home_to-placed.ensures
+          (c.copies_at_home.ensures.games
+          ∙ ap (λ (xs : List ℕ). sum_by (λ j. counts_of c.self.inside.spare.items c.args.team.0 j c.args.slot.0) xs)
+          c.numbers-numbers.ensures.numbers),
+      at_home-le c.self.inside.n c.self.inside.games
+          c.self.inside.places.items c.self.inside.spare.items c.self.inside.homes c.self.inside.aways
+          c.self.invariant.0 c.args.self.now c.self.view_is c.args.team.0 c.args.slot.0 c.args.others.now
+          c.numbers-numbers.ensures.ascending c.numbers-numbers.ensures.few,
+    )

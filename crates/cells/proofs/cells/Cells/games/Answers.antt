@@ -1,4 +1,4 @@
-use Rattle.std.proofs.Common.{◌≡◌, ℕ, ◌≤◌, ap, sym, subst, ◌∙◌}
+use Rattle.std.proofs.Common.{◌≤◌, ap, sym, subst, ◌∙◌}
 use Rattle.league.specs.Counts.{Counts}
 use Rattle.cells.specs.Table.{Table}
 use Rattle.cells.proofs.SeenLemmas.{seen}
@@ -8,5 +8,8 @@ use Rattle.cells.proofs.cells.Cells.games.Goals as goal
 pub returns-clause-no_other : goal.returns-clause-no_other
 returns-clause-no_other c i j s past =
     let table = c.self.invariant.0.table in
-    ap (λ (m : Counts). m i j s) (seen c.self.inside.n c.self.inside.places.items c.self.inside.spare.items c.args.self.now table c.self.view_is)
-    ∙ (kept-within c.self.inside.n c.self.inside.places.items c.self.inside.spare.items table).home i j s (subst (λ (t : Table). t.n ≤ i) (sym c.self.view_is) past)
+    ap (λ (m : Counts). m i j s)
+    (seen c.self.inside.n c.self.inside.places.items c.self.inside.spare.items c.args.self.now table
+    c.self.view_is)
+    ∙ (kept-within c.self.inside.n c.self.inside.places.items c.self.inside.spare.items table).home i j s
+    (subst (λ (t : Table). t.n ≤ i) (sym c.self.view_is) past)

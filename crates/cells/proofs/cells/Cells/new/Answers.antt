@@ -1,4 +1,4 @@
-use Rattle.std.proofs.Common.{◌≡◌, ℕ, ◌*◌, List, replicate, ap, sym, arith, ◌∙◌}
+use Rattle.std.proofs.Common.{ℕ, ◌*◌, List, replicate, ap, sym, arith, ◌∙◌}
 use Rattle.cells.specs.declared.place.Place.TheVariants.{Free}
 use Rattle.cells.proofs.TableLemmas.{AreKept-none, AreOpponents-none, kept-counts, kept-none}
 use Rattle.cells.proofs.cells.Cells.new.Goals as goal
@@ -8,8 +8,10 @@ invariant_of-result c =
     let n = c.args.n in
     let season = c.slot_count-slots.ensures in
     let zeros : ℕ → List ℕ = λ slots. replicate (n * slots) 0 in (
-      AreKept-none n c.in_ok-vec.field-0.items c.in_ok-with_capacity.field-0.items c.in_ok-new.field-0 c.in_ok-new-2.field-0 c.requires.teams
-          (c.in_ok-vec.ensures.items_if_clones_equal (λ y is. is) ∙ ap (λ (slots : ℕ). replicate (n * slots) Free) season)
+      AreKept-none n c.in_ok-vec.field-0.items c.in_ok-with_capacity.field-0.items c.in_ok-new.field-0
+          c.in_ok-new-2.field-0 c.requires.teams
+          (c.in_ok-vec.ensures.items_if_clones_equal (λ y is. is) ∙ ap (λ (slots : ℕ). replicate (n * slots) Free)
+          season)
           c.in_ok-with_capacity.ensures.items
           (c.in_ok-new.ensures.columns ∙ season) (c.in_ok-new.ensures.numbers ∙ ap zeros season)
           (c.in_ok-new-2.ensures.columns ∙ season) (c.in_ok-new-2.ensures.numbers ∙ ap zeros season),
@@ -20,9 +22,11 @@ pub returns-clause-counts : goal.returns-clause-counts
 returns-clause-counts c =
     let n = c.args.n in
     let season = c.slot_count-slots.ensures in
-    let free = c.in_ok-vec.ensures.items_if_clones_equal (λ y is. is) ∙ ap (λ (slots : ℕ). replicate (n * slots) Free) season in
+    let free = c.in_ok-vec.ensures.items_if_clones_equal (λ y is. is) ∙
+    ap (λ (slots : ℕ). replicate (n * slots) Free) season in
     let none = c.in_ok-with_capacity.ensures.items in
-    kept-counts n c.in_ok-vec.field-0.items c.in_ok-with_capacity.field-0.items (AreOpponents-none n c.in_ok-vec.field-0.items c.in_ok-with_capacity.field-0.items free none)
+    kept-counts n c.in_ok-vec.field-0.items c.in_ok-with_capacity.field-0.items
+    (AreOpponents-none n c.in_ok-vec.field-0.items c.in_ok-with_capacity.field-0.items free none)
     ∙ kept-none n c.in_ok-vec.field-0.items c.in_ok-with_capacity.field-0.items free none
 
 pub returns-clause-total : goal.returns-clause-total
@@ -31,7 +35,8 @@ returns-clause-total c =
     let season = c.slot_count-slots.ensures in
     let zeros : ℕ → List ℕ = λ slots. replicate (n * slots) 0 in
     sym
-    (AreKept-none n c.in_ok-vec.field-0.items c.in_ok-with_capacity.field-0.items c.in_ok-new.field-0 c.in_ok-new-2.field-0 c.requires.teams
+    (AreKept-none n c.in_ok-vec.field-0.items c.in_ok-with_capacity.field-0.items c.in_ok-new.field-0
+    c.in_ok-new-2.field-0 c.requires.teams
     (c.in_ok-vec.ensures.items_if_clones_equal (λ y is. is) ∙ ap (λ (slots : ℕ). replicate (n * slots) Free) season)
     c.in_ok-with_capacity.ensures.items
     (c.in_ok-new.ensures.columns ∙ season) (c.in_ok-new.ensures.numbers ∙ ap zeros season)

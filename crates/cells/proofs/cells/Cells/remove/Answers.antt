@@ -1,50 +1,85 @@
-use Rattle.std.proofs.Common.{◌≡◌, ℕ, ◌+◌, ◌<◌, length, arith, ap, subst, sym, ◌∙◌}
+use Rattle.std.proofs.Common.{ℕ, ◌<◌, length, arith, ap, subst, sym, ◌∙◌}
 use Rattle.std.specs.List.{sum}
 use Rattle.league.specs.Counts.{Counts, one_more}
 use Rattle.league.specs.Instance.{IsGame}
 use Rattle.cells.specs.Table.{Table}
 use Rattle.cells.specs.Tables.{kept_counts}
 use Rattle.cells.proofs.SeenLemmas.{seen}
-use Rattle.cells.proofs.TableLemmas.{AreKept-less, away_games-ge, home_games-ge, kept-counts, place_in_rows, same_counts, sum_more}
+use Rattle.cells.proofs.TableLemmas.{AreKept-less, away_games-ge, home_games-ge, kept-counts, place_in_rows}
+use Rattle.cells.proofs.TableLemmas.{same_counts, sum_more}
 use Rattle.cells.proofs.cells.Cells.remove.Goals as goal
 
 pub take-requires-clause-place : goal.take-requires-clause-place
 take-requires-clause-place c =
-    let fits : IsGame c.self.inside.n c.args.game = subst (λ (t : Table). IsGame t.n c.args.game) (sym c.self.view_is) c.requires.fits in
-    place_in_rows c.self.inside.n c.args.game.home.0 c.args.game.slot.0 c.self.inside.homes.columns (length c.self.inside.homes.numbers.items) c.self.invariant.0.home_rows.wide c.self.invariant.0.home_rows.long fits.home fits.slot
+    let fits : IsGame c.self.inside.n c.args.game = subst (λ (t : Table). IsGame t.n c.args.game)
+    (sym c.self.view_is) c.requires.fits in
+    place_in_rows c.self.inside.n c.args.game.home.0 c.args.game.slot.0 c.self.inside.homes.columns
+    (length c.self.inside.homes.numbers.items) c.self.invariant.0.home_rows.wide
+    c.self.invariant.0.home_rows.long fits.home fits.slot
 
 pub take-requires-clause-there : goal.take-requires-clause-there
 take-requires-clause-there c =
     let game = c.args.game in
-    let fits : IsGame c.self.inside.n c.args.game = subst (λ (t : Table). IsGame t.n c.args.game) (sym c.self.view_is) c.requires.fits in
-    let there : 0 < kept_counts c.self.inside.n c.self.inside.places.items c.self.inside.spare.items game.home.0 game.away.0 game.slot.0 =
-    subst (λ (m : Counts). 0 < m game.home.0 game.away.0 game.slot.0) (seen c.self.inside.n c.self.inside.places.items c.self.inside.spare.items c.args.self.now c.self.invariant.0.table c.self.view_is) c.requires.there in
-    omega (arith, c.self.invariant.0.home game.home.0 game.slot.0, home_games-ge c.self.inside.n (kept_counts c.self.inside.n c.self.inside.places.items c.self.inside.spare.items) game.home.0 game.away.0 game.slot.0 fits.away, there)
+    let fits : IsGame c.self.inside.n c.args.game = subst (λ (t : Table). IsGame t.n c.args.game)
+    (sym c.self.view_is) c.requires.fits in
+    let there : 0 < kept_counts c.self.inside.n c.self.inside.places.items c.self.inside.spare.items game.home.0
+    game.away.0 game.slot.0 =
+    subst (λ (m : Counts). 0 < m game.home.0 game.away.0 game.slot.0)
+    (seen c.self.inside.n c.self.inside.places.items c.self.inside.spare.items c.args.self.now
+    c.self.invariant.0.table c.self.view_is) c.requires.there in
+    omega (
+      arith,
+      c.self.invariant.0.home game.home.0 game.slot.0,
+      home_games-ge c.self.inside.n
+          (kept_counts c.self.inside.n c.self.inside.places.items c.self.inside.spare.items) game.home.0 game.away.0
+          game.slot.0 fits.away,
+      there,
+    )
 
 pub take-requires-2-clause-place : goal.take-requires-2-clause-place
 take-requires-2-clause-place c =
-    let fits : IsGame c.self.inside.n c.args.game = subst (λ (t : Table). IsGame t.n c.args.game) (sym c.self.view_is) c.requires.fits in
-    place_in_rows c.self.inside.n c.args.game.away.0 c.args.game.slot.0 c.self.inside.aways.columns (length c.self.inside.aways.numbers.items) c.self.invariant.0.away_rows.wide c.self.invariant.0.away_rows.long fits.away fits.slot
+    let fits : IsGame c.self.inside.n c.args.game = subst (λ (t : Table). IsGame t.n c.args.game)
+    (sym c.self.view_is) c.requires.fits in
+    place_in_rows c.self.inside.n c.args.game.away.0 c.args.game.slot.0 c.self.inside.aways.columns
+    (length c.self.inside.aways.numbers.items) c.self.invariant.0.away_rows.wide
+    c.self.invariant.0.away_rows.long fits.away fits.slot
 
 pub take-requires-2-clause-there : goal.take-requires-2-clause-there
 take-requires-2-clause-there c =
     let game = c.args.game in
-    let fits : IsGame c.self.inside.n c.args.game = subst (λ (t : Table). IsGame t.n c.args.game) (sym c.self.view_is) c.requires.fits in
-    let there : 0 < kept_counts c.self.inside.n c.self.inside.places.items c.self.inside.spare.items game.home.0 game.away.0 game.slot.0 =
-    subst (λ (m : Counts). 0 < m game.home.0 game.away.0 game.slot.0) (seen c.self.inside.n c.self.inside.places.items c.self.inside.spare.items c.args.self.now c.self.invariant.0.table c.self.view_is) c.requires.there in
-    omega (arith, c.self.invariant.0.away game.away.0 game.slot.0, away_games-ge c.self.inside.n (kept_counts c.self.inside.n c.self.inside.places.items c.self.inside.spare.items) game.home.0 game.away.0 game.slot.0 fits.home, there)
+    let fits : IsGame c.self.inside.n c.args.game = subst (λ (t : Table). IsGame t.n c.args.game)
+    (sym c.self.view_is) c.requires.fits in
+    let there : 0 < kept_counts c.self.inside.n c.self.inside.places.items c.self.inside.spare.items game.home.0
+    game.away.0 game.slot.0 =
+    subst (λ (m : Counts). 0 < m game.home.0 game.away.0 game.slot.0)
+    (seen c.self.inside.n c.self.inside.places.items c.self.inside.spare.items c.args.self.now
+    c.self.invariant.0.table c.self.view_is) c.requires.there in
+    omega (
+      arith,
+      c.self.invariant.0.away game.away.0 game.slot.0,
+      away_games-ge c.self.inside.n
+          (kept_counts c.self.inside.n c.self.inside.places.items c.self.inside.spare.items) game.home.0 game.away.0
+          game.slot.0 fits.home,
+      there,
+    )
 
 pub let_go-requires-clause-there : goal.let_go-requires-clause-there
 let_go-requires-clause-there c =
     let game = c.args.game in
-    subst (λ (m : Counts). 0 < m game.home.0 game.away.0 game.slot.0) (seen c.self.inside.n c.self.inside.places.items c.self.inside.spare.items c.args.self.now c.self.invariant.0.table c.self.view_is) c.requires.there
+    subst (λ (m : Counts). 0 < m game.home.0 game.away.0 game.slot.0)
+    (seen c.self.inside.n c.self.inside.places.items c.self.inside.spare.items c.args.self.now
+    c.self.invariant.0.table c.self.view_is) c.requires.there
 
 pub invariant_of-self : goal.invariant_of-self
 invariant_of-self c =
     let game = c.args.game in
-    let fits : IsGame c.self.inside.n c.args.game = subst (λ (t : Table). IsGame t.n c.args.game) (sym c.self.view_is) c.requires.fits in (
-      AreKept-less c.self.inside.n c.self.inside.games game c.let_go.new.places.items c.self.inside.places.items c.let_go.new.spare.items c.self.inside.spare.items c.take.new.self c.take-2.new.self c.self.inside.homes c.self.inside.aways fits
-          (record { by_home = c.take.ensures; by_away = c.take-2.ensures }) c.let_go.ensures.table c.let_go.ensures.counts c.self.invariant.0,
+    let fits : IsGame c.self.inside.n c.args.game = subst (λ (t : Table). IsGame t.n c.args.game)
+    (sym c.self.view_is) c.requires.fits in (
+      AreKept-less c.self.inside.n c.self.inside.games game c.let_go.new.places.items c.self.inside.places.items
+          c.let_go.new.spare.items c.self.inside.spare.items c.take.new.self c.take-2.new.self c.self.inside.homes
+          c.self.inside.aways fits
+          (record { by_home = c.take.ensures; by_away = c.take-2.ensures }) c.let_go.ensures.table
+          c.let_go.ensures.counts c.self.invariant.0,
       omega (arith, c.let_go.ensures.room, c.self.invariant.1),
     )
 
@@ -53,16 +88,21 @@ returns-clause-counts c =
     let n : ℕ = c.self.inside.n in
     let m : Counts = kept_counts n c.let_go.new.places.items c.let_go.new.spare.items in
     let more : Counts = kept_counts n c.self.inside.places.items c.self.inside.spare.items in
-    ap (λ (k : Counts). one_more k c.args.game) (kept-counts n c.let_go.new.places.items c.let_go.new.spare.items c.let_go.ensures.table)
+    ap (λ (k : Counts). one_more k c.args.game)
+    (kept-counts n c.let_go.new.places.items c.let_go.new.spare.items c.let_go.ensures.table)
     ∙ sym (same_counts more (one_more m c.args.game) c.let_go.ensures.counts)
-    ∙ sym (seen n c.self.inside.places.items c.self.inside.spare.items c.args.self.now c.self.invariant.0.table c.self.view_is)
+    ∙ sym (seen n c.self.inside.places.items c.self.inside.spare.items c.args.self.now c.self.invariant.0.table
+    c.self.view_is)
 
 pub returns-clause-total : goal.returns-clause-total
 returns-clause-total c =
     let n : ℕ = c.self.inside.n in
-    let fits : IsGame c.self.inside.n c.args.game = subst (λ (t : Table). IsGame t.n c.args.game) (sym c.self.view_is) c.requires.fits in
+    let fits : IsGame c.self.inside.n c.args.game = subst (λ (t : Table). IsGame t.n c.args.game)
+    (sym c.self.view_is) c.requires.fits in
     omega (
       arith,
-      sum_more n (kept_counts n c.let_go.new.places.items c.let_go.new.spare.items) (kept_counts n c.self.inside.places.items c.self.inside.spare.items) c.args.game fits c.let_go.ensures.counts,
+      sum_more n (kept_counts n c.let_go.new.places.items c.let_go.new.spare.items)
+          (kept_counts n c.self.inside.places.items c.self.inside.spare.items) c.args.game fits
+          c.let_go.ensures.counts,
       ap (λ (t : Table). sum t.list) c.self.view_is,
     )
