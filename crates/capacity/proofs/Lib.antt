@@ -1,5 +1,5 @@
-pub mod BetweenLemmas
 pub mod BeforeLemmas
+pub mod HostLemmas
 pub mod OpponentSums
 pub mod SpanLemmas
 pub mod TermLemmas

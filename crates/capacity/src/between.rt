@@ -1,9 +1,9 @@
-//! The meetings of some teams with others.
-ghost use Rattle.std.specs.Prelude.{◌≡◌, ◌<◌, ◌++◌, OnOk, IfOk};
+//! The meetings of some teams with others: which they are, and which teams can be at home in them.
+ghost use Rattle.std.specs.Prelude.{◌≡◌, IfOk};
 ghost use Rattle.std.specs.List.{filter};
 ghost use Rattle.league.specs.Capacity.{is_between};
-ghost use Rattle.league.specs.Meetings.{meetings_of};
-ghost use Rattle.capacity.specs.Between.{meetings_at_home};
+ghost use Rattle.league.specs.Counts.{teams_of};
+ghost use Rattle.capacity.specs.Between as specs;
 
 use crate::opponents::Opponents;
 use league::{Side, TeamId};
@@ -26,33 +26,28 @@ impl Opponents {
         }
     }
 
-    /// These meetings in a league of n teams, in order of home team, then away team.
-    pub(crate) fn meetings(&self, alloc: Global, n: u16) -> Result<Vec<(u16, u16)>, AllocError>
-        ensures { IfOk result (λ made. made.items
-            ≡ filter (is_between self.now.side self.now.teams1 self.now.teams2) (meetings_of n)) }
+    /// The teams of a league of n teams that can be at home in one of these meetings, in ascending order.
+    pub(crate) fn hosts(&self, alloc: Global, n: u16) -> Result<Vec<u16>, AllocError>
+        ensures { IfOk result (λ hosts. hosts.items
+            ≡ filter (specs.can_host self.now.side self.now.teams1 self.now.teams2) (teams_of n)) }
     {
-        let mut meetings = Vec::new(alloc);
-        for home in 0..n {
-            self.push_meetings(n, home, &mut meetings)?;
-        }
-        Ok(meetings)
-    }
-
-    /// Adds those of a home team.
-    fn push_meetings(
-        &self,
-        n: u16,
-        home: u16,
-        meetings: &mut Vec<(u16, u16)>,
-    ) -> Result<(), AllocError>
-        ensures { OnOk result (meetings.new.items ≡ meetings.old.items
-            ++ filter (is_between self.now.side self.now.teams1 self.now.teams2) (meetings_at_home n home)) }
-    {
-        for away in 0..n {
-            if away != home && self.meet(TeamId(home), TeamId(away)) {
-                meetings.push((home, away))?;
+        let mut hosts = Vec::new(alloc);
+        for team in 0..n {
+            if self.can_host(team) {
+                hosts.push(team)?;
             }
         }
-        Ok(())
+        Ok(hosts)
+    }
+
+    /// Whether a team can be at home in one of these meetings.
+    fn can_host(&self, team: u16) -> bool
+        ensures { result ≡ specs.can_host self.now.side self.now.teams1 self.now.teams2 team }
+    {
+        match self.side {
+            Side::H => self.teams1.has(team),
+            Side::A => self.teams2.has(team),
+            Side::Both => self.teams1.has(team) || self.teams2.has(team),
+        }
     }
 }

@@ -1,17 +1,17 @@
 //! CA4: from so many to so many games of some teams with others in some slots, together or in each slot.
 ghost use Rattle.std.specs.Prelude.{◌≡◌, ◌<◌, ◌≤◌, ◌+◌, [], length, slice_index_or, IfOk, IsTrue};
 ghost use Rattle.std.specs.List.{filter};
-ghost use Rattle.league.specs.Capacity.{is_between};
+ghost use Rattle.league.specs.Counts.{teams_of};
 ghost use Rattle.league.specs.Deviation.{spans};
-ghost use Rattle.league.specs.Meetings.{meetings_of};
 ghost use Rattle.league.specs.Sets.{is_in};
 ghost use Rattle.league.specs.declared.class.Class.TheVariants as class;
+ghost use Rattle.capacity.specs.Between.{can_host};
 ghost use Rattle.keys.specs.Keys.{keys_where, with_keys};
 ghost use Rattle.rule_core.specs.Ready.{IsReady};
 
 use crate::opponents::Opponents;
 use league::{Class, ClassName, Constraint, Game, Span};
-use rule_core::{Cells, Entries, Keys, Listed, Meetings, Rule, Steps, outside};
+use rule_core::{Cells, Entries, Keys, Listed, Rule, Steps, outside};
 use std::alloc::{AllocError, Global};
 
 /// How far the games of some teams with others, on a side of the former, in some slots are outside of `min` to `max`:
@@ -20,17 +20,14 @@ use std::alloc::{AllocError, Global};
 pub struct Ca4 {
     n: u16,
     opponents: Opponents,
-    /// Those of the former teams with the latter.
-    meetings: Meetings,
+    /// The teams that can be at home in a game of the former teams with the latter.
+    hosts: Vec<u16>,
     min: u32,
     max: u32,
     span: Span,
     slots: Listed,
     ghost ready: { IsReady n (class.Ca4 opponents.teams1 opponents.teams2 min max opponents.side span slots) },
-    ghost made: { meetings ≡ record {
-      n = n;
-      list = filter (is_between opponents.side opponents.teams1 opponents.teams2) (meetings_of n);
-    } },
+    ghost hosting: { hosts.items ≡ filter (can_host opponents.side opponents.teams1 opponents.teams2) (teams_of n) },
 }
 
 impl Ca4 {
@@ -61,11 +58,11 @@ impl Ca4 {
             unreachable!()
         };
         let opponents = Opponents::of(alloc, n, teams1, teams2, *side)?;
-        let meetings = opponents.meetings(alloc, n)?;
+        let hosts = opponents.hosts(alloc, n)?;
         Ok(Ca4 {
             n,
             opponents,
-            meetings: Meetings::of(alloc, n, &meetings)?,
+            hosts,
             min: *min,
             max: *max,
             span: *span,
@@ -149,7 +146,7 @@ impl Entries for Ca4 {
 impl<L> Rule<L> for Ca4 {
     fn term(&self, key: usize, cells: &Cells, steps: &mut Steps<L>) -> u64 {
         steps.tick();
-        let games = self.meetings.games(cells, self.slots_at(key));
+        let games = self.opponents.games_of_hosts(cells, &self.hosts, self.slots_at(key));
         outside(self.min, self.max, games)
     }
 }

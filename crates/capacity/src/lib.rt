@@ -9,6 +9,7 @@ mod ca1;
 mod ca2;
 mod ca3;
 mod ca4;
+mod hosts;
 mod opponents;
 mod sums;
 

@@ -1,2 +1,3 @@
 pub mod LeadLemmas
+pub mod PlayedLemmas
 pub mod TermLemmas

@@ -1,5 +1,5 @@
 -- What a term needs of its rule, and what its evaluation gives.
-use Rattle.std.proofs.Common.{◌≡◌, ℕ, ◌<◌, List, ap, subst, sym, ◌∙◌, Some}
+use Rattle.std.proofs.Common.{◌≡◌, ℕ, ◌<◌, ◌≤◌, List, length, arith, ap, subst, sym, ◌∙◌, Some}
 use Rattle.std.specs.Prelude.{slice_get}
 use Rattle.std.proofs.lemmas.Bool.{and_parts}
 use Rattle.std.proofs.lemmas.List.{get_or-map}
@@ -13,6 +13,7 @@ use Rattle.league.specs.Meetings.{pairs_of}
 use Rattle.league.specs.Sets.{IsAscending}
 use Rattle.league.proofs.FitLemmas.{are_slots-ascending, are_slots-below, are_teams-below}
 use Rattle.rule_core.specs.Ready.{entry_count}
+use Rattle.rule_core.proofs.ReadyLemmas.{are_slots-few}
 use Rattle.keys.proofs.PairLemmas.{pair_read}
 use Rattle.fairness.specs.Fa2.{class_of}
 use Rattle.fairness.specs.declared.fa2.Fa2.{Fa2}
@@ -42,3 +43,7 @@ fa2_term r m slots key teams x y result inside same is are_slots led =
     ∙ ap (λ (k : ℕ). fa2_entry k m r.intp r.slots.items (x, y)) same
     ∙ ap (λ (p : ℕ × ℕ). fa2_entry r.n m r.intp r.slots.items p) (sym (pair_read r.pairs key x y is))
     ∙ sym (get_or-map (fa2_entry r.n m r.intp r.slots.items) (pairs_of r.pairs) key (0, 0) 0 inside)
+
+pub slots_few : (r : Fa2) (slots : List ℕ) → slots ≡ r.slots.items → length slots ≤ 78
+slots_few r slots are =
+    omega (arith, ap length are, are_slots-few r.n r.slots.items r.ready.at_most (and_parts (are_teams r.n r.pairs) (are_slots r.n r.slots.items) r.ready.fits).1)

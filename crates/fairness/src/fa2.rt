@@ -7,6 +7,7 @@ ghost use Rattle.league.specs.declared.class.Class.TheVariants as class;
 ghost use Rattle.rule_core.specs.Ready.{IsReady};
 
 use crate::leads::largest_lead;
+use crate::played::{fill_played, lead_in_rows};
 use league::{Class, ClassName, Constraint, Game};
 use rule_core::{Cells, Entries, Keys, Pairs, Rule, Steps};
 use std::alloc::{AllocError, Global};
@@ -99,6 +100,18 @@ impl<L> Rule<L> for Fa2 {
         steps.tick();
         let (first, second) = self.pairs.get(key);
         largest_lead(cells, first, second, self.intp, &self.slots)
+    }
+
+    /// Each team's row of home games played is filled once for all its pairs.
+    fn every(&self, cells: &Cells, entries: &mut Vec<u64>, steps: &mut Steps<L>) {
+        let slots: &[u16] = &self.slots;
+        let mut played = [0; 3120];
+        fill_played(cells, self.pairs.teams(), slots, &mut played);
+        for key in 0..self.pairs.len() {
+            let (first, second) = self.pairs.get(key);
+            entries.push_reserved(lead_in_rows(&played, first, second, self.intp, slots));
+        }
+        steps.tick_all(self.pairs.len());
     }
 }
 

@@ -28,10 +28,10 @@ pub(crate) fn largest_lead(
     requires slots { All (λ s. s < slot_count cells.now.n) slots.now }
     ensures { result ≡ fa2_entry cells.now.n (table_counts cells.now) intp slots.now (first.0, second.0) }
 {
-    let mut first_played: u64 = 0;
-    let mut second_played: u64 = 0;
+    let mut first_played: u32 = 0;
+    let mut second_played: u32 = 0;
     let mut next: u16 = 0;
-    let mut most: u64 = 0;
+    let mut most: u32 = 0;
     for slot in slots {
         let end = *slot + 1;
         first_played += homes_in(cells, first, next, end);
@@ -39,28 +39,29 @@ pub(crate) fn largest_lead(
         next = end;
         most = most.max(lead(first_played, second_played, intp));
     }
-    most
+    u64::from(most)
 }
 
 /// The difference of two numbers of games, whichever is larger, beyond a bound.
-fn lead(first: u64, second: u64, intp: u32) -> u64
+fn lead(first: u32, second: u32, intp: u32) -> u32
     ensures { result ≡ excess (difference first second) intp }
 {
-    first.abs_diff(second).saturating_sub(intp as u64)
+    first.abs_diff(second).saturating_sub(intp)
 }
 
 /// The home games of a team from a slot on, up to another, which isn't counted.
-fn homes_in(cells: &Cells, team: TeamId, from: u16, end: u16) -> u64
+pub(crate) fn homes_in(cells: &Cells, team: TeamId, from: u16, end: u16) -> u32
     requires team { team.0 < cells.now.n }
+    requires few { cells.now.n ≤ 40 }
     requires ordered { from ≤ end }
     requires end { end ≤ slot_count cells.now.n }
     ensures games { result
         ≡ sum_by (λ s. home_games cells.now.n (table_counts cells.now) team.0 s) (range_with_len from (end - from)) }
     ensures at_most { result ≤ 400000 * (end - from) }
 {
-    let mut games: u64 = 0;
+    let mut games: u32 = 0;
     for slot in from..end {
-        games += cells.home(team, SlotId(slot)) as u64;
+        games += cells.home(team, SlotId(slot));
     }
     games
 }

@@ -6,5 +6,6 @@
 
 mod fa2;
 mod leads;
+mod played;
 
 pub use fa2::Fa2;

@@ -321,3 +321,8 @@ pair_read teams k x y is = get_or_from_slice_get (pairs_of teams) k (x, y) (0, 0
 pub pair_below : (n : ℕ) (teams : List ℕ) (k x y : ℕ) → All (λ t. t < n) teams → k < length (pairs_of teams) → slice_get (pairs_of teams) k ≡ Some (x, y) → (x < n) × (y < n)
 pair_below n teams k x y below inside is =
     subst (λ (p : ℕ × ℕ). (p.0 < n) × (p.1 < n)) (pair_read teams k x y is) (pairs_of-below n teams below k (0, 0) inside)
+
+-- what holds of each team holds of both
+pub pair_each : (P : ℕ → Type 0) (teams : List ℕ) (k x y : ℕ) → All P teams → k < length (pairs_of teams) → slice_get (pairs_of teams) k ≡ Some (x, y) → P x × P y
+pair_each P teams k x y each inside is =
+    subst (λ (p : ℕ × ℕ). P p.0 × P p.1) (pair_read teams k x y is) (pairs_of-all P (λ p. P p.0 × P p.1) (λ x y first second. (first, second)) teams each k (0, 0) inside)

@@ -62,6 +62,13 @@ impl Pairs {
         })
     }
 
+    /// The teams, in ascending order.
+    pub fn teams(&self) -> &[u16]
+        ensures { result.now ≡ self.now }
+    {
+        self.teams.numbers()
+    }
+
     /// The number of teams.
     pub fn team_count(&self) -> usize
         ensures { result ≡ length self.now }

@@ -1,3 +1,4 @@
 pub mod GapLemmas
 pub mod Se1Facts
+pub mod TeamLemmas
 pub mod TermLemmas

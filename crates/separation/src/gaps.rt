@@ -1,15 +1,16 @@
 //! What the slots between the games of two teams lack.
-ghost use Rattle.std.specs.Prelude.{◌≡◌, ◌<◌, ◌≤◌, ◌+◌, ◌*◌, ◌++◌, IfSome, replicate};
+ghost use Rattle.std.specs.Prelude.{◌≡◌, ◌<◌, ◌≤◌, ◌+◌, ◌*◌, ◌++◌, IfSome, replicate, if◌then◌else◌};
 ghost use Rattle.std.specs.Option.{option_to_list};
 ghost use Rattle.league.specs.Counts.{slot_count};
 ghost use Rattle.league.specs.Separation.{lacking, se1_entry};
+ghost use Rattle.cells.specs.Places.{hosts, visits};
 ghost use Rattle.cells.specs.Table.{table_counts};
 
 use league::{SlotId, TeamId};
-use rule_core::Cells;
+use rule_core::{Cells, Place};
 
 /// What the slots between neighbouring games of two teams lack of `min`, summed. It is one pass over the slots, with
-/// two look-ups each, and keeps the slot of the last game alone.
+/// one look-up each where no team has several games in a slot, and keeps the slot of the last game alone.
 pub(crate) fn lacking(cells: &Cells, first: TeamId, second: TeamId, min: u32) -> u64
     requires first { first.0 < cells.now.n }
     requires second { second.0 < cells.now.n }
@@ -28,7 +29,7 @@ pub(crate) fn lacking(cells: &Cells, first: TeamId, second: TeamId, min: u32) ->
 }
 
 /// What is lacking between the last game before a slot, if there is one, and the games in it, and between these.
-fn lacking_at(last: Option<u16>, slot: u16, games: u32, min: u32) -> u64
+pub(crate) fn lacking_at(last: Option<u16>, slot: u16, games: u32, min: u32) -> u64
     requires last { IfSome last (λ before. before < slot) }
     requires some { 0 < games }
     requires few { games ≤ 20000 }
@@ -42,8 +43,8 @@ fn lacking_at(last: Option<u16>, slot: u16, games: u32, min: u32) -> u64
     before as u64 + (games - 1) as u64 * min as u64
 }
 
-/// How often two teams play each other in a slot.
-fn games_at(cells: &Cells, first: TeamId, second: TeamId, slot: SlotId) -> u32
+/// How often two teams play each other in a slot: one look-up, unless the first has several games in it.
+pub(crate) fn games_at(cells: &Cells, first: TeamId, second: TeamId, slot: SlotId) -> u32
     requires first { first.0 < cells.now.n }
     requires second { second.0 < cells.now.n }
     requires slot { slot.0 < slot_count cells.now.n }
@@ -51,5 +52,28 @@ fn games_at(cells: &Cells, first: TeamId, second: TeamId, slot: SlotId) -> u32
         + table_counts cells.now second.0 first.0 slot.0 }
     ensures at_most { result ≤ 20000 }
 {
-    cells.at(first, second, slot) + cells.at(second, first, slot)
+    match cells.place(first, slot) {
+        Some(place) => games_in(place, second),
+        None => cells.at(first, second, slot) + cells.at(second, first, slot),
+    }
+}
+
+/// How often a team in a place plays another: once or never.
+fn games_in(place: Place, other: TeamId) -> u32
+    ensures games { result ≡ (if hosts place other.0 then 1 else 0) + (if visits place other.0 then 1 else 0) }
+    ensures at_most { result ≤ 1 }
+{
+    match place {
+        Place::Free => 0,
+        Place::Home(guest) => once_if(guest.0 == other.0),
+        Place::Away(host) => once_if(host.0 == other.0),
+    }
+}
+
+/// Once where it holds, and else never.
+fn once_if(holds: bool) -> u32
+    ensures once { result ≡ (if holds then 1 else 0) }
+    ensures at_most { result ≤ 1 }
+{
+    if holds { 1 } else { 0 }
 }

@@ -6,5 +6,6 @@
 
 mod gaps;
 mod se1;
+mod team_gaps;
 
 pub use se1::Se1;

@@ -4,6 +4,7 @@ ghost use Rattle.league.specs.declared.class.Class.TheVariants as class;
 ghost use Rattle.rule_core.specs.Ready.{IsReady};
 
 use crate::gaps::lacking;
+use crate::team_gaps::push_lacking;
 use league::{Class, ClassName, Constraint, Game};
 use rule_core::{Cells, Entries, Keys, Pairs, Rule, Steps};
 use std::alloc::{AllocError, Global};
@@ -91,5 +92,11 @@ impl<L> Rule<L> for Se1 {
         steps.tick();
         let (first, second) = self.pairs.get(key);
         lacking(cells, first, second, self.min)
+    }
+
+    /// Each team's slots are gone over once for all its pairs.
+    fn every(&self, cells: &Cells, entries: &mut Vec<u64>, steps: &mut Steps<L>) {
+        push_lacking(cells, self.pairs.teams(), self.min, entries);
+        steps.tick_all(self.pairs.len());
     }
 }
