@@ -1,13 +1,11 @@
 -- Nodes that are backed, and what they say of their clauses.
-use Rattle.std.proofs.Common.{◌≡◌, ◌≢◌, ℕ, ◌+◌, ◌-◌, ◌<◌, ◌≤◌, ◌⊎◌, Bool, true, false, cond, List, [], ◌∷◌, ◌++◌, length, get_or, take}
+use Rattle.std.proofs.Common.{◌≡◌, ◌≢◌, ℕ, ◌+◌, ◌-◌, ◌<◌, ◌≤◌, ◌⊎◌, Bool, true, false, cond, List, length, take}
 use Rattle.std.proofs.Common.{refl, inl, inr, arith, ap, sym, subst, ◌∙◌}
 use Rattle.std.specs.Prelude.{slice_set, Contains}
-use Rattle.std.specs.List.{All}
 use Rattle.std.proofs.lemmas.Bool.{cases_eq, false≢true}
-use Rattle.std.proofs.lemmas.List.{get_or-take, length-set, take-take, take_all, take_more}
+use Rattle.std.proofs.lemmas.List.{length-set, take-take, take_all}
 use Rattle.rows.specs.Cardinality.{unit}
-use Rattle.rows.specs.Forcing.{set_true}
-use Rattle.rows.specs.Literals.{Literal, negate}
+use Rattle.rows.specs.Literals.{Literal}
 use Rattle.rows.specs.Rows.{Row}
 use Rattle.rows.specs.Partials.{IsQuietRow, opposite_of, value_of}
 use Rattle.rows.specs.declared.partial.Value.{Value}
@@ -16,17 +14,15 @@ use Rattle.propagate.specs.Trails.{AreLawful, EachEntry, IsGrown, IsNew, is_deci
 use Rattle.propagate.specs.Numbered.{row_at}
 use Rattle.propagate.specs.Paths.{SeenPath, with_entries}
 use Rattle.propagate.specs.Looks.{AreSound, IsGrownOver, IsSeen}
-use Rattle.propagate.specs.Watches.{AreBacked, AreNodes, HasNode, IsBacked, IsClause, IsHeld, IsNode, IsWatching, IsWatchingBut, node_at, partner_of}
+use Rattle.propagate.specs.Watches.{AreBacked, IsBacked, IsClause, IsHeld, IsNode, IsWatchingBut, node_at, partner_of}
 use Rattle.propagate.specs.declared.entry.Entry.{Entry}
 use Rattle.propagate.specs.declared.watches.Node.{Node}
 use Rattle.propagate.specs.declared.watches.Watches.{Watches}
 use Rattle.propagate.proofs.CalmLemmas.{value_kept, value_of-kept}
 use Rattle.propagate.proofs.ChainLemmas.{node_at-other, node_at-same, partner-other, partner-twice}
 use Rattle.propagate.proofs.ClauseLemmas.{IsQuietRow-true, IsQuietRow-two, true_not_false, true_not_free}
-use Rattle.propagate.proofs.EntryLemmas.{each-grown, no_entry, quiet_row_below-grown, values_of-push}
+use Rattle.propagate.proofs.EntryLemmas.{each-grown, quiet_row_below-grown}
 use Rattle.propagate.proofs.LookLemmas.{news, quiet-steps}
-use Rattle.propagate.proofs.ReachLemmas.{same_literal, value_of-negate}
-use Rattle.propagate.proofs.ValueLemmas.{value_of-other, value_of-same}
 
 -- ---- values that stay
 

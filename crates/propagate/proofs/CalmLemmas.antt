@@ -1,22 +1,18 @@
 -- Literals that weren't false before any decision.
-use Rattle.std.proofs.Common.{◌≡◌, ◌≢◌, ℕ, zero, suc, ◌+◌, ◌-◌, ◌<◌, ◌≤◌, ◌⊎◌, Bool, true, false, cond, if◌then◌else◌, List, [], ◌∷◌, ◌++◌, length, get_or, map, take}
+use Rattle.std.proofs.Common.{◌≡◌, ◌≢◌, ℕ, zero, suc, ◌+◌, ◌-◌, ◌<◌, ◌≤◌, Bool, true, false, cond, List, [], ◌∷◌, ◌++◌, length, get_or, take}
 use Rattle.std.proofs.Common.{refl, inl, inr, arith, ap, sym, subst, ◌∙◌}
 use Rattle.std.proofs.lemmas.Bool.{cases_lt, false≢true}
-use Rattle.std.proofs.lemmas.List.{map-append, take-take, take_all, take_more}
-use Rattle.std.proofs.lemmas.List.Elements.{All-map}
-use Rattle.std.proofs.lemmas.List.Sums.{sum_by_push}
-use Rattle.rows.specs.Cardinality.{at_least, unit}
+use Rattle.std.proofs.lemmas.List.{take-take, take_all, take_more}
 use Rattle.rows.specs.Forcing.{set_true}
 use Rattle.rows.specs.Literals.{Literal}
-use Rattle.rows.specs.Partials.{is_false, is_free, opposite_of, reach, value_of}
-use Rattle.rows.specs.declared.lit.Term.{Term}
+use Rattle.rows.specs.Partials.{is_free, opposite_of, value_of}
 use Rattle.rows.specs.declared.partial.Value.{Value}
 use Rattle.rows.specs.declared.partial.Value.TheVariants.{True, False, Free}
-use Rattle.propagate.specs.Trails.{EachEntry, IsNew, IsQuietRowBelow, is_decision, level_of, values_of}
+use Rattle.propagate.specs.Trails.{EachEntry, IsNew, level_of, values_of}
 use Rattle.propagate.specs.Watches.{WasOpen}
 use Rattle.propagate.specs.declared.entry.Entry.{Entry}
 use Rattle.propagate.proofs.EntryLemmas.{level_of-more, level_of-take_le, no_entry, values_of-push}
-use Rattle.propagate.proofs.ValueLemmas.{is_free_var, open_coef, set_true-other}
+use Rattle.propagate.proofs.ValueLemmas.{is_free_var, set_true-other}
 
 free_is_free : (v : Value) → v ≡ Free → is_free v ≡ true
 free_is_free v is = ap is_free is

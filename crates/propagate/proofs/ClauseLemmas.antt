@@ -1,6 +1,6 @@
 -- Clauses: which values make them quiet, force a literal of them, or are in conflict with them.
-use Rattle.std.proofs.Common.{◌≡◌, ◌≢◌, ℕ, suc, ◌+◌, ◌<◌, ◌≤◌, ◌⊎◌, Bool, true, false, cond, List, [], ◌∷◌, ◌++◌, length, get_or, take}
-use Rattle.std.proofs.Common.{Some, refl, inl, inr, arith, ap, sym, subst, ◌∙◌}
+use Rattle.std.proofs.Common.{◌≡◌, ◌≢◌, ℕ, suc, ◌+◌, ◌<◌, ◌≤◌, ◌⊎◌, Bool, false, cond, List, [], ◌∷◌, ◌++◌, length, get_or, take}
+use Rattle.std.proofs.Common.{refl, inl, inr, arith, ap, sym, subst, ◌∙◌}
 use Rattle.std.specs.Prelude.{Contains}
 use Rattle.std.specs.List.{All, sum_by}
 use Rattle.std.proofs.lemmas.Bool.{cases_eq, cases_lt}
@@ -17,8 +17,7 @@ use Rattle.propagate.specs.Trails.{IsLawful, values_of}
 use Rattle.propagate.specs.Numbered.{row_at}
 use Rattle.propagate.specs.Paths.{SeenPath, with_entries}
 use Rattle.propagate.specs.Looks.{AreSound, IsGrownOver}
-use Rattle.propagate.specs.Watches.{AllFalseBut, IsClause, IsOpenIn}
-use Rattle.propagate.specs.declared.entry.Entry.{Entry}
+use Rattle.propagate.specs.Watches.{AllFalseBut, IsClause}
 use Rattle.propagate.proofs.EntryLemmas.{IsGrown-none, IsGrown-push, each-push}
 use Rattle.propagate.proofs.LookLemmas.{IsLawful-forced, apart_in, forced_entry}
 use Rattle.propagate.proofs.ReachLemmas.{at_most_coef, tail_apart}

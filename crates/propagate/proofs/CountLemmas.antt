@@ -1,14 +1,13 @@
 -- The kept reaches of rows.
-use Rattle.std.proofs.Common.{◌≡◌, ◌≢◌, ℕ, ◌+◌, ◌-◌, ◌*◌, ◌^◌, ◌<◌, ◌≤◌, ◌⊎◌, Bool, true, false, cond, List, [], ◌∷◌, ◌++◌, length, get_or, map, replicate}
+use Rattle.std.proofs.Common.{◌≡◌, ℕ, ◌+◌, ◌-◌, ◌^◌, ◌<◌, ◌≤◌, ◌⊎◌, Bool, true, false, cond, List, [], ◌∷◌, ◌++◌, length, get_or, replicate}
 use Rattle.std.proofs.Common.{refl, inl, inr, arith, ap, sym, subst, ◌∙◌}
 use Rattle.std.specs.Prelude.{nat_le, slice_set}
-use Rattle.std.specs.List.{All, AllPairs}
+use Rattle.std.specs.List.{All}
 use Rattle.std.proofs.lemmas.Bool.{cases_eq, cases_lt}
 use Rattle.std.proofs.lemmas.Bool.Decides.{nat_tests}
-use Rattle.std.proofs.lemmas.List.{get_or_append_left, get_or_read, get_or_push, get_or-set_other, get_or-set_same, length-map, length-set, length_push}
-use Rattle.std.proofs.lemmas.List.Elements.{All-map, All-push}
+use Rattle.std.proofs.lemmas.List.{get_or_append_left, get_or_read, get_or_push, get_or-set_other, get_or-set_same, length-set, length_push}
 use mathlib.Core.Path.{fun_ext}
-use Rattle.rows.specs.Cardinality.{at_least, unit}
+use Rattle.rows.specs.Cardinality.{at_least}
 use Rattle.rows.specs.Codes.{code_of}
 use Rattle.rows.specs.Forcing.{set_true}
 use Rattle.rows.specs.Literals.{Literal, negate}
@@ -19,7 +18,6 @@ use Rattle.rows.specs.declared.lit.Term.{Term}
 use Rattle.rows.specs.declared.partial.Value.{Value}
 use Rattle.rows.specs.declared.partial.Value.TheVariants.{True, False, Free}
 use Rattle.rows.proofs.TrailLemmas.{valued-set, valued-set_other, valued-set_same}
-use Rattle.rows.proofs.UnitLemmas.{IsRow-at_least}
 use Rattle.propagate.specs.Numbered.{row_at}
 use Rattle.propagate.specs.Links.{AreLinked, IsEmptyLink, IsLastBelow, Lacks, LeadsBelow}
 use Rattle.propagate.specs.Counters.{SeenCounters}
@@ -27,8 +25,8 @@ use Rattle.propagate.specs.Tables.{AreCounted, IsCounted, IsEnough, IsSameTable}
 use Rattle.propagate.specs.Trails.{KnowsVariables}
 use Rattle.propagate.specs.declared.link.Link.{Link}
 use Rattle.propagate.specs.declared.table.Table.{Table}
-use Rattle.propagate.proofs.LinkLemmas.{AreLinked-none, AreLinked-rows, row_at-end, row_at-front}
-use Rattle.propagate.proofs.ReachLemmas.{code_of-below, reach-has, reach-lacks, reach-le_free, reach-le_length}
+use Rattle.propagate.proofs.LinkLemmas.{AreLinked-none, AreLinked-rows, row_at-front}
+use Rattle.propagate.proofs.ReachLemmas.{code_of-below, reach-has, reach-lacks, reach-le_free}
 use Rattle.propagate.proofs.ValueLemmas.{AreApart, set_true-other, set_true-same}
 
 -- ---- building

@@ -1,5 +1,5 @@
 -- A clause is watched from now on, or counted among those that need no look.
-use Rattle.std.proofs.Common.{◌≡◌, ◌≢◌, ℕ, ◌+◌, ◌*◌, ◌%◌, ◌-◌, ◌<◌, ◌≤◌, ◌⊎◌, true, List, [], ◌∷◌, ◌++◌, length, get_or, take}
+use Rattle.std.proofs.Common.{◌≡◌, ◌≢◌, ℕ, ◌+◌, ◌<◌, ◌≤◌, ◌⊎◌, List, [], ◌∷◌, ◌++◌, length, take}
 use Rattle.std.proofs.Common.{refl, inl, inr, arith, ap, sym, subst, ◌∙◌}
 use Rattle.std.specs.Prelude.{Contains}
 use Rattle.std.specs.Vec.{vec_capacity}
@@ -11,11 +11,11 @@ use Rattle.rows.specs.Rows.{Row}
 use Rattle.rows.specs.Partials.{value_of}
 use Rattle.rows.specs.declared.partial.Value.{Value}
 use Rattle.rows.specs.declared.partial.Value.TheVariants.{True, False}
-use Rattle.propagate.specs.Trails.{EachEntry, IsNew, is_decision, level_of, values_of}
+use Rattle.propagate.specs.Trails.{EachEntry, IsNew, level_of, values_of}
 use Rattle.propagate.specs.Numbered.{row_at}
 use Rattle.propagate.specs.Paths.{SeenPath}
 use Rattle.propagate.specs.Looks.{AreSound}
-use Rattle.propagate.specs.Watches.{AreBacked, AreHung, AreNodes, HasNode, IsBacked, IsHeld, IsNode, IsOpenIn, IsPair, IsPairPushed, IsWatching, node_at, partner_of}
+use Rattle.propagate.specs.Watches.{AreBacked, AreHung, AreNodes, IsBacked, IsHeld, IsNode, IsPair, IsPairPushed, IsWatching, node_at, partner_of}
 use Rattle.propagate.specs.declared.entry.Entry.{Entry}
 use Rattle.propagate.specs.declared.hang.Pair.{Pair}
 use Rattle.propagate.specs.declared.watches.Node.{Node}

@@ -1,22 +1,19 @@
 -- Looks at rows: what they force, and which rows still wait for one.
-use Rattle.std.proofs.Common.{◌≡◌, ◌≢◌, ℕ, zero, suc, ◌+◌, ◌-◌, ◌<◌, ◌≤◌, ◌⊎◌, Bool, true, false, List, [], ◌∷◌, ◌++◌, length, get_or, take}
+use Rattle.std.proofs.Common.{◌≡◌, ℕ, zero, suc, ◌+◌, ◌-◌, ◌<◌, ◌≤◌, true, false, List, [], ◌∷◌, ◌++◌, length, get_or, take}
 use Rattle.std.proofs.Common.{Some, None, refl, inl, inr, arith, ap, sym, subst, ◌∙◌}
 use Rattle.std.specs.Prelude.{slice_get}
-use Rattle.std.specs.List.{All, AllPairs}
 use Rattle.std.proofs.lemmas.Bool.{cases_lt}
-use Rattle.std.proofs.lemmas.List.{get_or_default, get_or_push, get_or-take, length_push, take_all, take_more}
-use Rattle.std.proofs.lemmas.List.Elements.{All-from_get_or, All-map, All-push}
+use Rattle.std.proofs.lemmas.List.{get_or_default, get_or-take, take_all, take_more}
+use Rattle.std.proofs.lemmas.List.Elements.{All-from_get_or}
 use Rattle.std.proofs.lemmas.Option.{IfSome_then, get_or_from_slice_get, none-some, slice_get-get_or}
 use Rattle.rows.specs.Forcing.{set_true}
-use Rattle.rows.specs.Cardinality.{at_least, unit}
 use Rattle.rows.specs.Literals.{Literal, negate}
-use Rattle.rows.specs.Rows.{IsRow, Row}
+use Rattle.rows.specs.Rows.{Row}
 use Rattle.rows.specs.Partials.{IsInConflict, IsQuiet, IsQuietRow, reach, value_of}
 use Rattle.rows.specs.declared.lit.Term.{Term}
 use Rattle.rows.specs.declared.partial.Value.{Value}
 use Rattle.rows.specs.declared.partial.Value.TheVariants.{True, Free}
-use Rattle.rows.proofs.UnitLemmas.{IsRow-at_least}
-use Rattle.propagate.specs.Trails.{AreLawful, EachEntry, IsBackTo, IsForcedBy, IsGrown, IsLawful, IsNew, IsNumbered, IsQuietRowBelow, KnowsVariables, NamesConflict, level_of, values_of}
+use Rattle.propagate.specs.Trails.{AreLawful, EachEntry, IsForcedBy, IsGrown, IsLawful, IsNew, IsNumbered, NamesConflict, level_of, values_of}
 use Rattle.propagate.specs.Links.{IsLastBelow, Lacks, LeadsBelow}
 use Rattle.propagate.specs.Numbered.{row_at}
 use Rattle.propagate.specs.Paths.{SeenPath, with_entries}
@@ -26,8 +23,7 @@ use Rattle.propagate.specs.declared.entry.Entry.{Entry}
 use Rattle.propagate.specs.declared.force.Forced.{Forced}
 use Rattle.propagate.specs.declared.link.Link.{Link}
 use Rattle.propagate.specs.declared.settle.Looked.{Looked}
-use Rattle.propagate.proofs.EntryLemmas.{IsGrown-none, IsGrown-push, IsGrown-trans, each-push, each-take, each-weaker, level_of-push, quiet_row_below-back, quiet_row_below-grown, quiet_row_below-none, quiet_row_below-push, quiet_row-back, values_of-push}
-use Rattle.propagate.proofs.LinkLemmas.{row_at-end, row_at-front}
+use Rattle.propagate.proofs.EntryLemmas.{IsGrown-none, IsGrown-push, IsGrown-trans, each-push, each-weaker, level_of-push, values_of-push}
 use Rattle.propagate.proofs.ReachLemmas.{reach-lacks}
 use Rattle.propagate.proofs.ValueLemmas.{AreApart, reach-own, value_of-same, was_free}
 

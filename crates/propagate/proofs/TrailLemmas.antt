@@ -1,27 +1,26 @@
 -- What the calls of a trail do to how far it was looked at and to its watches.
-use Rattle.std.proofs.Common.{◌≡◌, ◌≢◌, ℕ, zero, suc, ◌+◌, ◌*◌, ◌%◌, ◌-◌, ◌<◌, ◌≤◌, ◌⊎◌, ◌^◌, Bool, true, false, List, [], ◌∷◌, ◌++◌, length, get_or, take, replicate}
+use Rattle.std.proofs.Common.{◌≡◌, ◌≢◌, ℕ, ◌+◌, ◌*◌, ◌%◌, ◌-◌, ◌<◌, ◌≤◌, ◌^◌, true, false, List, [], ◌∷◌, ◌++◌, length, get_or, take, replicate}
 use Rattle.std.proofs.Common.{Option, Some, None, refl, inl, inr, arith, ap, sym, subst, ◌∙◌}
-use Rattle.std.specs.Prelude.{slice_get, Contains, IfSome, is_none}
+use Rattle.std.specs.Prelude.{Contains, IfSome, is_none}
 use Rattle.std.specs.List.{All, AllPairs}
-use Rattle.std.specs.Vec.{vec_capacity}
 use Rattle.std.proofs.lemmas.Bool.{cases_lt, false≢true}
-use Rattle.std.proofs.lemmas.List.{get_or_push, get_or_append_left, length-replicate, length_push, take-append-le, take_all}
+use Rattle.std.proofs.lemmas.List.{get_or_push, length-replicate, length_push, take-append-le, take_all}
 use Rattle.std.proofs.lemmas.List.Elements.{All-map, All-push}
 use Rattle.std.proofs.lemmas.Option.{get_or_from_slice_get, slice_get_within}
 use Rattle.rows.specs.Cardinality.{at_least, unit}
 use Rattle.rows.specs.Literals.{Literal, negate}
 use Rattle.rows.specs.Rows.{IsRow, Row}
-use Rattle.rows.specs.Partials.{IsInConflict, IsQuiet, IsQuietRow, reach, value_of}
+use Rattle.rows.specs.Partials.{IsQuiet, IsQuietRow, reach, value_of}
 use Rattle.rows.specs.declared.lit.Term.{Term}
 use Rattle.rows.specs.declared.partial.Value.{Value}
-use Rattle.rows.specs.declared.partial.Value.TheVariants.{True, False, Free}
+use Rattle.rows.specs.declared.partial.Value.TheVariants.{True, Free}
 use Rattle.rows.proofs.UnitLemmas.{IsRow-at_least}
-use Rattle.propagate.specs.Trails.{AreLawful, EachEntry, IsBackTo, IsForcedBy, IsLawful, IsNew, IsNumbered, IsQuietRowBelow, IsSettled, KnowsVariables, NamesConflict, is_decision, level_of, values_of}
+use Rattle.propagate.specs.Trails.{AreLawful, EachEntry, IsBackTo, IsForcedBy, IsLawful, IsNew, IsNumbered, IsQuietRowBelow, IsSettled, KnowsVariables, is_decision, level_of, values_of}
 use Rattle.propagate.specs.Links.{Lacks}
 use Rattle.propagate.specs.Numbered.{row_at}
 use Rattle.propagate.specs.Paths.{SeenPath, with_entries}
 use Rattle.propagate.specs.Looks.{AreGivenSeen, AreSound, IsGrownOver, IsReady, IsSeen, IsTrail}
-use Rattle.propagate.specs.Watches.{AreBacked, AreHung, AreNodes, HasNode, HasRoomForNodes, IsBacked, IsClause, IsHeld, IsNode, IsSameWatches, IsWatching, IsWatchingBut, node_at, partner_of}
+use Rattle.propagate.specs.Watches.{AreBacked, AreHung, AreNodes, HasRoomForNodes, IsBacked, IsClause, IsHeld, IsNode, IsSameWatches, IsWatching, node_at, partner_of}
 use Rattle.propagate.specs.declared.entry.Conflict.{Conflict}
 use Rattle.propagate.specs.declared.entry.Entry.{Entry}
 use Rattle.propagate.specs.declared.settle.Looked.{Looked}
@@ -30,7 +29,7 @@ use Rattle.propagate.specs.declared.watches.Watches.{Watches}
 use Rattle.propagate.proofs.BackedLemmas.{IsWatching-grown, seen_hung, stays}
 use Rattle.propagate.proofs.ChainLemmas.{AreHung-none}
 use Rattle.propagate.proofs.ClauseLemmas.{true_not_free}
-use Rattle.propagate.proofs.EntryLemmas.{IsBackTo-less, IsGrown-same, each-push, each-take, no_entry, none_decided, quiet_row-back, quiet_row_below-back, quiet_row_below-push}
+use Rattle.propagate.proofs.EntryLemmas.{IsBackTo-less, IsGrown-same, each-push, each-take, no_entry, quiet_row-back, quiet_row_below-back, quiet_row_below-push}
 use Rattle.propagate.proofs.EntryLemmas.{level_of-push}
 use Rattle.propagate.proofs.LinkLemmas.{row_at-end, row_at-front}
 use Rattle.propagate.proofs.LookLemmas.{AreLawful-more, IsReady-grown, news, quiet-push}

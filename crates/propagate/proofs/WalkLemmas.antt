@@ -1,6 +1,6 @@
 -- Looks at the clauses that are watched at a literal which became false, one node after another.
-use Rattle.std.proofs.Common.{◌≡◌, ◌≢◌, ℕ, zero, suc, ◌+◌, ◌*◌, ◌%◌, ◌-◌, ◌<◌, ◌≤◌, ◌⊎◌, ◌^◌, Bool, true, false, List, [], ◌∷◌, ◌++◌, length, get_or, take}
-use Rattle.std.proofs.Common.{Option, Some, None, refl, inl, inr, arith, ap, sym, subst, ◌∙◌}
+use Rattle.std.proofs.Common.{◌≡◌, ◌≢◌, ℕ, zero, suc, ◌+◌, ◌%◌, ◌-◌, ◌<◌, ◌≤◌, ◌⊎◌, List, [], ◌∷◌, length, get_or, take}
+use Rattle.std.proofs.Common.{Option, None, refl, inl, inr, arith, ap, sym, subst, ◌∙◌}
 use Rattle.std.specs.Prelude.{slice_set, Contains, IfSome}
 use Rattle.std.specs.List.{All}
 use Rattle.std.specs.Vec.{vec_capacity}
@@ -13,18 +13,18 @@ use Rattle.rows.specs.Forcing.{set_true}
 use Rattle.rows.specs.Literals.{Literal, negate}
 use Rattle.rows.specs.Partials.{opposite_of, value_of}
 use Rattle.rows.specs.declared.partial.Value.{Value}
-use Rattle.rows.specs.declared.partial.Value.TheVariants.{True, False, Free}
-use Rattle.propagate.specs.Trails.{EachEntry, IsNew, NamesConflict, is_decision, values_of}
+use Rattle.rows.specs.declared.partial.Value.TheVariants.{True, False}
+use Rattle.propagate.specs.Trails.{EachEntry, IsNew, NamesConflict, values_of}
 use Rattle.propagate.specs.Numbered.{row_at}
 use Rattle.propagate.specs.Paths.{SeenPath}
 use Rattle.propagate.specs.Looks.{AreSound, IsGrownOver}
-use Rattle.propagate.specs.Watches.{AreBacked, AreHung, AreNodes, HasNode, HasRoomForNodes, IsBacked, IsChain, IsHeld, IsNext, IsNextBacked, IsNode, IsWatching, IsWatchingBut, node_at, partner_of}
+use Rattle.propagate.specs.Watches.{AreBacked, AreHung, AreNodes, HasRoomForNodes, IsBacked, IsChain, IsNext, IsNextBacked, IsNode, IsWatching, IsWatchingBut, node_at, partner_of}
 use Rattle.propagate.specs.declared.entry.Conflict.{Conflict}
 use Rattle.propagate.specs.declared.entry.Entry.{Entry}
 use Rattle.propagate.specs.declared.watches.Node.{Node}
 use Rattle.propagate.specs.declared.watches.Watches.{Watches}
 use Rattle.propagate.proofs.BackedLemmas.{IsBacked-grown, IsBacked-hang, IsNode-hang, IsWatching-grown, back_kept, false_not_free, own_kept, stays, take_grown}
-use Rattle.propagate.proofs.ChainLemmas.{AreHung-hang, AreHung-off, chain-apart, chain-few, chain-nil, chain-set, chain_is, new_node, node_at-other, node_at-same, partner-other}
+use Rattle.propagate.proofs.ChainLemmas.{AreHung-hang, AreHung-off, chain-apart, chain-few, chain-nil, chain-set, chain_is, new_node, node_at-other, node_at-same}
 use Rattle.propagate.proofs.ClauseLemmas.{lit_there, true_not_false, true_not_free}
 use Rattle.propagate.proofs.EntryLemmas.{no_entry, values_of-push}
 use Rattle.propagate.proofs.LookLemmas.{AreSound-grown, IsGrownOver-none, IsGrownOver-trans, news}

@@ -1,7 +1,7 @@
 -- What looks at rows leave.
-use Rattle.std.specs.Prelude.{◌≡◌, ◌≢◌, ℕ, ◌+◌, ◌-◌, ◌*◌, ◌<◌, ◌≤◌, List, length, slice_index_or}
+use Rattle.std.specs.Prelude.{◌≡◌, ℕ, ◌+◌, ◌-◌, ◌*◌, ◌<◌, ◌≤◌, List, length, slice_index_or}
 use Rattle.std.specs.List.{All}
-use Rattle.rows.specs.Literals.{Literal, negate}
+use Rattle.rows.specs.Literals.{negate}
 use Rattle.rows.specs.Rows.{IsRow, Row}
 use Rattle.rows.specs.Partials.{IsQuiet, IsQuietRow, value_of}
 use Rattle.rows.specs.declared.lit.Term.{Term}

@@ -1,4 +1,4 @@
-use Rattle.std.proofs.Common.{◌≡◌, ◌<◌, ℕ, length, inl, inr, arith, sym, subst}
+use Rattle.std.proofs.Common.{◌≡◌, ℕ, inl, inr, arith, sym, subst}
 use Rattle.propagate.specs.Numbered.{row_at}
 use Rattle.propagate.specs.Watches.{IsPair, IsPairPushed, IsWatching}
 use Rattle.propagate.specs.declared.watches.Watches.{Watches}

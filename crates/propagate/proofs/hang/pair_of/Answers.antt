@@ -1,4 +1,4 @@
-use Rattle.std.proofs.Common.{◌≡◌, refl, sym, ◌∙◌}
+use Rattle.std.proofs.Common.{refl, sym, ◌∙◌}
 use Rattle.propagate.specs.Trails.{EachEntry, IsNew, values_of}
 use Rattle.propagate.specs.Numbered.{row_at}
 use Rattle.propagate.specs.Watches.{IsLateIn, IsOpenIn}

@@ -1,4 +1,4 @@
-use Rattle.std.proofs.Common.{◌≤◌, ◌+◌, ap, arith, length, refl, sym, ◌∙◌, []}
+use Rattle.std.proofs.Common.{◌+◌, ap, arith, refl, sym, ◌∙◌, []}
 use Rattle.std.proofs.lemmas.Option.{get_or_from_slice_get}
 use Rattle.rows.specs.Literals.{negate}
 use Rattle.propagate.specs.declared.entry.Entry.{Entry}

@@ -1,4 +1,4 @@
-use Rattle.std.proofs.Common.{◌≡◌, ℕ, ◌<◌, ◌+◌, ◌-◌, get_or, length, refl, arith, ap, sym, subst}
+use Rattle.std.proofs.Common.{ℕ, ◌<◌, ◌+◌, ◌-◌, length, refl, arith, ap, sym, subst}
 use Rattle.std.proofs.lemmas.Option.{get_or_from_slice_get}
 use Rattle.rows.specs.Literals.{Literal}
 use Rattle.propagate.specs.Links.{IsLastBelow, LeadsBelow}

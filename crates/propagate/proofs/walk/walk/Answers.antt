@@ -1,4 +1,4 @@
-use Rattle.std.proofs.Common.{◌≡◌, ◌<◌, ◌-◌, ℕ, length, arith, ap}
+use Rattle.std.proofs.Common.{◌≡◌, ◌-◌, arith, ap}
 use Rattle.std.proofs.lemmas.List.{get_or_read}
 use Rattle.propagate.specs.Watches.{node_at}
 use Rattle.propagate.specs.declared.watches.Node.{Node}

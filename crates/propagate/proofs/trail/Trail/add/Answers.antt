@@ -1,4 +1,4 @@
-use Rattle.std.proofs.Common.{◌≤◌, ◌<◌, ◌+◌, ◌^◌, ℕ, length, arith, ap, sym, subst}
+use Rattle.std.proofs.Common.{◌≤◌, ◌+◌, ℕ, arith, ap, sym, subst}
 use Rattle.std.specs.List.{All}
 use Rattle.rows.specs.Cardinality.{at_least}
 use Rattle.propagate.specs.Paths.{SeenPath}

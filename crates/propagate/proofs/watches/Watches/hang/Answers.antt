@@ -1,8 +1,7 @@
-use Rattle.std.proofs.Common.{◌≡◌, ℕ, List, arith, ap, ◌∙◌}
+use Rattle.std.proofs.Common.{◌≡◌, ℕ, arith, ap, ◌∙◌}
 use Rattle.std.specs.Prelude.{slice_index_or, slice_set}
 use Rattle.std.proofs.lemmas.List.{get_or_read}
 use Rattle.rows.specs.Codes.{code_of}
-use Rattle.rows.specs.Literals.{Literal}
 use Rattle.propagate.specs.Watches.{node_at}
 use Rattle.propagate.specs.declared.watches.Node.{Node}
 use Rattle.propagate.proofs.ChainLemmas.{new_node, no_node}

@@ -1,7 +1,6 @@
-use Rattle.std.proofs.Common.{◌≡◌, ◌<◌, ◌+◌, ℕ, List, length, arith, ap, ◌∙◌}
+use Rattle.std.proofs.Common.{◌≡◌, ◌+◌, ℕ, List, length, arith, ap, ◌∙◌}
 use Rattle.std.proofs.lemmas.List.{length-set}
 use Rattle.rows.specs.Codes.{code_of}
-use Rattle.propagate.specs.Watches.{AreHung}
 use Rattle.propagate.proofs.ChainLemmas.{AreHung-pushed}
 use Rattle.propagate.proofs.watches.Watches.push_pair.Goals as goal
 
