@@ -1,28 +1,24 @@
--- Literals that weren't false before any decision, and clauses of which two weren't.
-use Rattle.std.proofs.Common.{◌≡◌, ◌≢◌, ℕ, zero, suc, ◌+◌, ◌-◌, ◌<◌, ◌≤◌, ◌⊎◌, Bool, true, false, cond, if◌then◌else◌, List, [], ◌∷◌, ◌++◌, length, get_or, map, take}
+-- Literals that weren't false before any decision.
+use Rattle.std.proofs.Common.{◌≡◌, ◌≢◌, ℕ, zero, suc, ◌+◌, ◌-◌, ◌<◌, ◌≤◌, Bool, true, false, cond, List, [], ◌∷◌, ◌++◌, length, get_or, take}
 use Rattle.std.proofs.Common.{refl, inl, inr, arith, ap, sym, subst, ◌∙◌}
 use Rattle.std.proofs.lemmas.Bool.{cases_lt, false≢true}
-use Rattle.std.proofs.lemmas.List.{map-append, take-take, take_all, take_more}
-use Rattle.std.proofs.lemmas.List.Elements.{All-map}
-use Rattle.std.proofs.lemmas.List.Sums.{sum_by_push}
-use Rattle.rows.specs.Cardinality.{at_least, unit}
+use Rattle.std.proofs.lemmas.List.{take-take, take_all, take_more}
 use Rattle.rows.specs.Forcing.{set_true}
 use Rattle.rows.specs.Literals.{Literal}
-use Rattle.rows.specs.Partials.{is_false, is_free, opposite_of, reach, value_of}
-use Rattle.rows.specs.declared.lit.Term.{Term}
+use Rattle.rows.specs.Partials.{is_free, opposite_of, value_of}
 use Rattle.rows.specs.declared.partial.Value.{Value}
 use Rattle.rows.specs.declared.partial.Value.TheVariants.{True, False, Free}
-use Rattle.propagate.specs.Trails.{EachEntry, IsNew, IsQuietRowBelow, is_decision, level_of, values_of}
-use Rattle.propagate.specs.Looks.{WasOpen}
+use Rattle.propagate.specs.Trails.{EachEntry, IsNew, level_of, values_of}
+use Rattle.propagate.specs.Watches.{WasOpen}
 use Rattle.propagate.specs.declared.entry.Entry.{Entry}
 use Rattle.propagate.proofs.EntryLemmas.{level_of-more, level_of-take_le, no_entry, values_of-push}
-use Rattle.propagate.proofs.ValueLemmas.{is_free_var, open_coef, set_true-other}
+use Rattle.propagate.proofs.ValueLemmas.{is_free_var, set_true-other}
 
 free_is_free : (v : Value) → v ≡ Free → is_free v ≡ true
 free_is_free v is = ap is_free is
 
 -- a variable keeps its value while entries come
-value_kept : (vars : ℕ) (es : List Entry) (v m n : ℕ) → EachEntry (IsNew vars) es → m + n ≤ length es → values_of (take m es) v ≢ Free
+pub value_kept : (vars : ℕ) (es : List Entry) (v m n : ℕ) → EachEntry (IsNew vars) es → m + n ≤ length es → values_of (take m es) v ≢ Free
     → values_of (take (m + n) es) v ≡ values_of (take m es) v
 value_kept vars es v m zero each within set =
     let same : m + zero ≡ m = omega arith in
@@ -46,7 +42,7 @@ value_kept vars es v m (suc n) each within set =
       taken values v l same set free = set (ap (λ (w : ℕ). values w) same ∙ free_of (values l.var) (is_free_var values l free))
 
 -- a false literal's variable has a value
-false_is_set : (values : ℕ → Value) (l : Literal) → value_of values l ≡ False → values l.var ≢ Free
+pub false_is_set : (values : ℕ → Value) (l : Literal) → value_of values l ≡ False → values l.var ≢ Free
 false_is_set values l is free = by l.positive (values l.var) is free where
   clash : False ≡ Free → ⊥
   clash same = cc
@@ -55,7 +51,7 @@ false_is_set values l is free = by l.positive (values l.var) is free where
   by true v is free = clash (sym is ∙ free)
   by false v is free = clash (sym is ∙ ap opposite_of free)
 
-value_of-kept : (before now : ℕ → Value) (l : Literal) → now l.var ≡ before l.var → value_of now l ≡ value_of before l
+pub value_of-kept : (before now : ℕ → Value) (l : Literal) → now l.var ≡ before l.var → value_of now l ≡ value_of before l
 value_of-kept before now l same = ap (λ (v : Value). cond l.positive v (opposite_of v)) same
 
 -- a literal that isn't false now never was
@@ -100,64 +96,3 @@ WasOpen-level vars es l place e each there at var level = λ k d within decided 
       free_of True is = absurd (false≢true is)
       free_of False is = absurd (false≢true is)
       free_of Free is = refl
-
--- ---- clauses
-
--- of the first n literals at least so many weren't false before each decision
-abbrev pub WereOpen : List Literal → ℕ → ℕ → List Entry → Type 0
-WereOpen clause n open_count es = EachEntry (λ before e. is_decision e ≡ true → open_count ≤ reach (values_of before) (map unit (take n clause))) es
-
--- 1 where a value isn't false
-abbrev one_if_open : Value → ℕ
-one_if_open v = if is_false v then 0 else 1
-
-reach-more : (values : ℕ → Value) (clause : List Literal) (n : ℕ) (l : Literal) → n < length clause → l ≡ get_or clause n l
-    → reach values (map unit (take (n + 1) clause)) ≡ reach values (map unit (take n clause)) + one_if_open (value_of values l)
-reach-more values clause n l there at =
-    ap (λ (ls : List Literal). reach values (map unit ls)) (take_more clause n l there ∙ ap (λ (m : Literal). take n clause ++ m ∷ []) (sym at))
-    ∙ ap (λ ts. reach values ts) (map-append unit (take n clause) (l ∷ []))
-    ∙ sum_by_push (open_coef values) (map unit (take n clause)) (unit l)
-
-pub WereOpen-none : (clause : List Literal) (es : List Entry) → WereOpen clause 0 0 es
-WereOpen-none clause es = λ k d within decided. omega arith
-
-pub WereOpen-pass : (clause : List Literal) (n open_count : ℕ) (l : Literal) (es : List Entry) → n < length clause → l ≡ get_or clause n l → WereOpen clause n open_count es
-    → WereOpen clause (n + 1) open_count es
-WereOpen-pass clause n open_count l es there at so_far = λ k d within decided.
-    omega (arith, so_far k d within decided, reach-more (values_of (take k es)) clause n l there at)
-
-pub WereOpen-more : (clause : List Literal) (n open_count : ℕ) (l : Literal) (es : List Entry) → n < length clause → l ≡ get_or clause n l → WasOpen l es → WereOpen clause n open_count es
-    → WereOpen clause (n + 1) (open_count + 1) es
-WereOpen-more clause n open_count l es there at opened so_far = λ k d within decided.
-    omega (
-      arith,
-      so_far k d within decided,
-      reach-more (values_of (take k es)) clause n l there at,
-      counts (value_of (values_of (take k es)) l) (opened k d within decided),
-    ) where
-      counts : (v : Value) → v ≢ False → one_if_open v ≡ 1
-      counts True other = refl
-      counts False other = absurd (other refl)
-      counts Free other = refl
-
-unit_coef : (clause : List Literal) → (j : ℕ) (d : Term) → j < length (map unit clause) → (get_or (map unit clause) j d).coef ≡ 1
-unit_coef clause = All-map (λ t. t.coef ≡ 1) unit clause (λ k d within. refl)
-
--- two were enough
-pub IsQuietRowBelow-open : (clause : List Literal) (open_count : ℕ) (es : List Entry) → 2 ≤ open_count → WereOpen clause (length clause) open_count es → IsQuietRowBelow (at_least 1 clause) es
-IsQuietRowBelow-open clause open_count es two so_far = λ k d within decided.
-    let reached : open_count ≤ reach (values_of (take k es)) (map unit clause) =
-    subst (λ (ls : List Literal). open_count ≤ reach (values_of (take k es)) (map unit ls)) (take_all (length clause) clause (omega arith)) (so_far k d within decided) in
-    record {
-      no_conflict = omega arith;
-      none_forced = λ j t inside free. omega (arith, unit_coef clause j t inside);
-    }
-
--- one literal more, which was open or not
-pub WereOpen-step : (clause : List Literal) (n open_count now : ℕ) (l : Literal) (test : Bool) (es : List Entry) → n < length clause → l ≡ get_or clause n l → open_count ≤ n
-    → WereOpen clause n open_count es → (test ≡ true → WasOpen l es) → (now ≡ open_count) ⊎ ((test ≡ true) × (now ≡ open_count + 1))
-    → (now ≤ n + 1) × WereOpen clause (n + 1) now es
-WereOpen-step clause n open_count now l test es there at few so_far opened (inl same) =
-    (omega (arith, same), subst (λ (k : ℕ). WereOpen clause (n + 1) k es) (sym same) (WereOpen-pass clause n open_count l es there at so_far))
-WereOpen-step clause n open_count now l test es there at few so_far opened (inr one) =
-    (omega (arith, one.1), subst (λ (k : ℕ). WereOpen clause (n + 1) k es) (sym one.1) (WereOpen-more clause n open_count l es there at (opened one.0) so_far))

@@ -1,14 +1,13 @@
 -- The kept reaches of rows.
-use Rattle.std.proofs.Common.{◌≡◌, ◌≢◌, ℕ, ◌+◌, ◌-◌, ◌*◌, ◌^◌, ◌<◌, ◌≤◌, ◌⊎◌, Bool, true, false, cond, List, [], ◌∷◌, ◌++◌, length, get_or, map, replicate}
+use Rattle.std.proofs.Common.{◌≡◌, ℕ, ◌+◌, ◌-◌, ◌^◌, ◌<◌, ◌≤◌, ◌⊎◌, Bool, true, false, cond, List, [], ◌∷◌, ◌++◌, length, get_or, replicate}
 use Rattle.std.proofs.Common.{refl, inl, inr, arith, ap, sym, subst, ◌∙◌}
 use Rattle.std.specs.Prelude.{nat_le, slice_set}
-use Rattle.std.specs.List.{All, AllPairs}
+use Rattle.std.specs.List.{All}
 use Rattle.std.proofs.lemmas.Bool.{cases_eq, cases_lt}
 use Rattle.std.proofs.lemmas.Bool.Decides.{nat_tests}
-use Rattle.std.proofs.lemmas.List.{get_or_append_left, get_or_read, get_or_push, get_or-set_other, get_or-set_same, length-map, length-set, length_push}
-use Rattle.std.proofs.lemmas.List.Elements.{All-map, All-push}
+use Rattle.std.proofs.lemmas.List.{get_or_append_left, get_or_read, get_or_push, get_or-set_other, get_or-set_same, length-set, length_push}
 use mathlib.Core.Path.{fun_ext}
-use Rattle.rows.specs.Cardinality.{at_least, unit}
+use Rattle.rows.specs.Cardinality.{at_least}
 use Rattle.rows.specs.Codes.{code_of}
 use Rattle.rows.specs.Forcing.{set_true}
 use Rattle.rows.specs.Literals.{Literal, negate}
@@ -19,7 +18,6 @@ use Rattle.rows.specs.declared.lit.Term.{Term}
 use Rattle.rows.specs.declared.partial.Value.{Value}
 use Rattle.rows.specs.declared.partial.Value.TheVariants.{True, False, Free}
 use Rattle.rows.proofs.TrailLemmas.{valued-set, valued-set_other, valued-set_same}
-use Rattle.rows.proofs.UnitLemmas.{IsRow-at_least}
 use Rattle.propagate.specs.Numbered.{row_at}
 use Rattle.propagate.specs.Links.{AreLinked, IsEmptyLink, IsLastBelow, Lacks, LeadsBelow}
 use Rattle.propagate.specs.Counters.{SeenCounters}
@@ -27,8 +25,8 @@ use Rattle.propagate.specs.Tables.{AreCounted, IsCounted, IsEnough, IsSameTable}
 use Rattle.propagate.specs.Trails.{KnowsVariables}
 use Rattle.propagate.specs.declared.link.Link.{Link}
 use Rattle.propagate.specs.declared.table.Table.{Table}
-use Rattle.propagate.proofs.LinkLemmas.{AreLinked-none, AreLinked-rows, row_at-end, row_at-front}
-use Rattle.propagate.proofs.ReachLemmas.{code_of-below, reach-has, reach-lacks, reach-le_free, reach-le_length}
+use Rattle.propagate.proofs.LinkLemmas.{AreLinked-none, AreLinked-rows, row_at-front}
+use Rattle.propagate.proofs.ReachLemmas.{code_of-below, reach-has, reach-lacks, reach-le_free}
 use Rattle.propagate.proofs.ValueLemmas.{AreApart, set_true-other, set_true-same}
 
 -- ---- building
@@ -327,78 +325,6 @@ IsCounted-moved rows old_values new_values old new counted same heads links enou
   known = subst (λ (n : ℕ). All (KnowsVariables n) rows) (sym same) counted.known;
   slots = omega (arith, ap (λ (hs : List ℕ). length hs) heads, counted.slots);
   counted = AreCounted-moved rows (length rows) (valued old_values) (valued new_values) old new counted.counted heads links enoughs count reached;
-}
-
-unit_coefs : (clause : List Literal) → All (λ t. t.coef ≡ 1) (map unit clause)
-unit_coefs clause = All-map (λ t. t.coef ≡ 1) unit clause (λ k d within. refl)
-
--- what a clause's coefficients sum to
-pub fits-clause : (rows : List Row) (clause : List Literal) (k : ℕ) → length rows ≡ k → length clause + 1 < 2 ^ 64
-    → reach (λ v. Free) (row_at (rows ++ at_least 1 clause ∷ []) k).terms + 1 < 2 ^ 64
-fits-clause rows clause k is few =
-    subst (λ (r : Row). reach (λ v. Free) r.terms + 1 < 2 ^ 64) (sym (row_at-end rows (at_least 1 clause) k is))
-    (omega (arith, reach-le_length (λ v. Free) (map unit clause) (unit_coefs clause), length-map clause unit))
-
-pub proper-clause : (rows : List Row) (clause : List Literal) → All IsRow rows → AllPairs (λ l m. l.var ≢ m.var) clause → All IsRow (rows ++ at_least 1 clause ∷ [])
-proper-clause rows clause proper differ = All-push IsRow rows (at_least 1 clause) proper (IsRow-at_least 1 clause differ)
-
-pub known-clause : (vars : ℕ) (rows : List Row) (clause : List Literal) → All (KnowsVariables vars) rows → All (λ l. l.var ≤ vars) clause
-    → All (KnowsVariables vars) (rows ++ at_least 1 clause ∷ [])
-known-clause vars rows clause known within = All-push (KnowsVariables vars) rows (at_least 1 clause) known (All-map (λ t. t.lit.var ≤ vars) unit clause within)
-
-pub slots_known : (terms : List Term) (vars slots : ℕ) → slots ≡ 2 * vars + 2 → All (λ t. t.lit.var ≤ vars) terms → All (λ t. code_of t.lit < slots) terms
-slots_known terms vars slots is known = λ j d within. omega (arith, code_of-below (get_or terms j d).lit vars (known j d within))
-
--- ---- a row that comes in
-
--- what counting the row at k asks
-pub record IsAddable (rows : List Row) (k : ℕ) (values : List Value) (table : Table) : Type 0 where
-  pub counted : AreCounted rows k (valued values) table
-  pub proper : IsRow (row_at rows k)
-  pub known : KnowsVariables (length values) (row_at rows k)
-  pub fits : reach (λ v. Free) (row_at rows k).terms + 1 < 2 ^ 64
-  pub all_proper : All IsRow rows
-  pub all_known : All (KnowsVariables (length values)) rows
-  pub count : length rows ≡ k + 1
-
-pub IsAddable-clause : (rows new : List Row) (values : List Value) (k : ℕ) (old reserved : Table) (clause : List Literal) → IsCounted rows values old → IsSameTable old reserved → k ≡ length rows
-    → new ≡ rows ++ at_least 1 clause ∷ [] → All (λ l. l.var ≤ length values) clause → AllPairs (λ l m. l.var ≢ m.var) clause → length clause + 1 < 2 ^ 64
-    → IsAddable new k values reserved
-IsAddable-clause rows new values k old reserved clause counted same at is within differ few =
-    subst (λ (rs : List Row). IsAddable rs k values reserved) (sym is) (subst (λ (n : ℕ). IsAddable longer n values reserved) (sym at) addable) where
-      longer : List Row
-      longer = rows ++ at_least 1 clause ∷ []
-
-      proper : All IsRow longer
-      proper = proper-clause rows clause counted.proper differ
-
-      known : All (KnowsVariables (length values)) longer
-      known = known-clause (length values) rows clause counted.known within
-
-      inside : length rows < length longer
-      inside = omega (arith, length_push rows (at_least 1 clause))
-
-      addable : IsAddable longer (length rows) values reserved
-      addable = record {
-        counted = AreCounted-rows rows (at_least 1 clause ∷ []) (length rows) (valued values) reserved (omega arith)
-            (AreCounted-same rows (length rows) (valued values) old reserved same counted.counted);
-        proper = proper (length rows) (record { terms = []; degree = 0 }) inside;
-        known = known (length rows) (record { terms = []; degree = 0 }) inside;
-        fits = fits-clause rows clause (length rows) refl few;
-        all_proper = proper;
-        all_known = known;
-        count = length_push rows (at_least 1 clause);
-      }
-
--- all are counted then
-pub IsCounted-added : (rows : List Row) (k : ℕ) (values : List Value) (reserved new : Table) → IsAddable rows k values reserved → length values < 2 ^ 32
-    → length new.heads.items ≡ 2 * length values + 2 → AreCounted rows (k + 1) (valued values) new → IsCounted rows values new
-IsCounted-added rows k values reserved new addable few slots counted = record {
-  few = few;
-  proper = addable.all_proper;
-  known = addable.all_known;
-  slots = slots;
-  counted = subst (λ (n : ℕ). AreCounted rows n (valued values) new) (sym addable.count) counted;
 }
 
 -- ---- what a contract sees

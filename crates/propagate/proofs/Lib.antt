@@ -9,7 +9,15 @@ pub mod CountLemmas
 pub mod PathLemmas
 -- Rows that force literals, and rows that wait for a look:
 pub mod LookLemmas
--- Clauses that were quiet before each decision:
+-- Clauses, and the lists of the nodes that watch them:
+pub mod ClauseLemmas
+pub mod ChainLemmas
+-- Literals that weren't false before any decision:
 pub mod CalmLemmas
+-- Watched clauses, and looks at them:
+pub mod BackedLemmas
+pub mod WalkLemmas
+pub mod HangLemmas
+pub mod TrailLemmas
 -- Worked examples, so that a wrong definition does not check:
 pub mod TrailFacts

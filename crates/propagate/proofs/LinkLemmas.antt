@@ -87,7 +87,7 @@ last-rows rows more l bound link within last = record {
   between = λ k above below. subst (λ (r : Row). Lacks l r.terms) (sym (row_at-front rows more k (omega arith))) (last.between k above below);
 }
 
-leads-rows : (rows more : List Row) (links : List Link) (l : Literal) (bound at : ℕ) → bound ≤ length rows → LeadsBelow rows links l bound at → LeadsBelow (rows ++ more) links l bound at
+pub leads-rows : (rows more : List Row) (links : List Link) (l : Literal) (bound at : ℕ) → bound ≤ length rows → LeadsBelow rows links l bound at → LeadsBelow (rows ++ more) links l bound at
 leads-rows rows more links l bound at within leads = record {
   none = λ is k below. subst (λ (r : Row). Lacks l r.terms) (sym (row_at-front rows more k (omega arith))) (leads.none is k below);
   within = leads.within;

@@ -1,33 +1,29 @@
 -- Looks at rows: what they force, and which rows still wait for one.
-use Rattle.std.proofs.Common.{◌≡◌, ◌≢◌, ℕ, zero, suc, ◌+◌, ◌-◌, ◌<◌, ◌≤◌, ◌⊎◌, Bool, true, false, List, [], ◌∷◌, ◌++◌, length, get_or, take}
+use Rattle.std.proofs.Common.{◌≡◌, ℕ, zero, suc, ◌+◌, ◌-◌, ◌<◌, ◌≤◌, true, false, List, [], ◌∷◌, ◌++◌, length, get_or, take}
 use Rattle.std.proofs.Common.{Some, None, refl, inl, inr, arith, ap, sym, subst, ◌∙◌}
 use Rattle.std.specs.Prelude.{slice_get}
-use Rattle.std.specs.List.{All, AllPairs}
 use Rattle.std.proofs.lemmas.Bool.{cases_lt}
-use Rattle.std.proofs.lemmas.List.{get_or_default, get_or_push, get_or-take, length_push, take_all, take_more}
-use Rattle.std.proofs.lemmas.List.Elements.{All-from_get_or, All-map, All-push}
+use Rattle.std.proofs.lemmas.List.{get_or_default, get_or-take, take_all, take_more}
+use Rattle.std.proofs.lemmas.List.Elements.{All-from_get_or}
 use Rattle.std.proofs.lemmas.Option.{IfSome_then, get_or_from_slice_get, none-some, slice_get-get_or}
 use Rattle.rows.specs.Forcing.{set_true}
-use Rattle.rows.specs.Cardinality.{at_least, unit}
 use Rattle.rows.specs.Literals.{Literal, negate}
-use Rattle.rows.specs.Rows.{IsRow, Row}
+use Rattle.rows.specs.Rows.{Row}
 use Rattle.rows.specs.Partials.{IsInConflict, IsQuiet, IsQuietRow, reach, value_of}
 use Rattle.rows.specs.declared.lit.Term.{Term}
 use Rattle.rows.specs.declared.partial.Value.{Value}
 use Rattle.rows.specs.declared.partial.Value.TheVariants.{True, Free}
-use Rattle.rows.proofs.UnitLemmas.{IsRow-at_least}
-use Rattle.propagate.specs.Trails.{AreLawful, EachEntry, IsBackTo, IsForcedBy, IsGrown, IsLawful, IsNew, IsNumbered, IsQuietRowBelow, KnowsVariables, NamesConflict, level_of, values_of}
+use Rattle.propagate.specs.Trails.{AreLawful, EachEntry, IsForcedBy, IsGrown, IsLawful, IsNew, IsNumbered, NamesConflict, level_of, values_of}
 use Rattle.propagate.specs.Links.{IsLastBelow, Lacks, LeadsBelow}
 use Rattle.propagate.specs.Numbered.{row_at}
 use Rattle.propagate.specs.Paths.{SeenPath, with_entries}
-use Rattle.propagate.specs.Looks.{AreSound, IsForcedIn, IsGrownOver, IsReady, IsSeen, IsTrail, IsUnforced}
+use Rattle.propagate.specs.Looks.{AreGivenSeen, AreSound, IsForcedIn, IsGrownOver, IsReady, IsSeen, IsUnforced}
 use Rattle.propagate.specs.declared.entry.Conflict.{Conflict}
 use Rattle.propagate.specs.declared.entry.Entry.{Entry}
 use Rattle.propagate.specs.declared.force.Forced.{Forced}
 use Rattle.propagate.specs.declared.link.Link.{Link}
 use Rattle.propagate.specs.declared.settle.Looked.{Looked}
-use Rattle.propagate.proofs.EntryLemmas.{IsGrown-none, IsGrown-push, IsGrown-trans, each-push, each-take, each-weaker, level_of-push, quiet_row_below-back, quiet_row_below-grown, quiet_row_below-none, quiet_row_below-push, quiet_row-back, values_of-push}
-use Rattle.propagate.proofs.LinkLemmas.{row_at-end, row_at-front}
+use Rattle.propagate.proofs.EntryLemmas.{IsGrown-none, IsGrown-push, IsGrown-trans, each-push, each-weaker, level_of-push, values_of-push}
 use Rattle.propagate.proofs.ReachLemmas.{reach-lacks}
 use Rattle.propagate.proofs.ValueLemmas.{AreApart, reach-own, value_of-same, was_free}
 
@@ -45,7 +41,13 @@ IsGrownOver-trans old mid new first then = record {
 
 pub AreSound-grown : (old new : SeenPath) → AreSound old → IsGrownOver old new → AreSound new
 AreSound-grown old new sound grown =
-    let next : AreSound (with_entries old new.entries) = record { proper = sound.proper; known = sound.known; lawful = grown.lawful } in
+    let next : AreSound (with_entries old new.entries) = record {
+      proper = sound.proper;
+      known = sound.known;
+      lawful = grown.lawful;
+      given = sound.given;
+      clauses = sound.clauses;
+    } in
     subst (λ (p : SeenPath). AreSound p) (sym grown.same) next
 
 -- ---- one row
@@ -63,7 +65,7 @@ IsNumbered-at rows place number there is = record {
 abbrev pub forced_entry : List Entry → Literal → ℕ → Entry
 forced_entry es l number = record { lit = l; level = level_of es; reason = Some number }
 
-IsLawful-forced : (rows : List Row) (vars place number k : ℕ) (t : Term) (es : List Entry) → place < length rows → number ≡ place + 1
+pub IsLawful-forced : (rows : List Row) (vars place number k : ℕ) (t : Term) (es : List Entry) → place < length rows → number ≡ place + 1
     → k < length (row_at rows place).terms → t ≡ get_or (row_at rows place).terms k t → 1 ≤ t.lit.var → t.lit.var ≤ vars
     → value_of (values_of es) t.lit ≡ Free → (row_at rows place).degree ≤ reach (values_of es) (row_at rows place).terms
     → reach (values_of es) (row_at rows place).terms < (row_at rows place).degree + t.coef
@@ -90,7 +92,7 @@ no_row = record { terms = []; degree = 0 }
 no_term : Term
 no_term = record { coef = 0; lit = record { var = 0; positive = false } }
 
-apart_in : (path : SeenPath) (place : ℕ) → AreSound path → place < length path.rows → AreApart (row_at path.rows place).terms
+pub apart_in : (path : SeenPath) (place : ℕ) → AreSound path → place < length path.rows → AreApart (row_at path.rows place).terms
 apart_in path place sound there = (sound.proper place (record { terms = []; degree = 0 }) there).variables
 
 -- the terms of a row before a place force nothing, where the row has so much slack
@@ -208,7 +210,7 @@ IsQuietRow-forced place slack from old now so_far rest = record {
 -- ---- rows that wait
 
 -- a literal more is true whose negation the row lacks
-quiet-push : (row : Row) (before : List Entry) (e : Entry) → value_of (values_of before) e.lit ≡ Free → Lacks (negate e.lit) row.terms
+pub quiet-push : (row : Row) (before : List Entry) (e : Entry) → value_of (values_of before) e.lit ≡ Free → Lacks (negate e.lit) row.terms
     → IsQuietRow (values_of before) row → IsQuietRow (values_of (before ++ e ∷ [])) row
 quiet-push row before e free lacks quiet =
     let next : IsQuietRow (set_true (values_of before) e.lit) row = record {
@@ -226,7 +228,7 @@ quiet-push row before e free lacks quiet =
 abbrev pub NoneFalse : List Term → List Entry → ℕ → Type 0
 NoneFalse terms es from = (j : ℕ) (d : Entry) → from ≤ j → j < length es → Lacks (negate (get_or es j d).lit) terms
 
-quiet-steps : (row : Row) (vars : ℕ) (es : List Entry) (m n : ℕ) → EachEntry (IsNew vars) es → m + n ≤ length es → NoneFalse row.terms es m
+pub quiet-steps : (row : Row) (vars : ℕ) (es : List Entry) (m n : ℕ) → EachEntry (IsNew vars) es → m + n ≤ length es → NoneFalse row.terms es m
     → IsQuietRow (values_of (take m es)) row → IsQuietRow (values_of (take (m + n) es)) row
 quiet-steps row vars es m zero each within none quiet =
     let same : m ≡ m + zero = omega arith in
@@ -247,7 +249,7 @@ pub news : (rows : List Row) (vars : ℕ) (es : List Entry) → AreLawful rows v
 news rows vars es lawful = each-weaker (IsLawful rows vars) (IsNew vars) es (λ before e is. is.new) lawful
 
 -- rows that wait still wait where entries came
-seen-grown : (row : Row) (rows : List Row) (vars : ℕ) (old new : List Entry) (from : ℕ) → from ≤ length old → AreLawful rows vars new → IsGrown old new
+pub seen-grown : (row : Row) (rows : List Row) (vars : ℕ) (old new : List Entry) (from : ℕ) → from ≤ length old → AreLawful rows vars new → IsGrown old new
     → IsSeen row old from → IsSeen row new from
 seen-grown row rows vars old new from within lawful grown seen = λ none.
     let quiet : IsQuietRow (values_of old) row = seen (λ j d past inside.
@@ -262,7 +264,7 @@ seen-grown row rows vars old new from within lawful grown seen = λ none.
     (subst (λ (es : List Entry). IsQuietRow (values_of es) row) (sym grown.kept) quiet)))
 
 -- a row that the next entry doesn't touch
-seen-next : (row : Row) (es : List Entry) (from : ℕ) → ((d : Entry) → Lacks (negate (get_or es from d).lit) row.terms) → IsSeen row es from → IsSeen row es (from + 1)
+pub seen-next : (row : Row) (es : List Entry) (from : ℕ) → ((d : Entry) → Lacks (negate (get_or es from d).lit) row.terms) → IsSeen row es from → IsSeen row es (from + 1)
 seen-next row es from lacks seen = λ none.
     seen (λ j d past inside. elim (cases_lt from j) [
       | inl later ↦ none j d (omega arith) inside
@@ -273,10 +275,16 @@ seen-next row es from lacks seen = λ none.
 
 -- ---- how far a path was looked at
 
-ready-entries : (path : SeenPath) (looked : Looked) (es : List Entry) → IsReady path looked → IsGrown path.entries es → AreLawful path.rows path.vars es
+pub ready-entries : (path : SeenPath) (looked : Looked) (es : List Entry) → IsReady path looked → IsGrown path.entries es → AreLawful path.rows path.vars es
     → IsReady (with_entries path es) looked
 ready-entries path looked es ready grown lawful = record {
-  sound = record { proper = ready.sound.proper; known = ready.sound.known; lawful = lawful };
+  sound = record {
+    proper = ready.sound.proper;
+    known = ready.sound.known;
+    lawful = lawful;
+    given = ready.sound.given;
+    clauses = ready.sound.clauses;
+  };
   entries = omega (arith, ready.entries, grown.longer);
   rows = ready.rows;
   seen = λ k below. seen-grown (row_at path.rows k) path.rows path.vars path.entries es looked.entries ready.entries lawful grown (ready.seen k below);
@@ -329,22 +337,21 @@ pub record IsVisiting (old now : SeenPath) (looked : Looked) (l : Literal) (at :
   pub there : looked.entries < length now.entries
   pub literal : (d : Entry) → negate (get_or now.entries looked.entries d).lit ≡ l
   pub bound : ℕ
-  pub within : bound ≤ length now.rows
+  pub within : bound ≤ now.given
   pub leads : LeadsBelow now.rows now.links l bound at
-  pub above : (k : ℕ) → bound ≤ k → k < looked.rows → IsSeen (row_at now.rows k) now.entries (looked.entries + 1)
+  pub above : (k : ℕ) → bound ≤ k → k < now.given → k < looked.rows → IsSeen (row_at now.rows k) now.entries (looked.entries + 1)
 
-pub IsVisiting-none : (path : SeenPath) (looked : Looked) (e : Entry) (l : Literal) (at : ℕ) → IsReady path looked → looked.entries < length path.entries
-    → slice_get path.entries looked.entries ≡ Some e → l ≡ negate e.lit
-    → LeadsBelow path.rows path.links l (length path.rows) at → IsVisiting path path looked l at
-IsVisiting-none path looked e l at ready there got is leads = record {
+pub IsVisiting-none : (path : SeenPath) (looked : Looked) (l : Literal) (at : ℕ) → IsReady path looked → looked.entries < length path.entries
+    → ((d : Entry) → negate (get_or path.entries looked.entries d).lit ≡ l) → LeadsBelow path.rows path.links l path.given at → IsVisiting path path looked l at
+IsVisiting-none path looked l at ready there is leads = record {
   grown = IsGrownOver-none path ready.sound;
   ready = ready;
   there = there;
-  literal = λ d. ap (λ (x : Entry). negate x.lit) (get_or_from_slice_get path.entries looked.entries e d got) ∙ sym is;
-  bound = length path.rows;
+  literal = is;
+  bound = path.given;
   within = omega arith;
   leads = leads;
-  above = λ k past below. absurd (omega (arith, ready.rows));
+  above = λ k past inside below. absurd (omega arith);
 }
 
 lacked : (row : Row) (es : List Entry) (from : ℕ) (l : Literal) → ((d : Entry) → negate (get_or es from d).lit ≡ l) → Lacks l row.terms → IsSeen row es from → IsSeen row es (from + 1)
@@ -381,11 +388,11 @@ IsVisiting-more old now new looked l at link visiting last leads grown quiet =
         bound = link.row;
         within = omega (arith, last.below, visiting.within);
         leads = leads;
-        above = λ k past below. elim (cases_lt link.row k) [
+        above = λ k past inside below. elim (cases_lt link.row k) [
           | inl later ↦ elim (cases_lt k visiting.bound) [
             | inl between ↦
                 grow k (lacked (row_at now.rows k) now.entries looked.entries l visiting.literal (last.between k later between) (visiting.ready.seen k below))
-            | inr above ↦ grow k (visiting.above k above below)
+            | inr above ↦ grow k (visiting.above k above inside below)
           ]
           | inr here ↦
               let is : link.row ≡ k = omega arith in
@@ -394,17 +401,12 @@ IsVisiting-more old now new looked l at link visiting last leads grown quiet =
       }
 
 -- all rows of the entry were
-pub IsReady-visited : (old now : SeenPath) (looked : Looked) (l : Literal) (at : ℕ) → IsVisiting old now looked l at → at ≡ 0
-    → IsReady now (record looked { entries = looked.entries + 1 })
-IsReady-visited old now looked l at visiting ended = record {
-  sound = visiting.ready.sound;
-  entries = omega (arith, visiting.there);
-  rows = visiting.ready.rows;
-  seen = λ k below. elim (cases_lt k visiting.bound) [
-    | inl before ↦ lacked (row_at now.rows k) now.entries looked.entries l visiting.literal (visiting.leads.none ended k before) (visiting.ready.seen k below)
-    | inr past ↦ visiting.above k past below
-  ];
-}
+pub AreGivenSeen-end : (old now : SeenPath) (looked : Looked) (l : Literal) (at : ℕ) → IsVisiting old now looked l at → at ≡ 0 → AreGivenSeen now looked
+AreGivenSeen-end old now looked l at visiting ended = λ k inside below.
+    elim (cases_lt k visiting.bound) [
+      | inl before ↦ lacked (row_at now.rows k) now.entries looked.entries l visiting.literal (visiting.leads.none ended k before) (visiting.ready.seen k below)
+      | inr past ↦ visiting.above k past inside below
+    ]
 
 -- ---- the trail's other calls
 
@@ -432,179 +434,6 @@ AreLawful-more rows more vars es lawful =
       new = is.new;
       reason = IfSome_then e.reason is.reason (λ number by. forced_among rows more before e.lit number by);
     }) lawful
-
--- a clause more
-pub AreSound-add : (old new : SeenPath) (clause : List Literal) → AreSound old → new.vars ≡ old.vars → new.entries ≡ old.entries → new.rows ≡ old.rows ++ at_least 1 clause ∷ []
-    → All (λ l. l.var ≤ old.vars) clause → AllPairs (λ l m. l.var ≢ m.var) clause → AreSound new
-AreSound-add old new clause sound vars entries rows known differ = record {
-  proper = subst (λ (rs : List Row). All IsRow rs) (sym rows) (All-push IsRow old.rows (at_least 1 clause) sound.proper (IsRow-at_least 1 clause differ));
-  known =
-      subst (λ (n : ℕ). All (KnowsVariables n) new.rows) (sym vars)
-      (subst (λ (rs : List Row). All (KnowsVariables old.vars) rs) (sym rows)
-      (All-push (KnowsVariables old.vars) old.rows (at_least 1 clause) sound.known (All-map (λ t. t.lit.var ≤ old.vars) unit clause known)));
-  lawful =
-      subst (λ (n : ℕ). AreLawful new.rows n new.entries) (sym vars)
-      (subst (λ (es : List Entry). AreLawful new.rows old.vars es) (sym entries)
-      (subst (λ (rs : List Row). AreLawful rs old.vars old.entries) (sym rows) (AreLawful-more old.rows (at_least 1 clause ∷ []) old.vars old.entries sound.lawful)));
-}
-
-pub IsTrail-add : (old new : SeenPath) (looked : Looked) (settled now count : ℕ) (calm : Bool) (clause : List Literal) → IsTrail old looked settled
-    → new.vars ≡ old.vars → new.entries ≡ old.entries → new.rows ≡ old.rows ++ at_least 1 clause ∷ []
-    → All (λ l. l.var ≤ old.vars) clause → AllPairs (λ l m. l.var ≢ m.var) clause
-    → count ≡ length old.rows → (calm ≡ true → IsQuietRowBelow (at_least 1 clause) old.entries)
-    → (now ≡ settled) ⊎ ((calm ≡ true) × (settled ≡ count) × (now ≡ count + 1))
-    → IsTrail new looked now
-IsTrail-add old new looked settled now count calm clause trail vars entries rows known differ count_is quiet choice = record {
-  ready = record {
-    sound = AreSound-add old new clause trail.ready.sound vars entries rows known differ;
-    entries = omega (arith, trail.ready.entries, ap (λ (es : List Entry). length es) entries);
-    rows = omega (arith, trail.ready.rows, longer);
-    seen = λ k below.
-        subst (λ (es : List Entry). IsSeen (row_at new.rows k) es looked.entries) (sym entries)
-        (subst (λ (r : Row). IsSeen r old.entries looked.entries) (sym (front k (omega (arith, trail.ready.rows)))) (trail.ready.seen k below));
-  };
-  within = bounded choice;
-  below = quiet_below choice;
-} where
-  longer : length new.rows ≡ length old.rows + 1
-  longer = ap (λ (rs : List Row). length rs) rows ∙ length_push old.rows (at_least 1 clause)
-
-  front : (k : ℕ) → k < length old.rows → row_at new.rows k ≡ row_at old.rows k
-  front k within = ap (λ (rs : List Row). row_at rs k) rows ∙ row_at-front old.rows (at_least 1 clause ∷ []) k within
-
-  old_below : (k : ℕ) → k < settled → IsQuietRowBelow (row_at new.rows k) new.entries
-  old_below k less =
-      subst (λ (es : List Entry). IsQuietRowBelow (row_at new.rows k) es) (sym entries)
-      (subst (λ (r : Row). IsQuietRowBelow r old.entries) (sym (front k (omega (arith, trail.within)))) (trail.below k less))
-
-  last_below : calm ≡ true → IsQuietRowBelow (row_at new.rows (length old.rows)) new.entries
-  last_below is_calm =
-      subst (λ (es : List Entry). IsQuietRowBelow (row_at new.rows (length old.rows)) es) (sym entries)
-      (subst (λ (r : Row). IsQuietRowBelow r old.entries)
-      (sym (ap (λ (rs : List Row). row_at rs (length old.rows)) rows ∙ row_at-end old.rows (at_least 1 clause) (length old.rows) refl)) (quiet is_calm))
-
-  bounded : (now ≡ settled) ⊎ ((calm ≡ true) × (settled ≡ count) × (now ≡ count + 1)) → now ≤ length new.rows
-  bounded (inl same) = omega (arith, same, trail.within, longer)
-  bounded (inr more) = omega (arith, more.2, longer, count_is)
-
-  quiet_below : (now ≡ settled) ⊎ ((calm ≡ true) × (settled ≡ count) × (now ≡ count + 1)) → (k : ℕ) → k < now
-      → IsQuietRowBelow (row_at new.rows k) new.entries
-  quiet_below (inl same) k less = old_below k (omega (arith, same))
-  quiet_below (inr more) k less = elim (cases_lt k settled) [
-    | inl before ↦ old_below k before
-    | inr past ↦
-        let here : length old.rows ≡ k = omega (arith, more.1, more.2, count_is) in
-        subst (λ (i : ℕ). IsQuietRowBelow (row_at new.rows i) new.entries) here (last_below more.0)
-  ]
-
--- ---- the trail's calls
-
-pub IsTrail-none : (path : SeenPath) (settled : ℕ) → All IsRow path.rows → All (KnowsVariables path.vars) path.rows → path.entries ≡ [] → settled ≡ length path.rows
-    → IsTrail path (record { entries = 0; rows = 0 }) settled
-IsTrail-none path settled proper known none is = record {
-  ready = record {
-    sound = record { proper = proper; known = known; lawful = λ k d within. absurd (nothing k within) };
-    entries = omega arith;
-    rows = omega arith;
-    seen = λ k below. absurd (omega arith);
-  };
-  within = omega (arith, is);
-  below = λ k less i d within. absurd (nothing i within);
-} where
-  nothing : (k : ℕ) → k < length path.entries → ⊥
-  nothing k within = absurd (omega (arith, ap (λ (es : List Entry). length es) none))
-
-pub IsTrail-run : (old new : SeenPath) (before after : Looked) (settled : ℕ) → IsTrail old before settled → IsGrownOver old new → IsReady new after → IsTrail new after settled
-IsTrail-run old new before after settled trail grown ready = record {
-  ready = ready;
-  within = subst (λ (p : SeenPath). settled ≤ length p.rows) (sym grown.same) trail.within;
-  below = λ k less.
-      subst (λ (p : SeenPath). IsQuietRowBelow (row_at p.rows k) new.entries) (sym grown.same)
-      (quiet_row_below-grown (row_at old.rows k) old.entries new.entries grown.grown (trail.below k less));
-}
-
--- a decision where all rows are quiet
-pub IsTrail-decide : (old new : SeenPath) (before after : Looked) (settled : ℕ) (lit : Literal) → IsTrail old before settled → 1 ≤ lit.var → lit.var ≤ old.vars
-    → value_of (values_of old.entries) lit ≡ Free → IsQuiet (values_of old.entries) old.rows
-    → after ≡ record before { entries = length old.entries }
-    → new ≡ with_entries old (old.entries ++ record { lit = lit; level = level_of old.entries + 1; reason = None } ∷ [])
-    → IsTrail new after settled
-IsTrail-decide old new before after settled lit trail from_one known free quiet is grows =
-    subst (λ (l : Looked). IsTrail new l settled) (sym is)
-    (subst (λ (p : SeenPath). IsTrail p (record before { entries = length old.entries }) settled) (sym grows) next) where
-      e : Entry
-      e = record { lit = lit; level = level_of old.entries + 1; reason = None }
-
-      es : List Entry
-      es = old.entries ++ e ∷ []
-
-      lawful_e : IsLawful old.rows old.vars old.entries e
-      lawful_e = record {
-        new = record { from_one = from_one; known = known; free = free; level = sym (level_of-push old.entries e) };
-        reason = tt;
-      }
-
-      quiet_at : (k : ℕ) → k < length old.rows → IsQuietRow (values_of old.entries) (row_at old.rows k)
-      quiet_at k within = quiet k (record { terms = []; degree = 0 }) within
-
-      next : IsTrail (with_entries old es) (record before { entries = length old.entries }) settled
-      next = record {
-        ready = record {
-          sound = record {
-            proper = trail.ready.sound.proper;
-            known = trail.ready.sound.known;
-            lawful = each-push (IsLawful old.rows old.vars) old.entries e trail.ready.sound.lawful lawful_e;
-          };
-          entries = omega (arith, length_push old.entries e);
-          rows = trail.ready.rows;
-          seen = λ k below none.
-              let lacks : Lacks (negate e.lit) (row_at old.rows k).terms =
-              subst (λ (x : Entry). Lacks (negate x.lit) (row_at old.rows k).terms) (get_or_push old.entries e e (length old.entries) refl)
-              (none (length old.entries) e (omega arith) (omega (arith, length_push old.entries e))) in
-              quiet-push (row_at old.rows k) old.entries e free lacks (quiet_at k (omega (arith, trail.ready.rows)));
-        };
-        within = trail.within;
-        below = λ k less. quiet_row_below-push (row_at old.rows k) old.entries e (quiet_at k (omega (arith, trail.within))) (trail.below k less);
-      }
-
--- levels were taken off
-pub IsTrail-back : (old new : SeenPath) (before after : Looked) (settled now level count : ℕ) → IsTrail old before settled → new ≡ with_entries old new.entries
-    → IsBackTo level old.entries new.entries → level < level_of old.entries → after ≡ record { entries = length new.entries; rows = settled }
-    → count ≡ length new.rows → (now ≡ settled) ⊎ ((level ≡ 0) × (now ≡ count)) → IsTrail new after now
-IsTrail-back old new before after settled now level count trail same back less is count_is choice =
-    subst (λ (l : Looked). IsTrail new l now) (sym is)
-    (subst (λ (p : SeenPath). IsTrail p (record { entries = length new.entries; rows = settled }) now) (sym same) next) where
-      es : List Entry
-      es = new.entries
-
-      as_many : length new.rows ≡ length old.rows
-      as_many = ap (λ (p : SeenPath). length p.rows) same
-
-      bounded : (now ≡ settled) ⊎ ((level ≡ 0) × (now ≡ count)) → now ≤ length old.rows
-      bounded (inl kept) = omega (arith, kept, trail.within)
-      bounded (inr all) = omega (arith, all.1, count_is, as_many)
-
-      quiet_below : (now ≡ settled) ⊎ ((level ≡ 0) × (now ≡ count)) → (k : ℕ) → k < now → IsQuietRowBelow (row_at old.rows k) es
-      quiet_below (inl kept) k below = quiet_row_below-back (row_at old.rows k) level old.entries es back (trail.below k (omega (arith, kept)))
-      quiet_below (inr all) k below = quiet_row_below-none (row_at old.rows k) es (back.level_is ∙ all.0)
-
-      next : IsTrail (with_entries old es) (record { entries = length es; rows = settled }) now
-      next = record {
-        ready = record {
-          sound = record {
-            proper = trail.ready.sound.proper;
-            known = trail.ready.sound.known;
-            lawful =
-                subst (λ (xs : List Entry). AreLawful old.rows old.vars xs) (sym back.front)
-                (each-take (IsLawful old.rows old.vars) old.entries (length es) back.shorter trail.ready.sound.lawful);
-          };
-          entries = omega arith;
-          rows = trail.within;
-          seen = λ k below none. quiet_row-back (row_at old.rows k) level old.entries es back less (trail.below k below);
-        };
-        within = bounded choice;
-        below = quiet_below choice;
-      }
 
 pub forced_known : (path : SeenPath) (place slack from : ℕ) (f : Forced) → AreSound path → place < length path.rows
     → IsForcedIn (values_of path.entries) (row_at path.rows place).terms slack from f → f.lit.var ≤ path.vars

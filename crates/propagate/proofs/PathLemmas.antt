@@ -8,6 +8,7 @@ use Rattle.std.proofs.lemmas.List.Sums.{sum_by-cons, sum_by-le, sum_by-set}
 use mathlib.Core.Path.{fun_ext}
 use Rattle.rows.specs.Forcing.{set_true}
 use Rattle.rows.specs.Literals.{Literal}
+use Rattle.rows.specs.Rows.{Row}
 use Rattle.rows.specs.Partials.{as_value, is_free, value_of}
 use Rattle.rows.specs.Values.{valued}
 use Rattle.rows.specs.declared.partial.Value.{Value}
@@ -74,13 +75,19 @@ AreKept-none n capacity few room = record {
   each = each-nil (IsNew (length (replicate n Free)));
 }
 
-abbrev pub path_of : SeenCounters → List Entry → SeenPath
-path_of counters es = record { vars = length counters.values; rows = counters.rows; links = counters.links; entries = es }
+abbrev pub path_of : SeenCounters → List Row → List Entry → SeenPath
+path_of counters added es = record {
+  vars = length counters.values;
+  given = length counters.rows;
+  rows = counters.rows ++ added;
+  links = counters.links;
+  entries = es;
+}
 
 -- what a call asks of an entry, of the fields
-pub IsNew-inside : (counters : SeenCounters) (es : List Entry) (p : SeenPath) (e : Entry) → path_of counters es ≡ p → 1 ≤ e.lit.var → e.lit.var ≤ p.vars
+pub IsNew-inside : (counters : SeenCounters) (added : List Row) (es : List Entry) (p : SeenPath) (e : Entry) → path_of counters added es ≡ p → 1 ≤ e.lit.var → e.lit.var ≤ p.vars
     → value_of (values_of p.entries) e.lit ≡ Free → e.level ≡ level_of (p.entries ++ e ∷ []) → IsNew (length counters.values) es e
-IsNew-inside counters es p e is from_one known free level =
+IsNew-inside counters added es p e is from_one known free level =
     let new : IsNew p.vars p.entries e = record { from_one = from_one; known = known; free = free; level = level } in
     subst (λ (q : SeenPath). IsNew q.vars q.entries e) (sym is) new
 
@@ -199,9 +206,9 @@ last_true values es last e capacity kept end is =
     sym (take_all (last + 1) es (omega arith)) ∙ take_more es last e there ∙ ap (λ (x : Entry). take last es ++ x ∷ []) (sym is) in
     (new.known, ap (λ (w : ℕ → Value). value_of w e.lit) (kept.same ∙ ap values_of split ∙ values_of-push (take last es) e) ∙ value_of-same (values_of (take last es)) e.lit new.free)
 
-pub room_inside : (counters : SeenCounters) (es : List Entry) (p : SeenPath) (capacity : ℕ) (l : Literal) → AreKept counters.values es capacity → path_of counters es ≡ p → 1 ≤ l.var → l.var ≤ p.vars
+pub room_inside : (counters : SeenCounters) (added : List Row) (es : List Entry) (p : SeenPath) (capacity : ℕ) (l : Literal) → AreKept counters.values es capacity → path_of counters added es ≡ p → 1 ≤ l.var → l.var ≤ p.vars
     → value_of (values_of p.entries) l ≡ Free → length p.entries < p.vars
-room_inside counters es p capacity l kept is from_one known free =
+room_inside counters added es p capacity l kept is from_one known free =
     subst (λ (q : SeenPath). l.var ≤ q.vars → value_of (values_of q.entries) l ≡ Free → length q.entries < q.vars) is
     (λ inside is_free. AreKept-room counters.values es l capacity kept from_one inside is_free) known free
 

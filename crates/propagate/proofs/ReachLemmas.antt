@@ -91,7 +91,7 @@ pub reach-lacks : (values : ℕ → Value) (l : Literal) (terms : List Term) →
 reach-lacks values l terms free lacks =
     sum_by-agree (open_coef (set_true values l)) (open_coef values) terms (λ k d within. kept values l (get_or terms k d) free (lacks k d within))
 
-tail_apart : (t : Term) (ts : List Term) → AreApart (t ∷ ts) → AreApart ts
+pub tail_apart : (t : Term) (ts : List Term) → AreApart (t ∷ ts) → AreApart ts
 tail_apart t ts apart = λ i j d before within. apart (suc i) (suc j) d (omega arith) (omega arith)
 
 -- the terms behind it lack it
@@ -129,7 +129,7 @@ pub reach-has : (values : ℕ → Value) (l : Literal) (terms : List Term) (t : 
     → reach values terms ≡ reach (set_true values l) terms + t.coef
 reach-has values l terms t apart there is free = reach-has_at values l terms there.0 t apart there.1 there.2 is free
 
-at_most_coef : (coef : ℕ) (v : Value) → cond (is_false v) 0 coef ≤ coef
+pub at_most_coef : (coef : ℕ) (v : Value) → cond (is_false v) 0 coef ≤ coef
 at_most_coef coef True = omega arith
 at_most_coef coef False = omega arith
 at_most_coef coef Free = omega arith

@@ -11,5 +11,7 @@ pub mod Links
 pub mod Tables
 pub mod Counters
 pub mod Paths
+-- Clauses that are watched at two literals:
+pub mod Watches
 -- What looks at rows leave:
 pub mod Looks

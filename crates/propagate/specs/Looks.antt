@@ -1,29 +1,33 @@
 -- What looks at rows leave.
-use Rattle.std.specs.Prelude.{◌≡◌, ◌≢◌, ℕ, ◌+◌, ◌<◌, ◌≤◌, true, List, length, slice_index_or}
+use Rattle.std.specs.Prelude.{◌≡◌, ℕ, ◌+◌, ◌-◌, ◌*◌, ◌<◌, ◌≤◌, List, length, slice_index_or}
 use Rattle.std.specs.List.{All}
-use Rattle.rows.specs.Literals.{Literal, negate}
+use Rattle.rows.specs.Literals.{negate}
 use Rattle.rows.specs.Rows.{IsRow, Row}
 use Rattle.rows.specs.Partials.{IsQuiet, IsQuietRow, value_of}
 use Rattle.rows.specs.declared.lit.Term.{Term}
 use Rattle.rows.specs.declared.partial.Value.{Value}
-use Rattle.rows.specs.declared.partial.Value.TheVariants.{False, Free}
-use Rattle.propagate.specs.Trails.{AreLawful, EachEntry, IsGrown, IsQuietRowBelow, KnowsVariables, NamesConflict, is_decision, values_of}
+use Rattle.rows.specs.declared.partial.Value.TheVariants.{Free}
+use Rattle.propagate.specs.Trails.{AreLawful, IsGrown, KnowsVariables, NamesConflict, values_of}
 use Rattle.propagate.specs.Links.{Lacks}
 use Rattle.propagate.specs.Numbered.{row_at}
 use Rattle.propagate.specs.Paths.{SeenPath}
+use Rattle.propagate.specs.Watches.{IsClause, IsWatching}
 use Rattle.propagate.specs.declared.entry.Entry.{Entry}
 use Rattle.propagate.specs.declared.force.Forced.{Forced}
 use Rattle.propagate.specs.declared.settle.Looked.{Looked}
 use Rattle.propagate.specs.declared.settle.Turn.{Turn}
 use Rattle.propagate.specs.declared.settle.Turn.TheVariants.{Again, Quiet, Stopped}
+use Rattle.propagate.specs.declared.watches.Watches.{Watches}
 
 -- ---- rows and entries
 
--- rows over these variables, and entries that are lawful over them
+-- rows over these variables, clauses behind those that were given, and entries that are lawful over them
 pub record AreSound (path : SeenPath) : Type 0 where
   pub proper : All IsRow path.rows
   pub known : All (KnowsVariables path.vars) path.rows
   pub lawful : AreLawful path.rows path.vars path.entries
+  pub given : path.given ≤ length path.rows
+  pub clauses : (k : ℕ) → path.given ≤ k → k < length path.rows → IsClause (row_at path.rows k)
 
 -- rows forced some literals
 pub record IsGrownOver (old new : SeenPath) : Type 0 where
@@ -62,20 +66,23 @@ pub record IsReady (path : SeenPath) (looked : Looked) : Type 0 where
   pub rows : looked.rows ≤ length path.rows
   pub seen : (k : ℕ) → k < looked.rows → IsSeen (row_at path.rows k) path.entries looked.entries
 
+-- how much is left to look at: for each variable each row again
+abbrev pub left_of : SeenPath → Looked → ℕ
+left_of path looked = (path.vars - looked.entries) * (length path.rows + 1) + (length path.rows - looked.rows)
+
 -- what a turn comes to
 abbrev pub IsTurn : SeenPath → Looked → Looked → Turn → Type 0
-IsTurn path old new Again = (new.entries + new.rows ≡ old.entries + old.rows + 1) × (old.entries + old.rows < path.vars + length path.rows)
-IsTurn path old new Quiet = IsQuiet (values_of path.entries) path.rows
+IsTurn path old new Again = left_of path new < left_of path old
+IsTurn path old new Quiet = IsQuiet (values_of path.entries) path.rows × (new.entries ≡ length path.entries)
 IsTurn path old new (Stopped conflict) = NamesConflict path.rows (values_of path.entries) conflict
+
+-- of the rows that were given none waits any more for the entry at a place
+abbrev pub AreGivenSeen : SeenPath → Looked → Type 0
+AreGivenSeen path looked = (k : ℕ) → k < path.given → k < looked.rows → IsSeen (row_at path.rows k) path.entries (looked.entries + 1)
 
 -- ---- a trail
 
--- how far a path was looked at, and how many of its rows were quiet before each decision
-pub record IsTrail (path : SeenPath) (looked : Looked) (settled : ℕ) : Type 0 where
+-- how far a path was looked at, and its clauses are watched
+pub record IsTrail (path : SeenPath) (watches : Watches) (looked : Looked) : Type 0 where
   pub ready : IsReady path looked
-  pub within : settled ≤ length path.rows
-  pub below : (k : ℕ) → k < settled → IsQuietRowBelow (row_at path.rows k) path.entries
-
--- before each decision the literal wasn't false
-abbrev pub WasOpen : Literal → List Entry → Type 0
-WasOpen l entries = EachEntry (λ before e. is_decision e ≡ true → value_of (values_of before) l ≢ False) entries
+  pub watching : IsWatching path watches looked.entries

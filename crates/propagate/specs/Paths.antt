@@ -10,9 +10,11 @@ use Rattle.propagate.specs.declared.entry.Entry.{Entry}
 use Rattle.propagate.specs.declared.link.Link.{Link}
 use Rattle.propagate.specs.Trails.{EachEntry, IsNew, values_of}
 
--- the number of variables, the rows, how the rows are found in which a literal stands, and the entries
+-- the number of variables, the number of rows that were given, the rows with the added clauses behind them, how the
+-- rows are found in which a literal stands, and the entries
 pub record SeenPath : Type 0 where
   pub vars : ℕ
+  pub given : ℕ
   pub rows : List Row
   pub links : List Link
   pub entries : List Entry

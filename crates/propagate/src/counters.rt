@@ -1,8 +1,7 @@
 //! Rows under values that come and go, with the reach of each row kept.
-ghost use Rattle.std.specs.Prelude.{◌≡◌, ◌≢◌, ◌+◌, ◌-◌, ◌*◌, ◌^◌, ◌<◌, ◌≤◌, ◌++◌, [], ◌∷◌, length, replicate, true};
-ghost use Rattle.std.specs.Prelude.{slice_get, slice_set, Some, IfOk, OnOk, OnErr};
-ghost use Rattle.std.specs.List.{All, AllPairs};
-ghost use Rattle.rows.specs.Cardinality.{at_least};
+ghost use Rattle.std.specs.Prelude.{◌≡◌, ◌+◌, ◌-◌, ◌*◌, ◌^◌, ◌<◌, ◌≤◌, length, replicate, true};
+ghost use Rattle.std.specs.Prelude.{slice_get, slice_set, Some, IfOk, OnOk};
+ghost use Rattle.std.specs.List.{All};
 ghost use Rattle.rows.specs.Partials as partials;
 ghost use Rattle.rows.specs.Partials.{IsQuietRow, as_value, value_of};
 ghost use Rattle.rows.specs.Rows.{IsRow};
@@ -55,7 +54,7 @@ impl<'a> Counters<'a> {
         ensures values { IfOk result (λ c. c.values ≡ replicate vars Value.Free) }
     {
         let values = Partial::new(alloc, vars)?;
-        let rows = NumberedRows::new(alloc, given);
+        let rows = NumberedRows::new(given);
         let _len = rows.len();
         let mut table = Table::new(alloc, vars, given)?;
         count_all(given.len(), &rows, &values, &mut table)?;
@@ -66,10 +65,10 @@ impl<'a> Counters<'a> {
         })
     }
 
-    /// The number of rows, below 2^33.
+    /// The number of rows, below 2^32.
     pub(crate) fn len(&self) -> usize
         ensures len { result ≡ length self.now.rows }
-        ensures few { result < 2 ^ 33 }
+        ensures few { result < 2 ^ 32 }
         ensures proper { All IsRow self.now.rows }
         ensures known { All (KnowsVariables (length self.now.values)) self.now.rows }
     {
@@ -129,6 +128,7 @@ impl<'a> Counters<'a> {
         requires from_one { 1 ≤ at }
         requires there { at ≤ length self.now.links }
         ensures is { slice_get self.now.links (at - 1) ≡ Some result }
+        ensures within { result.row ≤ length self.now.rows }
         ensures next { LeadsBelow self.now.rows self.now.links result.term.lit result.row result.next }
     {
         self.table.links[at as usize - 1]
@@ -163,27 +163,6 @@ impl<'a> Counters<'a> {
             self.table.reach[link.row as usize] += u64::from(link.term.coef);
             at = link.next;
         }
-    }
-
-    /// Adds a clause behind the rows.
-    ///
-    /// # Errors
-    /// Only where memory runs out, or there would be 2^32 rows or terms: then nothing changes.
-    pub(crate) fn add(&mut self, clause: &[Lit]) -> Result<(), AllocError>
-        requires known { All (λ l. l.var ≤ length self.old.values) clause.now }
-        requires variables { AllPairs (λ l m. l.var ≢ m.var) clause.now }
-        ensures rows { OnOk result (self.new.rows ≡ self.old.rows ++ at_least 1 clause.now ∷ []) }
-        ensures values { self.new.values ≡ self.old.values }
-        ensures err { OnErr result (self.new ≡ self.old) }
-    {
-        let k = self.rows.len();
-        if k >= 0xFFFF_FFFF {
-            return Err(AllocError);
-        }
-        self.table.reserve(clause.len())?;
-        self.rows.add(clause)?;
-        self.table.count(&self.rows, k, &self.values);
-        Ok(())
     }
 }
 

@@ -20,7 +20,7 @@ pub(crate) struct Forced {
 /// and changes nothing where it is in conflict.
 pub(crate) fn look(path: &mut Path, place: usize) -> bool
     requires sound { AreSound path.old }
-    requires there { place < length path.old.rows }
+    requires there { place < path.old.given }
     ensures grown { IsGrownOver path.old path.new }
     ensures met { result ≡ true → IsQuietRow (values_of path.new.entries) (row_at path.new.rows place) }
     ensures conflict { result ≡ false → IsInConflict (values_of path.new.entries) (row_at path.new.rows place) }

@@ -6,15 +6,19 @@
 #![tactic(auto)]
 
 mod calm;
+mod clause;
 mod counters;
 mod entry;
 mod force;
+mod hang;
 mod link;
 mod numbered;
 mod path;
 mod settle;
 mod table;
 mod trail;
+mod walk;
+mod watches;
 
 pub use entry::{Conflict, Entry};
 pub use trail::Trail;

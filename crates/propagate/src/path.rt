@@ -6,7 +6,6 @@ ghost use Rattle.rows.specs.Cardinality.{at_least};
 ghost use Rattle.rows.specs.Partials as partials;
 ghost use Rattle.rows.specs.Partials.{IsQuietRow, value_of};
 ghost use Rattle.rows.specs.Literals.{Literal};
-ghost use Rattle.rows.specs.Rows.{IsRow};
 ghost use Rattle.propagate.specs.declared.entry.Entry.{Entry as AnEntry};
 ghost use Rattle.propagate.specs.Links.{LeadsBelow};
 ghost use Rattle.propagate.specs.Numbered.{row_at};
@@ -19,18 +18,21 @@ use rows::{Lit, RowStore, Term, Value};
 use std::alloc::{AllocError, Global};
 use std::marker::Model;
 
-/// The entries, and the rows under the values that they give: seen as the number of variables, the rows, the links to
-/// them, and the entries.
+/// The entries, the rows under the values that they give, and the added clauses: seen as the number of variables and of
+/// the rows that were given, the rows and clauses, the links to the rows, and the entries.
 #[derive(Drop)]
 pub(crate) struct Path<'a> {
+    /// The rows that were given.
     counters: Counters<'a>,
+    /// The added clauses.
+    added: RowStore,
     entries: Vec<Entry>,
     /// For each variable that has a value the place of its entry.
     places: Vec<usize>,
 }
 
 impl<'a> Model for Path<'a> {
-    ghost use Rattle.std.specs.Prelude.{length};
+    ghost use Rattle.std.specs.Prelude.{length, ◌++◌};
     ghost use Rattle.propagate.specs.Paths.{IsPath, SeenPath};
     ghost use Rattle.std.specs.Vec.{vec_capacity};
 
@@ -38,7 +40,8 @@ impl<'a> Model for Path<'a> {
 
     ghost view = { λ p. record {
       vars = length p.counters.values;
-      rows = p.counters.rows;
+      given = length p.counters.rows;
+      rows = p.counters.rows ++ p.added;
       links = p.counters.links;
       entries = p.entries.items;
     } };
@@ -51,37 +54,51 @@ impl<'a> Path<'a> {
     pub(crate) fn new(alloc: Global, given: &'a RowStore, vars: u32) -> Result<Path<'a>, AllocError>
         requires { All (KnowsVariables vars) given.now }
         ensures vars { IfOk result (λ path. path.vars ≡ vars) }
+        ensures given { IfOk result (λ path. path.given ≡ length given.now) }
         ensures rows { IfOk result (λ path. path.rows ≡ given.now) }
         ensures entries { IfOk result (λ path. path.entries ≡ []) }
     {
         Ok(Path {
             counters: Counters::new(alloc, given, vars)?,
+            added: RowStore::new(alloc),
             entries: Vec::with_capacity(alloc, vars as usize)?,
             places: vec![in alloc; 0; vars as usize]?,
         })
     }
 
-    /// The number of rows, below 2^33.
+    /// The number of rows and clauses, below 2^33.
     pub(crate) fn row_count(&self) -> usize
         ensures len { result ≡ length self.now.rows }
         ensures few { result < 2 ^ 33 }
-        ensures proper { All IsRow self.now.rows }
-        ensures known { All (KnowsVariables self.now.vars) self.now.rows }
+    {
+        self.counters.len() + self.added.len()
+    }
+
+    /// The number of rows that were given, below 2^32.
+    pub(crate) fn given(&self) -> usize
+        ensures given { result ≡ self.now.given }
+        ensures few { result < 2 ^ 32 }
+        ensures within { self.now.given ≤ length self.now.rows }
     {
         self.counters.len()
     }
 
-    /// The terms of the row at place k, from 0.
+    /// The terms of the row or clause at place k, from 0.
     pub(crate) fn terms(&self, k: usize) -> &[Term]
         requires { k < length self.now.rows }
         ensures { result.now ≡ (row_at self.now.rows k).terms }
     {
-        self.counters.terms(k)
+        let given = self.counters.len();
+        if k < given {
+            self.counters.terms(k)
+        } else {
+            self.added.terms(k - given)
+        }
     }
 
     /// The degree of the row at place k, from 0.
     pub(crate) fn degree(&self, k: usize) -> u64
-        requires { k < length self.now.rows }
+        requires { k < self.now.given }
         ensures { result ≡ (row_at self.now.rows k).degree }
     {
         self.counters.degree(k)
@@ -90,7 +107,7 @@ impl<'a> Path<'a> {
     /// What leads to the last row in which a literal stands: one above the place of its link, or 0 where there is none.
     pub(crate) fn head(&self, lit: Lit) -> u32
         requires { lit.var ≤ self.now.vars }
-        ensures { LeadsBelow self.now.rows self.now.links lit (length self.now.rows) result }
+        ensures { LeadsBelow self.now.rows self.now.links lit self.now.given result }
     {
         self.counters.head(lit)
     }
@@ -107,7 +124,7 @@ impl<'a> Path<'a> {
 
     /// The reach of the row at place k.
     pub(crate) fn reach(&self, k: usize) -> u64
-        requires { k < length self.now.rows }
+        requires { k < self.now.given }
         ensures { result ≡ partials.reach (values_of self.now.entries) (row_at self.now.rows k).terms }
     {
         self.counters.reach(k)
@@ -115,7 +132,7 @@ impl<'a> Path<'a> {
 
     /// Whether the reach of the row at place k is so great that it is surely quiet.
     pub(crate) fn is_enough(&self, k: usize) -> bool
-        requires { k < length self.now.rows }
+        requires { k < self.now.given }
         ensures { result ≡ true → IsQuietRow (values_of self.now.entries) (row_at self.now.rows k) }
     {
         self.counters.is_enough(k)
@@ -250,15 +267,16 @@ impl<'a> Path<'a> {
     /// Adds a clause behind the rows.
     ///
     /// # Errors
-    /// Only where memory runs out, or there would be 2^32 rows or terms: then nothing changes.
+    /// Only where memory runs out, or there are 2^32 - 1 clauses: then nothing changes.
     pub(crate) fn add(&mut self, clause: &[Lit]) -> Result<(), AllocError>
-        requires known { All (λ l. l.var ≤ self.old.vars) clause.now }
-        requires variables { AllPairs (λ l m. l.var ≢ m.var) clause.now }
+        requires { AllPairs (λ l m. l.var ≢ m.var) clause.now }
         ensures rows { OnOk result (self.new.rows ≡ self.old.rows ++ at_least 1 clause.now ∷ []) }
-        ensures vars { self.new.vars ≡ self.old.vars }
-        ensures entries { self.new.entries ≡ self.old.entries }
+        ensures same { self.new ≡ record self.old { rows = self.new.rows } }
         ensures err { OnErr result (self.new ≡ self.old) }
     {
-        self.counters.add(clause)
+        if self.added.len() == 0xFFFF_FFFF {
+            return Err(AllocError);
+        }
+        self.added.push_at_least(clause, 1)
     }
 }

@@ -1,5 +1,5 @@
 //! The trail.
-ghost use Rattle.std.specs.Prelude.{◌≡◌, ◌≢◌, ◌+◌, ◌-◌, ◌^◌, ◌<◌, ◌≤◌, ◌++◌, ◌==◌, ◌⊎◌, [], ◌∷◌, length, true, Some, None};
+ghost use Rattle.std.specs.Prelude.{◌≡◌, ◌≢◌, ◌+◌, ◌-◌, ◌<◌, ◌≤◌, ◌++◌, ◌==◌, [], ◌∷◌, length, Some, None};
 ghost use Rattle.std.specs.Prelude.{slice_get, slice_index_or, IfSome, IfOk, OnOk, OnErr};
 ghost use Rattle.std.specs.List.{All, AllPairs};
 ghost use Rattle.rows.specs.Cardinality.{at_least};
@@ -9,10 +9,10 @@ ghost use Rattle.propagate.specs.declared.entry.Entry.{Entry as AnEntry};
 ghost use Rattle.propagate.specs.Trails.{AreLawful, IsBackTo, IsGrown, IsQuietBelow, IsQuietRowBelow, IsSettled};
 ghost use Rattle.propagate.specs.Trails.{KnowsVariables, level_of, values_of};
 
-use crate::calm::is_calm;
 use crate::entry::{Conflict, Entry};
 use crate::path::Path;
 use crate::settle::{Looked, settle};
+use crate::watches::Watches;
 use rows::{Lit, RowStore, Term, Value};
 use std::alloc::{AllocError, Global};
 use std::marker::Model;
@@ -24,9 +24,8 @@ use std::marker::Model;
 #[derive(Drop)]
 pub struct Trail<'a> {
     path: Path<'a>,
+    watches: Watches,
     looked: Looked,
-    /// So many rows, from the first one, were quiet before each decision.
-    settled: usize,
 }
 
 impl<'a> Model for Trail<'a> {
@@ -37,7 +36,7 @@ impl<'a> Model for Trail<'a> {
 
     ghost view = { λ t. record { vars = t.path.vars; rows = t.path.rows; entries = t.path.entries } };
 
-    ghost invariant = { λ t. IsTrail t.path t.looked t.settled };
+    ghost invariant = { λ t. IsTrail t.path t.watches t.looked };
 }
 
 impl<'a> Trail<'a> {
@@ -50,15 +49,15 @@ impl<'a> Trail<'a> {
         ensures { IfOk result (λ trail. trail ≡ record { vars = vars; rows = rows.now; entries = [] }) }
     {
         let path = Path::new(alloc, rows, vars)?;
-        let settled = path.row_count();
+        let watches = Watches::new(alloc, vars, rows.len())?;
         let looked = Looked {
             entries: 0,
             rows: 0,
         };
         Ok(Trail {
             path,
+            watches,
             looked,
-            settled,
         })
     }
 
@@ -71,7 +70,7 @@ impl<'a> Trail<'a> {
         ensures found { IsSettled self.new.rows (values_of self.new.entries) result }
         ensures below { IsQuietBelow self.old.rows self.old.entries → IsQuietBelow self.new.rows self.new.entries }
     {
-        settle(&mut self.path, &mut self.looked)
+        settle(&mut self.path, &mut self.watches, &mut self.looked)
     }
 
     /// Makes a free literal true that nothing forces: it begins the next level.
@@ -85,8 +84,8 @@ impl<'a> Trail<'a> {
             ≡ self.old.entries ++ record { lit = lit; level = level_of self.old.entries + 1; reason = None } ∷ [] }
         ensures below { IsQuietBelow self.old.rows self.old.entries → IsQuietBelow self.new.rows self.new.entries }
     {
-        // The rows are quiet, so nothing waits to be looked at.
-        self.looked.entries = self.path.len();
+        // The rows are quiet, so this adds no literal, but leaves none that waits to be looked at.
+        let _conflict = settle(&mut self.path, &mut self.watches, &mut self.looked);
         self.path.decide(lit);
     }
 
@@ -108,9 +107,8 @@ impl<'a> Trail<'a> {
         self.path.back_to(level);
         self.looked = Looked {
             entries: self.path.len(),
-            rows: self.settled,
+            rows: self.watches.hung,
         };
-        self.settled = settled_at(level, self.settled, self.path.row_count());
     }
 
     /// Adds a clause behind the rows, and gives its number. No literal is made true.
@@ -129,9 +127,11 @@ impl<'a> Trail<'a> {
             → IsQuietRowBelow (at_least 1 clause.now) self.old.entries → IsQuietBelow self.new.rows self.new.entries) }
     {
         let count = self.path.row_count();
-        let calm = is_calm(&self.path, clause);
+        if count >= 0xFFFF_FFFF {
+            return Err(AllocError);
+        }
+        self.watches.reserve(count)?;
         self.path.add(clause)?;
-        self.settled = settled_with(calm, self.settled, count);
         Ok(count as u64 + 1)
     }
 
@@ -196,24 +196,5 @@ impl<'a> Trail<'a> {
         ensures { IfSome (slice_get self.now.rows (number - 1)) (λ row. result.now ≡ row.terms) }
     {
         self.path.terms(number as usize - 1)
-    }
-}
-
-/// How many rows were quiet before each decision, at this level: at level 0 there is none.
-fn settled_at(level: u32, settled: usize, count: usize) -> usize
-    ensures { (result ≡ settled) ⊎ ((level ≡ 0) × (result ≡ count)) }
-{
-    if level == 0 { count } else { settled }
-}
-
-/// How many rows were quiet before each decision, with one more row that was so or not.
-fn settled_with(calm: bool, settled: usize, count: usize) -> usize
-    requires { count < 2 ^ 33 }
-    ensures { (result ≡ settled) ⊎ ((calm ≡ true) × (settled ≡ count) × (result ≡ count + 1)) }
-{
-    if calm && settled == count {
-        count + 1
-    } else {
-        settled
     }
 }

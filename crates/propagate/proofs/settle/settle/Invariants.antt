@@ -1,10 +1,9 @@
-use Rattle.std.proofs.Common.{◌+◌, ◌-◌, length}
-use Rattle.propagate.specs.Looks.{IsGrownOver, IsReady}
+use Rattle.propagate.specs.Looks.{IsGrownOver, IsTrail, left_of}
 use Rattle.propagate.proofs.settle.settle.Given as goal
 
 abbrev pub invariant-turns : goal.invariant-turns
-invariant-turns l = record { grown : IsGrownOver l.fn.path l.path; ready : IsReady l.path l.looked }
+invariant-turns l = record { grown : IsGrownOver l.fn.path l.path; trail : IsTrail l.path l.watches l.looked }
 
--- how many entries and rows are left
+-- how much is left to look at
 abbrev pub decreases-turns : goal.decreases-turns
-decreases-turns l = l.path.vars + length l.path.rows - (l.looked.entries + l.looked.rows)
+decreases-turns l = left_of l.path l.looked

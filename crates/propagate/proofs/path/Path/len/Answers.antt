@@ -10,4 +10,4 @@ returns-clause-at_most c =
 
 pub returns-clause-room : goal.returns-clause-room
 returns-clause-room c = λ l from_one known free.
-    room_inside c.self.inside.counters c.self.inside.entries.items c.args.self.now _ l c.self.invariant.kept c.self.view_is from_one known free
+    room_inside c.self.inside.counters c.self.inside.added c.self.inside.entries.items c.args.self.now _ l c.self.invariant.kept c.self.view_is from_one known free

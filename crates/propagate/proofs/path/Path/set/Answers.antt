@@ -13,7 +13,7 @@ pub unwrap-requires : goal.unwrap-requires
 unwrap-requires c =
     let from_one : 1 ≤ c.args.entry.lit.var = omega arith in
     let new : IsNew (length c.self.inside.counters.values) c.self.inside.entries.items c.args.entry =
-    IsNew-inside c.self.inside.counters c.self.inside.entries.items c.args.self.now c.args.entry c.self.view_is from_one c.requires.known c.requires.free c.requires.level in
+    IsNew-inside c.self.inside.counters c.self.inside.added c.self.inside.entries.items c.args.self.now c.args.entry c.self.view_is from_one c.requires.known c.requires.free c.requires.level in
     let room : length c.self.inside.entries.items < length c.self.inside.counters.values =
     AreKept-room c.self.inside.counters.values c.self.inside.entries.items c.args.entry.lit _ c.self.invariant.kept from_one new.known new.free in
     c.push-pushed.ensures.succeeds (omega (arith, room, c.self.invariant.kept.room, c.self.inside.entries.ok))
@@ -22,7 +22,7 @@ pub invariant_of-self : goal.invariant_of-self
 invariant_of-self c =
     let from_one : 1 ≤ c.args.entry.lit.var = omega arith in
     let new : IsNew (length c.self.inside.counters.values) c.self.inside.entries.items c.args.entry =
-    IsNew-inside c.self.inside.counters c.self.inside.entries.items c.args.self.now c.args.entry c.self.view_is from_one c.requires.known c.requires.free c.requires.level in
+    IsNew-inside c.self.inside.counters c.self.inside.added c.self.inside.entries.items c.args.self.now c.args.entry c.self.view_is from_one c.requires.known c.requires.free c.requires.level in
     let items_are : c.push-pushed.new.self.items ≡ c.self.inside.entries.items ++ c.args.entry ∷ [] =
     pushed (is_ok c.push-pushed.result) c.push-pushed.new.self.items c.self.inside.entries.items c.args.entry c.push-pushed.ensures.items (ap is_ok c.unwrap.ensures) in
     record {

@@ -4,16 +4,14 @@ use Rattle.propagate.specs.Paths.{SeenPath}
 use Rattle.propagate.specs.Trails.{IsQuietBelow, SeenTrail, level_of, values_of}
 use Rattle.propagate.specs.declared.settle.Looked.{Looked}
 use Rattle.propagate.proofs.EntryLemmas.{quiet-back, quiet_below-back}
-use Rattle.propagate.proofs.LookLemmas.{IsTrail-back}
+use Rattle.propagate.proofs.TrailLemmas.{IsTrail-back}
 use Rattle.propagate.proofs.trail.Trail.back_to.Goals as goal
 
 pub invariant_of-self : goal.invariant_of-self
 invariant_of-self c =
     let less : c.args.level < level_of c.self.inside.path.entries = omega (arith, c.level.ensures) in
-    IsTrail-back c.self.inside.path c.back_to.new.self c.self.inside.looked (record { entries = c.len.result; rows = c.self.inside.settled }) c.self.inside.settled c.settled_at-self-inside.result
-    c.args.level c.row_count.result c.self.invariant c.back_to.ensures.same c.back_to.ensures.back less
-    (ap (λ (n : ℕ). let l : Looked = record { entries = n; rows = c.self.inside.settled } in l) c.len.ensures.len)
-    c.row_count.ensures.len c.settled_at-self-inside.ensures
+    IsTrail-back c.self.inside.path c.back_to.new.self c.self.inside.watches c.self.inside.looked (record { entries = c.len.result; rows = c.self.inside.watches.hung }) c.args.level c.self.invariant
+    c.back_to.ensures.same c.back_to.ensures.back less (ap (λ (n : ℕ). let l : Looked = record { entries = n; rows = c.self.inside.watches.hung } in l) c.len.ensures.len)
 
 pub returns-clause-below : goal.returns-clause-below
 returns-clause-below c = λ below.

@@ -2,12 +2,10 @@ use Rattle.std.proofs.Common.{sym, subst}
 use Rattle.propagate.specs.Paths.{SeenPath}
 use Rattle.propagate.specs.Trails.{IsQuietBelow, SeenTrail}
 use Rattle.propagate.proofs.EntryLemmas.{quiet_below-grown}
-use Rattle.propagate.proofs.LookLemmas.{IsTrail-run}
 use Rattle.propagate.proofs.trail.Trail.run.Goals as goal
 
 pub invariant_of-self : goal.invariant_of-self
-invariant_of-self c =
-    IsTrail-run c.self.inside.path c.settle.new.path c.self.inside.looked c.settle.new.looked c.self.inside.settled c.self.invariant c.settle.ensures.grown c.settle.ensures.ready
+invariant_of-self c = c.settle.ensures.trail
 
 pub returns-clause-below : goal.returns-clause-below
 returns-clause-below c = λ below.
