@@ -2,20 +2,21 @@
 use Rattle.std.proofs.Common.{◌≡◌, ℕ, ◌<◌, Bool, true, false, List, length, arith, ap, subst, sym, ◌∙◌}
 use Rattle.std.specs.List.{All}
 use Rattle.std.specs.List.Sorted.{IsNonDecreasingBy}
-use Rattle.league.specs.Counts.{counts_of, one_more, slot_count}
+use Rattle.league.specs.Counts.{one_more, slot_count}
 use Rattle.league.specs.Instance.{IsGame}
 use Rattle.league.specs.declared.game.Game.{Game}
 use Rattle.league.proofs.RangeLemmas.{one_if}
 use Rattle.cells.proofs.PlaceLemmas.{AreMirrored-put, AreMirrored-taken, away_is, free_is, home_is, hosts-put}
 use Rattle.cells.specs.Opponents.{IsPut, is_free, place_at}
 use Rattle.cells.specs.Places.{hosts, visits}
-use Rattle.cells.specs.Spare.{order_of}
+use Rattle.cells.specs.Spare.{IsSpareGame, order_of, spare_counts}
 use Rattle.cells.specs.Tables.{AreOpponents, kept_counts}
 use Rattle.cells.specs.declared.place.Place.{Place}
+use Rattle.cells.specs.declared.spare.Spare.{Spare}
 use Rattle.cells.specs.declared.place.Place.TheVariants.{Free, Home, Away}
 
 -- a game that is put in its two places
-module _ (n w : ℕ) (g : Game) (ps qs : List Place) (xs : List Game) (wide : w ≡ slot_count n) (fits : IsGame n g)
+module _ (n w : ℕ) (g : Game) (ps qs : List Place) (xs : List Spare) (wide : w ≡ slot_count n) (fits : IsGame n g)
     (put : IsPut g (place_at w ps) (place_at w qs)) where
   by_slots : IsPut g (place_at (slot_count n) ps) (place_at (slot_count n) qs)
   by_slots = subst (λ (v : ℕ). IsPut g (place_at v ps) (place_at v qs)) wide put
@@ -43,8 +44,8 @@ module _ (n w : ℕ) (g : Game) (ps qs : List Place) (xs : List Game) (wide : w 
       (arith, hosts-put g (place_at (slot_count n) ps) (place_at (slot_count n) qs) fits.differ by_slots i j s)
 
 -- other spare games
-pub listed_kept : (n : ℕ) (ps : List Place) (xs ys : List Game) → AreOpponents n ps xs → All (IsGame n) ys
-    → IsNonDecreasingBy order_of ys → AreOpponents n ps ys
+pub listed_kept : (n : ℕ) (ps : List Place) (xs ys : List Spare) → AreOpponents n ps xs → All (IsSpareGame n) ys
+    → IsNonDecreasingBy (λ x. order_of x.game) ys → AreOpponents n ps ys
 listed_kept n ps xs ys table fit ordered = record
     { size = table.size; mirrored = table.mirrored; fit = fit; ordered = ordered }
 
@@ -59,7 +60,7 @@ pub read_home : (w : ℕ) (g : Game) (ps : List Place) (p : Place) (hosted : Boo
     → place_at w ps g.home.0 g.slot.0 ≡ Home g.away
 read_home w g ps p hosted read test passes = sym read ∙ home_is p g.away (sym test ∙ passes)
 
-pub read_guest : (n w : ℕ) (g : Game) (ps : List Place) (xs : List Game) (p : Place) (hosted : Bool)
+pub read_guest : (n w : ℕ) (g : Game) (ps : List Place) (xs : List Spare) (p : Place) (hosted : Bool)
     → w ≡ slot_count n → AreOpponents n ps xs → p ≡ place_at w ps g.home.0 g.slot.0 → hosted ≡ hosts p g.away.0
     → hosted ≡ true → place_at w ps g.away.0 g.slot.0 ≡ Away g.home
 read_guest n w g ps xs p hosted wide table read test passes =
@@ -72,9 +73,9 @@ read_guest n w g ps xs p hosted wide table read test passes =
     ∙ passes))
 
 -- a game that isn't in the table is in the list
-pub listed_there : (n w : ℕ) (g : Game) (ps : List Place) (xs : List Game) (p : Place) (hosted : Bool)
+pub listed_there : (n w : ℕ) (g : Game) (ps : List Place) (xs : List Spare) (p : Place) (hosted : Bool)
     → w ≡ slot_count n → p ≡ place_at w ps g.home.0 g.slot.0 → hosted ≡ hosts p g.away.0 → hosted ≡ false
-    → 0 < kept_counts n ps xs g.home.0 g.away.0 g.slot.0 → 0 < counts_of xs g.home.0 g.away.0 g.slot.0
+    → 0 < kept_counts n ps xs g.home.0 g.away.0 g.slot.0 → 0 < spare_counts xs g.home.0 g.away.0 g.slot.0
 listed_there n w g ps xs p hosted wide read test fails there =
     let none : one_if (hosts (place_at (slot_count n) ps g.home.0 g.slot.0) g.away.0) ≡ 0 =
     ap (λ (v : ℕ). one_if (hosts (place_at v ps g.home.0 g.slot.0) g.away.0)) (sym wide)

@@ -1,5 +1,6 @@
 -- What a place of the table, and what is counted beside it, tell of the counts.
-use Rattle.std.proofs.Common.{◌≡◌, ◌≢◌, ◌⊎◌, ℕ, ◌+◌, ◌<◌, ◌≤◌, Bool, true, false, ◌&&◌, ◌||◌, ◌==◌, nat_lt, List}
+use Rattle.std.proofs.Common.{◌≡◌, ◌≢◌, ◌⊎◌, ℕ, ◌+◌, ◌<◌, ◌≤◌, Bool, true, false, ◌&&◌, ◌||◌, ◌==◌, nat_lt}
+use Rattle.std.proofs.Common.{if◌then◌else◌, List}
 use Rattle.std.proofs.Common.{[], ◌∷◌, length, get_or, refl, arith, ap, ◌∙◌, sym, inl, inr, zero-add}
 use Rattle.std.proofs.lemmas.Bool.{cases_lt}
 use Rattle.std.proofs.lemmas.Bool.Decides.{nat_tests}
@@ -7,13 +8,11 @@ use Rattle.std.proofs.lemmas.List.Sums.{sum_by-le}
 use Rattle.std.specs.List.{All, sum_by}
 use Rattle.std.specs.Ordering.{nat_cmp}
 use Rattle.league.specs.Capacity.{meetings_with}
-use Rattle.league.specs.Counts.{Counts, counts_of, is_game, slot_count, teams_of}
-use Rattle.league.specs.Instance.{IsGame}
+use Rattle.league.specs.Counts.{Counts, is_game, slot_count, teams_of}
 use Rattle.league.specs.Meetings.{games_of}
 use Rattle.league.specs.Sets.{IsAscending}
 use Rattle.league.specs.Venues.{away_games, home_games}
 use Rattle.league.specs.declared.class.Side.TheVariants.{H, A}
-use Rattle.league.specs.declared.game.Game.{Game}
 use Rattle.league.proofs.CountLemmas.{sum_by-one_game}
 use Rattle.league.proofs.RangeLemmas.{one_if}
 use Rattle.league.proofs.SumLemmas.{sum_by-add, sum_by-same}
@@ -23,14 +22,16 @@ use Rattle.cells.proofs.PlaceLemmas.{not_itself}
 use Rattle.cells.proofs.TableLemmas.{away_games-ge, home_games-ge, kept-counts, kept-le, none_of}
 use Rattle.cells.specs.Opponents.{hosts_any, is_away, is_home, place_at, visits_any}
 use Rattle.cells.specs.Places.{hosts, visits}
+use Rattle.cells.specs.Spare.{IsSpareGame, spare_counts}
 use Rattle.cells.specs.Table.{Table, table_counts}
 use Rattle.cells.specs.Tables.{AreKept, AreOpponents, kept_counts}
 use Rattle.cells.specs.declared.counters.Counters.{Counters}
 use Rattle.cells.specs.declared.place.Place.{Place}
+use Rattle.cells.specs.declared.spare.Spare.{Spare}
 use Rattle.cells.specs.declared.place.Place.TheVariants.{Free, Home, Away}
 
 -- the counts that contracts see are those that are kept
-pub seen : (n : ℕ) (ps : List Place) (xs : List Game) (t : Table) → AreOpponents n ps xs
+pub seen : (n : ℕ) (ps : List Place) (xs : List Spare) (t : Table) → AreOpponents n ps xs
     → table_of n (kept_counts n ps xs) ≡ t → table_counts t ≡ kept_counts n ps xs
 seen n ps xs t table is = sym (ap (λ (u : Table). table_counts u) is) ∙ kept-counts n ps xs table
 
@@ -69,55 +70,55 @@ visits_sum n Free teams = sum_of_none (λ (j : ℕ). 0) (λ j. refl) (teams_of n
 visits_sum n (Home guest) teams = sum_of_none (λ (j : ℕ). 0) (λ j. refl) (teams_of n)
 visits_sum n (Away host) teams = once_of host.0 n (teams host.0 (itself host.0))
 
-module _ (n games : ℕ) (ps : List Place) (xs : List Game) (h a : Counters) (kept : AreKept n games ps xs h a)
+module _ (n games : ℕ) (ps : List Place) (xs : List Spare) (h a : Counters) (kept : AreKept n games ps xs h a)
     (i s : ℕ) where
   -- home games of the place, and of the list
   home_split : home_games n (kept_counts n ps xs) i s ≡ one_if
-      (is_home (place_at (slot_count n) ps i s)) + home_games n (counts_of xs) i s
+      (is_home (place_at (slot_count n) ps i s)) + home_games n (spare_counts xs) i s
   home_split =
       let p : Place = place_at (slot_count n) ps i s in
       omega (
         arith,
-        sum_by-add (λ j. one_if (hosts p j)) (λ j. counts_of xs i j s) (teams_of n),
+        sum_by-add (λ j. one_if (hosts p j)) (λ j. spare_counts xs i j s) (teams_of n),
         hosts_sum n p (λ j is. (kept.table.mirrored.teams i j s is).1),
       )
 
   away_split : away_games n (kept_counts n ps xs) i s ≡ one_if
-      (is_away (place_at (slot_count n) ps i s)) + away_games n (counts_of xs) i s
+      (is_away (place_at (slot_count n) ps i s)) + away_games n (spare_counts xs) i s
   away_split =
       let at : ℕ → Place = λ j. place_at (slot_count n) ps j s in
       let turned : (j : ℕ) → one_if (hosts (at j) i) ≡ one_if (visits (at i) j) = λ j. ap one_if
       (kept.table.mirrored.same j i s) in
       omega (
         arith,
-        sum_by-add (λ j. one_if (hosts (at j) i)) (λ j. counts_of xs j i s) (teams_of n),
+        sum_by-add (λ j. one_if (hosts (at j) i)) (λ j. spare_counts xs j i s) (teams_of n),
         sum_by-same (λ j. one_if (hosts (at j) i)) (λ j. one_if (visits (at i) j)) turned (teams_of n),
         visits_sum n (at i) (λ j is. (kept.table.mirrored.teams j i s (kept.table.mirrored.same j i s ∙ is)).0),
       )
 
   -- a team with as many home games as its place has none in the list
   no_spare_home : home_games n (kept_counts n ps xs) i s ≡ one_if (is_home (place_at (slot_count n) ps i s))
-      → (j : ℕ) → counts_of xs i j s ≡ 0
+      → (j : ℕ) → spare_counts xs i j s ≡ 0
   no_spare_home settled j =
-      let none : home_games n (counts_of xs) i s ≡ 0 = omega (arith, settled, home_split) in
+      let none : home_games n (spare_counts xs) i s ≡ 0 = omega (arith, settled, home_split) in
       elim (cases_lt j n) [
-        | inl lt ↦ omega (arith, none, home_games-ge n (counts_of xs) i j s lt)
+        | inl lt ↦ omega (arith, none, home_games-ge n (spare_counts xs) i j s lt)
         | inr ge ↦ none_of n i j s xs kept.table.fit (inr (inl ge))
       ]
 
   no_spare_away : away_games n (kept_counts n ps xs) i s ≡ one_if (is_away (place_at (slot_count n) ps i s))
-      → (j : ℕ) → counts_of xs j i s ≡ 0
+      → (j : ℕ) → spare_counts xs j i s ≡ 0
   no_spare_away settled j =
-      let none : away_games n (counts_of xs) i s ≡ 0 = omega (arith, settled, away_split) in
+      let none : away_games n (spare_counts xs) i s ≡ 0 = omega (arith, settled, away_split) in
       elim (cases_lt j n) [
-        | inl lt ↦ omega (arith, none, away_games-ge n (counts_of xs) j i s lt)
+        | inl lt ↦ omega (arith, none, away_games-ge n (spare_counts xs) j i s lt)
         | inr ge ↦ none_of n j i s xs kept.table.fit (inl ge)
       ]
 
   -- the same, as contracts see the counts
   pub settled_home : (t : Table) → table_of n (kept_counts n ps xs) ≡ t
       → home_games t.n (table_counts t) i s ≡ one_if (is_home (place_at (slot_count n) ps i s)) → (j : ℕ)
-      → counts_of xs i j s ≡ 0
+      → spare_counts xs i j s ≡ 0
   settled_home t is settled =
       no_spare_home
       (sym (ap (λ (m : Counts). home_games n m i s) (seen n ps xs t kept.table is))
@@ -125,7 +126,7 @@ module _ (n games : ℕ) (ps : List Place) (xs : List Game) (h a : Counters) (ke
 
   pub settled_away : (t : Table) → table_of n (kept_counts n ps xs) ≡ t
       → away_games t.n (table_counts t) i s ≡ one_if (is_away (place_at (slot_count n) ps i s)) → (j : ℕ)
-      → counts_of xs j i s ≡ 0
+      → spare_counts xs j i s ≡ 0
   settled_away t is settled =
       no_spare_away
       (sym (ap (λ (m : Counts). away_games n m i s) (seen n ps xs t kept.table is))
@@ -157,26 +158,26 @@ module _ (n games : ℕ) (ps : List Place) (xs : List Game) (h a : Counters) (ke
       )
 
 -- the venue counts that contracts see
-pub home_seen : (n : ℕ) (ps : List Place) (xs : List Game) (t : Table) → AreOpponents n ps xs
+pub home_seen : (n : ℕ) (ps : List Place) (xs : List Spare) (t : Table) → AreOpponents n ps xs
     → table_of n (kept_counts n ps xs) ≡ t → (i s : ℕ)
     → home_games n (kept_counts n ps xs) i s ≡ home_games t.n (table_counts t) i s
 home_seen n ps xs t table is i s = sym (ap (λ (m : Counts). home_games n m i s) (seen n ps xs t table is)) ∙
     ap (λ (k : ℕ). home_games k (table_counts t) i s) (ap (λ (u : Table). u.n) is)
 
-pub away_seen : (n : ℕ) (ps : List Place) (xs : List Game) (t : Table) → AreOpponents n ps xs
+pub away_seen : (n : ℕ) (ps : List Place) (xs : List Spare) (t : Table) → AreOpponents n ps xs
     → table_of n (kept_counts n ps xs) ≡ t → (i s : ℕ)
     → away_games n (kept_counts n ps xs) i s ≡ away_games t.n (table_counts t) i s
 away_seen n ps xs t table is i s = sym (ap (λ (m : Counts). away_games n m i s) (seen n ps xs t table is)) ∙
     ap (λ (k : ℕ). away_games k (table_counts t) i s) (ap (λ (u : Table). u.n) is)
 
 -- a count, by the place that was read and what stands in the list
-module _ (n games : ℕ) (ps : List Place) (xs : List Game) (h a : Counters) (kept : AreKept n games ps xs h a)
+module _ (n games : ℕ) (ps : List Place) (xs : List Spare) (h a : Counters) (kept : AreKept n games ps xs h a)
     (t : Table) (is : table_of n (kept_counts n ps xs) ≡ t) (i s w : ℕ) (p : Place) (wide : w ≡ slot_count n)
     (read : p ≡ place_at w ps i s) where
   place_is : p ≡ place_at (slot_count n) ps i s
   place_is = read ∙ ap (λ (v : ℕ). place_at v ps i s) wide
 
-  pub count_all : (j placed copies : ℕ) → placed ≡ one_if (hosts p j) → copies ≡ counts_of xs i j s
+  pub count_all : (j placed copies : ℕ) → placed ≡ one_if (hosts p j) → copies ≡ spare_counts xs i j s
       → placed + copies ≡ table_counts t i j s
   count_all j placed copies hosted listed =
       omega (
@@ -193,13 +194,13 @@ module _ (n games : ℕ) (ps : List Place) (xs : List Game) (h a : Counters) (ke
 
   -- a team whose place tells all its home games
   pub no_more_home : (homes placed : ℕ) → homes ≡ home_games t.n (table_counts t) i s → placed ≡ one_if (is_home p)
-      → homes ≡ placed → (j : ℕ) → counts_of xs i j s ≡ 0
+      → homes ≡ placed → (j : ℕ) → spare_counts xs i j s ≡ 0
   no_more_home homes placed are is_placed same =
       settled_home n games ps xs h a kept i s t is
       (sym are ∙ same ∙ is_placed ∙ ap (λ (q : Place). one_if (is_home q)) place_is)
 
   pub no_more_away : (aways placed : ℕ) → aways ≡ away_games t.n (table_counts t) i s → placed ≡ one_if (is_away p)
-      → aways ≡ placed → (j : ℕ) → counts_of xs j i s ≡ 0
+      → aways ≡ placed → (j : ℕ) → spare_counts xs j i s ≡ 0
   no_more_away aways placed are is_placed same =
       settled_away n games ps xs h a kept i s t is
       (sym are ∙ same ∙ is_placed ∙ ap (λ (q : Place). one_if (is_away q)) place_is)
@@ -218,10 +219,10 @@ module _ (n games : ℕ) (ps : List Place) (xs : List Game) (h a : Counters) (ke
       (λ same. differ (are ∙ same ∙ sym (is_placed ∙ ap (λ (q : Place). one_if (is_away q)) place_is)))
 
   -- what the place tells of each other team
-  pub home_told : ((j : ℕ) → counts_of xs i j s ≡ 0) → (j : ℕ) → table_counts t i j s ≡ one_if (hosts p j)
+  pub home_told : ((j : ℕ) → spare_counts xs i j s ≡ 0) → (j : ℕ) → table_counts t i j s ≡ one_if (hosts p j)
   home_told none j = sym (count_all j (one_if (hosts p j)) 0 refl (sym (none j))) ∙ omega arith
 
-  pub away_told : ((j : ℕ) → counts_of xs j i s ≡ 0) → (j : ℕ) → table_counts t j i s ≡ one_if (visits p j)
+  pub away_told : ((j : ℕ) → spare_counts xs j i s ≡ 0) → (j : ℕ) → table_counts t j i s ≡ one_if (visits p j)
   away_told none j =
       omega (
         arith,
@@ -251,13 +252,21 @@ module _ (n games : ℕ) (ps : List Place) (xs : List Game) (h a : Counters) (ke
       ]
 
 -- no game is one of a team with itself
-no_own_games : (n i s : ℕ) (xs : List Game) → All (IsGame n) xs → counts_of xs i i s ≡ 0
-no_own_games n i s xs fit = omega
-    (arith, sum_by-le (λ x. one_if (is_game i i s x)) 0 xs (λ k d lt. other (get_or xs k d) (fit k d lt))) where
-      other : (g : Game) → IsGame n g → one_if (is_game i i s g) ≤ 0
-      other g fits = let differ : g.home.0 ≢ g.away.0 = fits.differ in grind (arith, nat_tests)
+no_own_games : (n i s : ℕ) (xs : List Spare) → All (IsSpareGame n) xs → spare_counts xs i i s ≡ 0
+no_own_games n i s xs fit =
+    omega (
+      arith,
+      sum_by-le (λ x. if is_game i i s x.game then x.copies else 0) 0 xs
+          (λ k d lt. other (get_or xs k d) (fit k d lt)),
+    )
+  where
+    differing : (a b c d e f count : ℕ) → a ≢ c → (if (a == b) && (c == b) && (e == f) then count else 0) ≤ 0
+    differing a b c d e f count differ = grind (arith, nat_tests)
 
-kept_not_itself : (n : ℕ) (ps : List Place) (xs : List Game) → AreOpponents n ps xs → (i s : ℕ)
+    other : (x : Spare) → IsSpareGame n x → (if is_game i i s x.game then x.copies else 0) ≤ 0
+    other x spare = differing x.game.home.0 i x.game.away.0 i x.game.slot.0 s x.copies spare.fits.differ
+
+kept_not_itself : (n : ℕ) (ps : List Place) (xs : List Spare) → AreOpponents n ps xs → (i s : ℕ)
     → kept_counts n ps xs i i s ≡ 0
 kept_not_itself n ps xs table i s = omega (
   arith,
@@ -280,26 +289,26 @@ visits_any_sum (Home guest) others ascending = sum_of_none (λ (j : ℕ). 0) (λ
 visits_any_sum (Away host) others ascending = once_in host.0 others ascending
 
 -- the games of a team against some others, by its place and the list
-module _ (n games : ℕ) (ps : List Place) (xs : List Game) (h a : Counters) (kept : AreKept n games ps xs h a)
+module _ (n games : ℕ) (ps : List Place) (xs : List Spare) (h a : Counters) (kept : AreKept n games ps xs h a)
     (t : Table) (is : table_of n (kept_counts n ps xs) ≡ t) (i s : ℕ) (others : List ℕ)
     (ascending : IsAscending nat_cmp others) where
   pub at_home-kept : games_of (table_counts t) (meetings_with H i others) (s ∷ []) ≡ one_if
-      (hosts_any others (place_at (slot_count n) ps i s)) + sum_by (λ j. counts_of xs i j s) others
+      (hosts_any others (place_at (slot_count n) ps i s)) + sum_by (λ j. spare_counts xs i j s) others
   at_home-kept =
       let p : Place = place_at (slot_count n) ps i s in
       ap (λ (m : Counts). games_of m (meetings_with H i others) (s ∷ [])) (seen n ps xs t kept.table is)
       ∙ at_home-all (kept_counts n ps xs) i others s (kept_not_itself n ps xs kept.table i s)
-      ∙ sum_by-add (λ j. one_if (hosts p j)) (λ j. counts_of xs i j s) others
-      ∙ ap (λ (k : ℕ). k + sum_by (λ j. counts_of xs i j s) others) (hosts_any_sum p others ascending)
+      ∙ sum_by-add (λ j. one_if (hosts p j)) (λ j. spare_counts xs i j s) others
+      ∙ ap (λ (k : ℕ). k + sum_by (λ j. spare_counts xs i j s) others) (hosts_any_sum p others ascending)
 
   pub away-kept : games_of (table_counts t) (meetings_with A i others) (s ∷ []) ≡ one_if
-      (visits_any others (place_at (slot_count n) ps i s)) + sum_by (λ j. counts_of xs j i s) others
+      (visits_any others (place_at (slot_count n) ps i s)) + sum_by (λ j. spare_counts xs j i s) others
   away-kept =
       let at : ℕ → Place = λ j. place_at (slot_count n) ps j s in
       ap (λ (m : Counts). games_of m (meetings_with A i others) (s ∷ [])) (seen n ps xs t kept.table is)
       ∙ is_away-all (kept_counts n ps xs) i others s (kept_not_itself n ps xs kept.table i s)
-      ∙ sum_by-add (λ j. one_if (hosts (at j) i)) (λ j. counts_of xs j i s) others
-      ∙ ap (λ (k : ℕ). k + sum_by (λ j. counts_of xs j i s) others)
+      ∙ sum_by-add (λ j. one_if (hosts (at j) i)) (λ j. spare_counts xs j i s) others
+      ∙ ap (λ (k : ℕ). k + sum_by (λ j. spare_counts xs j i s) others)
       (sum_by-same (λ j. one_if (hosts (at j) i)) (λ j. one_if (visits (at i) j))
       (λ j. ap one_if (kept.table.mirrored.same j i s)) others ∙ visits_any_sum (at i) others ascending)
 
@@ -327,7 +336,7 @@ module _ (n games : ℕ) (ps : List Place) (xs : List Game) (h a : Counters) (ke
   -- by the place that was read, and what stands in the list
   module _ (w : ℕ) (p : Place) (wide : w ≡ slot_count n) (read : p ≡ place_at w ps i s) where
     pub at_home_all : (placed copies : ℕ) → placed ≡ one_if (hosts_any others p)
-        → copies ≡ sum_by (λ j. counts_of xs i j s) others
+        → copies ≡ sum_by (λ j. spare_counts xs i j s) others
         → placed + copies ≡ games_of (table_counts t) (meetings_with H i others) (s ∷ [])
     at_home_all placed copies hosted listed =
         omega (
@@ -339,13 +348,14 @@ module _ (n games : ℕ) (ps : List Place) (xs : List Game) (h a : Counters) (ke
               (read ∙ ap (λ (v : ℕ). place_at v ps i s) wide),
         )
 
-    pub at_home_settled : (placed : ℕ) → placed ≡ one_if (hosts_any others p) → ((j : ℕ) → counts_of xs i j s ≡ 0)
+    pub at_home_settled : (placed : ℕ) → placed ≡ one_if (hosts_any others p)
+        → ((j : ℕ) → spare_counts xs i j s ≡ 0)
         → placed ≡ games_of (table_counts t) (meetings_with H i others) (s ∷ [])
     at_home_settled placed hosted none =
-        omega (arith, at_home_all placed 0 hosted (sym (sum_of_none (λ j. counts_of xs i j s) none others)))
+        omega (arith, at_home_all placed 0 hosted (sym (sum_of_none (λ j. spare_counts xs i j s) none others)))
 
     pub away_all : (placed copies : ℕ) → placed ≡ one_if (visits_any others p)
-        → copies ≡ sum_by (λ j. counts_of xs j i s) others
+        → copies ≡ sum_by (λ j. spare_counts xs j i s) others
         → placed + copies ≡ games_of (table_counts t) (meetings_with A i others) (s ∷ [])
     away_all placed copies visited listed =
         omega (
@@ -357,7 +367,7 @@ module _ (n games : ℕ) (ps : List Place) (xs : List Game) (h a : Counters) (ke
               (read ∙ ap (λ (v : ℕ). place_at v ps i s) wide),
         )
 
-    pub away_settled : (placed : ℕ) → placed ≡ one_if (visits_any others p) → ((j : ℕ) → counts_of xs j i s ≡ 0)
+    pub away_settled : (placed : ℕ) → placed ≡ one_if (visits_any others p) → ((j : ℕ) → spare_counts xs j i s ≡ 0)
         → placed ≡ games_of (table_counts t) (meetings_with A i others) (s ∷ [])
     away_settled placed visited none =
-        omega (arith, away_all placed 0 visited (sym (sum_of_none (λ j. counts_of xs j i s) none others)))
+        omega (arith, away_all placed 0 visited (sym (sum_of_none (λ j. spare_counts xs j i s) none others)))

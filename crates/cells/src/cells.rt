@@ -15,7 +15,7 @@ ghost use Rattle.cells.specs.Table.{table_counts};
 use crate::counters::Counters;
 use crate::keep::{keep, let_go};
 use crate::place::{Place, once_if, read_place};
-use crate::spare::{copies, copies_at_home, copies_away};
+use crate::spare::{Spare, copies, copies_at_home, copies_away};
 use keys::Listed;
 use league::{Game, SlotId, TeamId, slot_count};
 use std::alloc::{AllocError, Global};
@@ -33,8 +33,8 @@ pub struct Cells {
     games: u32,
     /// What each team does in each slot, by team, then slot.
     places: Vec<Place>,
-    /// The games that don't stand in their places, in order.
-    spare: Vec<Game>,
+    /// The games that don't stand in their places, each with its copies, in order.
+    spare: Vec<Spare>,
     /// The home games, by team and slot.
     homes: Counters,
     /// The away games, by team and slot.

@@ -5,14 +5,15 @@ ghost use Rattle.league.specs.Instance.{IsGame, IsTeamCount};
 ghost use Rattle.cells.specs.Tables.{AreOpponents, kept_counts};
 
 use crate::place::{Place, put, read_place, take_off};
-use crate::spare::{add_copy, take_copy};
+use crate::spare::{Spare, add_copy, take_copy};
 use league::{Game, slot_count};
 
 /// Counts a game once more: in the table where both its teams are free, or else in the list. It takes no memory.
-pub(crate) fn keep(n: u16, places: &mut Vec<Place>, spare: &mut Vec<Game>, game: Game)
+pub(crate) fn keep(n: u16, places: &mut Vec<Place>, spare: &mut Vec<Spare>, game: Game)
     requires teams { IsTeamCount n }
     requires fits { IsGame n game }
     requires table { AreOpponents n places.old.items spare.old.items }
+    requires few { (i j s : ℕ) → kept_counts n places.old.items spare.old.items i j s ≤ 10000 }
     requires room { length spare.old.items < vec_capacity spare.old }
     ensures table { AreOpponents n places.new.items spare.new.items }
     ensures counts { (i j s : ℕ) → kept_counts n places.new.items spare.new.items i j s
@@ -31,7 +32,7 @@ pub(crate) fn keep(n: u16, places: &mut Vec<Place>, spare: &mut Vec<Game>, game:
 
 /// Counts a game once less: in the table if it stands there, or else in the list. It takes no memory. A game of the
 /// list stays there, even if places become free.
-pub(crate) fn let_go(n: u16, places: &mut Vec<Place>, spare: &mut Vec<Game>, game: Game)
+pub(crate) fn let_go(n: u16, places: &mut Vec<Place>, spare: &mut Vec<Spare>, game: Game)
     requires teams { IsTeamCount n }
     requires fits { IsGame n game }
     requires table { AreOpponents n places.old.items spare.old.items }

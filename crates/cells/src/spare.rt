@@ -1,14 +1,20 @@
-//! The games for which the table has no place, in order, so that each is found by halving.
-ghost use Rattle.std.specs.Prelude.{◌≡◌, ◌<◌, ◌≤◌, ℕ, length, slice_index_or, vec_capacity};
+//! The games for which the table has no place: each with its copies, in order, so that it is found by halving.
+ghost use Rattle.std.specs.Prelude.{◌≡◌, ◌<◌, ◌≤◌, ℕ, length, slice_index_or, vec_capacity, IsTrue};
 ghost use Rattle.std.specs.List.{All, sum_by};
 ghost use Rattle.std.specs.List.Sorted.{IsNonDecreasingBy};
-ghost use Rattle.league.specs.Counts.{counts_of, one_more};
+ghost use Rattle.league.specs.Counts.{one_more};
 ghost use Rattle.league.specs.Instance.{IsGame};
-ghost use Rattle.league.specs.declared.game.Game.{Game};
 ghost use Rattle.cells.specs.Spare as spares;
-ghost use Rattle.cells.specs.Spare.{IsSpare};
+ghost use Rattle.cells.specs.Spare.{IsSpare, IsSpareGame, spare_counts};
 
 use league::{Game, SlotId, TeamId};
+
+/// A game, and how often it is counted beside the table.
+#[derive(Clone, Copy, Debug)]
+pub(crate) struct Spare {
+    pub(crate) game: Game,
+    pub(crate) copies: u16,
+}
 
 /// The number of a game among those of 40 teams, by slot, then home team, then away team.
 fn order_of(game: Game) -> u32
@@ -19,37 +25,53 @@ fn order_of(game: Game) -> u32
 }
 
 /// How many games stand before those of this number, and later ones.
-fn count_before(spare: &Vec<Game>, order: u32) -> usize
-    requires { IsNonDecreasingBy spares.order_of spare.now.items }
+fn count_before(spare: &Vec<Spare>, order: u32) -> usize
+    requires { IsNonDecreasingBy (λ x. spares.order_of x.game) spare.now.items }
     ensures bound { result ≤ length spare.now.items }
-    ensures before { (k : ℕ) (d : Game) → k < result → spares.order_of (slice_index_or spare.now.items k d) < order }
-    ensures after { (k : ℕ) (d : Game) → result ≤ k → k < length spare.now.items
-        → order ≤ spares.order_of (slice_index_or spare.now.items k d) }
+    ensures before { (k : ℕ) (d : Spare) → k < result
+        → spares.order_of (slice_index_or spare.now.items k d).game < order }
+    ensures after { (k : ℕ) (d : Spare) → result ≤ k → k < length spare.now.items
+        → order ≤ spares.order_of (slice_index_or spare.now.items k d).game }
 {
-    spare.partition_point(|game| order_of(*game) < order)
+    spare.partition_point(|spare| order_of(spare.game) < order)
+}
+
+/// Whether a game of this number stands at a place.
+fn stands_at(spare: &Vec<Spare>, place: usize, order: u32) -> bool
+    ensures inside { IsTrue result → place < length spare.now.items }
+    ensures there { IsTrue result → (d : Spare) → place < length spare.now.items
+        → spares.order_of (slice_index_or spare.now.items place d).game ≡ order }
+{
+    place < spare.len() && order_of(spare[place].game) == order
 }
 
 /// How often a game stands in the list.
-pub(crate) fn copies(spare: &Vec<Game>, game: Game) -> u32
+pub(crate) fn copies(spare: &Vec<Spare>, game: Game) -> u32
     requires spare { IsSpare spare.now.items }
-    requires few { length spare.now.items ≤ 10000 }
+    requires few { spare_counts spare.now.items game.home.0 game.away.0 game.slot.0 ≤ 10000 }
     requires home { game.home.0 < 40 }
     requires away { game.away.0 < 40 }
-    ensures count { result ≡ counts_of spare.now.items game.home.0 game.away.0 game.slot.0 }
+    ensures count { result ≡ spare_counts spare.now.items game.home.0 game.away.0 game.slot.0 }
     ensures at_most { result ≤ 10000 }
 {
     let order = order_of(game);
-    (count_before(spare, order + 1) - count_before(spare, order)) as u32
+    let first = count_before(spare, order);
+    let end = count_before(spare, order + 1);
+    let mut games: u32 = 0;
+    for place in first..end {
+        games += u32::from(spare[place].copies);
+    }
+    games
 }
 
 /// How often a team stands in the list at home to one of some others, in a slot.
-pub(crate) fn copies_at_home(spare: &Vec<Game>, team: TeamId, others: &[u16], slot: SlotId) -> u32
+pub(crate) fn copies_at_home(spare: &Vec<Spare>, team: TeamId, others: &[u16], slot: SlotId) -> u32
     requires spare { IsSpare spare.now.items }
-    requires few { length spare.now.items ≤ 10000 }
+    requires few { (j : ℕ) → spare_counts spare.now.items team.0 j slot.0 ≤ 10000 }
     requires team { team.0 < 40 }
     requires others { All (λ j. j < 40) others.now }
     requires few_others { length others.now ≤ 78 }
-    ensures games { result ≡ sum_by (λ j. counts_of spare.now.items team.0 j slot.0) others.now }
+    ensures games { result ≡ sum_by (λ j. spare_counts spare.now.items team.0 j slot.0) others.now }
     ensures at_most { result ≤ 780000 }
 {
     let mut games: u32 = 0;
@@ -65,13 +87,13 @@ pub(crate) fn copies_at_home(spare: &Vec<Game>, team: TeamId, others: &[u16], sl
 }
 
 /// How often a team stands in the list away at one of some others, in a slot.
-pub(crate) fn copies_away(spare: &Vec<Game>, team: TeamId, others: &[u16], slot: SlotId) -> u32
+pub(crate) fn copies_away(spare: &Vec<Spare>, team: TeamId, others: &[u16], slot: SlotId) -> u32
     requires spare { IsSpare spare.now.items }
-    requires few { length spare.now.items ≤ 10000 }
+    requires few { (j : ℕ) → spare_counts spare.now.items j team.0 slot.0 ≤ 10000 }
     requires team { team.0 < 40 }
     requires others { All (λ j. j < 40) others.now }
     requires few_others { length others.now ≤ 78 }
-    ensures games { result ≡ sum_by (λ j. counts_of spare.now.items j team.0 slot.0) others.now }
+    ensures games { result ≡ sum_by (λ j. spare_counts spare.now.items j team.0 slot.0) others.now }
     ensures at_most { result ≤ 780000 }
 {
     let mut games: u32 = 0;
@@ -86,32 +108,66 @@ pub(crate) fn copies_away(spare: &Vec<Game>, team: TeamId, others: &[u16], slot:
     games
 }
 
-/// Adds a game in its place, where there is room for it. It takes no memory.
-pub(crate) fn add_copy(spare: &mut Vec<Game>, game: Game)
-    requires ordered { IsNonDecreasingBy spares.order_of spare.old.items }
+/// Adds a copy of a game, in its place. It takes no memory.
+pub(crate) fn add_copy(spare: &mut Vec<Spare>, game: Game)
+    requires spare { IsSpare spare.old.items }
+    requires home { game.home.0 < 40 }
+    requires away { game.away.0 < 40 }
+    requires few { (i j s : ℕ) → spare_counts spare.old.items i j s ≤ 10000 }
     requires room { length spare.old.items < vec_capacity spare.old }
-    ensures ordered { IsNonDecreasingBy spares.order_of spare.new.items }
-    ensures counts { (i j s : ℕ) → counts_of spare.new.items i j s ≡ one_more (counts_of spare.old.items) game i j s }
-    ensures fit { (n : ℕ) → IsGame n game → All (IsGame n) spare.old.items → All (IsGame n) spare.new.items }
+    ensures ordered { IsNonDecreasingBy (λ x. spares.order_of x.game) spare.new.items }
+    ensures counts { (i j s : ℕ) → spare_counts spare.new.items i j s
+        ≡ one_more (spare_counts spare.old.items) game i j s }
+    ensures fit { (n : ℕ) → IsGame n game → All (IsSpareGame n) spare.old.items
+        → All (IsSpareGame n) spare.new.items }
     ensures room { vec_capacity spare.old ≤ vec_capacity spare.new }
 {
-    let place = count_before(spare, order_of(game));
-    let Ok(()) = spare.insert(place, game) else {
+    let order = order_of(game);
+    let place = count_before(spare, order);
+    if stands_at(spare, place, order) {
+        spare[place].copies += 1;
+    } else {
+        put_first_copy(spare, place, game);
+    }
+}
+
+/// Puts a game at its place in the order.
+fn put_first_copy(spare: &mut Vec<Spare>, place: usize, game: Game)
+    requires place { place ≤ length spare.old.items }
+    requires room { length spare.old.items < vec_capacity spare.old }
+    requires ordered { IsNonDecreasingBy (λ x. spares.order_of x.game) spare.old.items }
+    requires before { (k : ℕ) (d : Spare) → k < place
+        → spares.order_of (slice_index_or spare.old.items k d).game < spares.order_of game }
+    requires after { (k : ℕ) (d : Spare) → place ≤ k → k < length spare.old.items
+        → spares.order_of game ≤ spares.order_of (slice_index_or spare.old.items k d).game }
+    ensures ordered { IsNonDecreasingBy (λ x. spares.order_of x.game) spare.new.items }
+    ensures counts { (i j s : ℕ) → spare_counts spare.new.items i j s
+        ≡ one_more (spare_counts spare.old.items) game i j s }
+    ensures fit { (n : ℕ) → IsGame n game → All (IsSpareGame n) spare.old.items
+        → All (IsSpareGame n) spare.new.items }
+    ensures room { vec_capacity spare.old ≤ vec_capacity spare.new }
+{
+    let Ok(()) = spare.insert(place, Spare { game, copies: 1 }) else {
         unreachable!()
     };
 }
 
 /// Takes one copy of a game out of the list.
-pub(crate) fn take_copy(spare: &mut Vec<Game>, game: Game)
+pub(crate) fn take_copy(spare: &mut Vec<Spare>, game: Game)
     requires spare { IsSpare spare.old.items }
     requires home { game.home.0 < 40 }
     requires away { game.away.0 < 40 }
-    requires there { 0 < counts_of spare.old.items game.home.0 game.away.0 game.slot.0 }
-    ensures ordered { IsNonDecreasingBy spares.order_of spare.new.items }
-    ensures counts { (i j s : ℕ) → counts_of spare.old.items i j s ≡ one_more (counts_of spare.new.items) game i j s }
-    ensures fit { (n : ℕ) → All (IsGame n) spare.old.items → All (IsGame n) spare.new.items }
+    requires there { 0 < spare_counts spare.old.items game.home.0 game.away.0 game.slot.0 }
+    ensures ordered { IsNonDecreasingBy (λ x. spares.order_of x.game) spare.new.items }
+    ensures counts { (i j s : ℕ) → spare_counts spare.old.items i j s
+        ≡ one_more (spare_counts spare.new.items) game i j s }
+    ensures fit { (n : ℕ) → All (IsSpareGame n) spare.old.items → All (IsSpareGame n) spare.new.items }
     ensures room { vec_capacity spare.old ≤ vec_capacity spare.new }
 {
     let place = count_before(spare, order_of(game));
-    spare.remove(place);
+    if spare[place].copies > 1 {
+        spare[place].copies -= 1;
+    } else {
+        spare.remove(place);
+    }
 }

@@ -5,7 +5,8 @@ use Rattle.league.specs.Instance.{IsGame}
 use Rattle.cells.specs.Table.{Table}
 use Rattle.cells.specs.Tables.{kept_counts}
 use Rattle.cells.proofs.SeenLemmas.{seen}
-use Rattle.cells.proofs.TableLemmas.{AreKept-more, kept-away-le, kept-counts, kept-few, kept-home-le, place_in_rows}
+use Rattle.cells.proofs.TableLemmas.{AreKept-more, kept-away-le, kept-counts, kept-few, kept-home-le, kept-le}
+use Rattle.cells.proofs.TableLemmas.{place_in_rows}
 use Rattle.cells.proofs.TableLemmas.{same_counts, sum_more}
 use Rattle.cells.proofs.cells.Cells.add.Goals as goal
 
@@ -51,6 +52,12 @@ keep-requires-clause-room c =
       c.requires.room,
       c.self.invariant.1,
     )
+
+pub keep-requires-clause-few : goal.keep-requires-clause-few
+keep-requires-clause-few c i j s =
+    kept-le c.self.inside.n c.self.inside.games c.self.inside.places.items c.self.inside.spare.items
+    c.self.inside.homes
+    c.self.inside.aways c.self.invariant.0 i j s
 
 pub invariant_of-self : goal.invariant_of-self
 invariant_of-self c =

@@ -3,7 +3,7 @@ use Rattle.league.specs.Counts.{slot_count}
 use Rattle.league.proofs.RangeLemmas.{one_if}
 use Rattle.cells.specs.Table.{Table}
 use Rattle.cells.proofs.SeenLemmas.{count_all, count_le, no_more_home}
-use Rattle.cells.proofs.TableLemmas.{kept-few, place_in_rows}
+use Rattle.cells.proofs.TableLemmas.{kept-le, place_in_rows}
 use Rattle.cells.proofs.cells.Cells.at.Goals as goal
 
 pub read_place-place-requires-clause-place : goal.read_place-place-requires-clause-place
@@ -26,17 +26,19 @@ returns-then-home-home_games-clause-count c =
       arith,
       count_all c.self.inside.n c.self.inside.games c.self.inside.places.items c.self.inside.spare.items
           c.self.inside.homes c.self.inside.aways c.self.invariant.0 c.args.self.now c.self.view_is c.args.home.0
-          c.args.slot.0 c.slot_count.result c.read_place-place.result c.slot_count.ensures c.read_place-place.ensures
+          c.args.slot.0 c.slot_count.result c.read_place-place.result c.slot_count.ensures
+          c.read_place-place.ensures
           c.args.away.0 c.once_if-placed.result 0 hosted (sym none),
     )
 
 pub copies-requires-clause-few : goal.copies-requires-clause-few
-copies-requires-clause-few c = omega (
-  arith,
-  kept-few c.self.inside.n c.self.inside.games c.self.inside.places.items c.self.inside.spare.items
-      c.self.inside.homes c.self.inside.aways c.self.invariant.0,
-  c.self.invariant.0.few,
-)
+copies-requires-clause-few c =
+    omega (
+      arith,
+      kept-le c.self.inside.n c.self.inside.games c.self.inside.places.items c.self.inside.spare.items
+          c.self.inside.homes
+          c.self.inside.aways c.self.invariant.0 c.args.home.0 c.args.away.0 c.args.slot.0,
+    )
 
 pub returns-clause-count : goal.returns-clause-count
 returns-clause-count c =

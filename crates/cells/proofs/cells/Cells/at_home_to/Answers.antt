@@ -1,9 +1,10 @@
 use Rattle.std.proofs.Common.{ℕ, List, length, arith, ap, ◌∙◌}
 use Rattle.std.specs.List.{sum_by}
-use Rattle.league.specs.Counts.{counts_of, slot_count}
+use Rattle.league.specs.Counts.{slot_count}
+use Rattle.cells.specs.Spare.{spare_counts}
 use Rattle.cells.specs.Table.{Table}
 use Rattle.cells.proofs.SeenLemmas.{at_home-le, at_home_all, at_home_settled, no_more_home}
-use Rattle.cells.proofs.TableLemmas.{kept-few, place_in_rows}
+use Rattle.cells.proofs.TableLemmas.{kept-le, place_in_rows}
 use Rattle.cells.proofs.cells.Cells.at_home_to.Goals as goal
 
 pub read_place-place-requires-clause-place : goal.read_place-place-requires-clause-place
@@ -27,12 +28,13 @@ returns-then-home-home_games-clause-games c =
     c.games_at_home_to-placed.ensures none
 
 pub copies_at_home-requires-clause-few : goal.copies_at_home-requires-clause-few
-copies_at_home-requires-clause-few c = omega (
-  arith,
-  kept-few c.self.inside.n c.self.inside.games c.self.inside.places.items c.self.inside.spare.items
-      c.self.inside.homes c.self.inside.aways c.self.invariant.0,
-  c.self.invariant.0.few,
-)
+copies_at_home-requires-clause-few c j =
+    omega (
+      arith,
+      kept-le c.self.inside.n c.self.inside.games c.self.inside.places.items c.self.inside.spare.items
+          c.self.inside.homes
+          c.self.inside.aways c.self.invariant.0 c.args.team.0 j c.args.slot.0,
+    )
 
 pub returns-clause-games : goal.returns-clause-games
 returns-clause-games c =
@@ -42,7 +44,7 @@ returns-clause-games c =
     c.read_place-place.result c.slot_count.ensures c.read_place-place.ensures c.games_at_home_to-placed.result
     c.copies_at_home.result c.games_at_home_to-placed.ensures
     (c.copies_at_home.ensures.games
-    ∙ ap (λ (xs : List ℕ). sum_by (λ j. counts_of c.self.inside.spare.items c.args.team.0 j c.args.slot.0) xs)
+    ∙ ap (λ (xs : List ℕ). sum_by (λ j. spare_counts c.self.inside.spare.items c.args.team.0 j c.args.slot.0) xs)
     c.numbers-numbers.ensures.numbers)
 
 pub returns-clause-at_most : goal.returns-clause-at_most
@@ -55,7 +57,8 @@ returns-clause-at_most c =
           c.slot_count.result c.read_place-place.result c.slot_count.ensures c.read_place-place.ensures
           c.games_at_home_to-placed.result c.copies_at_home.result c.games_at_home_to-placed.ensures
           (c.copies_at_home.ensures.games
-          ∙ ap (λ (xs : List ℕ). sum_by (λ j. counts_of c.self.inside.spare.items c.args.team.0 j c.args.slot.0) xs)
+          ∙ ap (λ (xs : List ℕ). sum_by (λ j. spare_counts c.self.inside.spare.items c.args.team.0 j c.args.slot.0)
+          xs)
           c.numbers-numbers.ensures.numbers),
       at_home-le c.self.inside.n c.self.inside.games
           c.self.inside.places.items c.self.inside.spare.items c.self.inside.homes c.self.inside.aways

@@ -1,9 +1,10 @@
 use Rattle.std.proofs.Common.{ℕ, List, length, arith, ap, ◌∙◌}
 use Rattle.std.specs.List.{sum_by}
-use Rattle.league.specs.Counts.{counts_of, slot_count}
+use Rattle.league.specs.Counts.{slot_count}
+use Rattle.cells.specs.Spare.{spare_counts}
 use Rattle.cells.specs.Table.{Table}
 use Rattle.cells.proofs.SeenLemmas.{away-le, away_all, away_settled, no_more_away}
-use Rattle.cells.proofs.TableLemmas.{kept-few, place_in_rows}
+use Rattle.cells.proofs.TableLemmas.{kept-le, place_in_rows}
 use Rattle.cells.proofs.cells.Cells.away_at.Goals as goal
 
 pub read_place-place-requires-clause-place : goal.read_place-place-requires-clause-place
@@ -27,12 +28,13 @@ returns-then-away-away_games-clause-games c =
     c.games_away_at-placed.ensures none
 
 pub copies_away-requires-clause-few : goal.copies_away-requires-clause-few
-copies_away-requires-clause-few c = omega (
-  arith,
-  kept-few c.self.inside.n c.self.inside.games c.self.inside.places.items c.self.inside.spare.items
-      c.self.inside.homes c.self.inside.aways c.self.invariant.0,
-  c.self.invariant.0.few,
-)
+copies_away-requires-clause-few c j =
+    omega (
+      arith,
+      kept-le c.self.inside.n c.self.inside.games c.self.inside.places.items c.self.inside.spare.items
+          c.self.inside.homes
+          c.self.inside.aways c.self.invariant.0 j c.args.team.0 c.args.slot.0,
+    )
 
 pub returns-clause-games : goal.returns-clause-games
 returns-clause-games c =
@@ -42,7 +44,7 @@ returns-clause-games c =
     c.read_place-place.result c.slot_count.ensures c.read_place-place.ensures c.games_away_at-placed.result
     c.copies_away.result c.games_away_at-placed.ensures
     (c.copies_away.ensures.games
-    ∙ ap (λ (xs : List ℕ). sum_by (λ j. counts_of c.self.inside.spare.items j c.args.team.0 c.args.slot.0) xs)
+    ∙ ap (λ (xs : List ℕ). sum_by (λ j. spare_counts c.self.inside.spare.items j c.args.team.0 c.args.slot.0) xs)
     c.numbers-numbers.ensures.numbers)
 
 pub returns-clause-at_most : goal.returns-clause-at_most
@@ -55,7 +57,8 @@ returns-clause-at_most c =
           c.read_place-place.result c.slot_count.ensures c.read_place-place.ensures c.games_away_at-placed.result
           c.copies_away.result c.games_away_at-placed.ensures
           (c.copies_away.ensures.games
-          ∙ ap (λ (xs : List ℕ). sum_by (λ j. counts_of c.self.inside.spare.items j c.args.team.0 c.args.slot.0) xs)
+          ∙ ap (λ (xs : List ℕ). sum_by (λ j. spare_counts c.self.inside.spare.items j c.args.team.0 c.args.slot.0)
+          xs)
           c.numbers-numbers.ensures.numbers),
       away-le c.self.inside.n c.self.inside.games c.self.inside.places.items
           c.self.inside.spare.items c.self.inside.homes c.self.inside.aways c.self.invariant.0 c.args.self.now
