@@ -19,6 +19,7 @@ use Rattle.cells.specs.Places.{hosts}
 use Rattle.cells.specs.declared.place.Place.{Place}
 use Rattle.cells.specs.declared.place.Place.TheVariants.{Home}
 use Rattle.league.specs.declared.game.TeamId.{TeamId}
+use Rattle.rule_core.proofs.OneLemmas.{all_zero, only_one, zero-mul}
 use Rattle.capacity.specs.Between.{can_host, counted, meetings_at_home}
 
 -- ---- the list of home teams
@@ -60,9 +61,6 @@ hosts_few n p hosts is =
 
 -- ---- the games of one home team
 
-zero-mul : (x : ℕ) → 0 * x ≡ 0
-zero-mul x = omega arith
-
 -- the games of a meeting in one slot
 in_slot : (m : Counts) (s : ℕ) (p : ℕ × ℕ) → sum_by (λ t. m p.0 p.1 t) (s ∷ []) ≡ m p.0 p.1 s
 in_slot m s p = omega (arith, sum_by-cons (λ t. m p.0 p.1 t) s [])
@@ -71,32 +69,6 @@ one_or_none : (a b : Bool) (x y : ℕ) → y ≡ x → cond a (cond b y 0) 0 ≡
 one_or_none true true x y same = omega arith
 one_or_none true false x y same = sym (zero-mul x)
 one_or_none false b x y same = sym (zero-mul x)
-
--- a sum of which all terms but one are 0
-sum_to_more : (f : ℕ → ℕ) (k : ℕ) → sum_by f (range_with_len 0 (suc k)) ≡ sum_by f (range_with_len 0 k) + f k
-sum_to_more f k =
-    let next : suc k ≡ k + 1 = omega arith in
-    let at : 0 + k ≡ k = omega arith in
-    ap (λ (x : ℕ). sum_by f (range_with_len 0 x)) next ∙ sum_by-range_more f 0 k ∙ ap (λ (x : ℕ). sum_by f (range_with_len 0 k) + f x) at
-
-none_before : (f : ℕ → ℕ) (o k : ℕ) → ((j : ℕ) → j ≢ o → f j ≡ 0) → k ≤ o → sum_by f (range_with_len 0 k) ≡ 0
-none_before f o zero none le = refl
-none_before f o (suc k) none le =
-    let differ : k ≢ o = omega arith in
-    omega (arith, sum_to_more f k, none k differ, none_before f o k none (omega arith))
-
-only_one : (f : ℕ → ℕ) (o k : ℕ) → ((j : ℕ) → j ≢ o → f j ≡ 0) → o < k → sum_by f (range_with_len 0 k) ≡ f o
-only_one f o zero none lt = absurd (omega arith)
-only_one f o (suc k) none lt =
-    elim (cases_eq k o) [
-      | inl same ↦ let here : f k ≡ f o = ap f same in omega (arith, sum_to_more f k, here, none_before f o k none (omega arith))
-      | inr differ ↦ omega (arith, sum_to_more f k, none k differ, only_one f o k none (omega arith))
-    ]
-
--- and one of zeros
-all_zero : (f : ℕ → ℕ) → ((j : ℕ) → f j ≡ 0) → (xs : List ℕ) → sum_by f xs ≡ 0
-all_zero f none [] = refl
-all_zero f none (x ∷ xs) = omega (arith, sum_by-cons f x xs, none x, all_zero f none xs)
 
 other_guest : (o j : ℕ) → j ≢ o → cond {A = ℕ} (o == j) 1 0 ≡ 0
 other_guest o j differ = grind (arith, nat_tests)

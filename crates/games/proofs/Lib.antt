@@ -1,1 +1,3 @@
 pub mod Ga1Facts
+pub mod ListedLemmas
+pub mod TermLemmas

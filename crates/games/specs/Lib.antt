@@ -1,2 +1,3 @@
 -- Kept inside (laws, and how fields are seen):
 pub mod Ga1
+pub mod BySlot

@@ -3,6 +3,7 @@ ghost use Rattle.std.specs.Prelude.{◌≡◌, ◌≤◌, IfOk, IsTrue};
 ghost use Rattle.league.specs.declared.class.Class.TheVariants as class;
 ghost use Rattle.rule_core.specs.Ready.{IsReady};
 
+use crate::by_slot::games_by_slot;
 use league::{Class, ClassName, Constraint, Game};
 use rule_core::{Cells, Entries, Keys, Listed, Meetings, Rule, Steps, outside};
 use std::alloc::{AllocError, Global};
@@ -11,6 +12,8 @@ use std::alloc::{AllocError, Global};
 #[derive(Drop)]
 pub struct Ga1 {
     meetings: Meetings,
+    /// Whether they are more than the teams, so that a slot is sooner gone over by its home teams.
+    are_many: bool,
     min: u32,
     max: u32,
     slots: Listed,
@@ -43,10 +46,29 @@ impl Ga1 {
         };
         Ok(Ga1 {
             meetings: Meetings::of_set(alloc, n, meetings)?,
+            are_many: meetings.len() > n as usize,
             min: *min,
             max: *max,
             slots: Listed::of_slots(alloc, n, slots)?,
         })
+    }
+}
+
+impl Ga1 {
+    ghost use Rattle.league.specs.Meetings.{games_of};
+    ghost use Rattle.cells.specs.Table.{table_counts};
+
+    /// The games of the meetings in the slots: meeting by meeting, or slot by slot where there are many.
+    fn games(&self, cells: &Cells) -> u64
+        requires teams { cells.now.n ≡ self.now.meetings.n }
+        ensures { result ≡ games_of (table_counts cells.now) self.now.meetings.list self.now.slots }
+    {
+        let slots = self.slots.numbers();
+        if self.are_many {
+            games_by_slot(&self.meetings, cells, slots)
+        } else {
+            self.meetings.games(cells, slots)
+        }
     }
 }
 
@@ -98,7 +120,7 @@ impl Entries for Ga1 {
 impl<L> Rule<L> for Ga1 {
     fn term(&self, _key: usize, cells: &Cells, steps: &mut Steps<L>) -> u64 {
         steps.tick();
-        let games = self.meetings.games(cells, self.slots.numbers());
+        let games = self.games(cells);
         outside(self.min, self.max, games)
     }
 }

@@ -4,6 +4,7 @@
 //! vector, as `league` defines it.
 #![tactic(auto)]
 
+mod by_slot;
 mod ga1;
 
 pub use ga1::Ga1;

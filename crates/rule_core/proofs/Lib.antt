@@ -4,6 +4,7 @@ pub mod GameLemmas
 pub mod LeadLemmas
 pub mod MeetingLemmas
 pub mod MutualLemmas
+pub mod OneLemmas
 pub mod OpponentLemmas
 pub mod ReadyLemmas
 pub mod TouchedFacts
