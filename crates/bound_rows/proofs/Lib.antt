@@ -1,0 +1,2 @@
+-- Groups that are added one after another:
+pub mod DraftLemmas
