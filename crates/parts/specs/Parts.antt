@@ -1,6 +1,7 @@
 -- The parts of a league: some of its hard constraints alone. The constraints have the numbers 1, 2, .. in file order,
 -- soft ones too.
-use Rattle.std.specs.Prelude.{ℕ, zero, suc, ◌==◌, Bool, false, not, List, [], ◌∷◌, length, Option, Some, None, slice_get}
+use Rattle.std.specs.Prelude.{ℕ, zero, suc, ◌==◌, Bool, false, not, List, [], ◌∷◌, length, Option, Some, None}
+use Rattle.std.specs.Prelude.{slice_get}
 use Rattle.std.specs.List.{filter, find, flat_map, range_with_len}
 use Rattle.league.specs.Instance.{Instance}
 use Rattle.league.specs.declared.class.Constraint.{Constraint}

@@ -1,5 +1,5 @@
-//! The parts of a league: some of its hard constraints alone. Where constraints contradict each other, the part that they
-//! make has no schedule, and what shows it is checked on that part.
+//! The parts of a league: some of its hard constraints alone. Where constraints contradict each other, the part that
+//! they make has no schedule, and what shows it is checked on that part.
 //!
 //! A constraint's number is its place in the file, from 1, soft constraints counted.
 #![tactic(auto)]

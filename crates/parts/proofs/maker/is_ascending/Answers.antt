@@ -7,7 +7,8 @@ pub returns-then-members-place : goal.returns-then-members-place
 returns-then-members-place c = (
   λ yes. absurd (cc),
   λ ascends.
-      let rises : get_or c.args.members.now (c.loop-place.place - 1) 0 < get_or c.args.members.now c.loop-place.place 0 =
+      let rises : get_or c.args.members.now (c.loop-place.place - 1) 0
+      < get_or c.args.members.now c.loop-place.place 0 =
       less_than (get_or c.args.members.now (c.loop-place.place - 1) 0) (get_or c.args.members.now c.loop-place.place 0)
       (ascends (c.loop-place.place - 1) c.loop-place.place 0 (omega arith) (omega arith)) in
       absurd (omega arith),
