@@ -44,14 +44,34 @@ fn show_ring(rt: &(impl AllocGlobal + Print)) -> io::Result<()> {
         tell(rt, "a game", looked_up(&cells, played), Some((1, 1, 1)))?;
     }
     remove(&mut cells, RING[0]);
-    tell(rt, "the first, off", looked_up(&cells, RING[0]), Some((0, 0, 0)))?;
-    tell(rt, "the second", looked_up(&cells, RING[1]), Some((1, 1, 1)))?;
+    tell(
+        rt,
+        "the first, off",
+        looked_up(&cells, RING[0]),
+        Some((0, 0, 0)),
+    )?;
+    tell(
+        rt,
+        "the second",
+        looked_up(&cells, RING[1]),
+        Some((1, 1, 1)),
+    )?;
     tell(rt, "the place of team 0 tells", told(&cells, 0, 0), None)?;
     remove(&mut cells, RING[2]);
     remove(&mut cells, RING[1]);
     add(&mut cells, RING[1]);
-    tell(rt, "the place of team 1 tells", told(&cells, 1, 0), Some("home"))?;
-    tell(rt, "the place of team 2 tells", told(&cells, 2, 0), Some("away"))
+    tell(
+        rt,
+        "the place of team 1 tells",
+        told(&cells, 1, 0),
+        Some("home"),
+    )?;
+    tell(
+        rt,
+        "the place of team 2 tells",
+        told(&cells, 2, 0),
+        Some("away"),
+    )
 }
 
 /// One game ten thousand times, and then once less.

@@ -133,10 +133,10 @@ AreDone-next n m min i slot other first before after room same here so_far = rec
     | inr differ ↦ summed-kept n m min i (slot + 1) before after j (same j differ) (so_far.done j (omega arith))
   ];
   left = λ j le.
-    let differ : j ≢ other = omega arith in
-    let kept = same j differ in
-    let old = so_far.left j (omega arith) in
-    (kept.0 ∙ old.0, kept.1 ∙ old.1);
+      let differ : j ≢ other = omega arith in
+      let kept = same j differ in
+      let old = so_far.left j (omega arith) in
+      (kept.0 ∙ old.0, kept.1 ∙ old.1);
 }
 
 -- ---- by the team's place
