@@ -111,6 +111,7 @@ impl Opponents {
     }
 
     /// The games of the team of a key against the others, itself left out, in a slot.
+    #[inline(always)]
     fn games_at(&self, key: usize, cells: &Cells, slot: SlotId) -> u64
         requires key { key < length self.now.teams1 }
         requires teams1 { All (λ t. t < cells.now.n) self.now.teams1 }
@@ -126,6 +127,7 @@ impl Opponents {
 }
 
 /// The games of a team against some others, itself left out, in a slot: one look-up, or two for both sides.
+#[inline(always)]
 fn games_against(cells: &Cells, side: Side, team: TeamId, opponents: &Listed, slot: SlotId) -> u32
     requires team { team.0 < cells.now.n }
     requires opponents { All (λ j. j < cells.now.n) opponents.now }

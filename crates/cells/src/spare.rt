@@ -46,6 +46,8 @@ fn stands_at(spare: &Vec<Spare>, place: usize, order: u32) -> bool
 }
 
 /// How often a game stands in the list.
+#[cold]
+#[inline(never)]
 pub(crate) fn copies(spare: &Vec<Spare>, game: Game) -> u32
     requires spare { IsSpare spare.now.items }
     requires few { spare_counts spare.now.items game.home.0 game.away.0 game.slot.0 ≤ 10000 }
@@ -65,6 +67,8 @@ pub(crate) fn copies(spare: &Vec<Spare>, game: Game) -> u32
 }
 
 /// How often a team stands in the list at home to one of some others, in a slot.
+#[cold]
+#[inline(never)]
 pub(crate) fn copies_at_home(spare: &Vec<Spare>, team: TeamId, others: &[u16], slot: SlotId) -> u32
     requires spare { IsSpare spare.now.items }
     requires few { (j : ℕ) → spare_counts spare.now.items team.0 j slot.0 ≤ 10000 }
@@ -87,6 +91,8 @@ pub(crate) fn copies_at_home(spare: &Vec<Spare>, team: TeamId, others: &[u16], s
 }
 
 /// How often a team stands in the list away at one of some others, in a slot.
+#[cold]
+#[inline(never)]
 pub(crate) fn copies_away(spare: &Vec<Spare>, team: TeamId, others: &[u16], slot: SlotId) -> u32
     requires spare { IsSpare spare.now.items }
     requires few { (j : ℕ) → spare_counts spare.now.items j team.0 slot.0 ≤ 10000 }
