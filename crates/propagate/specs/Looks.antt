@@ -78,7 +78,8 @@ IsTurn path old new (Stopped conflict) = NamesConflict path.rows (values_of path
 
 -- of the rows that were given none waits any more for the entry at a place
 abbrev pub AreGivenSeen : SeenPath → Looked → Type 0
-AreGivenSeen path looked = (k : ℕ) → k < path.given → k < looked.rows → IsSeen (row_at path.rows k) path.entries (looked.entries + 1)
+AreGivenSeen path looked =
+    (k : ℕ) → k < path.given → k < looked.rows → IsSeen (row_at path.rows k) path.entries (looked.entries + 1)
 
 -- ---- a trail
 

@@ -43,7 +43,8 @@ pub record IsPlaceOf (entries : List Entry) (v place : ℕ) : Type 0 where
 -- for each variable that has a value the place of its entry
 pub record AreStanding (values : List Value) (entries : List Entry) (places : List ℕ) : Type 0 where
   pub count : length places ≡ length values
-  pub each : (v : ℕ) → 1 ≤ v → v ≤ length values → valued values v ≢ Free → IsPlaceOf entries v (slice_index_or places (v - 1) 0)
+  pub each : (v : ℕ) → 1 ≤ v → v ≤ length values → valued values v ≢ Free
+      → IsPlaceOf entries v (slice_index_or places (v - 1) 0)
 
 pub record IsPath (values : List Value) (entries : List Entry) (places : List ℕ) (capacity : ℕ) : Type 0 where
   pub kept : AreKept values entries capacity

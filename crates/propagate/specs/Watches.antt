@@ -1,5 +1,6 @@
 -- Clauses that are watched at two of their literals.
-use Rattle.std.specs.Prelude.{◌≡◌, ◌≢◌, ℕ, ◌+◌, ◌-◌, ◌*◌, ◌%◌, ◌^◌, ◌==◌, ◌<◌, ◌≤◌, ◌⊎◌, true, false, if◌then◌else◌, List, [], ◌∷◌, ◌++◌, length, take}
+use Rattle.std.specs.Prelude.{◌≡◌, ◌≢◌, ℕ, ◌+◌, ◌-◌, ◌*◌, ◌%◌, ◌^◌, ◌==◌, ◌<◌, ◌≤◌, ◌⊎◌, true, false, if◌then◌else◌}
+use Rattle.std.specs.Prelude.{List, [], ◌∷◌, ◌++◌, length, take}
 use Rattle.std.specs.Prelude.{slice_index_or, Contains}
 use Rattle.std.specs.List.{All}
 use Rattle.std.specs.Vec.{vec_capacity}
@@ -53,7 +54,8 @@ pub record IsPair (path : SeenPath) (row : Row) (pair : Pair) : Type 0 where
   pub first_opened : WasOpen pair.first path.entries
   pub second_opened : WasOpen pair.second path.entries
   pub first_open : value_of (values_of path.entries) pair.first ≢ False
-  pub second_met : value_of (values_of path.entries) pair.second ≡ False → value_of (values_of path.entries) pair.first ≡ True
+  pub second_met : value_of (values_of path.entries) pair.second
+      ≡ False → value_of (values_of path.entries) pair.first ≡ True
 
 -- ---- the lists of nodes
 
@@ -112,7 +114,8 @@ pub record IsHeld (row : Row) (entries : List Entry) : Type 0 where
 
 -- where the node's literal was false before, that of the other node is true now
 abbrev pub IsBacked : (ℕ → Value) → (ℕ → Value) → List Node → ℕ → Type 0
-IsBacked before now nodes i = value_of before (node_at nodes i).lit ≡ False → value_of now (node_at nodes (partner_of i)).lit ≡ True
+IsBacked before now nodes i =
+    value_of before (node_at nodes i).lit ≡ False → value_of now (node_at nodes (partner_of i)).lit ≡ True
 
 -- the nodes stand for clauses, and each clause below a bound has nodes or needs none
 pub record AreNodes (path : SeenPath) (nodes : List Node) (hung : ℕ) : Type 0 where
@@ -126,7 +129,8 @@ pub record AreNodes (path : SeenPath) (nodes : List Node) (hung : ℕ) : Type 0 
 -- each node is backed, by what was looked at and now, and before each decision
 pub record AreBacked (nodes : List Node) (entries : List Entry) (looked : ℕ) : Type 0 where
   pub now : (i : ℕ) → i < length nodes → IsBacked (values_of (take looked entries)) (values_of entries) nodes i
-  pub below : (i : ℕ) → i < length nodes → EachEntry (λ before e. is_decision e ≡ true → IsBacked (values_of before) (values_of before) nodes i) entries
+  pub below : (i : ℕ) → i < length nodes
+      → EachEntry (λ before e. is_decision e ≡ true → IsBacked (values_of before) (values_of before) nodes i) entries
 
 -- room for the nodes of the rows from the bound on, below 2^32 in all
 pub record HasRoomForNodes (watches : Watches) (rows : ℕ) : Type 0 where
@@ -163,4 +167,5 @@ pub record IsNext (path : SeenPath) (nodes : List Node) (i : ℕ) (l : Literal) 
 -- it is backed
 abbrev pub IsNextBacked : SeenPath → List Node → ℕ → Literal → Type 0
 IsNextBacked path nodes i l =
-    (value_of (values_of path.entries) (node_at nodes (partner_of i)).lit ≡ True) ⊎ (value_of (values_of path.entries) l ≢ False)
+    (value_of (values_of path.entries) (node_at nodes (partner_of i)).lit ≡ True)
+    ⊎ (value_of (values_of path.entries) l ≢ False)

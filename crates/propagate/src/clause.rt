@@ -32,7 +32,8 @@ pub(crate) fn next_open(path: &Path, place: usize, skip: u32) -> Option<Lit>
 fn is_open_beside(path: &Path, lit: Lit, skip: u32) -> bool
     requires { lit.var ≤ path.now.vars }
     ensures yes { result ≡ true → (lit.var ≢ skip) × (value_of (values_of path.now.entries) lit ≢ Value.False) }
-    ensures no { result ≡ false → (value_of (values_of path.now.entries) lit ≡ Value.False) ⊎ ((1 ≤ skip) × (lit.var ≡ skip)) }
+    ensures no { result ≡ false
+        → (value_of (values_of path.now.entries) lit ≡ Value.False) ⊎ ((1 ≤ skip) × (lit.var ≡ skip)) }
 {
     if lit.var() == skip {
         return false;
@@ -74,8 +75,8 @@ pub(crate) fn settle_last(path: &mut Path, place: usize, lit: Lit) -> bool
     }
 }
 
-/// Makes the literal of a clause true that it forces. It says whether the clause could be met, and changes nothing where
-/// it is in conflict.
+/// Makes the literal of a clause true that it forces. It says whether the clause could be met, and changes nothing
+/// where it is in conflict.
 pub(crate) fn look_over(path: &mut Path, place: usize) -> bool
     requires sound { AreSound path.old }
     requires there { path.old.given ≤ place }

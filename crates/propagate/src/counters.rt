@@ -138,7 +138,8 @@ impl<'a> Counters<'a> {
     pub(crate) fn set(&mut self, lit: Lit)
         requires known { lit.var ≤ length self.old.values }
         requires free { value_of (valued self.old.values) lit ≡ Value.Free }
-        ensures { self.new ≡ record self.old { values = slice_set self.old.values (lit.var - 1) (as_value lit.positive) } }
+        ensures { self.new
+            ≡ record self.old { values = slice_set self.old.values (lit.var - 1) (as_value lit.positive) } }
     {
         let mut at = self.table.heads[slot(lit.negate())];
         let _var = lit.var();

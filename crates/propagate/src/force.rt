@@ -58,10 +58,12 @@ fn force_all(path: &mut Path, place: usize, slack: u64)
 fn next_forced(path: &Path, place: usize, slack: u64, from: usize) -> Option<Forced>
     requires sound { AreSound path.now }
     requires there { place < length path.now.rows }
-    ensures some { IfSome result (λ f. IsForcedIn (values_of path.now.entries) (row_at path.now.rows place).terms slack from f) }
+    ensures some { IfSome result (λ f.
+        IsForcedIn (values_of path.now.entries) (row_at path.now.rows place).terms slack from f) }
     ensures few { IfSome result (λ f. f.place + 1 < 2 ^ 64) }
     ensures none { result ≡ None
-        → IsUnforced (values_of path.now.entries) (row_at path.now.rows place).terms slack from (length (row_at path.now.rows place).terms) }
+        → IsUnforced (values_of path.now.entries) (row_at path.now.rows place).terms slack from
+        (length (row_at path.now.rows place).terms) }
 {
     let terms = path.terms(place);
     let mut at = from;

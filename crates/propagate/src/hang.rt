@@ -45,7 +45,8 @@ fn hold(path: &Path, watches: &mut Watches, place: usize)
     requires few { place + 1 < 2 ^ 64 }
     requires next { watches.old.hung ≡ place }
     ensures { (watches.new ≡ watches.old)
-        ⊎ (IsHeld (row_at path.now.rows place) path.now.entries × (watches.new ≡ record watches.old { hung = place + 1 })) }
+        ⊎ (IsHeld (row_at path.now.rows place) path.now.entries
+        × (watches.new ≡ record watches.old { hung = place + 1 })) }
 {
     if is_held(path, place) {
         watches.hung = place + 1;

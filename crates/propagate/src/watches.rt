@@ -51,7 +51,7 @@ impl Watches {
         })
     }
 
-    /// Makes room for the nodes of the clauses that have none, of which there is to be one more than among so many rows.
+    /// Makes room for the nodes of the clauses that have none, where there is to be one more than among so many rows.
     ///
     /// # Errors
     /// Only where memory runs out, or there would be 2^32 nodes.

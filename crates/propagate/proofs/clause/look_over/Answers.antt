@@ -6,5 +6,7 @@ use Rattle.propagate.proofs.clause.look_over.Goals as goal
 
 pub returns-in-None-clause-conflict : goal.returns-in-None-clause-conflict
 returns-in-None-clause-conflict c = λ same.
-    IsInConflict-none (values_of c.args.path.now.entries) (row_at c.args.path.now.rows c.args.place) (c.requires.sound.clauses c.args.place c.requires.there c.requires.within)
-    (all_false_zero (values_of c.args.path.now.entries) (row_at c.args.path.now.rows c.args.place) (c.in-None.ensures.none refl))
+    IsInConflict-none (values_of c.args.path.now.entries) (row_at c.args.path.now.rows c.args.place)
+    (c.requires.sound.clauses c.args.place c.requires.there c.requires.within)
+    (all_false_zero (values_of c.args.path.now.entries) (row_at c.args.path.now.rows c.args.place)
+    (c.in-None.ensures.none refl))

@@ -7,4 +7,5 @@ use Rattle.propagate.proofs.clause.next_open.Given as goal
 
 abbrev pub invariant-loop-term : goal.invariant-loop-term
 invariant-loop-term l = (j : ℕ) (d : Term) → j < l.term-index
-    → (value_of (values_of l.path.entries) (get_or l.terms j d).lit ≡ False) ⊎ ((1 ≤ l.skip) × ((get_or l.terms j d).lit.var ≡ l.skip))
+    → (value_of (values_of l.path.entries) (get_or l.terms j d).lit ≡ False)
+    ⊎ ((1 ≤ l.skip) × ((get_or l.terms j d).lit.var ≡ l.skip))

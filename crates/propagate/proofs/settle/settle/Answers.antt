@@ -6,6 +6,8 @@ turns-init c = record { grown = IsGrownOver-none c.args.path.now c.requires.read
 
 pub turns-preserved : goal.turns-preserved
 turns-preserved c = record {
-  grown = IsGrownOver-trans c.args.path.now c.turns.path c.take_turn.new.path c.turns.invariant.grown c.take_turn.ensures.grown;
+  grown =
+      IsGrownOver-trans c.args.path.now c.turns.path c.take_turn.new.path c.turns.invariant.grown
+      c.take_turn.ensures.grown;
   trail = c.take_turn.ensures.trail;
 }

@@ -15,26 +15,36 @@ returns-in-Some-clause-trail c = record {
 }
 
 pub visit_rows-requires-clause-ready : goal.visit_rows-requires-clause-ready
-visit_rows-requires-clause-ready c = IsReady-grown c.args.path.now c.walk.new.path c.args.looked c.requires.trail.ready c.walk.ensures.grown
+visit_rows-requires-clause-ready c =
+    IsReady-grown c.args.path.now c.walk.new.path c.args.looked c.requires.trail.ready c.walk.ensures.grown
 
 pub visit_rows-requires-clause-falsified : goal.visit_rows-requires-clause-falsified
 visit_rows-requires-clause-falsified c =
-    falsified_grown c.args.path.now c.walk.new.path c.args.looked.entries c.negate-falsified.result c.requires.there c.walk.ensures.grown
-    (λ d. ap (λ (e : Entry). negate e.lit) (get_or_from_slice_get c.args.path.now.entries c.args.looked.entries c.entry.result d c.entry.ensures) ∙ sym c.negate-falsified.ensures)
+    falsified_grown c.args.path.now c.walk.new.path c.args.looked.entries c.negate-falsified.result c.requires.there
+    c.walk.ensures.grown
+    (λ d. ap (λ (e : Entry). negate e.lit)
+    (get_or_from_slice_get c.args.path.now.entries c.args.looked.entries c.entry.result d c.entry.ensures)
+    ∙ sym c.negate-falsified.ensures)
 
 pub returns-clause-grown : goal.returns-clause-grown
-returns-clause-grown c = IsGrownOver-trans c.args.path.now c.walk.new.path c.visit_rows.new.path c.walk.ensures.grown c.visit_rows.ensures.grown
+returns-clause-grown c =
+    IsGrownOver-trans c.args.path.now c.walk.new.path c.visit_rows.new.path c.walk.ensures.grown
+    c.visit_rows.ensures.grown
 
 pub returns-clause-trail : goal.returns-clause-trail
 returns-clause-trail c = record {
   ready = c.visit_rows.ensures.ready;
-  watching = IsWatching-grown c.walk.new.path c.visit_rows.new.path c.walk.new.watches [] c.args.looked.entries c.walk.ensures.watching (omega (arith, c.requires.there, c.walk.ensures.grown.grown.longer))
+  watching =
+      IsWatching-grown c.walk.new.path c.visit_rows.new.path c.walk.new.watches [] c.args.looked.entries
+      c.walk.ensures.watching (omega (arith, c.requires.there, c.walk.ensures.grown.grown.longer))
       c.visit_rows.ensures.grown;
 }
 
 pub returns-clause-visited : goal.returns-clause-visited
 returns-clause-visited c = λ none rows at_most hung.
     IsTrail-visited c.visit_rows.new.path c.walk.new.watches c.args.looked rows c.visit_rows.ensures.ready
-    (IsWatching-grown c.walk.new.path c.visit_rows.new.path c.walk.new.watches [] (c.args.looked.entries + 1) (c.in_default.ensures.visited refl)
+    (IsWatching-grown c.walk.new.path c.visit_rows.new.path c.walk.new.watches [] (c.args.looked.entries + 1)
+    (c.in_default.ensures.visited refl)
     (omega (arith, c.requires.there, c.walk.ensures.grown.grown.longer)) c.visit_rows.ensures.grown)
-    (omega (arith, c.requires.there, c.walk.ensures.grown.grown.longer, c.visit_rows.ensures.grown.grown.longer)) (c.visit_rows.ensures.visited none) at_most hung
+    (omega (arith, c.requires.there, c.walk.ensures.grown.grown.longer, c.visit_rows.ensures.grown.grown.longer))
+    (c.visit_rows.ensures.visited none) at_most hung

@@ -10,5 +10,6 @@ invariant_of-self c = c.settle.ensures.trail
 pub returns-clause-below : goal.returns-clause-below
 returns-clause-below c = λ below.
     subst (λ (p : SeenPath). IsQuietBelow p.rows c.settle.new.path.entries) (sym c.settle.ensures.grown.same)
-    (quiet_below-grown c.self.inside.path.rows c.self.inside.path.entries c.settle.new.path.entries c.settle.ensures.grown.grown
+    (quiet_below-grown c.self.inside.path.rows c.self.inside.path.entries c.settle.new.path.entries
+    c.settle.ensures.grown.grown
     (subst (λ (t : SeenTrail). IsQuietBelow t.rows t.entries) (sym c.self.view_is) below))
