@@ -39,7 +39,7 @@ one_slot n s slot =
 before : (a b : ℕ) → a < b → is_lt (nat_cmp a b) ≡ true
 before a b h = grind (arith, nat_tests)
 
-two_teams : (n i j : ℕ) → i < j → j < n → are_teams n (i ∷ j ∷ []) ≡ true
+pub two_teams : (n i j : ℕ) → i < j → j < n → are_teams n (i ∷ j ∷ []) ≡ true
 two_teams n i j order within =
     and_from (nat_lt i n && (nat_lt j n && true)) ((is_lt (nat_cmp i j) && true) && true)
     (and_from (nat_lt i n) (nat_lt j n && true) (lt-ltb i n (omega arith))

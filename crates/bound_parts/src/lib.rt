@@ -6,4 +6,5 @@ mod makers;
 mod parts;
 mod sets;
 
+pub use makers::se1_part;
 pub use parts::parts_of;

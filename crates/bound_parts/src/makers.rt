@@ -203,7 +203,10 @@ pub(crate) fn fa2_part(
 }
 
 /// SE1 of two teams, the earlier first.
-pub(crate) fn se1_part(
+///
+/// # Errors
+/// Only where memory runs out.
+pub fn se1_part(
     alloc: Global,
     first: u16,
     second: u16,

@@ -1,2 +1,9 @@
 -- Groups that are added one after another:
 pub mod DraftLemmas
+-- How many terms bound rows have:
+pub mod SizeLemmas
+pub mod CountLemmas
+-- Every group has room:
+pub mod RoomLemmas
+-- All bound rows:
+pub mod WrittenLemmas

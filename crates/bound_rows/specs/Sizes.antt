@@ -1,5 +1,5 @@
 -- How many terms bound rows have, part by part.
-use Rattle.std.specs.Prelude.{ℕ, ◌+◌, ◌-◌, ◌*◌, ◌^◌, min as smaller, List, length}
+use Rattle.std.specs.Prelude.{ℕ, ◌+◌, ◌-◌, ◌*◌, ◌^◌, min as smaller, List, [], length, slice_index_or}
 use Rattle.std.specs.List.{sum_by}
 use Rattle.league.specs.declared.class.Class.{Class}
 use Rattle.league.specs.declared.class.Constraint.{Constraint}
@@ -11,6 +11,10 @@ use Rattle.bound_base.specs.Parts.{parts_of}
 -- as many as a number of 64 bits says, which is more than any league's rows have
 abbrev pub capped : ℕ → ℕ
 capped terms = smaller terms (2 ^ 64 - 1)
+
+-- one of a group's rows with so many units, by its place
+abbrev pub row_size : ℕ → List Row → ℕ → ℕ
+row_size units rows k = length (slice_index_or rows k (record { terms = []; degree = 0 })).terms + units
 
 -- the rows of a group with so many units, the units in the objective row, and the rows that order them
 abbrev pub group_size : ℕ → List Row → ℕ

@@ -1,6 +1,6 @@
 //! The bound rows of a league: how many terms they have, and the rows themselves.
 #![tactic(auto)]
 
+mod count;
 mod draft;
-
-pub(crate) use draft::{Draft, add_paid};
+mod written;

@@ -1,0 +1,21 @@
+use Rattle.std.proofs.Common.{◌≡◌, ℕ, ap, ◌∙◌, arith}
+use Rattle.bound_rows.specs.Sizes.{paid_size}
+use Rattle.bound_rows.proofs.SizeLemmas.{bound_size-paid}
+use Rattle.bound_rows.proofs.count.bound_terms.Goals as goal
+
+pub returns : goal.returns
+returns c =
+    let league = c.args.league.now in
+    let same : paid_size c.in_ok-season.season c.constraints.result.now ≡ paid_size league.n league.constraints =
+    ap (λ (k : ℕ). paid_size k c.constraints.result.now) (c.in_ok-season.ensures ∙ c.n.ensures.n)
+    ∙ ap (paid_size league.n) c.constraints.ensures in
+    omega (
+      arith,
+      c.encoding_size.ensures,
+      c.more_terms.ensures,
+      c.saturating_add-base.ensures,
+      c.in_ok-paid.ensures,
+      c.saturating_add.ensures,
+      bound_size-paid league,
+      same,
+    )

@@ -1,0 +1,6 @@
+use Rattle.std.proofs.Common.{◌≡◌, take}
+use Rattle.bound_rows.specs.Sizes.{capped, paid_size}
+use Rattle.bound_rows.proofs.count.paid_terms.Given as goal
+
+abbrev pub invariant-loop-constraint : goal.invariant-loop-constraint
+invariant-loop-constraint l = l.total ≡ capped (paid_size l.season (take l.constraint-index l.constraints))

@@ -1,0 +1,10 @@
+use Rattle.std.proofs.Common.{◌≡◌, ◌+◌, [], ◌∷◌}
+use Rattle.std.specs.List.{range_with_len, sum_by}
+use Rattle.league.specs.declared.class.Class.TheVariants.{Se1}
+use Rattle.bound_rows.specs.Sizes.{capped, part_size}
+use Rattle.bound_rows.proofs.count.pair_terms.Given as goal
+
+abbrev pub invariant-loop-before : goal.invariant-loop-before
+invariant-loop-before l =
+    l.total ≡ capped
+    (sum_by (λ v. part_size l.season (Se1 (l.first ∷ l.second ∷ []) (v + 1))) (range_with_len 0 l.before))

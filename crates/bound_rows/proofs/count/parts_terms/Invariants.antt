@@ -1,0 +1,6 @@
+use Rattle.std.proofs.Common.{◌≡◌, take}
+use Rattle.bound_rows.specs.Sizes.{capped, parts_size}
+use Rattle.bound_rows.proofs.count.parts_terms.Given as goal
+
+abbrev pub invariant-loop-part : goal.invariant-loop-part
+invariant-loop-part l = l.total ≡ capped (parts_size l.season (take l.part-index l.parts))
