@@ -55,9 +55,7 @@ pub(crate) fn is_lowering<R: Rule<L>, L>(
         return false;
     }
     let before = Score::of(tally);
-    tally.apply(edit, steps);
-    let after = Score::of(tally);
-    tally.undo(edit, steps);
+    let after = Score::after(tally, edit, steps);
     after.is_lower(before)
 }
 

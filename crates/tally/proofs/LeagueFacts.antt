@@ -1,7 +1,6 @@
 -- Worked values, so that a wrong definition does not check: on the canonical double round robin of four teams, in which
 -- team 0 is at home in slots 2 and 3 and away in slot 0, and each two teams meet again after two slots.
 use Rattle.std.proofs.Common.{◌≡◌, ℕ, ◌≤◌, true, false, List, [], ◌∷◌, length, refl, arith}
-use Rattle.league.specs.Accepted.{objective}
 use Rattle.league.specs.Counts.{Counts}
 use Rattle.league.specs.Deviation.{entry_of, vector_of}
 use Rattle.league.specs.Instance.{Instance}

@@ -1,11 +1,11 @@
 -- Weighted rules of a league's constraints: what they give and cost is what the league says.
-use Rattle.std.proofs.Common.{◌≡◌, ◌↔◌, ℕ, ◌+◌, ◌*◌, ◌^◌, ◌<◌, ◌≤◌, max, Bool, true, false, not, if◌then◌else◌, List, [], ◌∷◌, length, map, get_or, refl, ap, sym, ◌∙◌, arith}
+use Rattle.std.proofs.Common.{◌≡◌, ◌↔◌, ℕ, ◌*◌, ◌<◌, ◌≤◌, max, Bool, true, false, not, if◌then◌else◌, List, [], ◌∷◌, length, map, get_or, refl, ap, ◌∙◌, arith}
 use Rattle.std.proofs.lemmas.List.Elements.{All-cons, All-nil}
 use Rattle.std.proofs.lemmas.List.Sums.{sum_by-cons}
 use Rattle.std.proofs.Math.Nat.{mul-le-mul}
 use Rattle.std.proofs.Math.Path.{fun_ext}
 use Rattle.std.specs.List.{All, AllZip, filter, sum, sum_by}
-use Rattle.league.specs.Accepted.{MeetsHard, hard_of, infeasibility, objective, soft_of}
+use Rattle.league.specs.Accepted.{MeetsHard, hard_of, infeasibility, objective}
 use Rattle.league.specs.Counts.{Counts}
 use Rattle.league.specs.Deviation.{deviation_of, vector_of}
 use Rattle.league.specs.Instance.{Instance}

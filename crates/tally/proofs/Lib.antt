@@ -1,5 +1,6 @@
 pub mod SetLemmas
 pub mod RenewalLemmas
+pub mod WeighingLemmas
 pub mod FrameLemmas
 pub mod ExchangeLemmas
 pub mod CostLemmas

@@ -4,4 +4,5 @@ pub mod League
 -- Kept inside (laws, and how fields are seen):
 pub mod KeySet
 pub mod Renewal
+pub mod Weighing
 pub mod Ready

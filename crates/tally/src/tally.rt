@@ -1,16 +1,17 @@
 //! Weighted rules with their deviation vectors and costs, kept exact while games come and go.
 ghost use Rattle.std.specs.Prelude.{◌≡◌, ℕ, ◌<◌, ◌≤◌, ◌+◌, ◌++◌, ◌^◌, length, map, slice_get, Some, IfOk, OnOk};
 ghost use Rattle.std.specs.List.{All, sum};
-ghost use Rattle.league.specs.Counts.{counts_of};
+ghost use Rattle.league.specs.Counts.{Counts, counts_of};
 ghost use Rattle.league.specs.Instance.{IsGame};
 ghost use Rattle.cells.specs.Table.{table_counts};
+ghost use Rattle.moves.specs.Round.{edited};
 ghost use Rattle.tally.specs.Tallies.{all_terms, all_touched, infeasibility_on, objective_on, vector_on};
 
 use crate::exchange::exchange_games;
 use crate::keep::{costs, greatest_reach, greatest_terms, keep_rules};
 use crate::kept::Kept;
 use crate::key_set::KeySet;
-use crate::weigh::{Sums, renew_rules};
+use crate::weigh::{Sums, renew_rules, weigh_rules};
 use crate::weighted::Weighted;
 use league::Game;
 use moves::Edit;
@@ -138,6 +139,64 @@ impl<R: Entries> Tally<R> {
             &mut self.sums,
             steps,
         );
+    }
+
+    /// What the rules would cost on the counts to which an edit leads, of which `out` has as many games as `into`. The
+    /// rules and the counts stay as they are, and no entry is written. Each key that one of the edit's games touches is
+    /// evaluated once, and no other. It takes no memory.
+    pub fn weigh<L>(&mut self, edit: &Edit, steps: &mut Steps<L>) -> Sums
+    where
+        R: Rule<L>,
+        requires out_fit { All (IsGame self.old.table.n) edit.now.out }
+        requires into_fit { All (IsGame self.old.table.n) edit.now.into }
+        requires there { (i j s : ℕ) → counts_of edit.now.out i j s ≤ table_counts self.old.table i j s }
+        ensures weights { self.new.weights ≡ self.old.weights }
+        ensures n { self.new.table.n ≡ self.old.table.n }
+        ensures counts { table_counts self.new.table ≡ table_counts self.old.table }
+        ensures total { sum self.new.table.list ≡ sum self.old.table.list }
+        ensures infeasibility { result.infeasibility
+            ≡ infeasibility_on R.Entries (edited (table_counts self.old.table) edit.now) self.old.weights }
+        ensures objective { result.objective
+            ≡ objective_on R.Entries (edited (table_counts self.old.table) edit.now) self.old.weights }
+        ensures steps { steps.new ≤ steps.old
+            + all_touched R.Entries self.old.weights (edit.now.out ++ edit.now.into) }
+    {
+        self.weigh_games(edit.out(), edit.into_games(), steps)
+    }
+
+    /// What the rules would cost with some games taken off the counts and as many others put on.
+    fn weigh_games<L>(&mut self, out: &[Game], into: &[Game], steps: &mut Steps<L>) -> Sums
+    where
+        R: Rule<L>,
+        requires out_fit { All (IsGame self.old.table.n) out.now }
+        requires into_fit { All (IsGame self.old.table.n) into.now }
+        requires there { (i j s : ℕ) → counts_of out.now i j s ≤ table_counts self.old.table i j s }
+        requires as_many { length into.now ≡ length out.now }
+        ensures weights { self.new.weights ≡ self.old.weights }
+        ensures n { self.new.table.n ≡ self.old.table.n }
+        ensures counts { table_counts self.new.table ≡ table_counts self.old.table }
+        ensures total { sum self.new.table.list ≡ sum self.old.table.list }
+        ensures infeasibility { (m : Counts) → ((i j s : ℕ) → m i j s + counts_of out.now i j s
+            ≡ table_counts self.old.table i j s + counts_of into.now i j s)
+            → result.infeasibility ≡ infeasibility_on R.Entries m self.old.weights }
+        ensures objective { (m : Counts) → ((i j s : ℕ) → m i j s + counts_of out.now i j s
+            ≡ table_counts self.old.table i j s + counts_of into.now i j s)
+            → result.objective ≡ objective_on R.Entries m self.old.weights }
+        ensures steps { steps.new ≤ steps.old + all_touched R.Entries self.old.weights (out.now ++ into.now) }
+    {
+        let _few = self.cells.games();
+        exchange_games(&mut self.cells, out, into);
+        let sums = weigh_rules(
+            &self.rules,
+            out,
+            into,
+            &self.cells,
+            &mut self.keys,
+            &mut self.done,
+            steps,
+        );
+        exchange_games(&mut self.cells, into, out);
+        sums
     }
 
     /// What the hard rules cost: penalty times deviation, summed.

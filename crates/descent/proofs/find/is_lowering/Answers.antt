@@ -1,16 +1,14 @@
-use Rattle.std.proofs.Common.{◌≡◌, ◌≤◌, List, true, ap, subst, sym, ◌∙◌}
+use Rattle.std.proofs.Common.{◌≡◌, ◌≤◌, true, ap, subst, sym, ◌∙◌}
 use Rattle.league.specs.Counts.{Counts, counts_of}
-use Rattle.cells.specs.Table.{table_counts}
 use Rattle.moves.specs.Moves.{moved}
-use Rattle.moves.specs.Round.{round_counts}
-use Rattle.tally.specs.declared.weighted.Weighted.{Weighted}
+use Rattle.moves.specs.Round.{edited, round_counts}
 use Rattle.descent.specs.Score.{score_on}
-use Rattle.descent.proofs.EditLemmas.{AreExchanged, edit-leads}
+use Rattle.descent.proofs.EditLemmas.{edited-is}
 use Rattle.descent.proofs.SettledLemmas.{lowering-read}
 use Rattle.descent.proofs.find.is_lowering.Goals as goal
 
-pub apply-requires-clause-there : goal.apply-requires-clause-there
-apply-requires-clause-there g c i j s =
+pub after-after-requires-clause-there : goal.after-after-requires-clause-there
+after-after-requires-clause-there g c i j s =
     let legal : c.edit_of.result ≡ true = c.if-not-edit_of.false in
     subst (λ (m : Counts). counts_of c.edit_of.new.edit.out i j s ≤ m i j s) (sym c.requires.counts)
     ((c.edit_of.ensures.edit legal).there i j s)
@@ -21,17 +19,13 @@ returns-clause-lowers g c =
     let m = round_counts c.args.board.now in
     let weights = c.args.tally.now.weights in
     let legal : c.edit_of.result ≡ true = c.if-not-edit_of.false in
-    let after : Counts = table_counts c.apply.new.self.table in
-    let leads : AreExchanged m after c.edit_of.new.edit.out c.edit_of.new.edit.into =
-    subst (λ (k : Counts). AreExchanged k after c.edit_of.new.edit.out c.edit_of.new.edit.into) c.requires.counts
-    c.apply.ensures.counts in
     lowering-read n c.args.board.now.phased (score_on g.R.Entries weights) m c.args.step c.is_lower.result
-    c.of-before.result c.of-after.result c.requires.league (c.edit_of.ensures.legal.0 legal)
+    c.of-before.result c.after-after.result c.requires.league (c.edit_of.ensures.legal.0 legal)
     (c.of-before.ensures ∙ ap (λ (k : Counts). score_on g.R.Entries weights k) c.requires.counts)
-    (c.of-after.ensures
-    ∙ ap (λ (w : List (Weighted g.row.R.Denot)). score_on g.R.Entries w after) c.apply.ensures.weights
+    (c.after-after.ensures.score
+    ∙ ap (λ (k : Counts). score_on g.R.Entries weights (edited k c.edit_of.new.edit)) c.requires.counts
     ∙ ap (λ (k : Counts). score_on g.R.Entries weights k)
-    (edit-leads m (moved n m c.args.step) after c.edit_of.new.edit (c.edit_of.ensures.edit legal) leads))
+    (edited-is m (moved n m c.args.step) c.edit_of.new.edit (c.edit_of.ensures.edit legal)))
     c.is_lower.ensures
 
 pub returns-clause-edit : goal.returns-clause-edit

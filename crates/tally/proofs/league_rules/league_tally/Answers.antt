@@ -1,9 +1,8 @@
-use Rattle.std.proofs.Common.{◌≡◌, ◌+◌, ◌≤◌, List, ap, subst, sym, ◌∙◌}
+use Rattle.std.proofs.Common.{List, subst, sym}
 use Rattle.std.proofs.lemmas.Result.{IfOk-weaker}
 use Rattle.deviation.specs.contracts.any_rule.AnyRuleEntries.TheImpl.{ghosts}
 use Rattle.deviation.specs.declared.any_rule.AnyRule.{AnyRule}
 use Rattle.tally.specs.League.{AreRulesOf}
-use Rattle.tally.specs.Tallies.{all_terms}
 use Rattle.tally.specs.declared.weighted.Weighted.{Weighted}
 use Rattle.tally.proofs.league_rules.league_tally.Goals as goal
 
