@@ -9,6 +9,8 @@ pub struct Budgets {
     pub moves: u64,
     /// How many tries are made: the first in any case.
     pub tries: u64,
+    /// How many clauses the search for patterns may learn, in the first try.
+    pub patterns: u64,
     /// The seed of the random order in which later tries search.
     pub seed: u64,
 }

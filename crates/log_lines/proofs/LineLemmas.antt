@@ -114,7 +114,7 @@ text_short version clause hints known small few_lits few_hints =
       few_hints,
     )
 
-step_short : (version : Version) (vars : ℕ) (step : Step) → vars ≤ 130960 → IsTidy vars step
+pub step_short : (version : Version) (vars : ℕ) (step : Step) → vars ≤ 130960 → IsTidy vars step
     → is_linear step ≡ false → All (λ hint. hint < 2 ^ 64) (hints_of step)
     → length (step_text version step) ≤ most_bytes
 step_short version vars (Clause clause hints) most tidy kind small =
@@ -122,7 +122,7 @@ step_short version vars (Clause clause hints) most tidy kind small =
     (omega (arith, clause_short vars clause tidy.variables tidy.known, most)) (omega (arith, tidy.few, most))
 step_short version vars (Linear parts divisor) most tidy kind small = cc
 
-step_named : (vars : ℕ) (step : Step) → IsTidy vars step → is_linear step ≡ false → NamesRows step
+pub step_named : (vars : ℕ) (step : Step) → IsTidy vars step → is_linear step ≡ false → NamesRows step
 step_named vars (Clause clause hints) tidy kind = tidy.named
 step_named vars (Linear parts divisor) tidy kind = cc
 

@@ -5,4 +5,5 @@
 mod numbers;
 mod text;
 
+pub use numbers::note_numbers;
 pub use text::tidy_text;

@@ -6,7 +6,7 @@ ghost use Rattle.refutation.specs.Steps.{hints_of};
 use refutation::{Log, StepKind};
 
 /// Reads each hint of a log: it is a number of 64 bits, so its text is short.
-pub(crate) fn note_numbers(log: &Log)
+pub fn note_numbers(log: &Log)
     ensures { All (λ step. All (λ hint. hint < 2 ^ 64) (hints_of step)) log.now }
 {
     for k in 0..log.len() {

@@ -1,10 +1,10 @@
 -- What the search's answers say of a league.
-use Rattle.std.proofs.Common.{◌≡◌, ℕ, ◌<◌, ◌≤◌, ◌^◌, Bool, true, false, not, List, [], ◌∷◌, ◌++◌, length, get_or, take, zero, suc}
-use Rattle.std.proofs.Common.{Option, Some, None, refl, arith, ap, sym, subst, ◌∙◌}
-use Rattle.std.specs.Prelude.{IsTrue}
+use Rattle.std.proofs.Common.{◌≡◌, ℕ, ◌<◌, ◌≤◌, ◌^◌, Bool, true, false, not, List, [], ◌∷◌, ◌++◌, get_or}
+use Rattle.std.proofs.Common.{zero, suc, Option, Some, refl, arith, ap, sym, subst, ◌∙◌}
+use Rattle.std.specs.Prelude.{IsTrue, slice_get}
 use Rattle.std.specs.List.{All}
 use Rattle.std.specs.List.Sorted.{IsPermutation}
-use Rattle.std.proofs.lemmas.List.Elements.{All-cons, All-nil, All-push}
+use Rattle.std.proofs.lemmas.List.Elements.{All-cons, All-head, All-nil, All-push, All-tail}
 use Rattle.league.specs.Accepted.{IsAccepted}
 use Rattle.league.specs.Counts.{Counts, counts_of}
 use Rattle.league.specs.Instance.{Instance, IsInstance}
@@ -13,18 +13,21 @@ use Rattle.rows.specs.Rows.{Row}
 use Rattle.rows.specs.Partials.{IsEmpowering}
 use Rattle.circle_method.specs.Circle.{double_games}
 use Rattle.encoding_base.specs.Encoding.{rows_of}
-use Rattle.encoding_base.specs.Variables.{var_count}
+use Rattle.encoding_base.specs.Variables.{var_count, x_count}
 use Rattle.refutation.specs.Steps.{Step, hints_of, is_linear}
 use Rattle.refutation.specs.Steps.Step.{Clause, Linear}
 use Rattle.refutation.specs.Texts.{version_of}
 use Rattle.season_check.proofs.SeasonLemmas.{accepted_logs_exclude}
 use Rattle.clause_search.specs.Answers.{IsSpentAt, Refutes}
 use Rattle.clause_search.specs.News.{AreNews, IsNews, IsTidy, row_of}
-use Rattle.solve.specs.Solutions.{IsSolution, IsSpentOn, IsWritable, RefutesLeague}
-use Rattle.solve.specs.declared.solved.Solved.{Solved}
-use Rattle.solve.specs.declared.solved.Solved.TheVariants.{Schedule, Refuted, Spent}
+use Rattle.log_lines.proofs.LineLemmas.{step_named, step_short}
+use Rattle.pattern_search.specs.Answers.{IsPatternAnswer}
+use Rattle.pattern_search.specs.PatternLogs.{RefutesPatterns}
+use Rattle.pattern_search.specs.PatternRows.{pattern_rows}
+use Rattle.pattern_search.specs.declared.found.PatternFound.{PatternFound}
+use Rattle.pattern_search.proofs.NewsLemmas.{pattern_news-clauses}
+use Rattle.solve.specs.Solutions.{IsSpentOn, IsWritable, RefutesLeague}
 use Rattle.solve.proofs.GameLemmas.{same_counts}
-use Rattle.solve.proofs.LineLemmas.{step_named, step_short}
 
 -- ---- steps that are news are no sums
 
@@ -79,17 +82,38 @@ spent league limit steps most is small = record {
       (none_linear (rows_of league) (var_count league) steps is.spent.news) small;
 }
 
+-- a log that refutes the pattern rows
+pub patterns_refuted : (league : Instance) (limit : Option ℕ) (steps : List Step) → var_count league ≤ 130960
+    → RefutesPatterns league limit steps → All (λ step. All (λ hint. hint < 2 ^ 64) (hints_of step)) steps
+    → RefutesLeague league steps
+patterns_refuted league limit steps most is small =
+    let clauses : All (λ step. is_linear step ≡ false) steps =
+    subst (λ (ss : List Step). All (λ step. is_linear step ≡ false) ss) (sym is.last)
+    (All-push (λ step. is_linear step ≡ false) is.before (Clause [] is.hints)
+    (pattern_news-clauses (x_count league.n) (var_count league) (rows_of league) (pattern_rows league) is.before
+    is.news) refl) in
+    record {
+      accepted = is.accepted;
+      none = is.none;
+      writable = writable (var_count league) steps most is.tidy clauses small;
+    }
+
+-- what was found of patterns, where the league and the variant are known
+pub found_here : (league other : Instance) (limit : Option ℕ) (found variant : PatternFound) → other ≡ league
+    → found ≡ variant → IsPatternAnswer other limit found → IsPatternAnswer league limit variant
+found_here league other limit found variant same is answer =
+    subst (λ (l : Instance). IsPatternAnswer l limit variant) same
+    (subst (λ (f : PatternFound). IsPatternAnswer other limit f) is answer)
+
+-- ---- an item of a list
+
+pub All-found : {X : Type 0} (P : X → Type 0) (xs : List X) (k : ℕ) (x : X) → All P xs → slice_get xs k ≡ Some x → P x
+All-found {X} P [] k x all is = cc
+All-found {X} P (y ∷ xs) zero x all is =
+    let same : y ≡ x = cc in subst (λ (z : X). P z) same (All-head P y xs all)
+All-found {X} P (y ∷ xs) (suc k) x all is = All-found P xs k x (All-tail P y xs all) is
+
 -- ---- schedules
-
-no_limit : (steps : List Step) → ◌≡◌ {A = Option ℕ} None (Some (length steps)) → ⊥
-no_limit steps is = cc
-
--- what is found without a limit
-pub any_limit : (league : Instance) (limit : Option ℕ) (moves : ℕ) (solved : Solved)
-    → IsSolution league None moves solved → IsSolution league limit moves solved
-any_limit league limit moves (Schedule games objective descent) is = is
-any_limit league limit moves (Refuted log) is = is
-any_limit league limit moves (Spent log) is = absurd (no_limit log is.limited)
 
 pub same_acceptance : (league : Instance) (games more : List Game) → IsPermutation games more
     → IsAccepted league (counts_of games) → IsAccepted league (counts_of more)
@@ -121,14 +145,3 @@ passed false is = cc
 pub few_variables : (league other : Instance) (vars : ℕ) → other ≡ league → vars ≡ var_count other → vars ≤ 130960
     → var_count league ≤ 130960
 few_variables league other vars same is most = omega (arith, is, ap (λ (l : Instance). var_count l) same, most)
-
--- ---- the whole of a list
-
-take_all : {X : Type 0} (k : ℕ) (xs : List X) → length xs ≤ k → take k xs ≡ xs
-take_all {X} zero [] whole = refl
-take_all {X} zero (x ∷ xs) whole = absurd (omega (arith, whole))
-take_all {X} (suc k) [] whole = refl
-take_all {X} (suc k) (x ∷ xs) whole = ap (λ (ys : List X). x ∷ ys) (take_all k xs (omega (arith, whole)))
-
-pub all_taken : {X : Type 0} (P : X → Type 0) (xs : List X) (k : ℕ) → length xs ≤ k → All P (take k xs) → All P xs
-all_taken {X} P xs k whole taken = subst (λ (ys : List X). All P ys) (take_all k xs whole) taken

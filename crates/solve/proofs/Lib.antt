@@ -1,7 +1,5 @@
 -- Games that are decoded from accepted values, and games that change places:
 pub mod GameLemmas
--- How long the lines of a log are:
-pub mod LineLemmas
 -- How many games a double round robin has:
 pub mod FewLemmas
 -- What a descent makes of an accepted schedule:

@@ -22,7 +22,8 @@ use Rattle.moves.specs.Moves.{moved}
 use Rattle.moves.specs.Neighbours.{home_swap}
 use Rattle.descent.specs.Descended.{Descended}
 use Rattle.descent.specs.Settled.{IsSettled}
-use Rattle.solve.specs.Solutions.{IsSchedule, IsSpentOn, IsWritable, league_score}
+use Rattle.pattern_search.specs.declared.found.PatternFound.TheVariants.{Patterns, Refuted, Spent}
+use Rattle.solve.specs.Solutions.{IsSchedule, IsSpentOn, IsWritable, LeavesOpen, league_score}
 
 abbrev two : Instance
 two = record { n = 2; phased = true; constraints = [] }
@@ -150,3 +151,20 @@ nothing_spent steps is = cc
 
 pub never_spent : (league : Instance) (steps : List Step) → IsSpentOn league None steps → ⊥
 never_spent league steps is = nothing_spent steps is.limited
+
+-- ---- what is known of patterns: no set with a team too few, no log without the budget's steps, and no refutation
+
+different : (n : ℕ) → n ≡ 0 → n ≡ 2 → ⊥
+different n none two = omega (arith, none, two)
+
+no_step : (most : ℕ) → 0 < most → ◌≡◌ {A = Option ℕ} (Some most) (Some 0) → ⊥
+no_step most some is = let same : most ≡ 0 = cc in omega (arith, same, some)
+
+pub no_patterns : (most : ℕ) → LeavesOpen two most (Patterns []) → ⊥
+no_patterns most is = different 0 refl is.teams
+
+pub stops_short : (most : ℕ) → 0 < most → LeavesOpen two most (Spent []) → ⊥
+stops_short most some is = no_step most some is.limited
+
+pub no_refutation : (league : Instance) (most : ℕ) (log : List Step) → LeavesOpen league most (Refuted log) → ⊥
+no_refutation league most log is = is

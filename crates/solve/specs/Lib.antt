@@ -4,5 +4,7 @@
 pub mod Solutions
 -- Kept inside (laws, and how fields are seen):
 --
+-- What one try says of it:
+pub mod Tried
 -- Which fault stands for one of the encoding's:
 pub mod Faults

@@ -1,6 +1,8 @@
--- What is found of a league: a schedule, a log that refutes its rows, or one that is spent.
+-- What is found of a league: a schedule, a log that refutes its rows, or one that is spent, with what is known of the
+-- league's patterns.
 use Rattle.std.specs.Prelude.{◌≡◌, ◌↔◌, ℕ, ◌<◌, ◌≤◌, ◌^◌, false, List, length, Option, Some, IsTrue}
 use Rattle.std.specs.List.{All}
+use Rattle.budgets.specs.declared.budgets.Budgets.{Budgets}
 use Rattle.league.specs.Accepted.{IsAccepted}
 use Rattle.league.specs.Accepted as costs
 use Rattle.league.specs.Counts.{Counts, counts_of}
@@ -19,6 +21,10 @@ use Rattle.descent.specs.Descended.{Descended}
 use Rattle.descent.specs.Settled.{IsSettled}
 use Rattle.descent.specs.Trail.{IsTrail}
 use Rattle.descent.specs.declared.score.Score.{Score}
+use Rattle.pattern_search.specs.PatternLogs.{IsPatternSpent}
+use Rattle.pattern_search.specs.PatternSets.{IsPatternSet}
+use Rattle.pattern_search.specs.declared.found.PatternFound.{PatternFound}
+use Rattle.pattern_search.specs.declared.found.PatternFound.TheVariants as found
 use Rattle.season_check.specs.Excluded.{NoneAccepted}
 use Rattle.solve.specs.declared.solved.Solved.{Solved}
 use Rattle.solve.specs.declared.solved.Solved.TheVariants.{Schedule, Refuted, Spent}
@@ -67,21 +73,29 @@ pub record IsSpentOn (league : Instance) (limit : Option ℕ) (steps : List Step
   pub few : length steps < 3 ^ var_count league
   pub writable : IsWritable steps
 
--- what each answer says of the league, where the search of a try learns at most so many clauses and its descent makes at
--- most so many moves
-abbrev pub IsSolution : Instance → Option ℕ → ℕ → Solved → Type 0
-IsSolution league limit moves (Schedule games objective descent) = IsSchedule league moves games objective descent
-IsSolution league limit moves (Refuted log) = RefutesLeague league log
-IsSolution league limit moves (Spent log) = IsSpentOn league limit log
+-- What is known of the patterns of a league where it is neither solved nor refuted: patterns that satisfy its pattern
+-- rows, or a log that is spent over these rows at the budget. A log that refutes them would refute the league.
+abbrev pub LeavesOpen : Instance → ℕ → PatternFound → Type 0
+LeavesOpen league most (found.Patterns patterns) = IsPatternSet league patterns
+LeavesOpen league most (found.Refuted log) = ⊥
+LeavesOpen league most (found.Spent log) = IsPatternSpent league (Some most) log
+
+-- what each answer says of the league, where the search of a try learns at most so many clauses, its descent makes at
+-- most so many moves, and the search for patterns learns at most so many clauses
+abbrev pub IsSolution : Instance → Budgets → Solved → Type 0
+IsSolution league budgets (Schedule games objective descent) = IsSchedule league budgets.moves games objective descent
+IsSolution league budgets (Refuted log) = RefutesLeague league log
+IsSolution league budgets (Spent log patterns) =
+    IsSpentOn league budgets.conflicts log × LeavesOpen league budgets.patterns patterns
 
 -- the answer is a schedule
 abbrev pub HasSchedule : Solved → Type 0
 HasSchedule (Schedule games objective descent) = Unit {0}
 HasSchedule (Refuted log) = ⊥
-HasSchedule (Spent log) = ⊥
+HasSchedule (Spent log patterns) = ⊥
 
 -- the answer is a log that refutes
 abbrev pub IsRefuted : Solved → Type 0
 IsRefuted (Schedule games objective descent) = ⊥
 IsRefuted (Refuted log) = Unit {0}
-IsRefuted (Spent log) = ⊥
+IsRefuted (Spent log patterns) = ⊥

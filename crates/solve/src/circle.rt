@@ -3,10 +3,9 @@ ghost use Rattle.std.specs.Prelude.{◌≡◌, None, Some, Ok, IfOk, IfSome};
 ghost use Rattle.league.specs.Accepted.{IsAccepted};
 ghost use Rattle.league.specs.Counts.{counts_of};
 ghost use Rattle.circle_method.specs.Circle.{double_games};
-ghost use Rattle.solve.specs.Solutions.{HasSchedule, IsSolution};
+ghost use Rattle.solve.specs.Tried.{IsSeason};
 
-use crate::lower::lowered;
-use crate::solved::Solved;
+use crate::lower::{Season, lowered};
 use circle_method::double;
 use deviation::assess;
 use league::League;
@@ -20,9 +19,8 @@ pub(crate) fn try_circle(
     alloc: Global,
     league: &League,
     moves: u64,
-) -> Result<Option<Solved>, AllocError>
-    ensures solution { IfOk result (λ tried. IfSome tried (IsSolution league.now None moves)) }
-    ensures schedule { IfOk result (λ tried. IfSome tried HasSchedule) }
+) -> Result<Option<Season>, AllocError>
+    ensures schedule { IfOk result (λ tried. IfSome tried (IsSeason league.now moves)) }
     ensures refused { result ≡ Ok None → IsAccepted league.now (counts_of (double_games league.now.n)) → ⊥ }
 {
     let mut schedule = double(alloc, league.n())?;
@@ -31,6 +29,6 @@ pub(crate) fn try_circle(
     if !assessment.feasible {
         return Ok(None);
     }
-    let solved = lowered(alloc, league, &schedule, moves)?;
-    Ok(Some(solved))
+    let lowered = lowered(alloc, league, &schedule, moves)?;
+    Ok(Some(lowered))
 }

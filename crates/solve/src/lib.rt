@@ -3,10 +3,10 @@
 //! `specs/Solutions.antt` says what each answer promises.
 #![tactic(auto)]
 
+mod attempt;
 mod circle;
 mod counting;
 mod fault;
-mod lines;
 mod lower;
 mod prefer;
 mod solved;

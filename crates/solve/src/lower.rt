@@ -1,17 +1,24 @@
 //! From a schedule that is accepted down to a better one.
-ghost use Rattle.std.specs.Prelude.{◌≤◌, length, None, IfOk};
+ghost use Rattle.std.specs.Prelude.{◌≤◌, length, IfOk};
 ghost use Rattle.std.specs.List.{All};
 ghost use Rattle.league.specs.Accepted.{IsAccepted};
 ghost use Rattle.league.specs.Counts.{counts_of};
 ghost use Rattle.league.specs.Instance.{IsGame};
-ghost use Rattle.solve.specs.Solutions.{HasSchedule, IsSolution};
+ghost use Rattle.solve.specs.Tried.{IsSeason};
 
-use crate::solved::Solved;
-use descent::{descend, season_of};
+use descent::{Descent, descend, season_of};
 use league::{League, Schedule};
 use rule_core::{Plain, Steps};
 use std::alloc::{AllocError, Global};
 use tally::league_tally;
+
+/// A schedule that is accepted, in order, with its objective, and the descent that led to it.
+#[derive(Drop)]
+pub(crate) struct Season {
+    pub(crate) schedule: Schedule,
+    pub(crate) objective: u128,
+    pub(crate) descent: Descent,
+}
 
 /// The schedule to which a descent of at most so many moves leads from an accepted one.
 ///
@@ -22,19 +29,18 @@ pub(crate) fn lowered(
     league: &League,
     start: &Schedule,
     moves: u64,
-) -> Result<Solved, AllocError>
+) -> Result<Season, AllocError>
     requires accepted { IsAccepted league.now (counts_of start.now) }
     requires fit { All (IsGame league.now.n) start.now }
     requires few { length start.now ≤ 10000 }
-    ensures solution { IfOk result (IsSolution league.now None moves) }
-    ensures schedule { IfOk result HasSchedule }
+    ensures { IfOk result (IsSeason league.now moves) }
 {
     let mut steps = Steps::<Plain>::start();
     let mut tally = league_tally(alloc, league, 1, start.games(), &mut steps)?;
     let phased = league.phased();
     let descent = descend(alloc, phased, &mut tally, moves, &mut steps)?;
     let schedule = season_of(alloc, phased, tally.cells())?;
-    Ok(Solved::Schedule {
+    Ok(Season {
         schedule,
         objective: tally.objective(),
         descent,

@@ -1,12 +1,15 @@
 //! What the search decides first.
-ghost use Rattle.std.specs.Prelude.{◌≡◌, ◌≤◌, length, IfOk};
+ghost use Rattle.std.specs.Prelude.{◌≡◌, ◌<◌, ◌≤◌, length, IfOk, OnOk};
 ghost use Rattle.std.specs.List.{All};
 ghost use Rattle.std.specs.List.Sorted.{IsPermutation};
+ghost use Rattle.league.specs.Counts.{slot_count};
 ghost use Rattle.encoding_base.specs.Variables.{var_count};
 
 use circle_method::double;
 use decoding::shadow;
 use encoding::Encoding;
+use league::{Side, SlotId, TeamId};
+use patterns::{Pattern, PatternSet};
 use rand::seq::SliceRandom;
 use rand_core::SeedableRng;
 use rand_core::utils::NextWord;
@@ -43,6 +46,51 @@ fn true_literals(alloc: Global, values: &Assignment, vars: u32) -> Result<Vec<Li
         }
     }
     Ok(lits)
+}
+
+/// The literals that say what patterns say: the variable of each team and slot, which is true where the team plays at
+/// home there.
+///
+/// # Errors
+/// Only where memory runs out.
+pub(crate) fn venues(
+    alloc: Global,
+    encoding: &Encoding,
+    patterns: &PatternSet,
+) -> Result<Vec<Lit>, AllocError>
+    requires teams { length patterns.now ≡ encoding.now.n }
+    requires slots { All (λ pattern. length pattern ≡ slot_count encoding.now.n) patterns.now }
+    ensures { IfOk result (λ lits. All (λ l. l.var ≤ var_count encoding.now) lits.items) }
+{
+    let mut lits = Vec::new(alloc);
+    for team in 0..encoding.n() {
+        let team = TeamId(team);
+        add_venues(encoding, team, patterns.pattern(team), &mut lits)?;
+    }
+    Ok(lits)
+}
+
+/// Adds those of a team.
+///
+/// # Errors
+/// Only where memory runs out.
+fn add_venues(
+    encoding: &Encoding,
+    team: TeamId,
+    pattern: &Pattern,
+    lits: &mut Vec<Lit>,
+) -> Result<(), AllocError>
+    requires team { team.0 < encoding.now.n }
+    requires slots { length pattern.now ≡ slot_count encoding.now.n }
+    requires before { All (λ l. l.var ≤ var_count encoding.now) lits.old.items }
+    ensures { OnOk result (All (λ l. l.var ≤ var_count encoding.now) lits.new.items) }
+{
+    let _vars = encoding.vars();
+    for slot in 0..encoding.slots() {
+        let home = pattern.side(slot as usize) == Side::H;
+        lits.push(Lit::new(encoding.h(team, SlotId(slot)), home))?;
+    }
+    Ok(())
 }
 
 /// All variables in a random order, each with a random sign, by the generator of a seed.

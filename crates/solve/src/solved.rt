@@ -1,6 +1,7 @@
 //! What a league is solved by.
 use descent::Descent;
 use league::Schedule;
+use pattern_search::PatternFound;
 use refutation::Log;
 
 /// What is found of a league. `specs/Solutions.antt` says what each answer promises.
@@ -14,6 +15,10 @@ pub enum Solved {
     },
     /// A log that is accepted over the league's rows, so that the league accepts no schedule.
     Refuted(Log),
-    /// A log of as many steps as the limit allows, each of which says more than propagation finds.
-    Spent(Log),
+    /// A log of as many steps as the limit allows, each of which says more than propagation finds; and patterns that
+    /// the league's pattern rows allow, or a log that is spent over these.
+    Spent {
+        log: Log,
+        patterns: PatternFound,
+    },
 }

@@ -1,41 +1,42 @@
 //! The solver.
-ghost use Rattle.std.specs.Prelude.{◌≡◌, ℕ, ◌<◌, ◌≤◌, length, true, None, IfOk, IsOk, Err};
-ghost use Rattle.std.specs.List.{All};
+ghost use Rattle.std.specs.Prelude.{◌≡◌, ℕ, ◌<◌, ◌≤◌, true, Some, IfOk, IsOk, Err};
 ghost use Rattle.league.specs.Accepted.{IsAccepted};
 ghost use Rattle.league.specs.Counts.{counts_of};
 ghost use Rattle.circle_method.specs.Circle.{double_games};
-ghost use Rattle.rows.specs.Rows.{SatisfiesAll};
-ghost use Rattle.rows.specs.Values.{assigned};
-ghost use Rattle.encoding_base.specs.Encoding.{encoding_size, rows_of};
-ghost use Rattle.encoding_base.specs.Variables.{var_count};
-ghost use Rattle.clause_search.specs.Answers.{IsAnswer};
+ghost use Rattle.encoding_base.specs.Encoding.{encoding_size};
+ghost use Rattle.pattern_search.specs.PatternLogs.{IsPatternSpent};
+ghost use Rattle.pattern_search.specs.PatternSets.{IsPatternSet};
 ghost use Rattle.solve.specs.Solutions.{HasSchedule, IsRefuted, IsSolution};
+ghost use Rattle.solve.specs.Tried.{IsTried};
 ghost use Rattle.venue_counts.specs.VenueCounts.{are_crowded, are_short};
 
+use crate::attempt::try_search;
 use crate::circle::try_circle;
 use crate::counting::count_out;
 use crate::fault::SolveFault;
-use crate::lines::note_numbers;
-use crate::lower::lowered;
-use crate::prefer::{preferred, shuffled};
+use crate::prefer::{preferred, shuffled, venues};
 use crate::solved::Solved;
-use crate::tries::better;
+use crate::tries::{Tried, better, schedule_found, solved_by};
 use budgets::Budgets;
-use clause_search::{Found, search};
-use decoding::decode;
 use encoding::{Encoding, encode};
 use league::League;
-use rows::{Assignment, Lit};
+use log_lines::note_numbers;
+use pattern_search::{PatternFound, pattern_set};
+use patterns::PatternSet;
+use refutation::Log;
 use std::alloc::{AllocError, Global};
 
 /// Finds a schedule that the league accepts, or a proof that there is none.
 ///
-/// Where the venue counts of the league refute it, that is the answer. The first try starts from the schedule of the circle method where the league accepts it, and else from one that a
-/// search finds; each later try from one that a search with another random order finds. With a limit of conflicts the
-/// search of a try learns at most so many clauses, and then its log is the answer; without one it goes on to the end. From
-/// a schedule that is accepted a descent goes on by moves to better ones, at most so many moves a try. The schedule of the
-/// least objective is the answer, of equal ones the earliest; a refutation is the answer at once. What a search finds
-/// first is not promised, and an objective is the schedule's own, not the least of all.
+/// Where the venue counts of the league refute it, that is the answer. The first try starts from the schedule of the
+/// circle method where the league accepts it. Where it doesn't, a search for patterns comes first, which learns at most
+/// as many clauses as the budget of patterns says: a log that refutes the pattern rows is the answer, and patterns that
+/// it finds are what the search over all rows decides first. Each later try searches in another random order. With a
+/// limit of conflicts the search of a try learns at most so many clauses, and then its log is the answer, with what is
+/// known of the patterns; without one it goes on to the end. From a schedule that is accepted a descent goes on by
+/// moves to better ones, at most so many moves a try. The schedule of the least objective is the answer, of equal ones
+/// the earliest; a refutation is the answer at once. What a search finds first is not promised, and an objective is the
+/// schedule's own, not the least of all.
 ///
 /// # Errors
 /// `TooLarge` exactly where the league's rows have more than 40,000,000 terms, with their number, before anything
@@ -45,7 +46,7 @@ pub fn solve(alloc: Global, league: &League, budgets: Budgets) -> Result<Solved,
     ensures too_large { 40000000 < encoding_size league.now
         → result ≡ Err (SolveFault.TooLarge (encoding_size league.now)) }
     ensures only { (terms : ℕ) → result ≡ Err (SolveFault.TooLarge terms) → 40000000 < encoding_size league.now }
-    ensures solution { IfOk result (IsSolution league.now budgets.conflicts budgets.moves) }
+    ensures solution { IfOk result (IsSolution league.now budgets) }
 
     // Where the league accepts the schedule of the circle method, the answer is a schedule.
     ensures circle { IsAccepted league.now (counts_of (double_games league.now.n)) → IfOk result HasSchedule }
@@ -73,7 +74,7 @@ fn best_try(
     budgets: Budgets,
 ) -> Result<Solved, AllocError>
     requires league { encoding.now ≡ league.now }
-    ensures solution { IfOk result (IsSolution league.now budgets.conflicts budgets.moves) }
+    ensures solution { IfOk result (IsSolution league.now budgets) }
     ensures circle { IsAccepted league.now (counts_of (double_games league.now.n)) → IfOk result HasSchedule }
 {
     let mut best = first_try(alloc, league, encoding, budgets)?;
@@ -98,14 +99,78 @@ fn first_try(
     budgets: Budgets,
 ) -> Result<Solved, AllocError>
     requires league { encoding.now ≡ league.now }
-    ensures solution { IfOk result (IsSolution league.now budgets.conflicts budgets.moves) }
+    ensures solution { IfOk result (IsSolution league.now budgets) }
     ensures circle { IsAccepted league.now (counts_of (double_games league.now.n)) → IfOk result HasSchedule }
 {
-    if let Some(solved) = try_circle(alloc, league, budgets.moves)? {
-        return Ok(solved);
+    if let Some(season) = try_circle(alloc, league, budgets.moves)? {
+        return Ok(schedule_found(season));
     }
+    try_patterns(alloc, league, encoding, budgets)
+}
+
+/// The first try where the schedule of the circle method isn't accepted: patterns are searched first.
+///
+/// # Errors
+/// Only where memory runs out.
+fn try_patterns(
+    alloc: Global,
+    league: &League,
+    encoding: &Encoding,
+    budgets: Budgets,
+) -> Result<Solved, AllocError>
+    requires league { encoding.now ≡ league.now }
+    ensures { IfOk result (IsSolution league.now budgets) }
+{
+    let _vars = encoding.vars();
+    let found = pattern_set(alloc, encoding, Some(budgets.patterns))?;
+    match found {
+        PatternFound::Patterns(patterns) => { try_with(alloc, league, encoding, patterns, budgets) }
+        PatternFound::Refuted(log) => {
+            note_numbers(&log);
+            Ok(Solved::Refuted(log))
+        }
+        PatternFound::Spent(log) => try_without(alloc, league, encoding, log, budgets),
+    }
+}
+
+/// The first try where patterns were found: they guide the search.
+///
+/// # Errors
+/// Only where memory runs out.
+fn try_with(
+    alloc: Global,
+    league: &League,
+    encoding: &Encoding,
+    patterns: PatternSet,
+    budgets: Budgets,
+) -> Result<Solved, AllocError>
+    requires league { encoding.now ≡ league.now }
+    requires set { IsPatternSet league.now patterns }
+    ensures { IfOk result (IsSolution league.now budgets) }
+{
+    let prefer = venues(alloc, encoding, &patterns)?;
+    let tried = try_search(alloc, league, encoding, &prefer, budgets)?;
+    Ok(solved_by(tried, PatternFound::Patterns(patterns)))
+}
+
+/// The first try where the search for patterns is spent, at this log: they don't guide the search.
+///
+/// # Errors
+/// Only where memory runs out.
+fn try_without(
+    alloc: Global,
+    league: &League,
+    encoding: &Encoding,
+    log: Log,
+    budgets: Budgets,
+) -> Result<Solved, AllocError>
+    requires league { encoding.now ≡ league.now }
+    requires spent { IsPatternSpent league.now (Some budgets.patterns) log }
+    ensures { IfOk result (IsSolution league.now budgets) }
+{
     let prefer = preferred(alloc, encoding)?;
-    try_search(alloc, league, encoding, &prefer, budgets)
+    let tried = try_search(alloc, league, encoding, &prefer, budgets)?;
+    Ok(solved_by(tried, PatternFound::Spent(log)))
 }
 
 /// A later try, the kth after the first.
@@ -118,85 +183,10 @@ fn later_try(
     encoding: &Encoding,
     budgets: Budgets,
     k: u64,
-) -> Result<Solved, AllocError>
+) -> Result<Tried, AllocError>
     requires league { encoding.now ≡ league.now }
-    ensures { IfOk result (IsSolution league.now budgets.conflicts budgets.moves) }
+    ensures { IfOk result (IsTried league.now budgets) }
 {
     let prefer = shuffled(alloc, encoding, budgets.seed.wrapping_add(k))?;
     try_search(alloc, league, encoding, &prefer, budgets)
-}
-
-/// What a search finds that decides these literals first, and where that is a schedule, what a descent makes of it.
-///
-/// # Errors
-/// Only where memory runs out.
-fn try_search(
-    alloc: Global,
-    league: &League,
-    encoding: &Encoding,
-    prefer: &[Lit],
-    budgets: Budgets,
-) -> Result<Solved, AllocError>
-    requires league { encoding.now ≡ league.now }
-    requires known { All (λ l. l.var ≤ var_count encoding.now) prefer.now }
-    ensures { IfOk result (IsSolution league.now budgets.conflicts budgets.moves) }
-{
-    let found = search(
-        alloc,
-        encoding.rows(),
-        encoding.vars(),
-        prefer,
-        budgets.conflicts,
-    )?;
-    answer(alloc, league, encoding, found, budgets)
-}
-
-/// What the search found, said of the league.
-///
-/// # Errors
-/// Only where memory runs out.
-fn answer(
-    alloc: Global,
-    league: &League,
-    encoding: &Encoding,
-    found: Found,
-    budgets: Budgets,
-) -> Result<Solved, AllocError>
-    requires league { encoding.now ≡ league.now }
-    requires found { IsAnswer (rows_of league.now) (var_count league.now) budgets.conflicts found }
-    ensures { IfOk result (IsSolution league.now budgets.conflicts budgets.moves) }
-{
-    let _vars = encoding.vars();
-    match found {
-        Found::Sat(values) => accepted(alloc, league, encoding, &values, budgets.moves),
-        Found::Refuted(log) => {
-            note_numbers(&log);
-            Ok(Solved::Refuted(log))
-        }
-        Found::Spent(log) => {
-            note_numbers(&log);
-            Ok(Solved::Spent(log))
-        }
-    }
-}
-
-/// What a descent makes of the schedule that values stand for which satisfy every row.
-///
-/// # Errors
-/// Only where memory runs out.
-fn accepted(
-    alloc: Global,
-    league: &League,
-    encoding: &Encoding,
-    values: &Assignment,
-    moves: u64,
-) -> Result<Solved, AllocError>
-    requires league { encoding.now ≡ league.now }
-    requires count { length values.now ≡ var_count league.now }
-    requires satisfied { SatisfiesAll (assigned values.now) (rows_of league.now) }
-    ensures { IfOk result (IsSolution league.now None moves) }
-{
-    let _n = league.n();
-    let schedule = decode(alloc, encoding, values)?;
-    lowered(alloc, league, &schedule, moves)
 }

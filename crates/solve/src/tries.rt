@@ -1,28 +1,100 @@
 //! Several tries, of which the best answer is kept.
-ghost use Rattle.std.specs.Prelude.{◌≡◌, ◌⊎◌};
-ghost use Rattle.solve.specs.Solutions.{HasSchedule};
+ghost use Rattle.std.specs.Prelude.{◌≡◌, nat_lt, if◌then◌else◌};
+ghost use Rattle.budgets.specs.declared.budgets.Budgets.{Budgets};
+ghost use Rattle.league.specs.Instance.{Instance};
+ghost use Rattle.solve.specs.Solutions.{HasSchedule, IsSolution, LeavesOpen};
+ghost use Rattle.solve.specs.Tried.{IsSeason, IsTried};
 
+use crate::lower::Season;
 use crate::solved::Solved;
+use pattern_search::PatternFound;
+use refutation::Log;
 
-/// The better one of an answer and a later one: a refutation stays, the schedule of the lesser objective is kept, of equal
-/// ones the earlier, and any other answer gives way.
-pub(crate) fn better(best: Solved, later: Solved) -> Solved
-    ensures one { (result ≡ best) ⊎ (result ≡ later) }
+/// What one try comes to.
+#[derive(Drop)]
+pub(crate) enum Tried {
+    /// A schedule that is accepted.
+    Found(Season),
+    /// A log that refutes the league.
+    Refuted(Log),
+    /// A log of as many steps as the limit allows.
+    Spent(Log),
+}
+
+/// A schedule as the answer.
+pub(crate) fn schedule_found(season: Season) -> Solved
+    ensures solution { (league : Instance) (budgets : Budgets) → IsSeason league budgets.moves season
+        → IsSolution league budgets result }
+    ensures schedule { HasSchedule result }
+{
+    let Season {
+        schedule,
+        objective,
+        descent,
+    } = season;
+    Solved::Schedule {
+        schedule,
+        objective,
+        descent,
+    }
+}
+
+/// What a try comes to, as the answer, where this is known of the league's patterns.
+pub(crate) fn solved_by(tried: Tried, patterns: PatternFound) -> Solved
+    ensures { (league : Instance) (budgets : Budgets) → IsTried league budgets tried
+        → LeavesOpen league budgets.patterns patterns → IsSolution league budgets result }
+{
+    match tried {
+        Tried::Found(season) => schedule_found(season),
+        Tried::Refuted(log) => Solved::Refuted(log),
+        Tried::Spent(log) => Solved::Spent { log, patterns },
+    }
+}
+
+/// The better one of an answer and of a later try: a refutation stays, the schedule of the lesser objective is kept, of
+/// equal ones the earlier, and a spent search gives way to what comes later.
+pub(crate) fn better(best: Solved, later: Tried) -> Solved
+    ensures solution { (league : Instance) (budgets : Budgets) → IsSolution league budgets best
+        → IsTried league budgets later → IsSolution league budgets result }
     ensures schedule { HasSchedule best → HasSchedule result }
 {
-    match (&best, &later) {
-        (Solved::Refuted(_), _) => best,
-        (Solved::Spent(_), _) => later,
-        (
-            Solved::Schedule {
-                objective: kept,
-                ..
-            },
-            Solved::Schedule {
-                objective: found,
-                ..
-            },
-        ) if found < kept => later,
-        (Solved::Schedule { .. }, _) => best,
+    match best {
+        Solved::Refuted(log) => Solved::Refuted(log),
+        Solved::Spent { log: _, patterns } => solved_by(later, patterns),
+        Solved::Schedule {
+            schedule,
+            objective,
+            descent,
+        } => {
+            let season = Season {
+                schedule,
+                objective,
+                descent,
+            };
+            schedule_found(better_season(season, later))
+        }
+    }
+}
+
+/// The better one of a schedule and of what a later try comes to.
+fn better_season(best: Season, later: Tried) -> Season
+    ensures { (league : Instance) (budgets : Budgets) → IsSeason league budgets.moves best
+        → IsTried league budgets later → IsSeason league budgets.moves result }
+{
+    match later {
+        Tried::Found(season) => lesser(best, season),
+        Tried::Refuted(_) => best,
+        Tried::Spent(_) => best,
+    }
+}
+
+/// The schedule of the lesser objective, and of equal ones the first.
+fn lesser(best: Season, later: Season) -> Season
+    ensures { result ≡ (if nat_lt later.objective best.objective then later else best) }
+{
+    if later.objective < best.objective {
+        later
+    } else {
+        best
     }
 }

@@ -17,55 +17,91 @@ use Rattle.answers.specs.Reply.{Answer}
 use Rattle.answers.specs.SeenReply.{answer_of}
 use Rattle.answers.specs.declared.reply.Reply.{Reply}
 use Rattle.answers.specs.declared.status.Status.TheVariants.{Yes, Refuted, Spent}
-use Rattle.solve.specs.Solutions.{IsSpentOn, RefutesLeague}
+use Rattle.pattern_search.specs.declared.found.PatternFound.{PatternFound}
+use Rattle.solve.specs.Solutions.{IsSpentOn, LeavesOpen, RefutesLeague}
 use Rattle.solve.specs.Solutions as solutions
 use Rattle.solve.proofs.LowerLemmas.{IsDescent-climbs, IsDescent-settles}
 use Rattle.descent.specs.Descended.{Descended}
 use Rattle.venue_counts.specs.VenueCounts.{are_crowded, are_short}
-use Rattle.solve_answer.specs.Solve.{IsFound, descent_text}
+use Rattle.solve_answer.specs.Solve.{IsFound, IsSchedule, descent_text}
+
+-- a schedule that is written
+abbrev pub schedule-told : (league : Instance) (moves : ℕ) (games : List Game) (objective : ℕ) (descent : Descended)
+    (answer : Answer) → solutions.IsSchedule league moves games objective descent → answer.status ≡ Yes
+    → answer.text
+    ≡ solution_text games (Some (0, objective))
+    ++ descent_text (costs.objective league (counts_of descent.first)) descent
+    → IsSchedule league moves answer
+schedule-told league moves games objective descent answer schedule status text = record {
+  games = games;
+  descent = descent;
+  accepted = schedule.accepted;
+  in_order = schedule.in_order;
+  descends = schedule.descends;
+  climbs = IsDescent-climbs league moves games descent schedule.descends;
+  settles = IsDescent-settles league moves games descent schedule.descends;
+  status = status;
+  text = text
+      ∙ ap
+      (λ (cost : ℕ). solution_text games (Some (0, cost))
+      ++ descent_text (costs.objective league (counts_of descent.first)) descent)
+      schedule.cost;
+}
 
 pub found-schedule : (league : Instance) (budgets : Budgets) (games : List Game) (objective : ℕ) (descent : Descended)
     (answer : Answer) → solutions.IsSchedule league budgets.moves games objective descent
     → (are_short league ≡ true → ⊥) → (are_crowded league ≡ true → ⊥) → answer.status ≡ Yes
     → answer.text
-    ≡ solution_text games (Some (0, objective)) ++ descent_text (costs.objective league (counts_of descent.first)) descent
+    ≡ solution_text games (Some (0, objective))
+    ++ descent_text (costs.objective league (counts_of descent.first)) descent
     → IsFound league budgets (rows_of league) answer
 found-schedule league budgets games objective descent answer schedule not_short not_crowded status text = record {
-  found = inl (record {
-    games = games;
-    descent = descent;
-    accepted = schedule.accepted;
-    in_order = schedule.in_order;
-    descends = schedule.descends;
-    climbs = IsDescent-climbs league budgets.moves games descent schedule.descends;
-    settles = IsDescent-settles league budgets.moves games descent schedule.descends;
-    status = status;
-    text = text
-        ∙ ap
-        (λ (cost : ℕ). solution_text games (Some (0, cost))
-        ++ descent_text (costs.objective league (counts_of descent.first)) descent)
-        schedule.cost;
-  });
+  found = inl (schedule-told league budgets.moves games objective descent answer schedule status text);
   circle = λ accepted. status;
   short = λ is. absurd (not_short is);
   crowded = λ is. absurd (not_crowded is);
 }
 
-pub found-refuted : (league : Instance) (budgets : Budgets) (steps : List Step) (answer : Answer) → RefutesLeague league steps → (IsAccepted league (counts_of (double_games league.n)) → ⊥) → answer.status ≡ Refuted → answer.text ≡ log_text steps → log_of answer.text ≡ Ok steps → IsFound league budgets (rows_of league) answer
+pub found-refuted : (league : Instance) (budgets : Budgets) (steps : List Step) (answer : Answer)
+    → RefutesLeague league steps → (IsAccepted league (counts_of (double_games league.n)) → ⊥)
+    → answer.status ≡ Refuted → answer.text ≡ log_text steps → log_of answer.text ≡ Ok steps
+    → IsFound league budgets (rows_of league) answer
 found-refuted league budgets steps answer refutes no_circle status text reads_back = record {
-  found = inr (inl (record { steps = steps; accepted = refutes.accepted; none = refutes.none; status = status; text = text; reads_back = reads_back }));
+  found = inr (inl (record {
+    steps = steps;
+    accepted = refutes.accepted;
+    none = refutes.none;
+    status = status;
+    text = text;
+    reads_back = reads_back;
+  }));
   circle = λ accepted. absurd (no_circle accepted);
   short = λ is. status;
   crowded = λ is. status;
 }
 
-pub found-spent : (league : Instance) (budgets : Budgets) (steps : List Step) (answer : Answer) → IsSpentOn league budgets.conflicts steps → (IsAccepted league (counts_of (double_games league.n)) → ⊥) → (are_short league ≡ true → ⊥) → (are_crowded league ≡ true → ⊥) → answer.status ≡ Spent → answer.text ≡ log_text steps → log_of answer.text ≡ Ok steps → IsFound league budgets (rows_of league) answer
-found-spent league budgets steps answer spent no_circle not_short not_crowded status text reads_back = record {
-  found = inr (inr (record { steps = steps; budget = spent.limited; spent = spent.spent; few = spent.few; status = status; text = text; reads_back = reads_back }));
-  circle = λ accepted. absurd (no_circle accepted);
-  short = λ is. absurd (not_short is);
-  crowded = λ is. absurd (not_crowded is);
-}
+pub found-spent : (league : Instance) (budgets : Budgets) (steps : List Step) (patterns : PatternFound)
+    (answer : Answer) → IsSpentOn league budgets.conflicts steps → LeavesOpen league budgets.patterns patterns
+    → (IsAccepted league (counts_of (double_games league.n)) → ⊥) → (are_short league ≡ true → ⊥)
+    → (are_crowded league ≡ true → ⊥) → answer.status ≡ Spent → answer.text ≡ log_text steps
+    → log_of answer.text ≡ Ok steps → IsFound league budgets (rows_of league) answer
+found-spent league budgets steps patterns answer spent leaves no_circle not_short not_crowded status text reads_back =
+    record {
+      found = inr (inr (record {
+        steps = steps;
+        patterns = patterns;
+        budget = spent.limited;
+        spent = spent.spent;
+        few = spent.few;
+        pattern_rows = leaves;
+        status = status;
+        text = text;
+        reads_back = reads_back;
+      }));
+      circle = λ accepted. absurd (no_circle accepted);
+      short = λ is. absurd (not_short is);
+      crowded = λ is. absurd (not_crowded is);
+    }
 
 -- ---- the same of a reply, unless memory ran out
 
@@ -81,13 +117,26 @@ replied-schedule league budgets games objective descent (Ok reply) schedule not_
     found-schedule league budgets games objective descent (answer_of reply) schedule not_short not_crowded status text
 replied-schedule league budgets games objective descent (Err error) schedule not_short not_crowded status text = tt
 
-pub replied-refuted : {E : Type 0} (league : Instance) (budgets : Budgets) (steps : List Step) (result : Result Reply E) → RefutesLeague league steps → (IsAccepted league (counts_of (double_games league.n)) → ⊥)
-    → IfOk result (λ reply. (answer_of reply).status ≡ Refuted) → IfOk result (λ reply. (answer_of reply).text ≡ log_text steps) → IfOk result (λ reply. log_of (answer_of reply).text ≡ Ok steps) → IfOk result (λ reply. IsFound league budgets (rows_of league) (answer_of reply))
-replied-refuted league budgets steps (Ok reply) refutes no_circle status text reads_back = found-refuted league budgets steps (answer_of reply) refutes no_circle status text reads_back
+pub replied-refuted : {E : Type 0} (league : Instance) (budgets : Budgets) (steps : List Step)
+    (result : Result Reply E) → RefutesLeague league steps
+    → (IsAccepted league (counts_of (double_games league.n)) → ⊥)
+    → IfOk result (λ reply. (answer_of reply).status ≡ Refuted)
+    → IfOk result (λ reply. (answer_of reply).text ≡ log_text steps)
+    → IfOk result (λ reply. log_of (answer_of reply).text ≡ Ok steps)
+    → IfOk result (λ reply. IsFound league budgets (rows_of league) (answer_of reply))
+replied-refuted league budgets steps (Ok reply) refutes no_circle status text reads_back =
+    found-refuted league budgets steps (answer_of reply) refutes no_circle status text reads_back
 replied-refuted league budgets steps (Err error) refutes no_circle status text reads_back = tt
 
-pub replied-spent : {E : Type 0} (league : Instance) (budgets : Budgets) (steps : List Step) (result : Result Reply E) → IsSpentOn league budgets.conflicts steps → (IsAccepted league (counts_of (double_games league.n)) → ⊥) → (are_short league ≡ true → ⊥) → (are_crowded league ≡ true → ⊥)
-    → IfOk result (λ reply. (answer_of reply).status ≡ Spent) → IfOk result (λ reply. (answer_of reply).text ≡ log_text steps) → IfOk result (λ reply. log_of (answer_of reply).text ≡ Ok steps) → IfOk result (λ reply. IsFound league budgets (rows_of league) (answer_of reply))
-replied-spent league budgets steps (Ok reply) spent no_circle not_short not_crowded status text reads_back =
-    found-spent league budgets steps (answer_of reply) spent no_circle not_short not_crowded status text reads_back
-replied-spent league budgets steps (Err error) spent no_circle not_short not_crowded status text reads_back = tt
+pub replied-spent : {E : Type 0} (league : Instance) (budgets : Budgets) (steps : List Step) (patterns : PatternFound)
+    (result : Result Reply E) → IsSpentOn league budgets.conflicts steps × LeavesOpen league budgets.patterns patterns
+    → (IsAccepted league (counts_of (double_games league.n)) → ⊥) → (are_short league ≡ true → ⊥)
+    → (are_crowded league ≡ true → ⊥) → IfOk result (λ reply. (answer_of reply).status ≡ Spent)
+    → IfOk result (λ reply. (answer_of reply).text ≡ log_text steps)
+    → IfOk result (λ reply. log_of (answer_of reply).text ≡ Ok steps)
+    → IfOk result (λ reply. IsFound league budgets (rows_of league) (answer_of reply))
+replied-spent league budgets steps patterns (Ok reply) spent no_circle not_short not_crowded status text reads_back =
+    found-spent league budgets steps patterns (answer_of reply) spent.0 spent.1 no_circle not_short not_crowded status
+    text reads_back
+replied-spent league budgets steps patterns (Err error) spent no_circle not_short not_crowded status text reads_back =
+    tt

@@ -1,6 +1,6 @@
 -- Lemmas on what is found, and on the stages:
 mod CommentLemmas
-mod FoundLemmas
+pub mod FoundLemmas
 mod StageLemmas
 -- What follows from an answer:
 pub mod AnswerLemmas

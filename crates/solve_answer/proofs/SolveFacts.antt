@@ -85,7 +85,7 @@ solve-no_schedule budgets answer given ended =
     ]
 
 abbrev unlimited : Budgets
-unlimited = record { conflicts = None; moves = 0; tries = 1; seed = 0 }
+unlimited = record { conflicts = None; moves = 0; tries = 1; patterns = 0; seed = 0 }
 
 -- and without a budget it is refuted
 pub solve-refuted : (answer : Answer) → solved contents never nowhere (codes "homeless") unlimited answer → answer.status ≡ Refuted

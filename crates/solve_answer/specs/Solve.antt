@@ -1,5 +1,6 @@
 -- What `solve` answers: its stages in their order, and what is found of a league.
-use Rattle.std.specs.Prelude.{◌≡◌, ℕ, ◌<◌, ◌≤◌, ◌^◌, ◌++◌, ◌⊎◌, true, if◌then◌else◌, List, length, reverse, codes, decimal, Option, Some, Ok}
+use Rattle.std.specs.Prelude.{◌≡◌, ℕ, ◌<◌, ◌≤◌, ◌^◌, ◌++◌, ◌⊎◌, true, if◌then◌else◌, List, length, reverse}
+use Rattle.std.specs.Prelude.{codes, decimal, Option, Some, Ok}
 use Rattle.std.specs.Io.KnownBytes.{Appends}
 use Rattle.std.specs.List.{flat_map}
 use Rattle.league.specs.Accepted.{IsAccepted, objective}
@@ -30,7 +31,8 @@ use Rattle.moves.specs.declared.swap.Swap.{Swap}
 use Rattle.moves.specs.declared.swap.Swap.TheVariants.{HomeSwap, RoundSwap, TeamSwap, PartRoundSwap, PartTeamSwap}
 use Rattle.descent.specs.Descended.{Descended}
 use Rattle.descent.specs.Trail.{IsClimb}
-use Rattle.solve.specs.Solutions.{IsDescent, league_score}
+use Rattle.pattern_search.specs.declared.found.PatternFound.{PatternFound}
+use Rattle.solve.specs.Solutions.{IsDescent, LeavesOpen, league_score}
 use Rattle.venue_counts.specs.VenueCounts.{are_crowded, are_short}
 use Rattle.season_check.specs.Excluded.{NoneAccepted}
 use Rattle.check_answer.specs.Check.{encodes, most_terms}
@@ -69,8 +71,8 @@ abbrev pub descent_text : ℕ → Descended → List ℕ
 descent_text cost descent = descent_line cost descent ++ flat_map move_line descent.trail
 
 -- A schedule that the league accepts, in order, is written as a solution file, with its objective, and behind it the
--- descent that led to it. Taken backwards from the schedule, its moves are legal, each raises the score, and they end in an
--- accepted schedule, whose objective is written too. As many moves as that objective says are enough to settle.
+-- descent that led to it. Taken backwards from the schedule, its moves are legal, each raises the score, and they end
+-- in an accepted schedule, whose objective is written too. As many moves as that objective says are enough to settle.
 pub record IsSchedule (league : Instance) (moves : ℕ) (answer : Answer) : Type 0 where
   pub games : List Game
   pub descent : Descended
@@ -94,23 +96,26 @@ pub record IsRefuted (league : Instance) (rows : List Row) (answer : Answer) : T
   pub text : answer.text ≡ log_text steps
   pub reads_back : log_of answer.text ≡ Ok steps
 
--- A log that is spent at the budget over the league's rows is written, and reads back as it. The budget is below 3 to the
--- number of variables, so a greater one, or none, is never spent.
-pub record IsBudgetSpent (league : Instance) (rows : List Row) (conflicts : Option ℕ) (answer : Answer) : Type 0 where
+-- A log that is spent at the budget of conflicts over the league's rows is written, and reads back as it. The budget is
+-- below 3 to the number of variables, so a greater one, or none, is never spent. Patterns are known that satisfy the
+-- league's pattern rows, or a log that is spent over these at the budget of patterns.
+pub record IsBudgetSpent (league : Instance) (rows : List Row) (budgets : Budgets) (answer : Answer) : Type 0 where
   pub steps : List Step
-  pub budget : conflicts ≡ Some (length steps)
+  pub patterns : PatternFound
+  pub budget : budgets.conflicts ≡ Some (length steps)
   pub spent : IsSpent (length steps) rows (var_count league) steps
   pub few : length steps < 3 ^ var_count league
+  pub pattern_rows : LeavesOpen league budgets.patterns patterns
   pub status : answer.status ≡ Spent
   pub text : answer.text ≡ log_text steps
   pub reads_back : log_of answer.text ≡ Ok steps
 
--- What is found of a league, over its rows and within budgets. Where the league accepts the schedule of
--- the circle method, a schedule is; where its venue counts are short, or crowded, a refutation is, whatever the budgets.
+-- What is found of a league, over its rows and within budgets. Where the league accepts the schedule of the circle
+-- method, a schedule is; where its venue counts are short, or crowded, a refutation is, whatever the budgets.
 pub record IsFound (league : Instance) (budgets : Budgets) (rows : List Row) (answer : Answer) : Type 0 where
   pub found :
       IsSchedule league budgets.moves answer
-      ⊎ (IsRefuted league rows answer ⊎ IsBudgetSpent league rows budgets.conflicts answer)
+      ⊎ (IsRefuted league rows answer ⊎ IsBudgetSpent league rows budgets answer)
   pub circle : IsAccepted league (counts_of (double_games league.n)) → answer.status ≡ Yes
   pub short : are_short league ≡ true → answer.status ≡ Refuted
   pub crowded : are_crowded league ≡ true → answer.status ≡ Refuted

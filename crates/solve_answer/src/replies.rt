@@ -19,19 +19,17 @@ ghost use Rattle.solve.specs.Solutions.{HasSchedule, IsRefuted, IsSolution};
 ghost use Rattle.venue_counts.specs.VenueCounts.{are_crowded, are_short};
 ghost use Rattle.solve_answer.specs.Solve.{IsFound, descent_text};
 
-use crate::comments::add_descent;
+use crate::schedules::{first_objective, schedule_text};
 use answers::{Reply, Status};
 use budgets::Budgets;
 use descent::Descent;
-use deviation::assess;
 use league::{League, Schedule};
 use refutation::{Log, log_text};
-use robinx_write::solution_text;
 use solve::Solved;
 use std::alloc::{AllocError, Global};
 
 /// The rows of the league have so many terms, which are too many.
-pub(crate) fn rows_refused(alloc: Global, terms: u64) -> Result<Reply, AllocError>
+pub fn rows_refused(alloc: Global, terms: u64) -> Result<Reply, AllocError>
     ensures { IfOk result (λ reply. answer_of reply ≡ too_large terms) }
 {
     let text = format!(in alloc; "refused rows TooLarge terms {terms}\n")?;
@@ -56,9 +54,8 @@ fn schedule_reply(
         ≡ solutions.solution_text schedule.now (Some (0, objective))
         ++ descent_text (costs.objective league.now (counts_of descent.now.first)) descent.now) }
 {
-    let first = assess(alloc, league, descent.first())?.objective;
-    let mut text = solution_text(alloc, schedule, Some((0, objective)))?;
-    add_descent(alloc, &mut text, first, descent)?;
+    let first = first_objective(alloc, league, descent)?;
+    let text = schedule_text(alloc, schedule, objective, first, descent)?;
     Ok(Reply {
         status: Status::Yes,
         text,
@@ -84,7 +81,7 @@ pub(crate) fn found_reply(
     budgets: Budgets,
     solved: &Solved,
 ) -> Result<Reply, AllocError>
-    requires solution { IsSolution league.now budgets.conflicts budgets.moves solved.now }
+    requires solution { IsSolution league.now budgets solved.now }
     requires circle { IsAccepted league.now (counts_of (double_games league.now.n)) → HasSchedule solved.now }
     requires short { are_short league.now ≡ true → IsRefuted solved.now }
     requires crowded { are_crowded league.now ≡ true → IsRefuted solved.now }
@@ -98,6 +95,6 @@ pub(crate) fn found_reply(
             descent,
         } => schedule_reply(alloc, league, schedule, *objective, descent),
         Solved::Refuted(log) => log_reply(alloc, Status::Refuted, log),
-        Solved::Spent(log) => log_reply(alloc, Status::Spent, log),
+        Solved::Spent { log, patterns: _ } => log_reply(alloc, Status::Spent, log),
     }
 }

@@ -26,8 +26,8 @@ season_of-requires c = record {
       (sym c.descend.ensures.teams) c.descend.ensures.round_robin);
 }
 
-pub returns-clause-solution : goal.returns-clause-solution
-returns-clause-solution c =
+pub returns : goal.returns
+returns c =
     let end : Counts = table_counts c.descend.new.tally.table in
     let counts : counts_of c.in_ok-schedule.schedule ≡ end =
     c.in_ok-schedule.ensures.counts ∙ ap (λ (t : Table). table_counts t) c.cells.ensures in

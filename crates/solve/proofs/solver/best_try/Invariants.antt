@@ -7,6 +7,6 @@ use Rattle.solve.proofs.solver.best_try.Given as goal
 -- the best answer so far
 abbrev pub invariant-loop-k : goal.invariant-loop-k
 invariant-loop-k l = record {
-  solution : IsSolution l.league l.budgets.conflicts l.budgets.moves l.best;
+  solution : IsSolution l.league l.budgets l.best;
   circle : IsAccepted l.league (counts_of (double_games l.league.n)) → HasSchedule l.best;
 }

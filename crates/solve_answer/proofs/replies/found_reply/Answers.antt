@@ -3,13 +3,24 @@ use Rattle.solve_answer.proofs.FoundLemmas.{replied-refuted, replied-schedule, r
 use Rattle.solve_answer.proofs.replies.found_reply.Goals as goal
 
 pub returns-in-Schedule : goal.returns-in-Schedule
-returns-in-Schedule c = replied-schedule c.args.league.now c.args.budgets c.in-Schedule.schedule c.in-Schedule.objective c.in-Schedule.descent c.schedule_reply.result (rw c.in-Schedule.is at c.requires.solution) (λ is. rw c.in-Schedule.is at c.requires.short is) (λ is. rw c.in-Schedule.is at c.requires.crowded is) c.schedule_reply.ensures.status c.schedule_reply.ensures.text
+returns-in-Schedule c =
+    replied-schedule c.args.league.now c.args.budgets c.in-Schedule.schedule c.in-Schedule.objective
+    c.in-Schedule.descent c.schedule_reply.result (rw c.in-Schedule.is at c.requires.solution)
+    (λ is. rw c.in-Schedule.is at c.requires.short is) (λ is. rw c.in-Schedule.is at c.requires.crowded is)
+    c.schedule_reply.ensures.status c.schedule_reply.ensures.text
 
 pub returns-in-Refuted : goal.returns-in-Refuted
-returns-in-Refuted c = replied-refuted c.args.league.now c.args.budgets c.in-Refuted.log c.log_reply.result (rw c.in-Refuted.is at c.requires.solution) (λ accepted. rw c.in-Refuted.is at c.requires.circle accepted) c.log_reply.ensures.status c.log_reply.ensures.text c.log_reply.ensures.reads_back
+returns-in-Refuted c =
+    replied-refuted c.args.league.now c.args.budgets c.in-Refuted.log c.log_reply.result
+    (rw c.in-Refuted.is at c.requires.solution) (λ accepted. rw c.in-Refuted.is at c.requires.circle accepted)
+    c.log_reply.ensures.status c.log_reply.ensures.text c.log_reply.ensures.reads_back
 
 pub returns-in-Spent : goal.returns-in-Spent
-returns-in-Spent c = replied-spent c.args.league.now c.args.budgets c.in-Spent.log c.log_reply-in-Spent.result (rw c.in-Spent.is at c.requires.solution) (λ accepted. rw c.in-Spent.is at c.requires.circle accepted) (λ is. rw c.in-Spent.is at c.requires.short is) (λ is. rw c.in-Spent.is at c.requires.crowded is) c.log_reply-in-Spent.ensures.status c.log_reply-in-Spent.ensures.text c.log_reply-in-Spent.ensures.reads_back
+returns-in-Spent c =
+    replied-spent c.args.league.now c.args.budgets c.in-Spent.log c.in-Spent.patterns c.log_reply-in-Spent.result
+    (rw c.in-Spent.is at c.requires.solution) (λ accepted. rw c.in-Spent.is at c.requires.circle accepted)
+    (λ is. rw c.in-Spent.is at c.requires.short is) (λ is. rw c.in-Spent.is at c.requires.crowded is)
+    c.log_reply-in-Spent.ensures.status c.log_reply-in-Spent.ensures.text c.log_reply-in-Spent.ensures.reads_back
 
 pub schedule_reply-requires-clause-fit : goal.schedule_reply-requires-clause-fit
 schedule_reply-requires-clause-fit c = (rw c.in-Schedule.is at c.requires.solution).descends.fit

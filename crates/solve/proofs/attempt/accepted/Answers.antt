@@ -4,7 +4,7 @@ use Rattle.rows.specs.Values.{assigned}
 use Rattle.encoding_base.specs.Shadow.{decoded}
 use Rattle.decoding.proofs.DecodeLemmas.{accepted}
 use Rattle.solve.proofs.GameLemmas.{accepted_few, accepted_fit}
-use Rattle.solve.proofs.solver.accepted.Goals as goal
+use Rattle.solve.proofs.attempt.accepted.Goals as goal
 
 pub lowered-requires-clause-accepted : goal.lowered-requires-clause-accepted
 lowered-requires-clause-accepted c =

@@ -5,7 +5,7 @@ use Rattle.encoding_base.specs.Variables.{var_count}
 use Rattle.clause_search.specs.Answers.{IsAnswer}
 use Rattle.clause_search.specs.declared.found.Found.{Found}
 use Rattle.solve.proofs.AnswerLemmas.{few_variables, refuted, spent}
-use Rattle.solve.proofs.solver.answer.Goals as goal
+use Rattle.solve.proofs.attempt.answer.Goals as goal
 
 pub returns-in-Refuted : goal.returns-in-Refuted
 returns-in-Refuted c =

@@ -1,0 +1,18 @@
+-- What one try says of a league.
+use Rattle.std.specs.Prelude.{ℕ}
+use Rattle.budgets.specs.declared.budgets.Budgets.{Budgets}
+use Rattle.league.specs.Instance.{Instance}
+use Rattle.solve.specs.Solutions.{IsSchedule, IsSpentOn, RefutesLeague}
+use Rattle.solve.specs.declared.lower.Season.{Season}
+use Rattle.solve.specs.declared.tries.Tried.{Tried}
+use Rattle.solve.specs.declared.tries.Tried.TheVariants.{Found, Refuted, Spent}
+
+-- a schedule that the league accepts, and the descent of at most so many moves that led to it
+abbrev pub IsSeason : Instance → ℕ → Season → Type 0
+IsSeason league moves season = IsSchedule league moves season.schedule season.objective season.descent
+
+-- such a schedule, a log that refutes the league, or one that is spent at the limit of conflicts
+abbrev pub IsTried : Instance → Budgets → Tried → Type 0
+IsTried league budgets (Found season) = IsSeason league budgets.moves season
+IsTried league budgets (Refuted log) = RefutesLeague league log
+IsTried league budgets (Spent log) = IsSpentOn league budgets.conflicts log
