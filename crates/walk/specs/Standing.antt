@@ -29,6 +29,7 @@ pub record IsCopyOf (n : ℕ) (phased : Bool) (m : Counts) (games : List Game) :
 -- the games of a double round robin of n teams with what they cost, in a list with room for any other
 pub record IsKept (n : ℕ) (phased : Bool) (cost : Counts → Score) (kept : Kept) : Type 0 where
   pub room : n * n ≤ vec_capacity kept.games
+  pub few : length kept.games.items ≤ 1600
   pub fit : All (IsGame n) kept.games.items
   pub round_robin : IsRoundRobin n phased (counts_of kept.games.items)
   pub score : kept.score ≡ cost (counts_of kept.games.items)

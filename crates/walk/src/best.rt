@@ -1,5 +1,5 @@
 //! The best games so far.
-ghost use Rattle.std.specs.Prelude.{◌≡◌, ◌*◌, ◌≤◌, vec_capacity, IfOk};
+ghost use Rattle.std.specs.Prelude.{◌≡◌, ◌*◌, ◌≤◌, length, vec_capacity, IfOk};
 ghost use Rattle.league.specs.Counts.{Counts};
 ghost use Rattle.league.specs.Instance.{Instance};
 ghost use Rattle.moves.specs.Round.{round_counts};
@@ -65,6 +65,7 @@ impl Kept {
     pub(crate) fn into_best(self, alloc: Global) -> Result<Best, AllocError>
         ensures season { (league : Instance) → IsKept league.n league.phased (league_score league) self
             → IfOk result (IsSeasonOf league) }
+        ensures few { IfOk result (λ best. length best.games ≡ length self.games.items) }
         ensures score { IfOk result (λ best. best.score ≡ self.score) }
     {
         let mut games = listed(alloc, &self.games)?;

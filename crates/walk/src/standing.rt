@@ -137,13 +137,12 @@ impl Standing {
             return false;
         }
         let before = Score::of(tally);
-        tally.apply(&self.edit, steps);
-        let after = Score::of(tally);
-        if threshold.passes(before, after) {
-            self.board.apply(&self.edit);
+        let after = tally.weigh(&self.edit, steps);
+        if !threshold.passes(before, &after) {
             return true;
         }
-        tally.undo(&self.edit, steps);
+        tally.apply(&self.edit, steps);
+        self.board.apply(&self.edit);
         true
     }
 

@@ -3,6 +3,7 @@
 use descent::Score;
 use rand_core::utils::NextWord;
 use rand_pcg::Pcg32;
+use tally::Sums;
 
 /// By how much a move may raise what the rules cost.
 #[derive(Clone, Copy)]
@@ -34,8 +35,8 @@ impl Threshold {
         }
     }
 
-    /// Whether a move from one score to another may be made.
-    pub(crate) fn passes(self, before: Score, after: Score) -> bool {
+    /// Whether a move may be made from a score to games that cost so much.
+    pub(crate) fn passes(self, before: Score, after: &Sums) -> bool {
         after.infeasibility <= before.infeasibility.saturating_add(self.hard)
             && after.objective <= before.objective.saturating_add(self.soft)
     }

@@ -1,5 +1,5 @@
 //! A walk from a double round robin.
-ghost use Rattle.std.specs.Prelude.{◌≡◌, ◌≤◌, ◌↔◌, IfOk};
+ghost use Rattle.std.specs.Prelude.{◌≡◌, ◌≤◌, ◌↔◌, length, IfOk};
 ghost use Rattle.std.specs.List.{All};
 ghost use Rattle.league.specs.Accepted.{IsAccepted};
 ghost use Rattle.league.specs.Counts.{counts_of};
@@ -36,6 +36,9 @@ pub fn walk(
 
     // The best is a double round robin of the league, in order, and its score is what it costs there.
     ensures season { IfOk result (λ walked. IsSeasonOf league.now walked.best) }
+
+    // It has a game for each two teams at each of their venues, so at most 1,600.
+    ensures few { IfOk result (λ walked. length walked.best.games ≤ 1600) }
 
     // Its infeasibility is 0 exactly where the league accepts it.
     ensures feasible { IfOk result (λ walked. (walked.best.score.infeasibility ≡ 0)

@@ -1,4 +1,5 @@
-use Rattle.std.proofs.Common.{◌≡◌, ap, subst, sym, ◌∙◌}
+use Rattle.std.proofs.Common.{◌≡◌, ◌≤◌, ℕ, ap, subst, sym, ◌∙◌}
+use Rattle.std.specs.Prelude.{length}
 use Rattle.descent.specs.Score.{IsNoWorse}
 use Rattle.descent.specs.declared.score.Score.{Score}
 use Rattle.league.specs.Counts.{counts_of}
@@ -31,3 +32,9 @@ returns-clause-accepted c accepted =
     (subst (λ (s : Score). IsNoWorse c.search.new.self.best.score s) c.in_ok-walker.ensures.score
     c.in_ok-search.ensures.no_worse) in
     accepted-stays league c.in_ok-best.best (counts_of c.args.start.now) season no_worse accepted
+
+pub returns-clause-few : goal.returns-clause-few
+returns-clause-few c =
+    subst (λ (k : ℕ). k ≤ 1600)
+    (sym (c.in_ok-best.ensures.few ∙ ap (λ (kept : Kept). length kept.games.items) c.into_kept.ensures))
+    c.in_ok-search.ensures.walker.best.few

@@ -1,6 +1,7 @@
 use Rattle.std.proofs.Common.{◌≡◌, List, ap, subst, sym, ◌∙◌}
+use Rattle.std.specs.Prelude.{length}
 use Rattle.std.specs.List.{All}
-use Rattle.std.proofs.lemmas.List.Sorted.{All-permutation}
+use Rattle.std.proofs.lemmas.List.Sorted.{All-permutation, length_permutation}
 use Rattle.league.specs.Counts.{Counts, counts_of}
 use Rattle.league.specs.Instance.{IsGame}
 use Rattle.league.specs.Structure.{IsRoundRobin}
@@ -23,3 +24,9 @@ returns-clause-season c league is =
       round_robin = subst (λ (m : Counts). IsRoundRobin league.n league.phased m) (sym counts) is.round_robin;
       score = is.score ∙ ap (λ (m : Counts). league_score league m) (sym counts);
     }
+
+pub returns-clause-few : goal.returns-clause-few
+returns-clause-few c =
+    let listed : c.in_ok-games.games ≡ c.args.self.games.items = c.in_ok-games.ensures ∙ c.deref.ensures.value in
+    length_permutation c.in_ok-games.games c.put_in_order.new.self c.put_in_order.ensures.permutation
+    ∙ ap (λ (games : List Game). length games) listed
