@@ -1,4 +1,4 @@
-//! One try: a search, and where it finds a schedule, a descent from there.
+//! One try: a search and a walk, and from a schedule that is found, a descent.
 ghost use Rattle.std.specs.Prelude.{◌≡◌, ◌≤◌, length, IfOk};
 ghost use Rattle.std.specs.List.{All};
 ghost use Rattle.rows.specs.Rows.{SatisfiesAll};
@@ -8,8 +8,9 @@ ghost use Rattle.encoding_base.specs.Variables.{var_count};
 ghost use Rattle.clause_search.specs.Answers.{IsAnswer};
 ghost use Rattle.solve.specs.Tried.{IsSeason, IsTried};
 
+use crate::from_walk::try_walk;
 use crate::lower::{Season, lowered};
-use crate::tries::Tried;
+use crate::tries::{Tried, with_walked};
 use budgets::Budgets;
 use clause_search::{Found, search};
 use decoding::decode;
@@ -19,11 +20,81 @@ use log_lines::note_numbers;
 use rows::{Assignment, Lit};
 use std::alloc::{AllocError, Global};
 
+/// One try: a search that decides these literals first, and a walk by the moves that a seed draws. Where a limit is set to
+/// the search it comes first: unless it refutes the league, the walk follows, and the better schedule of both stays. Where
+/// none is set the walk comes first, and the search only if the walk finds no schedule.
+///
+/// # Errors
+/// Only where memory runs out.
+pub(crate) fn try_both(
+    alloc: Global,
+    league: &League,
+    encoding: &Encoding,
+    prefer: &[Lit],
+    budgets: Budgets,
+    seed: u64,
+) -> Result<Tried, AllocError>
+    requires league { encoding.now ≡ league.now }
+    requires known { All (λ l. l.var ≤ var_count encoding.now) prefer.now }
+    ensures { IfOk result (IsTried league.now budgets) }
+{
+    match budgets.conflicts {
+        Some(_) => search_then_walk(alloc, league, encoding, prefer, budgets, seed),
+        None => walk_or_search(alloc, league, encoding, prefer, budgets, seed),
+    }
+}
+
+/// What a search comes to, and unless it refutes the league, a walk: the better one of both.
+///
+/// # Errors
+/// Only where memory runs out.
+fn search_then_walk(
+    alloc: Global,
+    league: &League,
+    encoding: &Encoding,
+    prefer: &[Lit],
+    budgets: Budgets,
+    seed: u64,
+) -> Result<Tried, AllocError>
+    requires league { encoding.now ≡ league.now }
+    requires known { All (λ l. l.var ≤ var_count encoding.now) prefer.now }
+    ensures { IfOk result (IsTried league.now budgets) }
+{
+    let found = try_search(alloc, league, encoding, prefer, budgets)?;
+    if matches!(found, Tried::Refuted(_)) {
+        return Ok(found);
+    }
+    let walked = try_walk(alloc, league, budgets.moves, seed)?;
+    Ok(with_walked(found, walked))
+}
+
+/// What a walk comes to, and if it finds no schedule, a search.
+///
+/// # Errors
+/// Only where memory runs out.
+fn walk_or_search(
+    alloc: Global,
+    league: &League,
+    encoding: &Encoding,
+    prefer: &[Lit],
+    budgets: Budgets,
+    seed: u64,
+) -> Result<Tried, AllocError>
+    requires league { encoding.now ≡ league.now }
+    requires known { All (λ l. l.var ≤ var_count encoding.now) prefer.now }
+    ensures { IfOk result (IsTried league.now budgets) }
+{
+    match try_walk(alloc, league, budgets.moves, seed)? {
+        Some(season) => Ok(Tried::Found(season)),
+        None => try_search(alloc, league, encoding, prefer, budgets),
+    }
+}
+
 /// What a search finds that decides these literals first, and where that is a schedule, what a descent makes of it.
 ///
 /// # Errors
 /// Only where memory runs out.
-pub(crate) fn try_search(
+fn try_search(
     alloc: Global,
     league: &League,
     encoding: &Encoding,

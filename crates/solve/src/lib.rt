@@ -7,6 +7,7 @@ mod attempt;
 mod circle;
 mod counting;
 mod fault;
+mod from_walk;
 mod lower;
 mod prefer;
 mod solved;

@@ -10,7 +10,7 @@ ghost use Rattle.solve.specs.Solutions.{HasSchedule, IsRefuted, IsSolution};
 ghost use Rattle.solve.specs.Tried.{IsTried};
 ghost use Rattle.venue_counts.specs.VenueCounts.{are_crowded, are_short};
 
-use crate::attempt::try_search;
+use crate::attempt::try_both;
 use crate::circle::try_circle;
 use crate::counting::count_out;
 use crate::fault::SolveFault;
@@ -31,12 +31,14 @@ use std::alloc::{AllocError, Global};
 /// Where the venue counts of the league refute it, that is the answer. The first try starts from the schedule of the
 /// circle method where the league accepts it. Where it doesn't, a search for patterns comes first, which learns at most
 /// as many clauses as the budget of patterns says: a log that refutes the pattern rows is the answer, and patterns that
-/// it finds are what the search over all rows decides first. Each later try searches in another random order. With a
-/// limit of conflicts the search of a try learns at most so many clauses, and then its log is the answer, with what is
-/// known of the patterns; without one it goes on to the end. From a schedule that is accepted a descent goes on by
-/// moves to better ones, at most so many moves a try. The schedule of the least objective is the answer, of equal ones
-/// the earliest; a refutation is the answer at once. What a search finds first is not promised, and an objective is the
-/// schedule's own, not the least of all.
+/// it finds are what the search over all rows decides first. Each later try searches in another random order. Each of
+/// these tries also walks from the schedule of the circle method by moves that its seed draws, a hundred for each that
+/// its descent may make, at most: behind its search, where that is limited, and else before it, and then a schedule
+/// that the walk finds takes the search's place. With a limit of conflicts the search of a try learns at most so many
+/// clauses, and then its log is the answer, with what is known of the patterns; without one it goes on to the end. From
+/// a schedule that is accepted a descent goes on by moves to better ones, at most so many moves a try. The schedule of
+/// the least objective is the answer, of equal ones the earliest; a refutation is the answer at once. What a search
+/// finds first is not promised, and an objective is the schedule's own, not the least of all.
 ///
 /// # Errors
 /// `TooLarge` exactly where the league's rows have more than 40,000,000 terms, with their number, before anything
@@ -149,7 +151,7 @@ fn try_with(
     ensures { IfOk result (IsSolution league.now budgets) }
 {
     let prefer = venues(alloc, encoding, &patterns)?;
-    let tried = try_search(alloc, league, encoding, &prefer, budgets)?;
+    let tried = try_both(alloc, league, encoding, &prefer, budgets, budgets.seed)?;
     Ok(solved_by(tried, PatternFound::Patterns(patterns)))
 }
 
@@ -169,7 +171,7 @@ fn try_without(
     ensures { IfOk result (IsSolution league.now budgets) }
 {
     let prefer = preferred(alloc, encoding)?;
-    let tried = try_search(alloc, league, encoding, &prefer, budgets)?;
+    let tried = try_both(alloc, league, encoding, &prefer, budgets, budgets.seed)?;
     Ok(solved_by(tried, PatternFound::Spent(log)))
 }
 
@@ -187,6 +189,7 @@ fn later_try(
     requires league { encoding.now ≡ league.now }
     ensures { IfOk result (IsTried league.now budgets) }
 {
-    let prefer = shuffled(alloc, encoding, budgets.seed.wrapping_add(k))?;
-    try_search(alloc, league, encoding, &prefer, budgets)
+    let seed = budgets.seed.wrapping_add(k);
+    let prefer = shuffled(alloc, encoding, seed)?;
+    try_both(alloc, league, encoding, &prefer, budgets, seed)
 }

@@ -1,5 +1,5 @@
 //! Several tries, of which the best answer is kept.
-ghost use Rattle.std.specs.Prelude.{◌≡◌, nat_lt, if◌then◌else◌};
+ghost use Rattle.std.specs.Prelude.{◌≡◌, nat_lt, if◌then◌else◌, IfSome};
 ghost use Rattle.budgets.specs.declared.budgets.Budgets.{Budgets};
 ghost use Rattle.league.specs.Instance.{Instance};
 ghost use Rattle.solve.specs.Solutions.{HasSchedule, IsSolution, LeavesOpen};
@@ -73,6 +73,17 @@ pub(crate) fn better(best: Solved, later: Tried) -> Solved
             };
             schedule_found(better_season(season, later))
         }
+    }
+}
+
+/// What a search comes to, or the schedule of a walk where there is one and it isn't worse.
+pub(crate) fn with_walked(found: Tried, walked: Option<Season>) -> Tried
+    ensures { (league : Instance) (budgets : Budgets) → IsTried league budgets found
+        → IfSome walked (IsSeason league budgets.moves) → IsTried league budgets result }
+{
+    match walked {
+        Some(season) => Tried::Found(better_season(season, found)),
+        None => found,
     }
 }
 

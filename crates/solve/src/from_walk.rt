@@ -1,0 +1,52 @@
+//! A schedule that a walk finds.
+ghost use Rattle.std.specs.Prelude.{IfOk, IfSome};
+ghost use Rattle.solve.specs.Tried.{IsSeason};
+
+use crate::lower::{Season, lowered};
+use circle_method::double;
+use league::League;
+use std::alloc::{AllocError, Global};
+use walk::walk;
+
+/// How many moves a walk may try for each that a descent may make, and for each that the league has.
+const TRIED: u64 = 100;
+
+/// What a descent of at most so many moves makes of the schedule that a walk finds, where the league accepts that. The
+/// walk goes from the schedule of the circle method by the moves that a seed draws. Without moves there is none.
+///
+/// # Errors
+/// Only where memory runs out.
+pub(crate) fn try_walk(
+    alloc: Global,
+    league: &League,
+    moves: u64,
+    seed: u64,
+) -> Result<Option<Season>, AllocError>
+    ensures { IfOk result (λ tried. IfSome tried (IsSeason league.now moves)) }
+{
+    if moves == 0 {
+        return Ok(None);
+    }
+    let n = league.n();
+    let start = double(alloc, n)?;
+    let tried = moves.min(move_count(n)).saturating_mul(TRIED);
+    let walked = walk(alloc, league, &start, seed, tried)?;
+    if walked.best.score.infeasibility > 0 {
+        return Ok(None);
+    }
+    let season = lowered(alloc, league, &walked.best.games, moves)?;
+    Ok(Some(season))
+}
+
+/// How many moves there are of n teams, legal or not: of two teams, of two slots, of two teams in all slots, of a team and
+/// two slots, and of two teams and a slot.
+fn move_count(n: u16) -> u64 {
+    let teams = u64::from(n);
+    let slots = 2 * teams.saturating_sub(1);
+    let team_pairs = teams.saturating_mul(teams.saturating_sub(1)) / 2;
+    let slot_pairs = slots.saturating_mul(slots.saturating_sub(1)) / 2;
+    let whole = team_pairs.saturating_mul(2).saturating_add(slot_pairs);
+    let of_slots = teams.saturating_mul(slot_pairs);
+    let of_teams = slots.saturating_mul(team_pairs);
+    whole.saturating_add(of_slots).saturating_add(of_teams)
+}

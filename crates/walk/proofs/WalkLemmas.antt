@@ -1,0 +1,116 @@
+-- What a walk knows, said at equal numbers, rules and counts; and scores compared.
+use Rattle.std.proofs.Common.{◌≡◌, ◌↔◌, ℕ, Bool, true, false, ◌&&◌, ◌||◌, ◌==◌, nat_lt, Option, Some, List, refl, arith, ap, sym, subst, ◌∙◌}
+use Rattle.std.specs.Prelude.{IfSome}
+use Rattle.std.proofs.Math.Path.{fun_ext}
+use Rattle.std.proofs.lemmas.Bool.Decides.{nat_tests}
+use Rattle.league.specs.Accepted.{IsAccepted, MeetsHard, objective}
+use Rattle.league.specs.Counts.{Counts, counts_of}
+use Rattle.league.specs.Instance.{Instance}
+use Rattle.league.specs.Structure.{IsRoundRobin, phases_wrong}
+use Rattle.league.specs.declared.game.Game.{Game}
+use Rattle.rule_core.specs.declared.rule.Entries.{Ghosts}
+use Rattle.tally.specs.League.{AreRulesOf, hard_sum}
+use Rattle.tally.specs.Tallies.{objective_on}
+use Rattle.tally.specs.declared.weighted.Weighted.{Weighted}
+use Rattle.tally.proofs.LeagueLemmas.{hard_sum-met, infeasibility-league, objective-league}
+use Rattle.descent.specs.Score.{IsNoWorse, score_on}
+use Rattle.descent.specs.declared.score.Score.{Score}
+use Rattle.walk.specs.Standing.{IsKept, IsStandingOn}
+use Rattle.walk.specs.Walked.{IsSeasonOf, league_score}
+use Rattle.walk.specs.declared.best.Best.{Best}
+use Rattle.walk.specs.declared.best.Kept.{Kept}
+use Rattle.walk.specs.declared.standing.Standing.{Standing}
+
+both : (a b c d e f : ℕ) → (nat_lt c a || ((c == a) && nat_lt d b)) ≡ false
+    → (nat_lt e c || ((e == c) && nat_lt f d)) ≡ false → (nat_lt e a || ((e == a) && nat_lt f b)) ≡ false
+both a b c d e f first second = grind (arith, nat_tests)
+
+-- what isn't worse than one that isn't worse isn't worse
+pub IsNoWorse-both : (a b c : Score) → IsNoWorse a b → IsNoWorse b c → IsNoWorse a c
+IsNoWorse-both a b c first second =
+    both a.infeasibility a.objective b.infeasibility b.objective c.infeasibility c.objective first second
+
+pub round_robin-at : (n k : ℕ) (phased said : Bool) (m : Counts) → k ≡ n → said ≡ phased → IsRoundRobin k said m
+    → IsRoundRobin n phased m
+round_robin-at n k phased said m same_n same_phased is =
+    subst (λ (b : Bool). IsRoundRobin n b m) same_phased (subst (λ (j : ℕ). IsRoundRobin j said m) same_n is)
+
+pub some-is : {X : Type 0} (P : X → Type 0) (found : Option X) (x : X) → found ≡ Some x → IfSome found P → P x
+some-is {X} P found x same is = subst (λ (o : Option X). IfSome o P) same is
+
+pub standing-at : (n k : ℕ) (phased said : Bool) (m l : Counts) (standing : Standing) → k ≡ n → said ≡ phased → l ≡ m
+    → IsStandingOn k said l standing → IsStandingOn n phased m standing
+standing-at n k phased said m l standing same_n same_phased same is = record {
+  teams = is.teams ∙ same_n;
+  phases = is.phases ∙ same_phased;
+  counts = is.counts ∙ same;
+  edit_for = is.edit_for ∙ same_n;
+}
+
+pub kept-at : (n k : ℕ) (phased said : Bool) (cost other : Counts → Score) (kept : Kept) → k ≡ n → said ≡ phased
+    → other ≡ cost → IsKept k said other kept → IsKept n phased cost kept
+kept-at n k phased said cost other kept same_n same_phased same is =
+    subst (λ (f : Counts → Score). IsKept n phased f kept) same
+    (subst (λ (b : Bool). IsKept n b other kept) same_phased
+    (subst (λ (j : ℕ). IsKept j said other kept) same_n is))
+
+-- what a call keeps of games of equal numbers, it keeps
+pub kept-in : (n k : ℕ) (phased said : Bool) (cost : Counts → Score) (before after : Kept) → k ≡ n → said ≡ phased
+    → (IsKept k said cost before → IsKept k said cost after) → IsKept n phased cost before → IsKept n phased cost after
+kept-in n k phased said cost before after same_n same_phased keeps is =
+    kept-at n k phased said cost cost after same_n same_phased refl
+    (keeps (kept-at k n said phased cost cost before (sym same_n) (sym same_phased) refl is))
+
+abbrev score_from : ℕ → ℕ → Score
+score_from a b = record { infeasibility = a; objective = b }
+
+-- the score by the weighted rules of a league is that of the league
+pub scores-are : {R : Type 0} (E : Ghosts R) (league : Instance) (weights : List (Weighted R))
+    → AreRulesOf E 1 league weights → score_on E weights ≡ league_score league
+scores-are {R} E league weights are =
+    fun_ext (λ m.
+    ap (λ (a : ℕ). score_from a (objective_on E m weights)) (infeasibility-league E 1 league weights m are)
+    ∙ ap (λ (b : ℕ). score_from (hard_sum 1 league m) b) (objective-league E 1 league weights m are))
+
+-- ---- accepted games
+
+met : (league : Instance) (m : Counts) → (hard_sum 1 league m ≡ 0) ↔ MeetsHard league m
+met league m = hard_sum-met 1 league m (omega arith)
+
+-- nothing is infeasible exactly in an accepted schedule
+pub feasible-is : (league : Instance) (best : Best) → IsSeasonOf league best
+    → (best.score.infeasibility ≡ 0) ↔ IsAccepted league (counts_of best.games)
+feasible-is league best is =
+    let cost : best.score.infeasibility ≡ hard_sum 1 league (counts_of best.games) =
+    ap (λ (s : Score). s.infeasibility) is.score in (
+      λ none. record {
+        round_robin = is.round_robin;
+        hard = (met league (counts_of best.games)).0 (sym cost ∙ none);
+      },
+      λ accepted. cost ∙ (met league (counts_of best.games)).1 accepted.hard,
+    )
+
+none : (a b c d : ℕ) → (nat_lt c a || ((c == a) && nat_lt d b)) ≡ false → c ≡ 0 → a ≡ 0
+none a b c d no_worse zero = grind (arith, nat_tests)
+
+-- what isn't worse than an accepted schedule is accepted
+pub accepted-stays : (league : Instance) (best : Best) (m : Counts) → IsSeasonOf league best
+    → IsNoWorse best.score (league_score league m) → IsAccepted league m → IsAccepted league (counts_of best.games)
+accepted-stays league best m is no_worse accepted =
+    (feasible-is league best is).0
+    (none best.score.infeasibility best.score.objective (hard_sum 1 league m) (objective league m) no_worse
+    ((met league m).1 accepted.hard))
+
+-- a double round robin in two phases is one of any league of its teams
+pub any_phases : (n : ℕ) (phased : Bool) (m : Counts) → IsRoundRobin n true m → IsRoundRobin n phased m
+any_phases n phased m is = record {
+  pairs = is.pairs;
+  cells = is.cells;
+  phases = elim phased as (λ b. phases_wrong n b m ≡ 0) [ true ↦ is.phases | false ↦ refl ];
+}
+
+-- ---- a tally of the games of a board
+
+pub counted-on : (counts m : Counts) (games items : List Game) → counts ≡ counts_of games → games ≡ items
+    → counts_of items ≡ m → counts ≡ m
+counted-on counts m games items counted same is = counted ∙ ap (λ (l : List Game). counts_of l) same ∙ is

@@ -1,0 +1,46 @@
+use Rattle.std.proofs.Common.{◌≡◌, ℕ, ◌*◌, ◌≤◌, Bool, List, refl, ap, subst, sym, ◌∙◌}
+use Rattle.std.specs.Prelude.{vec_capacity}
+use Rattle.league.specs.Counts.{Counts, counts_of}
+use Rattle.league.specs.declared.game.Game.{Game}
+use Rattle.moves.specs.Round.{Round, round_counts}
+use Rattle.descent.specs.declared.score.Score.{Score}
+use Rattle.walk.specs.Standing.{IsStandingOn}
+use Rattle.walk.specs.Walked.{league_score}
+use Rattle.walk.proofs.WalkLemmas.{kept-at, round_robin-at, standing-at}
+use Rattle.walk.proofs.walker.Walker.new.Goals as goal
+
+pub new-requires-clause-round_robin : goal.new-requires-clause-round_robin
+new-requires-clause-round_robin c =
+    round_robin-at c.n-n.result c.args.league.now.n c.phased.result c.args.league.now.phased
+    (counts_of c.args.start.now) (sym c.n-n.ensures.n) (sym c.phased.ensures) c.requires.round_robin
+
+pub returns-clause-walker : goal.returns-clause-walker
+returns-clause-walker c =
+    let n : ℕ = c.args.league.now.n in
+    let phased : Bool = c.args.league.now.phased in
+    let board : Round = c.in_ok-standing.standing.board in
+    let cost : Counts → Score = league_score c.args.league.now in
+    let stands : IsStandingOn n phased (round_counts board) c.in_ok-standing.standing =
+    standing-at n c.n-n.result phased c.phased.result (round_counts board) (counts_of c.args.start.now)
+    c.in_ok-standing.standing c.n-n.ensures.n c.phased.ensures (sym c.in_ok-standing.ensures.standing.counts)
+    c.in_ok-standing.ensures.standing in
+    let counts : counts_of c.deref.result.now ≡ round_counts board =
+    ap (λ (games : List Game). counts_of games) c.deref.ensures.value ∙ c.copy_games.ensures.copy.counts in
+    let same : c.in_ok-score.score ≡ cost (round_counts board) =
+    c.in_ok-score.ensures ∙ ap (λ (m : Counts). cost m) counts in
+    record {
+      standing = stands;
+      room = subst (λ (k : ℕ). k * k ≤ vec_capacity c.copy_games.new.games) c.n-n.ensures.n
+          (subst (λ (room : ℕ). c.n-n.result * c.n-n.result ≤ room) (sym c.copy_games.ensures.room)
+          c.in_ok-games.ensures);
+      best = kept-at n board.n phased board.phased cost cost c.in_ok-best.best stands.teams stands.phases refl
+          (c.in_ok-best.ensures.kept cost same);
+    }
+
+pub returns-clause-score : goal.returns-clause-score
+returns-clause-score c =
+    let cost : Counts → Score = league_score c.args.league.now in
+    let counts : counts_of c.deref.result.now ≡ counts_of c.args.start.now =
+    ap (λ (games : List Game). counts_of games) c.deref.ensures.value ∙ c.copy_games.ensures.copy.counts
+    ∙ c.in_ok-standing.ensures.standing.counts in
+    c.in_ok-best.ensures.score ∙ c.in_ok-score.ensures ∙ ap (λ (m : Counts). cost m) counts

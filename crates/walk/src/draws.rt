@@ -1,0 +1,153 @@
+//! Draws of moves.
+ghost use Rattle.std.specs.Prelude.{◌≡◌, ◌<◌, ◌≤◌};
+ghost use Rattle.league.specs.Counts.{slot_count};
+ghost use Rattle.league.specs.Instance.{IsTeamCount};
+ghost use Rattle.moves.specs.Moves.{IsOfLeague};
+
+use league::{SlotId, TeamId};
+use moves::Swap;
+use rand_core::utils::NextWord;
+use rand_pcg::Pcg32;
+
+/// A number below a bound.
+pub(crate) fn below(random: &mut Pcg32, bound: u16) -> u16
+    requires bound { 0 < bound }
+    ensures below { result < bound }
+{
+    (random.next_word() % u32::from(bound)) as u16
+}
+
+/// Two different numbers.
+#[derive(Clone, Copy)]
+struct Pair {
+    low: u16,
+    high: u16,
+}
+
+/// Two different numbers below a bound, in order.
+fn two_below(random: &mut Pcg32, bound: u16) -> Pair
+    requires bound { 2 ≤ bound }
+    ensures order { result.low < result.high }
+    ensures below { result.high < bound }
+{
+    let one = below(random, bound);
+    let other = below(random, bound - 1);
+    if other < one {
+        return Pair {
+            low: other,
+            high: one,
+        };
+    }
+    Pair {
+        low: one,
+        high: other + 1,
+    }
+}
+
+/// The first slot of a half of a season, as a half has so many.
+fn half_start(random: &mut Pcg32, half: u16) -> u16
+    ensures { result ≤ half }
+{
+    if below(random, 2) == 0 { 0 } else { half }
+}
+
+/// Two slots of a season of n teams, in order: of one half where there are phases.
+fn two_slots(random: &mut Pcg32, n: u16, phased: bool) -> Pair
+    requires teams { IsTeamCount n }
+    ensures order { result.low < result.high }
+    ensures below { result.high < slot_count n }
+{
+    let half = n - 1;
+    if !phased || half < 2 {
+        return two_below(random, 2 * half);
+    }
+    let start = half_start(random, half);
+    let pair = two_below(random, half);
+    Pair {
+        low: start + pair.low,
+        high: start + pair.high,
+    }
+}
+
+/// A move of two teams.
+fn home_swap(random: &mut Pcg32, n: u16) -> Swap
+    requires teams { IsTeamCount n }
+    ensures league { IsOfLeague n result }
+{
+    let teams = two_below(random, n);
+    Swap::HomeSwap {
+        i: TeamId(teams.low),
+        j: TeamId(teams.high),
+    }
+}
+
+/// A move of two slots.
+fn round_swap(random: &mut Pcg32, n: u16, phased: bool) -> Swap
+    requires teams { IsTeamCount n }
+    ensures league { IsOfLeague n result }
+{
+    let slots = two_slots(random, n, phased);
+    Swap::RoundSwap {
+        s: SlotId(slots.low),
+        t: SlotId(slots.high),
+    }
+}
+
+/// A move of two teams in all slots.
+fn team_swap(random: &mut Pcg32, n: u16) -> Swap
+    requires teams { IsTeamCount n }
+    ensures league { IsOfLeague n result }
+{
+    let teams = two_below(random, n);
+    Swap::TeamSwap {
+        i: TeamId(teams.low),
+        j: TeamId(teams.high),
+    }
+}
+
+/// A move of a team and two slots.
+fn part_round_swap(random: &mut Pcg32, n: u16, phased: bool) -> Swap
+    requires teams { IsTeamCount n }
+    ensures league { IsOfLeague n result }
+{
+    let team = below(random, n);
+    let slots = two_slots(random, n, phased);
+    Swap::PartRoundSwap {
+        i: TeamId(team),
+        s: SlotId(slots.low),
+        t: SlotId(slots.high),
+    }
+}
+
+/// A move of two teams and a slot.
+fn part_team_swap(random: &mut Pcg32, n: u16) -> Swap
+    requires teams { IsTeamCount n }
+    ensures league { IsOfLeague n result }
+{
+    let teams = two_below(random, n);
+    let slot = below(random, 2 * (n - 1));
+    Swap::PartTeamSwap {
+        i: TeamId(teams.low),
+        j: TeamId(teams.high),
+        s: SlotId(slot),
+    }
+}
+
+/// A move of a league of n teams: mostly one that touches a part of two rounds or of two teams' games.
+pub(crate) fn drawn_move(random: &mut Pcg32, n: u16, phased: bool) -> Swap
+    requires teams { IsTeamCount n }
+    ensures league { IsOfLeague n result }
+{
+    let kind = below(random, 256);
+    if kind < 60 {
+        home_swap(random, n)
+    } else if kind < 66 {
+        round_swap(random, n, phased)
+    } else if kind < 72 {
+        team_swap(random, n)
+    } else if kind < 164 {
+        part_round_swap(random, n, phased)
+    } else {
+        part_team_swap(random, n)
+    }
+}

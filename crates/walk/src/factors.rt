@@ -1,0 +1,170 @@
+//! A random order of all meetings, by hill climbing (Dinitz and Stinson 1987): a round for each slot of a half.
+
+use crate::draws::below;
+use rand_pcg::Pcg32;
+use std::alloc::{AllocError, Global};
+
+/// The most teams of a league.
+const TEAMS: usize = 40;
+
+/// Whom each team meets in each slot of a half, and in which slot each two teams meet, as far as that is settled.
+#[derive(Drop)]
+pub(crate) struct Factors {
+    n: u16,
+    slots: u16,
+    opponents: Vec<Option<u16>>,
+    meetings: Vec<Option<u16>>,
+    met: u32,
+}
+
+/// The number in a table's row and column, where there is one.
+fn entry(table: &[Option<u16>], row: u16, column: u16) -> Option<u16> {
+    match table.get(row as usize * TEAMS + column as usize) {
+        Some(entry) => *entry,
+        None => None,
+    }
+}
+
+/// Sets the number in a table's row and column.
+fn set_entry(table: &mut [Option<u16>], row: u16, column: u16, value: Option<u16>) {
+    if let Some(entry) = table.get_mut(row as usize * TEAMS + column as usize) {
+        *entry = value;
+    }
+}
+
+impl Factors {
+    /// No meeting yet of n teams in one slot less.
+    ///
+    /// # Errors
+    /// Only where memory runs out.
+    fn new(alloc: Global, n: u16) -> Result<Factors, AllocError> {
+        Ok(Factors {
+            n,
+            slots: n.saturating_sub(1),
+            opponents: vec![in alloc; None; 1600]?,
+            meetings: vec![in alloc; None; 1600]?,
+            met: 0,
+        })
+    }
+
+    /// All meetings in a random order, if the climb gets there in so many steps.
+    ///
+    /// # Errors
+    /// Only where memory runs out.
+    pub(crate) fn drawn(
+        alloc: Global,
+        n: u16,
+        random: &mut Pcg32,
+        limit: u32,
+    ) -> Result<Option<Factors>, AllocError> {
+        let mut factors = Factors::new(alloc, n)?;
+        let all = u32::from(n).wrapping_mul(u32::from(n.saturating_sub(1))) / 2;
+        for _step in 0..limit {
+            if factors.met == all {
+                return Ok(Some(factors));
+            }
+            if below(random, 2) == 0 {
+                factors.climb_from_team(random);
+            } else {
+                factors.climb_from_slot(random);
+            }
+        }
+        Ok(None)
+    }
+
+    /// The opponent of a team in a slot of the first half.
+    pub(crate) fn opponent(&self, team: u16, slot: u16) -> Option<u16> {
+        entry(&self.opponents, slot, team)
+    }
+
+    /// Gives a team a meeting that it lacks in a slot in which it is free.
+    fn climb_from_team(&mut self, random: &mut Pcg32) {
+        let team = self.any_team(random);
+        let Some(slot) = self.free_slot(team, random) else {
+            return;
+        };
+        let Some(other) = self.lacked_opponent(team, random) else {
+            return;
+        };
+        if let Some(third) = self.opponent(other, slot) {
+            self.part(other, third, slot);
+        }
+        self.meet(team, other, slot);
+    }
+
+    /// Lets two teams that are free in a slot meet there.
+    fn climb_from_slot(&mut self, random: &mut Pcg32) {
+        let slot = self.any_slot(random);
+        let start = self.any_team(random);
+        let Some(team) = self.free_team(slot, start) else {
+            return;
+        };
+        let Some(other) = self.free_team(slot, team.saturating_add(1)) else {
+            return;
+        };
+        if let Some(before) = entry(&self.meetings, team, other) {
+            self.part(team, other, before);
+        }
+        self.meet(team, other, slot);
+    }
+
+    /// Some team.
+    fn any_team(&self, random: &mut Pcg32) -> u16 {
+        below(random, self.n.max(1))
+    }
+
+    /// Some slot of the first half.
+    fn any_slot(&self, random: &mut Pcg32) -> u16 {
+        below(random, self.slots.max(1))
+    }
+
+    /// The first slot, from some slot on, in which a team is free.
+    fn free_slot(&self, team: u16, random: &mut Pcg32) -> Option<u16> {
+        let start = self.any_slot(random);
+        let slots = start..self.slots;
+        slots
+            .chain(0..start)
+            .find(|slot| self.opponent(team, *slot).is_none())
+    }
+
+    /// The first team, from some team on, that a team has not met.
+    fn lacked_opponent(&self, team: u16, random: &mut Pcg32) -> Option<u16> {
+        let start = self.any_team(random);
+        let others = start..self.n;
+        others.chain(0..start).find(|other| *other != team
+            && entry(&self.meetings, team, *other).is_none())
+    }
+
+    /// The first team, from one on, that is free in a slot.
+    fn free_team(&self, slot: u16, start: u16) -> Option<u16> {
+        (start..self.n).find(|team| self.opponent(*team, slot).is_none())
+    }
+
+    /// Lets two teams meet in a slot.
+    fn meet(&mut self, team: u16, other: u16, slot: u16) {
+        self.settle(team, other, slot, Some(team), Some(other), Some(slot));
+        self.met = self.met.saturating_add(1);
+    }
+
+    /// Lets two teams not meet in a slot any more.
+    fn part(&mut self, team: u16, other: u16, slot: u16) {
+        self.settle(team, other, slot, None, None, None);
+        self.met = self.met.saturating_sub(1);
+    }
+
+    /// Writes whom two teams meet in a slot, and where they meet.
+    fn settle(
+        &mut self,
+        team: u16,
+        other: u16,
+        slot: u16,
+        of_other: Option<u16>,
+        of_team: Option<u16>,
+        at: Option<u16>,
+    ) {
+        set_entry(&mut self.opponents, slot, team, of_team);
+        set_entry(&mut self.opponents, slot, other, of_other);
+        set_entry(&mut self.meetings, team, other, at);
+        set_entry(&mut self.meetings, other, team, at);
+    }
+}

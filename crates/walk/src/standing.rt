@@ -1,0 +1,184 @@
+//! Where a walk stands, and how it goes on from there.
+ghost use Rattle.std.specs.Prelude.{◌≡◌, ◌<◌, ◌≤◌, IfOk};
+ghost use Rattle.std.specs.List.{All};
+ghost use Rattle.league.specs.Counts.{counts_of};
+ghost use Rattle.league.specs.Instance.{IsGame, IsTeamCount};
+ghost use Rattle.league.specs.Structure.{IsRoundRobin};
+ghost use Rattle.cells.specs.Table.{table_counts};
+ghost use Rattle.moves.specs.Moves.{IsOfLeague};
+ghost use Rattle.moves.specs.Round.{round_counts};
+ghost use Rattle.descent.specs.Score.{IsNoWorse, score_on};
+ghost use Rattle.walk.specs.Standing.{IsKept, IsStandingOn};
+
+use crate::best::Kept;
+use crate::draws::{below, drawn_move};
+use crate::threshold::Threshold;
+use descent::Score;
+use league::{Schedule, TeamId};
+use moves::{Board, Edit, Swap, edit_of};
+use rand_pcg::Pcg32;
+use rule_core::{Rule, Steps};
+use std::alloc::{AllocError, Global};
+use tally::Tally;
+
+/// How many moves are drawn, legal or not, for each that may be tried.
+const DRAWS: u64 = 8;
+
+/// A double round robin on a board, and room for the games of a move.
+#[derive(Drop)]
+pub(crate) struct Standing {
+    pub(crate) board: Board,
+    edit: Edit,
+}
+
+impl Standing {
+    /// A walk that stands on the games of a double round robin.
+    ///
+    /// # Errors
+    /// Only where memory runs out.
+    pub(crate) fn new(
+        alloc: Global,
+        n: u16,
+        phased: bool,
+        first: &Schedule,
+    ) -> Result<Standing, AllocError>
+        requires teams { IsTeamCount n }
+        requires fit { All (IsGame n) first.now }
+        requires round_robin { IsRoundRobin n phased (counts_of first.now) }
+        ensures standing { IfOk result (IsStandingOn n phased (counts_of first.now)) }
+    {
+        Ok(Standing {
+            board: Board::new(alloc, n, phased, first)?,
+            edit: Edit::new(alloc, n)?,
+        })
+    }
+
+    /// Tries moves until so many were legal, or the hard rules cost nothing: each is made where its score passes a drawn
+    /// threshold. Says how many were tried.
+    pub(crate) fn meet<R: Rule<L>, L>(
+        &mut self,
+        random: &mut Pcg32,
+        limit: u64,
+        tally: &mut Tally<R>,
+        steps: &mut Steps<L>,
+    ) -> u64
+        requires standing { IsStandingOn tally.old.table.n self.old.board.phased (table_counts tally.old.table)
+            self.old }
+        ensures standing { IsStandingOn tally.old.table.n self.old.board.phased (round_counts self.new.board)
+            self.new }
+        ensures tried { result ≤ limit }
+    {
+        let n = self.board.n();
+        let phased = self.board.phased();
+        let mut tried = 0;
+        'draws: for _drawn in 0..limit.saturating_mul(DRAWS) {
+            if tried == limit || tally.infeasibility() == 0 {
+                return tried;
+            }
+            let step = drawn_move(random, n, phased);
+            let legal = self.attempt(step, Threshold::hard(random), tally, steps);
+            tried = with_move(tried, limit, legal);
+        }
+        tried
+    }
+
+    /// Tries moves until so many were legal: each is made where the hard rules cost no more, and the soft ones not much
+    /// more, by a threshold that falls. The best games on the way are kept. Says how many moves were tried.
+    pub(crate) fn improve<R: Rule<L>, L>(
+        &mut self,
+        random: &mut Pcg32,
+        limit: u64,
+        best: &mut Kept,
+        tally: &mut Tally<R>,
+        steps: &mut Steps<L>,
+    ) -> u64
+        requires standing { IsStandingOn tally.old.table.n self.old.board.phased (table_counts tally.old.table)
+            self.old }
+        requires best { IsKept tally.old.table.n self.old.board.phased (score_on R.Entries tally.old.weights) best.old }
+        ensures standing { IsStandingOn tally.old.table.n self.old.board.phased (round_counts self.new.board)
+            self.new }
+        ensures best { IsKept tally.old.table.n self.old.board.phased (score_on R.Entries tally.old.weights) best.new }
+        ensures no_worse { IsNoWorse best.new.score best.old.score }
+        ensures tried { result ≤ limit }
+    {
+        let n = self.board.n();
+        let phased = self.board.phased();
+        let mut tried = 0;
+        'draws: for _drawn in 0..limit.saturating_mul(DRAWS) {
+            if tried == limit {
+                return tried;
+            }
+            let step = drawn_move(random, n, phased);
+            let legal = self.attempt(step, Threshold::soft(limit - tried, limit), tally, steps);
+            tried = with_move(tried, limit, legal);
+            best.keep(&self.board, Score::of(tally));
+        }
+        tried
+    }
+
+    /// Tries a move on a tally's games: makes it where it is legal and its score passes the threshold. Says whether it is
+    /// legal.
+    fn attempt<R: Rule<L>, L>(
+        &mut self,
+        step: Swap,
+        threshold: Threshold,
+        tally: &mut Tally<R>,
+        steps: &mut Steps<L>,
+    ) -> bool
+        requires league { IsOfLeague self.old.board.n step }
+        requires standing { IsStandingOn tally.old.table.n self.old.board.phased (table_counts tally.old.table)
+            self.old }
+        ensures weights { tally.new.weights ≡ tally.old.weights }
+        ensures teams { tally.new.table.n ≡ tally.old.table.n }
+        ensures standing { IsStandingOn tally.old.table.n self.old.board.phased (table_counts tally.new.table)
+            self.new }
+    {
+        if !edit_of(&step, &self.board, &mut self.edit) {
+            return false;
+        }
+        let before = Score::of(tally);
+        let after = tally.weigh(&self.edit, steps);
+        if !threshold.passes(before, &after) {
+            return true;
+        }
+        tally.apply(&self.edit, steps);
+        self.board.apply(&self.edit);
+        true
+    }
+
+    /// Puts the teams in a random order, by moves of two teams.
+    pub(crate) fn shuffle(&mut self, random: &mut Pcg32)
+        requires standing { IsStandingOn self.old.board.n self.old.board.phased (round_counts self.old.board) self.old }
+        ensures standing { IsStandingOn self.old.board.n self.old.board.phased (round_counts self.new.board) self.new }
+    {
+        let n = self.board.n();
+        for later in 1..n {
+            let earlier = below(random, later + 1);
+            if earlier < later {
+                self.make_if_legal(Swap::TeamSwap {
+                    i: TeamId(earlier),
+                    j: TeamId(later),
+                });
+            }
+        }
+    }
+
+    /// Makes a move where it is legal.
+    fn make_if_legal(&mut self, step: Swap)
+        requires league { IsOfLeague self.old.board.n step }
+        requires standing { IsStandingOn self.old.board.n self.old.board.phased (round_counts self.old.board) self.old }
+        ensures standing { IsStandingOn self.old.board.n self.old.board.phased (round_counts self.new.board) self.new }
+    {
+        if edit_of(&step, &self.board, &mut self.edit) {
+            self.board.apply(&self.edit);
+        }
+    }
+}
+
+/// The number of moves tried, with one more where it is legal.
+fn with_move(tried: u64, limit: u64, legal: bool) -> u64
+    requires { tried < limit }
+    ensures { result ≤ limit }
+{
+    if legal { tried + 1 } else { tried }
+}

@@ -1,0 +1,43 @@
+//! How much worse a move may make a schedule.
+
+use descent::Score;
+use rand_core::utils::NextWord;
+use rand_pcg::Pcg32;
+use tally::Sums;
+
+/// By how much a move may raise what the rules cost.
+#[derive(Clone, Copy)]
+pub(crate) struct Threshold {
+    hard: u128,
+    soft: u128,
+}
+
+impl Threshold {
+    /// A drawn threshold of the hard rules: three times the negated logarithm, to the base 2, of a random number below 1.
+    /// The soft rules cost nothing more.
+    pub(crate) fn hard(random: &mut Pcg32) -> Threshold {
+        let word = random.next_word();
+        let zeros = u64::from(word.leading_zeros());
+        let rest = u64::from(word).wrapping_shl(word.leading_zeros()) % 2_147_483_648;
+        let eighths = (8 * zeros + 8).saturating_sub(rest / 268_435_456);
+        Threshold {
+            hard: u128::from(3 * eighths / 8),
+            soft: 0,
+        }
+    }
+
+    /// The threshold of the soft rules where so many of a number of moves are left: it falls from 10 to 0. The hard rules
+    /// cost nothing more.
+    pub(crate) fn soft(left: u64, limit: u64) -> Threshold {
+        Threshold {
+            hard: 0,
+            soft: u128::from(left / (limit / 10 + 1)),
+        }
+    }
+
+    /// Whether a move may be made from a score to games that cost so much.
+    pub(crate) fn passes(self, before: Score, after: &Sums) -> bool {
+        after.infeasibility <= before.infeasibility.saturating_add(self.hard)
+            && after.objective <= before.objective.saturating_add(self.soft)
+    }
+}

@@ -1,0 +1,231 @@
+//! A walk in a league: searches one after another, of which the best games are kept.
+ghost use Rattle.std.specs.Prelude.{◌≡◌, ◌≤◌, length, IfOk, OnOk};
+ghost use Rattle.std.specs.List.{All};
+ghost use Rattle.league.specs.Counts.{counts_of};
+ghost use Rattle.league.specs.Instance.{IsGame};
+ghost use Rattle.league.specs.Structure.{IsRoundRobin};
+ghost use Rattle.descent.specs.Score.{IsNoWorse};
+ghost use Rattle.walk.specs.Standing.{IsWalkerIn};
+ghost use Rattle.walk.specs.Walked.{league_score};
+
+use crate::afresh::random_start;
+use crate::best::Kept;
+use crate::copies::{copy_games, room_for_games};
+use crate::hard::hard_tally;
+use crate::standing::Standing;
+use crate::weights::Weights;
+use descent::Score;
+use league::{Game, League, Schedule};
+use rand_core::SeedableRng;
+use rand_pcg::Pcg32;
+use rule_core::{Plain, Steps};
+use std::alloc::{AllocError, Global};
+use tally::league_tally;
+
+/// After so many moves tried the weights of the hard constraints are adapted.
+const STRETCH: u64 = 2000;
+
+/// Where a walk stands, room for a copy of its games, the best games so far, and how many moves may still be tried.
+#[derive(Drop)]
+pub(crate) struct Walker {
+    standing: Standing,
+    games: Vec<Game>,
+    best: Kept,
+    random: Pcg32,
+    left: u64,
+}
+
+impl Walker {
+    /// A walk from the games of a double round robin.
+    ///
+    /// # Errors
+    /// Only where memory runs out.
+    pub(crate) fn new(
+        alloc: Global,
+        league: &League,
+        start: &Schedule,
+        seed: u64,
+        budget: u64,
+    ) -> Result<Walker, AllocError>
+        requires fit { All (IsGame league.now.n) start.now }
+        requires round_robin { IsRoundRobin league.now.n league.now.phased (counts_of start.now) }
+        ensures walker { IfOk result (IsWalkerIn league.now) }
+        ensures score { IfOk result (λ walker. walker.best.score ≡ league_score league.now (counts_of start.now)) }
+        ensures left { IfOk result (λ walker. walker.left ≡ budget) }
+    {
+        let n = league.n();
+        let standing = Standing::new(alloc, n, league.phased(), start)?;
+        let mut games = room_for_games(alloc, n)?;
+        copy_games(&standing.board, &mut games);
+        let score = cost_of(alloc, league, &games)?;
+        let best = Kept::new(alloc, &standing.board, score)?;
+        Ok(Walker {
+            standing,
+            games,
+            best,
+            random: Pcg32::seed_from_u64(seed),
+            left: budget,
+        })
+    }
+
+    /// Looks for games that meet the hard constraints, and from there for better ones: from the games where it stands, or
+    /// from a new double round robin where that is wanted, with the teams in a random order.
+    ///
+    /// # Errors
+    /// Only where memory runs out.
+    pub(crate) fn search(
+        &mut self,
+        alloc: Global,
+        league: &League,
+        afresh: bool,
+    ) -> Result<(), AllocError>
+        requires walker { IsWalkerIn league.now self.old }
+        ensures walker { OnOk result (IsWalkerIn league.now self.new) }
+        ensures no_worse { OnOk result (IsNoWorse self.new.best.score self.old.best.score) }
+        ensures left { OnOk result (self.new.left ≤ self.old.left) }
+    {
+        self.place(alloc, league, afresh)?;
+        self.meet_hard(alloc, league)?;
+        self.lower_soft(alloc, league)?;
+        Ok(())
+    }
+
+    /// Puts the teams in a random order, of a new double round robin where that is wanted and one is found.
+    ///
+    /// # Errors
+    /// Only where memory runs out.
+    fn place(&mut self, alloc: Global, league: &League, afresh: bool) -> Result<(), AllocError>
+        requires walker { IsWalkerIn league.now self.old }
+        ensures walker { OnOk result (IsWalkerIn league.now self.new) }
+        ensures best { OnOk result (self.new.best ≡ self.old.best) }
+        ensures left { OnOk result (self.new.left ≡ self.old.left) }
+    {
+        self.restart(alloc, league, afresh)?;
+        self.standing.shuffle(&mut self.random);
+        Ok(())
+    }
+
+    /// Goes to a random double round robin, where that is wanted and one is found.
+    ///
+    /// # Errors
+    /// Only where memory runs out.
+    fn restart(&mut self, alloc: Global, league: &League, afresh: bool) -> Result<(), AllocError>
+        requires walker { IsWalkerIn league.now self.old }
+        ensures walker { OnOk result (IsWalkerIn league.now self.new) }
+        ensures best { OnOk result (self.new.best ≡ self.old.best) }
+        ensures left { OnOk result (self.new.left ≡ self.old.left) }
+    {
+        if !afresh {
+            return Ok(());
+        }
+        let Some(start) = random_start(alloc, league, &mut self.random)? else {
+            return Ok(());
+        };
+        self.standing = Standing::new(alloc, league.n(), league.phased(), &start)?;
+        Ok(())
+    }
+
+    /// Looks for games that meet the hard constraints, in stretches after each of which the weights are adapted.
+    ///
+    /// # Errors
+    /// Only where memory runs out.
+    fn meet_hard(&mut self, alloc: Global, league: &League) -> Result<(), AllocError>
+        requires walker { IsWalkerIn league.now self.old }
+        ensures walker { OnOk result (IsWalkerIn league.now self.new) }
+        ensures best { OnOk result (self.new.best ≡ self.old.best) }
+        ensures left { OnOk result (self.new.left ≤ self.old.left) }
+    {
+        let mut weights = Weights::new(alloc, league)?;
+        'stretches: for _stretch in 0..self.left / STRETCH + 1 {
+            if self.stretch(alloc, league, &mut weights)? {
+                return Ok(());
+            }
+        }
+        Ok(())
+    }
+
+    /// One stretch, by the weights as they are. Says whether nothing is left to do: the hard constraints are met, or no
+    /// move may be tried any more.
+    ///
+    /// # Errors
+    /// Only where memory runs out.
+    fn stretch(
+        &mut self,
+        alloc: Global,
+        league: &League,
+        weights: &mut Weights,
+    ) -> Result<bool, AllocError>
+        requires walker { IsWalkerIn league.now self.old }
+        ensures walker { OnOk result (IsWalkerIn league.now self.new) }
+        ensures best { OnOk result (self.new.best ≡ self.old.best) }
+        ensures left { OnOk result (self.new.left ≤ self.old.left) }
+    {
+        copy_games(&self.standing.board, &mut self.games);
+        let mut steps = Steps::<Plain>::start();
+        let mut tally = hard_tally(alloc, league, weights, &self.games, &mut steps)?;
+        let limit = self.left.min(STRETCH);
+        let tried = self
+            .standing
+            .meet(&mut self.random, limit, &mut tally, &mut steps);
+        self.left -= tried;
+        weights.adapt(&tally);
+        Ok(tally.infeasibility() == 0 || self.left == 0)
+    }
+
+    /// Keeps the games where they are better than the best so far, and where they meet the hard constraints goes on to
+    /// better ones.
+    ///
+    /// # Errors
+    /// Only where memory runs out.
+    fn lower_soft(&mut self, alloc: Global, league: &League) -> Result<(), AllocError>
+        requires walker { IsWalkerIn league.now self.old }
+        ensures walker { OnOk result (IsWalkerIn league.now self.new) }
+        ensures no_worse { OnOk result (IsNoWorse self.new.best.score self.old.best.score) }
+        ensures left { OnOk result (self.new.left ≤ self.old.left) }
+    {
+        copy_games(&self.standing.board, &mut self.games);
+        let mut steps = Steps::<Plain>::start();
+        let mut tally = league_tally(alloc, league, 1, &self.games, &mut steps)?;
+        self.best.keep(&self.standing.board, Score::of(&tally));
+        if tally.infeasibility() > 0 {
+            return Ok(());
+        }
+        let tried = self.standing.improve(
+            &mut self.random,
+            self.left,
+            &mut self.best,
+            &mut tally,
+            &mut steps,
+        );
+        self.left -= tried;
+        Ok(())
+    }
+
+    /// How many moves may still be tried.
+    pub(crate) fn left(&self) -> u64
+        ensures { result ≡ self.now.left }
+    {
+        self.left
+    }
+
+    /// The best games.
+    pub(crate) fn into_kept(self) -> Kept
+        ensures { result ≡ self.best }
+    {
+        self.best
+    }
+}
+
+/// What games cost in a league.
+///
+/// # Errors
+/// Only where memory runs out.
+fn cost_of(alloc: Global, league: &League, games: &[Game]) -> Result<Score, AllocError>
+    requires fit { All (IsGame league.now.n) games.now }
+    requires few { length games.now ≤ 1600 }
+    ensures { IfOk result (λ score. score ≡ league_score league.now (counts_of games.now)) }
+{
+    let mut steps = Steps::<Plain>::start();
+    let tally = league_tally(alloc, league, 1, games, &mut steps)?;
+    Ok(Score::of(&tally))
+}

@@ -1,0 +1,77 @@
+//! Weights of the hard constraints, which grow while a constraint isn't met.
+
+use league::{Constraint, League};
+use rule_core::Entries;
+use std::alloc::{AllocError, Global};
+use tally::Tally;
+
+/// What a unit of a hard constraint's deviation weighs now, and its penalty.
+#[derive(Clone, Copy)]
+struct Weight {
+    penalty: u32,
+    now: u32,
+}
+
+impl Weight {
+    /// Ten times the penalty, where a penalty of 0 counts as 1.
+    fn of(constraint: &Constraint) -> Weight {
+        let penalty = constraint.penalty.max(1);
+        Weight {
+            penalty,
+            now: penalty.saturating_mul(10),
+        }
+    }
+
+    /// A sixteenth less where the constraint is met, but at least 5 times the penalty; else an eighth more, but at most
+    /// 80 times the penalty.
+    fn adapted(self, met: bool) -> Weight {
+        let now = if met {
+            let less = self.now - self.now / 16;
+            less.max(self.penalty.saturating_mul(5))
+        } else {
+            let more = self.now.saturating_add(self.now / 8).saturating_add(1);
+            more.min(self.penalty.saturating_mul(80))
+        };
+        Weight { now, ..self }
+    }
+}
+
+/// A weight for each hard constraint, in their order.
+#[derive(Drop)]
+pub(crate) struct Weights {
+    weights: Vec<Weight>,
+}
+
+impl Weights {
+    /// The weights at the start.
+    ///
+    /// # Errors
+    /// Only where memory runs out.
+    pub(crate) fn new(alloc: Global, league: &League) -> Result<Weights, AllocError> {
+        let mut weights = Vec::new(alloc);
+        for constraint in league.constraints() {
+            if constraint.hard {
+                weights.push(Weight::of(constraint))?;
+            }
+        }
+        Ok(Weights { weights })
+    }
+
+    /// The weight of the hard constraint at a place, from 0.
+    pub(crate) fn at(&self, place: usize) -> u32 {
+        match self.weights.get(place) {
+            Some(weight) => weight.now,
+            None => 10,
+        }
+    }
+
+    /// Makes each weight greater or smaller by whether its rule, of a tally of the hard constraints, is met.
+    pub(crate) fn adapt<R: Entries>(&mut self, tally: &Tally<R>) {
+        for place in 0..tally.rule_count() {
+            let met = tally.vector(place).iter().all(|entry| *entry == 0);
+            if let Some(weight) = self.weights.get_mut(place) {
+                *weight = weight.adapted(met);
+            }
+        }
+    }
+}
