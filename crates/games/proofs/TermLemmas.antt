@@ -11,4 +11,5 @@ use Rattle.games.specs.declared.ga1.Ga1.{Ga1}
 pub meetings_ascend : (r : Ga1) → IsAscending pair_cmp r.meetings.list
 meetings_ascend r =
     let are = (and_parts (are_meetings r.meetings.n r.meetings.list) (are_slots r.meetings.n r.slots) r.ready.fits).0 in
-    IsAscending-ascends pair_cmp r.meetings.list (and_parts (list_all (is_meeting r.meetings.n) r.meetings.list) (ascends pair_cmp r.meetings.list) are).1
+    IsAscending-ascends pair_cmp r.meetings.list
+    (and_parts (list_all (is_meeting r.meetings.n) r.meetings.list) (ascends pair_cmp r.meetings.list) are).1

@@ -9,4 +9,6 @@ pub returns-clause-entries : goal.returns-clause-entries
 returns-clause-entries g c =
     let rule = c.args.self.now in
     c.push_lacking.ensures.entries
-    ∙ ap (λ (xs : List ℕ). c.args.entries.now.items ++ xs) (se1_vector rule.n (table_counts c.args.cells.now) rule.pairs c.teams.result.now rule.min c.args.cells.now.n c.requires.teams c.teams.ensures)
+    ∙ ap (λ (xs : List ℕ). c.args.entries.now.items ++ xs)
+    (se1_vector rule.n (table_counts c.args.cells.now) rule.pairs c.teams.result.now rule.min c.args.cells.now.n
+    c.requires.teams c.teams.ensures)
