@@ -1,5 +1,4 @@
 -- What the slot by slot form needs of its rule.
-use Rattle.std.proofs.Common.{◌&&◌}
 use Rattle.std.proofs.lemmas.Bool.{and_parts}
 use Rattle.std.specs.List.{list_all}
 use Rattle.league.specs.Instance.{are_meetings, are_slots, is_meeting}

@@ -1,11 +1,11 @@
 -- What a team's games with each other team lack, with the games of one slot more.
-use Rattle.std.proofs.Common.{◌≡◌, ◌≢◌, ℕ, ◌+◌, ◌-◌, ◌*◌, ◌<◌, ◌≤◌, zero, suc, Bool, true, false, ◌||◌, ◌==◌, rules}
+use Rattle.std.proofs.Common.{◌≡◌, ◌≢◌, ℕ, ◌+◌, ◌-◌, ◌*◌, ◌<◌, ◌≤◌, Bool, true, false, ◌||◌, ◌==◌, rules}
 use Rattle.std.proofs.Common.{nat_lt, List, [], ◌∷◌, ◌++◌, length, get_or, map, drop, replicate, refl, arith, ap, sym}
 use Rattle.std.proofs.Common.{◌∙◌, inl, inr, subst, Option, Some, None, cond}
 use Rattle.std.proofs.lemmas.Bool.{cases_eq}
 use Rattle.std.proofs.lemmas.Bool.Decides.{nat_tests}
 use Rattle.std.proofs.lemmas.List.{append_assoc, length-append, length-map, map-append}
-use Rattle.std.specs.List.{All, flat_map, range_with_len}
+use Rattle.std.specs.List.{flat_map, range_with_len}
 use Rattle.std.specs.Option.{IfSome, option_to_list}
 use Rattle.league.specs.Counts.{Counts, slot_count}
 use Rattle.league.specs.Meetings.{pairs_of}
@@ -16,7 +16,7 @@ use Rattle.cells.specs.declared.place.Place.TheVariants.{Away, Free, Home}
 use Rattle.league.specs.declared.game.TeamId.{TeamId}
 use Rattle.separation.specs.TeamGaps.{AreSummed, HasRoom, IsPlaceOf, IsSummed, games_from, last_before}
 use Rattle.separation.specs.declared.team_gaps.TeamGaps.{TeamGaps}
-use Rattle.separation.proofs.GapLemmas.{from_slot, slot_free, slot_played}
+use Rattle.separation.proofs.GapLemmas.{slot_free, slot_played}
 
 -- the last game, where there is one, and where there is none
 pub last_before-some : (s : ℕ) → last_before (s + 1) ≡ Some s

@@ -1,6 +1,5 @@
-use Rattle.std.proofs.Common.{◌≡◌, ℕ, ◌<◌, length, arith, ◌∙◌}
+use Rattle.std.proofs.Common.{ℕ, ◌<◌, length, arith, ◌∙◌}
 use Rattle.league.specs.Bounds.{difference, excess}
-use Rattle.league.specs.Counts.{Counts}
 use Rattle.league.specs.Fairness.{home_played}
 use Rattle.fairness.proofs.PlayedLemmas.{gap_is, lead_all, lead_more}
 use Rattle.fairness.proofs.played.lead_in_rows.Goals as goal

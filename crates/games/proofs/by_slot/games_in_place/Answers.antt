@@ -1,4 +1,4 @@
-use Rattle.std.proofs.Common.{◌≡◌, ℕ, ◌<◌, ◌∙◌, ap, cond}
+use Rattle.std.proofs.Common.{ℕ, ◌∙◌, ap, cond}
 use Rattle.cells.specs.Places.{hosts}
 use Rattle.cells.specs.declared.place.Place.{Place}
 use Rattle.games.proofs.ListedLemmas.{guest_below, listed_no_guest, listed_one_guest}

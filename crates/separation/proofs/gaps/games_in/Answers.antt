@@ -1,4 +1,4 @@
-use Rattle.std.proofs.Common.{◌≡◌, ℕ, ◌+◌, cond, ap, arith}
+use Rattle.std.proofs.Common.{ℕ, cond, ap, arith}
 use Rattle.cells.specs.Places.{hosts, visits}
 use Rattle.cells.specs.declared.place.Place.{Place}
 use Rattle.separation.proofs.gaps.games_in.Goals as goal

@@ -1,4 +1,4 @@
-use Rattle.std.proofs.Common.{◌≡◌, ℕ, ◌<◌, ◌≤◌, ◌++◌, List, [], ◌∷◌, length, map, arith, ap, subst, sym, ◌∙◌}
+use Rattle.std.proofs.Common.{◌≡◌, ℕ, ◌<◌, ◌++◌, List, [], ◌∷◌, map, arith, ap, subst, sym, ◌∙◌}
 use Rattle.std.proofs.lemmas.List.{append_assoc}
 use Rattle.std.proofs.lemmas.List.FromFn.{map-range_with_len_more}
 use Rattle.std.specs.List.{All, range_with_len}
@@ -8,7 +8,7 @@ use Rattle.cells.specs.Table.{table_counts}
 use Rattle.keys.proofs.PairLemmas.{pair_below, pair_each}
 use Rattle.fairness.specs.Fa2.{class_of}
 use Rattle.fairness.specs.Played.{IsPlayed}
-use Rattle.fairness.proofs.TermLemmas.{fa2_term, slots_ascending, slots_below, slots_few, teams_below}
+use Rattle.fairness.proofs.TermLemmas.{fa2_term, slots_ascending, slots_few, teams_below}
 use Rattle.fairness.proofs.fa2.Fa2Rule.every.Goals as goal
 
 pub fill_played-requires-clause-ascending : goal.fill_played-requires-clause-ascending

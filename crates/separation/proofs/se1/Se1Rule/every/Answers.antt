@@ -1,6 +1,4 @@
-use Rattle.std.proofs.Common.{◌≡◌, ℕ, ◌++◌, List, length, map, get_or, refl, ap, ◌∙◌}
-use Rattle.league.specs.Meetings.{pairs_of}
-use Rattle.league.specs.Separation.{se1_entry}
+use Rattle.std.proofs.Common.{ℕ, ◌++◌, List, ap, ◌∙◌}
 use Rattle.cells.specs.Table.{table_counts}
 use Rattle.separation.proofs.TermLemmas.{se1_vector}
 use Rattle.separation.proofs.se1.Se1Rule.every.Goals as goal

@@ -1,4 +1,4 @@
-use Rattle.std.proofs.Common.{◌≡◌, ◌≢◌, ℕ, ◌+◌, ◌<◌, refl, arith, sym, subst}
+use Rattle.std.proofs.Common.{ℕ, ◌+◌, ◌<◌, refl, arith, sym, subst}
 use Rattle.cells.specs.Table.{table_counts}
 use Rattle.separation.specs.TeamGaps.{IsSummed}
 use Rattle.separation.specs.declared.team_gaps.TeamGaps.{TeamGaps}

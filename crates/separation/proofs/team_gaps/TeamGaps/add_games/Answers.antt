@@ -1,4 +1,4 @@
-use Rattle.std.proofs.Common.{◌≡◌, ℕ, ◌+◌, ◌<◌, ◌≤◌, length, get_or, arith, replicate, ◌++◌, ap, ◌∙◌, Option}
+use Rattle.std.proofs.Common.{ℕ, ◌+◌, ◌<◌, length, get_or, arith, replicate, ◌++◌, ap, ◌∙◌, Option}
 use Rattle.std.proofs.lemmas.List.{get_or-set_same}
 use Rattle.std.specs.Option.{option_to_list}
 use Rattle.league.specs.Separation.{lacking}
