@@ -146,7 +146,9 @@ impl Entries for Ca4 {
 impl<L> Rule<L> for Ca4 {
     fn term(&self, key: usize, cells: &Cells, steps: &mut Steps<L>) -> u64 {
         steps.tick();
-        let games = self.opponents.games_of_hosts(cells, &self.hosts, self.slots_at(key));
+        let games = self
+            .opponents
+            .games_of_hosts(cells, &self.hosts, self.slots_at(key));
         outside(self.min, self.max, games)
     }
 }

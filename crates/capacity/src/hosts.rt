@@ -83,7 +83,11 @@ impl Opponents {
         ensures games { result ≡ counted self.now.side self.now.teams1 self.now.teams2 host.0 guest.0 }
         ensures at_most { result ≤ 1 }
     {
-        if guest.0 != host.0 && self.meet(host, guest) { 1 } else { 0 }
+        if guest.0 != host.0 && self.meet(host, guest) {
+            1
+        } else {
+            0
+        }
     }
 
     /// Those of one home team, looked up for each guest.

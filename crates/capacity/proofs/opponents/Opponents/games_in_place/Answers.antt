@@ -1,4 +1,4 @@
-use Rattle.std.proofs.Common.{◌≡◌, ℕ, ◌==◌, ◌∙◌, ap, cond}
+use Rattle.std.proofs.Common.{ℕ, ◌∙◌, ap, cond}
 use Rattle.cells.specs.Places.{hosts}
 use Rattle.cells.specs.declared.place.Place.{Place}
 use Rattle.capacity.proofs.HostLemmas.{games_no_guest, games_one_guest, guest_below}
