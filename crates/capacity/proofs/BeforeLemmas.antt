@@ -1,5 +1,6 @@
 -- The games of some meetings before each slot: how the list is made, and what it says of windows.
-use Rattle.std.proofs.Common.{◌≡◌, ℕ, ◌+◌, ◌-◌, ◌*◌, ◌<◌, ◌≤◌, List, [], ◌∷◌, length, map, get_or, replicate, set, refl, arith, ap, sym, ◌∙◌, inl, inr}
+use Rattle.std.proofs.Common.{◌≡◌, ℕ, ◌+◌, ◌-◌, ◌*◌, ◌<◌, ◌≤◌, List, [], ◌∷◌, length, map, get_or, replicate, set}
+use Rattle.std.proofs.Common.{refl, arith, ap, sym, ◌∙◌, inl, inr}
 use Rattle.std.proofs.lemmas.Bool.{cases_eq}
 use Rattle.std.proofs.lemmas.List.{get_or-map, get_or-set_other, get_or-set_same, length-replicate, length-set}
 use Rattle.std.proofs.lemmas.List.FromFn.{get_or-range_with_len, length-range_with_len}
@@ -82,9 +83,13 @@ ca3_term r m key teams before slots result inside same are_slots games summed =
     ∙ sym (get_or-map (ca3_entry r.n m others r.min r.max r.intp r.opponents.side) r.opponents.teams1 key 0 0 inside)
 
 -- the entry of a CA3 whose windows are longer than the season
-pub ca3_none : (r : Ca3) (m : Counts) (key teams slots : ℕ) → key < entry_count (class_of r) → teams ≡ r.n → slots ≡ slot_count teams → slots < r.intp → 0 ≡ entry_of r.n m (class_of r) key
+pub ca3_none : (r : Ca3) (m : Counts) (key teams slots : ℕ) → key < entry_count (class_of r) → teams ≡ r.n
+    → slots ≡ slot_count teams → slots < r.intp → 0 ≡ entry_of r.n m (class_of r) key
 ca3_none r m key teams slots inside same are_slots past =
     let i : ℕ = get_or r.opponents.teams1 key 0 in
     let none : slot_count r.n + 1 - r.intp ≡ 0 = omega (arith, are_slots, ap slot_count same) in
-    sym (ap (λ (k : ℕ). sum_by (λ (window : List ℕ). ca2_entry m r.opponents.teams2 r.min r.max r.opponents.side window i) (map (λ (first : ℕ). range_with_len first r.intp) (range_with_len 0 k))) none)
-    ∙ sym (get_or-map (ca3_entry r.n m r.opponents.teams2 r.min r.max r.intp r.opponents.side) r.opponents.teams1 key 0 0 inside)
+    sym (ap (λ (k : ℕ). sum_by
+    (λ (window : List ℕ). ca2_entry m r.opponents.teams2 r.min r.max r.opponents.side window i)
+    (map (λ (first : ℕ). range_with_len first r.intp) (range_with_len 0 k))) none)
+    ∙ sym (get_or-map
+    (ca3_entry r.n m r.opponents.teams2 r.min r.max r.intp r.opponents.side) r.opponents.teams1 key 0 0 inside)

@@ -48,7 +48,8 @@ pub ca4_slots-few : (r : Ca4) (key : ℕ) (read : List ℕ) → key < entry_coun
 ca4_slots-few r key read inside is_read =
     omega (arith, ap length is_read, spans-few r.span r.slots key inside (are_slots-few r.n r.slots r.ready.at_most (fitting_slots r)))
 
-pub ca4_slots-below : (r : Ca4) (key teams : ℕ) (read : List ℕ) → key < entry_count (ca4.class_of r) → teams ≡ r.n → read ≡ get_or (spans r.span r.slots) key [] → All (λ s. s < slot_count teams) read
+pub ca4_slots-below : (r : Ca4) (key teams : ℕ) (read : List ℕ) → key < entry_count (ca4.class_of r) → teams ≡ r.n
+    → read ≡ get_or (spans r.span r.slots) key [] → All (λ s. s < slot_count teams) read
 ca4_slots-below r key teams read inside same is_read =
     let of_rule : All (λ s. s < slot_count r.n) (get_or (spans r.span r.slots) key []) = spans-all (λ s. s < slot_count r.n) r.span r.slots key inside (are_slots-below r.n r.slots (fitting_slots r)) in
     let P : List ℕ → Type 0 = λ xs. All (λ s. s < slot_count teams) xs in
@@ -56,17 +57,27 @@ ca4_slots-below r key teams read inside same is_read =
     subst P (sym is_read) (subst Q (sym same) of_rule)
 
 -- the teams that can be at home, in the league of the counts
-pub ca4_hosts : (r : Ca4) (teams : ℕ) (read : List ℕ) → teams ≡ r.n → read ≡ r.hosts.items → read ≡ filter (can_host r.opponents.side r.opponents.teams1 r.opponents.teams2) (teams_of teams)
+pub ca4_hosts : (r : Ca4) (teams : ℕ) (read : List ℕ) → teams ≡ r.n → read ≡ r.hosts.items
+    → read ≡ filter (can_host r.opponents.side r.opponents.teams1 r.opponents.teams2) (teams_of teams)
 ca4_hosts r teams read same is_read =
-    is_read ∙ r.hosting ∙ ap (λ (k : ℕ). filter (can_host r.opponents.side r.opponents.teams1 r.opponents.teams2) (teams_of k)) (sym same)
+    is_read ∙ r.hosting
+    ∙ ap (λ (k : ℕ). filter (can_host r.opponents.side r.opponents.teams1 r.opponents.teams2) (teams_of k))
+    (sym same)
 
 -- the entry of a CA4, by the games of its meetings in the slots that were read
-pub ca4_term : (r : Ca4) (m : Counts) (key teams : ℕ) (read : List ℕ) (games result : ℕ) → key < entry_count (ca4.class_of r) → teams ≡ r.n → read ≡ get_or (spans r.span r.slots) key [] → games ≡ games_of m (filter (is_between r.opponents.side r.opponents.teams1 r.opponents.teams2) (meetings_of teams)) read → result ≡ outside r.min r.max games → result ≡ entry_of r.n m (ca4.class_of r) key
+pub ca4_term : (r : Ca4) (m : Counts) (key teams : ℕ) (read : List ℕ) (games result : ℕ)
+    → key < entry_count (ca4.class_of r) → teams ≡ r.n → read ≡ get_or (spans r.span r.slots) key []
+    → games ≡ games_of m
+    (filter (is_between r.opponents.side r.opponents.teams1 r.opponents.teams2) (meetings_of teams)) read
+    → result ≡ outside r.min r.max games → result ≡ entry_of r.n m (ca4.class_of r) key
 ca4_term r m key teams read games result inside same is_read counted less =
     let opponents = r.opponents in
     less
     ∙ ap (outside r.min r.max)
     (counted
-    ∙ ap (λ (xs : List ℕ). games_of m (filter (is_between opponents.side opponents.teams1 opponents.teams2) (meetings_of teams)) xs) is_read
-    ∙ ap (λ (k : ℕ). games_of m (filter (is_between opponents.side opponents.teams1 opponents.teams2) (meetings_of k)) (get_or (spans r.span r.slots) key [])) same)
+    ∙ ap (λ (xs : List ℕ). games_of m
+    (filter (is_between opponents.side opponents.teams1 opponents.teams2) (meetings_of teams)) xs) is_read
+    ∙ ap (λ (k : ℕ). games_of m
+    (filter (is_between opponents.side opponents.teams1 opponents.teams2) (meetings_of k))
+    (get_or (spans r.span r.slots) key [])) same)
     ∙ sym (get_or-map (ca4_entry r.n m opponents.teams1 opponents.teams2 r.min r.max opponents.side) (spans r.span r.slots) key [] 0 inside)

@@ -46,4 +46,9 @@ fa2_term r m slots key teams x y result inside same is are_slots led =
 
 pub slots_few : (r : Fa2) (slots : List ℕ) → slots ≡ r.slots.items → length slots ≤ 78
 slots_few r slots are =
-    omega (arith, ap length are, are_slots-few r.n r.slots.items r.ready.at_most (and_parts (are_teams r.n r.pairs) (are_slots r.n r.slots.items) r.ready.fits).1)
+    omega (
+      arith,
+      ap length are,
+      are_slots-few r.n r.slots.items r.ready.at_most
+          (and_parts (are_teams r.n r.pairs) (are_slots r.n r.slots.items) r.ready.fits).1,
+    )

@@ -1,10 +1,11 @@
 -- The games of a set of meetings, home team by home team.
-use Rattle.std.proofs.Common.{◌≡◌, ◌≢◌, ℕ, ◌+◌, ◌*◌, ◌<◌, ◌≤◌, suc, Bool, true, false, cond, ◌&&◌, ◌||◌, ◌==◌, List, [], ◌∷◌, length, get_or, refl, arith, ap, sym, ◌∙◌, ◌⊎◌, inl, inr}
+use Rattle.std.proofs.Common.{◌≡◌, ◌≢◌, ℕ, ◌+◌, ◌*◌, ◌<◌, suc, Bool, true, false, cond, ◌&&◌, ◌||◌, ◌==◌, List}
+use Rattle.std.proofs.Common.{[], ◌∷◌, get_or, refl, arith, ap, sym, ◌∙◌, ◌⊎◌, inl, inr}
 use Rattle.std.proofs.lemmas.Bool.Decides.{nat_tests}
 use Rattle.std.proofs.lemmas.List.Elements.{All-head, All-tail}
 use Rattle.std.proofs.lemmas.List.Folds.{list_any_none}
 use Rattle.std.proofs.lemmas.List.Sums.{sum_by-cons}
-use Rattle.std.specs.List.{All, range_with_len, sum_by}
+use Rattle.std.specs.List.{All, sum_by}
 use Rattle.std.specs.Ordering.{nat_cmp, ordering_then}
 use Rattle.std.specs.declared.cmp.Ordering.{Ordering}
 use Rattle.std.specs.declared.cmp.Ordering.TheVariants.{Equal, Greater, Less}
@@ -38,13 +39,16 @@ earlier Greater p h = absurd (cc)
 differs : (p q : ℕ × ℕ) → pair_cmp p q ≡ Less → ((q.0 == p.0) && (q.1 == p.1)) ≡ false
 differs p q before =
     elim (earlier (nat_cmp p.0 q.0) (nat_cmp p.1 q.1) before) [
-      | inl home ↦ let lt = less_than p.0 q.0 home in let differ : q.0 ≢ p.0 = omega arith in first_differs q.0 p.0 q.1 p.1 differ
-      | inr away ↦ let lt = less_than p.1 q.1 away in let differ : q.1 ≢ p.1 = omega arith in second_differs q.0 p.0 q.1 p.1 differ
+      | inl home ↦ let lt = less_than p.0 q.0 home in
+          let differ : q.0 ≢ p.0 = omega arith in first_differs q.0 p.0 q.1 p.1 differ
+      | inr away ↦ let lt = less_than p.1 q.1 away in
+          let differ : q.1 ≢ p.1 = omega arith in second_differs q.0 p.0 q.1 p.1 differ
     ]
 
 head_once : (p : ℕ × ℕ) (ps : List (ℕ × ℕ)) → IsAscending pair_cmp (p ∷ ps) → is_listed ps p.0 p.1 ≡ false
 head_once p ps ascending =
-    list_any_none (λ q. (q.0 == p.0) && (q.1 == p.1)) ps (λ k d lt. differs p (get_or ps k d) (ascending 0 (suc k) d (omega arith) (omega arith)))
+    list_any_none (λ q. (q.0 == p.0) && (q.1 == p.1)) ps
+    (λ k d lt. differs p (get_or ps k d) (ascending 0 (suc k) d (omega arith) (omega arith)))
 
 rest_ascends : (p : ℕ × ℕ) (ps : List (ℕ × ℕ)) → IsAscending pair_cmp (p ∷ ps) → IsAscending pair_cmp ps
 rest_ascends p ps ascending = λ i j d before within. ascending (suc i) (suc j) d (omega arith) (omega arith)
@@ -61,10 +65,12 @@ part true false x apart = omega arith
 part false r x apart = omega arith
 
 -- the first meeting, and the others
-listed-cons : (p : ℕ × ℕ) (ps : List (ℕ × ℕ)) (i j x : ℕ) → IsAscending pair_cmp (p ∷ ps) → listed (p ∷ ps) i j * x ≡ one_if ((p.0 == i) && (p.1 == j)) * x + listed ps i j * x
+listed-cons : (p : ℕ × ℕ) (ps : List (ℕ × ℕ)) (i j x : ℕ) → IsAscending pair_cmp (p ∷ ps)
+    → listed (p ∷ ps) i j * x ≡ one_if ((p.0 == i) && (p.1 == j)) * x + listed ps i j * x
 listed-cons p ps i j x ascending =
     part ((p.0 == i) && (p.1 == j)) (is_listed ps i j) x
-    (λ both. ap (λ (k : ℕ). is_listed ps k j) (sym (same_first p.0 i p.1 j both)) ∙ ap (λ (k : ℕ). is_listed ps p.0 k) (sym (same_second p.0 i p.1 j both)) ∙ head_once p ps ascending)
+    (λ both. ap (λ (k : ℕ). is_listed ps k j) (sym (same_first p.0 i p.1 j both))
+    ∙ ap (λ (k : ℕ). is_listed ps p.0 k) (sym (same_second p.0 i p.1 j both)) ∙ head_once p ps ascending)
 
 -- ---- the games of one meeting, and of all
 
@@ -77,29 +83,42 @@ none_there b x fails = ap (λ (c : Bool). one_if c * x) fails ∙ zero-mul x
 one_there : (b : Bool) (x : ℕ) → b ≡ true → one_if b * x ≡ x
 one_there b x passes = ap (λ (c : Bool). one_if c * x) passes ∙ omega arith
 
-one_pair : (n : ℕ) (g : ℕ → ℕ → ℕ) (a b : ℕ) → a < n → b < n → sum_by (λ i. sum_by (λ j. one_if ((a == i) && (b == j)) * g i j) (teams_of n)) (teams_of n) ≡ g a b
+one_pair : (n : ℕ) (g : ℕ → ℕ → ℕ) (a b : ℕ) → a < n → b < n
+    → sum_by (λ i. sum_by (λ j. one_if ((a == i) && (b == j)) * g i j) (teams_of n)) (teams_of n) ≡ g a b
 one_pair n g a b home away =
     let row : ℕ → ℕ = λ i. sum_by (λ j. one_if ((a == i) && (b == j)) * g i j) (teams_of n) in
     let cell : ℕ → ℕ = λ j. one_if ((a == a) && (b == j)) * g a j in
-    only_one row a n (λ i differ. all_zero (λ j. one_if ((a == i) && (b == j)) * g i j) (λ j. none_there ((a == i) && (b == j)) (g i j) (first_differs a i b j (λ same. differ (sym same)))) (teams_of n)) home
-    ∙ only_one cell b n (λ j differ. none_there ((a == a) && (b == j)) (g a j) (second_differs a a b j (λ same. differ (sym same)))) away
+    only_one row a n
+    (λ i differ. all_zero (λ j. one_if ((a == i) && (b == j)) * g i j)
+    (λ j. none_there ((a == i) && (b == j)) (g i j) (first_differs a i b j (λ same. differ (sym same))))
+    (teams_of n)) home
+    ∙ only_one cell b n
+    (λ j differ. none_there ((a == a) && (b == j)) (g a j)
+    (second_differs a a b j (λ same. differ (sym same)))) away
     ∙ one_there ((a == a) && (b == b)) (g a b) (ap (λ (c : Bool). c && (b == b)) (itself a) ∙ itself b)
 
 in_slot : (m : Counts) (s : ℕ) (p : ℕ × ℕ) → sum_by (λ t. m p.0 p.1 t) (s ∷ []) ≡ m p.0 p.1 s
 in_slot m s p = omega (arith, sum_by-cons (λ t. m p.0 p.1 t) s [])
 
-pub games_by_home : (n : ℕ) (m : Counts) (meetings : List (ℕ × ℕ)) (s : ℕ) → IsAscending pair_cmp meetings → All (λ p. (p.0 < n) × (p.1 < n)) meetings → games_of m meetings (s ∷ []) ≡ sum_by (listed_games n m meetings s) (teams_of n)
+pub games_by_home : (n : ℕ) (m : Counts) (meetings : List (ℕ × ℕ)) (s : ℕ) → IsAscending pair_cmp meetings
+    → All (λ p. (p.0 < n) × (p.1 < n)) meetings → games_of m meetings (s ∷ [])
+    ≡ sum_by (listed_games n m meetings s) (teams_of n)
 games_by_home n m [] s ascending inside =
-    sym (all_zero (listed_games n m [] s) (λ i. all_zero (λ j. listed [] i j * m i j s) (λ j. zero-mul (m i j s)) (teams_of n)) (teams_of n))
+    sym (all_zero (listed_games n m [] s)
+    (λ i. all_zero (λ j. listed [] i j * m i j s) (λ j. zero-mul (m i j s)) (teams_of n)) (teams_of n))
 games_by_home n m (p ∷ ps) s ascending inside =
     let below = All-head (λ q. (q.0 < n) × (q.1 < n)) p ps inside in
     let first : ℕ → ℕ = λ i. sum_by (λ j. one_if ((p.0 == i) && (p.1 == j)) * m i j s) (teams_of n) in
     let one : sum_by first (teams_of n) ≡ m p.0 p.1 s = one_pair n (λ i j. m i j s) p.0 p.1 below.0 below.1 in
     let row : (i : ℕ) → listed_games n m (p ∷ ps) s i ≡ first i + listed_games n m ps s i = λ i.
-    sum_by-same (λ j. listed (p ∷ ps) i j * m i j s) (λ j. one_if ((p.0 == i) && (p.1 == j)) * m i j s + listed ps i j * m i j s) (λ j. listed-cons p ps i j (m i j s) ascending) (teams_of n)
+    sum_by-same (λ j. listed (p ∷ ps) i j * m i j s)
+    (λ j. one_if ((p.0 == i) && (p.1 == j)) * m i j s + listed ps i j * m i j s)
+    (λ j. listed-cons p ps i j (m i j s) ascending) (teams_of n)
     ∙ sum_by-add (λ j. one_if ((p.0 == i) && (p.1 == j)) * m i j s) (λ j. listed ps i j * m i j s) (teams_of n) in
-    let all : sum_by (listed_games n m (p ∷ ps) s) (teams_of n) ≡ sum_by first (teams_of n) + sum_by (listed_games n m ps s) (teams_of n) =
-    sum_by-same (listed_games n m (p ∷ ps) s) (λ i. first i + listed_games n m ps s i) row (teams_of n) ∙ sum_by-add first (listed_games n m ps s) (teams_of n) in
+    let all : sum_by (listed_games n m (p ∷ ps) s) (teams_of n)
+    ≡ sum_by first (teams_of n) + sum_by (listed_games n m ps s) (teams_of n) =
+    sum_by-same (listed_games n m (p ∷ ps) s) (λ i. first i + listed_games n m ps s i) row (teams_of n)
+    ∙ sum_by-add first (listed_games n m ps s) (teams_of n) in
     omega (
       arith,
       sum_by-cons (λ q. sum_by (λ t. m q.0 q.1 t) (s ∷ [])) p ps,
@@ -118,19 +137,25 @@ once_itself : (o : ℕ) → cond {A = ℕ} (o == o) 1 0 ≡ 1
 once_itself o = grind (arith, nat_tests)
 
 -- that meets one other team alone in the slot
-pub listed_one_guest : (n : ℕ) (m : Counts) (meetings : List (ℕ × ℕ)) (s i o games : ℕ) → o < n → ((j : ℕ) → m i j s ≡ cond {A = ℕ} (o == j) 1 0) → games ≡ listed meetings i o → games ≡ listed_games n m meetings s i
+pub listed_one_guest : (n : ℕ) (m : Counts) (meetings : List (ℕ × ℕ)) (s i o games : ℕ) → o < n
+    → ((j : ℕ) → m i j s ≡ cond {A = ℕ} (o == j) 1 0) → games ≡ listed meetings i o
+    → games ≡ listed_games n m meetings s i
 listed_one_guest n m meetings s i o games below each is =
     let f : ℕ → ℕ = λ j. listed meetings i j * m i j s in
-    let none : (j : ℕ) → j ≢ o → f j ≡ 0 = λ j differ. let zeros : m i j s ≡ 0 = each j ∙ other_guest o j differ in ap (λ (x : ℕ). listed meetings i j * x) zeros ∙ omega arith in
+    let none : (j : ℕ) → j ≢ o → f j ≡ 0 = λ j differ. let zeros : m i j s ≡ 0 =
+    each j ∙ other_guest o j differ in ap (λ (x : ℕ). listed meetings i j * x) zeros ∙ omega arith in
     let once : m i o s ≡ 1 = each o ∙ once_itself o in
     let here : f o ≡ listed meetings i o = ap (λ (x : ℕ). listed meetings i o * x) once ∙ omega arith in
     is ∙ sym here ∙ sym (only_one f o n none below)
 
 -- and that is at home to none
-pub listed_no_guest : (n : ℕ) (m : Counts) (meetings : List (ℕ × ℕ)) (s i : ℕ) → ((j : ℕ) → m i j s ≡ 0) → 0 ≡ listed_games n m meetings s i
+pub listed_no_guest : (n : ℕ) (m : Counts) (meetings : List (ℕ × ℕ)) (s i : ℕ) → ((j : ℕ) → m i j s ≡ 0)
+    → 0 ≡ listed_games n m meetings s i
 listed_no_guest n m meetings s i none =
-    sym (all_zero (λ j. listed meetings i j * m i j s) (λ j. ap (λ (x : ℕ). listed meetings i j * x) (none j) ∙ omega arith) (teams_of n))
+    sym (all_zero (λ j. listed meetings i j * m i j s)
+    (λ j. ap (λ (x : ℕ). listed meetings i j * x) (none j) ∙ omega arith) (teams_of n))
 
 -- the guest of a place is of the league
-pub guest_below : (n : ℕ) (place : Place) (guest : TeamId) → place ≡ Home guest → ((j : ℕ) → hosts place j ≡ true → j < n) → guest.0 < n
+pub guest_below : (n : ℕ) (place : Place) (guest : TeamId) → place ≡ Home guest
+    → ((j : ℕ) → hosts place j ≡ true → j < n) → guest.0 < n
 guest_below n place guest is teams = teams guest.0 (ap (λ (p : Place). hosts p guest.0) is ∙ itself guest.0)

@@ -9,7 +9,8 @@ sum_to_more : (f : ℕ → ℕ) (k : ℕ) → sum_by f (range_with_len 0 (suc k)
 sum_to_more f k =
     let next : suc k ≡ k + 1 = omega arith in
     let at : 0 + k ≡ k = omega arith in
-    ap (λ (x : ℕ). sum_by f (range_with_len 0 x)) next ∙ sum_by-range_more f 0 k ∙ ap (λ (x : ℕ). sum_by f (range_with_len 0 k) + f x) at
+    ap (λ (x : ℕ). sum_by f (range_with_len 0 x)) next ∙ sum_by-range_more f 0 k
+    ∙ ap (λ (x : ℕ). sum_by f (range_with_len 0 k) + f x) at
 
 none_before : (f : ℕ → ℕ) (o k : ℕ) → ((j : ℕ) → j ≢ o → f j ≡ 0) → k ≤ o → sum_by f (range_with_len 0 k) ≡ 0
 none_before f o zero none le = refl
@@ -22,7 +23,8 @@ pub only_one : (f : ℕ → ℕ) (o k : ℕ) → ((j : ℕ) → j ≢ o → f j 
 only_one f o zero none lt = absurd (omega arith)
 only_one f o (suc k) none lt =
     elim (cases_eq k o) [
-      | inl same ↦ let here : f k ≡ f o = ap f same in omega (arith, sum_to_more f k, here, none_before f o k none (omega arith))
+      | inl same ↦ let here : f k ≡ f o = ap f same in
+          omega (arith, sum_to_more f k, here, none_before f o k none (omega arith))
       | inr differ ↦ omega (arith, sum_to_more f k, none k differ, only_one f o k none (omega arith))
     ]
 

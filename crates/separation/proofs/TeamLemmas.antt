@@ -1,9 +1,11 @@
 -- What a team's games with each other team lack, with the games of one slot more.
-use Rattle.std.proofs.Common.{◌≡◌, ◌≢◌, ℕ, ◌+◌, ◌-◌, ◌*◌, ◌<◌, ◌≤◌, zero, suc, Bool, true, false, ◌||◌, ◌==◌, rules, nat_lt, List, [], ◌∷◌, ◌++◌, length, get_or, map, drop, replicate, refl, arith, ap, sym, ◌∙◌, inl, inr, subst, Option, Some, None, cond}
+use Rattle.std.proofs.Common.{◌≡◌, ◌≢◌, ℕ, ◌+◌, ◌-◌, ◌*◌, ◌<◌, ◌≤◌, Bool, true, false, ◌||◌, ◌==◌, rules}
+use Rattle.std.proofs.Common.{nat_lt, List, [], ◌∷◌, ◌++◌, length, get_or, map, drop, replicate, refl, arith, ap, sym}
+use Rattle.std.proofs.Common.{◌∙◌, inl, inr, subst, Option, Some, None, cond}
 use Rattle.std.proofs.lemmas.Bool.{cases_eq}
 use Rattle.std.proofs.lemmas.Bool.Decides.{nat_tests}
 use Rattle.std.proofs.lemmas.List.{append_assoc, length-append, length-map, map-append}
-use Rattle.std.specs.List.{All, flat_map, range_with_len}
+use Rattle.std.specs.List.{flat_map, range_with_len}
 use Rattle.std.specs.Option.{IfSome, option_to_list}
 use Rattle.league.specs.Counts.{Counts, slot_count}
 use Rattle.league.specs.Meetings.{pairs_of}
@@ -14,16 +16,18 @@ use Rattle.cells.specs.declared.place.Place.TheVariants.{Away, Free, Home}
 use Rattle.league.specs.declared.game.TeamId.{TeamId}
 use Rattle.separation.specs.TeamGaps.{AreSummed, HasRoom, IsPlaceOf, IsSummed, games_from, last_before}
 use Rattle.separation.specs.declared.team_gaps.TeamGaps.{TeamGaps}
-use Rattle.separation.proofs.GapLemmas.{from_slot, slot_free, slot_played}
+use Rattle.separation.proofs.GapLemmas.{slot_free, slot_played}
 
 -- the last game, where there is one, and where there is none
 pub last_before-some : (s : ℕ) → last_before (s + 1) ≡ Some s
-last_before-some s = let less : s + 1 - 1 ≡ s = omega arith in let some : nat_lt 0 (s + 1) ≡ true = grind (arith, nat_tests) in rw some (ap (λ (k : ℕ). Some k) less)
+last_before-some s = let less : s + 1 - 1 ≡ s = omega arith in
+    let some : nat_lt 0 (s + 1) ≡ true = grind (arith, nat_tests) in rw some (ap (λ (k : ℕ). Some k) less)
 
 positive : (k : ℕ) → nat_lt 0 k ≡ true → 0 < k
 positive k passes = grind (arith, nat_tests)
 
-some_before : (b : Bool) (next slot : ℕ) → (b ≡ true → 0 < next) → next ≤ slot → IfSome (cond b (Some (next - 1)) None) (λ before. before < slot)
+some_before : (b : Bool) (next slot : ℕ) → (b ≡ true → 0 < next) → next ≤ slot
+    → IfSome (cond b (Some (next - 1)) None) (λ before. before < slot)
 some_before true next slot some le = let more : 0 < next = some refl in omega arith
 some_before false next slot some le = search rules
 
@@ -31,8 +35,10 @@ pub last_before-slot : (next slot : ℕ) → next ≤ slot → IfSome (last_befo
 last_before-slot next slot le = some_before (nat_lt 0 next) next slot (positive next) le
 
 -- with the games of the pair in the slot
-pub summed-played : (n : ℕ) (m : Counts) (min i slot : ℕ) (before after : TeamGaps) (j games more : ℕ) → slot < slot_count n → 0 < games → games ≡ m i j slot + m j i slot
-    → more ≡ lacking min (option_to_list (last_before (get_or before.next j 0)) ++ replicate games slot) → more ≤ 20000 * 4294967296
+pub summed-played : (n : ℕ) (m : Counts) (min i slot : ℕ) (before after : TeamGaps) (j games more : ℕ)
+    → slot < slot_count n → 0 < games → games ≡ m i j slot + m j i slot
+    → more ≡ lacking min (option_to_list (last_before (get_or before.next j 0)) ++ replicate games slot)
+    → more ≤ 20000 * 4294967296
     → get_or after.totals j 0 ≡ get_or before.totals j 0 + more → get_or after.next j 0 ≡ slot + 1
     → IsSummed n m min i slot before j → IsSummed n m min i (slot + 1) after j
 summed-played n m min i slot before after j games more inside some counted is small total next so_far =
@@ -45,11 +51,13 @@ summed-played n m min i slot before after j games more inside some counted is sm
       bounded = omega (arith, total, small, so_far.bounded);
       counted =
           ap (λ (t : ℕ). t + lacking min (option_to_list here ++ games_from n m i j (slot + 1))) total
-          ∙ slot_played min count slot (slot_count n) games (get_or before.totals j 0) more (se1_entry n m min (i, j)) last here inside some counted is so_far.counted now;
+          ∙ slot_played min count slot (slot_count n) games (get_or before.totals j 0) more
+          (se1_entry n m min (i, j)) last here inside some counted is so_far.counted now;
     }
 
 -- without
-pub summed-free : (n : ℕ) (m : Counts) (min i slot : ℕ) (before after : TeamGaps) (j : ℕ) → slot < slot_count n → m i j slot + m j i slot ≡ 0
+pub summed-free : (n : ℕ) (m : Counts) (min i slot : ℕ) (before after : TeamGaps) (j : ℕ) → slot < slot_count n
+    → m i j slot + m j i slot ≡ 0
     → (get_or after.next j 0 ≡ get_or before.next j 0) × (get_or after.totals j 0 ≡ get_or before.totals j 0)
     → IsSummed n m min i slot before j → IsSummed n m min i (slot + 1) after j
 summed-free n m min i slot before after j inside none same so_far =
@@ -60,15 +68,19 @@ summed-free n m min i slot before after j inside none same so_far =
       before = omega (arith, same.0, so_far.before);
       bounded = omega (arith, same.1, so_far.bounded);
       counted =
-          ap (λ (t : ℕ). t + lacking min (option_to_list (last_before (get_or after.next j 0)) ++ games_from n m i j (slot + 1))) same.1
-          ∙ ap (λ (k : ℕ). get_or before.totals j 0 + lacking min (option_to_list (last_before k) ++ games_from n m i j (slot + 1))) same.0
-          ∙ slot_free min count slot (slot_count n) 0 (get_or before.totals j 0) (se1_entry n m min (i, j)) last inside (omega arith) nothing so_far.counted;
+          ap (λ (t : ℕ). t + lacking min
+          (option_to_list (last_before (get_or after.next j 0)) ++ games_from n m i j (slot + 1))) same.1
+          ∙ ap (λ (k : ℕ). get_or before.totals j 0 + lacking min
+          (option_to_list (last_before k) ++ games_from n m i j (slot + 1))) same.0
+          ∙ slot_free min count slot (slot_count n) 0 (get_or before.totals j 0)
+          (se1_entry n m min (i, j)) last inside (omega arith) nothing so_far.counted;
     }
 
 -- of a slot in which the team meets one other alone
 pub summed-one : (n : ℕ) (m : Counts) (min i slot : ℕ) (before after : TeamGaps) (other : ℕ) → slot < slot_count n
     → ((j : ℕ) → j ≢ other → m i j slot + m j i slot ≡ 0)
-    → ((j : ℕ) → j ≢ other → (get_or after.next j 0 ≡ get_or before.next j 0) × (get_or after.totals j 0 ≡ get_or before.totals j 0))
+    → ((j : ℕ) → j ≢ other
+    → (get_or after.next j 0 ≡ get_or before.next j 0) × (get_or after.totals j 0 ≡ get_or before.totals j 0))
     → IsSummed n m min i (slot + 1) after other → AreSummed n m min i slot before → AreSummed n m min i (slot + 1) after
 summed-one n m min i slot before after other inside none same here so_far j lt =
     elim (cases_eq j other) [
@@ -77,13 +89,15 @@ summed-one n m min i slot before after other inside none same here so_far j lt =
     ]
 
 -- before all games
-pub summed-none : (n : ℕ) (m : Counts) (min i : ℕ) (gaps : TeamGaps) → ((j : ℕ) → get_or gaps.next j 0 ≡ 0) → ((j : ℕ) → get_or gaps.totals j 0 ≡ 0) → AreSummed n m min i 0 gaps
+pub summed-none : (n : ℕ) (m : Counts) (min i : ℕ) (gaps : TeamGaps) → ((j : ℕ) → get_or gaps.next j 0 ≡ 0)
+    → ((j : ℕ) → get_or gaps.totals j 0 ≡ 0) → AreSummed n m min i 0 gaps
 summed-none n m min i gaps next totals j lt = record {
   before = omega (arith, next j);
   bounded = omega (arith, totals j);
   counted =
       let whole : slot_count n - 0 ≡ slot_count n = omega arith in
-      ap (λ (t : ℕ). t + lacking min (option_to_list (last_before (get_or gaps.next j 0)) ++ games_from n m i j 0)) (totals j)
+      ap (λ (t : ℕ). t + lacking min (option_to_list (last_before (get_or gaps.next j 0)) ++ games_from n m i j 0))
+      (totals j)
       ∙ ap (λ (k : ℕ). 0 + lacking min (option_to_list (last_before k) ++ games_from n m i j 0)) (next j)
       ∙ ap (λ (k : ℕ). 0 + lacking min (flat_map (λ s. replicate (m i j s + m j i s) s) (range_with_len 0 k))) whole
       ∙ omega arith;
@@ -94,12 +108,15 @@ nothing_after : (min : ℕ) (last : Option ℕ) → lacking min (option_to_list 
 nothing_after min None = refl
 nothing_after min (Some s) = refl
 
-pub summed-all : (n : ℕ) (m : Counts) (min i slot : ℕ) (gaps : TeamGaps) (j : ℕ) → slot ≡ slot_count n → IsSummed n m min i slot gaps j → get_or gaps.totals j 0 ≡ se1_entry n m min (i, j)
+pub summed-all : (n : ℕ) (m : Counts) (min i slot : ℕ) (gaps : TeamGaps) (j : ℕ) → slot ≡ slot_count n
+    → IsSummed n m min i slot gaps j → get_or gaps.totals j 0 ≡ se1_entry n m min (i, j)
 summed-all n m min i slot gaps j is summed =
     let last = last_before (get_or gaps.next j 0) in
     let empty : slot_count n - slot ≡ 0 = omega arith in
     let rest : lacking min (option_to_list last ++ games_from n m i j slot) ≡ 0 =
-    ap (λ (k : ℕ). lacking min (option_to_list last ++ flat_map (λ s. replicate (m i j s + m j i s) s) (range_with_len slot k))) empty ∙ nothing_after min last in
+    ap (λ (k : ℕ). lacking min
+    (option_to_list last ++ flat_map (λ s. replicate (m i j s + m j i s) s) (range_with_len slot k))) empty
+    ∙ nothing_after min last in
     omega (arith, summed.counted, rest)
 
 -- as it is kept elsewhere
@@ -110,8 +127,10 @@ summed-kept n m min i slot before after j same so_far = record {
   before = omega (arith, same.0, so_far.before);
   bounded = omega (arith, same.1, so_far.bounded);
   counted =
-      ap (λ (t : ℕ). t + lacking min (option_to_list (last_before (get_or after.next j 0)) ++ games_from n m i j slot)) same.1
-      ∙ ap (λ (k : ℕ). get_or before.totals j 0 + lacking min (option_to_list (last_before k) ++ games_from n m i j slot)) same.0
+      ap (λ (t : ℕ). t + lacking min
+      (option_to_list (last_before (get_or after.next j 0)) ++ games_from n m i j slot)) same.1
+      ∙ ap (λ (k : ℕ). get_or before.totals j 0 + lacking min
+      (option_to_list (last_before k) ++ games_from n m i j slot)) same.0
       ∙ so_far.counted;
 }
 
@@ -119,11 +138,13 @@ summed-kept n m min i slot before after j same so_far = record {
 pub record AreDone (n : ℕ) (m : Counts) (min i slot other : ℕ) (first now : TeamGaps) : Type 0 where
   pub room : HasRoom now
   pub done : (j : ℕ) → j < other → IsSummed n m min i (slot + 1) now j
-  pub left : (j : ℕ) → other ≤ j → (get_or now.next j 0 ≡ get_or first.next j 0) × (get_or now.totals j 0 ≡ get_or first.totals j 0)
+  pub left : (j : ℕ) → other ≤ j
+      → (get_or now.next j 0 ≡ get_or first.next j 0) × (get_or now.totals j 0 ≡ get_or first.totals j 0)
 
 -- with the next one
 pub AreDone-next : (n : ℕ) (m : Counts) (min i slot other : ℕ) (first before after : TeamGaps) → HasRoom after
-    → ((j : ℕ) → j ≢ other → (get_or after.next j 0 ≡ get_or before.next j 0) × (get_or after.totals j 0 ≡ get_or before.totals j 0))
+    → ((j : ℕ) → j ≢ other
+    → (get_or after.next j 0 ≡ get_or before.next j 0) × (get_or after.totals j 0 ≡ get_or before.totals j 0))
     → IsSummed n m min i (slot + 1) after other
     → AreDone n m min i slot other first before → AreDone n m min i slot (other + 1) first after
 AreDone-next n m min i slot other first before after room same here so_far = record {
@@ -152,40 +173,52 @@ with_true true = refl
 with_true false = refl
 
 -- the one team of a place
-pub home_is : (place : Place) (other : TeamId) → place ≡ Home other → (hosts place other.0 || visits place other.0) ≡ true
-home_is place other is = ap (λ (p : Place). hosts p other.0 || visits p other.0) is ∙ ap (λ (b : Bool). b || false) (place_itself other.0)
+pub home_is : (place : Place) (other : TeamId) → place ≡ Home other
+    → (hosts place other.0 || visits place other.0) ≡ true
+home_is place other is = ap (λ (p : Place). hosts p other.0 || visits p other.0) is
+    ∙ ap (λ (b : Bool). b || false) (place_itself other.0)
 
-pub away_is : (place : Place) (other : TeamId) → place ≡ Away other → (hosts place other.0 || visits place other.0) ≡ true
+pub away_is : (place : Place) (other : TeamId) → place ≡ Away other
+    → (hosts place other.0 || visits place other.0) ≡ true
 away_is place other is = ap (λ (p : Place). hosts p other.0 || visits p other.0) is ∙ place_itself other.0
 
 -- no games but with it
-pub home_others : (n : ℕ) (m : Counts) (i slot : ℕ) (place : Place) (other : TeamId) → place ≡ Home other → IsPlaceOf n m i slot place → (j : ℕ) → j ≢ other.0 → m i j slot + m j i slot ≡ 0
+pub home_others : (n : ℕ) (m : Counts) (i slot : ℕ) (place : Place) (other : TeamId) → place ≡ Home other
+    → IsPlaceOf n m i slot place → (j : ℕ) → j ≢ other.0 → m i j slot + m j i slot ≡ 0
 home_others n m i slot place other is of j differ =
-    let at_home : m i j slot ≡ 0 = of.home j ∙ ap (λ (p : Place). cond {A = ℕ} (hosts p j) 1 0) is ∙ place_other other.0 j differ in
+    let at_home : m i j slot ≡ 0 = of.home j ∙ ap (λ (p : Place). cond {A = ℕ} (hosts p j) 1 0) is
+    ∙ place_other other.0 j differ in
     let away : m j i slot ≡ 0 = of.away j ∙ ap (λ (p : Place). cond {A = ℕ} (visits p j) 1 0) is in
     omega arith
 
-pub away_others : (n : ℕ) (m : Counts) (i slot : ℕ) (place : Place) (other : TeamId) → place ≡ Away other → IsPlaceOf n m i slot place → (j : ℕ) → j ≢ other.0 → m i j slot + m j i slot ≡ 0
+pub away_others : (n : ℕ) (m : Counts) (i slot : ℕ) (place : Place) (other : TeamId) → place ≡ Away other
+    → IsPlaceOf n m i slot place → (j : ℕ) → j ≢ other.0 → m i j slot + m j i slot ≡ 0
 away_others n m i slot place other is of j differ =
     let at_home : m i j slot ≡ 0 = of.home j ∙ ap (λ (p : Place). cond {A = ℕ} (hosts p j) 1 0) is in
-    let away : m j i slot ≡ 0 = of.away j ∙ ap (λ (p : Place). cond {A = ℕ} (visits p j) 1 0) is ∙ place_other other.0 j differ in
+    let away : m j i slot ≡ 0 = of.away j ∙ ap (λ (p : Place). cond {A = ℕ} (visits p j) 1 0) is
+    ∙ place_other other.0 j differ in
     omega arith
 
 -- one game with it
-pub home_once : (n : ℕ) (m : Counts) (i slot : ℕ) (place : Place) (other : TeamId) → place ≡ Home other → IsPlaceOf n m i slot place → 1 ≡ m i other.0 slot + m other.0 i slot
+pub home_once : (n : ℕ) (m : Counts) (i slot : ℕ) (place : Place) (other : TeamId) → place ≡ Home other
+    → IsPlaceOf n m i slot place → 1 ≡ m i other.0 slot + m other.0 i slot
 home_once n m i slot place other is of =
-    let at_home : m i other.0 slot ≡ 1 = of.home other.0 ∙ ap (λ (p : Place). cond {A = ℕ} (hosts p other.0) 1 0) is ∙ ap (λ (b : Bool). cond {A = ℕ} b 1 0) (place_itself other.0) in
+    let at_home : m i other.0 slot ≡ 1 = of.home other.0 ∙ ap (λ (p : Place). cond {A = ℕ} (hosts p other.0) 1 0) is
+    ∙ ap (λ (b : Bool). cond {A = ℕ} b 1 0) (place_itself other.0) in
     let away : m other.0 i slot ≡ 0 = of.away other.0 ∙ ap (λ (p : Place). cond {A = ℕ} (visits p other.0) 1 0) is in
     omega arith
 
-pub away_once : (n : ℕ) (m : Counts) (i slot : ℕ) (place : Place) (other : TeamId) → place ≡ Away other → IsPlaceOf n m i slot place → 1 ≡ m i other.0 slot + m other.0 i slot
+pub away_once : (n : ℕ) (m : Counts) (i slot : ℕ) (place : Place) (other : TeamId) → place ≡ Away other
+    → IsPlaceOf n m i slot place → 1 ≡ m i other.0 slot + m other.0 i slot
 away_once n m i slot place other is of =
     let at_home : m i other.0 slot ≡ 0 = of.home other.0 ∙ ap (λ (p : Place). cond {A = ℕ} (hosts p other.0) 1 0) is in
-    let away : m other.0 i slot ≡ 1 = of.away other.0 ∙ ap (λ (p : Place). cond {A = ℕ} (visits p other.0) 1 0) is ∙ ap (λ (b : Bool). cond {A = ℕ} b 1 0) (place_itself other.0) in
+    let away : m other.0 i slot ≡ 1 = of.away other.0 ∙ ap (λ (p : Place). cond {A = ℕ} (visits p other.0) 1 0) is
+    ∙ ap (λ (b : Bool). cond {A = ℕ} b 1 0) (place_itself other.0) in
     omega arith
 
 -- and none of a free place
-pub free_none : (n : ℕ) (m : Counts) (i slot : ℕ) (place : Place) → place ≡ Free → IsPlaceOf n m i slot place → (j : ℕ) → m i j slot + m j i slot ≡ 0
+pub free_none : (n : ℕ) (m : Counts) (i slot : ℕ) (place : Place) → place ≡ Free → IsPlaceOf n m i slot place
+    → (j : ℕ) → m i j slot + m j i slot ≡ 0
 free_none n m i slot place is of j =
     let at_home : m i j slot ≡ 0 = of.home j ∙ ap (λ (p : Place). cond {A = ℕ} (hosts p j) 1 0) is in
     let away : m j i slot ≡ 0 = of.away j ∙ ap (λ (p : Place). cond {A = ℕ} (visits p j) 1 0) is in
@@ -197,7 +230,9 @@ map-pairs : (f : ℕ × ℕ → ℕ) (t : ℕ) (xs : List ℕ) → map f (map (�
 map-pairs f t [] = refl
 map-pairs f t (x ∷ xs) = ap (λ (ys : List ℕ). f (t, x) ∷ ys) (map-pairs f t xs)
 
-pub pairs_next : (f : ℕ × ℕ → ℕ) (teams later now new whole : List ℕ) (p t : ℕ) → drop p teams ≡ t ∷ later → now ++ map f (pairs_of (drop p teams)) ≡ whole → new ≡ now ++ map (λ j. f (t, j)) later → new ++ map f (pairs_of later) ≡ whole
+pub pairs_next : (f : ℕ × ℕ → ℕ) (teams later now new whole : List ℕ) (p t : ℕ) → drop p teams ≡ t ∷ later
+    → now ++ map f (pairs_of (drop p teams)) ≡ whole → new ≡ now ++ map (λ j. f (t, j)) later
+    → new ++ map f (pairs_of later) ≡ whole
 pairs_next f teams later now new whole p t is so_far more =
     ap (λ (xs : List ℕ). xs ++ map f (pairs_of later)) more
     ∙ append_assoc now (map (λ j. f (t, j)) later) (map f (pairs_of later))
@@ -206,6 +241,12 @@ pairs_next f teams later now new whole p t is so_far more =
     ∙ ap (λ (xs : List ℕ). now ++ map f (pairs_of xs)) (sym is)
     ∙ so_far
 
-pub pairs_left : (teams later : List ℕ) (p t : ℕ) → drop p teams ≡ t ∷ later → length (pairs_of (drop p teams)) ≡ length later + length (pairs_of later)
+pub pairs_left : (teams later : List ℕ) (p t : ℕ) → drop p teams ≡ t ∷ later
+    → length (pairs_of (drop p teams)) ≡ length later + length (pairs_of later)
 pairs_left teams later p t is =
-    omega (arith, ap (λ (xs : List ℕ). length (pairs_of xs)) is, length-append (map (λ (j : ℕ). (t, j)) later) (pairs_of later), length-map {B = ℕ × ℕ} later (λ (j : ℕ). (t, j)))
+    omega (
+      arith,
+      ap (λ (xs : List ℕ). length (pairs_of xs)) is,
+      length-append (map (λ (j : ℕ). (t, j)) later) (pairs_of later),
+      length-map {B = ℕ × ℕ} later (λ (j : ℕ). (t, j)),
+    )

@@ -20,8 +20,11 @@ se1_term n m teams min key known x y result inside same is lacked =
     ∙ sym (get_or-map (se1_entry n m min) (pairs_of teams) key (0, 0) 0 inside)
 
 -- the entries of all pairs of the teams that were read
-pub se1_vector : (n : ℕ) (m : Counts) (teams read : List ℕ) (min known : ℕ) → known ≡ n → read ≡ teams → map (se1_entry known m min) (pairs_of read) ≡ map (λ k. entry_of n m (Se1 teams min) k) (range_with_len 0 (length (pairs_of teams)))
+pub se1_vector : (n : ℕ) (m : Counts) (teams read : List ℕ) (min known : ℕ) → known ≡ n → read ≡ teams
+    → map (se1_entry known m min) (pairs_of read) ≡ map (λ k. entry_of n m (Se1 teams min) k)
+    (range_with_len 0 (length (pairs_of teams)))
 se1_vector n m teams read min known same are =
     ap (λ (k : ℕ). map (se1_entry k m min) (pairs_of read)) same
     ∙ ap (λ (ts : List ℕ). map (se1_entry n m min) (pairs_of ts)) are
-    ∙ fill_by_all (λ k. entry_of n m (Se1 teams min) k) (map (se1_entry n m min) (pairs_of teams)) (length (pairs_of teams)) 0 (length-map (pairs_of teams) (se1_entry n m min)) (λ k lt. refl)
+    ∙ fill_by_all (λ k. entry_of n m (Se1 teams min) k) (map (se1_entry n m min) (pairs_of teams))
+    (length (pairs_of teams)) 0 (length-map (pairs_of teams) (se1_entry n m min)) (λ k lt. refl)

@@ -1,5 +1,6 @@
 -- What is kept of the games of one team with each other team, slot by slot.
-use Rattle.std.specs.Prelude.{◌≡◌, ℕ, ◌+◌, ◌-◌, ◌*◌, ◌<◌, ◌≤◌, ◌++◌, ◌||◌, Bool, true, nat_lt, if◌then◌else◌, List, length, replicate, slice_index, Option, Some, None}
+use Rattle.std.specs.Prelude.{◌≡◌, ℕ, ◌+◌, ◌-◌, ◌*◌, ◌<◌, ◌≤◌, ◌++◌, ◌||◌, true, nat_lt, if◌then◌else◌, List}
+use Rattle.std.specs.Prelude.{length, replicate, slice_index, Option, Some, None}
 use Rattle.std.specs.List.{flat_map, range_with_len}
 use Rattle.std.specs.Option.{option_to_list}
 use Rattle.league.specs.Counts.{Counts, slot_count}

@@ -8,6 +8,7 @@ pub loop-slot-preserved : goal.loop-slot-preserved
 loop-slot-preserved c =
     let f : ℕ → ℕ = λ s. home_games c.args.cells.now.n (table_counts c.args.cells.now) c.args.team.0 s in
     record {
-      counted = homes_more f c.args.from c.loop-slot.slot c.loop-slot.games c.home-games.result c.loop-slot.auto.slot c.loop-slot.invariant.counted c.home-games.ensures.count;
+      counted = homes_more f c.args.from c.loop-slot.slot c.loop-slot.games c.home-games.result
+          c.loop-slot.auto.slot c.loop-slot.invariant.counted c.home-games.ensures.count;
       bounded = omega (arith, c.loop-slot.invariant.bounded, c.home-games.ensures.at_most, c.loop-slot.auto.slot);
     }

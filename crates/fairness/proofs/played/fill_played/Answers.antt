@@ -8,4 +8,6 @@ fill_row-requires-clause-team c = c.requires.teams c.loop-team.team-index 0 c.lo
 
 pub loop-team-preserved : goal.loop-team-preserved
 loop-team-preserved c = λ k d lt.
-    rows_more c.args.cells.now.n (table_counts c.args.cells.now) c.args.slots.now c.loop-team.played c.fill_row.new.played c.args.teams.now c.loop-team.team-index _ c.loop-team-test.true refl c.fill_row.ensures.played c.fill_row.ensures.others c.loop-team.invariant k d lt
+    rows_more c.args.cells.now.n (table_counts c.args.cells.now) c.args.slots.now c.loop-team.played
+    c.fill_row.new.played c.args.teams.now c.loop-team.team-index _ c.loop-team-test.true refl
+    c.fill_row.ensures.played c.fill_row.ensures.others c.loop-team.invariant k d lt

@@ -4,4 +4,5 @@ use Rattle.fairness.specs.Played.{IsPlayed}
 use Rattle.fairness.proofs.played.fill_played.Given as goal
 
 abbrev pub invariant-loop-team : goal.invariant-loop-team
-invariant-loop-team l = (k d : ℕ) → k < l.team-index → IsPlayed l.cells.n (table_counts l.cells) l.slots l.played (get_or l.teams k d)
+invariant-loop-team l = (k d : ℕ) → k < l.team-index
+    → IsPlayed l.cells.n (table_counts l.cells) l.slots l.played (get_or l.teams k d)

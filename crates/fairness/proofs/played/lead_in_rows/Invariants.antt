@@ -6,4 +6,7 @@ use Rattle.fairness.specs.Played.{IsPlayed}
 use Rattle.fairness.proofs.played.lead_in_rows.Given as goal
 
 abbrev pub invariant-loop-place : goal.invariant-loop-place
-invariant-loop-place l = (n : ℕ) (m : Counts) → IsPlayed n m l.slots l.played l.first.0 → IsPlayed n m l.slots l.played l.second.0 → excess l.most l.intp ≡ largest (λ s. excess (difference (home_played n m l.first.0 s) (home_played n m l.second.0 s)) l.intp) (take l.place l.slots)
+invariant-loop-place l = (n : ℕ) (m : Counts) → IsPlayed n m l.slots l.played l.first.0
+    → IsPlayed n m l.slots l.played l.second.0 → excess l.most l.intp
+    ≡ largest (λ s. excess (difference (home_played n m l.first.0 s) (home_played n m l.second.0 s)) l.intp)
+    (take l.place l.slots)

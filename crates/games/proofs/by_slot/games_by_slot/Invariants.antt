@@ -6,6 +6,7 @@ use Rattle.games.proofs.by_slot.games_by_slot.Given as goal
 
 abbrev pub invariant-loop-slot : goal.invariant-loop-slot
 invariant-loop-slot l = record {
-  counted : l.games ≡ sum_by (λ s. games_of (table_counts l.cells) l.meetings.list (s ∷ [])) (take l.slot-index l.slots);
+  counted : l.games ≡ sum_by (λ s. games_of (table_counts l.cells) l.meetings.list (s ∷ []))
+      (take l.slot-index l.slots);
   bounded : l.games ≤ 16000000 * l.slot-index;
 }

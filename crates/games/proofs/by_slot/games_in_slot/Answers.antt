@@ -11,7 +11,8 @@ loop-host-preserved c =
     let n = c.args.cells.now.n in
     let f : ℕ → ℕ = λ i. listed_games n (table_counts c.args.cells.now) c.args.meetings.now.list c.args.slot.0 i in
     record {
-      counted = summed f c.loop-host.host c.loop-host.games _ c.loop-host.invariant.counted (ap (λ (x : ℕ). c.loop-host.games + x) (c.from-games.ensures ∙ c.games_at_home.ensures.games));
+      counted = summed f c.loop-host.host c.loop-host.games _ c.loop-host.invariant.counted
+          (ap (λ (x : ℕ). c.loop-host.games + x) (c.from-games.ensures ∙ c.games_at_home.ensures.games));
       bounded = omega (arith, c.loop-host.invariant.bounded, c.from-games.ensures, c.games_at_home.ensures.at_most);
     }
 

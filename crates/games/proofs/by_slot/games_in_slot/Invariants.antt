@@ -6,6 +6,7 @@ use Rattle.games.proofs.by_slot.games_in_slot.Given as goal
 
 abbrev pub invariant-loop-host : goal.invariant-loop-host
 invariant-loop-host l = record {
-  counted : l.games ≡ sum_by (listed_games l.cells.n (table_counts l.cells) l.meetings.list l.fn.slot.0) (range_with_len 0 l.host);
+  counted : l.games ≡ sum_by (listed_games l.cells.n (table_counts l.cells) l.meetings.list l.fn.slot.0)
+      (range_with_len 0 l.host);
   bounded : l.games ≤ 400000 * l.host;
 }

@@ -6,6 +6,8 @@ use Rattle.games.proofs.by_slot.games_with_each.Given as goal
 
 abbrev pub invariant-loop-guest : goal.invariant-loop-guest
 invariant-loop-guest l = record {
-  counted : l.games ≡ sum_by (λ j. listed l.meetings.list l.fn.host.0 j * table_counts l.cells l.fn.host.0 j l.fn.slot.0) (range_with_len 0 l.guest);
+  counted : l.games
+      ≡ sum_by (λ j. listed l.meetings.list l.fn.host.0 j * table_counts l.cells l.fn.host.0 j l.fn.slot.0)
+      (range_with_len 0 l.guest);
   bounded : l.games ≤ 10000 * l.guest;
 }

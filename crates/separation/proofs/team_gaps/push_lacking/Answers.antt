@@ -1,4 +1,4 @@
-use Rattle.std.proofs.Common.{◌≡◌, ℕ, ◌+◌, ◌<◌, [], ◌∷◌, List, drop, length, get_or, map, arith, ap, ◌++◌, ◌∙◌}
+use Rattle.std.proofs.Common.{◌≡◌, ℕ, ◌+◌, ◌<◌, ◌∷◌, List, drop, length, get_or, map, arith, ap, ◌++◌, ◌∙◌}
 use Rattle.std.proofs.lemmas.List.{drop_more, take_rest}
 use Rattle.league.specs.Separation.{se1_entry}
 use Rattle.cells.specs.Table.{table_counts}
@@ -14,7 +14,17 @@ loop-place-preserved c =
     let is : drop place teams ≡ get_or teams place 0 ∷ later = drop_more teams place 0 inside in
     let f : ℕ × ℕ → ℕ = λ p. se1_entry c.args.cells.now.n (table_counts c.args.cells.now) c.args.min p in
     record {
-      entries = pairs_next f teams later c.loop-place.entries.items c.push_team.new.entries.items _ place (get_or teams place 0) is c.loop-place.invariant.entries
-          (c.push_team.ensures.entries ∙ ap (λ (xs : List ℕ). c.loop-place.entries.items ++ map (λ j. f (get_or teams place 0, j)) xs) (take_rest teams (place + 1)));
-      room = omega (arith, pairs_left teams later place (get_or teams place 0) is, c.push_team.ensures.pushed, c.push_team.ensures.room, c.loop-place.invariant.room, ap (λ (xs : List ℕ). length xs) (take_rest teams (place + 1)));
+      entries = pairs_next f teams later c.loop-place.entries.items c.push_team.new.entries.items _ place
+          (get_or teams place 0) is c.loop-place.invariant.entries
+          (c.push_team.ensures.entries
+          ∙ ap (λ (xs : List ℕ). c.loop-place.entries.items ++ map (λ j. f (get_or teams place 0, j)) xs)
+          (take_rest teams (place + 1)));
+      room = omega (
+        arith,
+        pairs_left teams later place (get_or teams place 0) is,
+        c.push_team.ensures.pushed,
+        c.push_team.ensures.room,
+        c.loop-place.invariant.room,
+        ap (λ (xs : List ℕ). length xs) (take_rest teams (place + 1)),
+      );
     }

@@ -7,6 +7,8 @@ use Rattle.separation.proofs.team_gaps.push_lacking.Given as goal
 
 abbrev pub invariant-loop-place : goal.invariant-loop-place
 invariant-loop-place l = record {
-  entries : l.entries.items ++ map (se1_entry l.cells.n (table_counts l.cells) l.min) (pairs_of (drop l.place l.teams)) ≡ l.initial.entries.items ++ map (se1_entry l.cells.n (table_counts l.cells) l.min) (pairs_of l.teams);
+  entries : l.entries.items ++ map (se1_entry l.cells.n (table_counts l.cells) l.min)
+      (pairs_of (drop l.place l.teams)) ≡ l.initial.entries.items ++ map
+      (se1_entry l.cells.n (table_counts l.cells) l.min) (pairs_of l.teams);
   room : vec_len l.entries + length (pairs_of (drop l.place l.teams)) ≤ vec_capacity l.entries;
 }

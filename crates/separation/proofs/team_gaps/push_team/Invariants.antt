@@ -6,7 +6,9 @@ use Rattle.separation.proofs.team_gaps.push_team.Given as goal
 
 abbrev pub invariant-loop-second : goal.invariant-loop-second
 invariant-loop-second l = record {
-  entries : l.entries.items ≡ l.initial.entries.items ++ map (λ second. se1_entry l.cells.n (table_counts l.cells) l.min (l.fn.first.0, second)) (take l.second-index l.later);
+  entries : l.entries.items ≡ l.initial.entries.items ++ map
+      (λ second. se1_entry l.cells.n (table_counts l.cells) l.min (l.fn.first.0, second))
+      (take l.second-index l.later);
   pushed : vec_len l.entries ≡ vec_len l.initial.entries + l.second-index;
   room : vec_capacity l.entries ≡ vec_capacity l.initial.entries;
 }

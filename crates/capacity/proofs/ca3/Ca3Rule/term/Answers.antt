@@ -4,7 +4,8 @@ use Rattle.capacity.proofs.ca3.Ca3Rule.term.Goals as goal
 
 pub returns-then-self-slots-clause-entry : goal.returns-then-self-slots-clause-entry
 returns-then-self-slots-clause-entry g c =
-    ca3_none c.args.self.now (table_counts c.args.cells.now) c.args.key c.args.cells.now.n c.slots-slots.result c.requires.key c.requires.teams c.slots-slots.ensures.slots c.if-self-slots.true
+    ca3_none c.args.self.now (table_counts c.args.cells.now) c.args.key c.args.cells.now.n c.slots-slots.result
+    c.requires.key c.requires.teams c.slots-slots.ensures.slots c.if-self-slots.true
 
 pub returns-clause-entry : goal.returns-clause-entry
 returns-clause-entry g c =

@@ -6,6 +6,8 @@ use Rattle.capacity.proofs.opponents.Opponents.games_in_slot.Given as goal
 
 abbrev pub invariant-loop-host : goal.invariant-loop-host
 invariant-loop-host l = record {
-  counted : l.games ≡ sum_by (hosted (table_counts l.cells) l.self.side l.self.teams1 l.self.teams2 l.fn.slot.0 l.cells.n) (take l.host-index l.hosts);
+  counted : l.games
+      ≡ sum_by (hosted (table_counts l.cells) l.self.side l.self.teams1 l.self.teams2 l.fn.slot.0 l.cells.n)
+      (take l.host-index l.hosts);
   bounded : l.games ≤ 400000 * l.host-index;
 }

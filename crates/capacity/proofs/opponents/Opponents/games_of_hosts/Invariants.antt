@@ -7,6 +7,9 @@ use Rattle.capacity.proofs.opponents.Opponents.games_of_hosts.Given as goal
 
 abbrev pub invariant-loop-slot : goal.invariant-loop-slot
 invariant-loop-slot l = record {
-  counted : l.games ≡ sum_by (λ s. games_of (table_counts l.cells) (filter (is_between l.self.side l.self.teams1 l.self.teams2) (meetings_of l.cells.n)) (s ∷ [])) (take l.slot-index l.slots);
+  counted : l.games
+      ≡ sum_by (λ s. games_of (table_counts l.cells)
+      (filter (is_between l.self.side l.self.teams1 l.self.teams2) (meetings_of l.cells.n)) (s ∷ []))
+      (take l.slot-index l.slots);
   bounded : l.games ≤ 16000000 * l.slot-index;
 }

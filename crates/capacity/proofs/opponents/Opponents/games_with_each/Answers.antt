@@ -1,4 +1,4 @@
-use Rattle.std.proofs.Common.{◌≡◌, ℕ, ◌+◌, ◌*◌, ◌≤◌, arith, ap, sym, ◌∙◌}
+use Rattle.std.proofs.Common.{◌≡◌, ℕ, ◌+◌, ◌*◌, arith, ap, ◌∙◌}
 use Rattle.std.proofs.lemmas.Nat.{mul-le}
 use Rattle.league.proofs.RangeLemmas.{summed}
 use Rattle.cells.specs.Table.{table_counts}
@@ -7,10 +7,16 @@ use Rattle.capacity.proofs.HostLemmas.{at_home_to, games_by_guest_to}
 use Rattle.capacity.proofs.opponents.Opponents.games_with_each.Goals as goal
 
 pub overflow_mul-games : goal.overflow_mul-games
-overflow_mul-games c = omega (arith, mul-le c.one_game.result c.at.result 1 10000 c.one_game.ensures.at_most c.at.ensures.at_most)
+overflow_mul-games c =
+    omega (arith, mul-le c.one_game.result c.at.result 1 10000 c.one_game.ensures.at_most c.at.ensures.at_most)
 
 pub overflow_add-games : goal.overflow_add-games
-overflow_add-games c = omega (arith, c.loop-guest.invariant.bounded, c.requires.few, mul-le c.one_game.result c.at.result 1 10000 c.one_game.ensures.at_most c.at.ensures.at_most)
+overflow_add-games c = omega (
+  arith,
+  c.loop-guest.invariant.bounded,
+  c.requires.few,
+  mul-le c.one_game.result c.at.result 1 10000 c.one_game.ensures.at_most c.at.ensures.at_most,
+)
 
 pub loop-guest-preserved : goal.loop-guest-preserved
 loop-guest-preserved c =
@@ -18,17 +24,27 @@ loop-guest-preserved c =
     let m = table_counts c.args.cells.now in
     let host : ℕ = c.args.host.0 in
     let guest : ℕ = c.loop-guest.guest in
-    let value : c.one_game.result * c.at.result ≡ at_home_to m self.side self.teams1 self.teams2 c.args.slot.0 host guest =
-    ap (λ (x : ℕ). x * c.at.result) c.one_game.ensures.games ∙ ap (λ (y : ℕ). counted self.side self.teams1 self.teams2 host guest * y) c.at.ensures.count in
+    let value : c.one_game.result * c.at.result ≡ at_home_to m self.side self.teams1 self.teams2
+    c.args.slot.0 host guest =
+    ap (λ (x : ℕ). x * c.at.result) c.one_game.ensures.games
+    ∙ ap (λ (y : ℕ). counted self.side self.teams1 self.teams2 host guest * y) c.at.ensures.count in
     record {
-      counted = summed (at_home_to m self.side self.teams1 self.teams2 c.args.slot.0 host) guest c.loop-guest.games _ c.loop-guest.invariant.counted (ap (λ (x : ℕ). c.loop-guest.games + x) value);
-      bounded = omega (arith, c.loop-guest.invariant.bounded, mul-le c.one_game.result c.at.result 1 10000 c.one_game.ensures.at_most c.at.ensures.at_most);
+      counted = summed (at_home_to m self.side self.teams1 self.teams2 c.args.slot.0 host) guest
+          c.loop-guest.games _ c.loop-guest.invariant.counted (ap (λ (x : ℕ). c.loop-guest.games + x) value);
+      bounded = omega (
+        arith,
+        c.loop-guest.invariant.bounded,
+        mul-le c.one_game.result c.at.result 1 10000
+            c.one_game.ensures.at_most c.at.ensures.at_most,
+      );
     }
 
 pub returns-clause-games : goal.returns-clause-games
 returns-clause-games c =
     let self = c.args.self.now in
-    games_by_guest_to (table_counts c.args.cells.now) self.side self.teams1 self.teams2 c.args.slot.0 c.args.cells.now.n c.args.host.0 c.loop-guest.guest c.loop-guest.games (omega arith) c.loop-guest.invariant.counted
+    games_by_guest_to (table_counts c.args.cells.now) self.side self.teams1 self.teams2 c.args.slot.0
+    c.args.cells.now.n c.args.host.0 c.loop-guest.guest c.loop-guest.games (omega arith)
+    c.loop-guest.invariant.counted
 
 pub returns-clause-at_most : goal.returns-clause-at_most
 returns-clause-at_most c = omega (arith, c.loop-guest.invariant.bounded, c.requires.few)

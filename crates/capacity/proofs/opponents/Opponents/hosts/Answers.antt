@@ -1,4 +1,4 @@
-use Rattle.std.proofs.Common.{◌≡◌, ℕ, Bool, List, [], ◌∷◌, ◌++◌, ◌∙◌, ap, sym}
+use Rattle.std.proofs.Common.{◌≡◌, ℕ, Bool, List, [], ◌∷◌, ◌++◌, ◌∙◌, sym}
 use Rattle.capacity.specs.Between.{can_host}
 use Rattle.capacity.proofs.HostLemmas.{hosts_with, hosts_without}
 use Rattle.capacity.proofs.opponents.Opponents.hosts.Goals as goal

@@ -4,4 +4,5 @@ use Rattle.capacity.specs.Between.{can_host}
 use Rattle.capacity.proofs.opponents.Opponents.hosts.Given as goal
 
 abbrev pub invariant-loop-team : goal.invariant-loop-team
-invariant-loop-team l = l.hosts.items ≡ filter (can_host l.self.side l.self.teams1 l.self.teams2) (range_with_len 0 l.team)
+invariant-loop-team l = l.hosts.items ≡ filter (can_host l.self.side l.self.teams1 l.self.teams2)
+    (range_with_len 0 l.team)

@@ -13,7 +13,8 @@ loop-key-preserved g c =
           ∙ ap (λ (l : List ℕ). l ++ c.term.result ∷ []) c.loop-key.invariant.pushed
           ∙ append_assoc c.args.entries.now.items so_far (c.term.result ∷ [])
           ∙ ap (λ (y : ℕ). c.args.entries.now.items ++ (so_far ++ y ∷ [])) c.term.ensures.entry
-          ∙ ap (λ (l : List ℕ). c.args.entries.now.items ++ l) (sym (map-range_with_len_more entry 0 c.loop-key.key c.loop-key.key (omega arith)));
+          ∙ ap (λ (l : List ℕ). c.args.entries.now.items ++ l)
+          (sym (map-range_with_len_more entry 0 c.loop-key.key c.loop-key.key (omega arith)));
       ticked = omega (arith, c.term.ensures.tick, c.loop-key.invariant.ticked);
       long = omega (arith, c.push_reserved.ensures.len, c.loop-key.invariant.long);
       room = omega (arith, c.push_reserved.ensures.capacity, c.loop-key.invariant.room);

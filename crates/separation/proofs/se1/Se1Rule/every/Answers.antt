@@ -1,6 +1,4 @@
-use Rattle.std.proofs.Common.{◌≡◌, ℕ, ◌++◌, List, length, map, get_or, refl, ap, ◌∙◌}
-use Rattle.league.specs.Meetings.{pairs_of}
-use Rattle.league.specs.Separation.{se1_entry}
+use Rattle.std.proofs.Common.{ℕ, ◌++◌, List, ap, ◌∙◌}
 use Rattle.cells.specs.Table.{table_counts}
 use Rattle.separation.proofs.TermLemmas.{se1_vector}
 use Rattle.separation.proofs.se1.Se1Rule.every.Goals as goal
@@ -9,4 +7,6 @@ pub returns-clause-entries : goal.returns-clause-entries
 returns-clause-entries g c =
     let rule = c.args.self.now in
     c.push_lacking.ensures.entries
-    ∙ ap (λ (xs : List ℕ). c.args.entries.now.items ++ xs) (se1_vector rule.n (table_counts c.args.cells.now) rule.pairs c.teams.result.now rule.min c.args.cells.now.n c.requires.teams c.teams.ensures)
+    ∙ ap (λ (xs : List ℕ). c.args.entries.now.items ++ xs)
+    (se1_vector rule.n (table_counts c.args.cells.now) rule.pairs c.teams.result.now rule.min c.args.cells.now.n
+    c.requires.teams c.teams.ensures)

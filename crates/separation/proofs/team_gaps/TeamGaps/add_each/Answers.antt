@@ -1,4 +1,4 @@
-use Rattle.std.proofs.Common.{◌≡◌, ◌≢◌, ℕ, ◌+◌, ◌<◌, refl, arith, sym, subst}
+use Rattle.std.proofs.Common.{ℕ, ◌+◌, ◌<◌, refl, arith, sym, subst}
 use Rattle.cells.specs.Table.{table_counts}
 use Rattle.separation.specs.TeamGaps.{IsSummed}
 use Rattle.separation.specs.declared.team_gaps.TeamGaps.{TeamGaps}
@@ -16,14 +16,19 @@ loop-other-preserved c =
     let first = c.args.self.now in
     let now = c.loop-other.self in
     let below : other < n = omega arith in
-    let so_far : IsSummed n m c.args.min i slot now other = summed-kept n m c.args.min i slot first now other (c.loop-other.invariant.left other (omega arith)) (c.requires.summed other below) in
+    let so_far : IsSummed n m c.args.min i slot now other = summed-kept n m c.args.min i slot first now other
+    (c.loop-other.invariant.left other (omega arith)) (c.requires.summed other below) in
     elim c.if-games-gt0.branch [
       | then-games-gt0 w ↦
           subst (λ (gaps : TeamGaps). AreDone n m c.args.min i slot (other + 1) first gaps) (sym w.self-is)
-          (AreDone-next n m c.args.min i slot other first now w.add_games.new.self w.add_games.ensures.room w.add_games.ensures.others
-          (w.add_games.ensures.summed n m i c.requires.slot c.games_at-games.ensures.games so_far) c.loop-other.invariant)
+          (AreDone-next n m
+          c.args.min i slot other first now w.add_games.new.self w.add_games.ensures.room w.add_games.ensures.others
+          (w.add_games.ensures.summed n m i c.requires.slot c.games_at-games.ensures.games so_far)
+          c.loop-other.invariant)
       | else-games-gt0 w ↦
           subst (λ (gaps : TeamGaps). AreDone n m c.args.min i slot (other + 1) first gaps) (sym w.self-is)
           (AreDone-next n m c.args.min i slot other first now now c.loop-other.invariant.room (λ j differ. (refl, refl))
-          (summed-free n m c.args.min i slot now now other c.requires.slot (omega (arith, w.if-games-gt0.false, c.games_at-games.ensures.games)) (refl, refl) so_far) c.loop-other.invariant)
+          (summed-free n m c.args.min i slot now now other c.requires.slot
+          (omega (arith, w.if-games-gt0.false, c.games_at-games.ensures.games)) (refl, refl) so_far)
+          c.loop-other.invariant)
     ]
