@@ -18,7 +18,7 @@ use Rattle.bound_base.specs.Softening.{Group, costs, costs_from, objective_row, 
 use Rattle.bound_groups.specs.Bare.{bare, bare_groups}
 use Rattle.bound_groups.specs.declared.units.Units.{Units}
 
-abbrev var_of : Term → ℕ
+abbrev pub var_of : Term → ℕ
 var_of t = t.lit.var
 
 abbrev Apart : Term → Term → Type 0
@@ -57,7 +57,7 @@ IsRow-soften first count row is below =
 
 -- ---- the objective row
 
-costs_ascend : (first : ℕ) (groups : List Group)
+pub costs_ascend : (first : ℕ) (groups : List Group)
     → AscendsBy var_of first (costs first groups) (first + sum_by (λ g. g.units) groups)
 costs_ascend first [] = omega arith
 costs_ascend first (g ∷ groups) =

@@ -7,3 +7,5 @@ pub mod CountLemmas
 pub mod RoomLemmas
 -- All bound rows:
 pub mod WrittenLemmas
+-- The bound rows speak of their variables alone:
+pub mod KnownLemmas

@@ -18,7 +18,7 @@ use Rattle.std.specs.List.{range_with_len}
 use Rattle.league.proofs.SumLemmas.{sum_by-map}
 use Rattle.rows.specs.Rows.{Row}
 use Rattle.rows.specs.declared.lit.Term.{Term}
-use Rattle.encoding_base.specs.Encoding.{class_rows}
+use Rattle.encoding_base.specs.Known.{AreKnown}
 use Rattle.encoding_base.specs.Variables.{bounds_breaks, h_count, has_breaks, hb_count, x_count}
 use Rattle.encoding_base.proofs.AscendLemmas.{All-flat_map}
 use Rattle.encoding.proofs.KnownLemmas.{class_rows-known}
@@ -77,7 +77,7 @@ any_at p [] k d within pass = absurd (omega arith)
 any_at p (x ∷ xs) zero d within pass = or_left (p x) (list_any p xs) pass
 any_at p (x ∷ xs) (suc k) d within pass = or_right (p x) (list_any p xs) (any_at p xs k d (omega arith) pass)
 
-with_breaks : (league : Instance) → needs_breaks league.constraints ≡ true
+pub with_breaks : (league : Instance) → needs_breaks league.constraints ≡ true
     → x_count league.n + h_count league.n + 2 * hb_count league.n ≤ base_vars league
 with_breaks league has =
     omega (
@@ -85,29 +85,35 @@ with_breaks league has =
       ap (λ (b : Bool). x_count league.n + h_count league.n + cond b (2 * hb_count league.n) 0) has,
     )
 
-pub groups_known : (league : Instance) → IsInstance league
-    → All (λ g. AreBefore (first_unit league) g.rows) (league_groups league)
-groups_known league is =
+pub groups_within : (league : Instance) → IsInstance league
+    → All (λ g. AreKnown (base_vars league) g.rows) (league_groups league)
+groups_within league is =
     let n : ℕ = league.n in
     let paid : List Constraint = paid_of league.constraints in
-    let before : Group → Type 0 = λ g. AreBefore (first_unit league) g.rows in
+    let known : Group → Type 0 = λ g. AreKnown (base_vars league) g.rows in
     let fit = All-filter (λ (c : Constraint). nat_lt 0 c.penalty) (λ c. IsTrue (class_fits n c.class))
     (soft_of league.constraints)
     (All-filter (λ (c : Constraint). not c.hard) (λ c. IsTrue (class_fits n c.class)) league.constraints is.fit) in
     let wide : x_count n + h_count n ≤ base_vars league = omega arith in
-    All-flat_map before (λ c. map (group_of n c.penalty) (parts_of n c.class)) paid
+    All-flat_map known (λ c. map (group_of n c.penalty) (parts_of n c.class)) paid
     (λ k d within.
     let c : Constraint = get_or paid k d in
-    All-map before (group_of n c.penalty) (parts_of n c.class)
+    All-map known (group_of n c.penalty) (parts_of n c.class)
     (λ l e inside.
     let part : Class = get_or (parts_of n c.class) l e in
     let told : bounds_breaks part ≡ true → needs_breaks league.constraints ≡ true = λ bounds.
     or_right (has_breaks league.constraints) (has_paid_breaks league.constraints)
     (any_at (λ (c : Constraint). bounds_breaks c.class) paid k d within
     (sym (parts_bound n c.class l e inside) ∙ bounds)) in
-    let known = class_rows-known (base_vars league) n wide part
-    (fits-parts n c.class (fit k d within) l e inside) (λ bounds. with_breaks league (told bounds)) in
-    λ i r there j t here. omega (arith, (known i r there j t here).1)))
+    class_rows-known (base_vars league) n wide part (fits-parts n c.class (fit k d within) l e inside)
+    (λ bounds. with_breaks league (told bounds))))
+
+pub groups_known : (league : Instance) → IsInstance league
+    → All (λ g. AreBefore (first_unit league) g.rows) (league_groups league)
+groups_known league is =
+    All-weaker (λ (g : Group). AreKnown (base_vars league) g.rows) (λ g. AreBefore (first_unit league) g.rows)
+    (λ g known i r there j t here. omega (arith, (known i r there j t here).1)) (league_groups league)
+    (groups_within league is)
 
 -- ---- room for all
 

@@ -1,5 +1,7 @@
 -- What a reader of a claim must believe:
 --
+-- What a bound system is of:
+pub mod Bounded
 -- Kept inside (laws, and how fields are seen):
 --
 -- How many terms bound rows have, part by part:

@@ -1,6 +1,9 @@
-//! The bound rows of a league: how many terms they have, and the rows themselves.
+//! The bound rows of a league: how many terms they have, and the rows themselves. `bound_base` has their definitions.
 #![tactic(auto)]
 
 mod count;
 mod draft;
+mod system;
 mod written;
+
+pub use system::{BoundSystem, bound_system};

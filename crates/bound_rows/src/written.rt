@@ -31,6 +31,7 @@ pub(crate) fn write_bound(
     requires { bounds.bound_size league.now ≤ 40000000 }
     ensures rows { IfOk result (λ written. written.rows ≡ bounds.bound_rows league.now bound) }
     ensures vars { IfOk result (λ written. written.vars ≡ bounds.bound_vars league.now) }
+    ensures few { IfOk result (λ written. written.vars ≤ 40130960) }
 {
     let first = base_vars(league) + 1;
     let draft = softened(alloc, league, first, terms)?;

@@ -40,3 +40,15 @@ returns-clause-rows c =
     all_rows c.args.league.now (c.base_vars-first.result + 1) c.args.bound c.in_ok-draft.draft.groups.items
     c.in_ok-draft.draft.rows _ (ap (λ (v : ℕ). v + 1) c.base_vars-first.ensures.vars) c.in_ok-draft.ensures.kept
     c.in_ok-draft.ensures.rows c.in_ok-written.ensures.rows
+
+pub returns-clause-few : goal.returns-clause-few
+returns-clause-few c =
+    omega (
+      arith,
+      c.in_ok-written.ensures.vars,
+      c.in_ok-draft.ensures.next,
+      c.base_vars-first.ensures.at_most,
+      c.requires,
+      bound_size-groups c.args.league.now,
+      units_in-le (league_groups c.args.league.now),
+    )

@@ -1,0 +1,22 @@
+-- What an accepted certificate shows.
+use Rattle.std.proofs.Common.{◌≡◌, ℕ, ◌-◌, List, subst, sym, ap}
+use Rattle.std.proofs.lemmas.List.Elements.{All-weaker}
+use Rattle.std.specs.List.{All}
+use Rattle.league.specs.Instance.{Instance, IsInstance}
+use Rattle.rows.specs.Rows.{Row}
+use Rattle.encoding_base.specs.Known.{AreKnown, IsKnown}
+use Rattle.refutation_check.specs.Soundness.{HaveNoSolution}
+use Rattle.refutation_check.specs.Within.{AreWithin, IsWithin}
+use Rattle.bound_base.specs.BoundRows.{bound_rows, bound_vars}
+use Rattle.bound_laws.specs.Faithful.{IsLowerBound}
+use Rattle.bound_laws.proofs.Faithful.{bounds-from_refuted}
+
+pub within-from_known : (vars : ℕ) (rows : List Row) → AreKnown vars rows → AreWithin vars rows
+within-from_known vars rows known =
+    All-weaker (IsKnown vars) (IsWithin vars) (λ row is k d within. (is k d within).1) rows known
+
+-- rows of a league and a bound, by other names
+pub shown : (league : Instance) (bound : ℕ) (rows : List Row) → IsInstance league
+    → rows ≡ bound_rows league (bound - 1) → HaveNoSolution rows → IsLowerBound league bound
+shown league bound rows is same none =
+    bounds-from_refuted league bound is (subst (λ (rs : List Row). HaveNoSolution rs) same none)

@@ -1,0 +1,2 @@
+-- What an accepted certificate shows:
+pub mod CheckLemmas

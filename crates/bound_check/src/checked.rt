@@ -1,0 +1,36 @@
+//! Logs over bound rows.
+ghost use Rattle.std.specs.Prelude.{◌≡◌, ℕ, ◌-◌, ◌<◌, ◌≤◌, IfOk, IsOk, Ok, Err};
+ghost use Rattle.bound_base.specs.BoundRows.{bound_rows, bound_size, bound_vars};
+ghost use Rattle.bound_laws.specs.Faithful.{IsLowerBound};
+ghost use Rattle.refutation.specs.Verdict.{verdict_of};
+
+use bound_rows::bound_system;
+use encoding::EncodeFault;
+use league::League;
+use refutation::{Log, Verdict};
+use refutation_check::check;
+use std::alloc::Global;
+
+/// The verdict on a log over the bound rows of one less than the bound. Where it is accepted, every schedule that the
+/// league accepts has an objective of at least the bound.
+///
+/// # Errors
+/// `TooLarge` only where the bound rows have more than 40,000,000 terms; else only where memory runs out.
+pub fn check_bound(
+    alloc: Global,
+    league: &League,
+    bound: u64,
+    log: &Log,
+) -> Result<Verdict, EncodeFault>
+    requires { 1 ≤ bound }
+    ensures verdict { IfOk result (λ verdict.
+        verdict ≡ verdict_of (bound_rows league.now (bound - 1)) (bound_vars league.now) log.now) }
+    ensures holds { result ≡ Ok Verdict.Accepted → IsLowerBound league.now bound }
+    ensures within { IsOk result → bound_size league.now ≤ 40000000 }
+    ensures only { (terms : ℕ) → result ≡ Err (EncodeFault.TooLarge terms) → 40000000 < bound_size league.now }
+{
+    let _n = league.n();
+    let system = bound_system(alloc, league, bound - 1)?;
+    let verdict = check(alloc, system.rows(), system.vars(), log)?;
+    Ok(verdict)
+}

@@ -1,0 +1,101 @@
+//! The bound rows of a league and a bound.
+ghost use Rattle.std.specs.Prelude.{◌≡◌, ℕ, ◌<◌, ◌≤◌, ◌⊎◌, IfOk, IsOk, Err};
+ghost use Rattle.league.specs.Instance.{IsInstance};
+ghost use Rattle.encoding_base.specs.Known.{AreKnown};
+ghost use Rattle.bound_base.specs.BoundRows as bounds;
+ghost use Rattle.bound_base.specs.BoundRows.{bound_rows, bound_size, bound_vars};
+ghost use Rattle.bound_rows.specs.Sizes.{capped};
+
+use crate::count::bound_terms;
+use crate::written::{Written, write_bound};
+use encoding::EncodeFault;
+use league::League;
+use rows::RowStore;
+use std::alloc::{AllocError, Global};
+use std::marker::Model;
+
+/// The most terms that bound rows have (own limit).
+const MOST_TERMS: u64 = 40_000_000;
+
+/// The bound rows of a league and a bound on the objective: seen as these two. It keeps a copy of the league.
+#[derive(Drop)]
+pub struct BoundSystem {
+    league: League,
+    bound: u64,
+    rows: RowStore,
+    vars: u32,
+}
+
+impl Model for BoundSystem {
+    ghost use Rattle.bound_rows.specs.Bounded.{Bounded, IsSystem};
+
+    ghost Value = { Bounded };
+
+    ghost view = { λ s. record { league = s.league; bound = s.bound } };
+
+    ghost invariant = { λ s. IsSystem s.league s.bound s.rows s.vars };
+}
+
+impl BoundSystem {
+    /// The bound rows: those of the league, the softened rows of each group, the objective row, and those that order the
+    /// units of each group.
+    pub fn rows(&self) -> &RowStore
+        ensures { result.now ≡ bound_rows self.now.league self.now.bound }
+    {
+        &self.rows
+    }
+
+    /// The number of variables: those of the league, and then the units.
+    pub fn vars(&self) -> u32
+        ensures vars { result ≡ bound_vars self.now.league }
+        ensures at_most { result ≤ 40130960 }
+        ensures instance { IsInstance self.now.league }
+
+        // The rows speak of no other variables.
+        ensures known { AreKnown (bound_vars self.now.league) (bound_rows self.now.league self.now.bound) }
+    {
+        self.vars
+    }
+}
+
+/// The bound rows of a league and a bound. Their terms are counted before they are written: where there are too many,
+/// that is the answer. Their number is the same for every bound; a number of 64 bits holds it, and were it larger, the
+/// largest such number would be said.
+///
+/// # Errors
+/// `TooLarge` only where the rows have more than 40,000,000 terms, with their number; else only where memory runs out.
+pub fn bound_system(alloc: Global, league: &League, bound: u64) -> Result<BoundSystem, EncodeFault>
+    ensures of { IfOk result (λ system. system ≡ record { league = league.now; bound = bound }) }
+    ensures within { IsOk result → bound_size league.now ≤ 40000000 }
+    ensures too_large { 40000000 < bound_size league.now → (result ≡ Err EncodeFault.Mem)
+        ⊎ (result ≡ Err (EncodeFault.TooLarge (capped (bound_size league.now)))) }
+    ensures only { (terms : ℕ) → result ≡ Err (EncodeFault.TooLarge terms) → 40000000 < bound_size league.now }
+{
+    let terms = bound_terms(alloc, league)?;
+    if terms > MOST_TERMS {
+        return Err(EncodeFault::TooLarge { terms });
+    }
+    let system = written_system(alloc, league, bound, terms)?;
+    Ok(system)
+}
+
+/// The bound rows of a league, which are few enough.
+fn written_system(
+    alloc: Global,
+    league: &League,
+    bound: u64,
+    terms: u64,
+) -> Result<BoundSystem, AllocError>
+    requires { bound_size league.now ≤ 40000000 }
+    ensures { IfOk result (λ system. system ≡ record { league = league.now; bound = bound }) }
+{
+    let Written { rows, vars } = write_bound(alloc, league, bound, terms)?;
+    let _n = league.n();
+    let league = league.copy()?;
+    Ok(BoundSystem {
+        league,
+        bound,
+        rows,
+        vars,
+    })
+}
