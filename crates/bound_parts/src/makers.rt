@@ -206,12 +206,7 @@ pub(crate) fn fa2_part(
 ///
 /// # Errors
 /// Only where memory runs out.
-pub fn se1_part(
-    alloc: Global,
-    first: u16,
-    second: u16,
-    min: u32,
-) -> Result<Class, AllocError>
+pub fn se1_part(alloc: Global, first: u16, second: u16, min: u32) -> Result<Class, AllocError>
     requires { first < second }
     ensures { IfOk result (λ part. part ≡ Class.Se1 (first ∷ second ∷ []) min) }
 {
