@@ -1,0 +1,229 @@
+"""The rows of a league, and of its parts, played seasons and least objectives, from the rules in words."""
+
+from itertools import combinations
+
+from leagues import Constraint, League, meetings_of_ca4, slots_of
+
+
+class Numbers:
+    """The numbers of a league's variables."""
+
+    def __init__(self, league):
+        self.n, self.slots = league.n, slots_of(league.n)
+        self.games = self.n * (self.n - 1) * self.slots
+        self.has_breaks = any(it.hard and it.name in ("BR1", "BR2") for it in league.constraints)
+        self.count = self.games + self.n * self.slots
+        if self.has_breaks:
+            self.count += 2 * self.n * (self.slots - 1)
+
+    def x(self, i, j, s):
+        return 1 + (i * (self.n - 1) + (j if j < i else j - 1)) * self.slots + s
+
+    def h(self, i, s):
+        return 1 + self.games + i * self.slots + s
+
+    def hb(self, i, s):
+        return 1 + self.games + self.n * self.slots + i * (self.slots - 1) + s - 1
+
+    def ab(self, i, s):
+        return self.hb(i, s) + self.n * (self.slots - 1)
+
+
+def at_least(degree, literals):
+    return [(1, it) for it in sorted(literals, key=abs)], degree
+
+
+def at_most(bound, literals):
+    return [(1, -it) for it in sorted(literals, key=abs)], max(len(literals) - bound, 0)
+
+
+def both(at, literals):
+    return [at_least(at["min"], literals), at_most(at["max"], literals)]
+
+
+def against(numbers, side, i, others, slots):
+    found = []
+    for j in others:
+        for s in slots:
+            if j != i and side in ("H", "HA"):
+                found.append(numbers.x(i, j, s))
+            if j != i and side in ("A", "HA"):
+                found.append(numbers.x(j, i, s))
+    return found
+
+
+def frame(league):
+    """The rows that every league of so many teams has."""
+    v, n = Numbers(league), league.n
+    slots, teams = range(v.slots), range(n)
+    rows = []
+    for i in teams:
+        for j in teams:
+            if i != j:
+                literals = [v.x(i, j, s) for s in slots]
+                rows += [at_least(1, literals), at_most(1, literals)]
+    for i in teams:
+        for s in slots:
+            literals = against(v, "HA", i, teams, [s])
+            rows += [at_least(1, literals), at_most(1, literals)]
+    if league.phased:
+        for i, j in combinations(teams, 2):
+            literals = [x for s in range(n - 1) for x in (v.x(i, j, s), v.x(j, i, s))]
+            rows += [at_least(1, literals), at_most(1, literals)]
+    for i in teams:
+        for s in slots:
+            games = [v.x(i, j, s) for j in teams if j != i]
+            rows.append(at_least(1, [-v.h(i, s), *games]))
+            terms = [(1, -x) for x in games] + [(n - 1, v.h(i, s))]
+            rows.append((sorted(terms, key=lambda it: abs(it[1])), n - 1))
+    for s in slots:
+        literals = [v.h(i, s) for i in teams]
+        rows += [at_least(n // 2, literals), at_most(n // 2, literals)]
+    for i in teams:
+        literals = [v.h(i, s) for s in slots]
+        rows += [at_least(n - 1, literals), at_most(n - 1, literals)]
+    if v.has_breaks:
+        for i in teams:
+            for s in slots[1:]:
+                before, now, hb, ab = v.h(i, s - 1), v.h(i, s), v.hb(i, s), v.ab(i, s)
+                clauses = [(-hb, before), (-hb, now), (hb, -before, -now)]
+                clauses += [(-ab, -before), (-ab, -now), (ab, before, now)]
+                rows += [at_least(1, list(it)) for it in clauses]
+    return rows
+
+
+def windows(slots, length):
+    """The windows of so many slots that follow each other, or the one window of all."""
+    if length >= slots:
+        return [range(slots)]
+    return [range(first, first + length) for first in range(slots - length + 1)]
+
+
+def pair(v, i, j, slots):
+    return [x for s in slots for x in (v.x(i, j, s), v.x(j, i, s))]
+
+
+def groups(constraint, v):
+    """For each key the groups of its rows; the rows of a constraint are those of all groups in order."""
+    name, at = constraint.name, constraint.at
+    if name == "CA1":
+        sign = 1 if at["mode"] == "H" else -1
+        return [[both(at, [sign * v.h(i, s) for s in at["slots"]])] for i in at["teams"]]
+    if name == "CA2":
+        return [[both(at, against(v, at["mode1"], i, at["teams2"], at["slots"]))] for i in at["teams1"]]
+    if name == "CA3":
+        length = at["intp"]
+        return [
+            [
+                both(at, against(v, at["mode1"], i, at["teams2"], range(first, first + length)))
+                for first in range(v.slots - length + 1)
+            ]
+            for i in at["teams1"]
+        ]
+    if name == "CA4":
+        listed = meetings_of_ca4(at)
+        parts = [at["slots"]] if at["mode2"] == "GLOBAL" else [[s] for s in at["slots"]]
+        return [[both(at, [v.x(i, j, s) for i, j in listed for s in part])] for part in parts]
+    if name == "GA1":
+        return [[both(at, [v.x(i, j, s) for i, j in at["meetings"] for s in at["slots"]])]]
+    if name == "BR1":
+        side = at["mode2"]
+        found = []
+        for i in at["teams"]:
+            literals = [v.hb(i, s) for s in at["slots"] if s and side in ("H", "HA")]
+            literals += [v.ab(i, s) for s in at["slots"] if s and side in ("A", "HA")]
+            found.append([[at_most(at["intp"], literals)]])
+        return found
+    if name == "BR2":
+        literals = [f(i, s) for f in (v.hb, v.ab) for i in at["teams"] for s in at["slots"] if s]
+        return [[[at_most(at["intp"], literals)]]]
+    if name == "FA2":
+        found = []
+        for i, j in combinations(at["teams"], 2):
+            rows = []
+            for s in at["slots"]:
+                degree = max(s + 1 - at["intp"], 0)
+                for a, b in ((i, j), (j, i)):
+                    rows.append(at_least(degree, [f for t in range(s + 1) for f in (-v.h(a, t), v.h(b, t))]))
+            found.append([rows])
+        return found
+    return [
+        [[at_most(1, pair(v, i, j, window)) for window in windows(v.slots, at["min"] + 1)]]
+        for i, j in combinations(at["teams"], 2)
+    ]
+
+
+def league_rows(league):
+    v, rows = Numbers(league), frame(league)
+    for it in league.constraints:
+        if it.hard:
+            rows += [row for key in groups(it, v) for group in key for row in group if row[1] > 0]
+    return v.count, rows
+
+
+def part(league, members):
+    return League(league.n, league.phased, [league.constraints[k - 1] for k in members])
+
+
+def resume_rows(league, played, upto):
+    v = Numbers(league)
+    count, rows = league_rows(league)
+    kept = set(played)
+    for s in range(upto):
+        for i in range(league.n):
+            for j in range(league.n):
+                if i != j:
+                    rows.append(at_least(1, [v.x(i, j, s) if (i, j, s) in kept else -v.x(i, j, s)]))
+    return count, rows
+
+
+def bound_rows(league, bound):
+    """The rows whose solutions are the accepted seasons of an objective of at most the bound."""
+    base = [it for it in league.constraints if it.hard]
+    softs = [it for it in league.constraints if not it.hard and it.penalty >= 1]
+    has = any(it.name in ("BR1", "BR2") for it in base)
+    if not has and any(it.name in ("BR1", "BR2") for it in softs):
+        at = {"teams": [], "slots": [], "intp": 0, "mode2": "HA"}
+        base = [*base, Constraint("BR1", True, 1, at)]
+    league = League(league.n, league.phased, base)
+    v = Numbers(league)
+    count, rows = league_rows(league)
+    objective, orders, total = [], [], 0
+    for it in softs:
+        for key in unit_groups(it, v):
+            for units, group in key:
+                own = range(count + 1, count + units + 1)
+                count += units
+                for terms, degree in group:
+                    if degree > 0:
+                        rows.append((terms + [(1, u) for u in own], degree))
+                objective += [(it.penalty, -u) for u in own]
+                total += it.penalty * units
+                orders += [at_least(1, [u, -(u + 1)]) for u in own[:-1]]
+    rows.append((objective, max(total - bound, 0)))
+    return count, rows + orders
+
+
+def unit_groups(constraint, v):
+    at = constraint.at
+    if constraint.name != "SE1":
+        return [
+            [(max([degree for _, degree in group], default=0), group) for group in key]
+            for key in groups(constraint, v)
+        ]
+    return [
+        [
+            (1, [at_most(1, pair(v, i, j, window)) for window in windows(v.slots, at["min"] - u + 2)])
+            for u in range(1, at["min"] + 1)
+        ]
+        for i, j in combinations(at["teams"], 2)
+    ]
+
+
+def opb(count, rows):
+    """The rows in the form that pseudo-Boolean solvers read."""
+    lines = [f"* #variable= {count} #constraint= {len(rows)}"]
+    for terms, degree in rows:
+        text = " ".join(f"+{coef} {'~' if lit < 0 else ''}x{abs(lit)}" for coef, lit in terms)
+        lines.append(f"{text} >= {degree} ;" if terms else f"+0 x1 >= {degree} ;")
+    return "\n".join(lines) + "\n"
