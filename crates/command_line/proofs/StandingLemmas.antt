@@ -3,7 +3,8 @@ use Rattle.std.proofs.Common.{◌≡◌, ℕ, ◌<◌, ◌≤◌, ◌==◌, if�
 use Rattle.std.proofs.lemmas.Bool.Decides.{nat_tests}
 use Rattle.command_line.specs.Standing.{once_more, standing}
 use Rattle.command_line.specs.Standing.Standing.{Never, Once, Often}
-use Rattle.command_line.specs.Words.{is_file_name, one_file, plain, said}
+use Rattle.command_line.specs.Words.{arguments_of, is_file_name, number_in, one_file, plain, said, seed_in}
+use Rattle.command_line.specs.Words.{teams_and_seed}
 
 pub standing-more : (value : List ℕ) (values : List (List ℕ)) → once_more value (standing values) ≡ standing (value ∷ values)
 standing-more value [] = refl
@@ -56,6 +57,25 @@ one_file-refused file (x ∷ more) name = refl
 pub one_file-more : (file : List ℕ) (more : List (List ℕ)) → (length more == 0) ≡ false → None ≡ one_file (file ∷ more)
 one_file-more file [] some = absurd (cc)
 one_file-more file (x ∷ more) some = refl
+
+-- ---- one number
+
+pub seed_in-alone : (seed : List ℕ) (more : List (List ℕ)) → (length more == 0) ≡ true
+    → number_in seed ≡ seed_in (seed ∷ more)
+seed_in-alone seed [] none = refl
+seed_in-alone seed (x ∷ more) none = absurd (longer (length more) none)
+
+pub seed_in-more : (seed : List ℕ) (more : List (List ℕ)) → (length more == 0) ≡ false → None ≡ seed_in (seed ∷ more)
+seed_in-more seed [] some = absurd (cc)
+seed_in-more seed (x ∷ more) some = refl
+
+-- ---- no argument
+
+pub teams_and_seed-none : {Z : Type 0} (words : List (String Z)) → length words < 1
+    → None ≡ teams_and_seed (arguments_of (map string_bytes words))
+unfolding teams_and_seed
+teams_and_seed-none {Z} [] few = refl
+teams_and_seed-none {Z} (word ∷ words) few = absurd (omega arith)
 
 -- ---- words that are no command
 

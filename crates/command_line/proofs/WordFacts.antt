@@ -1,8 +1,10 @@
 -- Worked readings of words, so that a wrong definition does not check.
 use Rattle.std.proofs.Common.{◌≡◌, ℕ, true, false, List, [], ◌∷◌, Some, None, codes, refl}
 use Rattle.budgets.specs.declared.budgets.Budgets.{Budgets}
-use Rattle.command_line.specs.Words.{arguments_of, budget_in, has_options, is_file_name, is_option, is_shortest, number_in, one_file, reading, said, team_count_in, tries_in, values_of, NeedsNoFile}
-use Rattle.command_line.specs.Words.Command.{Check, Circle, Make, Patterns, Solve, Validate}
+use Rattle.command_line.specs.Words.{arguments_of, budget_in, has_options, is_file_name, is_option, is_shortest}
+use Rattle.command_line.specs.Words.{number_in, one_file, reading, said, seed_in, team_count_in, teams_and_seed, tries_in}
+use Rattle.command_line.specs.Words.{values_of, NeedsNoFile}
+use Rattle.command_line.specs.Words.Command.{Check, Circle, Make, Patterns, Solve, Trial, Validate}
 
 -- a number: 0 itself, no leading zero, no sign, no blank, at most 2 ^ 64 - 1
 pub number_in-some : (number_in (codes "0") ≡ Some 0) × (number_in (codes "10") ≡ Some 10) × (number_in (codes "18446744073709551615") ≡ Some 18446744073709551615)
@@ -48,7 +50,7 @@ budget_in-none = (refl, refl, refl, refl, refl)
 -- ---- `solve`
 
 abbrev usual : Budgets
-usual = record { conflicts = Some 2000; moves = 10000; tries = 1; seed = 0 }
+usual = record { conflicts = Some 2000; moves = 10000; tries = 1; patterns = 500; seed = 0 }
 
 -- with the usual budgets, and with options before the file, between and behind it, in any order
 pub solve-usual : reading (codes "solve" ∷ codes "a" ∷ []) ≡ Some (Solve (codes "a") usual)
@@ -60,7 +62,16 @@ solve-conflicts = (refl, refl, refl)
 pub solve-moves : (reading (codes "solve" ∷ codes "--moves" ∷ codes "0" ∷ codes "a" ∷ []) ≡ Some (Solve (codes "a") (record usual { moves = 0 }))) × (reading (codes "solve" ∷ codes "a" ∷ codes "--moves" ∷ codes "18446744073709551615" ∷ []) ≡ Some (Solve (codes "a") (record usual { moves = 18446744073709551615 })))
 solve-moves = (refl, refl)
 
-pub solve-all : reading (codes "solve" ∷ codes "--seed" ∷ codes "5" ∷ codes "--tries" ∷ codes "100" ∷ codes "a" ∷ codes "--moves" ∷ codes "1" ∷ codes "--conflicts" ∷ codes "0" ∷ []) ≡ Some (Solve (codes "a") (record { conflicts = Some 0; moves = 1; tries = 100; seed = 5 }))
+pub solve-patterns : (reading (codes "solve" ∷ codes "--patterns" ∷ codes "0" ∷ codes "a" ∷ [])
+    ≡ Some (Solve (codes "a") (record usual { patterns = 0 })))
+    × (reading (codes "solve" ∷ codes "a" ∷ codes "--patterns" ∷ codes "18446744073709551615" ∷ [])
+    ≡ Some (Solve (codes "a") (record usual { patterns = 18446744073709551615 })))
+    × (reading (codes "solve" ∷ codes "a" ∷ codes "--patterns" ∷ codes "all" ∷ []) ≡ None)
+    × (reading (codes "solve" ∷ codes "a" ∷ codes "--patterns" ∷ []) ≡ None)
+    × (reading (codes "patterns" ∷ codes "a" ∷ codes "--patterns" ∷ codes "1" ∷ []) ≡ None)
+solve-patterns = (refl, refl, refl, refl, refl)
+
+pub solve-all : reading (codes "solve" ∷ codes "--seed" ∷ codes "5" ∷ codes "--tries" ∷ codes "100" ∷ codes "a" ∷ codes "--moves" ∷ codes "1" ∷ codes "--conflicts" ∷ codes "0" ∷ []) ≡ Some (Solve (codes "a") (record { conflicts = Some 0; moves = 1; tries = 100; patterns = 500; seed = 5 }))
 solve-all = refl
 
 -- a leading zero, an option twice, its value behind `=`, no try and too many
@@ -121,6 +132,46 @@ make-some = (refl, refl)
 pub make-none : (reading (codes "make" ∷ codes "4" ∷ []) ≡ None) × (reading (codes "make" ∷ codes "4" ∷ codes "1" ∷ codes "1" ∷ []) ≡ None) × (reading (codes "make" ∷ codes "5" ∷ codes "1" ∷ []) ≡ None) × (reading (codes "make" ∷ codes "4" ∷ codes "01" ∷ []) ≡ None) × (reading (codes "make" ∷ codes "4" ∷ codes "-1" ∷ []) ≡ None) × (reading (codes "make" ∷ codes "4" ∷ codes "18446744073709551616" ∷ []) ≡ None)
 make-none = (refl, refl, refl, refl, refl, refl)
 
+-- ---- `trial`
+
+-- with the usual budgets, and with options before, between and behind its numbers
+pub trial-some : (reading (codes "trial" ∷ codes "8" ∷ codes "7" ∷ []) ≡ Some (Trial 8 7 usual))
+    × (reading (codes "trial" ∷ codes "--moves" ∷ codes "1" ∷ codes "2" ∷ codes "--patterns" ∷ codes "3" ∷ codes "0"
+    ∷ codes "--conflicts" ∷ codes "all" ∷ [])
+    ≡ Some (Trial 2 0 (record usual { conflicts = None; moves = 1; patterns = 3 })))
+    × (reading (codes "trial" ∷ codes "40" ∷ codes "18446744073709551615" ∷ [])
+    ≡ Some (Trial 40 18446744073709551615 usual))
+unfolding teams_and_seed
+trial-some = (refl, refl, refl)
+
+-- no seed or two, an odd number of teams, a seed with a leading zero or a sign, an option without its value, twice, or of
+-- another name
+pub trial-none : (reading (codes "trial" ∷ codes "8" ∷ []) ≡ None)
+    × (reading (codes "trial" ∷ []) ≡ None)
+    × (reading (codes "trial" ∷ codes "8" ∷ codes "7" ∷ codes "7" ∷ []) ≡ None)
+    × (reading (codes "trial" ∷ codes "7" ∷ codes "8" ∷ []) ≡ None)
+    × (reading (codes "trial" ∷ codes "8" ∷ codes "07" ∷ []) ≡ None)
+    × (reading (codes "trial" ∷ codes "8" ∷ codes "-7" ∷ []) ≡ None)
+    × (reading (codes "trial" ∷ codes "8" ∷ codes "7" ∷ codes "--moves" ∷ []) ≡ None)
+    × (reading (codes "trial" ∷ codes "8" ∷ codes "7" ∷ codes "--tries" ∷ codes "0" ∷ []) ≡ None)
+    × (reading (codes "trial" ∷ codes "8" ∷ codes "7" ∷ codes "--seed" ∷ codes "1" ∷ codes "--seed" ∷ codes "1" ∷ []) ≡ None)
+    × (reading (codes "trial" ∷ codes "8" ∷ codes "--file" ∷ codes "a" ∷ codes "7" ∷ []) ≡ None)
+unfolding teams_and_seed
+trial-none = (refl, refl, refl, refl, refl, refl, refl, refl, refl, refl)
+
+pub teams_and_seed-some : (teams_and_seed [] ≡ None) × (teams_and_seed (codes "4" ∷ codes "1" ∷ []) ≡ Some (4, 1))
+    × (teams_and_seed (codes "4" ∷ []) ≡ None) × (seed_in (codes "9" ∷ []) ≡ Some 9)
+    × (seed_in (codes "9" ∷ codes "9" ∷ []) ≡ None)
+unfolding teams_and_seed
+teams_and_seed-some = (refl, refl, refl, refl, refl)
+
 -- which words need no file
-pub needs_no_file : NeedsNoFile (reading []) × NeedsNoFile (reading (codes "circle" ∷ codes "4" ∷ [])) × NeedsNoFile (reading (codes "make" ∷ codes "4" ∷ codes "1" ∷ [])) × (NeedsNoFile (reading (codes "validate" ∷ codes "a" ∷ codes "b" ∷ [])) → ⊥) × (NeedsNoFile (reading (codes "check" ∷ codes "a" ∷ codes "b" ∷ [])) → ⊥) × (NeedsNoFile (reading (codes "solve" ∷ codes "a" ∷ [])) → ⊥) × (NeedsNoFile (reading (codes "patterns" ∷ codes "a" ∷ [])) → ⊥)
-needs_no_file = (tt, tt, tt, λ h. h, λ h. h, λ h. h, λ h. h)
+pub needs_no_file : NeedsNoFile (reading []) × NeedsNoFile (reading (codes "circle" ∷ codes "4" ∷ []))
+    × NeedsNoFile (reading (codes "make" ∷ codes "4" ∷ codes "1" ∷ []))
+    × NeedsNoFile (reading (codes "trial" ∷ codes "4" ∷ codes "1" ∷ []))
+    × (NeedsNoFile (reading (codes "validate" ∷ codes "a" ∷ codes "b" ∷ [])) → ⊥)
+    × (NeedsNoFile (reading (codes "check" ∷ codes "a" ∷ codes "b" ∷ [])) → ⊥)
+    × (NeedsNoFile (reading (codes "solve" ∷ codes "a" ∷ [])) → ⊥)
+    × (NeedsNoFile (reading (codes "patterns" ∷ codes "a" ∷ [])) → ⊥)
+unfolding teams_and_seed
+needs_no_file = (tt, tt, tt, tt, λ h. h, λ h. h, λ h. h, λ h. h)

@@ -1,6 +1,6 @@
 -- What a contract sees of a command.
 use Rattle.command_line.specs.Words.{Command}
-use Rattle.command_line.specs.Words.Command.{Validate, Check, Solve, Patterns, Circle, Make}
+use Rattle.command_line.specs.Words.Command.{Validate, Check, Solve, Patterns, Circle, Make, Trial}
 use Rattle.command_line.specs.declared.words.Words.{Words}
 use Rattle.command_line.specs.declared.words.Words.TheVariants as words
 
@@ -12,3 +12,4 @@ command_of (words.Solve instance budgets) = Solve instance.now budgets
 command_of (words.Patterns instance conflicts) = Patterns instance.now conflicts
 command_of (words.Circle n) = Circle n
 command_of (words.Make n seed) = Make n seed
+command_of (words.Trial n seed budgets) = Trial n seed budgets

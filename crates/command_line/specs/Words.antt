@@ -16,6 +16,7 @@ pub data Command : Type 0 where
   Patterns : (instance : List ℕ) → (conflicts : Option ℕ) → Command
   Circle : (n : ℕ) → Command
   Make : (n seed : ℕ) → Command
+  Trial : (n seed : ℕ) → (budgets : Budgets) → Command
 
 -- whether a word names a file: any word that doesn't begin with `-`
 abbrev pub is_file_name : List ℕ → Bool
@@ -92,7 +93,7 @@ abbrev pub one_file : List (List ℕ) → Option (List ℕ)
 one_file (file ∷ []) = if is_file_name file then Some file else None
 one_file _ = None
 
--- ---- `solve` and `patterns`
+-- ---- `solve`, `patterns` and `trial`
 
 infixl 10 ◌>>=◌
 -- what the next step makes of a value, if there is one
@@ -105,15 +106,16 @@ budgets_in words = do
   conflicts ← said (Some usual_conflicts) budget_in (values_of (codes "--conflicts") words)
   moves ← said 10000 number_in (values_of (codes "--moves") words)
   tries ← said 1 tries_in (values_of (codes "--tries") words)
+  patterns ← said 500 number_in (values_of (codes "--patterns") words)
   seed ← said 0 number_in (values_of (codes "--seed") words)
-  Some (record { conflicts = conflicts; moves = moves; tries = tries; seed = seed })
+  Some (record { conflicts = conflicts; moves = moves; tries = tries; patterns = patterns; seed = seed })
 
 -- the names of options: of those that say how far a search goes, and how far `solve` goes
 abbrev pub search_options : List (List ℕ)
 search_options = codes "--conflicts" ∷ []
 
 abbrev pub solve_options : List (List ℕ)
-solve_options = codes "--conflicts" ∷ codes "--moves" ∷ codes "--tries" ∷ codes "--seed" ∷ []
+solve_options = codes "--conflicts" ∷ codes "--moves" ∷ codes "--tries" ∷ codes "--patterns" ∷ codes "--seed" ∷ []
 
 -- `solve` over one file, with options before, between and behind
 abbrev pub solving : List (List ℕ) → Option Command
@@ -130,6 +132,25 @@ patterning words =
     (λ file. option_map (Patterns file)
     (said (Some usual_conflicts) budget_in (values_of (codes "--conflicts") words)))
     (one_file (arguments_of words))
+    else None
+
+-- the seed of a made league, where it is the one argument that is left
+abbrev pub seed_in : List (List ℕ) → Option ℕ
+seed_in (seed ∷ []) = number_in seed
+seed_in _ = None
+
+-- the number of teams and the seed of a made league, as arguments
+unfoldable pub teams_and_seed : List (List ℕ) → Option (ℕ × ℕ)
+teams_and_seed [] = None
+teams_and_seed (teams ∷ rest) =
+    option_and_then (λ n. option_map (λ seed. (n, seed)) (seed_in rest)) (team_count_in teams)
+
+-- `trial` with a number of teams, a seed and the options of `solve`
+abbrev pub trying : List (List ℕ) → Option Command
+trying words =
+    if has_options solve_options words
+    then option_and_then (λ made. option_map (Trial made.0 made.1) (budgets_in words))
+    (teams_and_seed (arguments_of words))
     else None
 
 -- ---- commands
@@ -158,7 +179,8 @@ abbrev pub reading : List (List ℕ) → Option Command
 reading [] = None
 reading (command ∷ words) =
     if bytes_eq command (codes "solve") then solving words
-    else (if bytes_eq command (codes "patterns") then patterning words else plain command words)
+    else (if bytes_eq command (codes "patterns") then patterning words
+    else (if bytes_eq command (codes "trial") then trying words else plain command words))
 
 -- a league may have the teams of a command, where it names a number of them
 abbrev pub HasTeams : Command → Type 0
@@ -168,12 +190,14 @@ HasTeams (Solve instance budgets) = Unit {0}
 HasTeams (Patterns instance conflicts) = Unit {0}
 HasTeams (Circle n) = IsTeamCount n
 HasTeams (Make n seed) = IsTeamCount n
+HasTeams (Trial n seed budgets) = IsTeamCount n
 
 -- whether the words need no file: they are refused, or ask for a schedule or a league that is made
 abbrev pub NeedsNoFile : Option Command → Type 0
 NeedsNoFile None = Unit {0}
 NeedsNoFile (Some (Circle n)) = Unit {0}
 NeedsNoFile (Some (Make n seed)) = Unit {0}
+NeedsNoFile (Some (Trial n seed budgets)) = Unit {0}
 NeedsNoFile (Some (Validate instance solution)) = ⊥
 NeedsNoFile (Some (Check instance log)) = ⊥
 NeedsNoFile (Some (Solve instance budgets)) = ⊥

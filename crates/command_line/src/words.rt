@@ -5,8 +5,9 @@ ghost use Rattle.std.specs.List.{list_any};
 ghost use Rattle.std.specs.Option.{option_copied};
 ghost use Rattle.command_line.specs.Words as options;
 ghost use Rattle.command_line.specs.Words.{arguments_of, budget_in, budgets_in, has_options, is_file_name, making};
-ghost use Rattle.command_line.specs.Words.{HasTeams, number_in, patterning, plain, reading, said, search_options, solve_options, solving};
-ghost use Rattle.command_line.specs.Words.{team_count_in, tries_in, usual_conflicts, values_of};
+ghost use Rattle.command_line.specs.Words.{HasTeams, number_in, patterning, plain, reading, said, search_options};
+ghost use Rattle.command_line.specs.Words.{seed_in, solve_options, solving, team_count_in, tries_in, trying};
+ghost use Rattle.command_line.specs.Words.{usual_conflicts, values_of};
 ghost use Rattle.command_line.specs.Words.Command.{Circle};
 ghost use Rattle.command_line.specs.SeenWords.{command_of};
 ghost use Rattle.command_line.specs.Standing.{once_more, standing};
@@ -50,6 +51,12 @@ pub enum Words<'a> {
         n: u16,
         seed: u64,
     },
+    /// Make such a league and search a schedule that it accepts, within these budgets.
+    Trial {
+        n: u16,
+        seed: u64,
+        budgets: Budgets,
+    },
 }
 
 /// How many clauses a search may learn where the words don't say it.
@@ -57,6 +64,9 @@ const USUAL_CONFLICTS: u64 = 2000;
 
 /// How many moves a descent may make where the words don't say it.
 const USUAL_MOVES: u64 = 10_000;
+
+/// How many clauses the search for patterns may learn where the words don't say it.
+const USUAL_PATTERNS: u64 = 500;
 
 /// What the arguments, without the program's name, ask for: None exactly where they are no command. It takes no
 /// memory.
@@ -79,6 +89,8 @@ fn follow<'a>(command: &str, words: &'a [String]) -> Option<Words<'a>>
         read_solve(words)
     } else if command == "patterns" {
         read_patterns(words)
+    } else if command == "trial" {
+        read_trial(words)
     } else {
         read_plain(command, words)
     }
@@ -171,6 +183,65 @@ fn read_patterns(words: &[String]) -> Option<Words<'_>>
     })
 }
 
+/// `trial` with a number of teams and a seed, and the options of `solve`.
+fn read_trial(words: &[String]) -> Option<Words<'_>>
+    ensures reading { option_map command_of result ≡ trying (map string_bytes words.now) }
+    ensures teams { IfSome result (λ command. HasTeams (command_of command)) }
+{
+    if !has_solve_options(words) {
+        return None;
+    }
+    let (n, seed) = teams_and_seed(words)?;
+    let budgets = budgets(words)?;
+    Some(Words::Trial { n, seed, budgets })
+}
+
+/// The number of teams and the seed among the arguments.
+fn teams_and_seed(words: &[String]) -> Option<(u16, u64)>
+    ensures value { result ≡ options.teams_and_seed (arguments_of (map string_bytes words.now)) }
+    ensures teams { IfSome result (λ made. HasTeams (Circle made.0)) }
+{
+    match words {
+        [] => None,
+        [first, _, rest @ ..] if is_option(first.as_str()) => teams_and_seed(rest),
+        [first, rest @ ..] => with_seed(first.as_str(), rest),
+    }
+}
+
+/// A number of teams, with the seed among the arguments behind it.
+#[tactic(auto, unfolding(crate::specs::Words::teams_and_seed))]
+fn with_seed(teams: &str, words: &[String]) -> Option<(u16, u64)>
+    ensures value { result
+        ≡ options.teams_and_seed (teams.now ∷ arguments_of (map string_bytes words.now)) }
+    ensures teams { IfSome result (λ made. HasTeams (Circle made.0)) }
+{
+    let n = team_count(teams)?;
+    let seed = seed_alone(words)?;
+    Some((n, seed))
+}
+
+/// The seed, as the one argument.
+fn seed_alone(words: &[String]) -> Option<u64>
+    ensures { result ≡ seed_in (arguments_of (map string_bytes words.now)) }
+{
+    match words {
+        [] => None,
+        [first, _, rest @ ..] if is_option(first.as_str()) => seed_alone(rest),
+        [first, rest @ ..] => number_alone(first.as_str(), rest),
+    }
+}
+
+/// A number, where no argument comes behind it.
+fn number_alone(word: &str, rest: &[String]) -> Option<u64>
+    ensures { result ≡ seed_in (word.now ∷ arguments_of (map string_bytes rest.now)) }
+{
+    if has_no_argument(rest) {
+        number(word)
+    } else {
+        None
+    }
+}
+
 /// What the words say of how far `solve` goes.
 fn budgets(words: &[String]) -> Option<Budgets>
     ensures { result ≡ budgets_in (map string_bytes words.now) }
@@ -178,11 +249,13 @@ fn budgets(words: &[String]) -> Option<Budgets>
     let conflicts = conflicts_said(words)?;
     let moves = number_said(words, "--moves", USUAL_MOVES)?;
     let tries = tries_said(words)?;
+    let patterns = number_said(words, "--patterns", USUAL_PATTERNS)?;
     let seed = number_said(words, "--seed", 0)?;
     Some(Budgets {
         conflicts,
         moves,
         tries,
+        patterns,
         seed,
     })
 }
@@ -318,7 +391,11 @@ fn has_search_options(words: &[String]) -> bool
 fn is_solve_option(word: &str) -> bool
     ensures { result ≡ list_any (λ name. bytes_eq word.now name) solve_options }
 {
-    word == "--conflicts" || word == "--moves" || word == "--tries" || word == "--seed"
+    word == "--conflicts"
+        || word == "--moves"
+        || word == "--tries"
+        || word == "--patterns"
+        || word == "--seed"
 }
 
 /// Whether a word names an option: it begins with `--`.

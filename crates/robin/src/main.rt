@@ -13,18 +13,22 @@ const NO_ARGUMENTS: u8 = 10;
 
 /// What is said on standard error where the words are refused.
 const USAGE: &str = r#"usage: robin validate INSTANCE SOLUTION
-       robin solve INSTANCE [--conflicts N|all] [--moves N] [--tries N] [--seed N]
+       robin solve INSTANCE [--conflicts N|all] [--moves N] [--tries N]
+                   [--patterns N] [--seed N]
        robin patterns INSTANCE [--conflicts N|all]
        robin check INSTANCE LOG
        robin circle N
        robin make N SEED
+       robin trial N SEED [options of solve]
 validate judges the season of a solution file by the league of an instance file
          (RobinX); a file's name doesn't begin with -
 solve    finds a season that the league of an instance file accepts, or a log of
          steps that refutes the league; its search may learn N clauses, or any
          number (all), and 2000 where the option is left out; from the season it
          goes on to better ones, by N moves at most (10000), and it makes N tries
-         (1, at most 100), the later ones by a seed (0)
+         (1, at most 100), the later ones by a seed (0); where the season of
+         circle isn't accepted, it searches for patterns first, and learns N
+         clauses at most of them (500)
 patterns finds home-away patterns, a line for each team, that the rows of the
          league of an instance file allow which speak of no game, or a log of
          steps that refutes these rows, and so the league
@@ -32,6 +36,8 @@ check    checks a log of steps that refutes the league of an instance file
 circle   writes the season of the circle method for N teams, N even, 2 to 40
 make     writes a league of N teams, N even, 2 to 40, with N + 17 constraints that
          are drawn by SEED, a number; it accepts the season that circle writes
+trial    makes the league that make writes and solves it: seven lines say in short
+         what is found, and behind them comes what solve writes
 Options stand before, between or behind other words. There are no others.
 status 0 accepted, found or made 1 not accepted     2 these words are refused
        3 a file is refused, or a league of too many rows (but for validate)

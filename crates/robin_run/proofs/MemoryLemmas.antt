@@ -10,7 +10,7 @@ use Rattle.robinx_form.specs.Walk.{Fault}
 use Rattle.robinx_read.specs.declared.instance.TheConstants.{INSTANCE_LIMIT, SOLUTION_LIMIT}
 use Rattle.budgets.specs.declared.budgets.Budgets.{Budgets}
 use Rattle.command_line.specs.Words.{Command}
-use Rattle.command_line.specs.Words.Command.{Check, Circle, Make, Patterns, Solve, Validate}
+use Rattle.command_line.specs.Words.Command.{Check, Circle, Make, Patterns, Solve, Trial, Validate}
 use Rattle.answers.specs.Reply.{Answer}
 use Rattle.answers.specs.Stages.{IsWritten, Outcome, reads, says}
 use Rattle.answers.specs.declared.status.Status.{Status}
@@ -25,6 +25,9 @@ use Rattle.validate_answer.specs.Validate.{IsJudgement, validated}
 use Rattle.check_answer.specs.Check.{IsVerdict, checked, encodes, most_log_bytes, says_log, verdict_answer}
 use Rattle.patterns_answer.specs.Patterns.{AreFound, patterned}
 use Rattle.solve_answer.specs.Solve.{IsFound, solved}
+use Rattle.instance_gen.specs.Draws.{seeded}
+use Rattle.instance_gen.specs.Made.{made_league}
+use Rattle.trial_answer.specs.Trial.{IsTrial, tried}
 use Rattle.robin_run.specs.Answer.{IsAnswer}
 
 status-of : (a b : Answer) → a ≡ b → a.status ≡ Memory → b.status ≡ Memory
@@ -130,6 +133,15 @@ patterned-memory contents took_more failed instance conflicts answer ended given
     (λ league at_league. encodes-memory league (λ rows. AreFound league conflicts) answer ended
     (λ rows found. patterns-memory league conflicts answer ended found) at_league) at_bytes) given
 
+-- ---- `trial`
+
+tried-memory : (n seed : ℕ) (budgets : Budgets) (answer : Answer) → answer.status ≡ Memory → tried n seed budgets answer
+    → ⊥
+tried-memory n seed budgets answer ended given =
+    encodes-memory (made_league n (seeded seed))
+    (λ rows. IsTrial n seed (made_league n (seeded seed)) budgets.moves) answer ended
+    (λ rows trial. let same : Yes ≡ Memory = sym trial.status ∙ ended in cc) given
+
 -- ---- a run
 
 answer-memory : (words : Option Command) (contents : List ℕ → Option (List ℕ)) (took_more : ℕ → Type 0) (failed : List ℕ → Type 0) (answer : Answer) → answer.status ≡ Memory → IsAnswer words contents took_more failed answer → ⊥
@@ -139,7 +151,10 @@ answer-memory (Some (Check instance log)) contents took_more failed answer ended
 answer-memory (Some (Solve instance budgets)) contents took_more failed answer ended given = solved-memory contents took_more failed instance budgets answer ended given
 answer-memory (Some (Patterns instance conflicts)) contents took_more failed answer ended given = patterned-memory contents took_more failed instance conflicts answer ended given
 answer-memory (Some (Circle n)) contents took_more failed answer ended given = let same : Yes ≡ Memory = status-of answer _ given ended in cc
-answer-memory (Some (Make n seed)) contents took_more failed answer ended given = let same : Yes ≡ Memory = status-of answer _ given ended in cc
+answer-memory (Some (Make n seed)) contents took_more failed answer ended given =
+    let same : Yes ≡ Memory = status-of answer _ given.made ended in cc
+answer-memory (Some (Trial n seed budgets)) contents took_more failed answer ended given =
+    tried-memory n seed budgets answer ended given
 
 -- where an answer is written, the run doesn't end as want of memory does
 pub written-memory : (words : Option Command) (contents : List ℕ → Option (List ℕ)) (took_more : ℕ → Type 0) (failed : List ℕ → Type 0) (answer : Answer) (ended : Status) (old new : Option (List ℕ)) (sink_failed : Type 0) → IsAnswer words contents took_more failed answer → IsWritten answer ended old new sink_failed → ended ≡ Memory → ⊥

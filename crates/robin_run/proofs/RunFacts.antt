@@ -36,4 +36,4 @@ pub circle-one : (answer : Answer) → IsAnswer (Some (Circle 2)) contents never
 circle-one answer h = h
 
 pub make-one : (answer : Answer) → IsAnswer (Some (Make 4 1)) contents never nowhere answer → answer ≡ made_instance 4 1
-make-one answer h = h
+make-one answer h = h.made

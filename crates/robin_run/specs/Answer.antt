@@ -5,10 +5,11 @@ use Rattle.answers.specs.Stages.{Outcome}
 use Rattle.check_answer.specs.Check.{checked}
 use Rattle.circle_answer.specs.Circle.{circle_season}
 use Rattle.command_line.specs.Words.{Command}
-use Rattle.command_line.specs.Words.Command.{Validate, Check, Solve, Patterns, Circle, Make}
-use Rattle.make_answer.specs.MadeInstance.{made_instance}
+use Rattle.command_line.specs.Words.Command.{Validate, Check, Solve, Patterns, Circle, Make, Trial}
+use Rattle.make_answer.specs.MadeInstance.{IsMade}
 use Rattle.patterns_answer.specs.Patterns.{patterned}
 use Rattle.solve_answer.specs.Solve.{solved}
+use Rattle.trial_answer.specs.Trial.{tried}
 use Rattle.validate_answer.specs.Validate.{validated}
 
 -- the answer to the words
@@ -23,4 +24,5 @@ IsAnswer (Some (Solve instance budgets)) contents took_more failed answer =
 IsAnswer (Some (Patterns instance conflicts)) contents took_more failed answer =
     patterned contents took_more failed instance conflicts answer
 IsAnswer (Some (Circle n)) contents took_more failed answer = answer ≡ circle_season n
-IsAnswer (Some (Make n seed)) contents took_more failed answer = answer ≡ made_instance n seed
+IsAnswer (Some (Make n seed)) contents took_more failed answer = IsMade n seed answer
+IsAnswer (Some (Trial n seed budgets)) contents took_more failed answer = tried n seed budgets answer

@@ -1,13 +1,13 @@
 //! The call that the program makes: the words, the command's stages, and the answer written.
-ghost use Rattle.std.specs.Prelude.{◌≡◌, ◌≢◌, ℕ, List, IfOk, Ok, Option, Some, map, string_bytes};
-ghost use Rattle.std.specs.Io.KnownBytes.{Keeps};
+ghost use Rattle.std.specs.Prelude.{◌≡◌, ◌≢◌, ℕ, ◌≤◌, List, IfOk, Ok, Option, Some, map, string_bytes};
+ghost use Rattle.std.specs.Io.KnownBytes.{Appends, Keeps};
 ghost use Rattle.robin_io.specs.Counts.{Rose, TookMore};
 ghost use Rattle.league.specs.Instance.{Instance};
 ghost use Rattle.league.specs.declared.game.Game.{Game};
 ghost use Rattle.budgets.specs.declared.budgets.Budgets.{Budgets};
 ghost use Rattle.command_line.specs.SeenWords.{command_of};
 ghost use Rattle.command_line.specs.Words.{reading, HasTeams, NeedsNoFile};
-ghost use Rattle.command_line.specs.Words.Command.{Check, Patterns, Solve, Validate};
+ghost use Rattle.command_line.specs.Words.Command.{Check, Circle, Make, Patterns, Solve, Trial, Validate};
 ghost use Rattle.answers.specs.Reply.{Answer};
 ghost use Rattle.answers.specs.SeenReply.{answer_of};
 ghost use Rattle.answers.specs.Stages.{IsWritten};
@@ -15,6 +15,13 @@ ghost use Rattle.validate_answer.specs.Validate.{IsJudged, IsWellFormedPair};
 ghost use Rattle.check_answer.specs.Check.{IsChecked, IsWellFormedLog};
 ghost use Rattle.solve_answer.specs.Solve.{IsSolved, IsWellFormedInstance};
 ghost use Rattle.patterns_answer.specs.Patterns.{IsPatterned};
+ghost use Rattle.circle_answer.specs.Circle.{circle_season};
+ghost use Rattle.make_answer.specs.MadeInstance.{IsWrittenLeague};
+ghost use Rattle.trial_answer.specs.Trial.{IsTried};
+ghost use Rattle.check_answer.specs.Check.{most_terms};
+ghost use Rattle.encoding_base.specs.Encoding.{encoding_size};
+ghost use Rattle.instance_gen.specs.Draws.{seeded};
+ghost use Rattle.instance_gen.specs.Made.{made_league};
 ghost use Rattle.season_check.specs.Excluded.{NoneAccepted};
 ghost use Rattle.robinx_tags.specs.Pieces.{pieces};
 ghost use Rattle.robinx_form.specs.InstanceFile.{instance_of};
@@ -30,6 +37,7 @@ use patterns_answer::patterns_file;
 use robin_io::{Shelf, Sink};
 use solve_answer::solve_file;
 use std::alloc::{AllocError, Global};
+use trial_answer::trial;
 use validate_answer::validate;
 
 /// Follows a command.
@@ -52,6 +60,7 @@ fn follow<S: Shelf>(alloc: Global, command: Words, shelf: &mut S) -> Result<Repl
         } => patterns_file(alloc, shelf, instance, conflicts),
         Words::Circle { n } => circle(alloc, n),
         Words::Make { n, seed } => make_league(alloc, n, seed),
+        Words::Trial { n, seed, budgets } => trial(alloc, n, seed, budgets),
     }
 }
 
@@ -74,9 +83,9 @@ fn answer<S: Shelf>(alloc: Global, words: &[String], shelf: &mut S) -> Result<Re
 ///
 /// `words` are the words of the command line without the program's name. `validate INSTANCE SOLUTION` judges the
 /// season of one file by the league of the other, `check INSTANCE LOG` checks the refutation log of one file over the
-/// rows of the league of the other, `solve INSTANCE` finds a season or a log of the league of a file, `patterns INSTANCE`
-/// finds patterns or a log, `circle N` makes a season, `make N SEED` makes a league, and any other words are refused. The
-/// whole text is made before its first byte is written.
+/// rows of the league of the other, `solve INSTANCE` finds a season or a log of the league of a file, `patterns
+/// INSTANCE` finds patterns or a log, `circle N` makes a season, `make N SEED` makes a league, `trial N SEED` makes one
+/// and solves it, and any other words are refused. The whole text is made before its first byte is written.
 ///
 /// - `answer` needs nothing of the store, of the sink or of the files: whatever they do, the answer is one of those
 ///   that are allowed for the words and the files, and each refusal has its cause.
@@ -87,19 +96,27 @@ fn answer<S: Shelf>(alloc: Global, words: &[String], shelf: &mut S) -> Result<Re
 ///   league have at most 40,000,000 terms, the verdict on the log is written whole.
 /// - `refuted` needs a store that tells the bytes of the instance file alone: where a run of `check` ends with `Yes`,
 ///   the league of that file accepts no list of games.
-/// - `solved` says the same as `checked` of `solve`: where the instance file is within its limit and well-formed, and the
-///   rows of its league have at most 40,000,000 terms, what is found is written whole. It is a schedule that the league
-///   accepts with its objective, a log that `check` accepts, or a log that is spent at the budget; and a schedule
-///   wherever the league accepts that of the circle method, a log that `check` accepts wherever its venue counts are short
-///   or crowded. Behind a schedule stand the moves of the descent that led to
-///   it, at most as many as the budget of moves: taken backwards from the schedule they are legal, each raises the
+/// - `solved` says the same as `checked` of `solve`: where the instance file is within its limit and well-formed, and
+///   the rows of its league have at most 40,000,000 terms, what is found is written whole. It is a schedule that the
+///   league accepts with its objective, a log that `check` accepts, or a log that is spent at the budget of conflicts,
+///   and then there are patterns that satisfy the league's pattern rows, or a log that is spent over these at the
+///   budget of patterns; and a schedule wherever the league accepts that of the circle method, a log that `check`
+///   accepts wherever its venue counts are short or crowded. Behind a schedule stand the moves of the descent that led
+///   to it, at most as many as the budget of moves: taken backwards from the schedule they are legal, each raises the
 ///   score, and they end in a schedule that is accepted too, whose objective is written. It says `settled=yes` exactly
-///   where no legal move lowers the score of the schedule, and a budget of as many moves as the first objective settles.
+///   where no legal move lowers the score of the schedule, and a budget of as many moves as the first objective
+///   settles.
 /// - `unsolvable` is as `refuted`: where a run of `solve` ends with `Refuted`, the league accepts no list of games.
-/// - `patterned` says the same as `solved` of `patterns`: what is found is patterns that satisfy the pattern rows of the
-///   league, a log that refutes them, or one that is spent at the budget; a log's hints name pattern rows and earlier
-///   steps alone, as they are numbered among all rows of the league.
-/// - `patternless` is as `unsolvable`: where a run of `patterns` ends with `Refuted`, the league accepts no list of games.
+/// - `patterned` says the same as `solved` of `patterns`: what is found is patterns that satisfy the pattern rows of
+///   the league, a log that refutes them, or one that is spent at the budget; a log's hints name pattern rows and
+///   earlier steps alone, as they are numbered among all rows of the league.
+/// - `patternless` is as `unsolvable`: where a run of `patterns` ends with `Refuted`, the league accepts no list of
+///   games.
+/// - `seasoned` says that `circle` writes the schedule of the circle method in order, and `made` that `make` writes the
+///   league of its numbers: its text reads back as this league, which has n + 17 constraints and accepts that schedule.
+/// - `tried` says the same of `trial`: where the rows of the made league have at most 40,000,000 terms, a schedule that
+///   it accepts is written as `solve` writes it, and before it seven lines that say the same in short.
+/// - `found` needs nothing: no `trial` ends with `Refuted` or `Spent`.
 /// - That a count of faults rose says that it is larger after this call, or that it stands at its last value,
 ///   2^64 - 1.
 /// - Memory may run out at any time, and then nothing is written. Nothing is said of which files were read then.
@@ -139,7 +156,8 @@ pub fn run<S: Shelf, K: Sink>(alloc: Global, words: &[String], shelf: &mut S, ou
         → result ≡ Status.Yes
         → NoneAccepted league }
 
-    // What is found of the league of a well-formed instance, at which nothing fails, is written, unless memory runs out.
+    // What is found of the league of a well-formed instance, at which nothing fails, is written, unless memory runs
+    // out.
     ensures solved { (instance : List ℕ) (budgets : Budgets) (league : Instance)
         → reading (map string_bytes words.now) ≡ Some (Solve instance budgets)
         → IsWellFormedInstance (S.contents shelf.old) (λ name. Rose (S.faults shelf.old name) (S.faults shelf.new name))
@@ -173,10 +191,37 @@ pub fn run<S: Shelf, K: Sink>(alloc: Global, words: &[String], shelf: &mut S, ou
         → result ≡ Status.Refuted
         → NoneAccepted league }
 
+    // The schedule of the circle method is written, unless memory runs out or the sink fails.
+    ensures seasoned { (n : ℕ)
+        → reading (map string_bytes words.now) ≡ Some (Circle n)
+        → (Rose (K.faults out.old) (K.faults out.new) → ⊥)
+        → result ≢ Status.Memory
+        → (result ≡ Status.Yes) × Appends (K.written out.old) (K.written out.new) (circle_season n).text }
+
+    // A made league is written, unless memory runs out or the sink fails.
+    ensures made { (n seed : ℕ)
+        → reading (map string_bytes words.now) ≡ Some (Make n seed)
+        → (Rose (K.faults out.old) (K.faults out.new) → ⊥)
+        → result ≢ Status.Memory
+        → IsWrittenLeague n seed result (K.written out.old) (K.written out.new) }
+
+    // A schedule of a made league whose rows aren't too many is written, unless memory runs out or the sink fails.
+    ensures tried { (n seed : ℕ) (budgets : Budgets)
+        → reading (map string_bytes words.now) ≡ Some (Trial n seed budgets)
+        → encoding_size (made_league n (seeded seed)) ≤ most_terms
+        → (Rose (K.faults out.old) (K.faults out.new) → ⊥)
+        → result ≢ Status.Memory
+        → IsTried n seed budgets result (K.written out.old) (K.written out.new) }
+
+    // A trial is neither refuted nor spent.
+    ensures found { (n seed : ℕ) (budgets : Budgets)
+        → reading (map string_bytes words.now) ≡ Some (Trial n seed budgets)
+        → (result ≢ Status.Refuted) × (result ≢ Status.Spent) }
+
     // The files keep their contents, whatever the answer.
     ensures contents { (n : List ℕ) → S.contents shelf.new n ≡ S.contents shelf.old n }
 
-    // Refused words, `circle` and `make` leave the whole store as it was.
+    // Refused words, `circle`, `make` and `trial` leave the whole store as it was.
     ensures untouched { NeedsNoFile (reading (map string_bytes words.now)) → shelf.new ≡ shelf.old }
 
     // Where memory ran out, nothing is written.

@@ -10,7 +10,10 @@ pub returns-in-Solve-clause-answer : goal.returns-in-Solve-clause-answer
 returns-in-Solve-clause-answer g c = rw c.in-Solve.is c.solve_file.ensures.answer
 
 pub returns-in-Make-clause-answer : goal.returns-in-Make-clause-answer
-returns-in-Make-clause-answer g c = rw c.in-Make.is c.make_league.ensures.answer
+returns-in-Make-clause-answer g c = rw c.in-Make.is c.make_league.ensures
 
 pub returns-in-Patterns-clause-answer : goal.returns-in-Patterns-clause-answer
 returns-in-Patterns-clause-answer g c = rw c.in-Patterns.is c.patterns_file.ensures.answer
+
+pub returns-in-Trial-clause-answer : goal.returns-in-Trial-clause-answer
+returns-in-Trial-clause-answer g c = rw c.in-Trial.is c.trial.ensures

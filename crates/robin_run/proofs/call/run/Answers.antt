@@ -3,6 +3,7 @@ use Rattle.robin_io.specs.Counts.{Rose, TookMore}
 use Rattle.command_line.specs.Words.{reading}
 use Rattle.answers.specs.SeenReply.{answer_of}
 use Rattle.robin_run.proofs.CheckLemmas.{run-checked, run-refuted}
+use Rattle.robin_run.proofs.MadeLemmas.{run-found, run-made, run-seasoned, run-tried}
 use Rattle.robin_run.proofs.PatternLemmas.{run-patterned, run-patternless}
 use Rattle.robin_run.proofs.SolveLemmas.{run-solved, run-unsolvable}
 use Rattle.robin_run.proofs.MemoryLemmas.{written-memory}
@@ -75,3 +76,43 @@ returns-in-Ok-clause-judged g c = λ instance solution league games is good work
     λ name. Rose (g.S.Shelf.faults c.args.shelf.now name) (g.S.Shelf.faults c.answer.new.shelf name) in
     run-judged (reading (map string_bytes c.args.words.now)) contents took_more failed instance solution league games
     (answer_of c.in-Ok.reply) c.write_answer.result _ _ _ c.in-Ok.ensures.answer c.write_answer.ensures is good works
+
+pub returns-in-Ok-clause-seasoned : goal.returns-in-Ok-clause-seasoned
+returns-in-Ok-clause-seasoned g c = λ n is works later.
+    let contents : List ℕ → Option (List ℕ) = g.S.Shelf.contents c.args.shelf.now in
+    let took_more : ℕ → Type 0 =
+    λ limit. TookMore limit (g.S.Shelf.taken c.args.shelf.now) (g.S.Shelf.taken c.answer.new.shelf) in
+    let failed : List ℕ → Type 0 =
+    λ name. Rose (g.S.Shelf.faults c.args.shelf.now name) (g.S.Shelf.faults c.answer.new.shelf name) in
+    run-seasoned (reading (map string_bytes c.args.words.now)) contents took_more failed n (answer_of c.in-Ok.reply)
+    c.write_answer.result _ _ _ c.in-Ok.ensures.answer c.write_answer.ensures is works
+
+pub returns-in-Ok-clause-made : goal.returns-in-Ok-clause-made
+returns-in-Ok-clause-made g c = λ n seed is works later.
+    let contents : List ℕ → Option (List ℕ) = g.S.Shelf.contents c.args.shelf.now in
+    let took_more : ℕ → Type 0 =
+    λ limit. TookMore limit (g.S.Shelf.taken c.args.shelf.now) (g.S.Shelf.taken c.answer.new.shelf) in
+    let failed : List ℕ → Type 0 =
+    λ name. Rose (g.S.Shelf.faults c.args.shelf.now name) (g.S.Shelf.faults c.answer.new.shelf name) in
+    run-made (reading (map string_bytes c.args.words.now)) contents took_more failed n seed (answer_of c.in-Ok.reply)
+    c.write_answer.result _ _ _ c.in-Ok.ensures.answer c.write_answer.ensures is works
+
+pub returns-in-Ok-clause-tried : goal.returns-in-Ok-clause-tried
+returns-in-Ok-clause-tried g c = λ n seed budgets is small works later.
+    let contents : List ℕ → Option (List ℕ) = g.S.Shelf.contents c.args.shelf.now in
+    let took_more : ℕ → Type 0 =
+    λ limit. TookMore limit (g.S.Shelf.taken c.args.shelf.now) (g.S.Shelf.taken c.answer.new.shelf) in
+    let failed : List ℕ → Type 0 =
+    λ name. Rose (g.S.Shelf.faults c.args.shelf.now name) (g.S.Shelf.faults c.answer.new.shelf name) in
+    run-tried (reading (map string_bytes c.args.words.now)) contents took_more failed n seed budgets
+    (answer_of c.in-Ok.reply) c.write_answer.result _ _ _ c.in-Ok.ensures.answer c.write_answer.ensures is small works
+
+pub returns-in-Ok-clause-found : goal.returns-in-Ok-clause-found
+returns-in-Ok-clause-found g c = λ n seed budgets is.
+    let contents : List ℕ → Option (List ℕ) = g.S.Shelf.contents c.args.shelf.now in
+    let took_more : ℕ → Type 0 =
+    λ limit. TookMore limit (g.S.Shelf.taken c.args.shelf.now) (g.S.Shelf.taken c.answer.new.shelf) in
+    let failed : List ℕ → Type 0 =
+    λ name. Rose (g.S.Shelf.faults c.args.shelf.now name) (g.S.Shelf.faults c.answer.new.shelf name) in
+    run-found (reading (map string_bytes c.args.words.now)) contents took_more failed n seed budgets
+    (answer_of c.in-Ok.reply) c.write_answer.result _ _ _ c.in-Ok.ensures.answer c.write_answer.ensures is
