@@ -16,7 +16,6 @@ use Rattle.std.proofs.lemmas.List.Sums.{count_by-le-length, length-filter, sum_b
 use Rattle.std.proofs.lemmas.Option.{get_or_from_slice_get, slice_get_within}
 use Rattle.league.specs.Counts.{counts_of}
 use Rattle.league.specs.Instance.{Instance}
-use Rattle.league.specs.declared.game.Game.{Game}
 use Rattle.league.specs.Sets.{IsAscending, is_in}
 use Rattle.rows.specs.Rows.{Row, size_of}
 use Rattle.encoding_base.specs.Encoding.{encoding_size, rows_of}
@@ -25,9 +24,8 @@ use Rattle.parts.specs.Parts.{hard_numbers, is_hard_number, part_of, without}
 use Rattle.parts.proofs.PartLemmas.{hard_numbers-ascending, hard_numbers-hard}
 use Rattle.refutation.specs.Steps.{Step}
 use Rattle.refutation.specs.Verdict.{verdict_of}
-use Rattle.descent.specs.Descended.{Descended}
-use Rattle.solve.specs.Solutions.{IsSchedule, RefutesLeague}
-use Rattle.explain.specs.Conflicts.{IsCase, IsSeason}
+use Rattle.solve.specs.Solutions.{RefutesLeague}
+use Rattle.explain.specs.Conflicts.{IsCase}
 use Rattle.explain.specs.Cores.{IsCore, named_of}
 use Rattle.explain.specs.Standings.{IsExplained, IsOpenAt, is_open, kept, loosened, numbers_of, open_member}
 use Rattle.explain.specs.Standings.{reopened, work}
@@ -352,12 +350,3 @@ pub narrowed-less : {E : Type 0} (result : Result Contradiction E) (members smal
 narrowed-less {E} (Ok later) members smaller no_longer shorter =
     shorter-less members later.members.items (omega (arith, no_longer, shorter))
 narrowed-less {E} (Err error) members smaller no_longer shorter = tt
-
--- what is found of a league is a season of it
-pub season_of : (league : Instance) (moves : ℕ) (games : List Game) (objective : ℕ) (descent : Descended)
-    → IsSchedule league moves games objective descent → IsSeason league games
-season_of league moves games objective descent is = record {
-  accepted = is.accepted;
-  fit = is.fit;
-  in_order = is.in_order;
-}

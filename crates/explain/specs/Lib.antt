@@ -5,6 +5,8 @@ pub mod Cases
 pub mod Conflicts
 -- Kept inside (laws, and how fields are seen):
 --
+-- What a try of a league came to:
+pub mod Attempts
 -- What is known of the members while a conflict is made smaller:
 pub mod Standings
 pub mod Cores

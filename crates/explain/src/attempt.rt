@@ -1,20 +1,36 @@
-//! One try: the league of some hard constraints alone is solved.
-ghost use Rattle.std.specs.Prelude.{◌≡◌, ◌≤◌, true, IfOk};
+//! One try: a league, or that of some hard constraints alone, is solved. Nothing else of the crate knows of the solver.
+ghost use Rattle.std.specs.Prelude.{◌≡◌, ℕ, ◌<◌, ◌≤◌, true, IfOk, IsOk, Err};
 ghost use Rattle.std.specs.List.{All};
 ghost use Rattle.std.specs.Ordering.{nat_cmp};
+ghost use Rattle.league.specs.Accepted.{IsAccepted};
+ghost use Rattle.league.specs.Counts.{counts_of};
 ghost use Rattle.league.specs.Sets.{IsAscending};
+ghost use Rattle.circle_method.specs.Circle.{double_games};
 ghost use Rattle.encoding_base.specs.Encoding.{encoding_size};
 ghost use Rattle.parts.specs.Parts.{is_hard_number, part_of};
-ghost use Rattle.solve.specs.Solutions.{IsSolution};
+ghost use Rattle.venue_counts.specs.VenueCounts.{are_crowded, are_short};
+ghost use Rattle.explain.specs.Attempts.{IsAttempt, IsMet, IsRefuted};
 
 use budgets::Budgets;
-use league::League;
+use league::{League, Schedule};
 use parts::{PartFault, part};
+use refutation::Log;
 use solve::{SolveFault, Solved, solve};
 use std::alloc::{AllocError, Global};
 
+/// What a try came to.
+#[derive(Drop)]
+pub(crate) enum Attempt {
+    /// A schedule that the league accepts, in order, with its objective.
+    Met { schedule: Schedule, objective: u128 },
+    /// A log that refutes the league.
+    Refuted(Log),
+    /// A log that is spent over its rows.
+    Spent(Log),
+}
+
 /// What a try may do: one search, which learns at most so many clauses, and no move.
-pub(crate) fn budgets_of(conflicts: Option<u64>) -> Budgets
+fn budgets_of(conflicts: Option<u64>) -> Budgets
     ensures conflicts { result.conflicts ≡ conflicts }
     ensures moves { result.moves ≡ 0 }
 {
@@ -23,6 +39,39 @@ pub(crate) fn budgets_of(conflicts: Option<u64>) -> Budgets
         moves: 0,
         tries: 1,
         seed: 0,
+    }
+}
+
+/// What is found of a league.
+///
+/// # Errors
+/// `TooLarge` exactly where its rows have more than 40,000,000 terms, with their number; else only where memory runs
+/// out.
+pub(crate) fn searched(
+    alloc: Global,
+    league: &League,
+    conflicts: Option<u64>,
+) -> Result<Attempt, SolveFault>
+    ensures within { IsOk result → encoding_size league.now ≤ 40000000 }
+    ensures too_large { 40000000 < encoding_size league.now
+        → result ≡ Err (SolveFault.TooLarge (encoding_size league.now)) }
+    ensures only { (terms : ℕ) → result ≡ Err (SolveFault.TooLarge terms) → 40000000 < encoding_size league.now }
+    ensures attempt { IfOk result (IsAttempt league.now conflicts) }
+    ensures circle { IsAccepted league.now (counts_of (double_games league.now.n)) → IfOk result IsMet }
+    ensures short { are_short league.now ≡ true → IfOk result IsRefuted }
+    ensures crowded { are_crowded league.now ≡ true → IfOk result IsRefuted }
+{
+    match solve(alloc, league, budgets_of(conflicts))? {
+        Solved::Schedule {
+            schedule,
+            objective,
+            descent: _descent,
+        } => Ok(Attempt::Met {
+            schedule,
+            objective,
+        }),
+        Solved::Refuted(log) => Ok(Attempt::Refuted(log)),
+        Solved::Spent(log) => Ok(Attempt::Spent(log)),
     }
 }
 
@@ -50,20 +99,20 @@ pub(crate) fn known_part(
 ///
 /// # Errors
 /// Only where memory runs out.
-pub(crate) fn attempt(
+pub(crate) fn try_part(
     alloc: Global,
     league: &League,
     members: &[u32],
     conflicts: Option<u64>,
-) -> Result<Solved, AllocError>
+) -> Result<Attempt, AllocError>
     requires ascending { IsAscending nat_cmp members.now }
     requires hard { All (λ k. is_hard_number league.now.constraints k ≡ true) members.now }
     requires small { encoding_size (part_of league.now members.now) ≤ 40000000 }
-    ensures { IfOk result (IsSolution (part_of league.now members.now) conflicts 0) }
+    ensures { IfOk result (IsAttempt (part_of league.now members.now) conflicts) }
 {
     let part = known_part(alloc, league, members)?;
-    match solve(alloc, &part, budgets_of(conflicts)) {
-        Ok(solved) => Ok(solved),
+    match searched(alloc, &part, conflicts) {
+        Ok(attempt) => Ok(attempt),
         Err(SolveFault::TooLarge { .. }) => unreachable!(),
         Err(SolveFault::Mem) => Err(AllocError),
     }

@@ -4,12 +4,11 @@ ghost use Rattle.league.specs.Sets.{is_in};
 ghost use Rattle.explain.specs.Standings.{IsExplained, kept};
 ghost use Rattle.explain.specs.Cores.{IsCore};
 
-use crate::attempt::attempt;
+use crate::attempt::{Attempt, try_part};
 use crate::member::{Contradiction, listed_members, listed_numbers, numbers_of};
 use crate::names::named;
 use league::League;
 use refutation::Log;
-use solve::Solved;
 use std::alloc::{AllocError, Global};
 
 /// Which of the members of a contradiction a log names, and a log of their own that refutes these.
@@ -61,8 +60,8 @@ fn core_of(
     if listed.len() >= numbers.len() {
         return Ok(None);
     }
-    match attempt(alloc, league, &listed, conflicts)? {
-        Solved::Refuted(log) => Ok(Some(Core { named, log })),
+    match try_part(alloc, league, &listed, conflicts)? {
+        Attempt::Refuted(log) => Ok(Some(Core { named, log })),
         _ => Ok(None),
     }
 }

@@ -11,7 +11,7 @@ ghost use Rattle.explain.specs.Conflicts.{HasConflict, HasSchedule, IsAmple, IsD
 ghost use Rattle.explain.specs.Conflicts.{IsIrreducibleIfDecided};
 ghost use Rattle.explain.specs.Standings.{said_of};
 
-use crate::attempt::budgets_of;
+use crate::attempt::{Attempt, searched};
 use crate::cases::Cases;
 use crate::cores::narrow;
 use crate::explained::Explained;
@@ -20,7 +20,7 @@ use crate::members::Members;
 use crate::smaller::minimise;
 use league::League;
 use refutation::Log;
-use solve::{SolveFault, Solved, solve};
+use solve::SolveFault;
 use std::alloc::{AllocError, Global};
 
 /// Finds hard constraints that contradict each other, or a schedule that the league accepts.
@@ -56,17 +56,16 @@ pub fn explain(
     ensures short { are_short league.now ≡ true → IfOk result HasConflict }
     ensures crowded { are_crowded league.now ≡ true → IfOk result HasConflict }
 {
-    match solve(alloc, league, budgets_of(conflicts))? {
-        Solved::Schedule {
+    match searched(alloc, league, conflicts)? {
+        Attempt::Met {
             schedule,
             objective,
-            descent: _descent,
         } => Ok(Explained::Met {
             schedule,
             objective,
         }),
-        Solved::Refuted(log) => Ok(conflict(alloc, league, log, conflicts)?),
-        Solved::Spent(log) => Ok(Explained::Spent { log }),
+        Attempt::Refuted(log) => Ok(conflict(alloc, league, log, conflicts)?),
+        Attempt::Spent(log) => Ok(Explained::Spent { log }),
     }
 }
 

@@ -1,16 +1,15 @@
 //! A contradiction made as small as tries show it.
 ghost use Rattle.std.specs.Prelude.{◌≡◌, ◌==◌, ◌<◌, not, IfOk};
 ghost use Rattle.parts.specs.Parts.{part_of, without};
-ghost use Rattle.solve.specs.Solutions.{IsSolution};
+ghost use Rattle.explain.specs.Attempts.{IsAttempt};
 ghost use Rattle.explain.specs.Standings.{AreClosed, IsExplained, IsOpenAt, kept, numbers_of, work};
 
-use crate::attempt::attempt;
+use crate::attempt::{Attempt, try_part};
 use crate::cases::Case;
 use crate::cores::narrow;
 use crate::member::{Contradiction, first_open, others, settle, shrunk};
 use league::League;
 use refutation::Log;
-use solve::Solved;
 use std::alloc::{AllocError, Global};
 
 /// A contradiction of which each member was tried: without it there is a schedule, or a search was spent.
@@ -52,13 +51,12 @@ fn tried(
 {
     let number = contradiction.members[place].number;
     match try_without(alloc, league, &contradiction, number, conflicts)? {
-        Solved::Schedule {
+        Attempt::Met {
             schedule,
             objective: _objective,
-            descent: _descent,
         } => Ok(settle(contradiction, place, number, Case::Without { schedule })),
-        Solved::Spent(log) => Ok(settle(contradiction, place, number, Case::Undecided { log })),
-        Solved::Refuted(log) => {
+        Attempt::Spent(log) => Ok(settle(contradiction, place, number, Case::Undecided { log })),
+        Attempt::Refuted(log) => {
             let smaller = dropped(alloc, contradiction, number, log)?;
             narrow(alloc, league, smaller, conflicts)
         }
@@ -75,13 +73,13 @@ fn try_without(
     contradiction: &Contradiction,
     number: u32,
     conflicts: Option<u64>,
-) -> Result<Solved, AllocError>
+) -> Result<Attempt, AllocError>
     requires { IsExplained league.now conflicts contradiction.now.members.items contradiction.now.log }
-    ensures { IfOk result (IsSolution
-        (part_of league.now (without number (numbers_of contradiction.now.members.items))) conflicts 0) }
+    ensures { IfOk result (IsAttempt
+        (part_of league.now (without number (numbers_of contradiction.now.members.items))) conflicts) }
 {
     let others = others(alloc, &contradiction.members, number)?;
-    attempt(alloc, league, &others, conflicts)
+    try_part(alloc, league, &others, conflicts)
 }
 
 /// The contradiction of the other members alone, with a log that refutes these.

@@ -1,16 +1,16 @@
 use Rattle.std.proofs.Common.{◌≡◌, ◌<◌, ◌∙◌, ap, List, ℕ, length, subst, arith}
 use Rattle.league.specs.Sets.{is_in}
-use Rattle.solve.specs.Solutions.{IsSolution}
-use Rattle.solve.specs.declared.solved.Solved.{Solved}
 use Rattle.parts.specs.Parts.{part_of}
+use Rattle.explain.specs.Attempts.{IsAttempt}
 use Rattle.explain.specs.Cores.{named_of}
 use Rattle.explain.specs.Standings.{numbers_of}
+use Rattle.explain.specs.declared.attempt.Attempt.{Attempt}
 use Rattle.explain.specs.declared.member.Member.{Member}
 use Rattle.explain.proofs.StandingLemmas.{chosen-ascending, chosen-hard, chosen-small, is_core}
 use Rattle.explain.proofs.cores.core_of.Goals as goal
 
-pub attempt-requires-clause-ascending : goal.attempt-requires-clause-ascending
-attempt-requires-clause-ascending c =
+pub try_part-requires-clause-ascending : goal.try_part-requires-clause-ascending
+try_part-requires-clause-ascending c =
     let members = c.args.contradiction.now.members.items in
     chosen-ascending c.args.league.now c.args.conflicts members c.args.contradiction.now.log
     (λ k. is_in k c.in_ok-named.named.items) c.deref-5.result.now c.requires
@@ -19,8 +19,8 @@ attempt-requires-clause-ascending c =
     ∙ ap (λ (ks : List ℕ). named_of ks c.deref-3.result.now) c.deref-4.ensures.value
     ∙ ap (λ (ms : List Member). named_of c.in_ok-named.named.items ms) c.deref-3.ensures.value)
 
-pub attempt-requires-clause-hard : goal.attempt-requires-clause-hard
-attempt-requires-clause-hard c =
+pub try_part-requires-clause-hard : goal.try_part-requires-clause-hard
+try_part-requires-clause-hard c =
     let members = c.args.contradiction.now.members.items in
     chosen-hard c.args.league.now c.args.conflicts members c.args.contradiction.now.log
     (λ k. is_in k c.in_ok-named.named.items) c.deref-5.result.now c.requires
@@ -29,8 +29,8 @@ attempt-requires-clause-hard c =
     ∙ ap (λ (ks : List ℕ). named_of ks c.deref-3.result.now) c.deref-4.ensures.value
     ∙ ap (λ (ms : List Member). named_of c.in_ok-named.named.items ms) c.deref-3.ensures.value)
 
-pub attempt-requires-clause-small : goal.attempt-requires-clause-small
-attempt-requires-clause-small c =
+pub try_part-requires-clause-small : goal.try_part-requires-clause-small
+try_part-requires-clause-small c =
     let members = c.args.contradiction.now.members.items in
     chosen-small c.args.league.now c.args.conflicts members c.args.contradiction.now.log
     (λ k. is_in k c.in_ok-named.named.items) c.deref-5.result.now c.requires
@@ -60,5 +60,5 @@ returns-in-Refuted c =
     ) in
     is_core c.args.league.now members (record { named = c.in_ok-named.named; log = c.in-Refuted.log })
     c.deref-5.result.now same fewer
-    (subst (λ (s : Solved). IsSolution (part_of c.args.league.now c.deref-5.result.now) c.args.conflicts 0 s)
+    (subst (λ (a : Attempt). IsAttempt (part_of c.args.league.now c.deref-5.result.now) c.args.conflicts a)
     c.in-Refuted.is c.in_ok-log.ensures)
