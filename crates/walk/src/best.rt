@@ -58,6 +58,13 @@ impl Kept {
         }
     }
 
+    /// What the games cost.
+    pub(crate) fn score(&self) -> Score
+        ensures { result ≡ self.now.score }
+    {
+        self.score
+    }
+
     /// The games in order, with their score.
     ///
     /// # Errors

@@ -82,8 +82,9 @@ impl Standing {
         tried
     }
 
-    /// Tries moves until so many were legal: each is made where the hard rules cost no more, and the soft ones not much
-    /// more, by a threshold that falls. The best games on the way are kept. Says how many moves were tried.
+    /// Tries moves until so many were legal, or the soft rules cost nothing: each is made where the hard rules cost no
+    /// more, and the soft ones not much more, by a threshold that falls. The best games on the way are kept. Says how many
+    /// moves were tried.
     pub(crate) fn improve<R: Rule<L>, L>(
         &mut self,
         random: &mut Pcg32,
@@ -105,7 +106,7 @@ impl Standing {
         let phased = self.board.phased();
         let mut tried = 0;
         'draws: for _drawn in 0..limit.saturating_mul(DRAWS) {
-            if tried == limit {
+            if tried == limit || tally.objective() == 0 {
                 return tried;
             }
             let step = drawn_move(random, n, phased);

@@ -125,27 +125,29 @@ impl Walker {
         Ok(())
     }
 
-    /// Looks for games that meet the hard constraints, in stretches after each of which the weights are adapted.
+    /// Looks for games that meet the hard constraints, in stretches after each of which the weights are adapted. The best
+    /// games at the end of a stretch are kept.
     ///
     /// # Errors
     /// Only where memory runs out.
     fn meet_hard(&mut self, alloc: Global, league: &League) -> Result<(), AllocError>
         requires walker { IsWalkerIn league.now self.old }
         ensures walker { OnOk result (IsWalkerIn league.now self.new) }
-        ensures best { OnOk result (self.new.best ≡ self.old.best) }
+        ensures no_worse { OnOk result (IsNoWorse self.new.best.score self.old.best.score) }
         ensures left { OnOk result (self.new.left ≤ self.old.left) }
     {
         let mut weights = Weights::new(alloc, league)?;
         'stretches: for _stretch in 0..self.left / STRETCH + 1 {
-            if self.stretch(alloc, league, &mut weights)? {
+            let sum = self.stretch(alloc, league, &mut weights)?;
+            self.keep_lower(alloc, league, sum)?;
+            if sum == 0 || self.left == 0 {
                 return Ok(());
             }
         }
         Ok(())
     }
 
-    /// One stretch, by the weights as they are. Says whether nothing is left to do: the hard constraints are met, or no
-    /// move may be tried any more.
+    /// One stretch, by the weights as they are. Says what the hard constraints cost at its end.
     ///
     /// # Errors
     /// Only where memory runs out.
@@ -154,7 +156,7 @@ impl Walker {
         alloc: Global,
         league: &League,
         weights: &mut Weights,
-    ) -> Result<bool, AllocError>
+    ) -> Result<u128, AllocError>
         requires walker { IsWalkerIn league.now self.old }
         ensures walker { OnOk result (IsWalkerIn league.now self.new) }
         ensures best { OnOk result (self.new.best ≡ self.old.best) }
@@ -169,7 +171,26 @@ impl Walker {
             .meet(&mut self.random, limit, &mut tally, &mut steps);
         self.left -= tried;
         weights.adapt(&tally);
-        Ok(tally.infeasibility() == 0 || self.left == 0)
+        Ok(weights.hard_sum(&tally))
+    }
+
+    /// Keeps the games where they are better than the best so far, if their hard sum is said to be lower.
+    ///
+    /// # Errors
+    /// Only where memory runs out.
+    fn keep_lower(&mut self, alloc: Global, league: &League, sum: u128) -> Result<(), AllocError>
+        requires walker { IsWalkerIn league.now self.old }
+        ensures walker { OnOk result (IsWalkerIn league.now self.new) }
+        ensures no_worse { OnOk result (IsNoWorse self.new.best.score self.old.best.score) }
+        ensures left { OnOk result (self.new.left ≡ self.old.left) }
+    {
+        if self.best.score().infeasibility <= sum {
+            return Ok(());
+        }
+        copy_games(&self.standing.board, &mut self.games);
+        let score = cost_of(alloc, league, &self.games)?;
+        self.best.keep(&self.standing.board, score);
+        Ok(())
     }
 
     /// Keeps the games where they are better than the best so far, and where they meet the hard constraints goes on to

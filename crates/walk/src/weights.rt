@@ -1,5 +1,6 @@
 //! Weights of the hard constraints, which grow while a constraint isn't met.
 
+use deviation::total;
 use league::{Constraint, League};
 use rule_core::Entries;
 use std::alloc::{AllocError, Global};
@@ -63,6 +64,18 @@ impl Weights {
             Some(weight) => weight.now,
             None => 10,
         }
+    }
+
+    /// What the rules of a tally of the hard constraints cost by their penalties.
+    pub(crate) fn hard_sum<R: Entries>(&self, tally: &Tally<R>) -> u128 {
+        let mut sum = 0u128;
+        for place in 0..tally.rule_count() {
+            if let Some(weight) = self.weights.get(place) {
+                let deviation = total(tally.vector(place));
+                sum = sum.saturating_add(deviation.saturating_mul(u128::from(weight.penalty)));
+            }
+        }
+        sum
     }
 
     /// Makes each weight greater or smaller by whether its rule, of a tally of the hard constraints, is met.

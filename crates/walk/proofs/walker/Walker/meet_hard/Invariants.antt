@@ -1,11 +1,12 @@
-use Rattle.std.specs.Prelude.{◌≡◌, ◌≤◌}
+use Rattle.std.specs.Prelude.{◌≤◌}
+use Rattle.descent.specs.Score.{IsNoWorse}
 use Rattle.walk.specs.Standing.{IsWalkerIn}
 use Rattle.walk.proofs.walker.Walker.meet_hard.Given as goal
 
--- the walk goes on with what it has kept
+-- the walk goes on, and its best games aren't worse than at the start
 abbrev pub invariant-stretches : goal.invariant-stretches
 invariant-stretches l = record {
   walker : IsWalkerIn l.league l.self;
-  best : l.self.best ≡ l.initial.self.best;
+  no_worse : IsNoWorse l.self.best.score l.initial.self.best.score;
   left : l.self.left ≤ l.initial.self.left;
 }
