@@ -1,0 +1,8 @@
+-- Parts of fewer constraints, and the part of all:
+pub mod PartLaws
+-- Contradictions that become smaller:
+pub mod StandingLemmas
+-- What is said at the end:
+pub mod ConflictLemmas
+-- Worked conflicts:
+mod ConflictFacts

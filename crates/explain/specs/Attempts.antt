@@ -1,0 +1,28 @@
+-- What a try of a league came to.
+use Rattle.std.specs.Prelude.{◌≡◌, ℕ, Option}
+use Rattle.league.specs.Accepted as costs
+use Rattle.league.specs.Counts.{counts_of}
+use Rattle.league.specs.Instance.{Instance}
+use Rattle.solve.specs.Solutions.{IsSpentOn, RefutesLeague}
+use Rattle.explain.specs.Conflicts.{IsSeason}
+use Rattle.explain.specs.declared.attempt.Attempt.{Attempt}
+use Rattle.explain.specs.declared.attempt.Attempt.TheVariants.{Met, Refuted, Spent}
+
+-- it is true of the league, where a search learns at most so many clauses
+abbrev pub IsAttempt : Instance → Option ℕ → Attempt → Type 0
+IsAttempt league limit (Met games objective) =
+    IsSeason league games × (objective ≡ costs.objective league (counts_of games))
+IsAttempt league limit (Refuted log) = RefutesLeague league log
+IsAttempt league limit (Spent log) = IsSpentOn league limit log
+
+-- it is a schedule
+abbrev pub IsMet : Attempt → Type 0
+IsMet (Met games objective) = Unit {0}
+IsMet (Refuted log) = ⊥
+IsMet (Spent log) = ⊥
+
+-- it is a log that refutes
+abbrev pub IsRefuted : Attempt → Type 0
+IsRefuted (Met games objective) = ⊥
+IsRefuted (Refuted log) = Unit {0}
+IsRefuted (Spent log) = ⊥

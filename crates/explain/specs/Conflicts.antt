@@ -1,0 +1,88 @@
+-- Conflicts: hard constraints that no schedule meets together (an infeasible subset of constraints; where each is
+-- needed, an irreducible one, or a minimal unsatisfiable one). `part_of league members` is the league of these alone.
+use Rattle.std.specs.Prelude.{◌≡◌, ℕ, ◌<◌, ◌≤◌, ◌^◌, true, List, length, Option, None, Some}
+use Rattle.std.specs.List.{All, AllZip}
+use Rattle.std.specs.Ordering.{nat_cmp}
+use Rattle.league.specs.Accepted.{IsAccepted}
+use Rattle.league.specs.Accepted as costs
+use Rattle.league.specs.Counts.{counts_of}
+use Rattle.league.specs.Instance.{Instance, IsGame}
+use Rattle.league.specs.Order.{IsInOrder}
+use Rattle.league.specs.Sets.{IsAscending}
+use Rattle.league.specs.declared.game.Game.{Game}
+use Rattle.parts.specs.Parts.{is_hard_number, part_of, without}
+use Rattle.refutation.specs.Steps.{Step}
+use Rattle.season_check.specs.Excluded.{NoneAccepted}
+use Rattle.solve.specs.Solutions.{IsSpentOn, RefutesLeague}
+use Rattle.explain.specs.Cases.{is_decided}
+use Rattle.explain.specs.declared.cases.Case.{Case}
+use Rattle.explain.specs.declared.cases.Case.TheVariants.{Without, Undecided}
+use Rattle.explain.specs.declared.explained.Explained.{Explained}
+use Rattle.explain.specs.declared.explained.Explained.TheVariants.{Met, Conflict, Spent}
+
+-- games of the league that it accepts, in order
+pub record IsSeason (league : Instance) (games : List Game) : Type 0 where
+  pub accepted : IsAccepted league (counts_of games)
+  pub fit : All (IsGame league.n) games
+  pub in_order : IsInOrder games
+
+-- what a case says of the member k: a season of the league of the other members alone, or a log that is spent at the
+-- limit over the rows of that league
+abbrev pub IsCase : Instance → Option ℕ → List ℕ → ℕ → Case → Type 0
+IsCase league limit members k (Without games) = IsSeason (part_of league (without k members)) games
+IsCase league limit members k (Undecided log) = IsSpentOn (part_of league (without k members)) limit log
+
+-- some hard constraints, a log that refutes the league of these alone, and a case for each of them
+pub record IsConflict (league : Instance) (limit : Option ℕ) (members : List ℕ) (log : List Step) (cases : List Case)
+    : Type 0 where
+  pub some : 0 < length members
+  pub ascending : IsAscending nat_cmp members
+  pub hard : All (λ k. is_hard_number league.constraints k ≡ true) members
+  pub refuted : RefutesLeague (part_of league members) log
+  pub each : AllZip (IsCase league limit members) members cases
+
+-- no schedule meets these constraints, and without any one of them there is a schedule
+pub record IsIrreducible (league : Instance) (members : List ℕ) : Type 0 where
+  pub infeasible : NoneAccepted (part_of league members)
+  pub needed : All (λ k. (games : List Game) × IsAccepted (part_of league (without k members)) (counts_of games))
+      members
+
+-- each case is a schedule
+abbrev pub AreDecided : List Case → Type 0
+AreDecided cases = All (λ case. is_decided case ≡ true) cases
+
+-- what each answer says of the league, where each search learns at most so many clauses
+abbrev pub IsExplanation : Instance → Option ℕ → Explained → Type 0
+IsExplanation league limit (Met games objective) =
+    IsSeason league games × (objective ≡ costs.objective league (counts_of games))
+IsExplanation league limit (Conflict members log cases) = IsConflict league limit members log cases
+IsExplanation league limit (Spent log) = IsSpentOn league limit log
+
+-- a conflict of which each case is a schedule is irreducible
+abbrev pub IsIrreducibleIfDecided : Instance → Explained → Type 0
+IsIrreducibleIfDecided league (Met games objective) = Unit {0}
+IsIrreducibleIfDecided league (Conflict members log cases) = AreDecided cases → IsIrreducible league members
+IsIrreducibleIfDecided league (Spent log) = Unit {0}
+
+-- ---- which answer it is
+
+-- nothing is left open by a limit
+abbrev pub IsDecided : Explained → Type 0
+IsDecided (Met games objective) = Unit {0}
+IsDecided (Conflict members log cases) = AreDecided cases
+IsDecided (Spent log) = ⊥
+
+abbrev pub HasSchedule : Explained → Type 0
+HasSchedule (Met games objective) = Unit {0}
+HasSchedule (Conflict members log cases) = ⊥
+HasSchedule (Spent log) = ⊥
+
+abbrev pub HasConflict : Explained → Type 0
+HasConflict (Met games objective) = ⊥
+HasConflict (Conflict members log cases) = Unit {0}
+HasConflict (Spent log) = ⊥
+
+-- a limit that no search over so many variables spends
+abbrev pub IsAmple : ℕ → Option ℕ → Type 0
+IsAmple vars None = Unit {0}
+IsAmple vars (Some limit) = 3 ^ vars ≤ limit

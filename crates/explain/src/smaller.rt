@@ -1,0 +1,102 @@
+//! A contradiction made as small as tries show it.
+ghost use Rattle.std.specs.Prelude.{◌≡◌, ◌==◌, ◌<◌, not, IfOk};
+ghost use Rattle.parts.specs.Parts.{part_of, without};
+ghost use Rattle.explain.specs.Attempts.{IsAttempt};
+ghost use Rattle.explain.specs.Standings.{AreClosed, IsExplained, IsOpenAt, kept, numbers_of, work};
+
+use crate::attempt::{Attempt, try_part};
+use crate::cases::Case;
+use crate::cores::narrow;
+use crate::member::{Contradiction, first_open, others, settle, shrunk};
+use league::League;
+use refutation::Log;
+use std::alloc::{AllocError, Global};
+
+/// A contradiction of which each member was tried: without it there is a schedule, or a search was spent.
+///
+/// # Errors
+/// Only where memory runs out.
+pub(crate) fn minimise(
+    alloc: Global,
+    league: &League,
+    contradiction: Contradiction,
+    conflicts: Option<u64>,
+) -> Result<Contradiction, AllocError>
+    requires explained { IsExplained league.now conflicts contradiction.members.items contradiction.log }
+    ensures explained { IfOk result (λ least. IsExplained league.now conflicts least.members.items least.log) }
+    ensures closed { IfOk result (λ least. AreClosed least.members.items) }
+{
+    let mut least = contradiction;
+    'tries: while let Some(place) = first_open(&least.members) {
+        least = tried(alloc, league, least, place, conflicts)?;
+    }
+    Ok(least)
+}
+
+/// What is known after a try of the open member at a place: there is less to do.
+///
+/// # Errors
+/// Only where memory runs out.
+fn tried(
+    alloc: Global,
+    league: &League,
+    contradiction: Contradiction,
+    place: usize,
+    conflicts: Option<u64>,
+) -> Result<Contradiction, AllocError>
+    requires explained { IsExplained league.now conflicts contradiction.members.items contradiction.log }
+    requires untried { IsOpenAt contradiction.members.items place }
+    ensures explained { IfOk result (λ later. IsExplained league.now conflicts later.members.items later.log) }
+    ensures less { IfOk result (λ later. work later.members.items < work contradiction.members.items) }
+{
+    let number = contradiction.members[place].number;
+    match try_without(alloc, league, &contradiction, number, conflicts)? {
+        Attempt::Met {
+            schedule,
+            objective: _objective,
+        } => Ok(settle(contradiction, place, number, Case::Without { schedule })),
+        Attempt::Spent(log) => Ok(settle(contradiction, place, number, Case::Undecided { log })),
+        Attempt::Refuted(log) => {
+            let smaller = dropped(alloc, contradiction, number, log)?;
+            narrow(alloc, league, smaller, conflicts)
+        }
+    }
+}
+
+/// What is found of the league of the other members alone.
+///
+/// # Errors
+/// Only where memory runs out.
+fn try_without(
+    alloc: Global,
+    league: &League,
+    contradiction: &Contradiction,
+    number: u32,
+    conflicts: Option<u64>,
+) -> Result<Attempt, AllocError>
+    requires { IsExplained league.now conflicts contradiction.now.members.items contradiction.now.log }
+    ensures { IfOk result (IsAttempt
+        (part_of league.now (without number (numbers_of contradiction.now.members.items))) conflicts) }
+{
+    let others = others(alloc, &contradiction.members, number)?;
+    try_part(alloc, league, &others, conflicts)
+}
+
+/// The contradiction of the other members alone, with a log that refutes these.
+///
+/// # Errors
+/// Only where memory runs out.
+fn dropped(
+    alloc: Global,
+    contradiction: Contradiction,
+    number: u32,
+    log: Log,
+) -> Result<Contradiction, AllocError>
+    ensures members { IfOk result (λ smaller.
+        smaller.members.items ≡ kept (λ k. not (k == number)) contradiction.members.items) }
+    ensures log { IfOk result (λ smaller. smaller.log ≡ log) }
+{
+    let Contradiction { members, log: _log } = contradiction;
+    let members = shrunk(alloc, members, number)?;
+    Ok(Contradiction { members, log })
+}

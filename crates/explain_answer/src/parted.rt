@@ -1,0 +1,98 @@
+//! The stages of `part`.
+ghost use Rattle.std.specs.Prelude.{◌≡◌, ℕ, List, IfOk, Ok};
+ghost use Rattle.std.specs.Ordering.{nat_cmp};
+ghost use Rattle.league.specs.Sets.{IsAscending};
+ghost use Rattle.robin_io.specs.Counts.{Rose, TookMore};
+ghost use Rattle.robinx_form.specs.InstanceFile.{instance_of};
+ghost use Rattle.robinx_form.specs.Texts as forms;
+ghost use Rattle.robinx_tags.specs.Pieces.{pieces};
+ghost use Rattle.answers.specs.SeenReply.{answer_of, Answers};
+ghost use Rattle.answers.specs.declared.status.Status.TheVariants.{Yes};
+ghost use Rattle.explain_answer.specs.Parted.{IsPart, parted, unknown_constraint};
+
+use answers::{NoValue, Reply, Status, file, league_in};
+use league::League;
+use parts::{PartFault, part};
+use robin_io::Shelf;
+use robinx_read::INSTANCE_LIMIT;
+use robinx_write::instance_text;
+use std::alloc::{AllocError, Global};
+
+/// A league, as an instance file.
+fn league_reply(alloc: Global, league: &League) -> Result<Reply, AllocError>
+    ensures status { IfOk result (λ reply. (answer_of reply).status ≡ Yes) }
+    ensures text { IfOk result (λ reply. (answer_of reply).text ≡ forms.instance_text league.now) }
+    ensures reads_back { IfOk result (λ reply. instance_of (pieces (answer_of reply).text) ≡ Ok league.now) }
+{
+    let text = instance_text(alloc, league)?;
+    Ok(Reply {
+        status: Status::Yes,
+        text,
+    })
+}
+
+/// No hard constraint has this number.
+fn unknown_reply(alloc: Global, number: u32) -> Result<Reply, AllocError>
+    ensures { IfOk result (λ reply. answer_of reply ≡ unknown_constraint number) }
+{
+    let text = format!(in alloc; "refused constraint {number} Unknown\n")?;
+    Ok(Reply {
+        status: Status::File,
+        text: text.into_bytes(),
+    })
+}
+
+/// The league of some hard constraints of a league, or which number isn't one's.
+fn part_reply(alloc: Global, league: &League, members: &[u32]) -> Result<Reply, NoValue>
+    requires ascending { IsAscending nat_cmp members.now }
+    ensures { Answers (IsPart league.now members.now) result }
+{
+    match part(alloc, league, members) {
+        Ok(part) => Ok(league_reply(alloc, &part)?),
+        Err(PartFault::UnknownConstraint { number }) => {
+            Err(NoValue::Refused(unknown_reply(alloc, number)?))
+        }
+        Err(PartFault::Mem) => Err(NoValue::Memory),
+    }
+}
+
+/// The stages of `part`.
+fn part_stages<S: Shelf>(
+    alloc: Global,
+    shelf: &mut S,
+    instance: &str,
+    members: &[u32],
+) -> Result<Reply, NoValue>
+    requires ascending { IsAscending nat_cmp members.now }
+    ensures answer { Answers (parted (S.contents shelf.old)
+        (λ limit. TookMore limit (S.taken shelf.old) (S.taken shelf.new))
+        (λ name. Rose (S.faults shelf.old name) (S.faults shelf.new name))
+        instance.now members.now) result }
+    ensures contents { (n : List ℕ) → S.contents shelf.new n ≡ S.contents shelf.old n }
+{
+    let bytes = file(alloc, shelf, "instance", instance, INSTANCE_LIMIT)?;
+    let league = league_in(alloc, &bytes)?;
+    part_reply(alloc, &league, members)
+}
+
+/// Makes the league of some hard constraints of the league of a file, by their numbers, and its text; or names the
+/// first number that no hard constraint has.
+pub fn part_file<S: Shelf>(
+    alloc: Global,
+    shelf: &mut S,
+    instance: &str,
+    members: &[u32],
+) -> Result<Reply, AllocError>
+    requires ascending { IsAscending nat_cmp members.now }
+    ensures answer { IfOk result (λ reply. parted (S.contents shelf.old)
+        (λ limit. TookMore limit (S.taken shelf.old) (S.taken shelf.new))
+        (λ name. Rose (S.faults shelf.old name) (S.faults shelf.new name))
+        instance.now members.now (answer_of reply)) }
+    ensures contents { (n : List ℕ) → S.contents shelf.new n ≡ S.contents shelf.old n }
+{
+    match part_stages(alloc, shelf, instance, members) {
+        Ok(reply) => Ok(reply),
+        Err(NoValue::Refused(reply)) => Ok(reply),
+        Err(NoValue::Memory) => Err(AllocError),
+    }
+}
