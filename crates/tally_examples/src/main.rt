@@ -3,14 +3,13 @@
 //! A line of standard input is a title, or `FILE: WHAT`: what is to be shown of the league of a file of `data` on its
 //! canonical season. `HomeSwap 0 3` and `RoundSwap 2 3` are moves, shown with what a tally keeps before the move, what
 //! it weighs, what it keeps after the move, and after it was taken back; `moves` says of each legal move whether a tally
-//! weighs and keeps what a fresh count of the season gives; `descend N` goes down by at most N moves; `weigh` and
-//! `count` say how many legal moves lower the score, by a tally and by counting each season afresh.
+//! weighs and keeps what a fresh count of the season gives; `descend N` goes down by at most N moves.
 #![tactic(auto)]
 
+mod canonical;
 mod counting;
 mod down;
 mod moved;
-mod stand;
 mod tried;
 
 ghost use Rattle.std.specs.Prelude.{◌≤◌, IfOk, vec_len};
@@ -63,8 +62,6 @@ fn show(rt: &(impl AllocGlobal + Print), league: &League, what: &str) -> Result<
     }
     match what {
         "moves" => tried::show(rt, rt.alloc(), league),
-        "weigh" => moved::show_weighed(rt, rt.alloc(), league),
-        "count" => tried::show_counted(rt, rt.alloc(), league),
         _ => show_move(rt, league, what),
     }
 }

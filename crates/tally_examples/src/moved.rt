@@ -1,73 +1,93 @@
-//! What a tally weighs of moves.
-use crate::stand::Stand;
+//! Worked moves of canonical seasons.
+ghost use Rattle.std.specs.Prelude.{◌≡◌, ℕ, ◌≤◌};
+ghost use Rattle.std.specs.List.{All};
+ghost use Rattle.league.specs.Counts.{counts_of};
+ghost use Rattle.league.specs.Instance.{IsGame};
+ghost use Rattle.circle_method.specs.Circle.{double_games};
+ghost use Rattle.cells.specs.Table.{table_counts};
+
+use crate::canonical::{board_of, tally_of};
+use crate::counting::is_of_league;
 use anyhow::Result;
 use deviation::AnyRule;
 use league::League;
-use moves::{Neighbours, Swap};
+use moves::{Edit, Swap, edit_of};
+use rule_core::{Plain, Steps};
 use std::alloc::Global;
 use std::io;
-use tally::{Sums, Tally};
+use tally::Tally;
 
-/// Shows what a tally keeps of a league's canonical season, and what it would cost after a move.
+/// Shows what a tally keeps of a league's canonical season, what it weighs of a move, what it keeps after the move, and
+/// after it was taken back.
 pub fn show(rt: &impl Print, alloc: Global, league: &League, step: &Swap) -> Result<()> {
-    let mut stand = Stand::new(alloc, league)?;
-    show_kept(rt, stand.tally())?;
-    let sums = stand.weigh(step);
-    show_sums(rt, &sums)?;
-    show_kept(rt, stand.tally())?;
+    let board = board_of(alloc, league.n(), league.phased())?;
+    let mut edit = Edit::new(alloc, league.n())?;
+    if !is_of_league(league.n(), step) {
+        return Ok(());
+    }
+    if edit_of(step, &board, &mut edit) {
+        show_edit(rt, alloc, league, &edit)?;
+    }
     Ok(())
+}
+
+/// Shows an edit of a league's canonical season, weighed and made.
+fn show_edit(rt: &impl Print, alloc: Global, league: &League, edit: &Edit) -> Result<()>
+    requires out_fit { All (IsGame league.now.n) edit.now.out }
+    requires into_fit { All (IsGame league.now.n) edit.now.into }
+    requires there { (i j s : ℕ) → counts_of edit.now.out i j s ≤ counts_of (double_games league.now.n) i j s }
+{
+    println!(rt;
+        "  {} out, {} in",
+        edit.out().len(),
+        edit.into_games().len()
+    )?;
+    let tally = tally_of(alloc, league)?;
+    show_weighed(rt, tally, edit)?;
+    let other = tally_of(alloc, league)?;
+    show_made(rt, other, edit)?;
+    Ok(())
+}
+
+/// Shows what a tally keeps, what it weighs of an edit, and what it keeps then.
+fn show_weighed(rt: &impl Print, tally: Tally<AnyRule>, edit: &Edit) -> io::Result<()>
+    requires out_fit { All (IsGame tally.table.n) edit.now.out }
+    requires into_fit { All (IsGame tally.table.n) edit.now.into }
+    requires there { (i j s : ℕ) → counts_of edit.now.out i j s ≤ table_counts tally.table i j s }
+{
+    let mut tally = tally;
+    let mut steps = Steps::<Plain>::start();
+    show_kept(rt, "before", &tally)?;
+    let sums = tally.weigh(edit, &mut steps);
+    println!(rt;
+        "  weighed: infeasibility {}, objective {}",
+        sums.infeasibility, sums.objective
+    )?;
+    show_kept(rt, "weighed", &tally)
+}
+
+/// Shows what a tally keeps after an edit, and after the edit was taken back.
+fn show_made(rt: &impl Print, tally: Tally<AnyRule>, edit: &Edit) -> io::Result<()>
+    requires out_fit { All (IsGame tally.table.n) edit.now.out }
+    requires into_fit { All (IsGame tally.table.n) edit.now.into }
+    requires there { (i j s : ℕ) → counts_of edit.now.out i j s ≤ table_counts tally.table i j s }
+{
+    let mut tally = tally;
+    let mut steps = Steps::<Plain>::start();
+    tally.apply(edit, &mut steps);
+    show_kept(rt, "applied", &tally)?;
+    tally.undo(edit, &mut steps);
+    show_kept(rt, "undone", &tally)
 }
 
 /// Shows the vectors that a tally keeps, and its sums.
-fn show_kept(rt: &impl Print, tally: &Tally<AnyRule>) -> io::Result<()> {
+fn show_kept(rt: &impl Print, title: &str, tally: &Tally<AnyRule>) -> io::Result<()> {
     for k in 0..tally.rule_count() {
-        println!(rt; "  entries {:?}", tally.vector(k))?;
+        println!(rt; "  {title}: entries {:?}", tally.vector(k))?;
     }
     println!(rt;
-        "  infeasibility {}, objective {}",
+        "  {title}: infeasibility {}, objective {}",
         tally.infeasibility(),
         tally.objective()
     )
-}
-
-/// Shows what a move would cost.
-fn show_sums(rt: &impl Print, sums: &Option<Sums>) -> io::Result<()> {
-    match sums {
-        None => println!(rt; "  not legal"),
-        Some(sums) => {
-            println!(rt;
-                "  weighed: infeasibility {}, objective {}",
-                sums.infeasibility, sums.objective
-            )
-        }
-    }
-}
-
-/// Shows how many moves of a league's canonical season are legal, and how many of them lower the score, by a tally.
-pub fn show_weighed(rt: &impl Print, alloc: Global, league: &League) -> Result<()> {
-    let mut stand = Stand::new(alloc, league)?;
-    let (legal, lower) = weigh_all(&mut stand);
-    println!(rt; "  {legal} legal, {lower} lower")?;
-    Ok(())
-}
-
-/// How many moves are legal, and how many lower the score.
-fn weigh_all(stand: &mut Stand) -> (u64, u64) {
-    let infeasibility = stand.tally().infeasibility();
-    let objective = stand.tally().objective();
-    let (mut legal, mut lower) = (0u64, 0u64);
-    let mut steps = Neighbours::new(stand.n());
-    'steps: while let Some(step) = steps.next() {
-        if let Some(sums) = stand.weigh(&step) {
-            legal = legal.saturating_add(1);
-            lower = lower.saturating_add(is_lower(&sums, infeasibility, objective) as u64);
-        }
-    }
-    (legal, lower)
-}
-
-/// Whether sums are lower than two numbers.
-fn is_lower(sums: &Sums, infeasibility: u128, objective: u128) -> bool {
-    sums.infeasibility < infeasibility
-        || (sums.infeasibility == infeasibility && sums.objective < objective)
 }
