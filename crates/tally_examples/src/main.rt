@@ -2,8 +2,9 @@
 //!
 //! A line of standard input is a title, or `FILE: WHAT`: what is to be shown of the league of a file of `data` on its
 //! canonical season. `HomeSwap 0 3` and `RoundSwap 2 3` are moves, shown with what a tally keeps before the move, what
-//! it weighs, what it keeps after the move, and after it was taken back; `moves` says of each legal move whether a tally
-//! weighs and keeps what a fresh count of the season gives; `descend N` goes down by at most N moves.
+//! it weighs, what it keeps after the move, and after it was taken back. `moves` says of each legal move whether a
+//! tally weighs and keeps what a fresh count of the season gives. `descend N` goes down by at most N moves, each of
+//! which keeps the two phases.
 #![tactic(auto)]
 
 mod canonical;

@@ -17,8 +17,8 @@ use std::alloc::Global;
 use std::io;
 use tally::Tally;
 
-/// Shows what a tally keeps of a league's canonical season, what it weighs of a move, what it keeps after the move, and
-/// after it was taken back.
+/// Shows what a tally keeps of a league's canonical season, what it weighs of a legal move, what it keeps after the
+/// move, and after it was taken back.
 pub fn show(rt: &impl Print, alloc: Global, league: &League, step: &Swap) -> Result<()> {
     let board = board_of(alloc, league.n(), league.phased())?;
     let mut edit = Edit::new(alloc, league.n())?;

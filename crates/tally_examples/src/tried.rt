@@ -18,8 +18,8 @@ use rule_core::{Plain, Steps};
 use std::alloc::{AllocError, Global};
 use tally::{Sums, Tally};
 
-/// How many moves are legal, and of how many a tally weighs and keeps what is counted afresh, and keeps what it was after
-/// they were taken back.
+/// How many moves are legal, and of how many a tally weighs and keeps what is counted afresh, and keeps what it was
+/// after they were taken back.
 #[derive(Clone, Copy)]
 struct Compared {
     legal: u64,

@@ -1,4 +1,4 @@
-use Rattle.std.proofs.Common.{◌≡◌, ℕ, List, true, ap, subst, sym, ◌∙◌}
+use Rattle.std.proofs.Common.{ℕ, List, true, ap, subst, sym, ◌∙◌}
 use Rattle.league.specs.Counts.{Counts, counts_of}
 use Rattle.league.specs.Structure.{IsRoundRobin}
 use Rattle.league.specs.declared.game.Game.{Game}

@@ -1,4 +1,4 @@
-use Rattle.std.proofs.Common.{◌≡◌, ℕ, ◌≤◌, true, ap, subst, ◌∙◌}
+use Rattle.std.proofs.Common.{ℕ, ◌≤◌, ap, subst, ◌∙◌}
 use Rattle.league.specs.Counts.{Counts, counts_of}
 use Rattle.circle_method.specs.Circle.{double_games}
 use Rattle.tally_examples.proofs.moved.show.Goals as goal

@@ -1,4 +1,4 @@
-use Rattle.std.proofs.Common.{◌≡◌, ◌≤◌, subst, sym}
+use Rattle.std.proofs.Common.{◌≤◌, subst, sym}
 use Rattle.league.specs.Counts.{Counts, counts_of}
 use Rattle.tally_examples.proofs.tried.try_edit.Goals as goal
 

@@ -1,4 +1,4 @@
-use Rattle.std.proofs.Common.{◌≡◌, ◌≤◌, true, subst}
+use Rattle.std.proofs.Common.{◌≤◌, subst}
 use Rattle.league.specs.Counts.{Counts, counts_of}
 use Rattle.tally_examples.proofs.tried.try_move.Goals as goal
 
