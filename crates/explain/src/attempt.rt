@@ -29,15 +29,24 @@ pub(crate) enum Attempt {
     Spent(Log),
 }
 
-/// What a try may do: one search, which learns at most so many clauses, and no move.
+/// How many clauses a search for patterns learns at most.
+const MOST_FOR_PATTERNS: u64 = 500;
+
+/// What a try may do: one search, which learns at most so many clauses, and before it a search for patterns, which learns
+/// at most as many, and at most 500; no move.
 fn budgets_of(conflicts: Option<u64>) -> Budgets
     ensures conflicts { result.conflicts ≡ conflicts }
     ensures moves { result.moves ≡ 0 }
 {
+    let patterns = match conflicts {
+        Some(limit) => limit.min(MOST_FOR_PATTERNS),
+        None => MOST_FOR_PATTERNS,
+    };
     Budgets {
         conflicts,
         moves: 0,
         tries: 1,
+        patterns,
         seed: 0,
     }
 }
@@ -71,7 +80,10 @@ pub(crate) fn searched(
             objective,
         }),
         Solved::Refuted(log) => Ok(Attempt::Refuted(log)),
-        Solved::Spent(log) => Ok(Attempt::Spent(log)),
+        Solved::Spent {
+            log,
+            patterns: _patterns,
+        } => Ok(Attempt::Spent(log)),
     }
 }
 
