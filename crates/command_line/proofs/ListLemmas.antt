@@ -118,7 +118,10 @@ pub record Rises (before : ℕ) (members : List ℕ) : Type 0 where
   pub ascending : IsAscending nat_cmp members
 
 rises-none : (before : ℕ) → Rises before []
-rises-none before = record { above = All-nil (λ k. before < k); ascending = λ i j d before within. absurd (omega arith) }
+rises-none before = record {
+  above = All-nil (λ k. before < k);
+  ascending = λ i j d less within. absurd (omega arith);
+}
 
 rises-cons : (before k : ℕ) (later : List ℕ) → before < k → Rises k later → Rises before (k ∷ later)
 rises-cons before k later over rises = record {

@@ -168,7 +168,8 @@ teams_and_seed-some = (refl, refl, refl, refl, refl)
 -- ---- `explain` and `part`
 
 pub explain-some : (reading (codes "explain" ∷ codes "a" ∷ []) ≡ Some (Explain (codes "a") (Some 2000)))
-    × (reading (codes "explain" ∷ codes "--conflicts" ∷ codes "7" ∷ codes "a" ∷ []) ≡ Some (Explain (codes "a") (Some 7)))
+    × (reading (codes "explain" ∷ codes "--conflicts" ∷ codes "7" ∷ codes "a" ∷ [])
+    ≡ Some (Explain (codes "a") (Some 7)))
     × (reading (codes "explain" ∷ codes "a" ∷ codes "--conflicts" ∷ codes "all" ∷ []) ≡ Some (Explain (codes "a") None))
 explain-some = (refl, refl, refl)
 

@@ -1,5 +1,6 @@
 //! The words of the command line.
-ghost use Rattle.std.specs.Prelude.{◌≡◌, ◌==◌, if◌then◌else◌, [], ◌∷◌, None, Some, map, length, codes, string_bytes, bytes_eq};
+ghost use Rattle.std.specs.Prelude.{◌≡◌, ◌==◌, if◌then◌else◌, [], ◌∷◌, None, Some, map, length, codes};
+ghost use Rattle.std.specs.Prelude.{string_bytes, bytes_eq};
 ghost use Rattle.std.specs.Prelude.{option_map, IfSome};
 ghost use Rattle.std.specs.List.{list_any};
 ghost use Rattle.std.specs.Option.{option_copied};
@@ -310,7 +311,8 @@ fn budgets(words: &[String]) -> Option<Budgets>
 
 /// How many clauses a search may learn.
 fn conflicts_said(words: &[String]) -> Option<Option<u64>>
-    ensures { result ≡ said (Some usual_conflicts) budget_in (values_of (codes "--conflicts") (map string_bytes words.now)) }
+    ensures { result
+        ≡ said (Some usual_conflicts) budget_in (values_of (codes "--conflicts") (map string_bytes words.now)) }
 {
     match value_of(words, "--conflicts") {
         Standing::Never => Some(Some(USUAL_CONFLICTS)),
