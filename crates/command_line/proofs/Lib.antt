@@ -2,3 +2,5 @@
 mod WordFacts
 -- Lemmas on options:
 pub mod StandingLemmas
+-- Lemmas on lists:
+pub mod ListLemmas

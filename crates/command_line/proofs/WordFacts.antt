@@ -2,9 +2,9 @@
 use Rattle.std.proofs.Common.{◌≡◌, ℕ, true, false, List, [], ◌∷◌, Some, None, codes, refl}
 use Rattle.budgets.specs.declared.budgets.Budgets.{Budgets}
 use Rattle.command_line.specs.Words.{arguments_of, budget_in, has_options, is_file_name, is_option, is_shortest}
-use Rattle.command_line.specs.Words.{number_in, one_file, reading, said, seed_in, team_count_in, teams_and_seed, tries_in}
-use Rattle.command_line.specs.Words.{values_of, NeedsNoFile}
-use Rattle.command_line.specs.Words.Command.{Check, Circle, Make, Patterns, Solve, Trial, Validate}
+use Rattle.command_line.specs.Words.{members_in, members_of, number_above, number_in, one_file, reading, rising, said}
+use Rattle.command_line.specs.Words.{seed_in, team_count_in, teams_and_seed, tries_in, values_of, words_of, NeedsNoFile}
+use Rattle.command_line.specs.Words.Command.{Check, Circle, Explain, Make, Part, Patterns, Solve, Trial, Validate}
 
 -- a number: 0 itself, no leading zero, no sign, no blank, at most 2 ^ 64 - 1
 pub number_in-some : (number_in (codes "0") ≡ Some 0) × (number_in (codes "10") ≡ Some 10) × (number_in (codes "18446744073709551615") ≡ Some 18446744073709551615)
@@ -165,6 +165,62 @@ pub teams_and_seed-some : (teams_and_seed [] ≡ None) × (teams_and_seed (codes
 unfolding teams_and_seed
 teams_and_seed-some = (refl, refl, refl, refl, refl)
 
+-- ---- `explain` and `part`
+
+pub explain-some : (reading (codes "explain" ∷ codes "a" ∷ []) ≡ Some (Explain (codes "a") (Some 2000)))
+    × (reading (codes "explain" ∷ codes "--conflicts" ∷ codes "7" ∷ codes "a" ∷ [])
+    ≡ Some (Explain (codes "a") (Some 7)))
+    × (reading (codes "explain" ∷ codes "a" ∷ codes "--conflicts" ∷ codes "all" ∷ []) ≡ Some (Explain (codes "a") None))
+explain-some = (refl, refl, refl)
+
+-- an option of `solve` alone, no file or two, the option twice or without its value
+pub explain-none : (reading (codes "explain" ∷ codes "a" ∷ codes "--moves" ∷ codes "1" ∷ []) ≡ None)
+    × (reading (codes "explain" ∷ []) ≡ None) × (reading (codes "explain" ∷ codes "a" ∷ codes "b" ∷ []) ≡ None)
+    × (reading (codes "explain" ∷ codes "--conflicts" ∷ codes "7" ∷ codes "--conflicts" ∷ codes "7" ∷ codes "a" ∷ [])
+    ≡ None)
+    × (reading (codes "explain" ∷ codes "a" ∷ codes "--conflicts" ∷ []) ≡ None)
+explain-none = (refl, refl, refl, refl, refl)
+
+-- a list: its words, one more than it has semicolons, and its numbers, each above the one before
+pub words_of-some : (words_of [] ≡ [] ∷ []) × (words_of (codes "7") ≡ codes "7" ∷ [])
+    × (words_of (codes "2;17;") ≡ codes "2" ∷ codes "17" ∷ [] ∷ [])
+words_of-some = (refl, refl, refl)
+
+pub rising-some : (rising 5 [] ≡ Some []) × (rising 5 (codes "6" ∷ codes "8" ∷ []) ≡ Some (6 ∷ 8 ∷ []))
+    × (rising 5 (codes "5" ∷ []) ≡ None) × (rising 0 (codes "6" ∷ codes "6" ∷ []) ≡ None)
+rising-some = (refl, refl, refl, refl)
+
+-- the least number and the greatest, and their neighbours
+pub number_above-some : (number_above 0 (codes "1") ≡ Some 1) × (number_above 0 (codes "0") ≡ None)
+    × (number_above 0 (codes "4294967295") ≡ Some 4294967295) × (number_above 0 (codes "4294967296") ≡ None)
+    × (number_above 7 (codes "7") ≡ None) × (number_above 7 (codes "8") ≡ Some 8)
+number_above-some = (refl, refl, refl, refl, refl, refl)
+
+pub members_in-some : (members_in (codes "3") ≡ Some (3 ∷ []))
+    × (members_in (codes "1;2;4294967295") ≡ Some (1 ∷ 2 ∷ 4294967295 ∷ []))
+members_in-some = (refl, refl)
+
+-- no number, 0, a leading zero, numbers that don't rise, a semicolon at an end or twice, a blank, a comma
+pub members_in-none : (members_in [] ≡ None) × (members_in (codes "0") ≡ None) × (members_in (codes "01") ≡ None)
+    × (members_in (codes "2;1") ≡ None) × (members_in (codes "2;2") ≡ None) × (members_in (codes "1;") ≡ None)
+    × (members_in (codes ";1") ≡ None) × (members_in (codes "1;;2") ≡ None) × (members_in (codes "1; 2") ≡ None)
+    × (members_in (codes "1,2") ≡ None)
+members_in-none = (refl, refl, refl, refl, refl, refl, refl, refl, refl, refl)
+
+pub members_of-some : (members_of (codes "1;3") ≡ 1 ∷ 3 ∷ []) × (members_of (codes "3;1") ≡ [])
+members_of-some = (refl, refl)
+
+pub part-some : reading (codes "part" ∷ codes "a" ∷ codes "1;3" ∷ []) ≡ Some (Part (codes "a") (1 ∷ 3 ∷ []))
+part-some = refl
+
+-- no list or two, a list that is none, an option in place of the file, an option
+pub part-none : (reading (codes "part" ∷ codes "a" ∷ []) ≡ None)
+    × (reading (codes "part" ∷ codes "a" ∷ codes "1" ∷ codes "2" ∷ []) ≡ None)
+    × (reading (codes "part" ∷ codes "a" ∷ codes "1;" ∷ []) ≡ None)
+    × (reading (codes "part" ∷ codes "-a" ∷ codes "1" ∷ []) ≡ None)
+    × (reading (codes "part" ∷ codes "a" ∷ codes "1" ∷ codes "--conflicts" ∷ codes "7" ∷ []) ≡ None)
+part-none = (refl, refl, refl, refl, refl)
+
 -- which words need no file
 pub needs_no_file : NeedsNoFile (reading []) × NeedsNoFile (reading (codes "circle" ∷ codes "4" ∷ []))
     × NeedsNoFile (reading (codes "make" ∷ codes "4" ∷ codes "1" ∷ []))
@@ -173,5 +229,7 @@ pub needs_no_file : NeedsNoFile (reading []) × NeedsNoFile (reading (codes "cir
     × (NeedsNoFile (reading (codes "check" ∷ codes "a" ∷ codes "b" ∷ [])) → ⊥)
     × (NeedsNoFile (reading (codes "solve" ∷ codes "a" ∷ [])) → ⊥)
     × (NeedsNoFile (reading (codes "patterns" ∷ codes "a" ∷ [])) → ⊥)
+    × (NeedsNoFile (reading (codes "explain" ∷ codes "a" ∷ [])) → ⊥)
+    × (NeedsNoFile (reading (codes "part" ∷ codes "a" ∷ codes "1" ∷ [])) → ⊥)
 unfolding teams_and_seed
-needs_no_file = (tt, tt, tt, tt, λ h. h, λ h. h, λ h. h, λ h. h)
+needs_no_file = (tt, tt, tt, tt, λ h. h, λ h. h, λ h. h, λ h. h, λ h. h, λ h. h)

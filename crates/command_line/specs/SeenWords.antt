@@ -1,15 +1,17 @@
 -- What a contract sees of a command.
-use Rattle.command_line.specs.Words.{Command}
-use Rattle.command_line.specs.Words.Command.{Validate, Check, Solve, Patterns, Circle, Make, Trial}
+use Rattle.command_line.specs.Words.{Command, members_of}
+use Rattle.command_line.specs.Words.Command.{Validate, Check, Solve, Patterns, Explain, Part, Circle, Make, Trial}
 use Rattle.command_line.specs.declared.words.Words.{Words}
 use Rattle.command_line.specs.declared.words.Words.TheVariants as words
 
--- the command without where its words lie in memory
+-- the command without where its words lie in memory, and with the numbers of a list in place of its text
 abbrev pub command_of : Words → Command
 command_of (words.Validate instance solution) = Validate instance.now solution.now
 command_of (words.Check instance log) = Check instance.now log.now
 command_of (words.Solve instance budgets) = Solve instance.now budgets
 command_of (words.Patterns instance conflicts) = Patterns instance.now conflicts
+command_of (words.Explain instance conflicts) = Explain instance.now conflicts
+command_of (words.Part instance list) = Part instance.now (members_of list.now)
 command_of (words.Circle n) = Circle n
 command_of (words.Make n seed) = Make n seed
 command_of (words.Trial n seed budgets) = Trial n seed budgets

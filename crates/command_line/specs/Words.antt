@@ -1,9 +1,10 @@
 -- What the words of the command line, without the program's name, ask for.
 use Rattle.std.specs.Prelude.{ℕ, ◌^◌, nat_le, nat_lt, ◌==◌, List, [], ◌∷◌, codes, bytes_eq}
-use Rattle.std.specs.Prelude.{Bool, true, false, not, ◌&&◌, if◌then◌else◌, Option, Some, None, option_and_then, option_map}
+use Rattle.std.specs.Prelude.{Bool, true, false, not, ◌&&◌, if◌then◌else◌, Option, Some, None, option_and_then}
+use Rattle.std.specs.Prelude.{option_map, unwrap_or}
 use Rattle.std.specs.Str.{byte}
 use Rattle.std.specs.Str.Parse.{digits_value}
-use Rattle.std.specs.List.{list_any}
+use Rattle.std.specs.List.{list_any, slice_split}
 use Rattle.league.specs.Instance.{IsTeamCount, is_team_count}
 use Rattle.budgets.specs.declared.budgets.Budgets.{Budgets}
 use Rattle.robin_io.specs.Numbers.{is_number}
@@ -14,6 +15,8 @@ pub data Command : Type 0 where
   Check : (instance log : List ℕ) → Command
   Solve : (instance : List ℕ) → (budgets : Budgets) → Command
   Patterns : (instance : List ℕ) → (conflicts : Option ℕ) → Command
+  Explain : (instance : List ℕ) → (conflicts : Option ℕ) → Command
+  Part : (instance members : List ℕ) → Command
   Circle : (n : ℕ) → Command
   Make : (n seed : ℕ) → Command
   Trial : (n seed : ℕ) → (budgets : Budgets) → Command
@@ -93,7 +96,7 @@ abbrev pub one_file : List (List ℕ) → Option (List ℕ)
 one_file (file ∷ []) = if is_file_name file then Some file else None
 one_file _ = None
 
--- ---- `solve`, `patterns` and `trial`
+-- ---- `solve`, `patterns`, `explain` and `trial`
 
 infixl 10 ◌>>=◌
 -- what the next step makes of a value, if there is one
@@ -124,15 +127,21 @@ solving words =
     then option_and_then (λ file. option_map (Solve file) (budgets_in words)) (one_file (arguments_of words))
     else None
 
--- how many clauses a search may learn, and the file's patterns, with the option before or behind the file
-abbrev pub patterning : List (List ℕ) → Option Command
-patterning words =
+-- a command over one file, with how many clauses a search may learn said before or behind it
+abbrev pub searching : (List ℕ → Option ℕ → Command) → List (List ℕ) → Option Command
+searching command words =
     if has_options search_options words
     then option_and_then
-    (λ file. option_map (Patterns file)
+    (λ file. option_map (command file)
     (said (Some usual_conflicts) budget_in (values_of (codes "--conflicts") words)))
     (one_file (arguments_of words))
     else None
+
+abbrev pub patterning : List (List ℕ) → Option Command
+patterning words = searching Patterns words
+
+abbrev pub explaining : List (List ℕ) → Option Command
+explaining words = searching Explain words
 
 -- the seed of a made league, where it is the one argument that is left
 abbrev pub seed_in : List (List ℕ) → Option ℕ
@@ -153,6 +162,37 @@ trying words =
     (teams_and_seed (arguments_of words))
     else None
 
+-- ---- the list of `part`
+
+-- the number that a word writes, where it is above another and at most 4294967295
+abbrev pub number_above : ℕ → List ℕ → Option ℕ
+number_above before word =
+    option_and_then (λ k. if nat_lt before k && nat_lt k (2 ^ 32) then Some k else None) (number_in word)
+
+-- the numbers of words, of which the first is above another, and each further one above the one before it
+abbrev pub rising : ℕ → List (List ℕ) → Option (List ℕ)
+rising before [] = Some []
+rising before (word ∷ words) = do
+  k ← number_above before word
+  later ← rising k words
+  Some (k ∷ later)
+
+-- the words of a list, with one `;` between two
+abbrev pub words_of : List ℕ → List (List ℕ)
+words_of list = slice_split (λ b. b == byte ";") list
+
+-- the numbers that a list writes: one or more, from 1 to 4294967295, each above the one before it
+abbrev pub members_in : List ℕ → Option (List ℕ)
+members_in list = rising 0 (words_of list)
+
+-- the same, and none where a text is no such list
+abbrev pub members_of : List ℕ → List ℕ
+members_of list = unwrap_or (members_in list) []
+
+-- `part` over a file, with a list
+abbrev pub parting : List ℕ → List ℕ → Option Command
+parting file list = if is_file_name file then option_map (Part file) (members_in list) else None
+
 -- ---- commands
 
 -- `make` with a number of teams and a seed
@@ -171,7 +211,8 @@ plain command (argument ∷ []) =
     if bytes_eq command (codes "circle") then option_map Circle (team_count_in argument) else None
 plain command (first ∷ second ∷ []) =
     if bytes_eq command (codes "make") then making first second
-    else (if is_file_name first && is_file_name second then over_files command first second else None)
+    else (if bytes_eq command (codes "part") then parting first second
+    else (if is_file_name first && is_file_name second then over_files command first second else None))
 plain command _ = None
 
 -- the one reading of the words, or none
@@ -180,7 +221,8 @@ reading [] = None
 reading (command ∷ words) =
     if bytes_eq command (codes "solve") then solving words
     else (if bytes_eq command (codes "patterns") then patterning words
-    else (if bytes_eq command (codes "trial") then trying words else plain command words))
+    else (if bytes_eq command (codes "explain") then explaining words
+    else (if bytes_eq command (codes "trial") then trying words else plain command words)))
 
 -- a league may have the teams of a command, where it names a number of them
 abbrev pub HasTeams : Command → Type 0
@@ -188,6 +230,8 @@ HasTeams (Validate instance solution) = Unit {0}
 HasTeams (Check instance log) = Unit {0}
 HasTeams (Solve instance budgets) = Unit {0}
 HasTeams (Patterns instance conflicts) = Unit {0}
+HasTeams (Explain instance conflicts) = Unit {0}
+HasTeams (Part instance members) = Unit {0}
 HasTeams (Circle n) = IsTeamCount n
 HasTeams (Make n seed) = IsTeamCount n
 HasTeams (Trial n seed budgets) = IsTeamCount n
@@ -202,3 +246,5 @@ NeedsNoFile (Some (Validate instance solution)) = ⊥
 NeedsNoFile (Some (Check instance log)) = ⊥
 NeedsNoFile (Some (Solve instance budgets)) = ⊥
 NeedsNoFile (Some (Patterns instance conflicts)) = ⊥
+NeedsNoFile (Some (Explain instance conflicts)) = ⊥
+NeedsNoFile (Some (Part instance members)) = ⊥

@@ -3,6 +3,8 @@
 //! A contract sees the words as a list of texts, of which `specs/Words.antt` has the one reading.
 #![tactic(auto)]
 
+mod list;
 mod words;
 
+pub use list::members;
 pub use words::{Words, read_words};

@@ -1,10 +1,12 @@
 //! The words of the command line.
-ghost use Rattle.std.specs.Prelude.{◌≡◌, ◌==◌, if◌then◌else◌, [], ◌∷◌, None, Some, map, length, codes, string_bytes, bytes_eq};
+ghost use Rattle.std.specs.Prelude.{◌≡◌, ◌==◌, if◌then◌else◌, [], ◌∷◌, None, Some, map, length, codes};
+ghost use Rattle.std.specs.Prelude.{string_bytes, bytes_eq};
 ghost use Rattle.std.specs.Prelude.{option_map, IfSome};
 ghost use Rattle.std.specs.List.{list_any};
 ghost use Rattle.std.specs.Option.{option_copied};
 ghost use Rattle.command_line.specs.Words as options;
-ghost use Rattle.command_line.specs.Words.{arguments_of, budget_in, budgets_in, has_options, is_file_name, making};
+ghost use Rattle.command_line.specs.Words.{arguments_of, budget_in, budgets_in, explaining, has_options};
+ghost use Rattle.command_line.specs.Words.{is_file_name, making, parting};
 ghost use Rattle.command_line.specs.Words.{HasTeams, number_in, patterning, plain, reading, said, search_options};
 ghost use Rattle.command_line.specs.Words.{seed_in, solve_options, solving, team_count_in, tries_in, trying};
 ghost use Rattle.command_line.specs.Words.{usual_conflicts, values_of};
@@ -13,6 +15,7 @@ ghost use Rattle.command_line.specs.SeenWords.{command_of};
 ghost use Rattle.command_line.specs.Standing.{once_more, standing};
 ghost use Rattle.command_line.specs.SeenStanding.{seen};
 
+use crate::list::is_list;
 use budgets::Budgets;
 use league::is_team_count;
 use robin_io::decimal;
@@ -41,6 +44,18 @@ pub enum Words<'a> {
     Patterns {
         instance: &'a str,
         conflicts: Option<u64>,
+    },
+    /// Name hard constraints of the league of an instance file that contradict each other, or search a schedule that it
+    /// accepts. Each search may learn so many clauses, or any number of them.
+    Explain {
+        instance: &'a str,
+        conflicts: Option<u64>,
+    },
+    /// Write the league of the hard constraints of an instance file that have the numbers of a list: numbers from 1 to
+    /// 4,294,967,295, each above the one before it, joined by `;`. `members` gives them.
+    Part {
+        instance: &'a str,
+        list: &'a str,
     },
     /// Write the double round robin of the circle method for n teams, n even and from 2 to 40.
     Circle {
@@ -89,6 +104,8 @@ fn follow<'a>(command: &str, words: &'a [String]) -> Option<Words<'a>>
         read_solve(words)
     } else if command == "patterns" {
         read_patterns(words)
+    } else if command == "explain" {
+        read_explain(words)
     } else if command == "trial" {
         read_trial(words)
     } else {
@@ -115,6 +132,8 @@ fn with_two<'a>(command: &str, first: &'a str, second: &'a str) -> Option<Words<
 {
     if command == "make" {
         make_of(first, second)
+    } else if command == "part" {
+        part_of(first, second)
     } else if !is_name(first) || !is_name(second) {
         None
     } else if command == "validate" {
@@ -130,6 +149,20 @@ fn with_two<'a>(command: &str, first: &'a str, second: &'a str) -> Option<Words<
     } else {
         None
     }
+}
+
+/// `part` over a file, with a list.
+fn part_of<'a>(file: &'a str, list: &'a str) -> Option<Words<'a>>
+    ensures reading { option_map command_of result ≡ parting file.now list.now }
+    ensures teams { IfSome result (λ command. HasTeams (command_of command)) }
+{
+    if !is_name(file) || !is_list(list) {
+        return None;
+    }
+    Some(Words::Part {
+        instance: file,
+        list,
+    })
 }
 
 /// `make` with a number of teams and a seed.
@@ -178,6 +211,22 @@ fn read_patterns(words: &[String]) -> Option<Words<'_>>
     let instance = one_file(words)?;
     let conflicts = conflicts_said(words)?;
     Some(Words::Patterns {
+        instance,
+        conflicts,
+    })
+}
+
+/// `explain` over one file, with its option.
+fn read_explain(words: &[String]) -> Option<Words<'_>>
+    ensures reading { option_map command_of result ≡ explaining (map string_bytes words.now) }
+    ensures teams { IfSome result (λ command. HasTeams (command_of command)) }
+{
+    if !has_search_options(words) {
+        return None;
+    }
+    let instance = one_file(words)?;
+    let conflicts = conflicts_said(words)?;
+    Some(Words::Explain {
         instance,
         conflicts,
     })
@@ -262,7 +311,8 @@ fn budgets(words: &[String]) -> Option<Budgets>
 
 /// How many clauses a search may learn.
 fn conflicts_said(words: &[String]) -> Option<Option<u64>>
-    ensures { result ≡ said (Some usual_conflicts) budget_in (values_of (codes "--conflicts") (map string_bytes words.now)) }
+    ensures { result
+        ≡ said (Some usual_conflicts) budget_in (values_of (codes "--conflicts") (map string_bytes words.now)) }
 {
     match value_of(words, "--conflicts") {
         Standing::Never => Some(Some(USUAL_CONFLICTS)),
@@ -423,11 +473,18 @@ fn is_name(word: &str) -> bool
     !matches!(word.as_bytes(), [b'-', ..])
 }
 
-/// The number that a word writes in decimal digits: a number with a leading zero, or past 64 bits, is none.
+/// The number that a word writes.
 fn number(word: &str) -> Option<u64>
     ensures { result ≡ number_in word.now }
 {
-    match word.as_bytes() {
+    number_of(word.as_bytes())
+}
+
+/// The number that bytes write in decimal digits: a number with a leading zero, or past 64 bits, is none.
+pub(crate) fn number_of(bytes: &[u8]) -> Option<u64>
+    ensures { result ≡ number_in bytes.now }
+{
+    match bytes {
         [b'0', _, ..] => None,
         digits => decimal(digits).ok(),
     }

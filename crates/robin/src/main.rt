@@ -16,6 +16,8 @@ const USAGE: &str = r#"usage: robin validate INSTANCE SOLUTION
        robin solve INSTANCE [--conflicts N|all] [--moves N] [--tries N]
                    [--patterns N] [--seed N]
        robin patterns INSTANCE [--conflicts N|all]
+       robin explain INSTANCE [--conflicts N|all]
+       robin part INSTANCE LIST
        robin check INSTANCE LOG
        robin circle N
        robin make N SEED
@@ -32,6 +34,12 @@ solve    finds a season that the league of an instance file accepts, or a log of
 patterns finds home-away patterns, a line for each team, that the rows of the
          league of an instance file allow which speak of no game, or a log of
          steps that refutes these rows, and so the league
+explain  names hard constraints that contradict each other, by their numbers in the
+         instance file, with a log that refutes the league of these alone and, for
+         each of them, a season that meets the others; or finds a season; each of
+         its searches may learn N clauses
+part     writes the league of the hard constraints with the numbers of LIST, as
+         2;7: numbers that rise, joined by ; (quote it for the shell)
 check    checks a log of steps that refutes the league of an instance file
 circle   writes the season of the circle method for N teams, N even, 2 to 40
 make     writes a league of N teams, N even, 2 to 40, with N + 17 constraints that
@@ -41,7 +49,8 @@ trial    makes the league that make writes and solves it: seven lines say in sho
 Options stand before, between or behind other words. There are no others.
 status 0 accepted, found or made 1 not accepted     2 these words are refused
        3 a file is refused, or a league of too many rows (but for validate)
-       4 the league is refuted by the log  5 the search is spent, at the log
+       4 the league is refuted by the log, or constraints that contradict each
+         other are named       5 the search is spent, at the log
        6 a file can't be read 7 the text can't be written
        8 no memory           10 the words can't be read (they aren't UTF-8, say)
 "#;

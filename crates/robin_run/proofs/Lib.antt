@@ -3,6 +3,7 @@ mod ValidateLemmas
 mod CheckLemmas
 mod SolveLemmas
 mod PatternLemmas
+mod ExplainLemmas
 mod MadeLemmas
 mod MemoryLemmas
 -- Worked examples, so that a wrong definition does not check:

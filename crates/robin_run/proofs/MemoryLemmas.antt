@@ -10,7 +10,7 @@ use Rattle.robinx_form.specs.Walk.{Fault}
 use Rattle.robinx_read.specs.declared.instance.TheConstants.{INSTANCE_LIMIT, SOLUTION_LIMIT}
 use Rattle.budgets.specs.declared.budgets.Budgets.{Budgets}
 use Rattle.command_line.specs.Words.{Command}
-use Rattle.command_line.specs.Words.Command.{Check, Circle, Make, Patterns, Solve, Trial, Validate}
+use Rattle.command_line.specs.Words.Command.{Check, Circle, Explain, Make, Part, Patterns, Solve, Trial, Validate}
 use Rattle.answers.specs.Reply.{Answer}
 use Rattle.answers.specs.Stages.{IsWritten, Outcome, reads, says}
 use Rattle.answers.specs.declared.status.Status.{Status}
@@ -25,6 +25,10 @@ use Rattle.validate_answer.specs.Validate.{IsJudgement, validated}
 use Rattle.check_answer.specs.Check.{IsVerdict, checked, encodes, most_log_bytes, says_log, verdict_answer}
 use Rattle.patterns_answer.specs.Patterns.{AreFound, patterned}
 use Rattle.solve_answer.specs.Solve.{IsFound, solved}
+use Rattle.explain_answer.specs.Explained as explaining
+use Rattle.explain_answer.specs.Explained.{explained}
+use Rattle.explain_answer.specs.Parted.{IsPart, part_answer, parted}
+use Rattle.parts.specs.Parts.{first_unknown}
 use Rattle.instance_gen.specs.Draws.{seeded}
 use Rattle.instance_gen.specs.Made.{made_league}
 use Rattle.trial_answer.specs.Trial.{IsTrial, tried}
@@ -133,6 +137,47 @@ patterned-memory contents took_more failed instance conflicts answer ended given
     (λ league at_league. encodes-memory league (λ rows. AreFound league conflicts) answer ended
     (λ rows found. patterns-memory league conflicts answer ended found) at_league) at_bytes) given
 
+-- ---- `explain`
+
+explain-memory : (league : Instance) (conflicts : Option ℕ) (answer : Answer) → answer.status ≡ Memory
+    → explaining.IsFound league conflicts answer → ⊥
+explain-memory league conflicts answer ended found =
+    elim found.found [
+      | inl met ↦ let same : Yes ≡ Memory = sym met.status ∙ ended in cc
+      | inr (inl named) ↦ let same : Refuted ≡ Memory = sym named.status ∙ ended in cc
+      | inr (inr spent) ↦ let same : Spent ≡ Memory = sym spent.status ∙ ended in cc
+    ]
+
+explained-memory : (contents : List ℕ → Option (List ℕ)) (took_more : ℕ → Type 0) (failed : List ℕ → Type 0)
+    (instance : List ℕ) (conflicts : Option ℕ) (answer : Answer) → answer.status ≡ Memory
+    → explained contents took_more failed instance conflicts answer → ⊥
+explained-memory contents took_more failed instance conflicts answer ended given =
+    read-memory (codes "instance") (contents instance) INSTANCE_LIMIT (took_more INSTANCE_LIMIT) (failed instance)
+    (λ bytes. says (codes "instance") (instance_of (pieces bytes))
+    (λ league. encodes league (λ rows. explaining.IsFound league conflicts))) answer ended
+    (λ bytes at_bytes. said-memory (codes "instance") (instance_of (pieces bytes))
+    (λ league. encodes league (λ rows. explaining.IsFound league conflicts)) answer ended
+    (λ league at_league. encodes-memory league (λ rows. explaining.IsFound league conflicts) answer ended
+    (λ rows found. explain-memory league conflicts answer ended found) at_league) at_bytes) given
+
+-- ---- `part`
+
+part-status : (league : Instance) (members : List ℕ) (unknown : Option ℕ)
+    → (part_answer league members unknown).status ≡ Memory → ⊥
+part-status league members None same = cc
+part-status league members (Some k) same = cc
+
+parted-memory : (contents : List ℕ → Option (List ℕ)) (took_more : ℕ → Type 0) (failed : List ℕ → Type 0)
+    (instance members : List ℕ) (answer : Answer) → answer.status ≡ Memory
+    → parted contents took_more failed instance members answer → ⊥
+parted-memory contents took_more failed instance members answer ended given =
+    read-memory (codes "instance") (contents instance) INSTANCE_LIMIT (took_more INSTANCE_LIMIT) (failed instance)
+    (λ bytes. says (codes "instance") (instance_of (pieces bytes)) (λ league. IsPart league members)) answer ended
+    (λ bytes at_bytes. said-memory (codes "instance") (instance_of (pieces bytes)) (λ league. IsPart league members)
+    answer ended
+    (λ league part. part-status league members (first_unknown league members) (status-of answer _ part.is ended))
+    at_bytes) given
+
 -- ---- `trial`
 
 tried-memory : (n seed : ℕ) (budgets : Budgets) (answer : Answer) → answer.status ≡ Memory → tried n seed budgets answer
@@ -150,6 +195,10 @@ answer-memory (Some (Validate instance solution)) contents took_more failed answ
 answer-memory (Some (Check instance log)) contents took_more failed answer ended given = checked-memory contents took_more failed instance log answer ended given
 answer-memory (Some (Solve instance budgets)) contents took_more failed answer ended given = solved-memory contents took_more failed instance budgets answer ended given
 answer-memory (Some (Patterns instance conflicts)) contents took_more failed answer ended given = patterned-memory contents took_more failed instance conflicts answer ended given
+answer-memory (Some (Explain instance conflicts)) contents took_more failed answer ended given =
+    explained-memory contents took_more failed instance conflicts answer ended given
+answer-memory (Some (Part instance members)) contents took_more failed answer ended given =
+    parted-memory contents took_more failed instance members answer ended given
 answer-memory (Some (Circle n)) contents took_more failed answer ended given = let same : Yes ≡ Memory = status-of answer _ given ended in cc
 answer-memory (Some (Make n seed)) contents took_more failed answer ended given =
     let same : Yes ≡ Memory = status-of answer _ given.made ended in cc

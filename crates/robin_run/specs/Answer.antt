@@ -5,7 +5,9 @@ use Rattle.answers.specs.Stages.{Outcome}
 use Rattle.check_answer.specs.Check.{checked}
 use Rattle.circle_answer.specs.Circle.{circle_season}
 use Rattle.command_line.specs.Words.{Command}
-use Rattle.command_line.specs.Words.Command.{Validate, Check, Solve, Patterns, Circle, Make, Trial}
+use Rattle.command_line.specs.Words.Command.{Validate, Check, Solve, Patterns, Explain, Part, Circle, Make, Trial}
+use Rattle.explain_answer.specs.Explained.{explained}
+use Rattle.explain_answer.specs.Parted.{parted}
 use Rattle.make_answer.specs.MadeInstance.{IsMade}
 use Rattle.patterns_answer.specs.Patterns.{patterned}
 use Rattle.solve_answer.specs.Solve.{solved}
@@ -23,6 +25,10 @@ IsAnswer (Some (Solve instance budgets)) contents took_more failed answer =
     solved contents took_more failed instance budgets answer
 IsAnswer (Some (Patterns instance conflicts)) contents took_more failed answer =
     patterned contents took_more failed instance conflicts answer
+IsAnswer (Some (Explain instance conflicts)) contents took_more failed answer =
+    explained contents took_more failed instance conflicts answer
+IsAnswer (Some (Part instance members)) contents took_more failed answer =
+    parted contents took_more failed instance members answer
 IsAnswer (Some (Circle n)) contents took_more failed answer = answer ≡ circle_season n
 IsAnswer (Some (Make n seed)) contents took_more failed answer = IsMade n seed answer
 IsAnswer (Some (Trial n seed budgets)) contents took_more failed answer = tried n seed budgets answer

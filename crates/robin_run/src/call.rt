@@ -1,13 +1,14 @@
 //! The call that the program makes: the words, the command's stages, and the answer written.
-ghost use Rattle.std.specs.Prelude.{◌≡◌, ◌≢◌, ℕ, ◌≤◌, List, IfOk, Ok, Option, Some, map, string_bytes};
+ghost use Rattle.std.specs.Prelude.{◌≡◌, ◌≢◌, ℕ, ◌≤◌, List, IfOk, Ok, Option, Some, length, map, string_bytes};
 ghost use Rattle.std.specs.Io.KnownBytes.{Appends, Keeps};
 ghost use Rattle.robin_io.specs.Counts.{Rose, TookMore};
 ghost use Rattle.league.specs.Instance.{Instance};
 ghost use Rattle.league.specs.declared.game.Game.{Game};
 ghost use Rattle.budgets.specs.declared.budgets.Budgets.{Budgets};
 ghost use Rattle.command_line.specs.SeenWords.{command_of};
-ghost use Rattle.command_line.specs.Words.{reading, HasTeams, NeedsNoFile};
-ghost use Rattle.command_line.specs.Words.Command.{Check, Circle, Make, Patterns, Solve, Trial, Validate};
+ghost use Rattle.command_line.specs.Words.{members_of, reading, HasTeams, NeedsNoFile};
+ghost use Rattle.command_line.specs.Words.Command.{Check, Circle, Explain, Make, Part, Patterns, Solve, Trial};
+ghost use Rattle.command_line.specs.Words.Command.{Validate};
 ghost use Rattle.answers.specs.Reply.{Answer};
 ghost use Rattle.answers.specs.SeenReply.{answer_of};
 ghost use Rattle.answers.specs.Stages.{IsWritten};
@@ -15,6 +16,8 @@ ghost use Rattle.validate_answer.specs.Validate.{IsJudged, IsWellFormedPair};
 ghost use Rattle.check_answer.specs.Check.{IsChecked, IsWellFormedLog};
 ghost use Rattle.solve_answer.specs.Solve.{IsSolved, IsWellFormedInstance};
 ghost use Rattle.patterns_answer.specs.Patterns.{IsPatterned};
+ghost use Rattle.explain_answer.specs.Explained.{IsExplained};
+ghost use Rattle.explain_answer.specs.Parted.{IsParted, parted};
 ghost use Rattle.circle_answer.specs.Circle.{circle_season};
 ghost use Rattle.make_answer.specs.MadeInstance.{IsWrittenLeague};
 ghost use Rattle.trial_answer.specs.Trial.{IsTried};
@@ -25,13 +28,16 @@ ghost use Rattle.instance_gen.specs.Made.{made_league};
 ghost use Rattle.season_check.specs.Excluded.{NoneAccepted};
 ghost use Rattle.robinx_tags.specs.Pieces.{pieces};
 ghost use Rattle.robinx_form.specs.InstanceFile.{instance_of};
+ghost use Rattle.robinx_read.specs.declared.instance.TheConstants.{INSTANCE_LIMIT};
 ghost use Rattle.refutation.specs.Steps.{Step};
 ghost use Rattle.robin_run.specs.Answer.{IsAnswer};
+ghost use Rattle.robin_run.specs.Contradiction.{IsContradiction};
 
 use answers::{Reply, Status, words_refused, write_answer};
 use check_answer::check;
 use circle_answer::circle;
-use command_line::{Words, read_words};
+use command_line::{Words, members, read_words};
+use explain_answer::{explain_file, part_file};
 use make_answer::make_league;
 use patterns_answer::patterns_file;
 use robin_io::{Shelf, Sink};
@@ -39,6 +45,23 @@ use solve_answer::solve_file;
 use std::alloc::{AllocError, Global};
 use trial_answer::trial;
 use validate_answer::validate;
+
+/// Writes the part of the league of a file for the numbers of a list.
+fn part_of_list<S: Shelf>(
+    alloc: Global,
+    shelf: &mut S,
+    instance: &str,
+    list: &str,
+) -> Result<Reply, AllocError>
+    ensures answer { IfOk result (λ reply. parted (S.contents shelf.old)
+        (λ limit. TookMore limit (S.taken shelf.old) (S.taken shelf.new))
+        (λ name. Rose (S.faults shelf.old name) (S.faults shelf.new name))
+        instance.now (members_of list.now) (answer_of reply)) }
+    ensures contents { (n : List ℕ) → S.contents shelf.new n ≡ S.contents shelf.old n }
+{
+    let members = members(alloc, list)?;
+    part_file(alloc, shelf, instance, &members)
+}
 
 /// Follows a command.
 fn follow<S: Shelf>(alloc: Global, command: Words, shelf: &mut S) -> Result<Reply, AllocError>
@@ -58,6 +81,11 @@ fn follow<S: Shelf>(alloc: Global, command: Words, shelf: &mut S) -> Result<Repl
             instance,
             conflicts,
         } => patterns_file(alloc, shelf, instance, conflicts),
+        Words::Explain {
+            instance,
+            conflicts,
+        } => explain_file(alloc, shelf, instance, conflicts),
+        Words::Part { instance, list } => part_of_list(alloc, shelf, instance, list),
         Words::Circle { n } => circle(alloc, n),
         Words::Make { n, seed } => make_league(alloc, n, seed),
         Words::Trial { n, seed, budgets } => trial(alloc, n, seed, budgets),
@@ -84,8 +112,10 @@ fn answer<S: Shelf>(alloc: Global, words: &[String], shelf: &mut S) -> Result<Re
 /// `words` are the words of the command line without the program's name. `validate INSTANCE SOLUTION` judges the
 /// season of one file by the league of the other, `check INSTANCE LOG` checks the refutation log of one file over the
 /// rows of the league of the other, `solve INSTANCE` finds a season or a log of the league of a file, `patterns
-/// INSTANCE` finds patterns or a log, `circle N` makes a season, `make N SEED` makes a league, `trial N SEED` makes one
-/// and solves it, and any other words are refused. The whole text is made before its first byte is written.
+/// INSTANCE` finds patterns or a log, `explain INSTANCE` finds a season or names hard constraints that contradict each
+/// other, `part INSTANCE LIST` writes the league of the hard constraints with these numbers, `circle N` makes a season,
+/// `make N SEED` makes a league, `trial N SEED` makes one and solves it, and any other words are refused. The whole
+/// text is made before its first byte is written.
 ///
 /// - `answer` needs nothing of the store, of the sink or of the files: whatever they do, the answer is one of those
 ///   that are allowed for the words and the files, and each refusal has its cause.
@@ -112,6 +142,17 @@ fn answer<S: Shelf>(alloc: Global, words: &[String], shelf: &mut S) -> Result<Re
 ///   earlier steps alone, as they are numbered among all rows of the league.
 /// - `patternless` is as `unsolvable`: where a run of `patterns` ends with `Refuted`, the league accepts no list of
 ///   games.
+/// - `explained` says the same of `explain`: what is found is a schedule that the league accepts, with its objective;
+///   numbers of hard constraints, a log that `check` accepts over the league of these alone, and for each of them a
+///   schedule that the league of the others accepts, or a log that is spent at the budget over the rows of that
+///   league; or a log that is spent over the rows of the whole league. It is a schedule wherever the league accepts
+///   that of the circle method, and names constraints wherever its venue counts are short or crowded.
+/// - `contradictory` is as `unsolvable`: where a run of `explain` ends with `Refuted`, its first line has the numbers
+///   of hard constraints, and the league of these alone accepts no list of games; where its second line is
+///   `minimal yes`, the league of all but any one of them accepts one.
+/// - `parted` says that `part` writes the league of the hard constraints with the numbers of a list as an instance
+///   file that reads back as this league, or refuses the first of the numbers that no hard constraint has. It needs a
+///   well-formed file as `judged` does; how many terms the rows of the league have doesn't matter.
 /// - `seasoned` says that `circle` writes the schedule of the circle method in order, and `made` that `make` writes the
 ///   league of its numbers: its text reads back as this league, which has n + 17 constraints and accepts that schedule.
 /// - `tried` says the same of `trial`: where the rows of the made league have at most 40,000,000 terms, a schedule that
@@ -190,6 +231,34 @@ pub fn run<S: Shelf, K: Sink>(alloc: Global, words: &[String], shelf: &mut S, ou
         → instance_of (pieces bytes) ≡ Ok league
         → result ≡ Status.Refuted
         → NoneAccepted league }
+
+    // What is found of the league of a well-formed instance by `explain` is written, unless memory runs out.
+    ensures explained { (instance : List ℕ) (conflicts : Option ℕ) (league : Instance)
+        → reading (map string_bytes words.now) ≡ Some (Explain instance conflicts)
+        → IsWellFormedInstance (S.contents shelf.old) (λ name. Rose (S.faults shelf.old name) (S.faults shelf.new name))
+        instance league
+        → (Rose (K.faults out.old) (K.faults out.new) → ⊥)
+        → result ≢ Status.Memory
+        → IsExplained league conflicts result (K.written out.old) (K.written out.new) }
+
+    // Where hard constraints are named, the league of these alone accepts no list of games.
+    ensures contradictory { (instance bytes : List ℕ) (conflicts : Option ℕ) (league : Instance)
+        → reading (map string_bytes words.now) ≡ Some (Explain instance conflicts)
+        → S.contents shelf.old instance ≡ Some bytes
+        → instance_of (pieces bytes) ≡ Ok league
+        → result ≡ Status.Refuted
+        → IsContradiction league (K.written out.old) (K.written out.new) }
+
+    // The part of the league of a well-formed instance is written, or a number is refused, unless memory runs out.
+    ensures parted { (instance members bytes : List ℕ) (league : Instance)
+        → reading (map string_bytes words.now) ≡ Some (Part instance members)
+        → S.contents shelf.old instance ≡ Some bytes
+        → length bytes ≤ INSTANCE_LIMIT
+        → instance_of (pieces bytes) ≡ Ok league
+        → (Rose (S.faults shelf.old instance) (S.faults shelf.new instance) → ⊥)
+        → (Rose (K.faults out.old) (K.faults out.new) → ⊥)
+        → result ≢ Status.Memory
+        → IsParted league members result (K.written out.old) (K.written out.new) }
 
     // The schedule of the circle method is written, unless memory runs out or the sink fails.
     ensures seasoned { (n : ℕ)

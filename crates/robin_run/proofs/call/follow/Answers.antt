@@ -15,5 +15,11 @@ returns-in-Make-clause-answer g c = rw c.in-Make.is c.make_league.ensures
 pub returns-in-Patterns-clause-answer : goal.returns-in-Patterns-clause-answer
 returns-in-Patterns-clause-answer g c = rw c.in-Patterns.is c.patterns_file.ensures.answer
 
+pub returns-in-Explain-clause-answer : goal.returns-in-Explain-clause-answer
+returns-in-Explain-clause-answer g c = rw c.in-Explain.is c.explain_file.ensures.answer
+
+pub returns-in-Part-clause-answer : goal.returns-in-Part-clause-answer
+returns-in-Part-clause-answer g c = rw c.in-Part.is c.part_of_list.ensures.answer
+
 pub returns-in-Trial-clause-answer : goal.returns-in-Trial-clause-answer
 returns-in-Trial-clause-answer g c = rw c.in-Trial.is c.trial.ensures

@@ -3,6 +3,7 @@ use Rattle.robin_io.specs.Counts.{Rose, TookMore}
 use Rattle.command_line.specs.Words.{reading}
 use Rattle.answers.specs.SeenReply.{answer_of}
 use Rattle.robin_run.proofs.CheckLemmas.{run-checked, run-refuted}
+use Rattle.robin_run.proofs.ExplainLemmas.{run-contradictory, run-explained, run-parted}
 use Rattle.robin_run.proofs.MadeLemmas.{run-found, run-made, run-seasoned, run-tried}
 use Rattle.robin_run.proofs.PatternLemmas.{run-patterned, run-patternless}
 use Rattle.robin_run.proofs.SolveLemmas.{run-solved, run-unsolvable}
@@ -66,6 +67,38 @@ returns-in-Ok-clause-patternless g c = λ instance bytes conflicts league is kno
     run-patternless (reading (map string_bytes c.args.words.now)) contents took_more failed instance bytes conflicts
     league (answer_of c.in-Ok.reply) c.write_answer.result _ _ _ c.in-Ok.ensures.answer c.write_answer.ensures is known
     says_league ended
+
+pub returns-in-Ok-clause-explained : goal.returns-in-Ok-clause-explained
+returns-in-Ok-clause-explained g c = λ instance conflicts league is good works later.
+    let contents : List ℕ → Option (List ℕ) = g.S.Shelf.contents c.args.shelf.now in
+    let took_more : ℕ → Type 0 =
+    λ limit. TookMore limit (g.S.Shelf.taken c.args.shelf.now) (g.S.Shelf.taken c.answer.new.shelf) in
+    let failed : List ℕ → Type 0 =
+    λ name. Rose (g.S.Shelf.faults c.args.shelf.now name) (g.S.Shelf.faults c.answer.new.shelf name) in
+    run-explained (reading (map string_bytes c.args.words.now)) contents took_more failed instance conflicts league
+    (answer_of c.in-Ok.reply) c.write_answer.result _ _ _ c.in-Ok.ensures.answer c.write_answer.ensures is good works
+
+pub returns-in-Ok-clause-contradictory : goal.returns-in-Ok-clause-contradictory
+returns-in-Ok-clause-contradictory g c = λ instance bytes conflicts league is known says_league ended.
+    let contents : List ℕ → Option (List ℕ) = g.S.Shelf.contents c.args.shelf.now in
+    let took_more : ℕ → Type 0 =
+    λ limit. TookMore limit (g.S.Shelf.taken c.args.shelf.now) (g.S.Shelf.taken c.answer.new.shelf) in
+    let failed : List ℕ → Type 0 =
+    λ name. Rose (g.S.Shelf.faults c.args.shelf.now name) (g.S.Shelf.faults c.answer.new.shelf name) in
+    run-contradictory (reading (map string_bytes c.args.words.now)) contents took_more failed instance bytes conflicts
+    league (answer_of c.in-Ok.reply) c.write_answer.result _ _ _ c.in-Ok.ensures.answer c.write_answer.ensures is known
+    says_league ended
+
+pub returns-in-Ok-clause-parted : goal.returns-in-Ok-clause-parted
+returns-in-Ok-clause-parted g c = λ instance members bytes league is known within says_league works sink_works later.
+    let contents : List ℕ → Option (List ℕ) = g.S.Shelf.contents c.args.shelf.now in
+    let took_more : ℕ → Type 0 =
+    λ limit. TookMore limit (g.S.Shelf.taken c.args.shelf.now) (g.S.Shelf.taken c.answer.new.shelf) in
+    let failed : List ℕ → Type 0 =
+    λ name. Rose (g.S.Shelf.faults c.args.shelf.now name) (g.S.Shelf.faults c.answer.new.shelf name) in
+    run-parted (reading (map string_bytes c.args.words.now)) contents took_more failed instance members bytes league
+    (answer_of c.in-Ok.reply) c.write_answer.result _ _ _ c.in-Ok.ensures.answer c.write_answer.ensures is known within
+    says_league works sink_works
 
 pub returns-in-Ok-clause-judged : goal.returns-in-Ok-clause-judged
 returns-in-Ok-clause-judged g c = λ instance solution league games is good works later.
