@@ -48,7 +48,8 @@ trial    makes the league that make writes and solves it: seven lines say in sho
          what is found, and behind them comes what solve writes
 Options stand before, between or behind other words. There are no others.
 status 0 accepted, found or made 1 not accepted     2 these words are refused
-       3 a file is refused, or a league of too many rows (but for validate)
+       3 a file is refused, or a league of too many rows (but for validate and part),
+         or a number of LIST that no hard constraint has
        4 the league is refuted by the log, or constraints that contradict each
          other are named       5 the search is spent, at the log
        6 a file can't be read 7 the text can't be written
