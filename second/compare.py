@@ -5,7 +5,7 @@ python3 second/compare.py PROGRAM [--seed N] [--rounds N] [--teams N] [--conflic
 PROGRAM is robin as it was built. Each round draws a league of up to so many teams, with constraints of all classes,
 and compares: the report on seasons that are round robins and on lists that aren't; what `solve` says (a season is
 judged, its trail taken backwards move by move, a log checked step by step here and by `robin check`); what
-`patterns` says; and, for logs with one number changed, the verdict of `robin check`.
+`patterns` says; what `explain` says (the log over the part's own rows, each season of a case); and, for logs with one number changed, the verdict of `robin check`.
 """
 
 import argparse
@@ -220,6 +220,43 @@ class Round:
                 self.must("pattern row", logs.reach(terms, values) >= degree, terms, degree)
 
 
+    def explain(self):
+        status, text = run(self.program, "explain", self.path, "--conflicts", self.conflicts)
+        self.must(f"explain ended with {status}", status in (0, 4, 5), status, text)
+        if status == 0:
+            games = leagues.read_season(text)
+            self.must("explained season", leagues.is_accepted(self.league, games), text)
+        elif status == 5:
+            verdict = logs.check(*rows.league_rows(self.league), logs.read_log(text))
+            self.must("explained as spent", verdict.endswith("NoEmptyClause"), verdict)
+        else:
+            self.conflict(text)
+
+    def conflict(self, text):
+        first, second, rest = text.split("\n", 2)
+        members = [int(word) for word in first.split(" ")[1:]]
+        log, rest = rest.split("\nend\n", 1)
+        alone = rows.part(self.league, members)
+        verdict = logs.check(*rows.league_rows(alone), logs.read_log(log + "\nend\n"))
+        self.must("log of a conflict", members and verdict.startswith("accepted"), members, verdict)
+        self.must("members are hard", all(self.league.constraints[k - 1].hard for k in members), members)
+        path = self.write("part.xml", run(self.program, "part", self.path, ";".join(map(str, members)))[1])
+        written = leagues.read_league(path)
+        kinds = lambda it: [(c.name, c.hard, c.penalty) for c in it.constraints]
+        is_same = kinds(written) == kinds(alone) and rows.league_rows(written) == rows.league_rows(alone)
+        self.must("part", is_same and written.phased == alone.phased, members)
+        told = run(self.program, "check", path, self.write("log", log + "\nend\n"))
+        self.must("log of a conflict by check", told[0] == 0, told)
+        cases = re.findall(r"^(without|undecided) (\d+)$", rest, re.MULTILINE)
+        self.must("a case for each", [int(k) for _, k in cases] == members, cases, members)
+        decided = all(kind == "without" for kind, _ in cases)
+        self.must("minimal", second == ("minimal yes" if decided else "minimal no"), second, cases)
+        seasons = re.findall(r"^without (\d+)\n(<\?xml.*?</Solution>)", rest, re.MULTILINE | re.DOTALL)
+        for k, season in seasons:
+            others = rows.part(self.league, [it for it in members if it != int(k)])
+            self.must("season without a member", leagues.is_accepted(others, leagues.read_season(season)), k)
+
+
 def main():
     words = argparse.ArgumentParser(description=__doc__, formatter_class=argparse.RawDescriptionHelpFormatter)
     words.add_argument("program")
@@ -236,6 +273,7 @@ def main():
             it.judge()
             it.solve()
             it.patterns()
+            it.explain()
             for what, count in it.counted.items():
                 total[what] = total.get(what, 0) + count
     for what in sorted(total):
