@@ -11,6 +11,7 @@ ghost use Rattle.resume_rows.specs.Kept as kept;
 ghost use Rattle.resume_rows.specs.Kept.{resume_rows};
 ghost use Rattle.resume_rows.specs.Resumable.{NoneResumes};
 ghost use Rattle.resume_rows.specs.Sizes.{capped};
+ghost use Rattle.resume_rows.specs.Systems.{rows_for};
 
 use encoding::EncodeFault;
 use league::{League, Schedule};
@@ -56,7 +57,7 @@ pub fn check_resume(
 /// Only where memory runs out.
 fn verdict_on(alloc: Global, system: &ResumeSystem, log: &Log) -> Result<Verdict, AllocError>
     ensures { IfOk result (λ verdict. verdict
-        ≡ verdict_of (resume_rows system.now.league system.now.played system.now.k)
+        ≡ verdict_of (rows_for system.now)
         (var_count system.now.league) log.now) }
 {
     check(alloc, system.rows(), system.vars(), log)
@@ -68,7 +69,7 @@ fn verdict_on(alloc: Global, system: &ResumeSystem, log: &Log) -> Result<Verdict
 /// Only where memory runs out.
 pub fn checker_of(alloc: Global, system: &ResumeSystem) -> Result<Checker<'_>, AllocError>
     ensures { IfOk result (λ checker. checker
-        ≡ no_step_of (resume_rows system.now.league system.now.played system.now.k)
+        ≡ no_step_of (rows_for system.now)
         (var_count system.now.league)) }
 {
     Checker::new(alloc, system.rows(), system.vars())

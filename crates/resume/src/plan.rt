@@ -1,5 +1,5 @@
 //! The old plan: whether it may stay as it is, and what the search decides first where it may not.
-ghost use Rattle.std.specs.Prelude.{◌≡◌, ◌≤◌, None, Ok, length, IfOk, IfSome};
+ghost use Rattle.std.specs.Prelude.{◌≡◌, ◌≤◌, ℕ, None, Ok, Option, length, IfOk, IfSome};
 ghost use Rattle.std.specs.List.{All};
 ghost use Rattle.std.specs.List.Sorted.{IsPermutation};
 ghost use Rattle.league.specs.Accepted.{IsAccepted};
@@ -13,6 +13,7 @@ use crate::resumed::Resumed;
 use deviation::assess;
 use encoding_base::x_at;
 use league::{Game, League, Schedule};
+use resume_rows::copied;
 use rows::Lit;
 use std::alloc::{AllocError, Global};
 
@@ -54,20 +55,6 @@ fn in_order(alloc: Global, schedule: &Schedule) -> Result<Schedule, AllocError>
     let mut ordered = copied(alloc, schedule.games())?;
     ordered.put_in_order();
     Ok(ordered)
-}
-
-/// A schedule of these games.
-///
-/// # Errors
-/// Only where memory runs out.
-fn copied(alloc: Global, games: &[Game]) -> Result<Schedule, AllocError>
-    ensures { IfOk result (λ copy. copy ≡ games.now) }
-{
-    let mut copy = Schedule::new(alloc);
-    for game in games {
-        copy.push(*game)?;
-    }
-    Ok(copy)
 }
 
 /// The variables of the old plan's games: the search decides them first, to be true, and so ends near the plan.

@@ -13,8 +13,8 @@ ghost use Rattle.encoding_base.specs.Shadow.{decoded};
 ghost use Rattle.encoding_base.specs.Variables.{var_count};
 ghost use Rattle.clause_search.specs.Answers.{IsAnswer};
 ghost use Rattle.resume_rows.specs.Kept as kept;
-ghost use Rattle.resume_rows.specs.Kept.{resume_rows};
 ghost use Rattle.resume_rows.specs.Sizes.{capped};
+ghost use Rattle.resume_rows.specs.Systems.{rows_for};
 ghost use Rattle.resume.specs.Answers.{IsPlan, IsResumed};
 ghost use Rattle.resume.specs.Found.{MeetsLeague, Tells};
 
@@ -108,7 +108,7 @@ fn found_in(
 ) -> Result<Found, AllocError>
     requires league { system.now.league ≡ league.now }
     requires fit { All (IsGame league.now.n) played.now }
-    ensures { IfOk result (IsAnswer (resume_rows system.now.league system.now.played system.now.k)
+    ensures { IfOk result (IsAnswer (rows_for system.now)
         (var_count system.now.league) conflicts) }
 {
     let prefer = preferred(alloc, league.n(), played.games())?;

@@ -1,9 +1,8 @@
 -- The resume rows are faithful both ways.
-use Rattle.std.proofs.Common.{◌≡◌, ℕ, ◌<◌, ◌≤◌, Bool, List, arith, ◌∙◌}
+use Rattle.std.proofs.Common.{ℕ, Bool, arith, ◌∙◌}
 use Rattle.std.proofs.lemmas.List.Elements.{All-append}
-use Rattle.league.specs.Counts.{Counts, counts_of}
-use Rattle.league.specs.declared.game.Game.{Game}
-use Rattle.rows.specs.Rows.{Row, Satisfies, SatisfiesAll}
+use Rattle.league.specs.Counts.{counts_of}
+use Rattle.rows.specs.Rows.{Satisfies}
 use Rattle.rows.proofs.TestLemmas.{SatisfiesAll-from_true, all_satisfied-true}
 use Rattle.encoding_base.specs.Encoding.{rows_of}
 use Rattle.encoding_base.specs.Shadow.{decoded}
@@ -36,11 +35,14 @@ rows-from_resumption league played games k values is season resumes shadow =
 
 pub resume_rows-faithful : AreFaithful
 resume_rows-faithful league played k is fit season = (
-  λ (values, meets). (decoded league.n values, resumption-from_rows league played k values is fit season meets),
-  λ (games, resumes). (
-    shadow_values league.n (counts_of games),
-    rows-from_resumption league played games k (shadow_values league.n (counts_of games)) is season resumes
-        (some_shadow league.n (counts_of games) (has_breaks league.constraints)),
+  λ found. (
+    decoded league.n found.0,
+    resumption-from_rows league played k found.0 is fit season found.1,
+  ),
+  λ found. (
+    shadow_values league.n (counts_of found.0),
+    rows-from_resumption league played found.0 k (shadow_values league.n (counts_of found.0)) is season found.1
+        (some_shadow league.n (counts_of found.0) (has_breaks league.constraints)),
   ),
 )
 

@@ -1,19 +1,18 @@
 -- The variables of the resume rows are those of the league.
-use Rattle.std.proofs.Common.{◌≡◌, ℕ, ◌+◌, ◌<◌, ◌≤◌, Bool, true, List, [], ◌∷◌, get_or, arith}
+use Rattle.std.proofs.Common.{◌≡◌, ℕ, ◌<◌, ◌≤◌, true, [], get_or, arith}
 use Rattle.std.proofs.lemmas.List.Elements.{All-append, All-cons, All-map, All-nil, All-weaker}
 use Rattle.std.proofs.lemmas.List.Sums.{AllPass-from_list_all}
-use Rattle.std.specs.List.{All, range_with_len}
+use Rattle.std.specs.List.{range_with_len}
 use Rattle.league.specs.Counts.{Counts, slot_count}
 use Rattle.league.specs.Instance.{Instance, IsInstance, is_meeting}
 use Rattle.league.specs.Meetings.{meetings_of}
 use Rattle.rows.specs.Cardinality.{unit}
-use Rattle.rows.specs.Rows.{Row}
 use Rattle.rows.specs.declared.lit.Term.{Term}
 use Rattle.encoding_base.specs.Encoding.{rows_of}
 use Rattle.encoding_base.specs.Known.{AreKnown, IsKnown}
 use Rattle.encoding_base.specs.Variables.{var_count, x_count, x_var}
 use Rattle.encoding_base.proofs.AscendLemmas.{All-flat_map, AscendsBy-below, AscendsBy-range}
-use Rattle.encoding_base.proofs.Places.{x_place, x_place-below, x_var-place}
+use Rattle.encoding_base.proofs.Places.{x_place-below, x_var-place}
 use Rattle.encoding.proofs.KnownLemmas.{rows_of-known}
 use Rattle.decoding.proofs.MeetingLists.{meeting_parts, meetings_of-fit}
 use Rattle.resume_rows.specs.Kept.{kept_literal, kept_row, kept_rows, kept_rows_in, resume_rows}

@@ -1,5 +1,5 @@
 -- How many terms resume rows have.
-use Rattle.std.proofs.Common.{◌≡◌, ℕ, ◌+◌, ◌-◌, ◌*◌, List, length, map, get_or, arith, ap, sym, ◌∙◌}
+use Rattle.std.proofs.Common.{◌≡◌, ℕ, ◌+◌, ◌-◌, ◌*◌, List, length, map, get_or, arith, ap, ◌∙◌}
 use Rattle.std.proofs.lemmas.List.{length-map}
 use Rattle.std.proofs.lemmas.List.Concat.{length-flat_map}
 use Rattle.std.proofs.lemmas.List.FromFn.{length-range_with_len}
@@ -14,7 +14,7 @@ use Rattle.encoding_base.proofs.AscendLemmas.{AscendsBy-below}
 use Rattle.encoding_base.proofs.MeetingOrder.{AreTeams-all}
 use Rattle.encoding_sizes.proofs.SeasonSizes.{length-others}
 use Rattle.encoding_sizes.proofs.SizeLemmas.{sum_by-constant, sum_by-same_at}
-use Rattle.resume_rows.specs.Kept.{kept_row, kept_rows, kept_rows_in, resume_rows, resume_size}
+use Rattle.resume_rows.specs.Kept.{kept_row, kept_rows, kept_rows_in}
 use Rattle.resume_rows.specs.Resumable.{HaveSize}
 
 pub meeting_count : (n : ℕ) → length (meetings_of n) ≡ n * (n - 1)

@@ -1,5 +1,5 @@
 //! The clauses that keep the played games.
-ghost use Rattle.std.specs.Prelude.{◌≡◌, ◌+◌, ◌*◌, ◌^◌, ◌<◌, ◌≤◌, ◌++◌, length, map, OnOk};
+ghost use Rattle.std.specs.Prelude.{◌≡◌, ◌+◌, ◌-◌, ◌*◌, ◌^◌, ◌<◌, ◌≤◌, ◌++◌, [], ◌∷◌, length, map, OnOk};
 ghost use Rattle.std.specs.List.{All};
 ghost use Rattle.league.specs.Counts as counts;
 ghost use Rattle.league.specs.Meetings.{meetings_of};

@@ -12,6 +12,7 @@ ghost use Rattle.encoding_base.specs.Variables.{var_count};
 ghost use Rattle.resume_rows.specs.Kept as kept;
 ghost use Rattle.resume_rows.specs.Kept.{resume_rows};
 ghost use Rattle.resume_rows.specs.Sizes.{capped};
+ghost use Rattle.resume_rows.specs.Systems.{rows_for};
 
 use crate::kept::add_kept_rows;
 use crate::size::resume_size;
@@ -19,7 +20,7 @@ use deviation::counted;
 use encoding::EncodeFault;
 use encoding_base::{all_meetings, h_count, has_breaks, hb_count, x_count};
 use encoding_rows::write_rows_with;
-use league::{League, Schedule};
+use league::{Game, League, Schedule};
 use rows::RowStore;
 use rule_core::Cells;
 use std::alloc::{AllocError, Global};
@@ -29,31 +30,30 @@ use std::marker::Model;
 pub const MOST_TERMS: u64 = 40_000_000;
 
 /// The resume rows of a league, of played games and of the number of slots that are played: seen as these three. It
-/// keeps a copy of the league, and the counts of the games.
+/// keeps a copy of the league and of the games.
 #[derive(Drop)]
 pub struct ResumeSystem {
     league: League,
-    cells: Cells,
+    played: Schedule,
     k: u16,
     rows: RowStore,
     vars: u32,
 }
 
 impl Model for ResumeSystem {
-    ghost use Rattle.cells.specs.Table.{table_counts};
     ghost use Rattle.resume_rows.specs.Systems.{IsSystem, PartlyPlayed};
 
     ghost Value = { PartlyPlayed };
 
-    ghost view = { λ s. record { league = s.league; played = table_counts s.cells; k = s.k } };
+    ghost view = { λ s. record { league = s.league; played = s.played; k = s.k } };
 
-    ghost invariant = { λ s. IsSystem s.league (table_counts s.cells) s.k s.rows s.vars };
+    ghost invariant = { λ s. IsSystem (record { league = s.league; played = s.played; k = s.k }) s.rows s.vars };
 }
 
 impl ResumeSystem {
     /// The resume rows: those of the league, and then, slot by slot, a clause for each meeting.
     pub fn rows(&self) -> &RowStore
-        ensures { result.now ≡ resume_rows self.now.league self.now.played self.now.k }
+        ensures { result.now ≡ rows_for self.now }
     {
         &self.rows
     }
@@ -65,8 +65,7 @@ impl ResumeSystem {
         ensures instance { IsInstance self.now.league }
 
         // The rows speak of no other variables.
-        ensures known { AreKnown (var_count self.now.league)
-            (resume_rows self.now.league self.now.played self.now.k) }
+        ensures known { AreKnown (var_count self.now.league) (rows_for self.now) }
     {
         self.vars
     }
@@ -89,7 +88,7 @@ pub fn resume_system(
     requires fit { All (IsGame league.now.n) played.now }
     requires slots { k ≤ counts.slot_count league.now.n }
     ensures of { IfOk result (λ system.
-        system ≡ record { league = league.now; played = counts_of played.now; k = k }) }
+        system ≡ record { league = league.now; played = played.now; k = k }) }
     ensures within { IsOk result → kept.resume_size league.now k ≤ 40000000 }
     ensures too_large { 40000000 < kept.resume_size league.now k
         → result ≡ Err (EncodeFault.TooLarge (capped (kept.resume_size league.now k))) }
@@ -119,19 +118,34 @@ fn written_system(
     requires fit { All (IsGame league.now.n) played.now }
     requires slots { k ≤ counts.slot_count league.now.n }
     ensures { IfOk result (λ system.
-        system ≡ record { league = league.now; played = counts_of played.now; k = k }) }
+        system ≡ record { league = league.now; played = played.now; k = k }) }
 {
     let cells = counted(alloc, league.n(), played.games())?;
     let rows = written_rows(alloc, league, &cells, k, terms)?;
     let vars = variables(league);
+    let played = copied(alloc, played.games())?;
     let league = league.copy()?;
     Ok(ResumeSystem {
         league,
-        cells,
+        played,
         k,
         rows,
         vars,
     })
+}
+
+/// A schedule of these games.
+///
+/// # Errors
+/// Only where memory runs out.
+pub fn copied(alloc: Global, games: &[Game]) -> Result<Schedule, AllocError>
+    ensures { IfOk result (λ copy. copy ≡ games.now) }
+{
+    let mut copy = Schedule::new(alloc);
+    for game in games {
+        copy.push(*game)?;
+    }
+    Ok(copy)
 }
 
 /// The rows of a league, and the clauses that keep the games of a table. Room is made for so many terms at first.
@@ -165,11 +179,23 @@ pub fn season_meetings(alloc: Global, n: u16) -> Result<Vec<(u16, u16)>, AllocEr
     ensures fit { IfOk result (λ meetings. All (IsMeeting n) meetings.items) }
     ensures few { IfOk result (λ meetings. length meetings.items ≤ 1560) }
 {
+    let teams = all_teams(alloc, n)?;
+    let meetings = all_meetings(alloc, &teams)?;
+    Ok(meetings)
+}
+
+/// The teams of a league of n teams, by their numbers.
+///
+/// # Errors
+/// Only where memory runs out.
+fn all_teams(alloc: Global, n: u16) -> Result<Vec<u16>, AllocError>
+    ensures { IfOk result (λ teams. teams.items ≡ counts.teams_of n) }
+{
     let mut teams = Vec::with_capacity(alloc, n as usize)?;
     for team in 0..n {
         teams.push(team)?;
     }
-    all_meetings(alloc, &teams)
+    Ok(teams)
 }
 
 /// How many variables a league has.

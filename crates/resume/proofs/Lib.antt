@@ -1,0 +1,4 @@
+-- What the old plan, and what a search finds, say of a league whose first slots are played:
+pub mod AnswerLemmas
+-- The games whose variables are true, gone through by slot and meeting:
+pub mod SeasonLemmas
