@@ -1,5 +1,6 @@
 -- What the old plan, and what a search finds, say of a league whose first slots are played.
-use Rattle.std.proofs.Common.{◌≡◌, ℕ, ◌<◌, ◌≤◌, List, length, Option, nat_lt, ap, sym, subst, ◌∙◌}
+use Rattle.std.proofs.Common.{◌≡◌, ℕ, ◌≤◌, Bool, true, false, not, List, Option, nat_lt, refl, ap, sym, subst, ◌∙◌}
+use Rattle.std.specs.Prelude.{IsTrue}
 use Rattle.std.proofs.lemmas.List.Elements.{All-weaker}
 use Rattle.std.proofs.lemmas.List.Sorted.{All-permutation}
 use Rattle.std.specs.List.{All}
@@ -10,12 +11,11 @@ use Rattle.league.specs.Counts.{Counts, counts_of, slot_count}
 use Rattle.league.specs.Instance.{Instance, IsGame, IsInstance}
 use Rattle.league.specs.Order.{IsInOrder}
 use Rattle.league.specs.declared.game.Game.{Game}
-use Rattle.rows.specs.Rows.{Row, SatisfiesAll}
+use Rattle.rows.specs.Rows.{Row}
 use Rattle.rows.specs.Values.{assigned}
 use Rattle.rows.proofs.TestLemmas.{SatisfiesAll-from_true, all_satisfied-true}
 use Rattle.encoding_base.specs.Encoding.{rows_of}
 use Rattle.encoding_base.specs.Known.{AreKnown, IsKnown}
-use Rattle.encoding_base.specs.Shadow.{decoded}
 use Rattle.encoding_base.specs.Variables.{var_count}
 use Rattle.decoding.proofs.DecodeLemmas.{in_order}
 use Rattle.decoding.proofs.SeasonRows.{both_satisfied}
@@ -24,11 +24,11 @@ use Rattle.refutation_check.specs.Within.{AreWithin, IsWithin}
 use Rattle.clause_search.specs.Answers.{IsAnswer, IsSpentAt, Refutes}
 use Rattle.clause_search.specs.declared.found.Found.{Found}
 use Rattle.clause_search.specs.declared.found.Found.TheVariants as found
-use Rattle.solve.proofs.GameLemmas.{decoded_fit, same_counts}
 use Rattle.resume_rows.specs.Kept.{kept_rows, resume_rows}
-use Rattle.resume_rows.specs.Resumable.{IsResumption, NoneResumes}
+use Rattle.resume_rows.specs.Resumable.{IsResumption}
 use Rattle.resume_rows.proofs.Faithful.{accepted_logs_exclude, resumption-from_rows}
-use Rattle.resume.specs.Answers.{IsResumed, IsResumedSeason, RefutesResuming}
+use Rattle.resume.proofs.GameLemmas.{decoded_fit, same_counts}
+use Rattle.resume.specs.Answers.{IsResumed, IsResumedSeason}
 use Rattle.resume.specs.Found.{MeetsLeague, Tells}
 use Rattle.resume.specs.declared.resumed.Resumed.{Resumed}
 use Rattle.resume.specs.declared.resumed.Resumed.TheVariants.{Schedule, Refuted, Spent}
@@ -55,10 +55,12 @@ plan_resumes league played games cost accepted fit same order is k =
 -- values that satisfy the resume rows satisfy the league's
 pub meets_league : (league : Instance) (played : Counts) (k : ℕ) (limit : Option ℕ) (answer : Found)
     → IsAnswer (resume_rows league played k) (var_count league) limit answer → MeetsLeague league answer
-meets_league league played k limit (found.Sat values) is =
-    (is.0, SatisfiesAll-from_true (assigned values) (rows_of league)
-    (both_satisfied (assigned values) (rows_of league) (kept_rows league.n played k)
-    (all_satisfied-true (assigned values) (resume_rows league played k) is.1)).0)
+meets_league league played k limit (found.Sat values) is = (
+  is.0,
+  SatisfiesAll-from_true (assigned values) (rows_of league)
+      (both_satisfied (assigned values) (rows_of league) (kept_rows league.n played k)
+      (all_satisfied-true (assigned values) (resume_rows league played k) is.1)).0,
+)
 meets_league league played k limit (found.Refuted log) is = tt
 meets_league league played k limit (found.Spent log) is = tt
 
@@ -97,3 +99,9 @@ told_resumed league played k limit (found.Spent log) (Spent shown) is fit season
 pub within-from_known : (vars : ℕ) (rows : List Row) → AreKnown vars rows → AreWithin vars rows
 within-from_known vars rows known =
     All-weaker (IsKnown vars) (IsWithin vars) (λ row is k d within. (is k d within).1) rows known
+
+-- ---- what a test says
+
+pub passed : (b : Bool) → not b ≡ false → IsTrue b
+passed true is = refl
+passed false is = cc

@@ -17,7 +17,7 @@ loop-slot-preserved c =
     let in_slot : ℕ → List Game = λ s. flat_map (game_if_true n values s) (meetings_of n) in
     c.in_ok-add_slot.ensures
     ∙ ap (λ (ms : List (ℕ × ℕ)). c.loop-slot.season ++ flat_map (game_if_true n values c.loop-slot.slot) ms)
-    c.in_ok-meetings.ensures.meetings
+    (c.deref.ensures.value ∙ c.in_ok-meetings.ensures.meetings)
     ∙ ap (λ (gs : List Game). gs ++ in_slot c.loop-slot.slot) c.loop-slot.invariant
     ∙ flat_map-range_more in_slot [] c.loop-slot.slot
 
