@@ -1,0 +1,8 @@
+-- What a reader of a claim must believe:
+--
+-- What each answer says of a league, beside the definitions of `resume_rows`:
+pub mod Answers
+-- Kept inside (laws, and how fields are seen):
+--
+-- What a search found:
+pub mod Found

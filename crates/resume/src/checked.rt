@@ -1,0 +1,76 @@
+//! Logs over resume rows.
+ghost use Rattle.std.specs.Prelude.{◌≡◌, ℕ, ◌<◌, ◌≤◌, length, IfOk, IsOk, Ok, Err};
+ghost use Rattle.std.specs.List.{All};
+ghost use Rattle.league.specs.Counts as counts;
+ghost use Rattle.league.specs.Counts.{counts_of};
+ghost use Rattle.league.specs.Instance.{IsGame};
+ghost use Rattle.encoding_base.specs.Variables.{var_count};
+ghost use Rattle.refutation.specs.Verdict.{verdict_of};
+ghost use Rattle.refutation_check.specs.Judged.{no_step_of};
+ghost use Rattle.resume_rows.specs.Kept as kept;
+ghost use Rattle.resume_rows.specs.Kept.{resume_rows};
+ghost use Rattle.resume_rows.specs.Resumable.{NoneResumes};
+ghost use Rattle.resume_rows.specs.Sizes.{capped};
+ghost use Rattle.resume_rows.specs.Systems.{rows_for};
+
+use encoding::EncodeFault;
+use league::{League, Schedule};
+use refutation::{Log, Verdict};
+use refutation_check::{Checker, check};
+use resume_rows::{ResumeSystem, resume_system};
+use std::alloc::{AllocError, Global};
+
+/// The verdict on a log over the resume rows. Where it is accepted, no schedule that the league accepts keeps the games
+/// played below slot k.
+///
+/// # Errors
+/// `TooLarge` exactly where the resume rows have more than 40,000,000 terms, with their number as far as a number of
+/// 64 bits holds it; else only where memory runs out.
+pub fn check_resume(
+    alloc: Global,
+    league: &League,
+    played: &Schedule,
+    k: u16,
+    log: &Log,
+) -> Result<Verdict, EncodeFault>
+    requires few { length played.now ≤ 10000 }
+    requires fit { All (IsGame league.now.n) played.now }
+    requires slots { k ≤ counts.slot_count league.now.n }
+    ensures verdict { IfOk result (λ verdict. verdict
+        ≡ verdict_of (resume_rows league.now (counts_of played.now) k) (var_count league.now) log.now) }
+    ensures none { result ≡ Ok Verdict.Accepted → NoneResumes league.now (counts_of played.now) k }
+    ensures within { IsOk result → kept.resume_size league.now k ≤ 40000000 }
+    ensures too_large { 40000000 < kept.resume_size league.now k
+        → result ≡ Err (EncodeFault.TooLarge (capped (kept.resume_size league.now k))) }
+    ensures only { (terms : ℕ) → result ≡ Err (EncodeFault.TooLarge terms)
+        → 40000000 < kept.resume_size league.now k }
+{
+    let _n = league.n();
+    let system = resume_system(alloc, league, played, k)?;
+    let verdict = verdict_on(alloc, &system, log)?;
+    Ok(verdict)
+}
+
+/// The verdict on a log over the rows of a system.
+///
+/// # Errors
+/// Only where memory runs out.
+fn verdict_on(alloc: Global, system: &ResumeSystem, log: &Log) -> Result<Verdict, AllocError>
+    ensures { IfOk result (λ verdict. verdict
+        ≡ verdict_of (rows_for system.now)
+        (var_count system.now.league) log.now) }
+{
+    check(alloc, system.rows(), system.vars(), log)
+}
+
+/// A checker over the rows of a system, for a log that comes in pieces.
+///
+/// # Errors
+/// Only where memory runs out.
+pub fn checker_of(alloc: Global, system: &ResumeSystem) -> Result<Checker<'_>, AllocError>
+    ensures { IfOk result (λ checker. checker
+        ≡ no_step_of (rows_for system.now)
+        (var_count system.now.league)) }
+{
+    Checker::new(alloc, system.rows(), system.vars())
+}

@@ -1,0 +1,16 @@
+//! A season of which the first slots are played: a schedule that the league accepts and that keeps the played games, or
+//! a log that no such schedule is there, and its check.
+//!
+//! `specs/Answers.antt` says what each answer promises; `resume_rows` has the rows that a log is over.
+#![tactic(auto)]
+
+mod checked;
+mod plan;
+mod resumed;
+mod resumer;
+mod season;
+
+pub use checked::{check_resume, checker_of};
+pub use resume_rows::{ResumeSystem, resume_size, resume_system};
+pub use resumed::Resumed;
+pub use resumer::resume;
