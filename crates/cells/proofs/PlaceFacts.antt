@@ -12,7 +12,7 @@ use Rattle.cells.specs.declared.place.Place.TheVariants.{Free, Home, Away}
 abbrev two_teams : List Place
 two_teams = Home (record { 0 = 1 }) ∷ Free ∷ Away (record { 0 = 0 }) ∷ Free ∷ []
 
--- Twice team 1 is at home to team 0 in slot 0, for which no place is left: the 41st number of the list, which ends there.
+-- Twice team 1 is at home to team 0 in slot 0, for which no place is left: the 41st number of the list, its last.
 abbrev turned_twice : List ℕ
 turned_twice = replicate 40 0 ++ (2 ∷ [])
 

@@ -42,5 +42,6 @@ returns-clause-at_most c =
       returns-clause-games c,
       both_le c.self.inside.n c.self.inside.games c.self.inside.places.items c.self.inside.spare.items
           c.self.inside.homes c.self.inside.aways c.self.invariant.0 c.args.self.now c.self.view_is c.args.first.0
-          c.args.slot.0 c.slot_count.result c.read_place-place.result c.slot_count.ensures c.read_place-place.ensures c.args.second.0,
+          c.args.slot.0 c.slot_count.result c.read_place-place.result c.slot_count.ensures c.read_place-place.ensures
+          c.args.second.0,
     )
