@@ -102,7 +102,10 @@ impl Opponents {
     {
         let mut games: u32 = 0;
         for guest in 0..cells.n() {
-            games += self.one_game(host, TeamId(guest)) * cells.at(host, TeamId(guest), slot);
+            let played = cells.at(host, TeamId(guest), slot);
+            if played > 0 {
+                games += self.one_game(host, TeamId(guest)) * played;
+            }
         }
         games
     }

@@ -1,14 +1,14 @@
 -- What a place of the table, and what is counted beside it, tell of the counts.
 use Rattle.std.proofs.Common.{◌≡◌, ◌≢◌, ◌⊎◌, ℕ, ◌+◌, ◌<◌, ◌≤◌, Bool, true, false, ◌&&◌, ◌||◌, ◌==◌, nat_lt}
-use Rattle.std.proofs.Common.{if◌then◌else◌, List}
+use Rattle.std.proofs.Common.{List}
 use Rattle.std.proofs.Common.{[], ◌∷◌, length, get_or, refl, arith, ap, ◌∙◌, sym, inl, inr, zero-add}
 use Rattle.std.proofs.lemmas.Bool.{cases_lt}
 use Rattle.std.proofs.lemmas.Bool.Decides.{nat_tests}
 use Rattle.std.proofs.lemmas.List.Sums.{sum_by-le}
-use Rattle.std.specs.List.{All, sum_by}
+use Rattle.std.specs.List.{sum_by}
 use Rattle.std.specs.Ordering.{nat_cmp}
 use Rattle.league.specs.Capacity.{meetings_with}
-use Rattle.league.specs.Counts.{Counts, is_game, slot_count, teams_of}
+use Rattle.league.specs.Counts.{Counts, slot_count, teams_of}
 use Rattle.league.specs.Meetings.{games_of}
 use Rattle.league.specs.Sets.{IsAscending}
 use Rattle.league.specs.Venues.{away_games, home_games}
@@ -19,19 +19,18 @@ use Rattle.league.proofs.SumLemmas.{sum_by-add, sum_by-same}
 use Rattle.cells.proofs.ListedLemmas.{table_of}
 use Rattle.cells.proofs.OpponentLemmas.{at_home-all, is_away-all, once_in, sum_of_none}
 use Rattle.cells.proofs.PlaceLemmas.{not_itself}
-use Rattle.cells.proofs.TableLemmas.{away_games-ge, home_games-ge, kept-counts, kept-le, none_of}
+use Rattle.cells.proofs.TableLemmas.{away_games-ge, home_games-ge, kept-counts, kept-le}
 use Rattle.cells.specs.Opponents.{hosts_any, is_away, is_home, place_at, visits_any}
 use Rattle.cells.specs.Places.{hosts, visits}
-use Rattle.cells.specs.Spare.{IsSpareGame, spare_counts}
+use Rattle.cells.specs.Spare.{spare_counts}
 use Rattle.cells.specs.Table.{Table, table_counts}
 use Rattle.cells.specs.Tables.{AreKept, AreOpponents, kept_counts}
 use Rattle.cells.specs.declared.counters.Counters.{Counters}
 use Rattle.cells.specs.declared.place.Place.{Place}
-use Rattle.cells.specs.declared.spare.Spare.{Spare}
 use Rattle.cells.specs.declared.place.Place.TheVariants.{Free, Home, Away}
 
 -- the counts that contracts see are those that are kept
-pub seen : (n : ℕ) (ps : List Place) (xs : List Spare) (t : Table) → AreOpponents n ps xs
+pub seen : (n : ℕ) (ps : List Place) (xs : List ℕ) (t : Table) → AreOpponents n ps xs
     → table_of n (kept_counts n ps xs) ≡ t → table_counts t ≡ kept_counts n ps xs
 seen n ps xs t table is = sym (ap (λ (u : Table). table_counts u) is) ∙ kept-counts n ps xs table
 
@@ -70,9 +69,9 @@ visits_sum n Free teams = sum_of_none (λ (j : ℕ). 0) (λ j. refl) (teams_of n
 visits_sum n (Home guest) teams = sum_of_none (λ (j : ℕ). 0) (λ j. refl) (teams_of n)
 visits_sum n (Away host) teams = once_of host.0 n (teams host.0 (itself host.0))
 
-module _ (n games : ℕ) (ps : List Place) (xs : List Spare) (h a : Counters) (kept : AreKept n games ps xs h a)
+module _ (n games : ℕ) (ps : List Place) (xs : List ℕ) (h a : Counters) (kept : AreKept n games ps xs h a)
     (i s : ℕ) where
-  -- home games of the place, and of the list
+  -- home games of the place, and spare ones
   home_split : home_games n (kept_counts n ps xs) i s ≡ one_if
       (is_home (place_at (slot_count n) ps i s)) + home_games n (spare_counts xs) i s
   home_split =
@@ -96,14 +95,14 @@ module _ (n games : ℕ) (ps : List Place) (xs : List Spare) (h a : Counters) (k
         visits_sum n (at i) (λ j is. (kept.table.mirrored.teams j i s (kept.table.mirrored.same j i s ∙ is)).0),
       )
 
-  -- a team with as many home games as its place has none in the list
+  -- a team with as many home games as its place has no spare one
   no_spare_home : home_games n (kept_counts n ps xs) i s ≡ one_if (is_home (place_at (slot_count n) ps i s))
       → (j : ℕ) → spare_counts xs i j s ≡ 0
   no_spare_home settled j =
       let none : home_games n (spare_counts xs) i s ≡ 0 = omega (arith, settled, home_split) in
       elim (cases_lt j n) [
         | inl lt ↦ omega (arith, none, home_games-ge n (spare_counts xs) i j s lt)
-        | inr ge ↦ none_of n i j s xs kept.table.fit (inr (inl ge))
+        | inr ge ↦ kept.table.counted.within i j s (inr (inl ge))
       ]
 
   no_spare_away : away_games n (kept_counts n ps xs) i s ≡ one_if (is_away (place_at (slot_count n) ps i s))
@@ -112,7 +111,7 @@ module _ (n games : ℕ) (ps : List Place) (xs : List Spare) (h a : Counters) (k
       let none : away_games n (spare_counts xs) i s ≡ 0 = omega (arith, settled, away_split) in
       elim (cases_lt j n) [
         | inl lt ↦ omega (arith, none, away_games-ge n (spare_counts xs) j i s lt)
-        | inr ge ↦ none_of n j i s xs kept.table.fit (inl ge)
+        | inr ge ↦ kept.table.counted.within j i s (inl ge)
       ]
 
   -- the same, as contracts see the counts
@@ -158,20 +157,20 @@ module _ (n games : ℕ) (ps : List Place) (xs : List Spare) (h a : Counters) (k
       )
 
 -- the venue counts that contracts see
-pub home_seen : (n : ℕ) (ps : List Place) (xs : List Spare) (t : Table) → AreOpponents n ps xs
+pub home_seen : (n : ℕ) (ps : List Place) (xs : List ℕ) (t : Table) → AreOpponents n ps xs
     → table_of n (kept_counts n ps xs) ≡ t → (i s : ℕ)
     → home_games n (kept_counts n ps xs) i s ≡ home_games t.n (table_counts t) i s
 home_seen n ps xs t table is i s = sym (ap (λ (m : Counts). home_games n m i s) (seen n ps xs t table is)) ∙
     ap (λ (k : ℕ). home_games k (table_counts t) i s) (ap (λ (u : Table). u.n) is)
 
-pub away_seen : (n : ℕ) (ps : List Place) (xs : List Spare) (t : Table) → AreOpponents n ps xs
+pub away_seen : (n : ℕ) (ps : List Place) (xs : List ℕ) (t : Table) → AreOpponents n ps xs
     → table_of n (kept_counts n ps xs) ≡ t → (i s : ℕ)
     → away_games n (kept_counts n ps xs) i s ≡ away_games t.n (table_counts t) i s
 away_seen n ps xs t table is i s = sym (ap (λ (m : Counts). away_games n m i s) (seen n ps xs t table is)) ∙
     ap (λ (k : ℕ). away_games k (table_counts t) i s) (ap (λ (u : Table). u.n) is)
 
--- a count, by the place that was read and what stands in the list
-module _ (n games : ℕ) (ps : List Place) (xs : List Spare) (h a : Counters) (kept : AreKept n games ps xs h a)
+-- a count, by the place that was read and the spare games
+module _ (n games : ℕ) (ps : List Place) (xs : List ℕ) (h a : Counters) (kept : AreKept n games ps xs h a)
     (t : Table) (is : table_of n (kept_counts n ps xs) ≡ t) (i s w : ℕ) (p : Place) (wide : w ≡ slot_count n)
     (read : p ≡ place_at w ps i s) where
   place_is : p ≡ place_at (slot_count n) ps i s
@@ -191,6 +190,38 @@ module _ (n games : ℕ) (ps : List Place) (xs : List Spare) (h a : Counters) (k
   pub count_le : (j : ℕ) → table_counts t i j s ≤ 10000
   count_le j = omega
       (arith, ap (λ (m : Counts). m i j s) (seen n ps xs t kept.table is), kept-le n games ps xs h a kept i j s)
+
+  pub away_count : (j : ℕ) → table_counts t j i s ≡ one_if (visits p j) + spare_counts xs j i s
+  away_count j =
+      omega (
+        arith,
+        ap (λ (m : Counts). m j i s) (seen n ps xs t kept.table is),
+        ap one_if (kept.table.mirrored.same j i s),
+        ap (λ (q : Place). one_if (visits q j)) place_is,
+      )
+
+  -- the games with another team, at home and away
+  pub count_both : (j placed at_home away : ℕ) → placed ≡ one_if (hosts p j) + one_if (visits p j)
+      → at_home ≡ spare_counts xs i j s → away ≡ spare_counts xs j i s
+      → placed + at_home + away ≡ table_counts t i j s + table_counts t j i s
+  count_both j placed at_home away met listed turned =
+      omega (
+        arith,
+        met,
+        listed,
+        turned,
+        count_all j (one_if (hosts p j)) (spare_counts xs i j s) refl refl,
+        away_count j,
+      )
+
+  pub both_le : (j : ℕ) → table_counts t i j s + table_counts t j i s ≤ 20000
+  both_le j =
+      omega (
+        arith,
+        count_le j,
+        ap (λ (m : Counts). m j i s) (seen n ps xs t kept.table is),
+        kept-le n games ps xs h a kept j i s,
+      )
 
   -- a team whose place tells all its home games
   pub no_more_home : (homes placed : ℕ) → homes ≡ home_games t.n (table_counts t) i s → placed ≡ one_if (is_home p)
@@ -223,14 +254,7 @@ module _ (n games : ℕ) (ps : List Place) (xs : List Spare) (h a : Counters) (k
   home_told none j = sym (count_all j (one_if (hosts p j)) 0 refl (sym (none j))) ∙ omega arith
 
   pub away_told : ((j : ℕ) → spare_counts xs j i s ≡ 0) → (j : ℕ) → table_counts t j i s ≡ one_if (visits p j)
-  away_told none j =
-      omega (
-        arith,
-        ap (λ (m : Counts). m j i s) (seen n ps xs t kept.table is),
-        none j,
-        ap one_if (kept.table.mirrored.same j i s),
-        ap (λ (q : Place). one_if (visits q j)) place_is,
-      )
+  away_told none j = omega (arith, away_count j, none j)
 
   pub teams_told : (j : ℕ) → (hosts p j || visits p j) ≡ true → j < t.n
   teams_told j passes =
@@ -252,27 +276,12 @@ module _ (n games : ℕ) (ps : List Place) (xs : List Spare) (h a : Counters) (k
       ]
 
 -- no game is one of a team with itself
-no_own_games : (n i s : ℕ) (xs : List Spare) → All (IsSpareGame n) xs → spare_counts xs i i s ≡ 0
-no_own_games n i s xs fit =
-    omega (
-      arith,
-      sum_by-le (λ x. if is_game i i s x.game then x.copies else 0) 0 xs
-          (λ k d lt. other (get_or xs k d) (fit k d lt)),
-    )
-  where
-    differing : (a b c d e f count : ℕ) → a ≢ c → (if (a == b) && (c == b) && (e == f) then count else 0) ≤ 0
-    differing a b c d e f count differ = grind (arith, nat_tests)
-
-    other : (x : Spare) → IsSpareGame n x → (if is_game i i s x.game then x.copies else 0) ≤ 0
-    other x spare = differing x.game.home.0 i x.game.away.0 i x.game.slot.0 s x.copies spare.fits.differ
-
-kept_not_itself : (n : ℕ) (ps : List Place) (xs : List Spare) → AreOpponents n ps xs → (i s : ℕ)
+kept_not_itself : (n : ℕ) (ps : List Place) (xs : List ℕ) → AreOpponents n ps xs → (i s : ℕ)
     → kept_counts n ps xs i i s ≡ 0
 kept_not_itself n ps xs table i s = omega (
   arith,
   ap one_if (not_itself n (place_at (slot_count n) ps) table.mirrored i s),
-  no_own_games n i s xs
-      table.fit,
+  table.counted.differ i s,
 )
 
 -- a place has a game against one of some others, or none
@@ -288,8 +297,8 @@ visits_any_sum Free others ascending = sum_of_none (λ (j : ℕ). 0) (λ j. refl
 visits_any_sum (Home guest) others ascending = sum_of_none (λ (j : ℕ). 0) (λ j. refl) others
 visits_any_sum (Away host) others ascending = once_in host.0 others ascending
 
--- the games of a team against some others, by its place and the list
-module _ (n games : ℕ) (ps : List Place) (xs : List Spare) (h a : Counters) (kept : AreKept n games ps xs h a)
+-- the games of a team against some others, by its place and the spare games
+module _ (n games : ℕ) (ps : List Place) (xs : List ℕ) (h a : Counters) (kept : AreKept n games ps xs h a)
     (t : Table) (is : table_of n (kept_counts n ps xs) ≡ t) (i s : ℕ) (others : List ℕ)
     (ascending : IsAscending nat_cmp others) where
   pub at_home-kept : games_of (table_counts t) (meetings_with H i others) (s ∷ []) ≡ one_if
@@ -333,7 +342,7 @@ module _ (n games : ℕ) (ps : List Place) (xs : List Spare) (h a : Counters) (k
             (λ k d lt. kept-le n games ps xs h a kept (get_or others k d) i s),
       )
 
-  -- by the place that was read, and what stands in the list
+  -- by the place that was read, and the spare games
   module _ (w : ℕ) (p : Place) (wide : w ≡ slot_count n) (read : p ≡ place_at w ps i s) where
     pub at_home_all : (placed copies : ℕ) → placed ≡ one_if (hosts_any others p)
         → copies ≡ sum_by (λ j. spare_counts xs i j s) others

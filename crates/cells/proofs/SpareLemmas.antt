@@ -1,32 +1,18 @@
--- Games in order, each with its copies: how often one is among them, and the list with a game more or less.
-use Rattle.std.proofs.Common.{◌≡◌, ◌≢◌, ℕ, ◌+◌, ◌*◌, ◌<◌, ◌≤◌, zero, suc, Bool, true, false, ◌&&◌, ◌==◌}
-use Rattle.std.proofs.Common.{if◌then◌else◌, List, [], ◌∷◌, length, get_or, set, take, refl, arith, ap, sym, ◌∙◌}
-use Rattle.std.proofs.Common.{inl, inr}
+-- Counts of games by slot, then home team, then away team, with a game more or less.
+use Rattle.std.proofs.Common.{◌≡◌, ◌⊎◌, ℕ, ◌+◌, ◌*◌, ◌-◌, ◌<◌, ◌≤◌, Bool, true, false, ◌&&◌, ◌==◌, nat_lt}
+use Rattle.std.proofs.Common.{if◌then◌else◌, List, [], ◌∷◌, ◌++◌, zero, suc}
+use Rattle.std.proofs.Common.{length, get_or, set, refl, arith, ap, sym, ◌∙◌, inl, inr}
 use Rattle.std.proofs.lemmas.Bool.{cases_eq, cases_lt}
 use Rattle.std.proofs.lemmas.Bool.Decides.{nat_tests}
-use Rattle.std.proofs.lemmas.List.{get_or-set_other, get_or-set_same, get_or_default, length-set}
-use Rattle.std.proofs.lemmas.List.Edits.{get_or-remove_above, get_or-remove_below, length-remove}
-use Rattle.std.proofs.lemmas.List.Sorted.{All-permutation, IsPermutation-insert, IsPermutation-remove}
-use Rattle.std.proofs.lemmas.List.Sums.{sum_by-cons, sum_by-insert, sum_by-le, sum_by-remove, sum_by-set}
-use Rattle.std.proofs.lemmas.List.Sums.{get_or-le-sum_by}
+use Rattle.std.proofs.lemmas.List.{get_or-set_other, get_or-set_same, get_or_default, get_or_past}
 use Rattle.std.proofs.lemmas.Nat.{same_from_place}
-use Rattle.std.specs.List.{All, insert, remove, sum_by}
-use Rattle.std.specs.List.Sorted.{IsNonDecreasingBy}
-use Rattle.league.specs.Counts.{is_game, one_more}
+use Rattle.league.specs.Counts.{is_game, one_more, slot_count}
+use Rattle.league.specs.Instance.{IsGame}
 use Rattle.league.specs.declared.game.Game.{Game}
 use Rattle.league.proofs.RangeLemmas.{one_if}
-use Rattle.cells.specs.Spare.{IsSpare, order_of, spare_counts}
-use Rattle.cells.specs.declared.spare.Spare.{Spare}
+use Rattle.cells.specs.Spare.{AreSpare, spare_counts, spare_place}
 
--- all elements from the second on
-later : {X : Type 0} (P : X → Type 0) (x : X) (xs : List X) → All P (x ∷ xs) → All P xs
-later P x xs all k d lt = all (suc k) d (omega arith)
-
--- the copies of an element, where it is a given game
-abbrev pub copies_of : Game → Spare → ℕ
-copies_of g x = if is_game g.home.0 g.away.0 g.slot.0 x.game then x.copies else 0
-
--- games of at most 40 teams are one where their numbers are
+-- games of at most 40 teams are one where their places are
 same_parts : (a b c d e f : ℕ) → b < 40 → c < 40 → e < 40 → f < 40 → (a * 40 + b) * 40 + c ≡ (d * 40 + e) * 40 + f
     → (a ≡ d) × (b ≡ e) × (c ≡ f)
 same_parts a b c d e f b_in c_in e_in f_in same =
@@ -36,9 +22,6 @@ same_parts a b c d e f b_in c_in e_in f_in same =
 
 parts_pass : (a b c d e f : ℕ) → a ≡ d → b ≡ e → c ≡ f → ((b == e) && (c == f) && (a == d)) ≡ true
 parts_pass a b c d e f first second third = grind (arith, nat_tests)
-
-number_passes : (x y : ℕ) → x ≡ y → (x == y) ≡ true
-number_passes x y same = grind (arith, nat_tests)
 
 parts_from : (a b c d e f : ℕ) → ((b == e) && (c == f) && (a == d)) ≡ true → (a ≡ d) × (b ≡ e) × (c ≡ f)
 parts_from a b c d e f h = (first, second, third) where
@@ -59,293 +42,247 @@ if_passes : (b : Bool) (k : ℕ) → b ≡ true → (if b then k else 0) ≡ k
 if_passes true k h = refl
 if_passes false k h = absurd (cc)
 
--- an element with another number isn't the game
-copies_of-other : (x : Spare) (g : Game) → order_of x.game ≢ order_of g → copies_of g x ≡ 0
-copies_of-other x g differ =
-    if_fails (is_game g.home.0 g.away.0 g.slot.0 x.game) x.copies
-    (λ passes.
-    let parts = parts_from x.game.slot.0 x.game.home.0 x.game.away.0 g.slot.0 g.home.0 g.away.0 passes in
-    differ
-    (ap (λ (s : ℕ). (s * 40 + x.game.home.0) * 40 + x.game.away.0) parts.0
-    ∙ ap (λ (i : ℕ). (g.slot.0 * 40 + i) * 40 + x.game.away.0) parts.1
-    ∙ ap (λ (j : ℕ). (g.slot.0 * 40 + g.home.0) * 40 + j) parts.2))
-
--- one with its number is
-pub is_that_game : (x : Spare) (g : Game) → (x.game.home.0 < 40) × (x.game.away.0 < 40) → g.home.0 < 40
-    → g.away.0 < 40 → order_of x.game ≡ order_of g → is_game g.home.0 g.away.0 g.slot.0 x.game ≡ true
-is_that_game x g small home away same =
-    let parts = same_parts x.game.slot.0 x.game.home.0 x.game.away.0 g.slot.0 g.home.0 g.away.0 small.0 small.1 home
-    away same in
-    parts_pass x.game.slot.0 x.game.home.0 x.game.away.0 g.slot.0 g.home.0 g.away.0 parts.0 parts.1 parts.2
-
-pub copies_of-same : (x : Spare) (g : Game) → (x.game.home.0 < 40) × (x.game.away.0 < 40) → g.home.0 < 40
-    → g.away.0 < 40 → order_of x.game ≡ order_of g → copies_of g x ≡ x.copies
-copies_of-same x g small home away same =
-    if_passes (is_game g.home.0 g.away.0 g.slot.0 x.game) x.copies (is_that_game x g small home away same)
-
--- a sum of which the first so many terms are 0, and one of which all from there on are
-pub sum_take_none : {X : Type 0} (f : X → ℕ) (xs : List X) (k : ℕ) → k ≤ length xs
-    → ((i : ℕ) (d : X) → i < k → f (get_or xs i d) ≡ 0) → sum_by f (take k xs) ≡ 0
-sum_take_none f xs zero few none = refl
-sum_take_none f [] (suc k) few none = absurd (omega arith)
-sum_take_none f (x ∷ xs) (suc k) few none =
-    omega (
-      arith,
-      sum_by-cons f x (take k xs),
-      none 0 x (omega arith),
-      sum_take_none f xs k (omega arith) (λ i d lt. none (suc i) d (omega arith)),
-    )
-
-pub sum_from_none : {X : Type 0} (f : X → ℕ) (xs : List X) (k : ℕ)
-    → ((i : ℕ) (d : X) → k ≤ i → i < length xs → f (get_or xs i d) ≡ 0) → sum_by f (take k xs) ≡ sum_by f xs
-sum_from_none f xs zero none =
-    sym (omega (arith, sum_by-le f 0 xs (λ i d lt. omega (arith, none i d (omega arith) lt))))
-sum_from_none f [] (suc k) none = refl
-sum_from_none f (x ∷ xs) (suc k) none =
-    omega (
-      arith,
-      sum_by-cons f x (take k xs),
-      sum_by-cons f x xs,
-      sum_from_none f xs k (λ i d le lt. none (suc i) d (omega arith) (omega arith)),
-    )
-
--- the copies of a game before the first place that isn't below it, and before the first that is above it
-module _ (xs : List Spare) (g : Game) (order : ℕ) (is : order ≡ order_of g) where
-  pub none_before : (first : ℕ) → first ≤ length xs
-      → ((k : ℕ) (d : Spare) → k < first → order_of (get_or xs k d).game < order)
-      → sum_by (copies_of g) (take first xs) ≡ 0
-  none_before first few before =
-      sum_take_none (copies_of g) xs first few
-      (λ i d lt. copies_of-other (get_or xs i d) g (λ same. absurd (omega (arith, before i d lt, same, is))))
-
-  pub none_after : (end : ℕ)
-      → ((k : ℕ) (d : Spare) → end ≤ k → k < length xs → order + 1 ≤ order_of (get_or xs k d).game)
-      → sum_by (copies_of g) (take end xs) ≡ spare_counts xs g.home.0 g.away.0 g.slot.0
-  none_after end after =
-      sum_from_none (copies_of g) xs end
-      (λ i d le lt. copies_of-other (get_or xs i d) g (λ same. absurd (omega (arith, after i d le lt, same, is))))
-
-  -- the first of them isn't beyond the second
-  pub first_le_end : (first end : ℕ) → first ≤ length xs
-      → ((k : ℕ) (d : Spare) → k < first → order_of (get_or xs k d).game < order)
-      → ((k : ℕ) (d : Spare) → end ≤ k → k < length xs → order + 1 ≤ order_of (get_or xs k d).game)
-      → first ≤ end
-  first_le_end first end few before after =
-      elim (cases_lt end first) [
-        | inr ge ↦ ge
-        | inl lt ↦
-            let d : Spare = record { game = g; copies = 0 } in
-            absurd (omega (arith, before end d lt, after end d (omega arith) (omega arith)))
-      ]
-
-  -- between them stands the game
-  pub here : (first end : ℕ) → IsSpare xs → g.home.0 < 40 → g.away.0 < 40
-      → ((k : ℕ) (d : Spare) → first ≤ k → k < length xs → order ≤ order_of (get_or xs k d).game)
-      → ((k : ℕ) (d : Spare) → k < end → order_of (get_or xs k d).game < order + 1)
-      → (k : ℕ) (d : Spare) → first ≤ k → k < end → k < length xs
-      → copies_of g (get_or xs k d) ≡ (get_or xs k d).copies
-  here first end spare home away after before k d le lt within =
-      copies_of-same (get_or xs k d) g (spare.small k d within) home away
-      (omega (arith, after k d le within, before k d lt, is))
-
-  -- a game that stands in the list stands at the first place that isn't below it
-  pub first_at : (place : ℕ) → IsSpare xs → g.home.0 < 40 → g.away.0 < 40
-      → ((k : ℕ) (d : Spare) → k < place → order_of (get_or xs k d).game < order)
-      → ((k : ℕ) (d : Spare) → place ≤ k → k < length xs → order ≤ order_of (get_or xs k d).game)
-      → 0 < spare_counts xs g.home.0 g.away.0 g.slot.0 → (place < length xs)
-      × ((d : Spare) → order_of (get_or xs place d).game ≡ order_of g)
-  first_at place spare home away before after there =
-      elim (cases_lt place (length xs)) [
-        | inr ge ↦ absurd (nowhere (λ k d within same. absurd (omega (arith, before k d (omega arith), same, is))))
-        | inl lt ↦ (
-          lt,
-          λ d. elim (cases_eq (order_of (get_or xs place d).game) (order_of g)) [
-            | inl same ↦ same
-            | inr differ ↦
-                absurd (nowhere (λ k e within same. elim (cases_lt k place) [
-                  | inl earlier ↦ absurd (omega (arith, before k e earlier, same, is))
-                  | inr from ↦
-                      absurd (omega (
-                        arith,
-                        after place d (omega arith) lt,
-                        differ,
-                        ap (λ (x : Spare). order_of x.game) (get_or_default xs place d e lt),
-                        spare.ordered place k e from within,
-                        same,
-                        is,
-                      ))
-                ]))
-          ],
-        )
-      ]
-    where
-      nowhere : ((k : ℕ) (d : Spare) → k < length xs → order_of (get_or xs k d).game ≢ order_of g) → ⊥
-      nowhere differ =
-          omega (
-            arith,
-            there,
-            sum_by-le (copies_of g) 0 xs
-                (λ k d lt. omega (arith, copies_of-other (get_or xs k d) g (differ k d lt))),
-          )
-
--- the copies of an element are at most as many as its game is counted
-pub copies-le : (xs : List Spare) (g : Game) (place : ℕ) (d : Spare) → IsSpare xs → g.home.0 < 40 → g.away.0 < 40
-    → place < length xs → order_of (get_or xs place d).game ≡ order_of g
-    → (get_or xs place d).copies ≤ spare_counts xs g.home.0 g.away.0 g.slot.0
-copies-le xs g place d spare home away inside same =
-    omega (
-      arith,
-      copies_of-same (get_or xs place d) g (spare.small place d inside) home away same,
-      get_or-le-sum_by (copies_of g) xs place d inside,
-    )
-
--- two readings of one place
-pub same_element : (xs : List Spare) (place : ℕ) (x y : Spare) → place < length xs → x ≡ get_or xs place x
-    → y ≡ get_or xs place y → x ≡ y
-same_element xs place x y inside is also = is ∙ get_or_default xs place x y inside ∙ sym also
-
--- the tests of one game are those of another that is the same
-same_game : (x g : Game) (i j s : ℕ) → is_game g.home.0 g.away.0 g.slot.0 x ≡ true
-    → is_game i j s x ≡ is_game i j s g
-same_game x g i j s is =
-    let parts = parts_from x.slot.0 x.home.0 x.away.0 g.slot.0 g.home.0 g.away.0 is in
-    ap (λ (k : ℕ). (k == i) && (x.away.0 == j) && (x.slot.0 == s)) parts.1
-    ∙ ap (λ (k : ℕ). (g.home.0 == i) && (k == j) && (x.slot.0 == s)) parts.2
-    ∙ ap (λ (k : ℕ). (g.home.0 == i) && (g.away.0 == j) && (k == s)) parts.0
-
 if_one_more : (b : Bool) (count : ℕ) → (if b then count + 1 else 0) ≡ (if b then count else 0) + one_if b
 if_one_more true count = refl
 if_one_more false count = refl
 
-if_one : (b : Bool) (count : ℕ) → count ≡ 1 → (if b then count else 0) ≡ one_if b
-if_one true count one = one
-if_one false count one = refl
+-- a game with another slot, home team or away team is another
+another : (g : Game) (i j s k : ℕ) → ((g.slot.0 ≡ s) × (g.home.0 ≡ i) × (g.away.0 ≡ j) → ⊥)
+    → (if is_game i j s g then k else 0) ≡ 0
+another g i j s k differ = if_fails (is_game i j s g) k
+    (λ passes. differ (parts_from g.slot.0 g.home.0 g.away.0 s i j passes))
 
--- an element with a copy more is a copy more of its game
-copy_more : (x y : Spare) (g : Game) (i j s : ℕ) → y.game ≡ x.game → y.copies ≡ x.copies + 1
-    → is_game g.home.0 g.away.0 g.slot.0 x.game ≡ true
-    → (if is_game i j s y.game then y.copies else 0)
-    ≡ (if is_game i j s x.game then x.copies else 0) + one_if (is_game i j s g)
-copy_more x y g i j s same more is =
-    ap (λ (h : Game). if is_game i j s h then y.copies else 0) same
-    ∙ ap (λ (k : ℕ). if is_game i j s x.game then k else 0) more
-    ∙ if_one_more (is_game i j s x.game) x.copies
-    ∙ ap (λ (b : Bool). (if is_game i j s x.game then x.copies else 0) + one_if b) (same_game x.game g i j s is)
+-- a count is read where it stands, and there is none of another team
+counts_at : (xs : List ℕ) (i j s : ℕ) → i < 40 → j < 40 → spare_counts xs i j s ≡ get_or xs (spare_place i j s) 0
+counts_at xs i j s home away = grind (arith, nat_tests)
 
--- the list with a copy more at a place
-pub counts-copy_more : (xs : List Spare) (place : ℕ) (y d : Spare) (g : Game) (i j s : ℕ) → place < length xs
-    → y.game ≡ (get_or xs place d).game → y.copies ≡ (get_or xs place d).copies + 1
-    → is_game g.home.0 g.away.0 g.slot.0 (get_or xs place d).game ≡ true
-    → spare_counts (set xs place y) i j s ≡ one_more (spare_counts xs) g i j s
-counts-copy_more xs place y d g i j s inside same more is =
-    omega (
-      arith,
-      sum_by-set (λ x. if is_game i j s x.game then x.copies else 0) xs place y d inside,
-      copy_more (get_or xs place d) y g i j s same more is,
-    )
+no_home : (xs : List ℕ) (i j s : ℕ) → 40 ≤ i → spare_counts xs i j s ≡ 0
+no_home xs i j s past = grind (arith, nat_tests)
 
--- and with a copy less
-pub counts-copy_less : (xs : List Spare) (place : ℕ) (y d : Spare) (g : Game) (i j s : ℕ) → place < length xs
-    → y.game ≡ (get_or xs place d).game → y.copies + 1 ≡ (get_or xs place d).copies
-    → is_game g.home.0 g.away.0 g.slot.0 (get_or xs place d).game ≡ true
-    → spare_counts xs i j s ≡ one_more (spare_counts (set xs place y)) g i j s
-counts-copy_less xs place y d g i j s inside same less is =
-    omega (
-      arith,
-      sum_by-set (λ x. if is_game i j s x.game then x.copies else 0) xs place y d inside,
-      copy_more y (get_or xs place d) g i j s (sym same) (sym less)
-          (ap (λ (h : Game). is_game g.home.0 g.away.0 g.slot.0 h) same ∙ is),
-    )
+no_away : (xs : List ℕ) (i j s : ℕ) → 40 ≤ j → spare_counts xs i j s ≡ 0
+no_away xs i j s past = grind (arith, nat_tests)
 
--- the list with a game that wasn't in it
-pub counts-insert : (xs : List Spare) (place : ℕ) (y : Spare) (i j s : ℕ) → y.copies ≡ 1
-    → spare_counts (insert xs place y) i j s ≡ one_more (spare_counts xs) y.game i j s
-counts-insert xs place y i j s one =
-    omega (
-      arith,
-      sum_by-insert (λ x. if is_game i j s x.game then x.copies else 0) xs place y,
-      if_one (is_game i j s y.game) y.copies one,
-    )
+-- lists with the same numbers count the same
+pub same_numbers : (xs ys : List ℕ) → ((k : ℕ) → get_or ys k 0 ≡ get_or xs k 0) → (i j s : ℕ)
+    → spare_counts ys i j s ≡ spare_counts xs i j s
+same_numbers xs ys same i j s =
+    ap (λ (x : ℕ). if nat_lt i 40 && nat_lt j 40 then x else 0) (same (spare_place i j s))
 
--- and without one of which there was one copy
-pub counts-remove : (xs : List Spare) (place : ℕ) (d : Spare) (g : Game) (i j s : ℕ) → place < length xs
-    → (get_or xs place d).copies ≡ 1 → is_game g.home.0 g.away.0 g.slot.0 (get_or xs place d).game ≡ true
-    → spare_counts xs i j s ≡ one_more (spare_counts (remove xs place)) g i j s
-counts-remove xs place d g i j s inside one is =
-    omega (
-      arith,
-      sum_by-remove (λ x. if is_game i j s x.game then x.copies else 0) xs place d inside,
-      if_one (is_game i j s (get_or xs place d).game) (get_or xs place d).copies one,
-      ap one_if (same_game (get_or xs place d).game g i j s is),
-    )
+pub zero_more : (xs : List ℕ) (k : ℕ) → get_or (xs ++ (0 ∷ [])) k 0 ≡ get_or xs k 0
+zero_more [] zero = refl
+zero_more [] (suc k) = refl
+zero_more (x ∷ xs) zero = refl
+zero_more (x ∷ xs) (suc k) = zero_more xs k
 
--- all elements of a list with one more, with one that was written, and with one less
-pub All-insert : {X : Type 0} (P : X → Type 0) (xs : List X) (place : ℕ) (y : X) → P y → All P xs
-    → All P (insert xs place y)
-All-insert P xs place y first all =
-    All-permutation P (y ∷ xs) (insert xs place y) (IsPermutation-insert xs place y) (with_first P y xs first all)
-  where
-    with_first : {X : Type 0} (P : X → Type 0) (y : X) (xs : List X) → P y → All P xs → All P (y ∷ xs)
-    with_first P y xs first all zero d lt = first
-    with_first P y xs first all (suc k) d lt = all k d (omega arith)
+-- the counts of a game of at most 40 teams
+module _ (xs : List ℕ) (g : Game) (home : g.home.0 < 40) (away : g.away.0 < 40) where
+  -- as it is read, and past the end
+  pub read_inside : (place read : ℕ) → place ≡ spare_place g.home.0 g.away.0 g.slot.0 → place < length xs
+      → read ≡ get_or xs place read → read ≡ spare_counts xs g.home.0 g.away.0 g.slot.0
+  read_inside place read is inside was =
+      was
+      ∙ get_or_default xs place read 0 inside
+      ∙ ap (λ (k : ℕ). get_or xs k 0) is
+      ∙ sym (counts_at xs g.home.0 g.away.0 g.slot.0 home away)
 
-pub All-set : {X : Type 0} (P : X → Type 0) (xs : List X) (place : ℕ) (y : X) → place < length xs → P y → All P xs
-    → All P (set xs place y)
-All-set P xs place y inside new all k d lt =
-    elim (cases_eq k place) [
-      | inl same ↦ rw same (rw (get_or-set_same xs place y d inside) new)
-      | inr differ ↦ rw (get_or-set_other xs place k y d differ) (all k d (omega (arith, length-set xs place y)))
-    ]
+  pub read_past : (place : ℕ) → place ≡ spare_place g.home.0 g.away.0 g.slot.0 → length xs ≤ place
+      → 0 ≡ spare_counts xs g.home.0 g.away.0 g.slot.0
+  read_past place is past =
+      sym
+      (counts_at xs g.home.0 g.away.0 g.slot.0 home away
+      ∙ ap (λ (k : ℕ). get_or xs k 0) (sym is)
+      ∙ get_or_past xs place 0 past)
 
-pub All-remove : {X : Type 0} (P : X → Type 0) (xs : List X) (place : ℕ) (d : X) → place < length xs → All P xs
-    → All P (remove xs place)
-All-remove P xs place d inside all =
-    let x = get_or xs place d in
-    later P x (remove xs place)
-    (All-permutation P xs (x ∷ remove xs place)
-    (IsPermutation-remove xs place x inside (get_or_default xs place d x inside)) all)
+  -- one that is counted stands inside
+  pub there_inside : 0 < spare_counts xs g.home.0 g.away.0 g.slot.0
+      → spare_place g.home.0 g.away.0 g.slot.0 < length xs
+  there_inside there =
+      let place : ℕ = spare_place g.home.0 g.away.0 g.slot.0 in
+      elim (cases_lt place (length xs)) [
+        | inl inside ↦ inside
+        | inr past ↦ absurd (omega (arith, there, read_past place refl past))
+      ]
 
--- a list in order where an element was written that ranks as the one before it
-pub IsNonDecreasingBy-set : {X : Type 0} (f : X → ℕ) (xs : List X) (place : ℕ) (y : X) → place < length xs
-    → ((d : X) → f y ≡ f (get_or xs place d)) → IsNonDecreasingBy f xs → IsNonDecreasingBy f (set xs place y)
-IsNonDecreasingBy-set f xs place y inside same ordered i j d le lt =
-    omega (arith, ranks i, ranks j, ordered i j d le (omega (arith, length-set xs place y)))
-  where
-    ranks : (k : ℕ) → f (get_or (set xs place y) k d) ≡ f (get_or xs k d)
-    ranks k = elim (cases_eq k place) [
-      | inl at ↦
-          ap (λ (q : ℕ). f (get_or (set xs place y) q d)) at
-          ∙ ap f (get_or-set_same xs place y d inside)
-          ∙ same d
-          ∙ ap (λ (q : ℕ). f (get_or xs q d)) (sym at)
-      | inr differ ↦ ap f (get_or-set_other xs place k y d differ)
-    ]
-
--- a list in order without one of its elements
-pub IsNonDecreasingBy-remove : {X : Type 0} (f : X → ℕ) (xs : List X) (place : ℕ) → place < length xs
-    → IsNonDecreasingBy f xs → IsNonDecreasingBy f (remove xs place)
-IsNonDecreasingBy-remove f xs place inside ordered i j d le lt =
-    let long : length (remove xs place) + 1 ≡ length xs = length-remove xs place inside in
-    elim (cases_lt i place) [
-      | inl first ↦
-          let at_i : f (get_or (remove xs place) i d) ≡ f (get_or xs i d) = ap f
-          (get_or-remove_below xs place d i first inside) in
-          elim (cases_lt j place) [
-            | inl second ↦ omega
-                (arith, at_i, ap f (get_or-remove_below xs place d j second inside), ordered i j d le (omega arith))
-            | inr second ↦ omega (
+  -- the counts where a number is written at its place
+  counts-set : (value i j s : ℕ) → spare_place g.home.0 g.away.0 g.slot.0 < length xs
+      → spare_counts (set xs (spare_place g.home.0 g.away.0 g.slot.0) value) i j s
+      + (if is_game i j s g then get_or xs (spare_place g.home.0 g.away.0 g.slot.0) 0 else 0)
+      ≡ spare_counts xs i j s + (if is_game i j s g then value else 0)
+  counts-set value i j s inside =
+      let place : ℕ = spare_place g.home.0 g.away.0 g.slot.0 in
+      let old : ℕ = get_or xs place 0 in
+      elim (cases_lt i 40) [
+        | inr past ↦
+            omega (
               arith,
-              at_i,
-              ap f (get_or-remove_above xs place d j second inside),
-              ordered i (j + 1) d
-                  (omega arith) (omega arith),
+              no_home (set xs place value) i j s past,
+              no_home xs i j s past,
+              another g i j s old (λ parts. absurd (omega (arith, parts.1, home, past))),
+              another g i j s value (λ parts. absurd (omega (arith, parts.1, home, past))),
             )
-          ]
-      | inr first ↦
-          omega (
-            arith,
-            ap f (get_or-remove_above xs place d i first inside),
-            ap f (get_or-remove_above xs place d j (omega arith) inside),
-            ordered (i + 1) (j + 1) d (omega arith) (omega arith),
-          )
-    ]
+        | inl i_in ↦
+            elim (cases_lt j 40) [
+              | inr past ↦
+                  omega (
+                    arith,
+                    no_away (set xs place value) i j s past,
+                    no_away xs i j s past,
+                    another g i j s old (λ parts. absurd (omega (arith, parts.2, away, past))),
+                    another g i j s value (λ parts. absurd (omega (arith, parts.2, away, past))),
+                  )
+              | inl j_in ↦
+                  elim (cases_eq (spare_place i j s) place) [
+                    | inl same ↦
+                        let parts =
+                        same_parts s i j g.slot.0 g.home.0 g.away.0 i_in j_in home away same in
+                        let passes = parts_pass g.slot.0 g.home.0 g.away.0 s i j (sym parts.0) (sym parts.1)
+                        (sym parts.2) in
+                        omega (
+                          arith,
+                          counts_at (set xs place value) i j s i_in j_in,
+                          counts_at xs i j s i_in j_in,
+                          ap (λ (k : ℕ). get_or (set xs place value) k 0) same,
+                          ap (λ (k : ℕ). get_or xs k 0) same,
+                          get_or-set_same xs place value 0 inside,
+                          if_passes (is_game i j s g) old passes,
+                          if_passes (is_game i j s g) value passes,
+                        )
+                    | inr differ ↦
+                        omega (
+                          arith,
+                          counts_at (set xs place value) i j s i_in j_in,
+                          counts_at xs i j s i_in j_in,
+                          get_or-set_other xs place (spare_place i j s) value 0 differ,
+                          another g i j s old (λ parts. differ (omega (arith, parts.0, parts.1, parts.2))),
+                          another g i j s value (λ parts. differ (omega (arith, parts.0, parts.1, parts.2))),
+                        )
+                  ]
+            ]
+      ]
+
+  -- with the game once more, and once less
+  pub counts-more : (value i j s : ℕ) → spare_place g.home.0 g.away.0 g.slot.0 < length xs
+      → value ≡ get_or xs (spare_place g.home.0 g.away.0 g.slot.0) 0 + 1
+      → spare_counts (set xs (spare_place g.home.0 g.away.0 g.slot.0) value) i j s
+      ≡ one_more (spare_counts xs) g i j s
+  counts-more value i j s inside more =
+      omega (
+        arith,
+        counts-set value i j s inside,
+        ap (λ (k : ℕ). if is_game i j s g then k else 0) more,
+        if_one_more (is_game i j s g) (get_or xs (spare_place g.home.0 g.away.0 g.slot.0) 0),
+      )
+
+  pub counts-less : (value i j s : ℕ) → spare_place g.home.0 g.away.0 g.slot.0 < length xs
+      → value + 1 ≡ get_or xs (spare_place g.home.0 g.away.0 g.slot.0) 0
+      → spare_counts xs i j s
+      ≡ one_more (spare_counts (set xs (spare_place g.home.0 g.away.0 g.slot.0) value)) g i j s
+  counts-less value i j s inside less =
+      omega (
+        arith,
+        counts-set value i j s inside,
+        ap (λ (k : ℕ). if is_game i j s g then k else 0) less,
+        if_one_more (is_game i j s g) value,
+      )
+
+-- a number that was read at a place
+pub read_at : (xs : List ℕ) (place read : ℕ) → read ≡ get_or xs place read → place < length xs
+    → read ≡ get_or xs place 0
+read_at xs place read was inside = was ∙ get_or_default xs place read 0 inside
+
+-- a list with the same numbers, in which one more is written at a game's place, and one in which one less is
+pub more_written : (xs ys zs : List ℕ) (g : Game) (place read : ℕ) → g.home.0 < 40 → g.away.0 < 40
+    → ((k : ℕ) → get_or ys k 0 ≡ get_or xs k 0) → place ≡ spare_place g.home.0 g.away.0 g.slot.0
+    → place < length ys → read ≡ get_or ys place read → zs ≡ set ys place (read + 1) → (i j s : ℕ)
+    → spare_counts zs i j s ≡ one_more (spare_counts xs) g i j s
+more_written xs ys zs g place read home away same is inside was written i j s =
+    let at : ℕ = spare_place g.home.0 g.away.0 g.slot.0 in
+    let within : at < length ys = omega (arith, is, inside) in
+    let old : read + 1 ≡ get_or ys at 0 + 1 =
+    ap (λ (x : ℕ). x + 1) (read_at ys place read was inside ∙ ap (λ (k : ℕ). get_or ys k 0) is) in
+    omega (
+      arith,
+      ap (λ (us : List ℕ). spare_counts us i j s) written,
+      ap (λ (k : ℕ). spare_counts (set ys k (read + 1)) i j s) is,
+      counts-more ys g home away (read + 1) i j s within old,
+      same_numbers xs ys same i j s,
+    )
+
+pub less_written : (xs zs : List ℕ) (g : Game) (place read : ℕ) → g.home.0 < 40 → g.away.0 < 40
+    → place ≡ spare_place g.home.0 g.away.0 g.slot.0 → 0 < spare_counts xs g.home.0 g.away.0 g.slot.0
+    → read ≡ get_or xs place read → zs ≡ set xs place (read - 1) → (i j s : ℕ)
+    → spare_counts xs i j s ≡ one_more (spare_counts zs) g i j s
+less_written xs zs g place read home away is there was written i j s =
+    let at : ℕ = spare_place g.home.0 g.away.0 g.slot.0 in
+    let within : at < length xs = there_inside xs g home away there in
+    let inside : place < length xs = omega (arith, is, within) in
+    let old : read ≡ get_or xs at 0 = read_at xs place read was inside ∙ ap (λ (k : ℕ). get_or xs k 0) is in
+    let some : 0 < read = omega (arith, old, there, counts_at xs g.home.0 g.away.0 g.slot.0 home away) in
+    let less : read - 1 + 1 ≡ get_or xs at 0 = omega (arith, some, old) in
+    omega (
+      arith,
+      counts-less xs g home away (read - 1) i j s within less,
+      ap (λ (us : List ℕ). spare_counts us i j s) written,
+      ap (λ (k : ℕ). spare_counts (set xs k (read - 1)) i j s) is,
+    )
+
+-- what is read there is what is counted
+pub read_counted : (xs : List ℕ) (g : Game) (place read : ℕ) → g.home.0 < 40 → g.away.0 < 40
+    → place ≡ spare_place g.home.0 g.away.0 g.slot.0 → place < length xs → read ≡ get_or xs place read
+    → read ≡ spare_counts xs g.home.0 g.away.0 g.slot.0
+read_counted xs g place read home away is inside was = read_inside xs g home away place read is inside was
+
+-- a game of the league is none beyond it
+no_game : (n : ℕ) (g : Game) (i j s : ℕ) → IsGame n g → (n ≤ i) ⊎ (n ≤ j) ⊎ (slot_count n ≤ s)
+    → one_if (is_game i j s g) ≡ 0
+no_game n g i j s fits past =
+    let home : g.home.0 < n = fits.home in
+    let away : g.away.0 < n = fits.away in
+    let slot : g.slot.0 < slot_count n = fits.slot in
+    another g i j s 1
+    (λ parts. elim past [
+      | inl no_home ↦ absurd (omega (arith, parts.1, home, no_home))
+      | inr rest ↦ elim rest [
+        | inl no_away ↦ absurd (omega (arith, parts.2, away, no_away))
+        | inr no_slot ↦ absurd (omega (arith, parts.0, slot, no_slot))
+      ]
+    ])
+
+-- counts of the league's games, with one more and one less
+pub AreSpare-more : (n : ℕ) (g : Game) (xs ys : List ℕ) → IsGame n g
+    → ((i j s : ℕ) → spare_counts ys i j s ≡ one_more (spare_counts xs) g i j s)
+    → length ys ≤ slot_count n * 1600 → AreSpare n xs → AreSpare n ys
+AreSpare-more n g xs ys fits same short are = record {
+  within = λ i j s past. omega (arith, same i j s, are.within i j s past, no_game n g i j s fits past);
+  differ = λ i s. omega (
+    arith,
+    same i i s,
+    are.differ i s,
+    another g i i s 1 (λ parts. absurd (fits.differ (omega (arith, parts.1, parts.2)))),
+  );
+  short = short;
+}
+
+pub AreSpare-less : (n : ℕ) (g : Game) (xs ys : List ℕ)
+    → ((i j s : ℕ) → spare_counts ys i j s ≡ one_more (spare_counts xs) g i j s)
+    → length xs ≡ length ys → AreSpare n ys → AreSpare n xs
+AreSpare-less n g xs ys same long are = record {
+  within = λ i j s past. omega (arith, same i j s, are.within i j s past);
+  differ = λ i s. omega (arith, same i i s, are.differ i s);
+  short = omega (arith, long, are.short);
+}
+
+-- an empty list counts no games
+pub no_counts : (xs : List ℕ) → xs ≡ [] → (i j s : ℕ) → spare_counts xs i j s ≡ 0
+no_counts xs none i j s =
+    ap (λ (ys : List ℕ). spare_counts ys i j s) none ∙ if_none (nat_lt i 40 && nat_lt j 40) where
+      if_none : (b : Bool) → ◌≡◌ {A = ℕ} (if b then 0 else 0) 0
+      if_none true = refl
+      if_none false = refl
+
+pub AreSpare-none : (n : ℕ) (xs : List ℕ) → xs ≡ [] → AreSpare n xs
+AreSpare-none n xs none = record {
+  within = λ i j s past. no_counts xs none i j s;
+  differ = λ i s. no_counts xs none i i s;
+  short = omega (arith, ap length none);
+}

@@ -1,16 +1,14 @@
 -- The counts of a table of places with its spare games, and what is kept beside it, with one game more or less.
-use Rattle.std.proofs.Common.{if◌then◌else◌}
-use Rattle.std.proofs.Common.{◌≡◌, ◌≢◌, ◌⊎◌, ℕ, ◌+◌, ◌*◌, ◌-◌, ◌<◌, ◌≤◌, zero, suc, Bool, true, false, ◌&&◌, ◌==◌}
+use Rattle.std.proofs.Common.{◌≡◌, ℕ, ◌+◌, ◌*◌, ◌-◌, ◌<◌, ◌≤◌, zero, suc, Bool, true, false, ◌&&◌, ◌==◌}
 use Rattle.std.proofs.Common.{nat_lt, List, [], ◌∷◌, length, get_or, replicate, refl, arith, ap, ◌∙◌, sym, inl, inr}
 use Rattle.std.proofs.Common.{mul_comm, zero-add}
 use Rattle.std.proofs.lemmas.Bool.{cond_both, false≢true}
-use Rattle.std.proofs.lemmas.Bool.Decides.{nat_tests}
 use Rattle.std.proofs.lemmas.List.FromFn.{get_or-range_with_len, length-range_with_len}
 use Rattle.std.proofs.lemmas.List.{length-replicate}
 use Rattle.std.proofs.lemmas.List.Sums.{get_or-le-sum_by, sum-map, sum_by-cons, sum_by-le}
 use Rattle.std.proofs.lemmas.Nat.{mul-add-lt, mul-le}
-use Rattle.std.specs.List.{All, range_with_len, sum}
-use Rattle.league.specs.Counts.{Counts, counts_of, is_game, one_more, slot_count, teams_of}
+use Rattle.std.specs.List.{range_with_len, sum}
+use Rattle.league.specs.Counts.{Counts, counts_of, one_more, slot_count, teams_of}
 use Rattle.league.specs.Instance.{IsGame, IsTeamCount}
 use Rattle.league.specs.Venues.{away_games, home_games}
 use Rattle.league.specs.declared.game.Game.{Game}
@@ -25,12 +23,11 @@ use Rattle.cells.proofs.OpponentLemmas.{sum_of_none}
 use Rattle.cells.proofs.PlaceLemmas.{place_at-outside}
 use Rattle.cells.specs.Opponents.{place_at}
 use Rattle.cells.specs.Places.{hosts, visits}
-use Rattle.cells.specs.Spare.{IsSpare, IsSpareGame, spare_counts}
+use Rattle.cells.proofs.SpareLemmas.{AreSpare-none, no_counts}
 use Rattle.cells.specs.Table.{Table, table_counts}
 use Rattle.cells.specs.Tables.{AreKept, AreOpponents, HasRows, IsOneMore, kept_counts, listed}
 use Rattle.cells.specs.declared.counters.Counters.{Counters}
 use Rattle.cells.specs.declared.place.Place.{Place}
-use Rattle.cells.specs.declared.spare.Spare.{Spare}
 use Rattle.cells.specs.declared.place.Place.TheVariants.{Free}
 
 -- functions that give equal counts are one
@@ -42,41 +39,8 @@ fails : (b : Bool) → (b ≡ true → ⊥) → one_if b ≡ 0
 fails true h = absurd (h refl)
 fails false h = refl
 
--- games of the league have no other team, and no other slot
-not_first : (a b c d e f count : ℕ) → a ≢ b → (if (a == b) && (c == d) && (e == f) then count else 0) ≤ 0
-not_first a b c d e f count differ = grind (arith, nat_tests)
-
-not_second : (a b c d e f count : ℕ) → c ≢ d → (if (a == b) && (c == d) && (e == f) then count else 0) ≤ 0
-not_second a b c d e f count differ = grind (arith, nat_tests)
-
-not_third : (a b c d e f count : ℕ) → e ≢ f → (if (a == b) && (c == d) && (e == f) then count else 0) ≤ 0
-not_third a b c d e f count differ = grind (arith, nat_tests)
-
-pub none_of : (n i j s : ℕ) (spare : List Spare) → All (IsSpareGame n) spare
-    → (n ≤ i) ⊎ (n ≤ j) ⊎ (slot_count n ≤ s) → spare_counts spare i j s ≡ 0
-none_of n i j s spare fit past =
-    omega (
-      arith,
-      sum_by-le (λ x. if is_game i j s x.game then x.copies else 0) 0 spare
-          (λ k d lt. other (get_or spare k d) (fit k d lt)),
-    )
-  where
-    other : (x : Spare) → IsSpareGame n x → (if is_game i j s x.game then x.copies else 0) ≤ 0
-    other x is =
-        let g : Game = x.game in
-        let home : g.home.0 < n = is.fits.home in
-        let away : g.away.0 < n = is.fits.away in
-        let slot : g.slot.0 < slot_count n = is.fits.slot in
-        elim past [
-          | inl no_home ↦ not_first g.home.0 i g.away.0 j g.slot.0 s x.copies (omega arith)
-          | inr rest ↦ elim rest [
-            | inl no_away ↦ not_second g.home.0 i g.away.0 j g.slot.0 s x.copies (omega arith)
-            | inr no_slot ↦ not_third g.home.0 i g.away.0 j g.slot.0 s x.copies (omega arith)
-          ]
-        ]
-
--- so what is kept is of the league
-pub kept-within : (n : ℕ) (places : List Place) (spare : List Spare) → AreOpponents n places spare
+-- what is kept is of the league
+pub kept-within : (n : ℕ) (places : List Place) (spare : List ℕ) → AreOpponents n places spare
     → IsWithin n (kept_counts n places spare)
 kept-within n places spare table =
     let at : ℕ → ℕ → Place = place_at (slot_count n) places in
@@ -84,38 +48,24 @@ kept-within n places spare table =
       home = λ i j s past. omega (
         arith,
         fails (hosts (at i s) j) (λ is. absurd (omega (arith, (table.mirrored.teams i j s is).0))),
-        none_of n i j s spare table.fit (inl past),
+        table.counted.within i j s (inl past),
       );
       away = λ i j s past. omega (
         arith,
         fails (hosts (at i s) j) (λ is. absurd (omega (arith, (table.mirrored.teams i j s is).1))),
-        none_of n i j s spare table.fit (inr (inl past)),
+        table.counted.within i j s (inr (inl past)),
       );
       slot = λ i j s past. omega (
         arith,
         ap (λ (p : Place). one_if (hosts p j)) (place_at-outside (slot_count n) places i s past),
-        none_of
-            n i j s spare table.fit (inr (inr past)),
+        table.counted.within i j s (inr (inr past)),
       );
     }
 
 -- the counts of the table that contracts see
-pub kept-counts : (n : ℕ) (places : List Place) (spare : List Spare) → AreOpponents n places spare
+pub kept-counts : (n : ℕ) (places : List Place) (spare : List ℕ) → AreOpponents n places spare
     → table_counts (table_of n (kept_counts n places spare)) ≡ kept_counts n places spare
 kept-counts n places spare table = counts-listed n (kept_counts n places spare) (kept-within n places spare table)
-
--- spare games are of at most 40 teams
-pub spare-small : (n : ℕ) (places : List Place) (spare : List Spare) → n ≤ 40 → AreOpponents n places spare
-    → IsSpare spare
-spare-small n places spare at_most table = record {
-  small = λ k d lt.
-      let fits = (table.fit k d lt).fits in
-      let home = fits.home in
-      let away = fits.away in
-      (omega arith, omega arith);
-  some = λ k d lt. (table.fit k d lt).some;
-  ordered = table.ordered;
-}
 
 -- the home games then
 home_more : (n : ℕ) (m more : Counts) (g : Game) → IsGame n g → ((i j s : ℕ) → more i j s ≡ one_more m g i j s)
@@ -154,7 +104,7 @@ pub record AreOneMore (g : Game) (homes aways more_homes more_aways : Counters) 
   pub by_away : IsOneMore g.away.0 g.slot.0 aways more_aways
 
 -- all is kept with one game more
-pub AreKept-more : (n games : ℕ) (g : Game) (ps qs : List Place) (xs ys : List Spare) (h a h1 a1 : Counters)
+pub AreKept-more : (n games : ℕ) (g : Game) (ps qs : List Place) (xs ys : List ℕ) (h a h1 a1 : Counters)
     → IsGame n g → games < 10000 → AreOneMore g h a h1 a1 → AreOpponents n qs ys
     → ((i j s : ℕ) → kept_counts n qs ys i j s ≡ one_more (kept_counts n ps xs) g i j s) → AreKept n games ps xs h a
     → AreKept n (games + 1) qs ys h1 a1
@@ -173,7 +123,7 @@ AreKept-more n games g ps qs xs ys h a h1 a1 fits room one table same kept =
     }
 
 -- and with one game less
-pub AreKept-less : (n games : ℕ) (g : Game) (ps qs : List Place) (xs ys : List Spare) (h a h1 a1 : Counters)
+pub AreKept-less : (n games : ℕ) (g : Game) (ps qs : List Place) (xs ys : List ℕ) (h a h1 a1 : Counters)
     → IsGame n g → AreOneMore g h a h1 a1 → AreOpponents n ps xs
     → ((i j s : ℕ) → kept_counts n qs ys i j s ≡ one_more (kept_counts n ps xs) g i j s)
     → AreKept n games qs ys h1 a1 → AreKept n (games - 1) ps xs h a
@@ -191,55 +141,6 @@ AreKept-less n games g ps qs xs ys h a h1 a1 fits one table same kept =
       away = λ i s. omega (arith, one.by_away.each i s, kept.away i s, away_more n m more g fits same i s);
     }
 
--- a game so many times more
-times_more : Counts → Game → ℕ → Counts
-times_more m g count i j s = m i j s + (if is_game i j s g then count else 0)
-
--- adds as many to the sum of the table
-if_more : (b : Bool) (count : ℕ) → (if b then suc count else 0) ≡ (if b then count else 0) + one_if b
-if_more true count = omega arith
-if_more false count = refl
-
-if_none : (b : Bool) → ◌≡◌ {A = ℕ} (if b then 0 else 0) 0
-if_none true = refl
-if_none false = refl
-
-sum_times : (n : ℕ) (m : Counts) (g : Game) (count : ℕ) → IsGame n g
-    → sum (listed n (times_more m g count)) ≡ sum (listed n m) + count
-unfolding times_more
-sum_times n m g zero fits =
-    omega (
-      arith,
-      ap (λ (k : Counts). sum (listed n k))
-          (same_counts (times_more m g 0) m (λ i j s. omega (arith, if_none (is_game i j s g)))),
-    )
-sum_times n m g (suc count) fits =
-    omega (
-      arith,
-      sum_more n (times_more m g count) (times_more m g (suc count)) g fits
-          (λ i j s. omega (arith, if_more (is_game i j s g) count)),
-      sum_times n m g count fits,
-    )
-
--- a list of spare games is no longer than the games are many
-pub spare-few : (n : ℕ) (places : List Place) (spare : List Spare) → All (IsSpareGame n) spare
-    → length spare ≤ sum (listed n (kept_counts n places spare))
-unfolding times_more
-spare-few n places [] fit = omega arith
-spare-few n places (x ∷ xs) fit =
-    let rest : All (IsSpareGame n) xs = λ k d lt. fit (suc k) d (omega arith) in
-    let first : IsSpareGame n x = fit 0 x (omega arith) in
-    let some : 0 < x.copies = first.some in
-    let more : kept_counts n places (x ∷ xs) ≡ times_more (kept_counts n places xs) x.game x.copies =
-    same_counts (kept_counts n places (x ∷ xs)) (times_more (kept_counts n places xs) x.game x.copies)
-    (λ i j s. omega (arith, sum_by-cons (λ y. if is_game i j s y.game then y.copies else 0) x xs)) in
-    omega (
-      arith,
-      ap (λ (m : Counts). sum (listed n m)) more,
-      sum_times n (kept_counts n places xs) x.game x.copies first.fits,
-      spare-few n places xs rest,
-    )
-
 -- a place that is free reads free, and so does all of a new table
 free_at : (size k : ℕ) → get_or (replicate size Free) k Free ≡ Free
 free_at zero k = refl
@@ -251,7 +152,7 @@ new_place slots size i s = cond_both (nat_lt s slots) (get_or (replicate size Fr
     (λ (p : Place). p ≡ Free) (λ e. free_at size (i * slots + s)) (λ e. refl)
 
 -- new tables
-pub AreOpponents-none : (n : ℕ) (places : List Place) (spare : List Spare)
+pub AreOpponents-none : (n : ℕ) (places : List Place) (spare : List ℕ)
     → places ≡ replicate (n * slot_count n) Free → spare ≡ [] → AreOpponents n places spare
 AreOpponents-none n places spare free none =
     let at : (i s : ℕ) → place_at (slot_count n) places i s ≡ Free = λ i s.
@@ -263,26 +164,25 @@ AreOpponents-none n places spare free none =
         same = λ i j s. ap (λ (p : Place). hosts p j) (at i s) ∙ sym (ap (λ (p : Place). visits p i) (at j s));
         teams = λ i j s is. absurd (false≢true (sym (ap (λ (p : Place). hosts p j) (at i s)) ∙ is));
       };
-      fit = λ k d lt. absurd (omega (arith, ap length none));
-      ordered = λ i j d le lt. absurd (omega (arith, ap length none));
+      counted = AreSpare-none n spare none;
     }
 
 -- they count nothing
-pub kept-none : (n : ℕ) (places : List Place) (spare : List Spare) → places ≡ replicate (n * slot_count n) Free
+pub kept-none : (n : ℕ) (places : List Place) (spare : List ℕ) → places ≡ replicate (n * slot_count n) Free
     → spare ≡ [] → kept_counts n places spare ≡ counts_of []
 kept-none n places spare free none =
     same_counts (kept_counts n places spare) (counts_of [])
     (λ i j s.
     let at : place_at (slot_count n) places i s ≡ Free = ap (λ (ps : List Place). place_at (slot_count n) ps i s)
     free ∙ new_place (slot_count n) (n * slot_count n) i s in
-    omega (arith, ap (λ (p : Place). one_if (hosts p j)) at, ap (λ (xs : List Spare). spare_counts xs i j s) none))
+    omega (arith, ap (λ (p : Place). one_if (hosts p j)) at, no_counts spare none i j s))
 
 -- nor do those of no games add up to any
 sum-none : (n : ℕ) → sum (listed n (counts_of [])) ≡ 0
 sum-none n = sum-map (λ p. 0) (range_with_len 0 (n * n * slot_count n)) ∙ sum_of_none (λ p. 0) (λ p. refl)
     (range_with_len 0 (n * n * slot_count n))
 
-pub AreKept-none : (n : ℕ) (places : List Place) (spare : List Spare) (h a : Counters) → IsTeamCount n
+pub AreKept-none : (n : ℕ) (places : List Place) (spare : List ℕ) (h a : Counters) → IsTeamCount n
     → places ≡ replicate (n * slot_count n) Free → spare ≡ [] → h.columns ≡ slot_count n
     → h.numbers.items ≡ replicate (n * slot_count n) 0 → a.columns ≡ slot_count n
     → a.numbers.items ≡ replicate (n * slot_count n) 0 → AreKept n 0 places spare h a
@@ -333,7 +233,7 @@ counts-le t i j s =
     cond_both (nat_lt j t.n) (number (slot_count t.n) t.list (i * t.n + j) s) 0 (λ x. x ≤ sum t.list)
     (λ e. number-le-sum (slot_count t.n) t.list (i * t.n + j) s) (λ e. omega arith)
 
-pub kept-le : (n games : ℕ) (ps : List Place) (xs : List Spare) (h a : Counters) → AreKept n games ps xs h a
+pub kept-le : (n games : ℕ) (ps : List Place) (xs : List ℕ) (h a : Counters) → AreKept n games ps xs h a
     → (i j s : ℕ) → kept_counts n ps xs i j s ≤ 10000
 kept-le n games ps xs h a kept i j s =
     omega (
@@ -346,7 +246,7 @@ kept-le n games ps xs h a kept i j s =
     )
 
 -- so a team has at most n times as many at home in a slot, and away
-pub kept-home-le : (n games : ℕ) (ps : List Place) (xs : List Spare) (h a : Counters) → AreKept n games ps xs h a
+pub kept-home-le : (n games : ℕ) (ps : List Place) (xs : List ℕ) (h a : Counters) → AreKept n games ps xs h a
     → (i s : ℕ) → number h.columns h.numbers.items i s ≤ 400000
 kept-home-le n games ps xs h a kept i s =
     omega (
@@ -358,7 +258,7 @@ kept-home-le n games ps xs h a kept i s =
       mul-le n 10000 40 10000 kept.teams.at_most (omega arith),
     )
 
-pub kept-away-le : (n games : ℕ) (ps : List Place) (xs : List Spare) (h a : Counters) → AreKept n games ps xs h a
+pub kept-away-le : (n games : ℕ) (ps : List Place) (xs : List ℕ) (h a : Counters) → AreKept n games ps xs h a
     → (i s : ℕ) → number a.columns a.numbers.items i s ≤ 400000
 kept-away-le n games ps xs h a kept i s =
     omega (
@@ -399,12 +299,3 @@ place_in_rows n row column columns size wide long in_row in_column =
           n in_row in_column,
       mul_comm n (slot_count n),
     )
-
--- the spare games of what is kept
-pub kept-spare : (n games : ℕ) (ps : List Place) (xs : List Spare) (h a : Counters) → AreKept n games ps xs h a
-    → IsSpare xs
-kept-spare n games ps xs h a kept = spare-small n ps xs kept.teams.at_most kept.table
-
-pub kept-few : (n games : ℕ) (ps : List Place) (xs : List Spare) (h a : Counters) → AreKept n games ps xs h a
-    → length xs ≤ games
-kept-few n games ps xs h a kept = omega (arith, kept.total, spare-few n ps xs kept.table.fit)

@@ -1,27 +1,17 @@
 -- The games for which the table has no place.
-use Rattle.std.specs.Prelude.{ℕ, ◌+◌, ◌*◌, ◌<◌, if◌then◌else◌, List}
-use Rattle.std.specs.List.{All, sum_by}
-use Rattle.std.specs.List.Sorted.{IsNonDecreasingBy}
-use Rattle.league.specs.Counts.{Counts, is_game}
-use Rattle.league.specs.Instance.{IsGame}
-use Rattle.league.specs.declared.game.Game.{Game}
-use Rattle.cells.specs.declared.spare.Spare.{Spare}
+use Rattle.std.specs.Prelude.{◌≡◌, ◌⊎◌, ℕ, ◌+◌, ◌*◌, ◌≤◌, ◌&&◌, nat_lt, if◌then◌else◌, List, length, slice_index_or}
+use Rattle.league.specs.Counts.{Counts, slot_count}
 
--- the number of a game among those of 40 teams, by slot, then home team, then away team
-abbrev pub order_of : Game → ℕ
-order_of g = (g.slot.0 * 40 + g.home.0) * 40 + g.away.0
+-- where a game is counted, by slot, then home team, then away team, of 40 teams each
+abbrev pub spare_place : ℕ → ℕ → ℕ → ℕ
+spare_place i j s = (s * 40 + i) * 40 + j
 
--- how often a game stands in a list of games with their copies
-abbrev pub spare_counts : List Spare → Counts
-spare_counts spare i j s = sum_by (λ x. if is_game i j s x.game then x.copies else 0) spare
+-- how often it is counted: not at all beyond the end
+abbrev pub spare_counts : List ℕ → Counts
+spare_counts spare i j s = if nat_lt i 40 && nat_lt j 40 then slice_index_or spare (spare_place i j s) 0 else 0
 
--- a game of a league of n teams, at least once
-pub record IsSpareGame (n : ℕ) (x : Spare) : Type 0 where
-  pub fits : IsGame n x.game
-  pub some : 0 < x.copies
-
--- games of at most 40 teams, each at least once, in order
-pub record IsSpare (spare : List Spare) : Type 0 where
-  pub small : All (λ x. (x.game.home.0 < 40) × (x.game.away.0 < 40)) spare
-  pub some : All (λ x. 0 < x.copies) spare
-  pub ordered : IsNonDecreasingBy (λ x. order_of x.game) spare
+-- counts of games of a league of n teams
+pub record AreSpare (n : ℕ) (spare : List ℕ) : Type 0 where
+  pub within : (i j s : ℕ) → (n ≤ i) ⊎ (n ≤ j) ⊎ (slot_count n ≤ s) → spare_counts spare i j s ≡ 0
+  pub differ : (i s : ℕ) → spare_counts spare i i s ≡ 0
+  pub short : length spare ≤ slot_count n * 1600

@@ -1,17 +1,15 @@
 -- The tables in which the counts are kept.
 use Rattle.std.specs.Prelude.{◌≡◌, ℕ, ◌+◌, ◌*◌, ◌/◌, ◌%◌, ◌≤◌, ◌&&◌, ◌==◌, if◌then◌else◌, List, length, map}
-use Rattle.std.specs.List.{All, range_with_len, sum}
-use Rattle.std.specs.List.Sorted.{IsNonDecreasingBy}
+use Rattle.std.specs.List.{range_with_len, sum}
 use Rattle.league.specs.Counts.{Counts, slot_count}
 use Rattle.league.specs.Instance.{IsTeamCount}
 use Rattle.league.specs.Venues.{away_games, home_games}
 use Rattle.league.specs.Grid.{number}
 use Rattle.cells.specs.Opponents.{AreMirrored, place_at}
 use Rattle.cells.specs.Places.{hosts}
-use Rattle.cells.specs.Spare.{IsSpareGame, order_of, spare_counts}
+use Rattle.cells.specs.Spare.{AreSpare, spare_counts}
 use Rattle.cells.specs.declared.counters.Counters.{Counters}
 use Rattle.cells.specs.declared.place.Place.{Place}
-use Rattle.cells.specs.declared.spare.Spare.{Spare}
 
 -- the number in a row and column is one more, and all else is the same
 pub record IsOneMore (row column : ℕ) (before after : Counters) : Type 0 where
@@ -25,8 +23,8 @@ pub record HasRows (n rows : ℕ) (counters : Counters) : Type 0 where
   pub wide : counters.columns ≡ slot_count n
   pub long : length counters.numbers.items ≡ rows * slot_count n
 
--- how often a game stands in the table, at most once, and in the list of spare games
-abbrev pub kept_counts : ℕ → List Place → List Spare → Counts
+-- how often a game stands in the table, at most once, and among the spare games
+abbrev pub kept_counts : ℕ → List Place → List ℕ → Counts
 kept_counts n places spare i j s =
     (if hosts (place_at (slot_count n) places i s) j then 1 else 0) + spare_counts spare i j s
 
@@ -36,15 +34,14 @@ listed n m =
     map (λ p. m (p / slot_count n / n) (p / slot_count n % n) (p % slot_count n))
     (range_with_len 0 (n * n * slot_count n))
 
--- a table of what each team does in each slot, and spare games in order
-pub record AreOpponents (n : ℕ) (places : List Place) (spare : List Spare) : Type 0 where
+-- a table of what each team does in each slot, and spare games
+pub record AreOpponents (n : ℕ) (places : List Place) (spare : List ℕ) : Type 0 where
   pub size : length places ≡ n * slot_count n
   pub mirrored : AreMirrored n (place_at (slot_count n) places)
-  pub fit : All (IsSpareGame n) spare
-  pub ordered : IsNonDecreasingBy (λ x. order_of x.game) spare
+  pub counted : AreSpare n spare
 
 -- at most 10,000 games, with each team's home games and away games in each slot beside them
-pub record AreKept (n games : ℕ) (places : List Place) (spare : List Spare) (homes aways : Counters) : Type 0 where
+pub record AreKept (n games : ℕ) (places : List Place) (spare : List ℕ) (homes aways : Counters) : Type 0 where
   pub teams : IsTeamCount n
   pub table : AreOpponents n places spare
   pub home_rows : HasRows n n homes

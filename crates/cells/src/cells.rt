@@ -15,7 +15,7 @@ ghost use Rattle.cells.specs.Table.{table_counts};
 use crate::counters::Counters;
 use crate::keep::{keep, let_go};
 use crate::place::{Place, once_if, read_place};
-use crate::spare::{Spare, copies, copies_at_home, copies_away};
+use crate::spare::{GAMES_IN_SLOT, copies, copies_at_home, copies_away};
 use keys::Listed;
 use league::{Game, SlotId, TeamId, slot_count};
 use std::alloc::{AllocError, Global};
@@ -25,16 +25,18 @@ use std::marker::Model;
 /// team, then away team, then slot.
 ///
 /// Each team has one place in each slot. A game stands in the places of its two teams, if both were free when it came,
-/// and else in a list of spare games, in order, for which there is room from the start. Beside them the home games and
-/// the away games of each team in each slot are counted.
+/// and else it is a spare one, which is counted by slot, home team and away team. These counts reach no further than
+/// the last slot that has a spare game, so that a round robin has none, but there is room for all from the start.
+/// Beside them the home games and the away games of each team in each slot are counted.
 #[derive(Drop)]
 pub struct Cells {
     n: u16,
     games: u32,
     /// What each team does in each slot, by team, then slot.
     places: Vec<Place>,
-    /// The games that don't stand in their places, each with its copies, in order.
-    spare: Vec<Spare>,
+    /// How often each game doesn't stand in its places, by slot, home team and away team, up to the last slot with such
+    /// a game.
+    spare: Vec<u16>,
     /// The home games, by team and slot.
     homes: Counters,
     /// The away games, by team and slot.
@@ -42,7 +44,8 @@ pub struct Cells {
 }
 
 impl Model for Cells {
-    ghost use Rattle.std.specs.Prelude.{◌≤◌, vec_capacity};
+    ghost use Rattle.std.specs.Prelude.{◌*◌, ◌≤◌, vec_capacity};
+    ghost use Rattle.league.specs.Counts.{slot_count};
     ghost use Rattle.cells.specs.Table.{Table};
     ghost use Rattle.cells.specs.Tables.{AreKept, kept_counts, listed};
 
@@ -51,7 +54,7 @@ impl Model for Cells {
     ghost view = { λ c. record { n = c.n; list = listed c.n (kept_counts c.n c.places.items c.spare.items) } };
 
     ghost invariant = { λ c. AreKept c.n c.games c.places.items c.spare.items c.homes c.aways
-        × (10000 ≤ vec_capacity c.spare) };
+        × (slot_count c.n * 1600 ≤ vec_capacity c.spare) };
 }
 
 impl Cells {
@@ -71,7 +74,7 @@ impl Cells {
             n,
             games: 0,
             places: vec![in alloc; Place::Free; teams * slots]?,
-            spare: Vec::with_capacity(alloc, 10000)?,
+            spare: Vec::with_capacity(alloc, slots * GAMES_IN_SLOT)?,
             homes: Counters::new(alloc, teams, slots)?,
             aways: Counters::new(alloc, teams, slots)?,
         })
@@ -102,8 +105,8 @@ impl Cells {
         self.games
     }
 
-    /// How often the home team plays the away team in the slot. It is one look-up, unless the home team has a spare
-    /// home game in the slot.
+    /// How often the home team plays the away team in the slot. It is one look-up, and one more where spare games are
+    /// counted in the slot.
     pub fn at(&self, home: TeamId, away: TeamId, slot: SlotId) -> u32
         requires home { home.0 < self.now.n }
         requires away { away.0 < self.now.n }
@@ -113,10 +116,31 @@ impl Cells {
     {
         let place = read_place(&self.places, slot_count(self.n) as usize, home, slot);
         let placed = once_if(place.is_home_to(away));
-        if self.home(home, slot) == place.home_games() {
-            return placed;
-        }
         placed + copies(&self.spare, Game { home, away, slot })
+    }
+
+    /// How often two teams play each other in a slot, whichever is at home. It is one look-up, and two more where spare
+    /// games are counted in the slot.
+    pub fn between(&self, first: TeamId, second: TeamId, slot: SlotId) -> u32
+        requires first { first.0 < self.now.n }
+        requires second { second.0 < self.now.n }
+        requires slot { slot.0 < counts.slot_count self.now.n }
+        ensures games { result ≡ table_counts self.now first.0 second.0 slot.0
+            + table_counts self.now second.0 first.0 slot.0 }
+        ensures at_most { result ≤ 20000 }
+    {
+        let place = read_place(&self.places, slot_count(self.n) as usize, first, slot);
+        let at_home = Game {
+            home: first,
+            away: second,
+            slot,
+        };
+        let away = Game {
+            home: second,
+            away: first,
+            slot,
+        };
+        place.games_with(second) + copies(&self.spare, at_home) + copies(&self.spare, away)
     }
 
     /// How often a team is at home in a slot. It is one look-up.

@@ -1,20 +1,21 @@
 //! The table with its spare games, while games come and go.
-ghost use Rattle.std.specs.Prelude.{◌≡◌, ◌<◌, ◌≤◌, ℕ, length, vec_capacity};
+ghost use Rattle.std.specs.Prelude.{◌≡◌, ◌<◌, ◌≤◌, ◌*◌, ℕ, vec_capacity};
+ghost use Rattle.league.specs.Counts as counts;
 ghost use Rattle.league.specs.Counts.{one_more};
 ghost use Rattle.league.specs.Instance.{IsGame, IsTeamCount};
 ghost use Rattle.cells.specs.Tables.{AreOpponents, kept_counts};
 
 use crate::place::{Place, put, read_place, take_off};
-use crate::spare::{Spare, add_copy, take_copy};
+use crate::spare::{add_copy, take_copy};
 use league::{Game, slot_count};
 
-/// Counts a game once more: in the table where both its teams are free, or else in the list. It takes no memory.
-pub(crate) fn keep(n: u16, places: &mut Vec<Place>, spare: &mut Vec<Spare>, game: Game)
+/// Counts a game once more: in the table where both its teams are free, or else as a spare one. It takes no memory.
+pub(crate) fn keep(n: u16, places: &mut Vec<Place>, spare: &mut Vec<u16>, game: Game)
     requires teams { IsTeamCount n }
     requires fits { IsGame n game }
     requires table { AreOpponents n places.old.items spare.old.items }
     requires few { (i j s : ℕ) → kept_counts n places.old.items spare.old.items i j s ≤ 10000 }
-    requires room { length spare.old.items < vec_capacity spare.old }
+    requires room { counts.slot_count n * 1600 ≤ vec_capacity spare.old }
     ensures table { AreOpponents n places.new.items spare.new.items }
     ensures counts { (i j s : ℕ) → kept_counts n places.new.items spare.new.items i j s
         ≡ one_more (kept_counts n places.old.items spare.old.items) game i j s }
@@ -30,9 +31,9 @@ pub(crate) fn keep(n: u16, places: &mut Vec<Place>, spare: &mut Vec<Spare>, game
     }
 }
 
-/// Counts a game once less: in the table if it stands there, or else in the list. It takes no memory. A game of the
-/// list stays there, even if places become free.
-pub(crate) fn let_go(n: u16, places: &mut Vec<Place>, spare: &mut Vec<Spare>, game: Game)
+/// Counts a game once less: in the table if it stands there, or else as a spare one. It takes no memory. A spare game
+/// stays one, even if places become free.
+pub(crate) fn let_go(n: u16, places: &mut Vec<Place>, spare: &mut Vec<u16>, game: Game)
     requires teams { IsTeamCount n }
     requires fits { IsGame n game }
     requires table { AreOpponents n places.old.items spare.old.items }

@@ -1,8 +1,8 @@
 //! What each team does in each slot: at most one game stands in its place.
-ghost use Rattle.std.specs.Prelude.{◌≡◌, ◌≢◌, ◌<◌, ◌+◌, ◌*◌, if◌then◌else◌, length};
+ghost use Rattle.std.specs.Prelude.{◌≡◌, ◌≢◌, ◌<◌, ◌≤◌, ◌+◌, ◌*◌, if◌then◌else◌, length};
 ghost use Rattle.cells.specs.Opponents as opponents;
 ghost use Rattle.cells.specs.Opponents.{IsPut, hosts_any, is_away, is_home, place_at, visits_any};
-ghost use Rattle.cells.specs.Places.{hosts};
+ghost use Rattle.cells.specs.Places.{hosts, visits};
 ghost use Rattle.cells.specs.declared.place.Place.TheVariants.{Away, Free, Home};
 
 use keys::Listed;
@@ -60,6 +60,19 @@ impl Place {
         }
     }
 
+    /// The games of the team with another: one or none.
+    pub(crate) fn games_with(self, other: TeamId) -> u32
+        ensures games { result
+            ≡ (if hosts self other.0 then 1 else 0) + (if visits self other.0 then 1 else 0) }
+        ensures at_most { result ≤ 1 }
+    {
+        match self {
+            Place::Free => 0,
+            Place::Home(guest) => once_if(guest.0 == other.0),
+            Place::Away(host) => once_if(host.0 == other.0),
+        }
+    }
+
     /// The home games of the team against one of some others: one or none.
     pub(crate) fn games_at_home_to(self, others: &Listed) -> u32
         ensures { result ≡ (if hosts_any others.now self then 1 else 0) }
@@ -83,7 +96,8 @@ impl Place {
 
 /// One where a test passes, or else none.
 pub(crate) fn once_if(passes: bool) -> u32
-    ensures { result ≡ (if passes then 1 else 0) }
+    ensures once { result ≡ (if passes then 1 else 0) }
+    ensures at_most { result ≤ 1 }
 {
     if passes { 1 } else { 0 }
 }

@@ -9,7 +9,7 @@ ghost use Rattle.cells.specs.Table.{table_counts};
 ghost use Rattle.separation.specs.TeamGaps as specs;
 ghost use Rattle.separation.specs.TeamGaps.{ArePlaced, AreSummed, HasRoom, IsPlaceOf, IsSummed};
 
-use crate::gaps::{games_at, lacking_at};
+use crate::gaps::lacking_at;
 use league::{SlotId, TeamId};
 use rule_core::{Cells, Place};
 
@@ -101,7 +101,7 @@ impl TeamGaps {
         ensures summed { AreSummed cells.now.n (table_counts cells.now) min team.0 (slot + 1) self.new }
     {
         for other in 0..cells.n() {
-            let games = games_at(cells, team, TeamId(other), SlotId(slot));
+            let games = cells.between(team, TeamId(other), SlotId(slot));
             if games > 0 {
                 self.add_games(TeamId(other), slot, games, min);
             }

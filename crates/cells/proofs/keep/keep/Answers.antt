@@ -1,5 +1,7 @@
 use Rattle.std.proofs.Common.{length}
-use Rattle.cells.proofs.KeepLemmas.{put_kept}
+use Rattle.league.specs.Counts.{slot_count}
+use Rattle.cells.proofs.KeepLemmas.{put_kept, spare_kept}
+use Rattle.cells.proofs.SpareLemmas.{AreSpare-more}
 use Rattle.cells.proofs.TableLemmas.{place_in_rows}
 use Rattle.cells.proofs.keep.keep.Goals as goal
 
@@ -28,3 +30,11 @@ returns-then-is_free-2-clause-table c =
     put_kept c.args.n c.slot_count-slots.result c.args.game c.args.places.now.items c.put.new.places.items
     c.args.spare.now.items c.slot_count-slots.ensures c.requires.fits c.put.ensures.put c.put.ensures.size
     c.requires.table
+
+pub returns-else-is_free-clause-table : goal.returns-else-is_free-clause-table
+returns-else-is_free-clause-table c =
+    spare_kept c.args.n c.args.places.now.items c.args.spare.now.items c.add_copy.new.spare.items c.requires.table
+    (AreSpare-more c.args.n c.args.game c.args.spare.now.items c.add_copy.new.spare.items c.requires.fits
+    c.add_copy.ensures.counts
+    (c.add_copy.ensures.short (slot_count c.args.n) c.requires.fits.slot c.requires.table.counted.short)
+    c.requires.table.counted)

@@ -5,17 +5,20 @@ use Rattle.cells.specs.Table.{table_counts}
 use Rattle.capacity.specs.Between.{counted}
 use Rattle.capacity.proofs.HostLemmas.{at_home_to, games_by_guest_to}
 use Rattle.capacity.proofs.opponents.Opponents.games_with_each.Goals as goal
+use Rattle.capacity.proofs.opponents.Opponents.games_with_each.Goals.{then-played-gt0, else-played-gt0}
 
 pub overflow_mul-games : goal.overflow_mul-games
-overflow_mul-games c =
-    omega (arith, mul-le c.one_game.result c.at.result 1 10000 c.one_game.ensures.at_most c.at.ensures.at_most)
+overflow_mul-games c = omega (
+  arith,
+  mul-le c.one_game.result c.at-played.result 1 10000 c.one_game.ensures.at_most c.at-played.ensures.at_most,
+)
 
 pub overflow_add-games : goal.overflow_add-games
 overflow_add-games c = omega (
   arith,
   c.loop-guest.invariant.bounded,
   c.requires.few,
-  mul-le c.one_game.result c.at.result 1 10000 c.one_game.ensures.at_most c.at.ensures.at_most,
+  mul-le c.one_game.result c.at-played.result 1 10000 c.one_game.ensures.at_most c.at-played.ensures.at_most,
 )
 
 pub loop-guest-preserved : goal.loop-guest-preserved
@@ -24,20 +27,33 @@ loop-guest-preserved c =
     let m = table_counts c.args.cells.now in
     let host : ℕ = c.args.host.0 in
     let guest : ℕ = c.loop-guest.guest in
-    let value : c.one_game.result * c.at.result ≡ at_home_to m self.side self.teams1 self.teams2
-    c.args.slot.0 host guest =
-    ap (λ (x : ℕ). x * c.at.result) c.one_game.ensures.games
-    ∙ ap (λ (y : ℕ). counted self.side self.teams1 self.teams2 host guest * y) c.at.ensures.count in
-    record {
-      counted = summed (at_home_to m self.side self.teams1 self.teams2 c.args.slot.0 host) guest
-          c.loop-guest.games _ c.loop-guest.invariant.counted (ap (λ (x : ℕ). c.loop-guest.games + x) value);
-      bounded = omega (
-        arith,
-        c.loop-guest.invariant.bounded,
-        mul-le c.one_game.result c.at.result 1 10000
-            c.one_game.ensures.at_most c.at.ensures.at_most,
-      );
-    }
+    let among : ℕ = counted self.side self.teams1 self.teams2 host guest in
+    let term : ℕ → ℕ = at_home_to m self.side self.teams1 self.teams2 c.args.slot.0 host in
+    elim c.if-played-gt0.branch [
+      | then-played-gt0 w ↦
+          let value : w.one_game.result * c.at-played.result ≡ term guest =
+          ap (λ (x : ℕ). x * c.at-played.result) w.one_game.ensures.games
+          ∙ ap (λ (y : ℕ). among * y) c.at-played.ensures.count in
+          record {
+            counted = summed term guest c.loop-guest.games _ c.loop-guest.invariant.counted
+                (w.games-is ∙ ap (λ (x : ℕ). c.loop-guest.games + x) value);
+            bounded = omega (
+              arith,
+              w.games-is,
+              c.loop-guest.invariant.bounded,
+              mul-le w.one_game.result c.at-played.result 1 10000 w.one_game.ensures.at_most
+                  c.at-played.ensures.at_most,
+            );
+          }
+      | else-played-gt0 w ↦
+          let none : m host guest c.args.slot.0 ≡ 0 = omega
+          (arith, w.if-played-gt0.false, c.at-played.ensures.count) in
+          record {
+            counted = summed term guest c.loop-guest.games _ c.loop-guest.invariant.counted
+                (omega (arith, w.games-is, ap (λ (y : ℕ). among * y) none));
+            bounded = omega (arith, w.games-is, c.loop-guest.invariant.bounded);
+          }
+    ]
 
 pub returns-clause-games : goal.returns-clause-games
 returns-clause-games c =

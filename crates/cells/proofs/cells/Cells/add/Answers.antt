@@ -5,7 +5,7 @@ use Rattle.league.specs.Instance.{IsGame}
 use Rattle.cells.specs.Table.{Table}
 use Rattle.cells.specs.Tables.{kept_counts}
 use Rattle.cells.proofs.SeenLemmas.{seen}
-use Rattle.cells.proofs.TableLemmas.{AreKept-more, kept-away-le, kept-counts, kept-few, kept-home-le, kept-le}
+use Rattle.cells.proofs.TableLemmas.{AreKept-more, kept-away-le, kept-counts, kept-home-le, kept-le}
 use Rattle.cells.proofs.TableLemmas.{place_in_rows}
 use Rattle.cells.proofs.TableLemmas.{same_counts, sum_more}
 use Rattle.cells.proofs.cells.Cells.add.Goals as goal
@@ -39,19 +39,6 @@ add-requires-2-clause-room c = omega (
   kept-away-le c.self.inside.n c.self.inside.games c.self.inside.places.items c.self.inside.spare.items
       c.self.inside.homes c.self.inside.aways c.self.invariant.0 c.args.game.away.0 c.args.game.slot.0,
 )
-
-pub keep-requires-clause-room : goal.keep-requires-clause-room
-keep-requires-clause-room c =
-    let total = ap (λ (t : Table). sum t.list) c.self.view_is in
-    omega (
-      arith,
-      kept-few c.self.inside.n c.self.inside.games c.self.inside.places.items c.self.inside.spare.items
-          c.self.inside.homes c.self.inside.aways c.self.invariant.0,
-      c.self.invariant.0.total,
-      total,
-      c.requires.room,
-      c.self.invariant.1,
-    )
 
 pub keep-requires-clause-few : goal.keep-requires-clause-few
 keep-requires-clause-few c i j s =

@@ -1,8 +1,8 @@
-use Rattle.std.proofs.Common.{length, arith, ap, sym, ◌∙◌}
+use Rattle.std.proofs.Common.{length, arith, ap, ◌∙◌}
 use Rattle.league.specs.Counts.{slot_count}
 use Rattle.league.proofs.RangeLemmas.{one_if}
 use Rattle.cells.specs.Table.{Table}
-use Rattle.cells.proofs.SeenLemmas.{count_all, count_le, no_more_home}
+use Rattle.cells.proofs.SeenLemmas.{count_all, count_le}
 use Rattle.cells.proofs.TableLemmas.{kept-le, place_in_rows}
 use Rattle.cells.proofs.cells.Cells.at.Goals as goal
 
@@ -13,23 +13,6 @@ read_place-place-requires-clause-place c =
     place_in_rows c.self.inside.n c.args.home.0 c.args.slot.0 c.slot_count.result
     (length c.self.inside.places.items) c.slot_count.ensures c.self.invariant.0.table.size
     (omega (arith, teams, c.requires.home)) (omega (arith, slots, c.requires.slot))
-
-pub returns-then-home-home_games-clause-count : goal.returns-then-home-home_games-clause-count
-returns-then-home-home_games-clause-count c =
-    let none = no_more_home c.self.inside.n c.self.inside.games c.self.inside.places.items c.self.inside.spare.items
-    c.self.inside.homes c.self.inside.aways c.self.invariant.0 c.args.self.now c.self.view_is c.args.home.0
-    c.args.slot.0 c.slot_count.result c.read_place-place.result c.slot_count.ensures c.read_place-place.ensures
-    c.home.result c.home_games.result c.home.ensures.count c.home_games.ensures c.if-home-home_games.true
-    c.args.away.0 in
-    let hosted = c.once_if-placed.ensures ∙ ap one_if c.is_home_to.ensures in
-    omega (
-      arith,
-      count_all c.self.inside.n c.self.inside.games c.self.inside.places.items c.self.inside.spare.items
-          c.self.inside.homes c.self.inside.aways c.self.invariant.0 c.args.self.now c.self.view_is c.args.home.0
-          c.args.slot.0 c.slot_count.result c.read_place-place.result c.slot_count.ensures
-          c.read_place-place.ensures
-          c.args.away.0 c.once_if-placed.result 0 hosted (sym none),
-    )
 
 pub copies-requires-clause-few : goal.copies-requires-clause-few
 copies-requires-clause-few c =
@@ -46,11 +29,11 @@ returns-clause-count c =
     c.self.inside.homes c.self.inside.aways c.self.invariant.0 c.args.self.now c.self.view_is c.args.home.0
     c.args.slot.0 c.slot_count.result c.read_place-place.result c.slot_count.ensures c.read_place-place.ensures
     c.args.away.0 c.once_if-placed.result c.copies.result
-    (c.once_if-placed.ensures ∙ ap one_if c.is_home_to.ensures) c.copies.ensures.count
+    (c.once_if-placed.ensures.once ∙ ap one_if c.is_home_to.ensures) c.copies.ensures.count
 
 pub returns-clause-at_most : goal.returns-clause-at_most
 returns-clause-at_most c =
-    let hosted = c.once_if-placed.ensures ∙ ap one_if c.is_home_to.ensures in
+    let hosted = c.once_if-placed.ensures.once ∙ ap one_if c.is_home_to.ensures in
     omega (
       arith,
       count_all c.self.inside.n c.self.inside.games c.self.inside.places.items c.self.inside.spare.items

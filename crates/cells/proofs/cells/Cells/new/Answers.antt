@@ -15,7 +15,7 @@ invariant_of-result c =
           c.in_ok-with_capacity.ensures.items
           (c.in_ok-new.ensures.columns ∙ season) (c.in_ok-new.ensures.numbers ∙ ap zeros season)
           (c.in_ok-new-2.ensures.columns ∙ season) (c.in_ok-new-2.ensures.numbers ∙ ap zeros season),
-      omega (arith, c.in_ok-with_capacity.ensures.exact),
+      omega (arith, c.in_ok-with_capacity.ensures.exact, ap (λ (slots : ℕ). slots * 1600) season),
     )
 
 pub returns-clause-counts : goal.returns-clause-counts

@@ -23,12 +23,12 @@ loop-other-preserved c =
           subst (λ (gaps : TeamGaps). AreDone n m c.args.min i slot (other + 1) first gaps) (sym w.self-is)
           (AreDone-next n m
           c.args.min i slot other first now w.add_games.new.self w.add_games.ensures.room w.add_games.ensures.others
-          (w.add_games.ensures.summed n m i c.requires.slot c.games_at-games.ensures.games so_far)
+          (w.add_games.ensures.summed n m i c.requires.slot c.between-games.ensures.games so_far)
           c.loop-other.invariant)
       | else-games-gt0 w ↦
           subst (λ (gaps : TeamGaps). AreDone n m c.args.min i slot (other + 1) first gaps) (sym w.self-is)
           (AreDone-next n m c.args.min i slot other first now now c.loop-other.invariant.room (λ j differ. (refl, refl))
           (summed-free n m c.args.min i slot now now other c.requires.slot
-          (omega (arith, w.if-games-gt0.false, c.games_at-games.ensures.games)) (refl, refl) so_far)
+          (omega (arith, w.if-games-gt0.false, c.between-games.ensures.games)) (refl, refl) so_far)
           c.loop-other.invariant)
     ]
