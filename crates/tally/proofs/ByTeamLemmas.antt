@@ -3,14 +3,17 @@ use Rattle.std.proofs.Common.{◌≡◌, ℕ, ◌+◌, ◌*◌, ◌<◌, ◌≤�
 use Rattle.std.proofs.Common.{set, refl, ap, subst, sym, ◌∙◌, arith}
 use Rattle.std.proofs.lemmas.Bool.{cases_Bool, cases_eq, cases_lt, false≢true, or_cases, or_left, or_right}
 use Rattle.std.proofs.lemmas.List.{get_or-set_other, get_or-set_same, get_or_past, length-set, length_push}
-use Rattle.std.proofs.lemmas.List.Elements.{All-cons, All-contains, All-head, All-push, All-set, All-tail, All-weaker}
+use Rattle.std.proofs.lemmas.List.Elements.{All-append, All-cons, All-contains, All-head, All-push, All-set, All-tail, All-weaker}
 use Rattle.std.proofs.lemmas.List.Elements.{Contains-append_left, Contains-push}
 use Rattle.std.specs.List.{All, Contains, flat_map}
 use Rattle.league.specs.Instance.{IsGame}
 use Rattle.league.specs.declared.game.Game.{Game}
 use Rattle.league.specs.declared.game.TeamId.{TeamId}
+use Rattle.rule_core.specs.declared.rule.Entries.{Ghosts}
 use Rattle.tally.specs.ByTeam.{AreByTeam, GameRoom, games_at, no_games, with_game}
 use Rattle.tally.specs.KeySet.{is_in}
+use Rattle.tally.specs.Ready.{HasWatched}
+use Rattle.tally.proofs.RenewalLemmas.{flat_map-append}
 use Rattle.tally.proofs.SetLemmas.{is_in-append}
 
 -- ---- lists that grow
@@ -205,3 +208,24 @@ same_touched n touches watched games lists teams quiet watches fit are k =
             absurd (false≢true (ap (λ (l : List ℕ). is_in l k) (sym (quiet g fits no neither)) ∙ here))
       ]
     ]))
+
+-- each listed game fits
+pub listed_fit : (n : ℕ) (games : List Game) (lists : List GameRoom) → All (IsGame n) games → AreByTeam n games lists
+    → All (λ l. All (IsGame n) l.list) lists
+listed_fit n games lists fit are = λ i d h j e w.
+    All-contains (IsGame n) games (get_or (get_or lists i d).list j e) fit (are.only i d h j e w)
+
+-- the games of an edit that are listed at the teams that a rule watches touch the keys that all its games touch
+pub touched_by_team : {R : Type 0} (E : Ghosts R) (rule : R) (n : ℕ) (out into : List Game) (lists : List GameRoom)
+    (teams : List TeamId)
+    → ((g : Game) → IsGame (E.team_count rule) g → E.watched rule g.home.0 ≡ false → E.watched rule g.away.0 ≡ false
+    → E.touches rule g ≡ [])
+    → n ≡ E.team_count rule → HasWatched E rule teams → All (IsGame n) out → All (IsGame n) into
+    → AreByTeam n (out ++ into) lists
+    → (k : ℕ) → is_in (flat_map (touched_at (E.touches rule) lists) teams) k
+    ≡ is_in (flat_map (E.touches rule) out ++ flat_map (E.touches rule) into) k
+touched_by_team E rule n out into lists teams quiet same watches out_fit into_fit are k =
+    same_touched (E.team_count rule) (E.touches rule) (E.watched rule) (out ++ into) lists teams quiet watches
+    (subst (λ (m : ℕ). All (IsGame m) (out ++ into)) same (All-append (IsGame n) out into out_fit into_fit))
+    (subst (λ (m : ℕ). AreByTeam m (out ++ into) lists) same are) k
+    ∙ ap (λ (l : List ℕ). is_in l k) (flat_map-append (E.touches rule) out into)

@@ -167,10 +167,10 @@ impl<R: Entries> Kept<R> {
     {
         if self.watches_few(by_team.len()) {
             self.renew_teams(by_team, cells, keys, done, steps);
-        } else {
-            self.renew_games(out, cells, keys, done, steps);
-            self.renew_games(into, cells, keys, done, steps);
+            return;
         }
+        self.renew_games(out, cells, keys, done, steps);
+        self.renew_games(into, cells, keys, done, steps);
     }
 
     /// Whether the rule watches less than a third of so many teams.

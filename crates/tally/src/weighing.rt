@@ -186,11 +186,10 @@ impl<R: Entries> Kept<R> {
             (renewed f done.new.list self.now.vector.items) steps.old steps.new }
     {
         if self.watches_few(by_team.len()) {
-            self.weigh_teams(by_team, self.deviation, cells, keys, done, steps)
-        } else {
-            let first = self.weigh_games(out, self.deviation, cells, keys, done, steps);
-            self.weigh_games(into, first, cells, keys, done, steps)
+            return self.weigh_teams(by_team, self.deviation, cells, keys, done, steps);
         }
+        let first = self.weigh_games(out, self.deviation, cells, keys, done, steps);
+        self.weigh_games(into, first, cells, keys, done, steps)
     }
 
     /// The deviation on the counts that an edit led to: each key that a game of the edit touches is evaluated once.
