@@ -1,5 +1,5 @@
 //! A weighted rule with its entries, and how they follow an edit of the games.
-ghost use Rattle.std.specs.Prelude.{◌≡◌, ◌<◌, ◌≤◌, ◌+◌, ◌*◌, ◌++◌, ◌^◌, [], ◌∷◌, length};
+ghost use Rattle.std.specs.Prelude.{◌≡◌, ◌<◌, ◌≤◌, ◌+◌, ◌*◌, ◌++◌, ◌^◌, true, [], ◌∷◌, length};
 ghost use Rattle.std.specs.List.{All, flat_map, sum};
 ghost use Rattle.league.specs.Counts.{Counts};
 ghost use Rattle.league.specs.Instance.{IsGame};

@@ -209,7 +209,13 @@ impl<R: Entries> Tally<R> {
 
     /// What the rules would cost with some games taken off the counts and as many others put on; or parts of it, one of
     /// which is above its bound.
-    fn weigh_games<L>(&mut self, out: &[Game], into: &[Game], most: Sums, steps: &mut Steps<L>) -> Sums
+    fn weigh_games<L>(
+        &mut self,
+        out: &[Game],
+        into: &[Game],
+        most: Sums,
+        steps: &mut Steps<L>,
+    ) -> Sums
     where
         R: Rule<L>,
         requires out_fit { All (IsGame self.old.table.n) out.now }

@@ -227,7 +227,16 @@ pub(crate) fn weigh_rules<R: Rule<L>, L>(
         + all_touched R.Entries (map (λ k. k.weighted) rules.now) (out.now ++ into.now) }
 {
     let infeasibility = weigh_kind(
-        rules, true, most.infeasibility, out, into, by_team, cells, keys, done, steps,
+        rules,
+        true,
+        most.infeasibility,
+        out,
+        into,
+        by_team,
+        cells,
+        keys,
+        done,
+        steps,
     );
     if infeasibility > most.infeasibility {
         return Sums {
@@ -236,7 +245,16 @@ pub(crate) fn weigh_rules<R: Rule<L>, L>(
         };
     }
     let objective = weigh_kind(
-        rules, false, most.objective, out, into, by_team, cells, keys, done, steps,
+        rules,
+        false,
+        most.objective,
+        out,
+        into,
+        by_team,
+        cells,
+        keys,
+        done,
+        steps,
     );
     Sums {
         infeasibility,
