@@ -199,13 +199,13 @@ same_touched n touches watched games lists teams quiet watches fit are k =
     let g : Game = get_or games i d in
     let fits : IsGame n g = fit i d h in
     elim (cases_Bool (watched g.home.0)) as (λ _. by_team ≡ true) [
-      | inl yes ↦
-          shown_at touches lists teams k g.home.0 g (watches g.home.0 fits.home yes) (are.home i d h) here
-      | inr no ↦ elim (cases_Bool (watched g.away.0)) as (λ _. by_team ≡ true) [
-        | inl yes ↦
-            shown_at touches lists teams k g.away.0 g (watches g.away.0 fits.away yes) (are.away i d h) here
+      | inl seen ↦
+          shown_at touches lists teams k g.home.0 g (watches g.home.0 fits.home seen) (are.home i d h) here
+      | inr unseen ↦ elim (cases_Bool (watched g.away.0)) as (λ _. by_team ≡ true) [
+        | inl seen ↦
+            shown_at touches lists teams k g.away.0 g (watches g.away.0 fits.away seen) (are.away i d h) here
         | inr neither ↦
-            absurd (false≢true (ap (λ (l : List ℕ). is_in l k) (sym (quiet g fits no neither)) ∙ here))
+            absurd (false≢true (ap (λ (l : List ℕ). is_in l k) (sym (quiet g fits unseen neither)) ∙ here))
       ]
     ]))
 

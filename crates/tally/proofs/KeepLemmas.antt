@@ -72,21 +72,21 @@ few_kept {R} E n room kept rules ready weights few = subst (λ (t : ℕ). t < 2 
 pub watched_skip : (watched : ℕ → Bool) (teams : List TeamId) (i : ℕ)
     → ((t : ℕ) → t < i → watched t ≡ true → Contains teams (record { 0 = t })) → watched i ≡ false
     → (t : ℕ) → t < i + 1 → watched t ≡ true → Contains teams (record { 0 = t })
-watched_skip watched teams i so_far no t below yes =
+watched_skip watched teams i so_far unseen t below seen =
     elim (cases_eq t i) as (λ _. Contains teams (record { 0 = t })) [
-      | inl same ↦ absurd (false≢true (sym no ∙ ap watched (sym same) ∙ yes))
-      | inr other ↦ so_far t (omega (arith, below, other)) yes
+      | inl same ↦ absurd (false≢true (sym unseen ∙ ap watched (sym same) ∙ seen))
+      | inr other ↦ so_far t (omega (arith, below, other)) seen
     ]
 
 -- and one that is watched comes last
 pub watched_push : (watched : ℕ → Bool) (teams : List TeamId) (i : ℕ)
     → ((t : ℕ) → t < i → watched t ≡ true → Contains teams (record { 0 = t }))
     → (t : ℕ) → t < i + 1 → watched t ≡ true → Contains (teams ++ (record { 0 = i }) ∷ []) (record { 0 = t })
-watched_push watched teams i so_far t below yes =
+watched_push watched teams i so_far t below seen =
     let team : TeamId = record { 0 = i } in
     elim (cases_eq t i) as (λ _. Contains (teams ++ team ∷ []) (record { 0 = t })) [
       | inl same ↦
           subst (λ (k : ℕ). Contains (teams ++ team ∷ []) (record { 0 = k })) (sym same) (Contains-push teams team)
       | inr other ↦
-          Contains-append_left teams (team ∷ []) (record { 0 = t }) (so_far t (omega (arith, below, other)) yes)
+          Contains-append_left teams (team ∷ []) (record { 0 = t }) (so_far t (omega (arith, below, other)) seen)
     ]

@@ -13,16 +13,16 @@ weigh_kind-objective-requires-clause-ready g c =
     subst (λ (s : KeyList). All (IsReady g.R.Entries c.args.cells.now.n s.room) c.args.rules.now)
     (sym c.weigh_kind-infeasibility.ensures.done) c.requires.ready
 
-pub returns-then-infeasibility-infeasibility-clause-weighed : goal.returns-then-infeasibility-infeasibility-clause-weighed
-returns-then-infeasibility-infeasibility-clause-weighed g c = λ m same exact. record {
+pub returns-then-infeasibility-most-clause-weighed : goal.returns-then-infeasibility-most-clause-weighed
+returns-then-infeasibility-most-clause-weighed g c = λ m same exact. record {
   infeasibility_part = c.weigh_kind-infeasibility.ensures.part m same exact;
   objective_part = omega arith;
-  infeasibility = λ within. absurd (omega (arith, within, c.if-infeasibility-infeasibility.true));
-  objective = λ within also. absurd (omega (arith, within, c.if-infeasibility-infeasibility.true));
+  infeasibility = λ within. absurd (omega (arith, within, c.if-infeasibility-most.true));
+  objective = λ within also. absurd (omega (arith, within, c.if-infeasibility-most.true));
 }
 
-pub returns-then-infeasibility-infeasibility-clause-steps : goal.returns-then-infeasibility-infeasibility-clause-steps
-returns-then-infeasibility-infeasibility-clause-steps g c =
+pub returns-then-infeasibility-most-clause-steps : goal.returns-then-infeasibility-most-clause-steps
+returns-then-infeasibility-most-clause-steps g c =
     omega (
       arith,
       c.weigh_kind-infeasibility.ensures.steps,

@@ -14,7 +14,7 @@ returns-clause-infeasibility g c =
       edited-there (table_counts c.args.self.now.table) c.args.edit.now c.requires.there i j s,
       ap (λ (l : List Game). counts_of l i j s) c.out.ensures.games,
       ap (λ (l : List Game). counts_of l i j s) c.into_games.ensures,
-    ))).infeasibility (omega (arith, c.weigh_games.type_inv.infeasibility))
+    ))).infeasibility (omega (arith, c.weigh_games.type_inv.1.1.0.1))
 
 pub returns-clause-objective : goal.returns-clause-objective
 returns-clause-objective g c =
@@ -24,4 +24,4 @@ returns-clause-objective g c =
       edited-there (table_counts c.args.self.now.table) c.args.edit.now c.requires.there i j s,
       ap (λ (l : List Game). counts_of l i j s) c.out.ensures.games,
       ap (λ (l : List Game). counts_of l i j s) c.into_games.ensures,
-    ))).objective (omega (arith, c.weigh_games.type_inv.infeasibility)) (omega (arith, c.weigh_games.type_inv.objective))
+    ))).objective (omega (arith, c.weigh_games.type_inv.1.1.0.1)) (omega (arith, c.weigh_games.type_inv.1.1.1.0.1))
