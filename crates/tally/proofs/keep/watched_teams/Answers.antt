@@ -14,7 +14,7 @@ loop-number-preserved g c =
     let team : TeamId = record { 0 = number } in
     elim c.if-watches.branch [
       | then-watches+in_ok-push w ↦
-          let pushed : c.if-watches.teams.items ≡ w.push.new.self.items = first_of (cc, rw w.teams-is refl) in
+          let pushed : c.if-watches.teams.items ≡ w.push.new.self.items = first_of (cc, rw w.teams-is) in
           let items : c.if-watches.teams.items ≡ teams ++ team ∷ [] = pushed ∙ w.in_ok-push.ensures.items in
           record {
             ends = c.loop-number.invariant.ends;
@@ -26,7 +26,7 @@ loop-number-preserved g c =
                 (watched_push (g.R.Entries.watched rule) teams number c.loop-number.invariant.watched);
           }
       | else-watches w ↦
-          let items : c.if-watches.teams.items ≡ teams = first_of (cc, rw w.teams-is refl) in
+          let items : c.if-watches.teams.items ≡ teams = first_of (cc, rw w.teams-is) in
           let unseen : g.R.Entries.watched rule number ≡ false = sym c.watches.ensures ∙ w.if-watches.false in
           record {
             ends = c.loop-number.invariant.ends;

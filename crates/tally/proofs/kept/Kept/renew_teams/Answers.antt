@@ -21,7 +21,7 @@ loop-place-preserved g c =
     let team : TeamId = c.index-team.result.now in
     let touches = g.R.Entries.touches c.args.self.now.weighted.rule in
     let within : place < length teams = omega (arith, c.loop-place.invariant.ends, c.loop-place-test.true) in
-    let kept : c.loop-place.self.watched.items ≡ teams = first_of (cc, rw c.loop-place.invariant.watched refl) in
+    let kept : c.loop-place.self.watched.items ≡ teams = first_of (cc, rw c.loop-place.invariant.watched) in
     let here : team ≡ get_or teams place team =
     c.index-team.ensures ∙ ap (λ (l : List TeamId). get_or l place team) kept in
     let there : c.from.result < length by_team =

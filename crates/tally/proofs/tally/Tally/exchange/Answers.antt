@@ -9,9 +9,9 @@ use Rattle.tally.proofs.tally.Tally.exchange.Goals as goal
 
 pub invariant_of-self : goal.invariant_of-self
 invariant_of-self g c =
-    let lists = c.list_edit.new.lists in
+    let lists = c.list_edit-listed.new.lists in
     let as_long : length lists ≡ c.self.inside.by_team.len =
-    omega (arith, c.list_edit.auto.lists, c.deref_mut.ensures.len, ap length c.deref_mut.ensures.value) in
+    omega (arith, c.list_edit-listed.auto.lists, c.deref_mut.ensures.len, ap length c.deref_mut.ensures.value) in
     let all : take c.self.inside.by_team.len (lists ++ drop (length lists) c.self.inside.by_team.items) ≡ lists =
     take_at lists (drop (length lists) c.self.inside.by_team.items) c.self.inside.by_team.len as_long in
     let long : length c.renew_rules.new.rules ≡ c.self.inside.rules.len = omega (arith, c.renew_rules.auto.rules, c.deref_mut-2.ensures.len, ap length c.deref_mut-2.ensures.value) in
@@ -21,7 +21,7 @@ invariant_of-self g c =
     (subst (λ (l : List GameRoom). IsTallied g.R.Entries c.renew_rules.new.rules c.exchange_games.new.cells l c.renew_rules.new.keys.room c.renew_rules.new.done c.renew_rules.new.sums) (sym all)
     (record {
       ready = c.renew_rules.ensures.ready;
-      teams = omega (arith, c.list_edit.auto.lists, ap length c.deref_mut.ensures.value, c.self.invariant.teams, c.exchange_games.ensures.n);
-      room = λ k d h. omega (arith, c.list_edit.ensures.room k d h, c.n.ensures, c.exchange_games.ensures.n);
+      teams = omega (arith, c.list_edit-listed.auto.lists, ap length c.deref_mut.ensures.value, c.self.invariant.teams, c.exchange_games.ensures.n);
+      room = λ k d h. omega (arith, c.list_edit-listed.ensures.room k d h, c.n.ensures.n, c.exchange_games.ensures.n);
       exact = c.renew_rules.ensures.exact (table_counts c.self.inside.cells) c.exchange_games.ensures.same was;
     }))

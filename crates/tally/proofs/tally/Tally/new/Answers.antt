@@ -25,8 +25,8 @@ invariant_of-result g c =
         infeasibility = c.costs-sums.ensures.infeasibility ∙ ap (λ (l : List (Kept g.row.R.Denot)). sum_by hard_cost l) c.deref-3.ensures.value;
         objective = c.costs-sums.ensures.objective ∙ ap (λ (l : List (Kept g.row.R.Denot)). sum_by soft_cost l) c.deref-3.ensures.value;
       };
-      teams = c.in_ok-by_team.ensures.teams ∙ c.n.ensures;
-      room = subst (λ (n : ℕ). All (λ l. 8 * n ≤ l.room) c.in_ok-by_team.by_team.items) c.n.ensures
+      teams = c.in_ok-by_team.ensures.teams ∙ c.n.ensures.n;
+      room = subst (λ (n : ℕ). All (λ l. 8 * n ≤ l.room) c.in_ok-by_team.by_team.items) c.n.ensures.n
           c.in_ok-by_team.ensures.room;
       exact = c.in_ok-rules.ensures.exact;
     }

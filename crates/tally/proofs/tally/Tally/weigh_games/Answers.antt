@@ -25,9 +25,9 @@ invariant_of-self g c =
     let counts : table_counts c.exchange_games-2.new.cells ≡ table_counts c.self.inside.cells =
     same_counts (table_counts c.exchange_games-2.new.cells) (table_counts c.self.inside.cells)
     (λ i j s. omega (arith, c.exchange_games.ensures.counts i j s, c.exchange_games-2.ensures.counts i j s)) in
-    let lists = c.list_edit.new.lists in
+    let lists = c.list_edit-listed.new.lists in
     let as_long : length lists ≡ c.self.inside.by_team.len =
-    omega (arith, c.list_edit.auto.lists, c.deref_mut.ensures.len, ap length c.deref_mut.ensures.value) in
+    omega (arith, c.list_edit-listed.auto.lists, c.deref_mut.ensures.len, ap length c.deref_mut.ensures.value) in
     let all : take c.self.inside.by_team.len (lists ++ drop (length lists) c.self.inside.by_team.items) ≡ lists =
     take_at lists (drop (length lists) c.self.inside.by_team.items) c.self.inside.by_team.len as_long in
     subst (λ (l : List GameRoom). IsTallied g.R.Entries c.self.inside.rules.items c.exchange_games-2.new.cells l
@@ -36,8 +36,8 @@ invariant_of-self g c =
     c.self.inside.by_team.items lists c.self.inside.keys.room c.weigh_rules-sums.new.keys.room c.self.inside.done
     c.weigh_rules-sums.new.done c.self.inside.sums c.self.invariant
     (c.exchange_games-2.ensures.n ∙ c.exchange_games.ensures.n) counts
-    (omega (arith, c.list_edit.auto.lists, ap length c.deref_mut.ensures.value, c.self.invariant.teams))
-    (λ k d h. omega (arith, c.list_edit.ensures.room k d h, c.n.ensures))
+    (omega (arith, c.list_edit-listed.auto.lists, ap length c.deref_mut.ensures.value, c.self.invariant.teams))
+    (λ k d h. omega (arith, c.list_edit-listed.ensures.room k d h, c.n.ensures.n))
     c.weigh_rules-sums.ensures.keys c.weigh_rules-sums.ensures.done)
 
 pub returns-clause-counts : goal.returns-clause-counts
