@@ -10,7 +10,7 @@ use Rattle.keys.specs.Keys.{KeyList}
 use Rattle.cells.specs.Table.{Table, table_counts}
 use Rattle.tally.specs.ByTeam.{GameRoom}
 use Rattle.tally.specs.Ready.{AreReady, IsExact, IsReady, IsTallied, hard_cost, soft_cost}
-use Rattle.tally.specs.Tallies.{cost_on, infeasibility_on, objective_on, vector_on}
+use Rattle.tally.specs.Tallies.{cost_on, infeasibility_on, objective_on}
 use Rattle.tally.specs.Weighing.{if_kind, is_kind}
 use Rattle.tally.specs.declared.kept.Kept.{Kept}
 use Rattle.tally.specs.declared.weigh.Sums.{Sums}

@@ -1,4 +1,4 @@
-use Rattle.std.proofs.Common.{◌≡◌, ◌+◌, ◌≤◌, ◌++◌, ℕ, List, length, take}
+use Rattle.std.proofs.Common.{◌+◌, ◌≤◌, ◌++◌, ℕ, List, length, take}
 use Rattle.std.specs.List.{All}
 use Rattle.league.specs.declared.game.Game.{Game}
 use Rattle.tally.specs.ByTeam.{AreByTeam}

@@ -1,9 +1,9 @@
-use Rattle.std.proofs.Common.{◌≡◌, ◌+◌, ◌<◌, ◌++◌, length, get_or, ap, refl, subst, sym, ◌∙◌, ℕ, take, arith}
+use Rattle.std.proofs.Common.{◌+◌, ◌++◌, length, ap, refl, subst, sym, ◌∙◌, ℕ, take, arith}
 use Rattle.std.proofs.lemmas.List.Sums.{sum_by-take-le}
 use Rattle.std.specs.List.{sum_by}
 use Rattle.cells.specs.Table.{table_counts}
 use Rattle.keys.specs.Keys.{KeyList}
-use Rattle.tally.specs.Ready.{IsExact, IsReady}
+use Rattle.tally.specs.Ready.{IsExact}
 use Rattle.tally.specs.Tallies.{cost_on, touched_count}
 use Rattle.tally.specs.Weighing.{if_kind}
 use Rattle.tally.specs.declared.kept.Kept.{Kept}

@@ -1,4 +1,4 @@
-use Rattle.std.proofs.Common.{◌≡◌, ◌++◌, [], List, map, ap, subst, sym, ◌∙◌, ℕ, arith}
+use Rattle.std.proofs.Common.{◌++◌, map, subst, sym, arith}
 use Rattle.std.specs.List.{All}
 use Rattle.keys.specs.Keys.{KeyList}
 use Rattle.tally.specs.Ready.{IsReady}

@@ -1,4 +1,4 @@
-use Rattle.std.proofs.Common.{◌≡◌, ◌+◌, ◌<◌, ◌≤◌, ◌++◌, ℕ, List, length, get_or, take, ap, refl, subst, sym, ◌∙◌, arith}
+use Rattle.std.proofs.Common.{◌≡◌, ◌<◌, ◌≤◌, ◌++◌, ℕ, List, length, get_or, take, ap, subst, sym, ◌∙◌, arith}
 use Rattle.std.proofs.lemmas.List.{get_or_read, take_all}
 use Rattle.std.specs.List.{flat_map}
 use Rattle.league.specs.declared.game.Game.{Game}
