@@ -57,11 +57,7 @@ impl Score {
 }
 
 /// Whether an edit lowers the score of a tally's games. The tally has the same games as before.
-pub(crate) fn lowers<R: Rule<L>, L>(
-    tally: &mut Tally<R>,
-    edit: &Edit,
-    steps: &mut Steps<L>,
-) -> bool
+pub(crate) fn lowers<R: Rule<L>, L>(tally: &mut Tally<R>, edit: &Edit, steps: &mut Steps<L>) -> bool
     requires out_fit { All (IsGame tally.old.table.n) edit.now.out }
     requires into_fit { All (IsGame tally.old.table.n) edit.now.into }
     requires there { (i j s : ℕ) → counts_of edit.now.out i j s ≤ table_counts tally.old.table i j s }

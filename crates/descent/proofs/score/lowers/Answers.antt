@@ -1,5 +1,5 @@
 use Rattle.cells.specs.Table.{table_counts}
-use Rattle.std.proofs.Common.{ap, sym, ◌∙◌}
+use Rattle.std.proofs.Common.{ap, ◌∙◌}
 use Rattle.moves.specs.Round.{edited}
 use Rattle.descent.specs.Score.{is_lower, score_on}
 use Rattle.descent.specs.declared.score.Score.{Score}
