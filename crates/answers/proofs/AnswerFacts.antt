@@ -7,11 +7,11 @@ use Rattle.answers.specs.Reply.{Answer, kind_word, malformed, read_fault, refuse
 use Rattle.answers.specs.Status.{status_code}
 use Rattle.answers.specs.Stages.{IsFile, IsUnread, IsWritten}
 use Rattle.answers.specs.declared.status.Status.{Status}
-use Rattle.answers.specs.declared.status.Status.TheVariants.{Yes, No, Words, File, Refuted, Spent, ReadFault, WriteFault, Memory}
+use Rattle.answers.specs.declared.status.Status.TheVariants.{Yes, No, Words, File, Refuted, Spent, ReadFault, WriteFault, Memory, Better}
 
 -- statuses count from 0 in their order
-pub status_code-all : (status_code Yes ≡ 0) × (status_code No ≡ 1) × (status_code Words ≡ 2) × (status_code File ≡ 3) × (status_code Refuted ≡ 4) × (status_code Spent ≡ 5) × (status_code ReadFault ≡ 6) × (status_code WriteFault ≡ 7) × (status_code Memory ≡ 8)
-status_code-all = (refl, refl, refl, refl, refl, refl, refl, refl, refl)
+pub status_code-all : (status_code Yes ≡ 0) × (status_code No ≡ 1) × (status_code Words ≡ 2) × (status_code File ≡ 3) × (status_code Refuted ≡ 4) × (status_code Spent ≡ 5) × (status_code ReadFault ≡ 6) × (status_code WriteFault ≡ 7) × (status_code Memory ≡ 8) × (status_code Better ≡ 9)
+status_code-all = (refl, refl, refl, refl, refl, refl, refl, refl, refl, refl)
 
 -- refusals
 pub refused_words-is : refused_words ≡ record { status = Words; text = codes "refused words\n" }

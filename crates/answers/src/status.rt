@@ -5,7 +5,7 @@ ghost use Rattle.answers.specs.Status.{status_code};
 /// How a run ended.
 #[derive(Clone, Copy, Debug, PartialEq, Eq)]
 pub enum Status {
-    /// The answer is yes: the schedule or the log is accepted, or a schedule was made.
+    /// The answer is yes: the schedule or the log is accepted, a schedule was made, or one can't be bettered.
     Yes,
     /// The answer is no: the schedule or the log isn't accepted.
     No,
@@ -23,9 +23,11 @@ pub enum Status {
     WriteFault,
     /// Memory ran out.
     Memory,
+    /// A schedule that costs less was found, and is written.
+    Better,
 }
 
-/// The exit status of the process, from 0 to 8 in the order of `Status`.
+/// The exit status of the process, from 0 to 9 in the order of `Status`.
 pub fn code(status: Status) -> u8
     ensures { result ≡ status_code status }
 {

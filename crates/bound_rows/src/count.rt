@@ -20,8 +20,12 @@ use league::{Class, Constraint, League, TeamSet, slot_count};
 use rows::RowStore;
 use std::alloc::{AllocError, Global};
 
-/// How many terms the bound rows of a league have.
-pub(crate) fn bound_terms(alloc: Global, league: &League) -> Result<u64, AllocError>
+/// How many terms the bound rows of a league have, whatever the bound; where a number of 64 bits doesn't hold that, the
+/// largest one.
+///
+/// # Errors
+/// Only where memory runs out.
+pub fn bound_terms(alloc: Global, league: &League) -> Result<u64, AllocError>
     ensures { IfOk result (λ terms. terms ≡ capped (bounds.bound_size league.now)) }
 {
     let base = encoding_size(league).saturating_add(more_terms(league));

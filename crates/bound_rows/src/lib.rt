@@ -6,4 +6,5 @@ mod draft;
 mod system;
 mod written;
 
-pub use system::{BoundSystem, bound_system};
+pub use count::bound_terms;
+pub use system::{BoundSystem, MOST_TERMS, bound_system};

@@ -15,7 +15,7 @@ use std::alloc::{AllocError, Global};
 use std::marker::Model;
 
 /// The most terms that bound rows have (own limit).
-const MOST_TERMS: u64 = 40_000_000;
+pub const MOST_TERMS: u64 = 40_000_000;
 
 /// The bound rows of a league and a bound on the objective: seen as these two. It keeps a copy of the league.
 #[derive(Drop)]

@@ -8,4 +8,5 @@ mod replies;
 mod stages;
 
 pub use feeding::LOG_LIMIT;
+pub use replies::{log_refused, rows_refused, verdict_reply};
 pub use stages::check;

@@ -3,7 +3,8 @@
 //! A contract sees the answer by the stages of `specs/Validate.antt`, and the judgement by the definitions of `league`.
 #![tactic(auto)]
 
-mod judge;
+mod judging;
 mod stages;
 
+pub use judging::judge;
 pub use stages::validate;

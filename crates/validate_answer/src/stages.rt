@@ -7,7 +7,7 @@ ghost use Rattle.answers.specs.SeenReply.{answer_of, Answers};
 ghost use Rattle.answers.specs.Stages.{says};
 ghost use Rattle.validate_answer.specs.Validate.{IsJudgement, validated};
 
-use crate::judge::judge;
+use crate::judging::judge;
 use answers::{NoValue, Reply, file, league_in, schedule_in};
 use league::League;
 use robin_io::Shelf;

@@ -1,7 +1,7 @@
 use Rattle.std.proofs.Common.{◌<◌, length, sym, arith, string_bytes}
 use Rattle.std.proofs.lemmas.Option.{get_or_from_slice_get}
 use Rattle.validate_answer.proofs.ReportLemmas.{line_added}
-use Rattle.validate_answer.proofs.judge.push_constraints.Goals as goal
+use Rattle.validate_answer.proofs.judging.push_constraints.Goals as goal
 
 pub loop-k-preserved : goal.loop-k-preserved
 loop-k-preserved c =

@@ -55,6 +55,9 @@ fn report_on(
 }
 
 /// Judges a schedule by a league, and makes the report.
+///
+/// # Errors
+/// Only where memory runs out.
 pub fn judge(alloc: Global, league: &League, schedule: &Schedule) -> Result<Reply, AllocError>
     requires few { length schedule.now ≤ 10000 }
     requires fit { All (IsGame league.now.n) schedule.now }

@@ -1,0 +1,6 @@
+-- Lemmas on the stages:
+mod StageLemmas
+-- What follows from an answer:
+pub mod AnswerLemmas
+-- Worked examples, so that a wrong definition does not check:
+pub mod BoundAnswerFacts

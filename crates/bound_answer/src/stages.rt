@@ -1,0 +1,98 @@
+//! The stages of `bound`.
+ghost use Rattle.std.specs.Prelude.{◌≡◌, ◌<◌, ◌≤◌, ℕ, List, IfOk, Ok};
+ghost use Rattle.robin_io.specs.Counts.{Rose, TookMore};
+ghost use Rattle.answers.specs.SeenReply.{answer_of, Answers, MatchStage};
+ghost use Rattle.check_answer.specs.Check.{most_terms, too_large};
+ghost use Rattle.bound_base.specs.BoundRows.{bound_size};
+ghost use Rattle.bound_rows.specs.Sizes.{capped};
+ghost use Rattle.certificates.specs.Certificates.{certificate_of};
+ghost use Rattle.bound_answer.specs.Bound.{IsBoundVerdict, bounded, says_certificate};
+ghost use Rattle.bound_answer.specs.Faults.{IsMalformed};
+
+use crate::replies::judge;
+use answers::{NoValue, Reply, file, league_in};
+use bound_rows::{MOST_TERMS, bound_terms};
+use certificates::{Certificate, read_certificate};
+use check_answer::{LOG_LIMIT, log_refused, rows_refused};
+use league::League;
+use refutation::LogFault;
+use robin_io::Shelf;
+use robinx_read::INSTANCE_LIMIT;
+use std::alloc::{AllocError, Global};
+
+/// Goes on where the bound rows of a league haven't too many terms.
+pub fn has_few_terms(alloc: Global, league: &League) -> Result<(), NoValue>
+    ensures { MatchStage result
+        (λ few. bound_size league.now ≤ most_terms)
+        (λ answer. (most_terms < bound_size league.now)
+        × (answer ≡ too_large (capped (bound_size league.now)))) }
+{
+    let terms = bound_terms(alloc, league)?;
+    if terms > MOST_TERMS {
+        return Err(NoValue::Refused(rows_refused(alloc, terms)?));
+    }
+    Ok(())
+}
+
+/// The certificate that a text writes.
+fn certificate_in(alloc: Global, bytes: &[u8]) -> Result<Certificate, NoValue>
+    ensures { MatchStage result
+        (λ certificate. certificate_of bytes.now ≡ Ok certificate)
+        (IsMalformed (certificate_of bytes.now)) }
+{
+    match read_certificate(alloc, bytes) {
+        Ok(certificate) => Ok(certificate),
+        Err(LogFault::Form { kind, line }) => {
+            Err(NoValue::Refused(log_refused(alloc, kind, line)?))
+        }
+        Err(LogFault::Mem) => Err(NoValue::Memory),
+    }
+}
+
+/// Judges the certificate that a text writes.
+fn judge_text(alloc: Global, bytes: &[u8], league: &League) -> Result<Reply, NoValue>
+    ensures { Answers (says_certificate (certificate_of bytes.now) (IsBoundVerdict league.now)) result }
+{
+    let certificate = certificate_in(alloc, bytes)?;
+    Ok(judge(alloc, league, &certificate)?)
+}
+
+/// The stages of `bound`.
+fn bound_stages<S: Shelf>(
+    alloc: Global,
+    shelf: &mut S,
+    instance: &str,
+    log: &str,
+) -> Result<Reply, NoValue>
+    ensures answer { Answers (bounded (S.contents shelf.old)
+        (λ limit. TookMore limit (S.taken shelf.old) (S.taken shelf.new))
+        (λ name. Rose (S.faults shelf.old name) (S.faults shelf.new name))
+        instance.now log.now) result }
+    ensures contents { (n : List ℕ) → S.contents shelf.new n ≡ S.contents shelf.old n }
+{
+    let first = file(alloc, shelf, "instance", instance, INSTANCE_LIMIT)?;
+    let league = league_in(alloc, &first)?;
+    has_few_terms(alloc, &league)?;
+    let second = file(alloc, shelf, "log", log, LOG_LIMIT)?;
+    judge_text(alloc, &second, &league)
+}
+
+/// Checks the certificate of one file over the bound rows of the league of the other.
+pub fn bound_file<S: Shelf>(
+    alloc: Global,
+    shelf: &mut S,
+    instance: &str,
+    log: &str,
+) -> Result<Reply, AllocError>
+    ensures answer { IfOk result (λ reply. bounded (S.contents shelf.old)
+        (λ limit. TookMore limit (S.taken shelf.old) (S.taken shelf.new))
+        (λ name. Rose (S.faults shelf.old name) (S.faults shelf.new name))
+        instance.now log.now (answer_of reply)) }
+    ensures contents { (n : List ℕ) → S.contents shelf.new n ≡ S.contents shelf.old n }
+{
+    match bound_stages(alloc, shelf, instance, log) {
+        Ok(reply) => Ok(reply),
+        Err(NoValue::Refused(reply)) => Ok(reply),
+        Err(NoValue::Memory) => Err(AllocError),
+    }
+}

@@ -1,0 +1,179 @@
+-- What the answers say of a league and a schedule.
+use Rattle.std.proofs.Common.{◌≡◌, ℕ, ◌+◌, ◌-◌, ◌*◌, ◌<◌, ◌≤◌, Bool, true, false, cond, List, [], ◌∷◌, ◌++◌, length}
+use Rattle.std.proofs.Common.{get_or, Option, refl, sym, ap, subst, ◌∙◌, arith}
+use Rattle.std.proofs.lemmas.Bool.{or_left}
+use Rattle.std.proofs.lemmas.List.Elements.{All-nil, All-weaker}
+use Rattle.std.proofs.lemmas.List.Sums.{sum_by-append}
+use Rattle.std.specs.List.{All, sum_by}
+use Rattle.league.specs.Accepted.{IsAccepted, objective}
+use Rattle.league.specs.Counts.{Counts, counts_of}
+use Rattle.league.specs.Instance.{Instance, IsGame, IsInstance}
+use Rattle.league.specs.Order.{IsInOrder}
+use Rattle.league.specs.declared.game.Game.{Game}
+use Rattle.rows.specs.Rows.{Row, SatisfiesAll, size_of}
+use Rattle.encoding_base.specs.Encoding.{constraint_rows, encoding_size, season_rows}
+use Rattle.encoding_base.specs.Known.{AreKnown, IsKnown}
+use Rattle.encoding_base.specs.Season.{break_rows}
+use Rattle.encoding_base.specs.Shadow.{decoded}
+use Rattle.encoding_base.specs.Variables.{h_count, has_breaks, hb_count, var_count, x_count}
+use Rattle.propagate.specs.Trails.{KnowsVariables}
+use Rattle.refutation_check.specs.Soundness.{HaveNoSolution}
+use Rattle.refutation_check.proofs.SoundLemmas.{accepted_logs_refute}
+use Rattle.refutation.specs.Steps.{NamesRows, Step, is_linear}
+use Rattle.clause_search.specs.Answers.{IsAnswer, IsSpentAt, Refutes}
+use Rattle.clause_search.specs.declared.found.Found.{Found}
+use Rattle.log_lines.proofs.LineLemmas.{step_named}
+use Rattle.pattern_search.proofs.LogLemmas.{refuted-clauses}
+use Rattle.pattern_search.proofs.NewsLemmas.{news-clauses}
+use Rattle.descent.specs.Descended.{Descended}
+use Rattle.solve.specs.Solutions.{IsSchedule}
+use Rattle.solve.proofs.GameLemmas.{accepted_few, decoded_fit}
+use Rattle.bound_base.specs.BoundRows.{base_rows, base_vars, bound_rows, bound_size, bound_vars, has_paid_breaks}
+use Rattle.bound_base.specs.BoundRows.{needs_breaks}
+use Rattle.bound_laws.specs.Faithful.{IsLowerBound}
+use Rattle.bound_laws.proofs.Faithful.{bounded-from_rows, bounds-from_refuted}
+use Rattle.bound_rows.proofs.SizeLemmas.{bound_size-groups}
+use Rattle.bounds.specs.Proofs.{IsBetter, IsLeast, IsSpentBelow}
+
+pub knows-from_known : (vars : ℕ) (rows : List Row) → AreKnown vars rows → All (KnowsVariables vars) rows
+knows-from_known vars rows known =
+    All-weaker (IsKnown vars) (KnowsVariables vars) (λ row is k d within. (is k d within).1) rows known
+
+-- ---- the league's own encoding is no larger
+
+breaks-le : (league : Instance) (b : Bool) → has_breaks league.constraints ≡ b
+    → size_of (break_rows league.n (has_breaks league.constraints))
+    ≤ size_of (break_rows league.n (needs_breaks league.constraints))
+breaks-le league true has =
+    let needs : needs_breaks league.constraints ≡ true =
+    or_left (has_breaks league.constraints) (has_paid_breaks league.constraints) has in
+    omega (
+      arith,
+      ap (λ (b : Bool). size_of (break_rows league.n b)) has,
+      ap (λ (b : Bool). size_of (break_rows league.n b)) needs,
+    )
+breaks-le league false has = omega (arith, ap (λ (b : Bool). size_of (break_rows league.n b)) has)
+
+pub encoding-le : (league : Instance) → encoding_size league ≤ bound_size league
+encoding-le league =
+    let n : ℕ = league.n in
+    let terms : Row → ℕ = λ r. length r.terms in
+    let season : List Row = season_rows n league.phased in
+    let hard : List Row = constraint_rows n league.constraints in
+    omega (
+      arith,
+      bound_size-groups league,
+      sum_by-append terms (season ++ break_rows n (has_breaks league.constraints)) hard,
+      sum_by-append terms season (break_rows n (has_breaks league.constraints)),
+      sum_by-append terms (season ++ break_rows n (needs_breaks league.constraints)) hard,
+      sum_by-append terms season (break_rows n (needs_breaks league.constraints)),
+      breaks-le league (has_breaks league.constraints) refl,
+    )
+
+vars-by : (league : Instance) (b : Bool) → has_breaks league.constraints ≡ b → var_count league ≤ base_vars league
+vars-by league true has =
+    let needs : needs_breaks league.constraints ≡ true =
+    or_left (has_breaks league.constraints) (has_paid_breaks league.constraints) has in
+    omega (
+      arith,
+      ap (λ (b : Bool). cond b (2 * hb_count league.n) 0) has,
+      ap (λ (b : Bool). cond b (2 * hb_count league.n) 0) needs,
+    )
+vars-by league false has = omega (arith, ap (λ (b : Bool). cond b (2 * hb_count league.n) 0) has)
+
+pub vars-le : (league : Instance) → var_count league ≤ bound_vars league
+vars-le league = omega (arith, vars-by league (has_breaks league.constraints) refl)
+
+-- ---- logs that can be written
+
+refuted-named : (rows : List Row) (vars : ℕ) (limit : Option ℕ) (steps : List Step) → Refutes rows vars limit steps
+    → All NamesRows steps
+refuted-named rows vars limit steps is =
+    let clauses : All (λ step. is_linear step ≡ false) steps = refuted-clauses rows vars limit steps is in
+    λ k d within. step_named vars (get_or steps k d) (is.tidy k d within) (clauses k d within)
+
+spent-named : (rows : List Row) (vars : ℕ) (limit : Option ℕ) (steps : List Step) → IsSpentAt rows vars limit steps
+    → All NamesRows steps
+spent-named rows vars limit steps is =
+    let clauses : All (λ step. is_linear step ≡ false) steps = news-clauses rows vars steps is.spent.news in
+    λ k d within. step_named vars (get_or steps k d) (is.tidy k d within) (clauses k d within)
+
+-- ---- answers
+
+pub better-of : (league : Instance) (m : Counts) (moves cost : ℕ) (games : List Game) (descent : Descended)
+    → IsSchedule league moves games cost descent → cost < objective league m → IsBetter league m games cost
+better-of league m moves cost games descent is less = record {
+  accepted = is.accepted;
+  fit = is.fit;
+  in_order = is.in_order;
+  cost = is.cost;
+  lower = less;
+}
+
+-- games that are decoded from values which satisfy the bound rows
+pub decoded_bounded : (league : Instance) (bound : ℕ) (values : ℕ → Bool) (games : List Game) → IsInstance league
+    → SatisfiesAll values (bound_rows league bound) → games ≡ decoded league.n values
+    → IsAccepted league (counts_of games) × (objective league (counts_of games) ≤ bound)
+decoded_bounded league bound values games is meets same =
+    let found = bounded-from_rows league bound values is meets in
+    (subst (λ (gs : List Game). IsAccepted league (counts_of gs)) (sym same) found.0,
+    subst (λ (gs : List Game). objective league (counts_of gs) ≤ bound) (sym same) found.1)
+
+pub least-of : (league : Instance) (m : Counts) (limit : Option ℕ) (cost : ℕ) (steps : List Step) → IsInstance league
+    → objective league m ≡ cost → 1 ≤ cost → Refutes (bound_rows league (cost - 1)) (bound_vars league) limit steps
+    → IsLeast league m limit cost steps
+least-of league m limit cost steps is costs some refutes = record {
+  cost = sym costs;
+  least = bounds-from_refuted league cost is
+      (accepted_logs_refute (bound_rows league (cost - 1)) (bound_vars league) steps refutes.accepted);
+  nothing = λ none. absurd (omega (arith, none, some));
+  refutes = λ positive. refutes;
+  named = refuted-named (bound_rows league (cost - 1)) (bound_vars league) limit steps refutes;
+}
+
+pub spent-of : (league : Instance) (m : Counts) (limit : Option ℕ) (cost : ℕ) (steps : List Step)
+    → objective league m ≡ cost → 1 ≤ cost → IsSpentAt (bound_rows league (cost - 1)) (bound_vars league) limit steps
+    → IsSpentBelow league m limit steps
+spent-of league m limit cost steps costs some spent = record {
+  some = omega (arith, costs, some);
+  spent = subst (λ (c : ℕ). IsSpentAt (bound_rows league (c - 1)) (bound_vars league) limit steps) (sym costs) spent;
+  named = spent-named (bound_rows league (cost - 1)) (bound_vars league) limit steps spent;
+}
+
+pub least_of_none : (league : Instance) (m : Counts) (limit : Option ℕ) → objective league m ≡ 0
+    → IsLeast league m limit 0 []
+least_of_none league m limit costs = record {
+  cost = sym costs;
+  least = λ other accepted. omega arith;
+  nothing = λ none. refl;
+  refutes = λ some. absurd (omega (arith, some));
+  named = All-nil NamesRows;
+}
+
+-- what a search answers is over the rows and the variables that it was given
+pub answer-of : (league : Instance) (bound vars : ℕ) (rows : List Row) (limit : Option ℕ) (answer : Found)
+    → rows ≡ bound_rows league bound → vars ≡ bound_vars league → IsAnswer rows vars limit answer
+    → IsAnswer (bound_rows league bound) (bound_vars league) limit answer
+answer-of league bound vars rows limit answer rows_are vars_are is =
+    subst (λ (rs : List Row). IsAnswer rs (bound_vars league) limit answer) rows_are
+    (subst (λ (vs : ℕ). IsAnswer rows vs limit answer) vars_are is)
+
+-- the games that are decoded from values which satisfy the bound rows of one less
+pub record IsLower (league : Instance) (objective_was : ℕ) (games : List Game) : Type 0 where
+  pub accepted : IsAccepted league (counts_of games)
+  pub fit : All (IsGame league.n) games
+  pub few : length games ≤ 10000
+  pub lower : objective league (counts_of games) < objective_was
+
+pub lower-of : (league : Instance) (was n : ℕ) (values : ℕ → Bool) (games : List Game) → IsInstance league
+    → 1 ≤ was → SatisfiesAll values (bound_rows league (was - 1)) → n ≡ league.n → games ≡ decoded n values
+    → IsLower league was games
+lower-of league was n values games is some meets teams same =
+    let are : games ≡ decoded league.n values = same ∙ ap (λ (k : ℕ). decoded k values) teams in
+    let found = decoded_bounded league (was - 1) values games is meets are in
+    record {
+      accepted = found.0;
+      fit = subst (λ (gs : List Game). All (IsGame league.n) gs) (sym are) (decoded_fit league.n values);
+      few = accepted_few league.n values games are is.teams.at_most found.0.round_robin.pairs;
+      lower = omega (arith, found.1, some);
+    }

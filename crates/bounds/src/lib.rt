@@ -1,0 +1,11 @@
+//! Least objectives: whether a schedule can be bettered.
+//!
+//! `specs/Proofs.antt` says what each answer promises.
+#![tactic(auto)]
+
+mod lower;
+mod proved;
+mod prover;
+
+pub use proved::Proved;
+pub use prover::prove;

@@ -1,0 +1,69 @@
+//! From a schedule that is accepted down to a better one.
+ghost use Rattle.std.specs.Prelude.{◌≡◌, ◌≤◌, length, IfOk};
+ghost use Rattle.std.specs.List.{All};
+ghost use Rattle.league.specs.Accepted.{IsAccepted};
+ghost use Rattle.league.specs.Accepted as costs;
+ghost use Rattle.league.specs.Counts.{counts_of};
+ghost use Rattle.league.specs.Instance.{IsGame};
+ghost use Rattle.solve.specs.Solutions.{IsSchedule};
+
+use descent::{Descent, descend, season_of};
+use deviation::assess;
+use league::{League, Schedule};
+use rule_core::{Plain, Steps};
+use std::alloc::{AllocError, Global};
+use tally::league_tally;
+
+/// A schedule that is accepted, with its objective, and the descent that led to it.
+#[derive(Drop)]
+pub(crate) struct Lowered {
+    pub(crate) schedule: Schedule,
+    pub(crate) objective: u128,
+    pub(crate) descent: Descent,
+}
+
+/// The schedule to which a descent of at most so many moves leads from an accepted one.
+pub(crate) fn lowered(
+    alloc: Global,
+    league: &League,
+    start: &Schedule,
+    moves: u64,
+) -> Result<Lowered, AllocError>
+    requires accepted { IsAccepted league.now (counts_of start.now) }
+    requires fit { All (IsGame league.now.n) start.now }
+    requires few { length start.now ≤ 10000 }
+    ensures { IfOk result (λ lowered.
+        IsSchedule league.now moves lowered.schedule lowered.objective lowered.descent) }
+{
+    let mut steps = Steps::<Plain>::start();
+    let mut tally = league_tally(alloc, league, 1, start.games(), &mut steps)?;
+    let phased = league.phased();
+    let descent = descend(alloc, phased, &mut tally, moves, &mut steps)?;
+    let schedule = season_of(alloc, phased, tally.cells())?;
+    Ok(Lowered {
+        schedule,
+        objective: tally.objective(),
+        descent,
+    })
+}
+
+/// The objective of a schedule.
+///
+/// # Errors
+/// Where memory runs out, and where the objective is too large for a number of 64 bits, as it isn't in a league whose bound
+/// rows are few enough.
+pub(crate) fn objective_of(
+    alloc: Global,
+    league: &League,
+    schedule: &Schedule,
+) -> Result<u64, AllocError>
+    requires few { length schedule.now ≤ 10000 }
+    requires fit { All (IsGame league.now.n) schedule.now }
+    ensures { IfOk result (λ objective. objective ≡ costs.objective league.now (counts_of schedule.now)) }
+{
+    let assessed = assess(alloc, league, schedule)?;
+    if assessed.objective > u128::from(u64::MAX) {
+        return Err(AllocError);
+    }
+    Ok(assessed.objective as u64)
+}

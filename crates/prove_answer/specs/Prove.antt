@@ -1,0 +1,117 @@
+-- What `prove` answers: its stages in their order, and what is shown of a schedule.
+use Rattle.std.specs.Prelude.{◌≡◌, ℕ, ◌+◌, ◌-◌, ◌<◌, ◌≤◌, ◌^◌, ◌⊎◌, List, length, codes, Option, Some, Ok}
+use Rattle.std.specs.Io.KnownBytes.{Appends}
+use Rattle.league.specs.Accepted.{IsAccepted, objective}
+use Rattle.league.specs.Counts.{counts_of}
+use Rattle.league.specs.Instance.{Instance}
+use Rattle.league.specs.Order.{IsInOrder}
+use Rattle.league.specs.declared.game.Game.{Game}
+use Rattle.robinx_tags.specs.Pieces.{pieces}
+use Rattle.robinx_form.specs.InstanceFile.{instance_of}
+use Rattle.robinx_form.specs.SolutionFile.{solution_of}
+use Rattle.robinx_form.specs.Texts.{solution_text}
+use Rattle.robinx_read.specs.declared.instance.TheConstants.{INSTANCE_LIMIT, SOLUTION_LIMIT}
+use Rattle.answers.specs.Reply.{Answer}
+use Rattle.answers.specs.Stages.{◌>>=◌, Outcome, reads, says}
+use Rattle.answers.specs.declared.status.Status.{Status}
+use Rattle.answers.specs.declared.status.Status.TheVariants.{Yes, No, Spent, Better}
+use Rattle.refutation.specs.Logs.{log_of}
+use Rattle.refutation.specs.Steps.{Step}
+use Rattle.refutation.specs.Texts.{log_text}
+use Rattle.refutation.specs.Writable.{HasShortLines}
+use Rattle.refutation.specs.declared.verdict.Verdict.TheVariants.{Accepted}
+use Rattle.clause_search.specs.News.{IsSpent}
+use Rattle.bound_base.specs.BoundRows.{bound_rows, bound_size, bound_vars}
+use Rattle.bound_laws.specs.Faithful.{IsLowerBound}
+use Rattle.certificates.specs.Certificates.{certificate_of, certificate_text}
+use Rattle.validate_answer.specs.Validate.{IsJudgement, IsWellFormedPair}
+use Rattle.check_answer.specs.Check.{most_terms}
+use Rattle.bound_answer.specs.Bound.{bound_verdict, has_few_terms}
+
+-- ---- what is shown of a schedule
+
+-- the league doesn't accept it, and the report of `validate` says why
+pub record IsRejected (league : Instance) (games : List Game) (answer : Answer) : Type 0 where
+  pub judgement : IsJudgement league games answer
+  pub status : answer.status ≡ No
+
+-- No schedule that the league accepts has a lower objective. A certificate that `bound` accepts is written; where no
+-- line of its log passes the limit of a line, it reads back as it.
+pub record IsLeast (league : Instance) (games : List Game) (answer : Answer) : Type 0 where
+  pub steps : List Step
+  pub accepted : IsAccepted league (counts_of games)
+  pub least : IsLowerBound league (objective league (counts_of games))
+  pub proves : bound_verdict league (objective league (counts_of games)) steps ≡ Accepted
+  pub status : answer.status ≡ Yes
+  pub text : answer.text ≡ certificate_text (objective league (counts_of games)) steps
+  pub reads_back : HasShortLines steps
+      → certificate_of answer.text ≡ Ok (record { bound = objective league (counts_of games); log = steps })
+
+-- a schedule that the league accepts, in order, with a lower objective, is written as a solution file, with it
+pub record IsBettered (league : Instance) (games : List Game) (answer : Answer) : Type 0 where
+  pub better : List Game
+  pub accepted : IsAccepted league (counts_of games)
+  pub better_accepted : IsAccepted league (counts_of better)
+  pub in_order : IsInOrder better
+  pub lower : objective league (counts_of better) < objective league (counts_of games)
+  pub status : answer.status ≡ Better
+  pub text : answer.text ≡ solution_text better (Some (0, objective league (counts_of better)))
+
+-- A log that is spent at the budget over the bound rows of one less than the schedule's objective is written; where no
+-- line of it passes the limit of a line, it reads back as it. The budget is below 3 to the number of variables, so a
+-- greater one, or none, is never spent.
+pub record IsSpentBelow (league : Instance) (conflicts : Option ℕ) (games : List Game) (answer : Answer) : Type 0
+  where
+  pub steps : List Step
+  pub accepted : IsAccepted league (counts_of games)
+  pub some : 1 ≤ objective league (counts_of games)
+  pub budget : conflicts ≡ Some (length steps)
+  pub spent : IsSpent (length steps) (bound_rows league (objective league (counts_of games) - 1)) (bound_vars league)
+      steps
+  pub few : length steps < 3 ^ bound_vars league
+  pub status : answer.status ≡ Spent
+  pub text : answer.text ≡ log_text steps
+  pub reads_back : HasShortLines steps → log_of answer.text ≡ Ok steps
+
+-- what is shown of a schedule, by a search that learns at most so many clauses
+abbrev pub IsShown : Instance → Option ℕ → List Game → Outcome
+IsShown league conflicts games answer =
+    IsRejected league games answer
+    ⊎ (IsLeast league games answer
+    ⊎ (IsBettered league games answer ⊎ IsSpentBelow league conflicts games answer))
+
+-- ---- stages
+
+-- `prove`, over the contents of the store's files where they are known, how many bytes it gave more than, and the files
+-- at which it failed
+abbrev pub proved : (List ℕ → Option (List ℕ)) → (ℕ → Type 0) → (List ℕ → Type 0) → List ℕ → List ℕ → Option ℕ
+    → Outcome
+proved contents took_more failed instance solution conflicts = do
+  first ← reads (codes "instance") (contents instance) INSTANCE_LIMIT (took_more INSTANCE_LIMIT) (failed instance)
+  league ← says (codes "instance") (instance_of (pieces first))
+  few ← has_few_terms league
+  let long = took_more (length first + SOLUTION_LIMIT)
+  second ← reads (codes "solution") (contents solution) SOLUTION_LIMIT long (failed solution)
+  games ← says (codes "solution") (solution_of league.n (pieces second))
+  IsShown league conflicts games
+
+-- ---- a run
+
+-- a well-formed pair of files, whose league's bound rows aren't too many
+pub record IsWellFormedCase
+    (contents : List ℕ → Option (List ℕ))
+    (failed : List ℕ → Type 0)
+    (instance solution : List ℕ)
+    (league : Instance)
+    (games : List Game)
+    : Type 0 where
+  pub pair : IsWellFormedPair contents failed instance solution league games
+  pub small : bound_size league ≤ most_terms
+
+-- what is shown is written whole
+pub record IsProved (league : Instance) (conflicts : Option ℕ) (games : List Game) (ended : Status)
+    (old new : Option (List ℕ)) : Type 0 where
+  pub answer : Answer
+  pub shown : IsShown league conflicts games answer
+  pub status : ended ≡ answer.status
+  pub written : Appends old new answer.text
