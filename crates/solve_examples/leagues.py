@@ -240,4 +240,5 @@ def main():
     print(len(lines), sum("refutation" in w for w in wanted))
 
 
-main()
+if __name__ == "__main__":
+    main()

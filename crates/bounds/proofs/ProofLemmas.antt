@@ -33,6 +33,7 @@ use Rattle.bound_base.specs.BoundRows.{needs_breaks}
 use Rattle.bound_laws.specs.Faithful.{IsLowerBound}
 use Rattle.bound_laws.proofs.Faithful.{bounded-from_rows, bounds-from_refuted}
 use Rattle.bound_rows.proofs.SizeLemmas.{bound_size-groups}
+use Rattle.bounds.specs.Lower.{IsLower}
 use Rattle.bounds.specs.Proofs.{IsBetter, IsLeast, IsSpentBelow}
 
 pub knows-from_known : (vars : ℕ) (rows : List Row) → AreKnown vars rows → All (KnowsVariables vars) rows
@@ -159,21 +160,27 @@ answer-of league bound vars rows limit answer rows_are vars_are is =
     (subst (λ (vs : ℕ). IsAnswer rows vs limit answer) vars_are is)
 
 -- the games that are decoded from values which satisfy the bound rows of one less
-pub record IsLower (league : Instance) (objective_was : ℕ) (games : List Game) : Type 0 where
-  pub accepted : IsAccepted league (counts_of games)
-  pub fit : All (IsGame league.n) games
-  pub few : length games ≤ 10000
-  pub lower : objective league (counts_of games) < objective_was
-
-pub lower-of : (league : Instance) (was n : ℕ) (values : ℕ → Bool) (games : List Game) → IsInstance league
-    → 1 ≤ was → SatisfiesAll values (bound_rows league (was - 1)) → n ≡ league.n → games ≡ decoded n values
+pub lower-of : (league : Instance) (was n : ℕ) (values : ℕ → Bool) (games : List Game) → IsInstance league → 1 ≤ was
+    → SatisfiesAll values (bound_rows league (was - 1)) → n ≡ league.n → games ≡ decoded n values → IsInOrder games
     → IsLower league was games
-lower-of league was n values games is some meets teams same =
+lower-of league was n values games is some meets teams same order =
     let are : games ≡ decoded league.n values = same ∙ ap (λ (k : ℕ). decoded k values) teams in
     let found = decoded_bounded league (was - 1) values games is meets are in
     record {
       accepted = found.0;
       fit = subst (λ (gs : List Game). All (IsGame league.n) gs) (sym are) (decoded_fit league.n values);
       few = accepted_few league.n values games are is.teams.at_most found.0.round_robin.pairs;
+      in_order = order;
       lower = omega (arith, found.1, some);
     }
+
+-- a schedule that costs less than another, or one below it
+pub better-than : (league : Instance) (m : Counts) (was cost : ℕ) (games : List Game) → IsLower league was games
+    → objective league m ≡ was → cost ≡ objective league (counts_of games) → IsBetter league m games cost
+better-than league m was cost games lower costs is = record {
+  accepted = lower.accepted;
+  fit = lower.fit;
+  in_order = lower.in_order;
+  cost = is;
+  lower = omega (arith, lower.lower, costs, is);
+}

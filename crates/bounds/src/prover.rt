@@ -9,6 +9,7 @@ ghost use Rattle.rows.specs.Rows.{SatisfiesAll};
 ghost use Rattle.rows.specs.Values.{assigned};
 ghost use Rattle.bound_base.specs.BoundRows.{bound_rows, bound_size, bound_vars};
 ghost use Rattle.bound_rows.specs.Sizes.{capped};
+ghost use Rattle.bounds.specs.Lower.{IsLower};
 ghost use Rattle.bounds.specs.Proofs.{IsProved};
 
 use crate::lower::{Lowered, lowered, objective_of};
@@ -147,9 +148,7 @@ fn decoded(
         → costs.objective league.now m ≡ objective → IsProved league.now m limit proved) }
     ensures only { (terms : ℕ) → result ≡ Err (EncodeFault.TooLarge terms) → 40000000 < bound_size league.now }
 {
-    let _n = league.n();
-    let encoding = encode(alloc, league)?;
-    let schedule = decode(alloc, &encoding, values)?;
+    let schedule = schedule_of(alloc, league, values, objective)?;
     let found = objective_of(alloc, league, &schedule)?;
     let lower = lowered(alloc, league, &schedule, MOVES)?;
     if lower.objective < u128::from(found) {
@@ -159,4 +158,23 @@ fn decoded(
         schedule,
         objective: found,
     })
+}
+
+/// The schedule that values say which satisfy the bound rows.
+fn schedule_of(
+    alloc: Global,
+    league: &League,
+    values: &Assignment,
+    objective: u64,
+) -> Result<Schedule, EncodeFault>
+    requires some { 1 ≤ objective }
+    requires count { length values.now ≡ bound_vars league.now }
+    requires satisfied { SatisfiesAll (assigned values.now) (bound_rows league.now (objective - 1)) }
+    ensures lower { IfOk result (IsLower league.now objective) }
+    ensures only { (terms : ℕ) → result ≡ Err (EncodeFault.TooLarge terms) → 40000000 < bound_size league.now }
+{
+    let _n = league.n();
+    let encoding = encode(alloc, league)?;
+    let schedule = decode(alloc, &encoding, values)?;
+    Ok(schedule)
 }

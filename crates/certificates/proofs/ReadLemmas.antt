@@ -1,20 +1,24 @@
 -- What the text of a certificate is read as.
 use Rattle.std.proofs.Common.{◌≡◌, ℕ, ◌+◌, ◌<◌, ◌==◌, Bool, true, false, List, [], ◌∷◌, ◌++◌, take, drop, Option, Some}
-use Rattle.std.proofs.Common.{None, Result, Ok, Err, codes, refl, sym, ap, ◌∙◌, arith}
+use Rattle.std.proofs.Common.{◌≤◌, length, None, Result, Ok, Err, codes, refl, sym, ap, ◌∙◌, arith}
 use Rattle.std.specs.Prelude.{bytes_eq}
 use Rattle.std.proofs.lemmas.Bool.Decides.{nat_tests}
 use Rattle.std.proofs.lemmas.List.{append-nil}
 use Rattle.std.proofs.lemmas.List.Splits.{slice_split-cons_no, slice_split-cons_yes}
 use Rattle.memchr.specs.Find.{IsFirstByte, is_byte}
+use Rattle.refutation.specs.Answers.{SaysLog}
 use Rattle.refutation.specs.Feeding.{ReadsOn}
 use Rattle.refutation.specs.Logs.{Fault, end_from, lines_of, no_steps_but, nothing_more, whole}
 use Rattle.refutation.specs.Places.{Place, log_from, start_at}
 use Rattle.refutation.specs.SeenPlace.{is_line_feed}
 use Rattle.refutation.specs.Steps.{Step}
+use Rattle.refutation.specs.declared.fault.LogFault.{LogFault}
+use Rattle.refutation.specs.declared.fault.LogFault.TheVariants.{Form, Mem}
 use Rattle.refutation.specs.declared.fault.LogKind.{LogKind}
 use Rattle.refutation.specs.declared.fault.LogKind.TheVariants.{BadLine, NoEnd}
 use Rattle.refutation.proofs.FoundLemmas.{found-none, found-some}
 use Rattle.refutation.proofs.SplitLemmas.{AreParts, split-last, split-part, split-parts}
+use Rattle.certificates.specs.Answers.{SaysCertificate}
 use Rattle.certificates.specs.Certificates.{bound_of, certificate_in, certificate_of, later_log, log_behind}
 use Rattle.certificates.specs.Certificates.{nothing_behind, number_in, stated_by, with_log}
 use Rattle.certificates.specs.declared.certificate.Certificate.{Certificate}
@@ -41,13 +45,6 @@ pub certificate-uncut : (bytes : List ℕ) → IsFirstByte (is_byte 10) bytes No
 certificate-uncut bytes none = ap certificate_in (split-last is_line_feed bytes (found-none 10 bytes none))
 
 -- ---- the first line
-
-pub bound_of-none : (line : List ℕ) → bytes_eq (take 6 line) (codes "bound ") ≡ false → bound_of line ≡ None
-bound_of-none line fails = rw fails refl
-
-pub bound_of-some : (line rest : List ℕ) → bytes_eq (take 6 line) (codes "bound ") ≡ true → rest ≡ drop 6 line
-    → bound_of line ≡ number_in rest
-bound_of-some line rest passes is = rw passes (ap number_in (sym is))
 
 -- a first line that states nothing
 pub stated-none : (bytes line : List ℕ) (lines : List (List ℕ)) (found : Option ℕ)
@@ -91,19 +88,12 @@ pub nothing_behind-some : (bytes : List ℕ) → (bytes ≡ [] → ⊥) → noth
 nothing_behind-some [] some = absurd (some refl)
 nothing_behind-some (b ∷ bytes) some = ap whole (end-cons b bytes (is_line_feed b) refl)
 
--- a log is
-pub later_log-read : (bytes : List ℕ) (now : Place) (steps : List Step) → ReadsOn (start_at 2) [] bytes now steps
-    → log_from now [] ≡ nothing_more → later_log (lines_of bytes) ≡ Ok steps
-later_log-read bytes now steps read end =
-    ap (λ (b : List ℕ). whole (log_from (start_at 2) b)) (sym (append-nil bytes)) ∙ ap whole (read.read [])
-    ∙ rw end (ap Ok (append-nil read.added ∙ sym read.steps))
-
-pub later_log-fault : (bytes : List ℕ) (now : Place) (steps : List Step) (kind : LogKind) (line : ℕ)
-    → ReadsOn (start_at 2) [] bytes now steps → log_from now [] ≡ no_steps_but kind line
-    → later_log (lines_of bytes) ≡ Err (kind, line)
-later_log-fault bytes now steps kind line read end =
-    ap (λ (b : List ℕ). whole (log_from (start_at 2) b)) (sym (append-nil bytes)) ∙ ap whole (read.read [])
-    ∙ rw end refl
+pub log_behind-empty : (bound : ℕ) (bytes : List ℕ) → bound ≤ 0 → (length bytes ≡ 0 → ⊥)
+    → log_behind bound (lines_of bytes) ≡ Err (BadLine, 2)
+log_behind-empty bound bytes none some =
+    let zero_is : bound ≡ 0 = omega arith in
+    ap (λ (b : ℕ). log_behind b (lines_of bytes)) zero_is
+    ∙ nothing_behind-some bytes (λ empty. some (ap length empty))
 
 -- ---- the whole
 
@@ -112,7 +102,9 @@ pub with_log-steps : (bytes : List ℕ) (bound : ℕ) (lines : List (List ℕ)) 
     → certificate_of bytes ≡ Ok (record { bound = bound; log = steps })
 with_log-steps bytes bound lines steps stated is = stated ∙ ap (with_log bound) is
 
-pub with_log-fault : (bytes : List ℕ) (bound : ℕ) (lines : List (List ℕ)) (kind : LogKind) (line : ℕ)
-    → certificate_of bytes ≡ with_log bound (log_behind bound lines) → log_behind bound lines ≡ Err (kind, line)
-    → certificate_of bytes ≡ Err (kind, line)
-with_log-fault bytes bound lines kind line stated is = stated ∙ ap (with_log bound) is
+-- the fault of the log, or want of memory
+pub with_log-says : (bytes : List ℕ) (bound : ℕ) (lines : List (List ℕ)) (fault : LogFault)
+    → certificate_of bytes ≡ with_log bound (log_behind bound lines)
+    → SaysLog (log_behind bound lines) (Err fault) → SaysCertificate (certificate_of bytes) (Err fault)
+with_log-says bytes bound lines (Form kind line) stated is = stated ∙ ap (with_log bound) is
+with_log-says bytes bound lines Mem stated is = tt

@@ -1,13 +1,14 @@
 -- The text of a certificate reads back as it.
 use Rattle.std.proofs.Common.{◌≡◌, ℕ, zero, suc, ◌+◌, ◌^◌, ◌<◌, ◌≤◌, ◌==◌, Bool, true, false, List, [], ◌∷◌, ◌++◌}
 use Rattle.std.proofs.Common.{append_assoc, get_or, Option, Some, None, Result, Ok, Err, codes, decimal, refl, sym, ap}
-use Rattle.std.proofs.Common.{◌∙◌, arith}
+use Rattle.std.proofs.Common.{◌∙◌, arith, subst}
 use Rattle.std.specs.Prelude.{nat_le, nat_lt}
 use Rattle.std.specs.Fmt.{digits}
 use Rattle.std.specs.List.{All, list_all}
 use Rattle.std.proofs.lemmas.Bool.{leb-true, lt-ltb}
 use Rattle.std.proofs.lemmas.Bool.Decides.{nat_tests}
 use Rattle.std.proofs.lemmas.Fmt.{first_decimal}
+use Rattle.std.proofs.lemmas.List.{append-nil}
 use Rattle.std.proofs.lemmas.List.Elements.{All-append, All-cons, All-nil, All-weaker}
 use Rattle.robin_io.proofs.NumberLemmas.{is_number-decimal}
 use Rattle.refutation.specs.Cuts.{Lacks}
@@ -129,14 +130,28 @@ reads_back-some bound log text steps small some is reads =
     ap certificate_of is ∙ certificate-stated bound log small
     ∙ ap (with_log bound) (log_behind-some bound (lines_of log) some ∙ later_log-same log steps reads)
 
-pub reads_back-zero : (text : List ℕ) (steps : List Step) → text ≡ bound_line 0 → steps ≡ []
+reads_back-zero : (text : List ℕ) (steps : List Step) → text ≡ bound_line 0 → steps ≡ []
     → certificate_of text ≡ Ok (record { bound = 0; log = steps })
 reads_back-zero text steps is none =
-    let empty : certificate_of (bound_line 0) ≡ Ok (record { bound = 0; log = [] }) = certificate-stated 0 [] (omega arith) in
-    ap certificate_of is ∙ empty
+    ap certificate_of (is ∙ sym (append-nil (bound_line 0)))
+    ∙ certificate-stated 0 [] (omega arith)
     ∙ ap (λ (log : List Step). let said : Result Certificate Fault = Ok (record { bound = 0; log = log }) in said)
     (sym none)
 
-pub text-some : (bound : ℕ) (steps : List Step) → 0 < bound
-    → certificate_text bound steps ≡ bound_line bound ++ log_text steps
-text-some bound steps some = let is : (bound == 0) ≡ false = grind (arith, nat_tests) in rw is refl
+pub reads_back-none : (bound : ℕ) (text : List ℕ) (steps : List Step) → bound ≡ 0 → text ≡ bound_line bound
+    → steps ≡ [] → certificate_of text ≡ Ok (record { bound = bound; log = steps })
+reads_back-none bound text steps zero_is is none =
+    subst
+    (λ (b : ℕ). text ≡ bound_line b → certificate_of text ≡ Ok (record { bound = b; log = steps }))
+    (sym zero_is) (λ at_zero. reads_back-zero text steps at_zero none) is
+
+-- the text from its pieces
+pub text-line : (bound : ℕ) (none first : List ℕ) → none ≡ [] → first ≡ none ++ bound_line bound
+    → first ≡ bound_line bound
+text-line bound none first empty line = line ∙ ap (λ (xs : List ℕ). xs ++ bound_line bound) empty
+
+pub text-pieces : (bound : ℕ) (none first log slice text : List ℕ) → none ≡ [] → first ≡ none ++ bound_line bound
+    → slice ≡ log → text ≡ first ++ slice → text ≡ bound_line bound ++ log
+text-pieces bound none first log slice text empty line same is =
+    is ∙ ap (λ (xs : List ℕ). xs ++ slice) (text-line bound none first empty line)
+    ∙ ap (λ (xs : List ℕ). bound_line bound ++ xs) same

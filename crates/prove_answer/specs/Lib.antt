@@ -2,3 +2,4 @@
 pub mod Prove
 
 -- Kept inside (laws, and how fields are seen):
+pub mod Told

@@ -1,11 +1,12 @@
-use Rattle.std.proofs.Common.{◌≡◌, ℕ, List, Option, subst, sym, ap, ◌∙◌}
+use Rattle.std.proofs.Common.{◌≡◌, ℕ, ◌-◌, List, ap, subst, sym, ◌∙◌}
 use Rattle.std.specs.List.{All}
 use Rattle.rows.specs.Rows.{Row}
 use Rattle.propagate.specs.Trails.{KnowsVariables}
 use Rattle.clause_search.specs.Answers.{IsAnswer}
+use Rattle.clause_search.specs.declared.found.Found.{Found}
 use Rattle.bound_base.specs.BoundRows.{bound_rows, bound_vars}
 use Rattle.bound_rows.specs.Bounded.{Bounded}
-use Rattle.bounds.proofs.ProofLemmas.{knows-from_known, least-of, spent-of}
+use Rattle.bounds.proofs.ProofLemmas.{answer-of, knows-from_known, least-of, spent-of}
 use Rattle.bounds.proofs.prover.searched.Goals as goal
 
 pub search-requires-clause-known : goal.search-requires-clause-known
@@ -15,3 +16,37 @@ search-requires-clause-known c =
     (bound_rows c.in_ok-system.system.league c.in_ok-system.system.bound)) (sym c.vars.ensures.vars)
     (knows-from_known (bound_vars c.in_ok-system.system.league)
     (bound_rows c.in_ok-system.system.league c.in_ok-system.system.bound) c.vars.ensures.known))
+
+pub decoded-requires-clause-count : goal.decoded-requires-clause-count
+decoded-requires-clause-count c =
+    let answer = answer-of c.args.league.now (c.args.objective - 1) c.vars.result c.rows.result.now c.args.conflicts
+    c.in_ok-found.found (c.rows.ensures ∙ ap (λ (b : Bounded). bound_rows b.league b.bound) c.in_ok-system.ensures.of)
+    (c.vars.ensures.vars ∙ ap (λ (b : Bounded). bound_vars b.league) c.in_ok-system.ensures.of) c.in_ok-found.ensures
+    in
+    (rw c.in-Sat.is at answer).0
+
+pub decoded-requires-clause-satisfied : goal.decoded-requires-clause-satisfied
+decoded-requires-clause-satisfied c =
+    let answer = answer-of c.args.league.now (c.args.objective - 1) c.vars.result c.rows.result.now c.args.conflicts
+    c.in_ok-found.found (c.rows.ensures ∙ ap (λ (b : Bounded). bound_rows b.league b.bound) c.in_ok-system.ensures.of)
+    (c.vars.ensures.vars ∙ ap (λ (b : Bounded). bound_vars b.league) c.in_ok-system.ensures.of) c.in_ok-found.ensures
+    in
+    (rw c.in-Sat.is at answer).1
+
+pub returns-in-Refuted-clause-proved : goal.returns-in-Refuted-clause-proved
+returns-in-Refuted-clause-proved c = λ m cost.
+    let answer = answer-of c.args.league.now (c.args.objective - 1) c.vars.result c.rows.result.now c.args.conflicts
+    c.in_ok-found.found (c.rows.ensures ∙ ap (λ (b : Bounded). bound_rows b.league b.bound) c.in_ok-system.ensures.of)
+    (c.vars.ensures.vars ∙ ap (λ (b : Bounded). bound_vars b.league) c.in_ok-system.ensures.of) c.in_ok-found.ensures
+    in
+    least-of c.args.league.now m c.args.conflicts c.args.objective c.in-Refuted.log c.n-n.ensures.instance cost
+    c.requires (rw c.in-Refuted.is at answer)
+
+pub returns-in-Spent-clause-proved : goal.returns-in-Spent-clause-proved
+returns-in-Spent-clause-proved c = λ m cost.
+    let answer = answer-of c.args.league.now (c.args.objective - 1) c.vars.result c.rows.result.now c.args.conflicts
+    c.in_ok-found.found (c.rows.ensures ∙ ap (λ (b : Bounded). bound_rows b.league b.bound) c.in_ok-system.ensures.of)
+    (c.vars.ensures.vars ∙ ap (λ (b : Bounded). bound_vars b.league) c.in_ok-system.ensures.of) c.in_ok-found.ensures
+    in
+    spent-of c.args.league.now m c.args.conflicts c.args.objective c.in-Spent.log cost c.requires
+    (rw c.in-Spent.is at answer)

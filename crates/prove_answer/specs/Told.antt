@@ -1,0 +1,39 @@
+-- What is written of what is shown of an accepted schedule.
+use Rattle.std.specs.Prelude.{◌≡◌, ℕ, List, [], Some, Ok}
+use Rattle.std.specs.List.{All}
+use Rattle.robinx_form.specs.Texts.{solution_text}
+use Rattle.answers.specs.Reply.{Answer}
+use Rattle.answers.specs.declared.status.Status.TheVariants as statuses
+use Rattle.refutation.specs.Logs.{log_of}
+use Rattle.refutation.specs.Steps.{NamesRows, Step}
+use Rattle.refutation.specs.Texts.{log_text}
+use Rattle.refutation.specs.Writable.{HasShortLines}
+use Rattle.certificates.specs.Certificates.{certificate_of, certificate_text}
+use Rattle.bounds.specs.declared.proved.Proved.{Proved}
+use Rattle.bounds.specs.declared.proved.Proved.TheVariants.{Least, Better, Spent}
+
+-- the hints of a log name rows, so that it can be written
+abbrev pub CanBeWritten : Proved → Type 0
+CanBeWritten (Least objective log) = All NamesRows log
+CanBeWritten (Better games objective) = Unit {0}
+CanBeWritten (Spent log) = All NamesRows log
+
+-- a certificate is written
+pub record TellsLeast (objective : ℕ) (steps : List Step) (answer : Answer) : Type 0 where
+  pub status : answer.status ≡ statuses.Yes
+  pub text : answer.text ≡ certificate_text objective steps
+  pub reads_back : HasShortLines steps → (objective ≡ 0 → steps ≡ [])
+      → certificate_of answer.text ≡ Ok (record { bound = objective; log = steps })
+
+-- a log is written
+pub record TellsSpent (steps : List Step) (answer : Answer) : Type 0 where
+  pub status : answer.status ≡ statuses.Spent
+  pub text : answer.text ≡ log_text steps
+  pub reads_back : HasShortLines steps → log_of answer.text ≡ Ok steps
+
+-- what is written of each
+abbrev pub Tells : Proved → Answer → Type 0
+Tells (Least objective log) answer = TellsLeast objective log answer
+Tells (Better games objective) answer =
+    (answer.status ≡ statuses.Better) × (answer.text ≡ solution_text games (Some (0, objective)))
+Tells (Spent log) answer = TellsSpent log answer

@@ -1,0 +1,124 @@
+//! The stages of `prove`.
+ghost use Rattle.std.specs.Prelude.{◌≡◌, ◌≤◌, ℕ, List, Option, IfOk, codes, length};
+ghost use Rattle.std.specs.List.{All};
+ghost use Rattle.robin_io.specs.Counts.{Rose, TookMore};
+ghost use Rattle.league.specs.Accepted.{IsAccepted};
+ghost use Rattle.league.specs.Counts.{counts_of};
+ghost use Rattle.league.specs.Instance.{IsGame};
+ghost use Rattle.robinx_tags.specs.Pieces.{pieces};
+ghost use Rattle.robinx_form.specs.SolutionFile.{solution_of};
+ghost use Rattle.answers.specs.SeenReply.{answer_of, Answers};
+ghost use Rattle.answers.specs.Stages.{says};
+ghost use Rattle.bounds.specs.Proofs as proofs;
+ghost use Rattle.prove_answer.specs.Prove.{IsShown, proved};
+
+use crate::replies::proof_reply;
+use answers::{NoValue, Reply, file, league_in, schedule_in};
+use bound_answer::has_few_terms;
+use bounds::{Proved, prove};
+use deviation::assess;
+use encoding::EncodeFault;
+use league::{League, Schedule};
+use robin_io::Shelf;
+use robinx_read::{INSTANCE_LIMIT, SOLUTION_LIMIT};
+use std::alloc::{AllocError, Global};
+use validate_answer::judge;
+
+/// What is shown of an accepted schedule.
+///
+/// # Errors
+/// Where memory runs out, and where the bound rows have too many terms, which the caller has excluded.
+fn proved_of(
+    alloc: Global,
+    league: &League,
+    schedule: &Schedule,
+    conflicts: Option<u64>,
+) -> Result<Proved, AllocError>
+    requires accepted { IsAccepted league.now (counts_of schedule.now) }
+    requires fit { All (IsGame league.now.n) schedule.now }
+    requires few { length schedule.now ≤ 10000 }
+    ensures { IfOk result (proofs.IsProved league.now (counts_of schedule.now) conflicts) }
+{
+    match prove(alloc, league, schedule, conflicts) {
+        Ok(proved) => Ok(proved),
+        Err(EncodeFault::TooLarge { .. } | EncodeFault::Mem) => Err(AllocError),
+    }
+}
+
+/// Answers what is shown of a schedule.
+fn show(
+    alloc: Global,
+    league: &League,
+    schedule: &Schedule,
+    conflicts: Option<u64>,
+) -> Result<Reply, AllocError>
+    requires few { length schedule.now ≤ 10000 }
+    requires fit { All (IsGame league.now.n) schedule.now }
+    ensures { IfOk result (λ reply. IsShown league.now conflicts schedule.now (answer_of reply)) }
+{
+    let assessed = assess(alloc, league, schedule)?;
+    if !assessed.feasible {
+        return judge(alloc, league, schedule);
+    }
+    let proved = proved_of(alloc, league, schedule, conflicts)?;
+    proof_reply(alloc, &proved)
+}
+
+/// Answers what is shown of the schedule that a solution file says.
+fn show_file(
+    alloc: Global,
+    bytes: &[u8],
+    league: &League,
+    conflicts: Option<u64>,
+) -> Result<Reply, NoValue>
+    requires { length bytes.now ≤ SOLUTION_LIMIT }
+    ensures { Answers
+        (says (codes "solution") (solution_of league.now.n (pieces bytes.now)) (IsShown league.now conflicts))
+        result }
+{
+    let schedule = schedule_in(alloc, bytes, league)?;
+    Ok(show(alloc, league, &schedule, conflicts)?)
+}
+
+/// The stages of `prove`.
+fn prove_stages<S: Shelf>(
+    alloc: Global,
+    shelf: &mut S,
+    instance: &str,
+    solution: &str,
+    conflicts: Option<u64>,
+) -> Result<Reply, NoValue>
+    ensures answer { Answers (proved (S.contents shelf.old)
+        (λ limit. TookMore limit (S.taken shelf.old) (S.taken shelf.new))
+        (λ name. Rose (S.faults shelf.old name) (S.faults shelf.new name))
+        instance.now solution.now conflicts) result }
+    ensures contents { (n : List ℕ) → S.contents shelf.new n ≡ S.contents shelf.old n }
+{
+    let first = file(alloc, shelf, "instance", instance, INSTANCE_LIMIT)?;
+    let league = league_in(alloc, &first)?;
+    has_few_terms(alloc, &league)?;
+    let second = file(alloc, shelf, "solution", solution, SOLUTION_LIMIT)?;
+    show_file(alloc, &second, &league, conflicts)
+}
+
+/// Shows that the schedule of one file can't be bettered in the league of the other, betters it, or spends its budget of
+/// conflicts. A schedule that the league doesn't accept is judged.
+pub fn prove_file<S: Shelf>(
+    alloc: Global,
+    shelf: &mut S,
+    instance: &str,
+    solution: &str,
+    conflicts: Option<u64>,
+) -> Result<Reply, AllocError>
+    ensures answer { IfOk result (λ reply. proved (S.contents shelf.old)
+        (λ limit. TookMore limit (S.taken shelf.old) (S.taken shelf.new))
+        (λ name. Rose (S.faults shelf.old name) (S.faults shelf.new name))
+        instance.now solution.now conflicts (answer_of reply)) }
+    ensures contents { (n : List ℕ) → S.contents shelf.new n ≡ S.contents shelf.old n }
+{
+    match prove_stages(alloc, shelf, instance, solution, conflicts) {
+        Ok(reply) => Ok(reply),
+        Err(NoValue::Refused(reply)) => Ok(reply),
+        Err(NoValue::Memory) => Err(AllocError),
+    }
+}
