@@ -8,7 +8,7 @@ use refutation::{Cause, LogKind, Verdict};
 use std::alloc::{AllocError, Global};
 
 /// The rows of the league have so many terms, which are too many.
-pub(crate) fn rows_refused(alloc: Global, terms: u64) -> Result<Reply, AllocError>
+pub fn rows_refused(alloc: Global, terms: u64) -> Result<Reply, AllocError>
     ensures { IfOk result (λ reply. answer_of reply ≡ texts.too_large terms) }
 {
     let text = format!(in alloc; "refused rows TooLarge terms {terms}\n")?;
@@ -31,7 +31,7 @@ fn kind_word(kind: LogKind) -> &'static str
 }
 
 /// The log has a fault of form of this kind, on this line.
-pub(crate) fn log_refused(alloc: Global, kind: LogKind, line: u64) -> Result<Reply, AllocError>
+pub fn log_refused(alloc: Global, kind: LogKind, line: u64) -> Result<Reply, AllocError>
     ensures { IfOk result (λ reply. answer_of reply ≡ texts.log_malformed kind line) }
 {
     let kind = kind_word(kind);
@@ -79,7 +79,7 @@ fn rejected(alloc: Global, step: u64, cause: Cause) -> Result<Reply, AllocError>
 }
 
 /// The verdict on a log of so many steps.
-pub(crate) fn verdict_reply(
+pub fn verdict_reply(
     alloc: Global,
     steps: usize,
     verdict: Verdict,
