@@ -1,5 +1,5 @@
 -- Lemmas on the stages:
-mod StageLemmas
+pub mod StageLemmas
 -- What follows from an answer:
 pub mod AnswerLemmas
 -- Worked examples, so that a wrong definition does not check:

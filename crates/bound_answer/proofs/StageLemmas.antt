@@ -1,12 +1,18 @@
 -- How the stages of `bound` make an answer.
 use Rattle.std.proofs.Common.{◌≡◌, ℕ, ◌+◌, ◌<◌, ◌≤◌, List, length, Option, Ok, Err, codes, inl, inr, ap, sym, ◌∙◌, Result}
-use Rattle.std.proofs.Common.{refl, subst}
+use Rattle.std.proofs.Common.{arith, refl, subst}
+use Rattle.std.specs.Prelude.{IfSome}
+use Rattle.robin_io.specs.Counts.{Rose, TookMore, raised}
 use Rattle.league.specs.Instance.{Instance}
 use Rattle.robinx_tags.specs.Pieces.{pieces}
 use Rattle.robinx_form.specs.InstanceFile.{instance_of}
 use Rattle.robinx_read.specs.declared.instance.TheConstants.{INSTANCE_LIMIT}
 use Rattle.answers.specs.Reply.{Answer}
+use Rattle.answers.specs.SeenReply.{Answers, answer_of}
 use Rattle.answers.specs.Stages.{IsFile, IsUnread, reads}
+use Rattle.answers.specs.declared.reply.Reply.{Reply}
+use Rattle.answers.specs.declared.reply.NoValue.{NoValue}
+use Rattle.answers.specs.declared.reply.NoValue.TheVariants.{Memory, Refused}
 use Rattle.answers.specs.declared.status.Status.TheVariants.{Yes, No}
 use Rattle.answers.proofs.StageLemmas.{says-value}
 use Rattle.refutation.specs.Logs.{Fault}
@@ -73,6 +79,41 @@ bounded-last contents took_more failed instance log first second league is_first
     last =
     after-league contents took_more failed instance log first league is_first says_league answer
     (inl (small, inl (second, is_second, last)))
+
+-- ---- counts of a run, by those of a call in it
+
+pub took_more-before : (front more old between now : ℕ) → between ≡ raised old front → TookMore more between now
+    → TookMore (front + more) old now
+took_more-before front more old between now is took =
+    let told : raised (raised old front) (more + 1) ≤ now = subst (λ (n : ℕ). TookMore more n now) is took in
+    omega arith
+
+pub rose-before : (old between now : ℕ) → old ≤ between → Rose between now → Rose old now
+rose-before old between now later rose =
+    let told : raised between 1 ≤ now = rose in
+    omega arith
+
+unread-by : (which : List ℕ) (known between : Option (List ℕ)) (limit : ℕ) (long wide_long failed wide_failed : Type 0)
+    (answer : Answer) → between ≡ known → (long → wide_long) → (failed → wide_failed)
+    → IsUnread which between limit long failed answer → IsUnread which known limit wide_long wide_failed answer
+unread-by which known between limit long wide_long failed wide_failed answer same longer failing (inl h) = inl (
+  longer h.0,
+  subst (λ (k : Option (List ℕ)). IfSome k (λ file. limit < length file)) same h.1,
+  h.2,
+)
+unread-by which known between limit long wide_long failed wide_failed answer same longer failing (inr h) =
+    inr (failing h.0, h.1)
+
+-- a file that a call within a run didn't read
+pub unread-wider : (which : List ℕ) (known between : Option (List ℕ)) (limit : ℕ)
+    (long wide_long failed wide_failed : Type 0) (end : NoValue) → between ≡ known → (long → wide_long)
+    → (failed → wide_failed)
+    → ((reply : Reply) → end ≡ Refused reply → IsUnread which between limit long failed (answer_of reply))
+    → Answers (IsUnread which known limit wide_long wide_failed) (Err end)
+unread-wider which known between limit long wide_long failed wide_failed (Refused reply) same longer failing given =
+    unread-by which known between limit long wide_long failed wide_failed (answer_of reply) same longer failing
+    (given reply refl)
+unread-wider which known between limit long wide_long failed wide_failed Memory same longer failing given = tt
 
 -- ---- the verdict
 

@@ -62,16 +62,18 @@ pub fn show_least(
         return println!(rt; "{name}: nothing is proved");
     }
     let accepted = is_accepted(rt.alloc(), instance, &reply.text)?;
-    let end = memchr(b'\n', &reply.text).unwrap_or(0);
-    let Ok(line) = std::str::from_utf8(&reply.text[..end]) else {
+    let verdict = if accepted { "accepted" } else { "rejected" };
+    let Some(end) = memchr(b'\n', &reply.text) else {
         return println!(rt; "{name}: no line");
     };
-    let verdict = if accepted { "accepted" } else { "rejected" };
+    let Ok(line) = str::from_utf8(&reply.text[..end]) else {
+        return println!(rt; "{name}: no text");
+    };
     println!(rt; "{name}: {line}, {verdict}")?;
     show_more(rt, name, instance, line, &reply.text[end..])
 }
 
-/// Shows only that a certificate which states one more is accepted.
+/// Shows only that a certificate which states one more is accepted, too.
 fn show_more(
     rt: &(impl AllocGlobal + Print),
     name: &str,
@@ -79,7 +81,10 @@ fn show_more(
     line: &str,
     log: &[u8],
 ) -> io::Result<()> {
-    let Some(Ok(least)) = line.strip_prefix("bound ").map(|number| number.parse::<u64>()) else {
+    let Some(number) = line.strip_prefix("bound ") else {
+        return println!(rt; "{name}: no bound");
+    };
+    let Ok(least) = number.parse::<u64>() else {
         return println!(rt; "{name}: no number");
     };
     let more = least.saturating_add(1);

@@ -16,7 +16,7 @@ use tally::league_tally;
 
 /// A schedule that is accepted, with its objective, and the descent that led to it.
 #[derive(Drop)]
-pub(crate) struct Lowered {
+pub(crate) struct Season {
     pub(crate) schedule: Schedule,
     pub(crate) objective: u128,
     pub(crate) descent: Descent,
@@ -28,19 +28,19 @@ pub(crate) fn lowered(
     league: &League,
     start: &Schedule,
     moves: u64,
-) -> Result<Lowered, AllocError>
+) -> Result<Season, AllocError>
     requires accepted { IsAccepted league.now (counts_of start.now) }
     requires fit { All (IsGame league.now.n) start.now }
     requires few { length start.now ≤ 10000 }
-    ensures { IfOk result (λ lowered.
-        IsSchedule league.now moves lowered.schedule lowered.objective lowered.descent) }
+    ensures { IfOk result (λ season.
+        IsSchedule league.now moves season.schedule season.objective season.descent) }
 {
     let mut steps = Steps::<Plain>::start();
     let mut tally = league_tally(alloc, league, 1, start.games(), &mut steps)?;
     let phased = league.phased();
     let descent = descend(alloc, phased, &mut tally, moves, &mut steps)?;
     let schedule = season_of(alloc, phased, tally.cells())?;
-    Ok(Lowered {
+    Ok(Season {
         schedule,
         objective: tally.objective(),
         descent,
@@ -50,8 +50,7 @@ pub(crate) fn lowered(
 /// The objective of a schedule.
 ///
 /// # Errors
-/// Where memory runs out, and where the objective is too large for a number of 64 bits, as it isn't in a league whose bound
-/// rows are few enough.
+/// Where memory runs out, and where the objective passes 64 bits.
 pub(crate) fn objective_of(
     alloc: Global,
     league: &League,

@@ -12,7 +12,7 @@ ghost use Rattle.bound_rows.specs.Sizes.{capped};
 ghost use Rattle.bounds.specs.Lower.{IsLower};
 ghost use Rattle.bounds.specs.Proofs.{IsProved};
 
-use crate::lower::{Lowered, lowered, objective_of};
+use crate::lower::{Season, lowered, objective_of};
 use crate::proved::Proved;
 use bound_rows::{MOST_TERMS, bound_system, bound_terms};
 use clause_search::{Found, search};
@@ -34,7 +34,8 @@ const MOVES: u64 = 1_000_000;
 ///
 /// # Errors
 /// `TooLarge` exactly where the bound rows have more than 40,000,000 terms, with their number as far as a number of 64 bits
-/// holds it; else only where memory runs out.
+/// holds it; else only where memory runs out, or where the objective passes 64 bits: bound rows that are so few leave no room
+/// for that, but it isn't proved.
 pub fn prove(
     alloc: Global,
     league: &League,
@@ -94,11 +95,11 @@ fn least_of_all(alloc: Global) -> Proved
 }
 
 /// The answer where a descent betters the schedule.
-fn bettered(lower: Lowered) -> Proved
+fn bettered(lower: Season) -> Proved
     requires { lower.objective < 2 ^ 64 }
     ensures { result ≡ Proved.Better lower.schedule lower.objective }
 {
-    let Lowered {
+    let Season {
         schedule,
         objective,
         descent: _descent,

@@ -1,5 +1,7 @@
 use Rattle.std.proofs.Common.{◌≡◌, ℕ, ◌<◌, ◌≤◌, arith, ap}
+use Rattle.std.proofs.lemmas.Result.{err_from_is_err_and}
 use Rattle.league.specs.Instance.{Instance}
+use Rattle.encoding.specs.declared.encoder.EncodeFault.TheVariants.{TooLarge}
 use Rattle.rows.specs.Values.{assigned}
 use Rattle.encoding_base.specs.Variables.{var_count}
 use Rattle.bounds.proofs.ProofLemmas.{encoding-le, lower-of, vars-le}
@@ -20,3 +22,10 @@ returns-clause-lower c =
     c.in_ok-schedule.schedule c.n-n.ensures.instance c.requires.some c.requires.satisfied
     (ap (λ (l : Instance). l.n) c.in_ok-encoding.ensures.league) c.in_ok-schedule.ensures.games
     c.in_ok-schedule.ensures.in_order
+
+-- the encoding is no larger than the bound rows
+pub returns-in_err-encoding-clause-only : goal.returns-in_err-encoding-clause-only
+returns-in_err-encoding-clause-only c = λ terms is.
+    let p = err_from_is_err_and c.from_residual.result c.from_residual.ensures.1 in
+    let fault : c.in_err-encoding.field-0.0 ≡ TooLarge terms = cc (p.1, p.2, is) in
+    omega (arith, encoding-le c.args.league.now, c.in_err-encoding.ensures.only terms (cc fault))

@@ -40,13 +40,13 @@ returns-in-Refuted-clause-proved c = λ m cost.
     (c.vars.ensures.vars ∙ ap (λ (b : Bounded). bound_vars b.league) c.in_ok-system.ensures.of) c.in_ok-found.ensures
     in
     least-of c.args.league.now m c.args.conflicts c.args.objective c.in-Refuted.log c.n-n.ensures.instance cost
-    c.requires (rw c.in-Refuted.is at answer)
+    c.requires.some (rw c.in-Refuted.is at answer)
 
-pub returns-in-Spent-clause-proved : goal.returns-in-Spent-clause-proved
-returns-in-Spent-clause-proved c = λ m cost.
+pub returns-clause-proved : goal.returns-clause-proved
+returns-clause-proved c = λ m cost.
     let answer = answer-of c.args.league.now (c.args.objective - 1) c.vars.result c.rows.result.now c.args.conflicts
     c.in_ok-found.found (c.rows.ensures ∙ ap (λ (b : Bounded). bound_rows b.league b.bound) c.in_ok-system.ensures.of)
     (c.vars.ensures.vars ∙ ap (λ (b : Bounded). bound_vars b.league) c.in_ok-system.ensures.of) c.in_ok-found.ensures
     in
-    spent-of c.args.league.now m c.args.conflicts c.args.objective c.in-Spent.log cost c.requires
+    spent-of c.args.league.now m c.args.conflicts c.args.objective c.in-Spent.log cost c.requires.some
     (rw c.in-Spent.is at answer)

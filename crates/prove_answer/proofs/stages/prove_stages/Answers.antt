@@ -1,11 +1,14 @@
 use Rattle.std.proofs.Common.{List, Option, ℕ, ◌+◌, ◌<◌, ◌≡◌, length, codes, rules, subst, sym}
-use Rattle.robin_io.specs.Counts.{Rose, TookMore}
+use Rattle.std.proofs.lemmas.Result.{err_from_is_err_and}
+use Rattle.robin_io.specs.Counts.{Rose, TookMore, raised}
 use Rattle.robinx_read.specs.declared.instance.TheConstants.{INSTANCE_LIMIT, SOLUTION_LIMIT}
+use Rattle.answers.specs.SeenReply.{Answers}
 use Rattle.answers.specs.Stages.{IsFile, IsUnread}
 use Rattle.answers.proofs.StageLemmas.{Answers-wider}
 use Rattle.check_answer.specs.Check.{most_terms, too_large}
 use Rattle.bound_base.specs.BoundRows.{bound_size}
 use Rattle.bound_rows.specs.Sizes.{capped}
+use Rattle.bound_answer.proofs.StageLemmas.{rose-before, took_more-before, unread-wider}
 use Rattle.prove_answer.proofs.StageLemmas.{proved-large, proved-last, proved-unread}
 use Rattle.prove_answer.proofs.stages.prove_stages.Goals as goal
 
@@ -39,11 +42,29 @@ returns-in_err-second-clause-answer g c =
     let is_first : IsFile (contents c.args.instance.now) INSTANCE_LIMIT c.deref.result.now =
     subst (λ (bytes : List ℕ). IsFile (contents c.args.instance.now) INSTANCE_LIMIT bytes) (sym c.deref.ensures.value)
     c.in_ok-first.ensures.stage in
-    Answers-wider
-    (λ answer. IsUnread (codes "solution") (contents c.args.solution.now) SOLUTION_LIMIT
-    (took_more (length c.deref.result.now + SOLUTION_LIMIT)) (failed c.args.solution.now) answer) _
-    (proved-unread contents took_more failed c.args.instance.now c.args.solution.now c.args.conflicts _ _ is_first c.in_ok-league.ensures
-    c.in_ok-has_few_terms.ensures) _ (search rules)
+    let before : ℕ = g.S.Shelf.taken c.args.shelf.now in
+    let between : ℕ = g.S.Shelf.taken c.file.new.shelf in
+    let after : ℕ = g.S.Shelf.taken c.file-2.new.shelf in
+    let name : List ℕ = c.args.solution.now in
+    let front : ℕ = length c.deref.result.now in
+    let taken : between ≡ raised before front =
+    subst (λ (n : ℕ). between ≡ raised before n) (sym c.deref.ensures.len) c.in_ok-first.ensures.count in
+    let p = err_from_is_err_and c.from_residual-in_err-second.result c.from_residual-in_err-second.ensures.1 in
+    let unread : Answers (IsUnread (codes "solution") (contents name) SOLUTION_LIMIT (took_more (front + SOLUTION_LIMIT))
+    (failed name)) c.from_residual-in_err-second.result =
+    rw (p.1, p.2)
+    (unread-wider (codes "solution")
+    (contents name) (g.S.Shelf.contents c.file.new.shelf name) SOLUTION_LIMIT (TookMore SOLUTION_LIMIT between after)
+    (took_more (front + SOLUTION_LIMIT))
+    (Rose (g.S.Shelf.faults c.file.new.shelf name) (g.S.Shelf.faults c.file-2.new.shelf name)) (failed name)
+    c.in_err-second.field-0.0 (c.file.ensures.contents name)
+    (took_more-before front SOLUTION_LIMIT before between after taken)
+    (rose-before (g.S.Shelf.faults c.args.shelf.now name) (g.S.Shelf.faults c.file.new.shelf name)
+    (g.S.Shelf.faults c.file-2.new.shelf name) (c.file.ensures.later name)) (λ reply is.
+    rw is at c.in_err-second.ensures.stage)) in
+    Answers-wider _ _
+    (proved-unread contents took_more failed c.args.instance.now name c.args.conflicts _ _ is_first c.in_ok-league.ensures
+    c.in_ok-has_few_terms.ensures) _ unread
 
 -- the bound rows have too many terms, or memory ran out
 pub returns-in_err-has_few_terms-clause-answer : goal.returns-in_err-has_few_terms-clause-answer
