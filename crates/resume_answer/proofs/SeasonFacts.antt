@@ -1,5 +1,5 @@
 -- Worked answers, so that a wrong definition of what `resume` and `audit` may answer does not check.
-use Rattle.std.proofs.Common.{◌≡◌, ℕ, ◌≤◌, ◌∙◌, true, if◌then◌else◌, List, [], ◌∷◌, length, Option, Some, None, Ok}
+use Rattle.std.proofs.Common.{◌≡◌, ℕ, ◌≤◌, ◌∙◌, true, if◌then◌else◌, List, [], ◌∷◌, ◌++◌, length, Option, Some, None, Ok}
 use Rattle.std.proofs.Common.{codes, ap, arith, inl, inr, refl}
 use Rattle.std.specs.Prelude.{bytes_eq}
 use Rattle.std.specs.Fmt.{digits}
@@ -40,7 +40,9 @@ slot_refused-some = refl
 
 abbrev league_file : List ℕ
 league_file =
-    codes "<Instance><Structure><Format><numberRoundRobin>2</numberRoundRobin><compactness>C</compactness><gameMode>P</gameMode></Format></Structure><Resources><Teams><team id=\"0\"/><team id=\"1\"/></Teams><Slots><slot id=\"0\"/><slot id=\"1\"/></Slots></Resources><Constraints></Constraints></Instance>"
+    codes "<Instance><Structure><Format><numberRoundRobin>2</numberRoundRobin><compactness>C</compactness>"
+    ++ (codes "<gameMode>P</gameMode></Format></Structure><Resources><Teams><team id=\"0\"/><team id=\"1\"/></Teams>"
+    ++ codes "<Slots><slot id=\"0\"/><slot id=\"1\"/></Slots></Resources><Constraints></Constraints></Instance>")
 
 abbrev league : Instance
 league = record { n = 2; phased = true; constraints = [] }

@@ -61,7 +61,8 @@ after_first contents took_more failed solution k next first =
 -- ---- single stages, which may go on to more
 
 size-wider : (league : Instance) (k : ℕ) (narrow wide : Outcome) (answer : Answer)
-    → (narrow answer → wide answer) → has_size league k (λ size. narrow) answer → has_size league k (λ size. wide) answer
+    → (narrow answer → wide answer) → has_size league k (λ size. narrow) answer
+    → has_size league k (λ size. wide) answer
 size-wider league k narrow wide answer wider (inl h) = inl (h.0, wider h.1)
 size-wider league k narrow wide answer wider (inr h) = inr h
 
@@ -272,7 +273,8 @@ pub read-verdict : (known : Option (List ℕ)) (long failed : Type 0) (league : 
     → reads (codes "log") known most_log_bytes long failed
     (λ bytes.
     says_log (log_of bytes) (IsVerdictOver (resume_rows league (counts_of played) k) (var_count league))) answer
-    → reads (codes "log") known most_log_bytes long failed (λ bytes. says_log (log_of bytes) (IsVerdict league played k))
+    → reads (codes "log") known most_log_bytes long failed
+    (λ bytes. says_log (log_of bytes) (IsVerdict league played k))
     answer
 read-verdict known long failed league played k answer instance slots =
     read-wider (codes "log") known most_log_bytes long failed

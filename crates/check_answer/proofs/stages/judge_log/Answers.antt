@@ -13,10 +13,13 @@ use Rattle.check_answer.proofs.stages.judge_log.Goals as goal
 pub returns-clause-answer : goal.returns-clause-answer
 returns-clause-answer g c = λ rows vars none.
     let file = c.in_ok-steps.ensures.stage in
-    let from_start : ChecksOn start c.args.checker.now file.bytes c.log_in.new.feed c.log_in.new.checker c.in_ok-steps.steps =
-    subst (λ (at : Place). ChecksOn at c.args.checker.now file.bytes c.log_in.new.feed c.log_in.new.checker c.in_ok-steps.steps) c.new-feed.ensures file.checked in
-    let from_none : ChecksOn start (no_step_of rows vars) file.bytes c.log_in.new.feed c.log_in.new.checker c.in_ok-steps.steps =
-    subst (λ (s : Judged). ChecksOn start s file.bytes c.log_in.new.feed c.log_in.new.checker c.in_ok-steps.steps) none from_start in
+    let now = c.log_in.new.feed in
+    let new = c.log_in.new.checker in
+    let from_start : ChecksOn start c.args.checker.now file.bytes now new c.in_ok-steps.steps =
+    subst (λ (at : Place). ChecksOn at c.args.checker.now file.bytes now new c.in_ok-steps.steps) c.new-feed.ensures
+    file.checked in
+    let from_none : ChecksOn start (no_step_of rows vars) file.bytes now new c.in_ok-steps.steps =
+    subst (λ (s : Judged). ChecksOn start s file.bytes now new c.in_ok-steps.steps) none from_start in
     Answers-wider _ _
     (log-file (g.S.Shelf.contents c.args.shelf.now c.args.name.now)
     (TookMore most_log_bytes (g.S.Shelf.taken c.args.shelf.now) (g.S.Shelf.taken c.log_in.new.shelf))

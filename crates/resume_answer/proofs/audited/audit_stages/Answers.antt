@@ -15,7 +15,8 @@ use Rattle.resume_answer.proofs.audited.audit_stages.Goals as goal
 -- the log has the contents that it had before the other files were read
 pub returns-clause-answer : goal.returns-clause-answer
 returns-clause-answer g c =
-    let long = TookMore most_log_bytes (g.S.Shelf.taken c.season_in.new.shelf) (g.S.Shelf.taken c.audit_log.new.shelf) in
+    let long = TookMore most_log_bytes (g.S.Shelf.taken c.season_in.new.shelf)
+    (g.S.Shelf.taken c.audit_log.new.shelf) in
     let failing = Rose (g.S.Shelf.faults c.season_in.new.shelf c.args.log.now)
     (g.S.Shelf.faults c.audit_log.new.shelf c.args.log.now) in
     let known : Option (List ℕ) = g.S.Shelf.contents c.season_in.new.shelf c.args.log.now in
