@@ -30,7 +30,7 @@ pub encodes-large : (league : Instance) (next : List Row → Outcome) (answer : 
 encodes-large league next answer large (inl h) = let small : encoding_size league ≤ most_terms = h.0 in absurd (omega arith)
 encodes-large league next answer large (inr h) = h.1
 
-said-known : (said : Result (List Step) Fault) (steps : List Step) (next : List Step → Outcome) (answer : Answer) → said ≡ Ok steps → says_log said next answer → next steps answer
+pub said-known : (said : Result (List Step) Fault) (steps : List Step) (next : List Step → Outcome) (answer : Answer) → said ≡ Ok steps → says_log said next answer → next steps answer
 said-known said steps next answer is given = subst (λ r. says_log r next answer) is given
 
 -- two files that are known and within their limits, at which nothing fails, the first of which says a league whose rows aren't too many: the answer is that to what the second says

@@ -1,7 +1,9 @@
 -- How the stages of `check` make an answer.
-use Rattle.std.proofs.Common.{◌≡◌, ℕ, ◌+◌, ◌<◌, ◌≤◌, List, [], length, Option, Result, Ok, codes, inl, inr, sym, ap, subst, refl, arith, ◌∙◌}
+use Rattle.std.proofs.Common.{◌≡◌, ℕ, ◌+◌, ◌<◌, ◌≤◌, List, [], length, Option, Result, Ok, Err, codes, inl, inr, sym}
+use Rattle.std.proofs.Common.{ap, subst, refl, arith, ◌∙◌}
 use Rattle.robin_io.specs.Counts.{Rose, TookMore, raised}
 use Rattle.league.specs.Instance.{Instance, IsInstance}
+use Rattle.rows.specs.Rows.{Row}
 use Rattle.robinx_tags.specs.Pieces.{pieces}
 use Rattle.robinx_form.specs.InstanceFile.{instance_of}
 use Rattle.robinx_read.specs.declared.instance.TheConstants.{INSTANCE_LIMIT}
@@ -21,7 +23,8 @@ use Rattle.refutation.specs.declared.verdict.Verdict.TheVariants.{Accepted, Reje
 use Rattle.refutation_check.specs.Judged.{Judged, no_step_of, verdict_so_far}
 use Rattle.refutation_check.proofs.VerdictLemmas.{steps_give_verdict}
 use Rattle.season_check.proofs.SeasonLemmas.{accepted_logs_exclude}
-use Rattle.check_answer.specs.Check.{IsVerdict, checked, encodes, log_malformed, most_log_bytes, most_terms, says_log, too_large, verdict_answer}
+use Rattle.check_answer.specs.Check.{IsVerdict, IsVerdictOver, checked, encodes, log_malformed, most_log_bytes}
+use Rattle.check_answer.specs.Check.{most_terms, says_log, too_large, verdict_answer}
 use Rattle.check_answer.specs.Feeding.{ChecksOn}
 use Rattle.check_answer.proofs.FeedingLemmas.{log-ended, log-faulty}
 
@@ -44,9 +47,10 @@ pub checked-log : (contents : List ℕ → Option (List ℕ)) (took_more : ℕ �
 checked-log contents took_more failed instance log first league is_first says_league small answer rest = after-league contents took_more failed instance log first league is_first says_league answer (inl (small, rest))
 
 -- the log's file is read: the answer is that to what it says
-pub log-file : (known : Option (List ℕ)) (long failed : Type 0) (league : Instance) (bytes : List ℕ) → IsFile known most_log_bytes bytes
-    → (answer : Answer) → says_log (log_of bytes) (IsVerdict league (rows_of league)) answer → reads (codes "log") known most_log_bytes long failed (λ bytes. says_log (log_of bytes) (IsVerdict league (rows_of league))) answer
-log-file known long failed league bytes is_file answer given = inl (bytes, is_file, given)
+pub log-file : (known : Option (List ℕ)) (long failed : Type 0) (next : List ℕ → Outcome) (bytes : List ℕ)
+    → IsFile known most_log_bytes bytes → (answer : Answer) → next bytes answer
+    → reads (codes "log") known most_log_bytes long failed next answer
+log-file known long failed next bytes is_file answer given = inl (bytes, is_file, given)
 
 -- ---- counts of a run, by those of a call in it
 
@@ -75,7 +79,7 @@ checked-within contents first_taken mid_taken last_taken first_faults mid_faults
 
 -- ---- the verdict
 
-is_accepted : (steps : ℕ) (verdict : Verdict) → (verdict_answer steps verdict).status ≡ Yes → verdict ≡ Accepted
+pub is_accepted : (steps : ℕ) (verdict : Verdict) → (verdict_answer steps verdict).status ≡ Yes → verdict ≡ Accepted
 is_accepted steps Accepted accepted = refl
 is_accepted steps (Rejected step cause) accepted = cc
 
@@ -87,21 +91,46 @@ verdict-given league steps answer instance is = record {
   refuted = λ accepted. accepted_logs_exclude league steps instance (is_accepted (length steps) (verdict_of (rows_of league) (var_count league) steps) (sym (ap (λ (a : Answer). a.status) is) ∙ accepted));
 }
 
-said-steps : (said : Result (List Step) Fault) (steps : List Step) (next : List Step → Outcome) (answer : Answer) → said ≡ Ok steps → next steps answer → says_log said next answer
+-- what is judged over the rows of a league says that it accepts nothing, where the verdict says yes
+said-verdict : (league : Instance) (said : Result (List Step) Fault) (answer : Answer) → IsInstance league
+    → says_log said (IsVerdictOver (rows_of league) (var_count league)) answer
+    → says_log said (IsVerdict league (rows_of league)) answer
+said-verdict league (Ok steps) answer instance is = verdict-given league steps answer instance is
+said-verdict league (Err fault) answer instance is = is
+
+pub read-verdict : (known : Option (List ℕ)) (long failed : Type 0) (league : Instance) (answer : Answer)
+    → IsInstance league
+    → reads (codes "log") known most_log_bytes long failed
+    (λ bytes. says_log (log_of bytes) (IsVerdictOver (rows_of league) (var_count league))) answer
+    → reads (codes "log") known most_log_bytes long failed
+    (λ bytes. says_log (log_of bytes) (IsVerdict league (rows_of league))) answer
+read-verdict known long failed league answer instance (inl read) =
+    inl (read.0, read.1, said-verdict league (log_of read.0) answer instance read.2)
+read-verdict known long failed league answer instance (inr unread) = inr unread
+
+said-steps : (said : Result (List Step) Fault) (steps : List Step) (next : List Step → Outcome) (answer : Answer)
+    → said ≡ Ok steps → next steps answer → says_log said next answer
 said-steps said steps next answer is after = subst (λ r. says_log r next answer) (sym is) after
 
 -- the log ends without a fault
-pub ended-verdict : (league : Instance) (bytes : List ℕ) (now : Place) (new : Judged) (count : ℕ) (verdict : Verdict) (answer : Answer) → IsInstance league → ChecksOn start (no_step_of (rows_of league) (var_count league)) bytes now new count
-    → log_from now [] ≡ nothing_more → verdict ≡ verdict_so_far new → answer ≡ verdict_answer count verdict → says_log (log_of bytes) (IsVerdict league (rows_of league)) answer
-ended-verdict league bytes now new count verdict answer instance checked ended said is =
+pub ended-verdict : (rows : List Row) (vars : ℕ) (bytes : List ℕ) (now : Place) (new : Judged) (count : ℕ)
+    (verdict : Verdict) (answer : Answer) → ChecksOn start (no_step_of rows vars) bytes now new count
+    → log_from now [] ≡ nothing_more → verdict ≡ verdict_so_far new → answer ≡ verdict_answer count verdict
+    → says_log (log_of bytes) (IsVerdictOver rows vars) answer
+ended-verdict rows vars bytes now new count verdict answer checked ended said is =
     let steps : List Step = checked.steps in
-    let judged : verdict ≡ verdict_of (rows_of league) (var_count league) steps = said ∙ ap verdict_so_far checked.judged ∙ steps_give_verdict (rows_of league) (var_count league) steps in
-    said-steps (log_of bytes) steps (IsVerdict league (rows_of league)) answer (log-ended (no_step_of (rows_of league) (var_count league)) bytes now new count checked ended)
-    (verdict-given league steps answer instance (is ∙ ap (λ n. verdict_answer n verdict) checked.counted ∙ ap (verdict_answer (length steps)) judged))
+    let judged : verdict ≡ verdict_of rows vars steps =
+    said ∙ ap verdict_so_far checked.judged ∙ steps_give_verdict rows vars steps in
+    said-steps (log_of bytes) steps (IsVerdictOver rows vars) answer
+    (log-ended (no_step_of rows vars) bytes now new count checked ended)
+    (is ∙ ap (λ n. verdict_answer n verdict) checked.counted ∙ ap (verdict_answer (length steps)) judged)
 
 -- or with one
-pub faulty-log : (league : Instance) (bytes : List ℕ) (now : Place) (new : Judged) (count : ℕ) (kind : LogKind) (line : ℕ) (answer : Answer) → ChecksOn start (no_step_of (rows_of league) (var_count league)) bytes now new count
-    → log_from now [] ≡ no_steps_but kind line → answer ≡ log_malformed kind line → says_log (log_of bytes) (IsVerdict league (rows_of league)) answer
-faulty-log league bytes now new count kind line answer checked fault is =
-    let next : List Step → Outcome = IsVerdict league (rows_of league) in
-    subst (λ (said : Result (List Step) Fault). says_log said next answer) (sym (log-faulty (no_step_of (rows_of league) (var_count league)) bytes now new count kind line checked fault)) is
+pub faulty-log : (rows : List Row) (vars : ℕ) (bytes : List ℕ) (now : Place) (new : Judged) (count : ℕ)
+    (kind : LogKind) (line : ℕ) (answer : Answer) → ChecksOn start (no_step_of rows vars) bytes now new count
+    → log_from now [] ≡ no_steps_but kind line → answer ≡ log_malformed kind line
+    → says_log (log_of bytes) (IsVerdictOver rows vars) answer
+faulty-log rows vars bytes now new count kind line answer checked fault is =
+    let next : List Step → Outcome = IsVerdictOver rows vars in
+    subst (λ (said : Result (List Step) Fault). says_log said next answer)
+    (sym (log-faulty (no_step_of rows vars) bytes now new count kind line checked fault)) is

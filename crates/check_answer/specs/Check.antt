@@ -86,10 +86,14 @@ abbrev pub says_log : Result (List Step) Fault → (List Step → Outcome) → O
 says_log (Ok steps) next answer = next steps answer
 says_log (Err fault) next answer = answer ≡ log_malformed fault.0 fault.1
 
+-- the verdict on a log over rows of so many variables
+abbrev pub IsVerdictOver : List Row → ℕ → List Step → Outcome
+IsVerdictOver rows vars steps answer = answer ≡ verdict_answer (length steps) (verdict_of rows vars steps)
+
 -- The verdict on a log over the rows of the league. Where it says yes, the league accepts no list of games, of whatever
 -- length.
 pub record IsVerdict (league : Instance) (rows : List Row) (steps : List Step) (answer : Answer) : Type 0 where
-  pub verdict : answer ≡ verdict_answer (length steps) (verdict_of rows (var_count league) steps)
+  pub verdict : IsVerdictOver rows (var_count league) steps answer
   pub refuted : answer.status ≡ Yes → NoneAccepted league
 
 -- `check`, over the contents of the store's files where they are known, how many bytes it gave more than, and the files

@@ -1,7 +1,8 @@
 //! The stages of `check`.
 ghost use Rattle.std.specs.Prelude.{◌≡◌, ◌<◌, ◌≤◌, ℕ, List, IfOk, codes, vec_len};
 ghost use Rattle.robin_io.specs.Counts.{Rose, TookMore};
-ghost use Rattle.league.specs.Instance.{Instance, IsInstance};
+ghost use Rattle.league.specs.Instance.{IsInstance};
+ghost use Rattle.rows.specs.Rows.{Row};
 ghost use Rattle.encoding.specs.Encoding.{encoding_size, rows_of};
 ghost use Rattle.encoding.specs.Variables.{var_count};
 ghost use Rattle.refutation.specs.Logs.{log_of};
@@ -9,7 +10,8 @@ ghost use Rattle.refutation.specs.Places.{start};
 ghost use Rattle.refutation_check.specs.Judged.{no_step_of};
 ghost use Rattle.answers.specs.SeenReply.{answer_of, Answers, MatchStage};
 ghost use Rattle.answers.specs.Stages.{IsUnread, reads};
-ghost use Rattle.check_answer.specs.Check.{IsVerdict, checked, most_log_bytes, most_terms, says_log, too_large};
+ghost use Rattle.check_answer.specs.Check.{IsVerdict, IsVerdictOver, checked, most_log_bytes, most_terms};
+ghost use Rattle.check_answer.specs.Check.{says_log, too_large};
 ghost use Rattle.check_answer.specs.Feeding.{ChecksFile, ChecksOn};
 
 use crate::feeding::{LOG_LIMIT, check_file};
@@ -81,9 +83,9 @@ fn verdict_on(
     checker: &Checker,
     steps: usize,
 ) -> Result<Reply, NoValue>
-    ensures { (league : Instance) (bytes : List ℕ) → IsInstance league
-        → ChecksOn start (no_step_of (rows_of league) (var_count league)) bytes feed checker.now steps
-        → Answers (says_log (log_of bytes) (IsVerdict league (rows_of league))) result }
+    ensures { (rows : List Row) (vars : ℕ) (bytes : List ℕ)
+        → ChecksOn start (no_step_of rows vars) bytes feed checker.now steps
+        → Answers (says_log (log_of bytes) (IsVerdictOver rows vars)) result }
 {
     match feed.finish() {
         Ok(()) => Ok(verdict_reply(alloc, steps, checker.verdict())?),
@@ -92,6 +94,26 @@ fn verdict_on(
         }
         Err(LogFault::Mem) => Err(NoValue::Memory),
     }
+}
+
+/// Reads the log of a file and answers with the verdict on it, over the rows of a checker that was given no step yet.
+/// The log is read in pieces and its steps are judged as they come; it is read to its end before the answer.
+pub fn judge_log<S: Shelf>(
+    alloc: Global,
+    shelf: &mut S,
+    name: &str,
+    checker: &mut Checker,
+) -> Result<Reply, NoValue>
+    ensures answer { (rows : List Row) (vars : ℕ) → checker.old ≡ no_step_of rows vars
+        → Answers (reads (codes "log") (S.contents shelf.old name.now) most_log_bytes
+        (TookMore most_log_bytes (S.taken shelf.old) (S.taken shelf.new))
+        (Rose (S.faults shelf.old name.now) (S.faults shelf.new name.now))
+        (λ bytes. says_log (log_of bytes) (IsVerdictOver rows vars))) result }
+    ensures contents { (n : List ℕ) → S.contents shelf.new n ≡ S.contents shelf.old n }
+{
+    let mut feed = LogFeed::new(alloc);
+    let steps = log_in(alloc, shelf, name, &mut feed, checker)?;
+    verdict_on(alloc, feed, checker, steps)
 }
 
 /// Checks a log over the rows of a league.
@@ -110,9 +132,7 @@ fn check_log<S: Shelf>(
     // For its contract: what is encoded is a league, of which accepted logs exclude every schedule.
     let _vars = encoding.vars();
     let mut checker = checker_of(alloc, encoding)?;
-    let mut feed = LogFeed::new(alloc);
-    let steps = log_in(alloc, shelf, name, &mut feed, &mut checker)?;
-    verdict_on(alloc, feed, &checker, steps)
+    judge_log(alloc, shelf, name, &mut checker)
 }
 
 /// The stages of `check`.

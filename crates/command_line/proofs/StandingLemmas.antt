@@ -3,8 +3,8 @@ use Rattle.std.proofs.Common.{◌≡◌, ℕ, ◌<◌, ◌≤◌, ◌==◌, if�
 use Rattle.std.proofs.lemmas.Bool.Decides.{nat_tests}
 use Rattle.command_line.specs.Standing.{once_more, standing}
 use Rattle.command_line.specs.Standing.Standing.{Never, Once, Often}
-use Rattle.command_line.specs.Words.{arguments_of, is_file_name, number_in, one_file, plain, said, seed_in}
-use Rattle.command_line.specs.Words.{teams_and_seed}
+use Rattle.command_line.specs.Words.{arguments_of, is_file_name, number_in, one_file, one_number, plain}
+use Rattle.command_line.specs.Words.{auditing, said, teams_and_seed}
 
 pub standing-more : (value : List ℕ) (values : List (List ℕ)) → once_more value (standing values) ≡ standing (value ∷ values)
 standing-more value [] = refl
@@ -60,14 +60,14 @@ one_file-more file (x ∷ more) some = refl
 
 -- ---- one number
 
-pub seed_in-alone : (seed : List ℕ) (more : List (List ℕ)) → (length more == 0) ≡ true
-    → number_in seed ≡ seed_in (seed ∷ more)
-seed_in-alone seed [] none = refl
-seed_in-alone seed (x ∷ more) none = absurd (longer (length more) none)
+pub one_number-alone : (word : List ℕ) (more : List (List ℕ)) → (length more == 0) ≡ true
+    → number_in word ≡ one_number (word ∷ more)
+one_number-alone word [] none = refl
+one_number-alone word (x ∷ more) none = absurd (longer (length more) none)
 
-pub seed_in-more : (seed : List ℕ) (more : List (List ℕ)) → (length more == 0) ≡ false → None ≡ seed_in (seed ∷ more)
-seed_in-more seed [] some = absurd (cc)
-seed_in-more seed (x ∷ more) some = refl
+pub one_number-more : (word : List ℕ) (more : List (List ℕ)) → (length more == 0) ≡ false → None ≡ one_number (word ∷ more)
+one_number-more word [] some = absurd (cc)
+one_number-more word (x ∷ more) some = refl
 
 -- ---- no argument
 
@@ -90,3 +90,20 @@ plain-many {Z} command [] many = absurd (omega arith)
 plain-many {Z} command (a ∷ []) many = absurd (omega arith)
 plain-many {Z} command (a ∷ b ∷ []) many = absurd (omega arith)
 plain-many {Z} command (a ∷ b ∷ c ∷ rest) many = refl
+
+pub auditing-few : {Z : Type 0} (words : List (String Z)) → length words < 4
+    → None ≡ auditing (map string_bytes words)
+auditing-few {Z} [] few = refl
+auditing-few {Z} (a ∷ []) few = refl
+auditing-few {Z} (a ∷ b ∷ []) few = refl
+auditing-few {Z} (a ∷ b ∷ c ∷ []) few = refl
+auditing-few {Z} (a ∷ b ∷ c ∷ d ∷ rest) few = absurd (omega arith)
+
+pub auditing-many : {Z : Type 0} (words : List (String Z)) → 5 ≤ length words
+    → None ≡ auditing (map string_bytes words)
+auditing-many {Z} [] many = absurd (omega arith)
+auditing-many {Z} (a ∷ []) many = absurd (omega arith)
+auditing-many {Z} (a ∷ b ∷ []) many = absurd (omega arith)
+auditing-many {Z} (a ∷ b ∷ c ∷ []) many = absurd (omega arith)
+auditing-many {Z} (a ∷ b ∷ c ∷ d ∷ []) many = absurd (omega arith)
+auditing-many {Z} (a ∷ b ∷ c ∷ d ∷ e ∷ rest) many = refl

@@ -2,9 +2,11 @@
 use Rattle.std.proofs.Common.{◌≡◌, ℕ, true, false, List, [], ◌∷◌, Some, None, codes, refl}
 use Rattle.budgets.specs.declared.budgets.Budgets.{Budgets}
 use Rattle.command_line.specs.Words.{arguments_of, budget_in, has_options, is_file_name, is_option, is_shortest}
-use Rattle.command_line.specs.Words.{members_in, members_of, number_above, number_in, one_file, reading, rising, said}
-use Rattle.command_line.specs.Words.{seed_in, team_count_in, teams_and_seed, tries_in, values_of, words_of, NeedsNoFile}
-use Rattle.command_line.specs.Words.Command.{Check, Circle, Explain, Make, Part, Patterns, Solve, Trial, Validate}
+use Rattle.command_line.specs.Words.{files_and_number, members_in, members_of, number_above, number_in, one_file}
+use Rattle.command_line.specs.Words.{one_number, reading, rising, said, two_files}
+use Rattle.command_line.specs.Words.{team_count_in, teams_and_seed, tries_in, values_of, words_of, NeedsNoFile}
+use Rattle.command_line.specs.Words.Command.{Audit, Bound, Check, Circle, Explain, Make, Part, Patterns, Prove}
+use Rattle.command_line.specs.Words.Command.{Resume, Solve, Trial, Validate}
 
 -- a number: 0 itself, no leading zero, no sign, no blank, at most 2 ^ 64 - 1
 pub number_in-some : (number_in (codes "0") ≡ Some 0) × (number_in (codes "10") ≡ Some 10) × (number_in (codes "18446744073709551615") ≡ Some 18446744073709551615)
@@ -160,8 +162,8 @@ unfolding teams_and_seed
 trial-none = (refl, refl, refl, refl, refl, refl, refl, refl, refl, refl)
 
 pub teams_and_seed-some : (teams_and_seed [] ≡ None) × (teams_and_seed (codes "4" ∷ codes "1" ∷ []) ≡ Some (4, 1))
-    × (teams_and_seed (codes "4" ∷ []) ≡ None) × (seed_in (codes "9" ∷ []) ≡ Some 9)
-    × (seed_in (codes "9" ∷ codes "9" ∷ []) ≡ None)
+    × (teams_and_seed (codes "4" ∷ []) ≡ None) × (one_number (codes "9" ∷ []) ≡ Some 9)
+    × (one_number (codes "9" ∷ codes "9" ∷ []) ≡ None)
 unfolding teams_and_seed
 teams_and_seed-some = (refl, refl, refl, refl, refl)
 
@@ -221,6 +223,100 @@ pub part-none : (reading (codes "part" ∷ codes "a" ∷ []) ≡ None)
     × (reading (codes "part" ∷ codes "a" ∷ codes "1" ∷ codes "--conflicts" ∷ codes "7" ∷ []) ≡ None)
 part-none = (refl, refl, refl, refl, refl)
 
+-- ---- `prove` and `bound`
+
+-- with the usual budget, and with the option before the files, between and behind them
+pub prove-some : (reading (codes "prove" ∷ codes "a" ∷ codes "b" ∷ []) ≡ Some (Prove (codes "a") (codes "b") (Some 2000)))
+    × (reading (codes "prove" ∷ codes "--conflicts" ∷ codes "0" ∷ codes "a" ∷ codes "b" ∷ [])
+    ≡ Some (Prove (codes "a") (codes "b") (Some 0)))
+    × (reading (codes "prove" ∷ codes "a" ∷ codes "--conflicts" ∷ codes "7" ∷ codes "b" ∷ [])
+    ≡ Some (Prove (codes "a") (codes "b") (Some 7)))
+    × (reading (codes "prove" ∷ codes "a" ∷ codes "b" ∷ codes "--conflicts" ∷ codes "all" ∷ [])
+    ≡ Some (Prove (codes "a") (codes "b") None))
+prove-some = (refl, refl, refl, refl)
+
+-- no file, one or three, an option in place of a file, an option of `solve` alone, the option twice, without its value or
+-- with a wrong one, another spelling
+pub prove-none : (reading (codes "prove" ∷ []) ≡ None) × (reading (codes "prove" ∷ codes "a" ∷ []) ≡ None)
+    × (reading (codes "prove" ∷ codes "a" ∷ codes "b" ∷ codes "c" ∷ []) ≡ None)
+    × (reading (codes "prove" ∷ codes "-a" ∷ codes "b" ∷ []) ≡ None)
+    × (reading (codes "prove" ∷ codes "a" ∷ codes "-b" ∷ []) ≡ None)
+    × (reading (codes "prove" ∷ codes "a" ∷ codes "b" ∷ codes "--moves" ∷ codes "1" ∷ []) ≡ None)
+    × (reading (codes "prove" ∷ codes "--conflicts" ∷ codes "7" ∷ codes "a" ∷ codes "--conflicts" ∷ codes "7" ∷ codes "b"
+    ∷ []) ≡ None)
+    × (reading (codes "prove" ∷ codes "a" ∷ codes "b" ∷ codes "--conflicts" ∷ []) ≡ None)
+    × (reading (codes "prove" ∷ codes "a" ∷ codes "b" ∷ codes "--conflicts" ∷ codes "07" ∷ []) ≡ None)
+    × (reading (codes "Prove" ∷ codes "a" ∷ codes "b" ∷ []) ≡ None)
+prove-none = (refl, refl, refl, refl, refl, refl, refl, refl, refl, refl)
+
+pub bound-some : (reading (codes "bound" ∷ codes "a" ∷ codes "b" ∷ []) ≡ Some (Bound (codes "a") (codes "b")))
+    × (reading (codes "bound" ∷ codes "a" ∷ []) ≡ None)
+    × (reading (codes "bound" ∷ codes "a" ∷ codes "b" ∷ codes "c" ∷ []) ≡ None)
+    × (reading (codes "bound" ∷ codes "a" ∷ codes "-b" ∷ []) ≡ None)
+    × (reading (codes "bound" ∷ codes "a" ∷ codes "b" ∷ codes "--conflicts" ∷ codes "7" ∷ []) ≡ None)
+bound-some = (refl, refl, refl, refl, refl)
+
+pub two_files-some : (two_files (codes "a" ∷ codes "b" ∷ []) ≡ Some (codes "a", codes "b")) × (two_files [] ≡ None)
+    × (two_files (codes "a" ∷ []) ≡ None) × (two_files (codes "a" ∷ codes "b" ∷ codes "c" ∷ []) ≡ None)
+    × (two_files (codes "-a" ∷ codes "b" ∷ []) ≡ None) × (two_files (codes "a" ∷ codes "-b" ∷ []) ≡ None)
+two_files-some = (refl, refl, refl, refl, refl, refl)
+
+-- ---- `resume` and `audit`
+
+-- with the usual budget, and with the option among the arguments; any number of 64 bits may be the number of slots
+pub resume-some : (reading (codes "resume" ∷ codes "a" ∷ codes "b" ∷ codes "0" ∷ [])
+    ≡ Some (Resume (codes "a") (codes "b") 0 (Some 2000)))
+    × (reading (codes "resume" ∷ codes "a" ∷ codes "--conflicts" ∷ codes "all" ∷ codes "b" ∷ codes "18" ∷ [])
+    ≡ Some (Resume (codes "a") (codes "b") 18 None))
+    × (reading (codes "resume" ∷ codes "--conflicts" ∷ codes "7" ∷ codes "a" ∷ codes "b"
+    ∷ codes "18446744073709551615" ∷ []) ≡ Some (Resume (codes "a") (codes "b") 18446744073709551615 (Some 7)))
+resume-some = (refl, refl, refl)
+
+-- no number or two, a number past 64 bits, with a leading zero, a sign or a letter, a number in place of a file's
+-- place, an option of `solve` alone, the option twice
+pub resume-none : (reading (codes "resume" ∷ codes "a" ∷ codes "b" ∷ []) ≡ None)
+    × (reading (codes "resume" ∷ codes "a" ∷ codes "b" ∷ codes "1" ∷ codes "2" ∷ []) ≡ None)
+    × (reading (codes "resume" ∷ codes "a" ∷ codes "b" ∷ codes "18446744073709551616" ∷ []) ≡ None)
+    × (reading (codes "resume" ∷ codes "a" ∷ codes "b" ∷ codes "01" ∷ []) ≡ None)
+    × (reading (codes "resume" ∷ codes "a" ∷ codes "b" ∷ codes "-1" ∷ []) ≡ None)
+    × (reading (codes "resume" ∷ codes "a" ∷ codes "b" ∷ codes "1x" ∷ []) ≡ None)
+    × (reading (codes "resume" ∷ codes "1" ∷ codes "a" ∷ codes "b" ∷ []) ≡ None)
+    × (reading (codes "resume" ∷ codes "a" ∷ codes "-b" ∷ codes "1" ∷ []) ≡ None)
+    × (reading (codes "resume" ∷ codes "a" ∷ codes "b" ∷ codes "1" ∷ codes "--moves" ∷ codes "1" ∷ []) ≡ None)
+    × (reading (codes "resume" ∷ codes "--conflicts" ∷ codes "7" ∷ codes "a" ∷ codes "b" ∷ codes "1"
+    ∷ codes "--conflicts" ∷ codes "7" ∷ []) ≡ None)
+resume-none = (refl, refl, refl, refl, refl, refl, refl, refl, refl, refl)
+
+pub audit-some : (reading (codes "audit" ∷ codes "a" ∷ codes "b" ∷ codes "3" ∷ codes "c" ∷ [])
+    ≡ Some (Audit (codes "a") (codes "b") 3 (codes "c")))
+    × (reading (codes "audit" ∷ codes "a" ∷ codes "b" ∷ codes "18446744073709551615" ∷ codes "c" ∷ [])
+    ≡ Some (Audit (codes "a") (codes "b") 18446744073709551615 (codes "c")))
+audit-some = (refl, refl)
+
+-- three words or five, a number past 64 bits or with a leading zero, the log before the number, an option in place of
+-- each file, an option
+pub audit-none : (reading (codes "audit" ∷ codes "a" ∷ codes "b" ∷ codes "3" ∷ []) ≡ None)
+    × (reading (codes "audit" ∷ codes "a" ∷ codes "b" ∷ codes "3" ∷ codes "c" ∷ codes "d" ∷ []) ≡ None)
+    × (reading (codes "audit" ∷ codes "a" ∷ codes "b" ∷ codes "18446744073709551616" ∷ codes "c" ∷ []) ≡ None)
+    × (reading (codes "audit" ∷ codes "a" ∷ codes "b" ∷ codes "03" ∷ codes "c" ∷ []) ≡ None)
+    × (reading (codes "audit" ∷ codes "a" ∷ codes "b" ∷ codes "c" ∷ codes "3" ∷ []) ≡ None)
+    × (reading (codes "audit" ∷ codes "-a" ∷ codes "b" ∷ codes "3" ∷ codes "c" ∷ []) ≡ None)
+    × (reading (codes "audit" ∷ codes "a" ∷ codes "-b" ∷ codes "3" ∷ codes "c" ∷ []) ≡ None)
+    × (reading (codes "audit" ∷ codes "a" ∷ codes "b" ∷ codes "3" ∷ codes "-c" ∷ []) ≡ None)
+    × (reading (codes "audit" ∷ codes "a" ∷ codes "b" ∷ codes "3" ∷ codes "c" ∷ codes "--conflicts" ∷ codes "7" ∷ [])
+    ≡ None)
+audit-none = (refl, refl, refl, refl, refl, refl, refl, refl, refl)
+
+pub files_and_number-some : (files_and_number (codes "a" ∷ codes "b" ∷ codes "3" ∷ [])
+    ≡ Some (codes "a", codes "b", 3))
+    × (files_and_number [] ≡ None) × (files_and_number (codes "a" ∷ []) ≡ None)
+    × (files_and_number (codes "a" ∷ codes "b" ∷ []) ≡ None)
+    × (files_and_number (codes "a" ∷ codes "b" ∷ codes "3" ∷ codes "3" ∷ []) ≡ None)
+    × (files_and_number (codes "a" ∷ codes "3" ∷ codes "b" ∷ []) ≡ None)
+    × (files_and_number (codes "-a" ∷ codes "b" ∷ codes "3" ∷ []) ≡ None)
+    × (files_and_number (codes "a" ∷ codes "-b" ∷ codes "3" ∷ []) ≡ None)
+files_and_number-some = (refl, refl, refl, refl, refl, refl, refl, refl)
+
 -- which words need no file
 pub needs_no_file : NeedsNoFile (reading []) × NeedsNoFile (reading (codes "circle" ∷ codes "4" ∷ []))
     × NeedsNoFile (reading (codes "make" ∷ codes "4" ∷ codes "1" ∷ []))
@@ -231,5 +327,9 @@ pub needs_no_file : NeedsNoFile (reading []) × NeedsNoFile (reading (codes "cir
     × (NeedsNoFile (reading (codes "patterns" ∷ codes "a" ∷ [])) → ⊥)
     × (NeedsNoFile (reading (codes "explain" ∷ codes "a" ∷ [])) → ⊥)
     × (NeedsNoFile (reading (codes "part" ∷ codes "a" ∷ codes "1" ∷ [])) → ⊥)
+    × (NeedsNoFile (reading (codes "prove" ∷ codes "a" ∷ codes "b" ∷ [])) → ⊥)
+    × (NeedsNoFile (reading (codes "bound" ∷ codes "a" ∷ codes "b" ∷ [])) → ⊥)
+    × (NeedsNoFile (reading (codes "resume" ∷ codes "a" ∷ codes "b" ∷ codes "1" ∷ [])) → ⊥)
+    × (NeedsNoFile (reading (codes "audit" ∷ codes "a" ∷ codes "b" ∷ codes "1" ∷ codes "c" ∷ [])) → ⊥)
 unfolding teams_and_seed
-needs_no_file = (tt, tt, tt, tt, λ h. h, λ h. h, λ h. h, λ h. h, λ h. h, λ h. h)
+needs_no_file = (tt, tt, tt, tt, λ h. h, λ h. h, λ h. h, λ h. h, λ h. h, λ h. h, λ h. h, λ h. h, λ h. h, λ h. h)

@@ -17,6 +17,10 @@ pub data Command : Type 0 where
   Patterns : (instance : List ℕ) → (conflicts : Option ℕ) → Command
   Explain : (instance : List ℕ) → (conflicts : Option ℕ) → Command
   Part : (instance members : List ℕ) → Command
+  Prove : (instance solution : List ℕ) → (conflicts : Option ℕ) → Command
+  Bound : (instance log : List ℕ) → Command
+  Resume : (instance solution : List ℕ) → (k : ℕ) → (conflicts : Option ℕ) → Command
+  Audit : (instance solution : List ℕ) → (k : ℕ) → (log : List ℕ) → Command
   Circle : (n : ℕ) → Command
   Make : (n seed : ℕ) → Command
   Trial : (n seed : ℕ) → (budgets : Budgets) → Command
@@ -96,7 +100,31 @@ abbrev pub one_file : List (List ℕ) → Option (List ℕ)
 one_file (file ∷ []) = if is_file_name file then Some file else None
 one_file _ = None
 
--- ---- `solve`, `patterns`, `explain` and `trial`
+-- the one number among some arguments
+abbrev pub one_number : List (List ℕ) → Option ℕ
+one_number (word ∷ []) = number_in word
+one_number _ = None
+
+-- the two files among some arguments
+abbrev pub two_files : List (List ℕ) → Option (List ℕ × List ℕ)
+two_files [] = None
+two_files (first ∷ rest) =
+    if is_file_name first then option_map (λ second. (first, second)) (one_file rest) else None
+
+-- two files and a number, as arguments
+abbrev pub files_and_number : List (List ℕ) → Option (List ℕ × List ℕ × ℕ)
+files_and_number [] = None
+files_and_number (first ∷ []) = None
+files_and_number (first ∷ second ∷ rest) =
+    if is_file_name first && is_file_name second
+    then option_map (λ number. (first, second, number)) (one_number rest)
+    else None
+
+-- how many clauses a search may learn; where the words don't say it, an own choice
+abbrev pub conflicts_in : List (List ℕ) → Option (Option ℕ)
+conflicts_in words = said (Some usual_conflicts) budget_in (values_of (codes "--conflicts") words)
+
+-- ---- commands with options
 
 infixl 10 ◌>>=◌
 -- what the next step makes of a value, if there is one
@@ -106,7 +134,7 @@ o >>= f = option_and_then f o
 -- what the words say of how far it goes; where they don't say it, own choices
 abbrev pub budgets_in : List (List ℕ) → Option Budgets
 budgets_in words = do
-  conflicts ← said (Some usual_conflicts) budget_in (values_of (codes "--conflicts") words)
+  conflicts ← conflicts_in words
   moves ← said 10000 number_in (values_of (codes "--moves") words)
   tries ← said 1 tries_in (values_of (codes "--tries") words)
   patterns ← said 500 number_in (values_of (codes "--patterns") words)
@@ -131,10 +159,7 @@ solving words =
 abbrev pub searching : (List ℕ → Option ℕ → Command) → List (List ℕ) → Option Command
 searching command words =
     if has_options search_options words
-    then option_and_then
-    (λ file. option_map (command file)
-    (said (Some usual_conflicts) budget_in (values_of (codes "--conflicts") words)))
-    (one_file (arguments_of words))
+    then option_and_then (λ file. option_map (command file) (conflicts_in words)) (one_file (arguments_of words))
     else None
 
 abbrev pub patterning : List (List ℕ) → Option Command
@@ -143,16 +168,27 @@ patterning words = searching Patterns words
 abbrev pub explaining : List (List ℕ) → Option Command
 explaining words = searching Explain words
 
--- the seed of a made league, where it is the one argument that is left
-abbrev pub seed_in : List (List ℕ) → Option ℕ
-seed_in (seed ∷ []) = number_in seed
-seed_in _ = None
+-- `prove` over two files, with how many clauses its search may learn said before, between or behind them
+abbrev pub proving : List (List ℕ) → Option Command
+proving words =
+    if has_options search_options words
+    then option_and_then (λ files. option_map (Prove files.0 files.1) (conflicts_in words))
+    (two_files (arguments_of words))
+    else None
+
+-- `resume` over two files, with a number of slots, and with the same option
+abbrev pub resuming : List (List ℕ) → Option Command
+resuming words =
+    if has_options search_options words
+    then option_and_then (λ found. option_map (Resume found.0 found.1 found.2) (conflicts_in words))
+    (files_and_number (arguments_of words))
+    else None
 
 -- the number of teams and the seed of a made league, as arguments
 unfoldable pub teams_and_seed : List (List ℕ) → Option (ℕ × ℕ)
 teams_and_seed [] = None
 teams_and_seed (teams ∷ rest) =
-    option_and_then (λ n. option_map (λ seed. (n, seed)) (seed_in rest)) (team_count_in teams)
+    option_and_then (λ n. option_map (λ seed. (n, seed)) (one_number rest)) (team_count_in teams)
 
 -- `trial` with a number of teams, a seed and the options of `solve`
 abbrev pub trying : List (List ℕ) → Option Command
@@ -203,7 +239,8 @@ making teams seed = option_and_then (λ n. option_map (Make n) (number_in seed))
 abbrev pub over_files : List ℕ → List ℕ → List ℕ → Option Command
 over_files command first second =
     if bytes_eq command (codes "validate") then Some (Validate first second)
-    else (if bytes_eq command (codes "check") then Some (Check first second) else None)
+    else (if bytes_eq command (codes "check") then Some (Check first second)
+    else (if bytes_eq command (codes "bound") then Some (Bound first second) else None))
 
 -- the command of this name that has no options
 abbrev pub plain : List ℕ → List (List ℕ) → Option Command
@@ -215,6 +252,14 @@ plain command (first ∷ second ∷ []) =
     else (if is_file_name first && is_file_name second then over_files command first second else None))
 plain command _ = None
 
+-- `audit` over two files, with a number of slots and a log
+abbrev pub auditing : List (List ℕ) → Option Command
+auditing (instance ∷ solution ∷ slots ∷ log ∷ []) =
+    if is_file_name instance && (is_file_name solution && is_file_name log)
+    then option_map (λ k. Audit instance solution k log) (number_in slots)
+    else None
+auditing _ = None
+
 -- the one reading of the words, or none
 abbrev pub reading : List (List ℕ) → Option Command
 reading [] = None
@@ -222,7 +267,10 @@ reading (command ∷ words) =
     if bytes_eq command (codes "solve") then solving words
     else (if bytes_eq command (codes "patterns") then patterning words
     else (if bytes_eq command (codes "explain") then explaining words
-    else (if bytes_eq command (codes "trial") then trying words else plain command words)))
+    else (if bytes_eq command (codes "prove") then proving words
+    else (if bytes_eq command (codes "resume") then resuming words
+    else (if bytes_eq command (codes "audit") then auditing words
+    else (if bytes_eq command (codes "trial") then trying words else plain command words))))))
 
 -- a league may have the teams of a command, where it names a number of them
 abbrev pub HasTeams : Command → Type 0
@@ -232,6 +280,10 @@ HasTeams (Solve instance budgets) = Unit {0}
 HasTeams (Patterns instance conflicts) = Unit {0}
 HasTeams (Explain instance conflicts) = Unit {0}
 HasTeams (Part instance members) = Unit {0}
+HasTeams (Prove instance solution conflicts) = Unit {0}
+HasTeams (Bound instance log) = Unit {0}
+HasTeams (Resume instance solution k conflicts) = Unit {0}
+HasTeams (Audit instance solution k log) = Unit {0}
 HasTeams (Circle n) = IsTeamCount n
 HasTeams (Make n seed) = IsTeamCount n
 HasTeams (Trial n seed budgets) = IsTeamCount n
@@ -248,3 +300,7 @@ NeedsNoFile (Some (Solve instance budgets)) = ⊥
 NeedsNoFile (Some (Patterns instance conflicts)) = ⊥
 NeedsNoFile (Some (Explain instance conflicts)) = ⊥
 NeedsNoFile (Some (Part instance members)) = ⊥
+NeedsNoFile (Some (Prove instance solution conflicts)) = ⊥
+NeedsNoFile (Some (Bound instance log)) = ⊥
+NeedsNoFile (Some (Resume instance solution k conflicts)) = ⊥
+NeedsNoFile (Some (Audit instance solution k log)) = ⊥

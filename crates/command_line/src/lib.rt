@@ -3,6 +3,7 @@
 //! A contract sees the words as a list of texts, of which `specs/Words.antt` has the one reading.
 #![tactic(auto)]
 
+mod arguments;
 mod list;
 mod words;
 

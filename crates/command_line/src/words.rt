@@ -5,16 +5,17 @@ ghost use Rattle.std.specs.Prelude.{option_map, IfSome};
 ghost use Rattle.std.specs.List.{list_any};
 ghost use Rattle.std.specs.Option.{option_copied};
 ghost use Rattle.command_line.specs.Words as options;
-ghost use Rattle.command_line.specs.Words.{arguments_of, budget_in, budgets_in, explaining, has_options};
-ghost use Rattle.command_line.specs.Words.{is_file_name, making, parting};
-ghost use Rattle.command_line.specs.Words.{HasTeams, number_in, patterning, plain, reading, said, search_options};
-ghost use Rattle.command_line.specs.Words.{seed_in, solve_options, solving, team_count_in, tries_in, trying};
-ghost use Rattle.command_line.specs.Words.{usual_conflicts, values_of};
+ghost use Rattle.command_line.specs.Words.{arguments_of, auditing, budget_in, budgets_in, conflicts_in, explaining};
+ghost use Rattle.command_line.specs.Words.{has_options, is_file_name, making, parting};
+ghost use Rattle.command_line.specs.Words.{HasTeams, number_in, patterning, plain, proving, reading, resuming, said};
+ghost use Rattle.command_line.specs.Words.{search_options, solve_options, solving, team_count_in, tries_in, trying};
+ghost use Rattle.command_line.specs.Words.{values_of};
 ghost use Rattle.command_line.specs.Words.Command.{Circle};
 ghost use Rattle.command_line.specs.SeenWords.{command_of};
 ghost use Rattle.command_line.specs.Standing.{once_more, standing};
 ghost use Rattle.command_line.specs.SeenStanding.{seen};
 
+use crate::arguments::{files_and_number, two_files};
 use crate::list::is_list;
 use budgets::Budgets;
 use league::is_team_count;
@@ -56,6 +57,35 @@ pub enum Words<'a> {
     Part {
         instance: &'a str,
         list: &'a str,
+    },
+    /// Search a schedule of the league of an instance file that is better than the accepted one of a solution file, or
+    /// a certificate that none is. The search may learn so many clauses, or any number of them.
+    Prove {
+        instance: &'a str,
+        solution: &'a str,
+        conflicts: Option<u64>,
+    },
+    /// Check the certificate of one file that no schedule that the league of an instance file accepts is better than
+    /// its bound.
+    Bound {
+        instance: &'a str,
+        log: &'a str,
+    },
+    /// Search a schedule that the league of an instance file accepts and that has, in the first k slots, the games of a
+    /// solution file; or a log that none has. The search may learn so many clauses, or any number of them.
+    Resume {
+        instance: &'a str,
+        solution: &'a str,
+        k: u64,
+        conflicts: Option<u64>,
+    },
+    /// Check the log of a third file that no schedule that the league of an instance file accepts has, in the first k
+    /// slots, the games of a solution file.
+    Audit {
+        instance: &'a str,
+        solution: &'a str,
+        k: u64,
+        log: &'a str,
     },
     /// Write the double round robin of the circle method for n teams, n even and from 2 to 40.
     Circle {
@@ -106,6 +136,12 @@ fn follow<'a>(command: &str, words: &'a [String]) -> Option<Words<'a>>
         read_patterns(words)
     } else if command == "explain" {
         read_explain(words)
+    } else if command == "prove" {
+        read_prove(words)
+    } else if command == "resume" {
+        read_resume(words)
+    } else if command == "audit" {
+        read_audit(words)
     } else if command == "trial" {
         read_trial(words)
     } else {
@@ -143,6 +179,11 @@ fn with_two<'a>(command: &str, first: &'a str, second: &'a str) -> Option<Words<
         })
     } else if command == "check" {
         Some(Words::Check {
+            instance: first,
+            log: second,
+        })
+    } else if command == "bound" {
+        Some(Words::Bound {
             instance: first,
             log: second,
         })
@@ -232,6 +273,80 @@ fn read_explain(words: &[String]) -> Option<Words<'_>>
     })
 }
 
+/// `prove` over two files, with its option.
+fn read_prove(words: &[String]) -> Option<Words<'_>>
+    ensures reading { option_map command_of result ≡ proving (map string_bytes words.now) }
+    ensures teams { IfSome result (λ command. HasTeams (command_of command)) }
+{
+    if !has_search_options(words) {
+        return None;
+    }
+    let (instance, solution) = two_files(words)?;
+    let conflicts = conflicts_said(words)?;
+    Some(Words::Prove {
+        instance,
+        solution,
+        conflicts,
+    })
+}
+
+/// `resume` over two files, with a number of slots and its option.
+fn read_resume(words: &[String]) -> Option<Words<'_>>
+    ensures reading { option_map command_of result ≡ resuming (map string_bytes words.now) }
+    ensures teams { IfSome result (λ command. HasTeams (command_of command)) }
+{
+    if !has_search_options(words) {
+        return None;
+    }
+    let (instance, solution, k) = files_and_number(words)?;
+    let conflicts = conflicts_said(words)?;
+    Some(Words::Resume {
+        instance,
+        solution,
+        k,
+        conflicts,
+    })
+}
+
+/// `audit` over two files, with a number of slots and a log.
+fn read_audit(words: &[String]) -> Option<Words<'_>>
+    ensures reading { option_map command_of result ≡ auditing (map string_bytes words.now) }
+    ensures teams { IfSome result (λ command. HasTeams (command_of command)) }
+{
+    match words {
+        [instance, solution, slots, log] => audit_of(
+            instance.as_str(),
+            solution.as_str(),
+            slots.as_str(),
+            log.as_str(),
+        ),
+        _ => None,
+    }
+}
+
+/// `audit` with these words.
+fn audit_of<'a>(
+    instance: &'a str,
+    solution: &'a str,
+    slots: &str,
+    log: &'a str,
+) -> Option<Words<'a>>
+    ensures reading { option_map command_of result
+        ≡ auditing (instance.now ∷ solution.now ∷ slots.now ∷ log.now ∷ []) }
+    ensures teams { IfSome result (λ command. HasTeams (command_of command)) }
+{
+    if !is_name(instance) || !is_name(solution) || !is_name(log) {
+        return None;
+    }
+    let k = number(slots)?;
+    Some(Words::Audit {
+        instance,
+        solution,
+        k,
+        log,
+    })
+}
+
 /// `trial` with a number of teams and a seed, and the options of `solve`.
 fn read_trial(words: &[String]) -> Option<Words<'_>>
     ensures reading { option_map command_of result ≡ trying (map string_bytes words.now) }
@@ -265,24 +380,24 @@ fn with_seed(teams: &str, words: &[String]) -> Option<(u16, u64)>
     ensures teams { IfSome result (λ made. HasTeams (Circle made.0)) }
 {
     let n = team_count(teams)?;
-    let seed = seed_alone(words)?;
+    let seed = one_number(words)?;
     Some((n, seed))
 }
 
-/// The seed, as the one argument.
-fn seed_alone(words: &[String]) -> Option<u64>
-    ensures { result ≡ seed_in (arguments_of (map string_bytes words.now)) }
+/// The one number among the arguments.
+pub(crate) fn one_number(words: &[String]) -> Option<u64>
+    ensures { result ≡ options.one_number (arguments_of (map string_bytes words.now)) }
 {
     match words {
         [] => None,
-        [first, _, rest @ ..] if is_option(first.as_str()) => seed_alone(rest),
+        [first, _, rest @ ..] if is_option(first.as_str()) => one_number(rest),
         [first, rest @ ..] => number_alone(first.as_str(), rest),
     }
 }
 
 /// A number, where no argument comes behind it.
 fn number_alone(word: &str, rest: &[String]) -> Option<u64>
-    ensures { result ≡ seed_in (word.now ∷ arguments_of (map string_bytes rest.now)) }
+    ensures { result ≡ options.one_number (word.now ∷ arguments_of (map string_bytes rest.now)) }
 {
     if has_no_argument(rest) {
         number(word)
@@ -311,8 +426,7 @@ fn budgets(words: &[String]) -> Option<Budgets>
 
 /// How many clauses a search may learn.
 fn conflicts_said(words: &[String]) -> Option<Option<u64>>
-    ensures { result
-        ≡ said (Some usual_conflicts) budget_in (values_of (codes "--conflicts") (map string_bytes words.now)) }
+    ensures { result ≡ conflicts_in (map string_bytes words.now) }
 {
     match value_of(words, "--conflicts") {
         Standing::Never => Some(Some(USUAL_CONFLICTS)),
@@ -380,7 +494,7 @@ fn one_more<'a>(value: &'a str, later: Standing<'a>) -> Standing<'a>
 }
 
 /// The one file among the arguments.
-fn one_file(words: &[String]) -> Option<&str>
+pub(crate) fn one_file(words: &[String]) -> Option<&str>
     ensures { option_copied result ≡ options.one_file (arguments_of (map string_bytes words.now)) }
 {
     match words {
@@ -449,7 +563,7 @@ fn is_solve_option(word: &str) -> bool
 }
 
 /// Whether a word names an option: it begins with `--`.
-fn is_option(word: &str) -> bool
+pub(crate) fn is_option(word: &str) -> bool
     ensures { result ≡ options.is_option word.now }
 {
     matches!(word.as_bytes(), [b'-', b'-', ..])
@@ -467,7 +581,7 @@ fn budget(word: &str) -> Option<Option<u64>>
 }
 
 /// Whether a word is a file's name: a word that begins with `-` is none.
-fn is_name(word: &str) -> bool
+pub(crate) fn is_name(word: &str) -> bool
     ensures { result ≡ is_file_name word.now }
 {
     !matches!(word.as_bytes(), [b'-', ..])

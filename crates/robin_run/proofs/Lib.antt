@@ -1,10 +1,12 @@
--- Lemmas on runs of each command, and on want of memory:
+-- Lemmas on runs of each command, and on how they end:
 mod ValidateLemmas
 mod CheckLemmas
 mod SolveLemmas
 mod PatternLemmas
 mod ExplainLemmas
+mod BoundLemmas
+mod ResumeLemmas
 mod MadeLemmas
-mod MemoryLemmas
+mod EndLemmas
 -- Worked examples, so that a wrong definition does not check:
 mod RunFacts

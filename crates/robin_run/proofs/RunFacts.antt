@@ -1,16 +1,18 @@
 -- Worked runs, so that a wrong definition of what a run may answer does not check.
-use Rattle.std.proofs.Common.{◌≡◌, Some, None, codes}
+use Rattle.std.proofs.Common.{◌≡◌, true, false, Some, None, codes, refl}
 use Rattle.robinx_tags.specs.declared.fault.FormKind.TheVariants.{BadNesting}
 use Rattle.answers.specs.Reply.{Answer, malformed, refused_words}
-use Rattle.answers.specs.declared.status.Status.TheVariants.{Yes}
+use Rattle.answers.specs.declared.status.Status.TheVariants.{Yes, No, Words, File, Refuted, Spent, ReadFault, WriteFault}
+use Rattle.answers.specs.declared.status.Status.TheVariants.{Memory, Better}
 use Rattle.check_answer.proofs.CheckFacts as checks
 use Rattle.check_answer.proofs.CheckFacts.{checked-bad, checked-good}
 use Rattle.check_answer.specs.Check.{log_malformed}
 use Rattle.circle_answer.specs.Circle.{circle_season}
-use Rattle.command_line.specs.Words.Command.{Check, Circle, Make, Validate}
+use Rattle.command_line.specs.Words.Command.{Audit, Bound, Check, Circle, Make, Prove, Resume, Validate}
 use Rattle.make_answer.specs.MadeInstance.{made_instance}
 use Rattle.refutation.specs.declared.fault.LogKind.TheVariants.{BadLine}
 use Rattle.robin_run.specs.Answer.{IsAnswer}
+use Rattle.robin_run.specs.Ends.{may_end}
 use Rattle.validate_answer.proofs.ValidateFacts.{contents, never, nowhere, the_answer, validated-fault, validated-one}
 
 -- where nothing fails, the judgement is the one answer to `validate league season`
@@ -37,3 +39,21 @@ circle-one answer h = h
 
 pub make-one : (answer : Answer) → IsAnswer (Some (Make 4 1)) contents never nowhere answer → answer ≡ made_instance 4 1
 make-one answer h = h.made
+
+-- how runs may end: refused words, `prove`, and what comes of other commands alone
+pub ends-words : (may_end None Words ≡ true) × (may_end None Yes ≡ false) × (may_end (Some (Circle 4)) File ≡ false)
+ends-words = (refl, refl, refl)
+
+pub ends-prove : (may_end (Some (Prove (codes "a") (codes "b") None)) Better ≡ true)
+    × (may_end (Some (Prove (codes "a") (codes "b") None)) No ≡ true)
+    × (may_end (Some (Prove (codes "a") (codes "b") None)) Spent ≡ true)
+    × (may_end (Some (Prove (codes "a") (codes "b") None)) Refuted ≡ false)
+    × (may_end (Some (Prove (codes "a") (codes "b") None)) Memory ≡ false)
+ends-prove = (refl, refl, refl, refl, refl)
+
+pub ends-others : (may_end (Some (Bound (codes "a") (codes "b"))) Better ≡ false)
+    × (may_end (Some (Resume (codes "a") (codes "b") 3 None)) Refuted ≡ true)
+    × (may_end (Some (Resume (codes "a") (codes "b") 3 None)) No ≡ false)
+    × (may_end (Some (Audit (codes "a") (codes "b") 3 (codes "c"))) ReadFault ≡ true)
+    × (may_end (Some (Audit (codes "a") (codes "b") 3 (codes "c"))) WriteFault ≡ false)
+ends-others = (refl, refl, refl, refl, refl)

@@ -21,5 +21,17 @@ returns-in-Explain-clause-answer g c = rw c.in-Explain.is c.explain_file.ensures
 pub returns-in-Part-clause-answer : goal.returns-in-Part-clause-answer
 returns-in-Part-clause-answer g c = rw c.in-Part.is c.part_of_list.ensures.answer
 
+pub returns-in-Prove-clause-answer : goal.returns-in-Prove-clause-answer
+returns-in-Prove-clause-answer g c = rw c.in-Prove.is c.prove_file.ensures.answer
+
+pub returns-in-Bound-clause-answer : goal.returns-in-Bound-clause-answer
+returns-in-Bound-clause-answer g c = rw c.in-Bound.is c.bound_file.ensures.answer
+
+pub returns-in-Resume-clause-answer : goal.returns-in-Resume-clause-answer
+returns-in-Resume-clause-answer g c = rw c.in-Resume.is c.resume_file.ensures.answer
+
+pub returns-in-Audit-clause-answer : goal.returns-in-Audit-clause-answer
+returns-in-Audit-clause-answer g c = rw c.in-Audit.is c.audit_file.ensures.answer
+
 pub returns-in-Trial-clause-answer : goal.returns-in-Trial-clause-answer
 returns-in-Trial-clause-answer g c = rw c.in-Trial.is c.trial.ensures

@@ -1,0 +1,318 @@
+-- What follows from an answer of `resume`, and of `audit`.
+use Rattle.std.proofs.Common.{◌≡◌, ℕ, ◌+◌, ◌<◌, ◌≤◌, List, length, Option, Some, Result, Ok, Err, codes, ap, arith}
+use Rattle.std.proofs.Common.{inl, inr, refl, sym, subst, ◌∙◌}
+use Rattle.std.specs.Prelude.{IfSome}
+use Rattle.league.specs.Counts.{counts_of, slot_count}
+use Rattle.league.specs.Instance.{Instance}
+use Rattle.league.specs.declared.game.Game.{Game}
+use Rattle.robinx_tags.specs.Pieces.{pieces}
+use Rattle.robinx_form.specs.InstanceFile.{instance_of}
+use Rattle.robinx_form.specs.SolutionFile.{solution_of}
+use Rattle.robinx_form.specs.Walk as forms
+use Rattle.robinx_read.specs.declared.instance.TheConstants.{INSTANCE_LIMIT, SOLUTION_LIMIT}
+use Rattle.answers.specs.Reply.{Answer}
+use Rattle.answers.specs.Stages.{IsFile, Outcome, reads, says}
+use Rattle.answers.specs.declared.status.Status.{Status}
+use Rattle.answers.specs.declared.status.Status.TheVariants.{Yes, File, Refuted, Spent, ReadFault, Memory}
+use Rattle.answers.proofs.StageLemmas.{reads-known, says-known}
+use Rattle.encoding_base.specs.Variables.{var_count}
+use Rattle.refutation.specs.Logs.{Fault, log_of}
+use Rattle.refutation.specs.Steps.{Step}
+use Rattle.refutation.specs.Verdict.{verdict_of}
+use Rattle.refutation.specs.declared.verdict.Verdict.{Verdict}
+use Rattle.refutation.specs.declared.verdict.Verdict.TheVariants.{Accepted, Rejected}
+use Rattle.check_answer.specs.Check.{most_log_bytes, most_terms, says_log, verdict_answer}
+use Rattle.check_answer.proofs.AnswerLemmas.{said-known}
+use Rattle.resume_rows.specs.Kept.{resume_rows, resume_size}
+use Rattle.resume_rows.specs.Resumable.{NoneResumes}
+use Rattle.resume_answer.specs.Audited.{IsVerdict, IsWellFormedAudit, audited}
+use Rattle.resume_answer.specs.Resumed.{IsFound, IsPlanned, resumed}
+use Rattle.resume_answer.specs.Seasons.{IsWellFormedSeason, SaySeason, has_size, has_slots, plays}
+use Rattle.resume_answer.specs.declared.season.Season.{Season}
+use Rattle.resume_answer.proofs.StageLemmas.{after_first, after_league, after_second, after_size, at_log}
+
+-- ---- well-formed files
+
+slots-known : (league : Instance) (k : ℕ) (next : Outcome) (answer : Answer) → k ≤ slot_count league.n
+    → has_slots league k (λ slots. next) answer → next answer
+slots-known league k next answer within (inl h) = h.1
+slots-known league k next answer within (inr h) = let above : slot_count league.n < k = h.0 in absurd (omega arith)
+
+size-known : (league : Instance) (k : ℕ) (next : Outcome) (answer : Answer) → resume_size league k ≤ most_terms
+    → has_size league k (λ size. next) answer → next answer
+size-known league k next answer small (inl h) = h.1
+size-known league k next answer small (inr h) =
+    let large : most_terms < resume_size league k = h.0 in absurd (omega arith)
+
+-- two files that are known and well-formed, at which nothing fails: what is answered to their season is the answer
+plays-known : (contents : List ℕ → Option (List ℕ)) (took_more : ℕ → Type 0) (failed : List ℕ → Type 0)
+    (instance solution : List ℕ) (k : ℕ) (next : Season → Outcome) (league : Instance) (played : List Game)
+    (answer : Answer) (good : IsWellFormedSeason contents failed instance solution k league played)
+    → plays contents took_more failed instance solution k next answer
+    → next (record {
+      league = league;
+      played = played;
+      slots = k;
+      bytes = length good.say.first + length good.say.second;
+    }) answer
+plays-known contents took_more failed instance solution k next league played answer good given =
+    let say = good.say in
+    says-known (codes "solution") (solution_of league.n (pieces say.second)) played
+    (λ games.
+    next (record { league = league; played = games; slots = k; bytes = length say.first + length say.second }))
+    answer say.says_played
+    (reads-known (codes "solution") (contents solution) SOLUTION_LIMIT
+    (took_more (length say.first + SOLUTION_LIMIT)) (failed solution) (after_second (length say.first) k next league)
+    answer say.second say.second_known good.second_within good.second_works
+    (size-known league k (after_size contents took_more failed solution (length say.first) k next league) answer
+    good.small
+    (slots-known league k
+    (has_size league k (λ size. after_size contents took_more failed solution (length say.first) k next league)) answer
+    good.slots
+    (says-known (codes "instance") (instance_of (pieces say.first)) league
+    (after_league contents took_more failed solution (length say.first) k next) answer say.says_league
+    (reads-known (codes "instance") (contents instance) INSTANCE_LIMIT (took_more INSTANCE_LIMIT) (failed instance)
+    (after_first contents took_more failed solution k next) answer say.first say.first_known good.first_within
+    good.first_works given)))))
+
+pub resumed-well_formed : (contents : List ℕ → Option (List ℕ)) (took_more : ℕ → Type 0) (failed : List ℕ → Type 0)
+    (instance solution : List ℕ) (k : ℕ) (conflicts : Option ℕ) (league : Instance) (played : List Game)
+    (answer : Answer) → IsWellFormedSeason contents failed instance solution k league played
+    → resumed contents took_more failed instance solution k conflicts answer → IsFound league played k conflicts answer
+resumed-well_formed contents took_more failed instance solution k conflicts league played answer good given =
+    plays-known contents took_more failed instance solution k
+    (λ season. IsFound season.league season.played k conflicts) league played answer good given
+
+pub audited-well_formed : (contents : List ℕ → Option (List ℕ)) (took_more : ℕ → Type 0) (failed : List ℕ → Type 0)
+    (instance solution : List ℕ) (k : ℕ) (log : List ℕ) (league : Instance) (played : List Game) (steps : List Step)
+    (answer : Answer) → IsWellFormedAudit contents failed instance solution k log league played steps
+    → audited contents took_more failed instance solution k log answer → IsVerdict league played k steps answer
+audited-well_formed contents took_more failed instance solution k log league played steps answer good given =
+    let front : ℕ = length good.season.say.first + length good.season.say.second in
+    said-known (log_of good.third) steps (IsVerdict league played k) answer good.says_steps
+    (reads-known (codes "log") (contents log) most_log_bytes (took_more (front + most_log_bytes)) (failed log)
+    (λ bytes. says_log (log_of bytes) (IsVerdict league played k)) answer good.third good.known good.within good.works
+    (plays-known contents took_more failed instance solution k (at_log contents took_more failed log k) league played
+    answer good.season given))
+
+-- ---- an answer that isn't a refusal
+
+-- its status is that of no refusal
+abbrev IsAnswered : Answer → Type 0
+IsAnswered answer = (answer.status ≡ File → ⊥) × (answer.status ≡ ReadFault → ⊥)
+
+reads-answered : (which : List ℕ) (known : Option (List ℕ)) (limit : ℕ) (long failed : Type 0)
+    (next : List ℕ → Outcome) (answer : Answer) → IsAnswered answer → reads which known limit long failed next answer
+    → (bytes : List ℕ) × IsFile known limit bytes × next bytes answer
+reads-answered which known limit long failed next answer is (inl read) = read
+reads-answered which known limit long failed next answer is (inr (inl h)) =
+    absurd (is.0 (ap (λ (a : Answer). a.status) h.2))
+reads-answered which known limit long failed next answer is (inr (inr h)) =
+    absurd (is.1 (ap (λ (a : Answer). a.status) h.1))
+
+says-answered : {X : Type 0} (which : List ℕ) (said : Result X forms.Fault) (next : X → Outcome) (answer : Answer)
+    → IsAnswered answer → says which said next answer → (x : X) × (said ≡ Ok x) × next x answer
+says-answered which (Ok x) next answer is given = (x, refl, given)
+says-answered which (Err fault) next answer is given = absurd (is.0 (ap (λ (a : Answer). a.status) given))
+
+slots-answered : (league : Instance) (k : ℕ) (next : Outcome) (answer : Answer) → IsAnswered answer
+    → has_slots league k (λ slots. next) answer → next answer
+slots-answered league k next answer is (inl h) = h.1
+slots-answered league k next answer is (inr h) = absurd (is.0 (ap (λ (a : Answer). a.status) h.1))
+
+size-answered : (league : Instance) (k : ℕ) (next : Outcome) (answer : Answer) → IsAnswered answer
+    → has_size league k (λ size. next) answer → next answer
+size-answered league k next answer is (inl h) = h.1
+size-answered league k next answer is (inr h) = absurd (is.0 (ap (λ (a : Answer). a.status) h.1))
+
+log-answered : (said : Result (List Step) Fault) (next : List Step → Outcome) (answer : Answer) → IsAnswered answer
+    → says_log said next answer → (steps : List Step) × next steps answer
+log-answered (Ok steps) next answer is given = (steps, given)
+log-answered (Err fault) next answer is given = absurd (is.0 (ap (λ (a : Answer). a.status) given))
+
+-- the files were read and said a season, to which this is answered
+record IsOfSeason (contents : List ℕ → Option (List ℕ)) (instance solution : List ℕ) (k : ℕ)
+    (next : Season → Outcome) (answer : Answer) : Type 0 where
+  first : List ℕ
+  second : List ℕ
+  league : Instance
+  played : List Game
+  first_file : IsFile (contents instance) INSTANCE_LIMIT first
+  second_file : IsFile (contents solution) SOLUTION_LIMIT second
+  says_league : instance_of (pieces first) ≡ Ok league
+  says_played : solution_of league.n (pieces second) ≡ Ok played
+  rest : next (record { league = league; played = played; slots = k; bytes = length first + length second }) answer
+
+plays-answered : (contents : List ℕ → Option (List ℕ)) (took_more : ℕ → Type 0) (failed : List ℕ → Type 0)
+    (instance solution : List ℕ) (k : ℕ) (next : Season → Outcome) (answer : Answer) → IsAnswered answer
+    → plays contents took_more failed instance solution k next answer
+    → IsOfSeason contents instance solution k next answer
+plays-answered contents took_more failed instance solution k next answer is given =
+    let read = reads-answered (codes "instance") (contents instance) INSTANCE_LIMIT (took_more INSTANCE_LIMIT)
+    (failed instance) (after_first contents took_more failed solution k next) answer is given in
+    let front : ℕ = length read.0 in
+    let said = says-answered (codes "instance") (instance_of (pieces read.0))
+    (after_league contents took_more failed solution front k next) answer is read.2 in
+    let league : Instance = said.0 in
+    let rest : Outcome = after_size contents took_more failed solution front k next league in
+    let sized : rest answer =
+    size-answered league k rest answer is
+    (slots-answered league k (has_size league k (λ size. rest)) answer is said.2) in
+    let second = reads-answered (codes "solution") (contents solution) SOLUTION_LIMIT
+    (took_more (front + SOLUTION_LIMIT)) (failed solution) (after_second front k next league) answer is sized in
+    let games = says-answered (codes "solution") (solution_of league.n (pieces second.0))
+    (λ played.
+    next (record { league = league; played = played; slots = k; bytes = front + length second.0 })) answer is
+    second.2 in
+    record {
+      first = read.0;
+      second = second.0;
+      league = league;
+      played = games.0;
+      first_file = read.1;
+      second_file = second.1;
+      says_league = said.1;
+      says_played = games.1;
+      rest = games.2;
+    }
+
+-- ---- files that are known
+
+same_bytes : (known : Option (List ℕ)) (limit : ℕ) (read bytes : List ℕ) → IsFile known limit read
+    → known ≡ Some bytes → read ≡ bytes
+same_bytes known limit read bytes file is = subst (λ (k : Option (List ℕ)). IfSome k (λ b. read ≡ b)) is file.same
+
+same_value : {X E : Type 0} (said : Result X E) (x y : X) → said ≡ Ok x → said ≡ Ok y → x ≡ y
+same_value said x y one other = cc
+
+-- what is answered to the season that they say
+of_known : (contents : List ℕ → Option (List ℕ)) (instance solution : List ℕ) (k : ℕ) (next : Season → Outcome)
+    (league : Instance) (played : List Game) (answer : Answer) → SaySeason contents instance solution league played
+    → IsOfSeason contents instance solution k next answer
+    → (bytes : ℕ) × next (record { league = league; played = played; slots = k; bytes = bytes }) answer
+of_known contents instance solution k next league played answer say of =
+    let first : of.first ≡ say.first =
+    same_bytes (contents instance) INSTANCE_LIMIT of.first say.first of.first_file say.first_known in
+    let second : of.second ≡ say.second =
+    same_bytes (contents solution) SOLUTION_LIMIT of.second say.second of.second_file say.second_known in
+    let leagues : of.league ≡ league =
+    same_value (instance_of (pieces of.first)) of.league league of.says_league
+    (ap (λ (b : List ℕ). instance_of (pieces b)) first ∙ say.says_league) in
+    let games : of.played ≡ played =
+    same_value (solution_of of.league.n (pieces of.second)) of.played played of.says_played
+    (ap (λ (b : List ℕ). solution_of of.league.n (pieces b)) second
+    ∙ ap (λ (l : Instance). solution_of l.n (pieces say.second)) leagues ∙ say.says_played) in
+    let bytes : ℕ = length of.first + length of.second in (
+      bytes,
+      subst (λ (g : List Game). next (record { league = league; played = g; slots = k; bytes = bytes }) answer) games
+          (subst
+          (λ (l : Instance). next (record { league = l; played = of.played; slots = k; bytes = bytes }) answer)
+          leagues of.rest),
+    )
+
+-- ---- a schedule, a refutation, a verdict
+
+answered-as : (answer : Answer) (status : Status) → answer.status ≡ status → (status ≡ File → ⊥)
+    → (status ≡ ReadFault → ⊥) → IsAnswered answer
+answered-as answer status is no_file no_fault = (λ file. no_file (sym is ∙ file), λ fault. no_fault (sym is ∙ fault))
+
+found-planned : (league : Instance) (played : List Game) (k : ℕ) (conflicts : Option ℕ) (answer : Answer)
+    → answer.status ≡ Yes → IsFound league played k conflicts answer → IsPlanned league played k answer
+found-planned league played k conflicts answer ended found =
+    elim found.found [
+      | inl planned ↦ planned
+      | inr (inl excluded) ↦ let same : Refuted ≡ Yes = sym excluded.status ∙ ended in absurd (cc)
+      | inr (inr spent) ↦ let same : Spent ≡ Yes = sym spent.status ∙ ended in absurd (cc)
+    ]
+
+found-excluded : (league : Instance) (played : List Game) (k : ℕ) (conflicts : Option ℕ) (answer : Answer)
+    → answer.status ≡ Refuted → IsFound league played k conflicts answer → NoneResumes league (counts_of played) k
+found-excluded league played k conflicts answer ended found =
+    elim found.found [
+      | inl planned ↦ let same : Yes ≡ Refuted = sym planned.status ∙ ended in absurd (cc)
+      | inr (inl excluded) ↦ excluded.refutes.none
+      | inr (inr spent) ↦ let same : Spent ≡ Refuted = sym spent.status ∙ ended in absurd (cc)
+    ]
+
+-- where the answer is a schedule, it is accepted and keeps the played games
+pub resumed-planned : (contents : List ℕ → Option (List ℕ)) (took_more : ℕ → Type 0) (failed : List ℕ → Type 0)
+    (instance solution : List ℕ) (k : ℕ) (conflicts : Option ℕ) (league : Instance) (played : List Game)
+    (answer : Answer) → SaySeason contents instance solution league played → answer.status ≡ Yes
+    → resumed contents took_more failed instance solution k conflicts answer → IsPlanned league played k answer
+resumed-planned contents took_more failed instance solution k conflicts league played answer say ended given =
+    let next : Season → Outcome = λ season. IsFound season.league season.played k conflicts in
+    let answered : IsAnswered answer = answered-as answer Yes ended (λ same. cc) (λ same. cc) in
+    found-planned league played k conflicts answer ended
+    (of_known contents instance solution k next league played answer say
+    (plays-answered contents took_more failed instance solution k next answer answered given)).1
+
+-- where it is a refutation, no accepted schedule keeps them
+pub resumed-excluded : (contents : List ℕ → Option (List ℕ)) (took_more : ℕ → Type 0) (failed : List ℕ → Type 0)
+    (instance solution : List ℕ) (k : ℕ) (conflicts : Option ℕ) (league : Instance) (played : List Game)
+    (answer : Answer) → SaySeason contents instance solution league played → answer.status ≡ Refuted
+    → resumed contents took_more failed instance solution k conflicts answer
+    → NoneResumes league (counts_of played) k
+resumed-excluded contents took_more failed instance solution k conflicts league played answer say ended given =
+    let next : Season → Outcome = λ season. IsFound season.league season.played k conflicts in
+    let answered : IsAnswered answer = answered-as answer Refuted ended (λ same. cc) (λ same. cc) in
+    found-excluded league played k conflicts answer ended
+    (of_known contents instance solution k next league played answer say
+    (plays-answered contents took_more failed instance solution k next answer answered given)).1
+
+-- and where the verdict on a log says yes
+pub audited-excluded : (contents : List ℕ → Option (List ℕ)) (took_more : ℕ → Type 0) (failed : List ℕ → Type 0)
+    (instance solution : List ℕ) (k : ℕ) (log : List ℕ) (league : Instance) (played : List Game)
+    (answer : Answer) → SaySeason contents instance solution league played → answer.status ≡ Yes
+    → audited contents took_more failed instance solution k log answer → NoneResumes league (counts_of played) k
+audited-excluded contents took_more failed instance solution k log league played answer say ended given =
+    let next : Season → Outcome = at_log contents took_more failed log k in
+    let answered : IsAnswered answer = answered-as answer Yes ended (λ same. cc) (λ same. cc) in
+    let at = of_known contents instance solution k next league played answer say
+    (plays-answered contents took_more failed instance solution k next answer answered given) in
+    let read = reads-answered (codes "log") (contents log) most_log_bytes (took_more (at.0 + most_log_bytes))
+    (failed log) (λ bytes. says_log (log_of bytes) (IsVerdict league played k)) answer answered at.1 in
+    let said = log-answered (log_of read.0) (IsVerdict league played k) answer answered read.2 in
+    said.1.none ended
+
+-- ---- no answer ends a run as want of memory does
+
+found-memory : (league : Instance) (played : List Game) (k : ℕ) (conflicts : Option ℕ) (answer : Answer)
+    → answer.status ≡ Memory → IsFound league played k conflicts answer → ⊥
+found-memory league played k conflicts answer ended found =
+    elim found.found [
+      | inl planned ↦ let same : Yes ≡ Memory = sym planned.status ∙ ended in cc
+      | inr (inl excluded) ↦ let same : Refuted ≡ Memory = sym excluded.status ∙ ended in cc
+      | inr (inr spent) ↦ let same : Spent ≡ Memory = sym spent.status ∙ ended in cc
+    ]
+
+pub resumed-memory : (contents : List ℕ → Option (List ℕ)) (took_more : ℕ → Type 0) (failed : List ℕ → Type 0)
+    (instance solution : List ℕ) (k : ℕ) (conflicts : Option ℕ) (answer : Answer) → answer.status ≡ Memory
+    → resumed contents took_more failed instance solution k conflicts answer → ⊥
+resumed-memory contents took_more failed instance solution k conflicts answer ended given =
+    let next : Season → Outcome = λ season. IsFound season.league season.played k conflicts in
+    let answered : IsAnswered answer = answered-as answer Memory ended (λ same. cc) (λ same. cc) in
+    let of = plays-answered contents took_more failed instance solution k next answer answered given in
+    found-memory of.league of.played k conflicts answer ended of.rest
+
+verdict-status : (steps : ℕ) (verdict : Verdict) → (verdict_answer steps verdict).status ≡ Memory → ⊥
+verdict-status steps Accepted same = cc
+verdict-status steps (Rejected step cause) same = cc
+
+verdict-memory : (league : Instance) (played : List Game) (k : ℕ) (steps : List Step) (answer : Answer)
+    → answer.status ≡ Memory → IsVerdict league played k steps answer → ⊥
+verdict-memory league played k steps answer ended is =
+    verdict-status (length steps) (verdict_of (resume_rows league (counts_of played) k) (var_count league) steps)
+    (sym (ap (λ (a : Answer). a.status) is.verdict) ∙ ended)
+
+pub audited-memory : (contents : List ℕ → Option (List ℕ)) (took_more : ℕ → Type 0) (failed : List ℕ → Type 0)
+    (instance solution : List ℕ) (k : ℕ) (log : List ℕ) (answer : Answer) → answer.status ≡ Memory
+    → audited contents took_more failed instance solution k log answer → ⊥
+audited-memory contents took_more failed instance solution k log answer ended given =
+    let next : Season → Outcome = at_log contents took_more failed log k in
+    let answered : IsAnswered answer = answered-as answer Memory ended (λ same. cc) (λ same. cc) in
+    let of = plays-answered contents took_more failed instance solution k next answer answered given in
+    let front : ℕ = length of.first + length of.second in
+    let read = reads-answered (codes "log") (contents log) most_log_bytes (took_more (front + most_log_bytes))
+    (failed log) (λ bytes. says_log (log_of bytes) (IsVerdict of.league of.played k)) answer answered of.rest in
+    let said = log-answered (log_of read.0) (IsVerdict of.league of.played k) answer answered read.2 in
+    verdict-memory of.league of.played k said.0 answer ended said.1

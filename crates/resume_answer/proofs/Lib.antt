@@ -1,0 +1,8 @@
+-- What is found, answered:
+mod FoundLemmas
+-- The stages, one after another:
+mod StageLemmas
+-- What follows from an answer:
+pub mod AnswerLemmas
+-- Worked answers, so that a wrong definition does not check:
+mod SeasonFacts

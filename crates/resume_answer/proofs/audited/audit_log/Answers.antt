@@ -1,0 +1,20 @@
+use Rattle.robin_io.specs.Counts.{Rose, TookMore}
+use Rattle.encoding_base.specs.Variables.{var_count}
+use Rattle.answers.proofs.StageLemmas.{Answers-wider}
+use Rattle.check_answer.specs.Check.{most_log_bytes}
+use Rattle.resume_rows.specs.Systems.{rows_for}
+use Rattle.resume_answer.proofs.StageLemmas.{read-verdict}
+use Rattle.resume_answer.proofs.audited.audit_log.Goals as goal
+
+-- where the verdict over the resume rows says yes, no accepted schedule keeps the played games
+pub returns-clause-answer : goal.returns-clause-answer
+returns-clause-answer g c =
+    Answers-wider _ _
+    (λ answer. read-verdict (g.S.Shelf.contents c.args.shelf.now c.args.name.now)
+    (TookMore most_log_bytes (g.S.Shelf.taken c.args.shelf.now) (g.S.Shelf.taken c.judge_log.new.shelf))
+    (Rose (g.S.Shelf.faults c.args.shelf.now c.args.name.now) (g.S.Shelf.faults c.judge_log.new.shelf c.args.name.now))
+    c.args.system.now.league c.args.system.now.played c.args.system.now.k answer c.vars-vars.ensures.instance
+    c.requires.slots)
+    c.judge_log.result
+    (c.judge_log.ensures.answer (rows_for c.args.system.now) (var_count c.args.system.now.league)
+    c.in_ok-checker.ensures)

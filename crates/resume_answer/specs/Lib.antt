@@ -1,0 +1,9 @@
+-- What a reader of a claim must believe:
+--
+-- Read in this order. The stages that both commands have in common:
+pub mod Seasons
+-- What `resume` answers, and what `audit` does:
+pub mod Resumed
+pub mod Audited
+-- Kept inside (laws, and how fields are seen):
+pub mod SeenSeason

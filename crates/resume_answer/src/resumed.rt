@@ -1,0 +1,89 @@
+//! The stages of `resume`.
+ghost use Rattle.std.specs.Prelude.{◌≡◌, ◌≤◌, ℕ, List, IfOk, length};
+ghost use Rattle.std.specs.List.{All};
+ghost use Rattle.robin_io.specs.Counts.{Rose, TookMore};
+ghost use Rattle.league.specs.Counts as counts;
+ghost use Rattle.league.specs.Instance.{IsGame};
+ghost use Rattle.answers.specs.SeenReply.{answer_of, Answers};
+ghost use Rattle.resume_rows.specs.Kept as kept;
+ghost use Rattle.resume_answer.specs.Resumed.{IsFound, resumed};
+
+use crate::replies::found_reply;
+use crate::season::season_in;
+use answers::{NoValue, Reply};
+use encoding::EncodeFault;
+use league::{League, Schedule};
+use resume::resume;
+use robin_io::Shelf;
+use std::alloc::{AllocError, Global};
+
+/// Resumes a season whose resume rows are few enough, and answers it.
+fn found_of(
+    alloc: Global,
+    league: &League,
+    played: &Schedule,
+    k: u16,
+    conflicts: Option<u64>,
+) -> Result<Reply, AllocError>
+    requires few { length played.now ≤ 10000 }
+    requires fit { All (IsGame league.now.n) played.now }
+    requires slots { k ≤ counts.slot_count league.now.n }
+    requires small { kept.resume_size league.now k ≤ 40000000 }
+    ensures { IfOk result (λ reply. IsFound league.now played.now k conflicts (answer_of reply)) }
+{
+    match resume(alloc, league, played, k, conflicts) {
+        Ok(resumed) => found_reply(alloc, league, played, k, conflicts, &resumed),
+        Err(EncodeFault::TooLarge { .. }) => unreachable!(),
+        Err(EncodeFault::Mem) => Err(AllocError),
+    }
+}
+
+/// The stages of `resume`.
+fn resume_stages<S: Shelf>(
+    alloc: Global,
+    shelf: &mut S,
+    instance: &str,
+    solution: &str,
+    k: u64,
+    conflicts: Option<u64>,
+) -> Result<Reply, NoValue>
+    ensures answer { Answers (resumed (S.contents shelf.old)
+        (λ limit. TookMore limit (S.taken shelf.old) (S.taken shelf.new))
+        (λ name. Rose (S.faults shelf.old name) (S.faults shelf.new name))
+        instance.now solution.now k conflicts) result }
+    ensures contents { (n : List ℕ) → S.contents shelf.new n ≡ S.contents shelf.old n }
+{
+    let season = season_in(alloc, shelf, instance, solution, k)?;
+    let reply = found_of(
+        alloc,
+        &season.league,
+        &season.played,
+        season.slots,
+        conflicts,
+    )?;
+    Ok(reply)
+}
+
+/// Finds a schedule that the league of a file accepts and that keeps, in the first k slots, the games of a solution
+/// file; or a log that there is none. With a budget the search learns at most so many clauses, and its log is the
+/// answer where it is spent. Where the league accepts all games of the solution file as they are, they are the answer.
+pub fn resume_file<S: Shelf>(
+    alloc: Global,
+    shelf: &mut S,
+    instance: &str,
+    solution: &str,
+    k: u64,
+    conflicts: Option<u64>,
+) -> Result<Reply, AllocError>
+    ensures answer { IfOk result (λ reply. resumed (S.contents shelf.old)
+        (λ limit. TookMore limit (S.taken shelf.old) (S.taken shelf.new))
+        (λ name. Rose (S.faults shelf.old name) (S.faults shelf.new name))
+        instance.now solution.now k conflicts (answer_of reply)) }
+    ensures contents { (n : List ℕ) → S.contents shelf.new n ≡ S.contents shelf.old n }
+{
+    match resume_stages(alloc, shelf, instance, solution, k, conflicts) {
+        Ok(reply) => Ok(reply),
+        Err(NoValue::Refused(reply)) => Ok(reply),
+        Err(NoValue::Memory) => Err(AllocError),
+    }
+}

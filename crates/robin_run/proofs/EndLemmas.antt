@@ -1,0 +1,484 @@
+-- How the answers to each command end a run: none does so as want of memory does.
+use Rattle.std.proofs.Common.{◌≡◌, ℕ, ◌+◌, Bool, true, false, if◌then◌else◌, List, length, Option, Some, None, Result, Ok, Err, codes, ap, inl, inr, refl, sym, subst, ◌∙◌}
+use Rattle.rows.specs.Rows.{Row}
+use Rattle.league.specs.Instance.{Instance}
+use Rattle.league.specs.declared.game.Game.{Game}
+use Rattle.robinx_tags.specs.Pieces.{pieces}
+use Rattle.robinx_form.specs.InstanceFile.{instance_of}
+use Rattle.robinx_form.specs.SolutionFile.{solution_of}
+use Rattle.robinx_form.specs.Walk.{Fault}
+use Rattle.robinx_read.specs.declared.instance.TheConstants.{INSTANCE_LIMIT, SOLUTION_LIMIT}
+use Rattle.budgets.specs.declared.budgets.Budgets.{Budgets}
+use Rattle.command_line.specs.Words.{Command}
+use Rattle.command_line.specs.Words.Command.{Audit, Bound, Check, Circle, Explain, Make, Part, Patterns, Prove, Resume}
+use Rattle.command_line.specs.Words.Command.{Solve, Trial, Validate}
+use Rattle.answers.specs.Reply.{Answer}
+use Rattle.answers.specs.Stages.{IsWritten, Outcome, reads, says}
+use Rattle.answers.specs.declared.status.Status.{Status}
+use Rattle.answers.specs.declared.status.Status.TheVariants.{Yes, No, Words, File, Refuted, Spent, ReadFault, WriteFault}
+use Rattle.answers.specs.declared.status.Status.TheVariants.{Memory, Better}
+use Rattle.encoding.specs.Encoding.{rows_of}
+use Rattle.refutation.specs.Steps.{Step}
+use Rattle.refutation.specs.Logs as logs
+use Rattle.refutation.specs.Logs.{log_of}
+use Rattle.refutation.specs.declared.verdict.Verdict.{Verdict}
+use Rattle.refutation.specs.declared.verdict.Verdict.TheVariants.{Accepted, Rejected}
+use Rattle.certificates.specs.Certificates.{certificate_of}
+use Rattle.certificates.specs.declared.certificate.Certificate.{Certificate}
+use Rattle.validate_answer.specs.Validate.{IsJudgement, validated}
+use Rattle.check_answer.specs.Check.{IsVerdict, checked, encodes, most_log_bytes, says_log, verdict_answer}
+use Rattle.patterns_answer.specs.Patterns.{AreFound, patterned}
+use Rattle.solve_answer.specs.Solve.{IsFound, solved}
+use Rattle.explain_answer.specs.Explained as explaining
+use Rattle.explain_answer.specs.Explained.{explained}
+use Rattle.explain_answer.specs.Parted.{IsPart, part_answer, parted}
+use Rattle.parts.specs.Parts.{first_unknown}
+use Rattle.bound_answer.specs.Bound.{IsBoundVerdict, bound_answer, bound_verdict, bounded, has_few_terms}
+use Rattle.bound_answer.specs.Bound.{says_certificate}
+use Rattle.prove_answer.specs.Prove.{IsShown, proved}
+use Rattle.resume_answer.specs.Audited as auditing
+use Rattle.resume_answer.specs.Audited.{audited}
+use Rattle.resume_answer.specs.Resumed as resuming
+use Rattle.resume_answer.specs.Resumed.{resumed}
+use Rattle.resume_answer.specs.Seasons.{has_size, has_slots, plays}
+use Rattle.resume_answer.specs.declared.season.Season.{Season}
+use Rattle.instance_gen.specs.Draws.{seeded}
+use Rattle.instance_gen.specs.Made.{made_league}
+use Rattle.trial_answer.specs.Trial.{IsTrial, tried}
+use Rattle.robin_run.specs.Answer.{IsAnswer}
+use Rattle.robin_run.specs.Ends.{may_end}
+
+-- ---- stages
+
+ends-as : (Ends : Status → Type 0) (a b : Answer) → a ≡ b → Ends b.status → Ends a.status
+ends-as Ends a b is ends = subst (λ (answer : Answer). Ends answer.status) (sym is) ends
+
+ends-with : (Ends : Status → Type 0) (answer : Answer) (status : Status) → answer.status ≡ status → Ends status
+    → Ends answer.status
+ends-with Ends answer status is ends = subst Ends (sym is) ends
+
+read-ends : (Ends : Status → Type 0) → Ends File → Ends ReadFault → (which : List ℕ) (known : Option (List ℕ))
+    (limit : ℕ) (long failed : Type 0) (next : List ℕ → Outcome) (answer : Answer)
+    → ((bytes : List ℕ) → next bytes answer → Ends answer.status) → reads which known limit long failed next answer
+    → Ends answer.status
+read-ends Ends file fault which known limit long failed next answer later (inl read) = later read.0 read.2
+read-ends Ends file fault which known limit long failed next answer later (inr (inl h)) = ends-as Ends answer _ h.2 file
+read-ends Ends file fault which known limit long failed next answer later (inr (inr h)) = ends-as Ends answer _ h.1 fault
+
+said-ends : {A : Type 0} (Ends : Status → Type 0) → Ends File → (which : List ℕ) (said : Result A Fault)
+    (next : A → Outcome) (answer : Answer) → ((x : A) → next x answer → Ends answer.status)
+    → says which said next answer → Ends answer.status
+said-ends Ends file which (Ok x) next answer later given = later x given
+said-ends Ends file which (Err fault) next answer later given = ends-as Ends answer _ given file
+
+-- the first file, and the league that it says
+league-ends : (Ends : Status → Type 0) → Ends File → Ends ReadFault → (known : Option (List ℕ)) (long failed : Type 0)
+    (next : List ℕ → Instance → Outcome) (answer : Answer)
+    → ((bytes : List ℕ) (league : Instance) → next bytes league answer → Ends answer.status)
+    → reads (codes "instance") known INSTANCE_LIMIT long failed
+    (λ bytes. says (codes "instance") (instance_of (pieces bytes)) (next bytes)) answer
+    → Ends answer.status
+league-ends Ends file fault known long failed next answer later given =
+    read-ends Ends file fault (codes "instance") known INSTANCE_LIMIT long failed
+    (λ bytes. says (codes "instance") (instance_of (pieces bytes)) (next bytes)) answer
+    (λ bytes at_bytes. said-ends Ends file (codes "instance") (instance_of (pieces bytes)) (next bytes) answer
+    (λ league at_league. later bytes league at_league) at_bytes) given
+
+-- the second file, and the games that it says
+games-ends : (Ends : Status → Type 0) → Ends File → Ends ReadFault → (n : ℕ) (known : Option (List ℕ))
+    (long failed : Type 0) (next : List ℕ → List Game → Outcome) (answer : Answer)
+    → ((bytes : List ℕ) (games : List Game) → next bytes games answer → Ends answer.status)
+    → reads (codes "solution") known SOLUTION_LIMIT long failed
+    (λ bytes. says (codes "solution") (solution_of n (pieces bytes)) (next bytes)) answer
+    → Ends answer.status
+games-ends Ends file fault n known long failed next answer later given =
+    read-ends Ends file fault (codes "solution") known SOLUTION_LIMIT long failed
+    (λ bytes. says (codes "solution") (solution_of n (pieces bytes)) (next bytes)) answer
+    (λ bytes at_bytes. said-ends Ends file (codes "solution") (solution_of n (pieces bytes)) (next bytes) answer
+    (λ games at_games. later bytes games at_games) at_bytes) given
+
+encodes-ends : (Ends : Status → Type 0) → Ends File → (league : Instance) (next : List Row → Outcome) (answer : Answer)
+    → ((rows : List Row) → next rows answer → Ends answer.status) → encodes league next answer → Ends answer.status
+encodes-ends Ends file league next answer later (inl h) = later (rows_of league) h.1
+encodes-ends Ends file league next answer later (inr h) = ends-as Ends answer _ h.1 file
+
+-- ---- `validate`
+
+feasible-ends : (Ends : Status → Type 0) → Ends Yes → Ends No → (feasible : Bool) → Ends (if feasible then Yes else No)
+feasible-ends Ends yes no true = yes
+feasible-ends Ends yes no false = no
+
+judgement-ends : (Ends : Status → Type 0) → Ends Yes → Ends No → (league : Instance) (games : List Game)
+    (answer : Answer) → IsJudgement league games answer → Ends answer.status
+judgement-ends Ends yes no league games answer judgement =
+    ends-with Ends answer _ judgement.status (feasible-ends Ends yes no judgement.feasible)
+
+validated-ends : (Ends : Status → Type 0) → Ends File → Ends ReadFault → Ends Yes → Ends No
+    → (contents : List ℕ → Option (List ℕ)) (took_more : ℕ → Type 0) (failed : List ℕ → Type 0)
+    (instance solution : List ℕ) (answer : Answer) → validated contents took_more failed instance solution answer
+    → Ends answer.status
+validated-ends Ends file fault yes no contents took_more failed instance solution answer given =
+    league-ends Ends file fault (contents instance) (took_more INSTANCE_LIMIT) (failed instance)
+    (λ first league. reads (codes "solution") (contents solution) SOLUTION_LIMIT
+    (took_more (length first + SOLUTION_LIMIT)) (failed solution)
+    (λ second. says (codes "solution") (solution_of league.n (pieces second)) (IsJudgement league))) answer
+    (λ first league at_league. games-ends Ends file fault league.n (contents solution)
+    (took_more (length first + SOLUTION_LIMIT)) (failed solution) (λ second. IsJudgement league) answer
+    (λ second games judgement. judgement-ends Ends yes no league games answer judgement) at_league) given
+
+-- ---- `check`, and logs
+
+verdict-ends : (Ends : Status → Type 0) → Ends Yes → Ends No → (steps : ℕ) (verdict : Verdict)
+    → Ends (verdict_answer steps verdict).status
+verdict-ends Ends yes no steps Accepted = yes
+verdict-ends Ends yes no steps (Rejected step cause) = no
+
+said_log-ends : (Ends : Status → Type 0) → Ends File → (said : Result (List Step) logs.Fault)
+    (next : List Step → Outcome) (answer : Answer) → ((steps : List Step) → next steps answer → Ends answer.status)
+    → says_log said next answer → Ends answer.status
+said_log-ends Ends file (Ok steps) next answer later given = later steps given
+said_log-ends Ends file (Err fault) next answer later given = ends-as Ends answer _ given file
+
+-- a file of a log, and the steps that it says
+log-ends : (Ends : Status → Type 0) → Ends File → Ends ReadFault → (known : Option (List ℕ)) (long failed : Type 0)
+    (next : List Step → Outcome) (answer : Answer) → ((steps : List Step) → next steps answer → Ends answer.status)
+    → reads (codes "log") known most_log_bytes long failed (λ bytes. says_log (log_of bytes) next) answer
+    → Ends answer.status
+log-ends Ends file fault known long failed next answer later given =
+    read-ends Ends file fault (codes "log") known most_log_bytes long failed
+    (λ bytes. says_log (log_of bytes) next) answer
+    (λ bytes at_bytes. said_log-ends Ends file (log_of bytes) next answer later at_bytes) given
+
+checked-ends : (Ends : Status → Type 0) → Ends File → Ends ReadFault → Ends Yes → Ends No
+    → (contents : List ℕ → Option (List ℕ)) (took_more : ℕ → Type 0) (failed : List ℕ → Type 0)
+    (instance log : List ℕ) (answer : Answer) → checked contents took_more failed instance log answer
+    → Ends answer.status
+checked-ends Ends file fault yes no contents took_more failed instance log answer given =
+    league-ends Ends file fault (contents instance) (took_more INSTANCE_LIMIT) (failed instance)
+    (λ first league. encodes league
+    (λ rows. reads (codes "log") (contents log) most_log_bytes (took_more (length first + most_log_bytes)) (failed log)
+    (λ bytes. says_log (log_of bytes) (IsVerdict league rows)))) answer
+    (λ first league at_league. encodes-ends Ends file league
+    (λ rows. reads (codes "log") (contents log) most_log_bytes (took_more (length first + most_log_bytes)) (failed log)
+    (λ bytes. says_log (log_of bytes) (IsVerdict league rows))) answer
+    (λ rows at_rows. log-ends Ends file fault (contents log) (took_more (length first + most_log_bytes)) (failed log)
+    (IsVerdict league rows) answer
+    (λ steps verdict. ends-as Ends answer _ verdict.verdict (verdict-ends Ends yes no (length steps) _)) at_rows)
+    at_league) given
+
+-- ---- `solve`, `patterns` and `explain`
+
+-- the ends of a search
+searched-ends : (Ends : Status → Type 0) → Ends Yes → Ends Refuted → Ends Spent → (league : Instance)
+    (budgets : Budgets) (rows : List Row) (answer : Answer) → IsFound league budgets rows answer → Ends answer.status
+searched-ends Ends yes refuted spent league budgets rows answer found =
+    elim found.found [
+      | inl schedule ↦ ends-with Ends answer Yes schedule.status yes
+      | inr (inl log) ↦ ends-with Ends answer Refuted log.status refuted
+      | inr (inr log) ↦ ends-with Ends answer Spent log.status spent
+    ]
+
+solved-ends : (Ends : Status → Type 0) → Ends File → Ends ReadFault → Ends Yes → Ends Refuted → Ends Spent
+    → (contents : List ℕ → Option (List ℕ)) (took_more : ℕ → Type 0) (failed : List ℕ → Type 0) (instance : List ℕ)
+    (budgets : Budgets) (answer : Answer) → solved contents took_more failed instance budgets answer
+    → Ends answer.status
+solved-ends Ends file fault yes refuted spent contents took_more failed instance budgets answer given =
+    league-ends Ends file fault (contents instance) (took_more INSTANCE_LIMIT) (failed instance)
+    (λ bytes league. encodes league (IsFound league budgets)) answer
+    (λ bytes league at_league. encodes-ends Ends file league (IsFound league budgets) answer
+    (λ rows found. searched-ends Ends yes refuted spent league budgets rows answer found) at_league) given
+
+patterns-ends : (Ends : Status → Type 0) → Ends Yes → Ends Refuted → Ends Spent → (league : Instance)
+    (conflicts : Option ℕ) (answer : Answer) → AreFound league conflicts answer → Ends answer.status
+patterns-ends Ends yes refuted spent league conflicts answer (inl found) = ends-with Ends answer Yes found.status yes
+patterns-ends Ends yes refuted spent league conflicts answer (inr (inl log)) =
+    ends-with Ends answer Refuted log.status refuted
+patterns-ends Ends yes refuted spent league conflicts answer (inr (inr log)) =
+    ends-with Ends answer Spent log.status spent
+
+patterned-ends : (Ends : Status → Type 0) → Ends File → Ends ReadFault → Ends Yes → Ends Refuted → Ends Spent
+    → (contents : List ℕ → Option (List ℕ)) (took_more : ℕ → Type 0) (failed : List ℕ → Type 0) (instance : List ℕ)
+    (conflicts : Option ℕ) (answer : Answer) → patterned contents took_more failed instance conflicts answer
+    → Ends answer.status
+patterned-ends Ends file fault yes refuted spent contents took_more failed instance conflicts answer given =
+    league-ends Ends file fault (contents instance) (took_more INSTANCE_LIMIT) (failed instance)
+    (λ bytes league. encodes league (λ rows. AreFound league conflicts)) answer
+    (λ bytes league at_league. encodes-ends Ends file league (λ rows. AreFound league conflicts) answer
+    (λ rows found. patterns-ends Ends yes refuted spent league conflicts answer found) at_league) given
+
+explaining-ends : (Ends : Status → Type 0) → Ends Yes → Ends Refuted → Ends Spent → (league : Instance)
+    (conflicts : Option ℕ) (answer : Answer) → explaining.IsFound league conflicts answer → Ends answer.status
+explaining-ends Ends yes refuted spent league conflicts answer found =
+    elim found.found [
+      | inl met ↦ ends-with Ends answer Yes met.status yes
+      | inr (inl named) ↦ ends-with Ends answer Refuted named.status refuted
+      | inr (inr log) ↦ ends-with Ends answer Spent log.status spent
+    ]
+
+explained-ends : (Ends : Status → Type 0) → Ends File → Ends ReadFault → Ends Yes → Ends Refuted → Ends Spent
+    → (contents : List ℕ → Option (List ℕ)) (took_more : ℕ → Type 0) (failed : List ℕ → Type 0) (instance : List ℕ)
+    (conflicts : Option ℕ) (answer : Answer) → explained contents took_more failed instance conflicts answer
+    → Ends answer.status
+explained-ends Ends file fault yes refuted spent contents took_more failed instance conflicts answer given =
+    league-ends Ends file fault (contents instance) (took_more INSTANCE_LIMIT) (failed instance)
+    (λ bytes league. encodes league (λ rows. explaining.IsFound league conflicts)) answer
+    (λ bytes league at_league. encodes-ends Ends file league (λ rows. explaining.IsFound league conflicts) answer
+    (λ rows found. explaining-ends Ends yes refuted spent league conflicts answer found) at_league) given
+
+-- ---- `part`
+
+part-ends : (Ends : Status → Type 0) → Ends File → Ends Yes → (league : Instance) (members : List ℕ)
+    (unknown : Option ℕ) → Ends (part_answer league members unknown).status
+part-ends Ends file yes league members None = yes
+part-ends Ends file yes league members (Some k) = file
+
+parted-ends : (Ends : Status → Type 0) → Ends File → Ends ReadFault → Ends Yes
+    → (contents : List ℕ → Option (List ℕ)) (took_more : ℕ → Type 0) (failed : List ℕ → Type 0)
+    (instance members : List ℕ) (answer : Answer) → parted contents took_more failed instance members answer
+    → Ends answer.status
+parted-ends Ends file fault yes contents took_more failed instance members answer given =
+    league-ends Ends file fault (contents instance) (took_more INSTANCE_LIMIT) (failed instance)
+    (λ bytes league. IsPart league members) answer
+    (λ bytes league part. ends-as Ends answer _ part.is
+    (part-ends Ends file yes league members (first_unknown league members))) given
+
+-- ---- `prove` and `bound`
+
+few-ends : (Ends : Status → Type 0) → Ends File → (league : Instance) (next : Unit {0} → Outcome) (answer : Answer)
+    → (next tt answer → Ends answer.status) → has_few_terms league next answer → Ends answer.status
+few-ends Ends file league next answer later (inl h) = later h.1
+few-ends Ends file league next answer later (inr h) = ends-as Ends answer _ h.1 file
+
+shown-ends : (Ends : Status → Type 0) → Ends Yes → Ends No → Ends Better → Ends Spent → (league : Instance)
+    (conflicts : Option ℕ) (games : List Game) (answer : Answer) → IsShown league conflicts games answer
+    → Ends answer.status
+shown-ends Ends yes no better spent league conflicts games answer (inl rejected) =
+    ends-with Ends answer No rejected.status no
+shown-ends Ends yes no better spent league conflicts games answer (inr (inl least)) =
+    ends-with Ends answer Yes least.status yes
+shown-ends Ends yes no better spent league conflicts games answer (inr (inr (inl bettered))) =
+    ends-with Ends answer Better bettered.status better
+shown-ends Ends yes no better spent league conflicts games answer (inr (inr (inr log))) =
+    ends-with Ends answer Spent log.status spent
+
+proved-ends : (Ends : Status → Type 0) → Ends File → Ends ReadFault → Ends Yes → Ends No → Ends Better → Ends Spent
+    → (contents : List ℕ → Option (List ℕ)) (took_more : ℕ → Type 0) (failed : List ℕ → Type 0)
+    (instance solution : List ℕ) (conflicts : Option ℕ) (answer : Answer)
+    → proved contents took_more failed instance solution conflicts answer → Ends answer.status
+proved-ends Ends file fault yes no better spent contents took_more failed instance solution conflicts answer given =
+    league-ends Ends file fault (contents instance) (took_more INSTANCE_LIMIT) (failed instance)
+    (λ first league. has_few_terms league
+    (λ few. reads (codes "solution") (contents solution) SOLUTION_LIMIT (took_more (length first + SOLUTION_LIMIT))
+    (failed solution)
+    (λ second. says (codes "solution") (solution_of league.n (pieces second)) (IsShown league conflicts)))) answer
+    (λ first league at_league. few-ends Ends file league
+    (λ few. reads (codes "solution") (contents solution) SOLUTION_LIMIT (took_more (length first + SOLUTION_LIMIT))
+    (failed solution)
+    (λ second. says (codes "solution") (solution_of league.n (pieces second)) (IsShown league conflicts))) answer
+    (λ at_few. games-ends Ends file fault league.n (contents solution) (took_more (length first + SOLUTION_LIMIT))
+    (failed solution) (λ second. IsShown league conflicts) answer
+    (λ second games shown. shown-ends Ends yes no better spent league conflicts games answer shown) at_few) at_league)
+    given
+
+bound_verdict-ends : (Ends : Status → Type 0) → Ends Yes → Ends No → (bound steps : ℕ) (verdict : Verdict)
+    → Ends (bound_answer bound steps verdict).status
+bound_verdict-ends Ends yes no bound steps Accepted = yes
+bound_verdict-ends Ends yes no bound steps (Rejected step cause) = no
+
+said_certificate-ends : (Ends : Status → Type 0) → Ends File → (said : Result Certificate logs.Fault)
+    (next : Certificate → Outcome) (answer : Answer)
+    → ((certificate : Certificate) → next certificate answer → Ends answer.status) → says_certificate said next answer
+    → Ends answer.status
+said_certificate-ends Ends file (Ok certificate) next answer later given = later certificate given
+said_certificate-ends Ends file (Err fault) next answer later given = ends-as Ends answer _ given file
+
+bounded-ends : (Ends : Status → Type 0) → Ends File → Ends ReadFault → Ends Yes → Ends No
+    → (contents : List ℕ → Option (List ℕ)) (took_more : ℕ → Type 0) (failed : List ℕ → Type 0)
+    (instance log : List ℕ) (answer : Answer) → bounded contents took_more failed instance log answer
+    → Ends answer.status
+bounded-ends Ends file fault yes no contents took_more failed instance log answer given =
+    league-ends Ends file fault (contents instance) (took_more INSTANCE_LIMIT) (failed instance)
+    (λ first league. has_few_terms league
+    (λ few. reads (codes "log") (contents log) most_log_bytes (took_more (length first + most_log_bytes)) (failed log)
+    (λ second. says_certificate (certificate_of second) (IsBoundVerdict league)))) answer
+    (λ first league at_league. few-ends Ends file league
+    (λ few. reads (codes "log") (contents log) most_log_bytes (took_more (length first + most_log_bytes)) (failed log)
+    (λ second. says_certificate (certificate_of second) (IsBoundVerdict league))) answer
+    (λ at_few. read-ends Ends file fault (codes "log") (contents log) most_log_bytes
+    (took_more (length first + most_log_bytes)) (failed log)
+    (λ second. says_certificate (certificate_of second) (IsBoundVerdict league)) answer
+    (λ second at_second. said_certificate-ends Ends file (certificate_of second) (IsBoundVerdict league) answer
+    (λ certificate verdict. ends-as Ends answer _ verdict.verdict
+    (bound_verdict-ends Ends yes no certificate.bound (length certificate.log)
+    (bound_verdict league certificate.bound certificate.log))) at_second) at_few) at_league) given
+
+-- ---- `resume` and `audit`
+
+slots-ends : (Ends : Status → Type 0) → Ends File → (league : Instance) (k : ℕ) (next : Unit {0} → Outcome)
+    (answer : Answer) → (next tt answer → Ends answer.status) → has_slots league k next answer → Ends answer.status
+slots-ends Ends file league k next answer later (inl h) = later h.1
+slots-ends Ends file league k next answer later (inr h) = ends-as Ends answer _ h.1 file
+
+size-ends : (Ends : Status → Type 0) → Ends File → (league : Instance) (k : ℕ) (next : Unit {0} → Outcome)
+    (answer : Answer) → (next tt answer → Ends answer.status) → has_size league k next answer → Ends answer.status
+size-ends Ends file league k next answer later (inl h) = later h.1
+size-ends Ends file league k next answer later (inr h) = ends-as Ends answer _ h.1 file
+
+-- the stages that read the second file, and go on with the season
+abbrev season_from : (List ℕ → Option (List ℕ)) → (ℕ → Type 0) → (List ℕ → Type 0) → List ℕ → ℕ → (Season → Outcome)
+    → List ℕ → Instance → Outcome
+season_from contents took_more failed solution k next first league =
+    reads (codes "solution") (contents solution) SOLUTION_LIMIT (took_more (length first + SOLUTION_LIMIT))
+    (failed solution)
+    (λ second. says (codes "solution") (solution_of league.n (pieces second))
+    (λ played. next (record {
+      league = league;
+      played = played;
+      slots = k;
+      bytes = length first + length second;
+    })))
+
+plays-ends : (Ends : Status → Type 0) → Ends File → Ends ReadFault → (contents : List ℕ → Option (List ℕ))
+    (took_more : ℕ → Type 0) (failed : List ℕ → Type 0) (instance solution : List ℕ) (k : ℕ)
+    (next : Season → Outcome) (answer : Answer) → ((season : Season) → next season answer → Ends answer.status)
+    → plays contents took_more failed instance solution k next answer → Ends answer.status
+plays-ends Ends file fault contents took_more failed instance solution k next answer later given =
+    let rest : List ℕ → Instance → Outcome = season_from contents took_more failed solution k next in
+    league-ends Ends file fault (contents instance) (took_more INSTANCE_LIMIT) (failed instance)
+    (λ first league. has_slots league k (λ slots. has_size league k (λ size. rest first league))) answer
+    (λ first league at_league. slots-ends Ends file league k (λ slots. has_size league k (λ size. rest first league))
+    answer
+    (λ at_slots. size-ends Ends file league k (λ size. rest first league) answer
+    (λ at_size. games-ends Ends file fault league.n (contents solution) (took_more (length first + SOLUTION_LIMIT))
+    (failed solution)
+    (λ second played. next (record {
+      league = league;
+      played = played;
+      slots = k;
+      bytes = length first + length second;
+    })) answer (λ second played at_season. later _ at_season) at_size) at_slots) at_league) given
+
+resuming-ends : (Ends : Status → Type 0) → Ends Yes → Ends Refuted → Ends Spent → (league : Instance)
+    (played : List Game) (k : ℕ) (conflicts : Option ℕ) (answer : Answer)
+    → resuming.IsFound league played k conflicts answer → Ends answer.status
+resuming-ends Ends yes refuted spent league played k conflicts answer found =
+    elim found.found [
+      | inl planned ↦ ends-with Ends answer Yes planned.status yes
+      | inr (inl log) ↦ ends-with Ends answer Refuted log.status refuted
+      | inr (inr log) ↦ ends-with Ends answer Spent log.status spent
+    ]
+
+resumed-ends : (Ends : Status → Type 0) → Ends File → Ends ReadFault → Ends Yes → Ends Refuted → Ends Spent
+    → (contents : List ℕ → Option (List ℕ)) (took_more : ℕ → Type 0) (failed : List ℕ → Type 0)
+    (instance solution : List ℕ) (k : ℕ) (conflicts : Option ℕ) (answer : Answer)
+    → resumed contents took_more failed instance solution k conflicts answer → Ends answer.status
+resumed-ends Ends file fault yes refuted spent contents took_more failed instance solution k conflicts answer given =
+    plays-ends Ends file fault contents took_more failed instance solution k
+    (λ season. resuming.IsFound season.league season.played k conflicts) answer
+    (λ season found. resuming-ends Ends yes refuted spent season.league season.played k conflicts answer found) given
+
+audited-ends : (Ends : Status → Type 0) → Ends File → Ends ReadFault → Ends Yes → Ends No
+    → (contents : List ℕ → Option (List ℕ)) (took_more : ℕ → Type 0) (failed : List ℕ → Type 0)
+    (instance solution : List ℕ) (k : ℕ) (log : List ℕ) (answer : Answer)
+    → audited contents took_more failed instance solution k log answer → Ends answer.status
+audited-ends Ends file fault yes no contents took_more failed instance solution k log answer given =
+    plays-ends Ends file fault contents took_more failed instance solution k
+    (λ season. reads (codes "log") (contents log) most_log_bytes (took_more (season.bytes + most_log_bytes))
+    (failed log) (λ third. says_log (log_of third) (auditing.IsVerdict season.league season.played k))) answer
+    (λ season at_season. log-ends Ends file fault (contents log) (took_more (season.bytes + most_log_bytes))
+    (failed log) (auditing.IsVerdict season.league season.played k) answer
+    (λ steps verdict. ends-as Ends answer _ verdict.verdict (verdict-ends Ends yes no (length steps) _)) at_season)
+    given
+
+-- ---- `trial`
+
+tried-ends : (Ends : Status → Type 0) → Ends File → Ends Yes → (n seed : ℕ) (budgets : Budgets) (answer : Answer)
+    → tried n seed budgets answer → Ends answer.status
+tried-ends Ends file yes n seed budgets answer given =
+    encodes-ends Ends file (made_league n (seeded seed))
+    (λ rows. IsTrial n seed (made_league n (seeded seed)) budgets.moves) answer
+    (λ rows trial. ends-with Ends answer Yes trial.status yes) given
+
+-- ---- a run
+
+-- that a run with these words may end so
+abbrev EndsBy : Option Command → Status → Type 0
+EndsBy words status = may_end words status ≡ true
+
+answer-ends : (words : Option Command) (contents : List ℕ → Option (List ℕ)) (took_more : ℕ → Type 0)
+    (failed : List ℕ → Type 0) (answer : Answer) → IsAnswer words contents took_more failed answer
+    → EndsBy words answer.status
+answer-ends None contents took_more failed answer given = ends-as (EndsBy None) answer _ given refl
+answer-ends (Some (Validate instance solution)) contents took_more failed answer given =
+    validated-ends (EndsBy (Some (Validate instance solution))) refl refl refl refl contents took_more failed instance
+    solution answer given
+answer-ends (Some (Check instance log)) contents took_more failed answer given =
+    checked-ends (EndsBy (Some (Check instance log))) refl refl refl refl contents took_more failed instance log answer
+    given
+answer-ends (Some (Solve instance budgets)) contents took_more failed answer given =
+    solved-ends (EndsBy (Some (Solve instance budgets))) refl refl refl refl refl contents took_more failed instance
+    budgets answer given
+answer-ends (Some (Patterns instance conflicts)) contents took_more failed answer given =
+    patterned-ends (EndsBy (Some (Patterns instance conflicts))) refl refl refl refl refl contents took_more failed
+    instance conflicts answer given
+answer-ends (Some (Explain instance conflicts)) contents took_more failed answer given =
+    explained-ends (EndsBy (Some (Explain instance conflicts))) refl refl refl refl refl contents took_more failed
+    instance conflicts answer given
+answer-ends (Some (Part instance members)) contents took_more failed answer given =
+    parted-ends (EndsBy (Some (Part instance members))) refl refl refl contents took_more failed instance members answer
+    given
+answer-ends (Some (Prove instance solution conflicts)) contents took_more failed answer given =
+    proved-ends (EndsBy (Some (Prove instance solution conflicts))) refl refl refl refl refl refl contents took_more
+    failed instance solution conflicts answer given
+answer-ends (Some (Bound instance log)) contents took_more failed answer given =
+    bounded-ends (EndsBy (Some (Bound instance log))) refl refl refl refl contents took_more failed instance log answer
+    given
+answer-ends (Some (Resume instance solution k conflicts)) contents took_more failed answer given =
+    resumed-ends (EndsBy (Some (Resume instance solution k conflicts))) refl refl refl refl refl contents took_more
+    failed instance solution k conflicts answer given
+answer-ends (Some (Audit instance solution k log)) contents took_more failed answer given =
+    audited-ends (EndsBy (Some (Audit instance solution k log))) refl refl refl refl contents took_more failed instance
+    solution k log answer given
+answer-ends (Some (Circle n)) contents took_more failed answer given =
+    ends-as (EndsBy (Some (Circle n))) answer _ given refl
+answer-ends (Some (Make n seed)) contents took_more failed answer given =
+    ends-as (EndsBy (Some (Make n seed))) answer _ given.made refl
+answer-ends (Some (Trial n seed budgets)) contents took_more failed answer given =
+    tried-ends (EndsBy (Some (Trial n seed budgets))) refl refl n seed budgets answer given
+
+-- a run whose text is written whole ends as its words may
+pub run-ends : (words : Option Command) (contents : List ℕ → Option (List ℕ)) (took_more : ℕ → Type 0)
+    (failed : List ℕ → Type 0) (answer : Answer) (ended : Status) (old new : Option (List ℕ)) (sink_failed : Type 0)
+    → IsAnswer words contents took_more failed answer → IsWritten answer ended old new sink_failed
+    → (ended ≡ WriteFault → ⊥) → may_end words ended ≡ true
+run-ends words contents took_more failed answer ended old new sink_failed answered (inl h) whole =
+    subst (EndsBy words) (sym h.0) (answer-ends words contents took_more failed answer answered)
+run-ends words contents took_more failed answer ended old new sink_failed answered (inr h) whole = absurd (whole h.0)
+
+no_memory : (words : Option Command) → may_end words Memory ≡ false
+no_memory None = refl
+no_memory (Some (Validate instance solution)) = refl
+no_memory (Some (Check instance log)) = refl
+no_memory (Some (Solve instance budgets)) = refl
+no_memory (Some (Patterns instance conflicts)) = refl
+no_memory (Some (Explain instance conflicts)) = refl
+no_memory (Some (Part instance members)) = refl
+no_memory (Some (Prove instance solution conflicts)) = refl
+no_memory (Some (Bound instance log)) = refl
+no_memory (Some (Resume instance solution k conflicts)) = refl
+no_memory (Some (Audit instance solution k log)) = refl
+no_memory (Some (Circle n)) = refl
+no_memory (Some (Make n seed)) = refl
+no_memory (Some (Trial n seed budgets)) = refl
+
+-- where an answer is written, the run doesn't end as want of memory does
+pub written-memory : (words : Option Command) (contents : List ℕ → Option (List ℕ)) (took_more : ℕ → Type 0)
+    (failed : List ℕ → Type 0) (answer : Answer) (ended : Status) (old new : Option (List ℕ)) (sink_failed : Type 0)
+    → IsAnswer words contents took_more failed answer → IsWritten answer ended old new sink_failed → ended ≡ Memory → ⊥
+written-memory words contents took_more failed answer ended old new sink_failed answered (inl h) memory =
+    let may : may_end words Memory ≡ true =
+    subst (EndsBy words) (sym h.0 ∙ memory) (answer-ends words contents took_more failed answer answered) in
+    let none : may_end words Memory ≡ false = no_memory words in
+    cc
+written-memory words contents took_more failed answer ended old new sink_failed answered (inr h) memory =
+    let same : WriteFault ≡ Memory = sym h.0 ∙ memory in cc
