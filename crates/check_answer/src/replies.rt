@@ -79,11 +79,7 @@ fn rejected(alloc: Global, step: u64, cause: Cause) -> Result<Reply, AllocError>
 }
 
 /// The verdict on a log of so many steps.
-pub fn verdict_reply(
-    alloc: Global,
-    steps: usize,
-    verdict: Verdict,
-) -> Result<Reply, AllocError>
+pub fn verdict_reply(alloc: Global, steps: usize, verdict: Verdict) -> Result<Reply, AllocError>
     ensures { IfOk result (λ reply. answer_of reply ≡ texts.verdict_answer steps verdict) }
 {
     match verdict {
