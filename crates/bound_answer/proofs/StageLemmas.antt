@@ -46,8 +46,12 @@ after-league : (contents : List ℕ → Option (List ℕ)) (took_more : ℕ → 
     → log_stages contents took_more failed log (length first) league answer
     → bounded contents took_more failed instance log answer
 after-league contents took_more failed instance log first league is_first says_league answer rest =
-    inl (first, is_first, says-value (codes "instance") (instance_of (pieces first)) league
-    (log_stages contents took_more failed log (length first)) answer says_league rest)
+    inl (
+      first,
+      is_first,
+      says-value (codes "instance") (instance_of (pieces first)) league
+          (log_stages contents took_more failed log (length first)) answer says_league rest,
+    )
 
 -- its bound rows have too many terms
 pub bounded-large : (contents : List ℕ → Option (List ℕ)) (took_more : ℕ → Type 0) (failed : List ℕ → Type 0)

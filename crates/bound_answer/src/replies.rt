@@ -19,7 +19,11 @@ use std::alloc::{AllocError, Global};
 ///
 /// # Errors
 /// Where memory runs out, and where the bound rows have too many terms, which the caller has excluded.
-fn verdict_on(alloc: Global, league: &League, certificate: &Certificate) -> Result<Verdict, AllocError>
+fn verdict_on(
+    alloc: Global,
+    league: &League,
+    certificate: &Certificate,
+) -> Result<Verdict, AllocError>
     ensures verdict { IfOk result (λ verdict.
         verdict ≡ bound_verdict league.now certificate.now.bound certificate.now.log) }
     ensures holds { result ≡ Ok Verdict.Accepted → IsLowerBound league.now certificate.now.bound }

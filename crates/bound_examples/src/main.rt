@@ -27,7 +27,8 @@ fn main(rt: HostRuntime) -> io::Result<()> {
 /// Shows the least objective of a league, runs a command, or writes a title.
 fn follow(rt: &(impl AllocGlobal + Files + Print), line: &str) -> io::Result<()> {
     let mut parts = line.split('|');
-    let (Some(name), Some(instance), Some(season)) = (parts.next(), parts.next(), parts.next()) else {
+    let (Some(name), Some(instance), Some(season)) = (parts.next(), parts.next(), parts.next())
+    else {
         return run_line(rt, line);
     };
     show_least(rt, name, instance.as_bytes(), season.as_bytes())

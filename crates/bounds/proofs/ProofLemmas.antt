@@ -116,9 +116,10 @@ pub decoded_bounded : (league : Instance) (bound : ℕ) (values : ℕ → Bool) 
     → SatisfiesAll values (bound_rows league bound) → games ≡ decoded league.n values
     → IsAccepted league (counts_of games) × (objective league (counts_of games) ≤ bound)
 decoded_bounded league bound values games is meets same =
-    let found = bounded-from_rows league bound values is meets in
-    (subst (λ (gs : List Game). IsAccepted league (counts_of gs)) (sym same) found.0,
-    subst (λ (gs : List Game). objective league (counts_of gs) ≤ bound) (sym same) found.1)
+    let found = bounded-from_rows league bound values is meets in (
+      subst (λ (gs : List Game). IsAccepted league (counts_of gs)) (sym same) found.0,
+      subst (λ (gs : List Game). objective league (counts_of gs) ≤ bound) (sym same) found.1,
+    )
 
 pub least-of : (league : Instance) (m : Counts) (limit : Option ℕ) (cost : ℕ) (steps : List Step) → IsInstance league
     → objective league m ≡ cost → 1 ≤ cost → Refutes (bound_rows league (cost - 1)) (bound_vars league) limit steps

@@ -19,11 +19,11 @@ use Rattle.bounds.specs.declared.proved.Proved.TheVariants.{Least, Better, Spent
 -- less, or where the objective is 0 it is empty; its text can be written.
 pub record IsLeast (league : Instance) (m : Counts) (limit : Option ℕ) (objective : ℕ) (steps : List Step) : Type 0
   where
-  pub cost : objective ≡ costs.objective league m
-  pub least : IsLowerBound league objective
-  pub nothing : objective ≡ 0 → steps ≡ []
-  pub refutes : 1 ≤ objective → Refutes (bound_rows league (objective - 1)) (bound_vars league) limit steps
-  pub named : All NamesRows steps
+    pub cost : objective ≡ costs.objective league m
+    pub least : IsLowerBound league objective
+    pub nothing : objective ≡ 0 → steps ≡ []
+    pub refutes : 1 ≤ objective → Refutes (bound_rows league (objective - 1)) (bound_vars league) limit steps
+    pub named : All NamesRows steps
 
 -- Games that the league accepts, in order, with their objective, which is below the schedule's.
 pub record IsBetter (league : Instance) (m : Counts) (games : List Game) (objective : ℕ) : Type 0 where

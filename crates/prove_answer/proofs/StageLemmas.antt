@@ -29,8 +29,12 @@ after-league : (contents : List ℕ → Option (List ℕ)) (took_more : ℕ → 
     → solution_stages contents took_more failed solution conflicts (length first) league answer
     → proved contents took_more failed instance solution conflicts answer
 after-league contents took_more failed instance solution conflicts first league is_first says_league answer rest =
-    inl (first, is_first, says-value (codes "instance") (instance_of (pieces first)) league
-    (solution_stages contents took_more failed solution conflicts (length first)) answer says_league rest)
+    inl (
+      first,
+      is_first,
+      says-value (codes "instance") (instance_of (pieces first)) league
+          (solution_stages contents took_more failed solution conflicts (length first)) answer says_league rest,
+    )
 
 -- its bound rows have too many terms
 pub proved-large : (contents : List ℕ → Option (List ℕ)) (took_more : ℕ → Type 0) (failed : List ℕ → Type 0)

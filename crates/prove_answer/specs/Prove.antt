@@ -62,16 +62,16 @@ pub record IsBettered (league : Instance) (games : List Game) (answer : Answer) 
 -- greater one, or none, is never spent.
 pub record IsSpentBelow (league : Instance) (conflicts : Option ℕ) (games : List Game) (answer : Answer) : Type 0
   where
-  pub steps : List Step
-  pub accepted : IsAccepted league (counts_of games)
-  pub some : 1 ≤ objective league (counts_of games)
-  pub budget : conflicts ≡ Some (length steps)
-  pub spent : IsSpent (length steps) (bound_rows league (objective league (counts_of games) - 1)) (bound_vars league)
-      steps
-  pub few : length steps < 3 ^ bound_vars league
-  pub status : answer.status ≡ Spent
-  pub text : answer.text ≡ log_text steps
-  pub reads_back : HasShortLines steps → log_of answer.text ≡ Ok steps
+    pub steps : List Step
+    pub accepted : IsAccepted league (counts_of games)
+    pub some : 1 ≤ objective league (counts_of games)
+    pub budget : conflicts ≡ Some (length steps)
+    pub spent : IsSpent (length steps) (bound_rows league (objective league (counts_of games) - 1)) (bound_vars league)
+        steps
+    pub few : length steps < 3 ^ bound_vars league
+    pub status : answer.status ≡ Spent
+    pub text : answer.text ≡ log_text steps
+    pub reads_back : HasShortLines steps → log_of answer.text ≡ Ok steps
 
 -- what is shown of a schedule, by a search that learns at most so many clauses
 abbrev pub IsShown : Instance → Option ℕ → List Game → Outcome
