@@ -117,8 +117,8 @@ shown-better league conflicts games answer (inr (inr (inr h))) is =
 
 no-feasible : (feasible : Bool) (status : Status) → status ≡ No → status ≡ (if feasible then Yes else No)
     → IsTrue feasible → ⊥
-no-feasible true status no is passes = let same : No ≡ Yes = sym no ∙ is in cc
-no-feasible false status no is passes = cc
+no-feasible true status ended is passes = let same : No ≡ Yes = sym ended ∙ is in cc
+no-feasible false status ended is passes = cc
 
 -- the answer is no exactly where the league doesn't accept the schedule
 pub shown-no : (league : Instance) (conflicts : Option ℕ) (games : List Game) (answer : Answer)
