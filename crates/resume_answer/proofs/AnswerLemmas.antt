@@ -13,17 +13,13 @@ use Rattle.robinx_read.specs.declared.instance.TheConstants.{INSTANCE_LIMIT, SOL
 use Rattle.answers.specs.Reply.{Answer}
 use Rattle.answers.specs.Stages.{IsFile, Outcome, reads, says}
 use Rattle.answers.specs.declared.status.Status.{Status}
-use Rattle.answers.specs.declared.status.Status.TheVariants.{Yes, File, Refuted, Spent, ReadFault, Memory}
+use Rattle.answers.specs.declared.status.Status.TheVariants.{Yes, File, Refuted, Spent, ReadFault}
 use Rattle.answers.proofs.StageLemmas.{reads-known, says-known}
-use Rattle.encoding_base.specs.Variables.{var_count}
 use Rattle.refutation.specs.Logs.{Fault, log_of}
 use Rattle.refutation.specs.Steps.{Step}
-use Rattle.refutation.specs.Verdict.{verdict_of}
-use Rattle.refutation.specs.declared.verdict.Verdict.{Verdict}
-use Rattle.refutation.specs.declared.verdict.Verdict.TheVariants.{Accepted, Rejected}
-use Rattle.check_answer.specs.Check.{most_log_bytes, most_terms, says_log, verdict_answer}
+use Rattle.check_answer.specs.Check.{most_log_bytes, most_terms, says_log}
 use Rattle.check_answer.proofs.AnswerLemmas.{said-known}
-use Rattle.resume_rows.specs.Kept.{resume_rows, resume_size}
+use Rattle.resume_rows.specs.Kept.{resume_size}
 use Rattle.resume_rows.specs.Resumable.{NoneResumes}
 use Rattle.resume_answer.specs.Audited.{IsVerdict, IsWellFormedAudit, audited}
 use Rattle.resume_answer.specs.Resumed.{IsFound, IsPlanned, resumed}
@@ -273,46 +269,3 @@ audited-excluded contents took_more failed instance solution k log league played
     (failed log) (λ bytes. says_log (log_of bytes) (IsVerdict league played k)) answer answered at.1 in
     let said = log-answered (log_of read.0) (IsVerdict league played k) answer answered read.2 in
     said.1.none ended
-
--- ---- no answer ends a run as want of memory does
-
-found-memory : (league : Instance) (played : List Game) (k : ℕ) (conflicts : Option ℕ) (answer : Answer)
-    → answer.status ≡ Memory → IsFound league played k conflicts answer → ⊥
-found-memory league played k conflicts answer ended found =
-    elim found.found [
-      | inl planned ↦ let same : Yes ≡ Memory = sym planned.status ∙ ended in cc
-      | inr (inl excluded) ↦ let same : Refuted ≡ Memory = sym excluded.status ∙ ended in cc
-      | inr (inr spent) ↦ let same : Spent ≡ Memory = sym spent.status ∙ ended in cc
-    ]
-
-pub resumed-memory : (contents : List ℕ → Option (List ℕ)) (took_more : ℕ → Type 0) (failed : List ℕ → Type 0)
-    (instance solution : List ℕ) (k : ℕ) (conflicts : Option ℕ) (answer : Answer) → answer.status ≡ Memory
-    → resumed contents took_more failed instance solution k conflicts answer → ⊥
-resumed-memory contents took_more failed instance solution k conflicts answer ended given =
-    let next : Season → Outcome = λ season. IsFound season.league season.played k conflicts in
-    let answered : IsAnswered answer = answered-as answer Memory ended (λ same. cc) (λ same. cc) in
-    let of = plays-answered contents took_more failed instance solution k next answer answered given in
-    found-memory of.league of.played k conflicts answer ended of.rest
-
-verdict-status : (steps : ℕ) (verdict : Verdict) → (verdict_answer steps verdict).status ≡ Memory → ⊥
-verdict-status steps Accepted same = cc
-verdict-status steps (Rejected step cause) same = cc
-
-verdict-memory : (league : Instance) (played : List Game) (k : ℕ) (steps : List Step) (answer : Answer)
-    → answer.status ≡ Memory → IsVerdict league played k steps answer → ⊥
-verdict-memory league played k steps answer ended is =
-    verdict-status (length steps) (verdict_of (resume_rows league (counts_of played) k) (var_count league) steps)
-    (sym (ap (λ (a : Answer). a.status) is.verdict) ∙ ended)
-
-pub audited-memory : (contents : List ℕ → Option (List ℕ)) (took_more : ℕ → Type 0) (failed : List ℕ → Type 0)
-    (instance solution : List ℕ) (k : ℕ) (log : List ℕ) (answer : Answer) → answer.status ≡ Memory
-    → audited contents took_more failed instance solution k log answer → ⊥
-audited-memory contents took_more failed instance solution k log answer ended given =
-    let next : Season → Outcome = at_log contents took_more failed log k in
-    let answered : IsAnswered answer = answered-as answer Memory ended (λ same. cc) (λ same. cc) in
-    let of = plays-answered contents took_more failed instance solution k next answer answered given in
-    let front : ℕ = length of.first + length of.second in
-    let read = reads-answered (codes "log") (contents log) most_log_bytes (took_more (front + most_log_bytes))
-    (failed log) (λ bytes. says_log (log_of bytes) (IsVerdict of.league of.played k)) answer answered of.rest in
-    let said = log-answered (log_of read.0) (IsVerdict of.league of.played k) answer answered read.2 in
-    verdict-memory of.league of.played k said.0 answer ended said.1
