@@ -55,9 +55,10 @@ impl Br1 {
 impl Entries for Br1 {
     ghost use Rattle.league.specs.Deviation.{entry_of};
     ghost use Rattle.rule_core.specs.Ready.{entry_count};
-    ghost use Rattle.rule_core.specs.Touched.{most_touched, touched_keys};
+    ghost use Rattle.rule_core.specs.Touched.{is_watched, most_touched, touched_keys};
     ghost use Rattle.rule_core.proofs.FrameLemmas.{touched_keys-frame};
     ghost use Rattle.rule_core.proofs.TouchedLemmas.{touched_keys-ascending, touched_keys-below, touched_keys-few};
+    ghost use Rattle.rule_core.proofs.WatchLemmas.{touched_keys-quiet};
     ghost use Rattle.breaks.specs.Br1.{class_of};
 
     ghost team_count = { λ r. r.n };
@@ -70,6 +71,8 @@ impl Entries for Br1 {
 
     ghost touches = { λ r. touched_keys (class_of r) };
 
+    ghost watched = { λ r. is_watched (class_of r) };
+
     ghost few = { λ r. touched_keys-few r.n (class_of r) r.ready };
 
     ghost below = { λ r g fits. touched_keys-below (class_of r) g };
@@ -77,6 +80,8 @@ impl Entries for Br1 {
     ghost ascending = { λ r g fits. touched_keys-ascending (class_of r) g };
 
     ghost frame = { λ r. touched_keys-frame r.n (class_of r) };
+
+    ghost quiet = { λ r g fits. touched_keys-quiet (class_of r) g };
 
     fn teams(&self) -> u16 {
         self.n
@@ -99,6 +104,10 @@ impl Entries for Br1 {
                 Side::Both => teams.push_keys(game.home.0, game.away.0, keys),
             }
         }
+    }
+
+    fn watches(&self, team: TeamId) -> bool {
+        self.scope.teams.has(team.0)
     }
 }
 

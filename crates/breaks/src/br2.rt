@@ -5,7 +5,7 @@ ghost use Rattle.rule_core.specs.Ready.{IsReady};
 
 use crate::scope::Scope;
 use crate::sums::all_breaks;
-use league::{Class, ClassName, Constraint, Game};
+use league::{Class, ClassName, Constraint, Game, TeamId};
 use rule_core::{Cells, Entries, Keys, Rule, Steps};
 use std::alloc::{AllocError, Global};
 
@@ -47,9 +47,10 @@ impl Br2 {
 impl Entries for Br2 {
     ghost use Rattle.league.specs.Deviation.{entry_of};
     ghost use Rattle.rule_core.specs.Ready.{entry_count};
-    ghost use Rattle.rule_core.specs.Touched.{most_touched, touched_keys};
+    ghost use Rattle.rule_core.specs.Touched.{is_watched, most_touched, touched_keys};
     ghost use Rattle.rule_core.proofs.FrameLemmas.{touched_keys-frame};
     ghost use Rattle.rule_core.proofs.TouchedLemmas.{touched_keys-ascending, touched_keys-below, touched_keys-few};
+    ghost use Rattle.rule_core.proofs.WatchLemmas.{touched_keys-quiet};
     ghost use Rattle.breaks.specs.Br2.{class_of};
 
     ghost team_count = { λ r. r.n };
@@ -62,6 +63,8 @@ impl Entries for Br2 {
 
     ghost touches = { λ r. touched_keys (class_of r) };
 
+    ghost watched = { λ r. is_watched (class_of r) };
+
     ghost few = { λ r. touched_keys-few r.n (class_of r) r.ready };
 
     ghost below = { λ r g fits. touched_keys-below (class_of r) g };
@@ -69,6 +72,8 @@ impl Entries for Br2 {
     ghost ascending = { λ r g fits. touched_keys-ascending (class_of r) g };
 
     ghost frame = { λ r. touched_keys-frame r.n (class_of r) };
+
+    ghost quiet = { λ r g fits. touched_keys-quiet (class_of r) g };
 
     fn teams(&self) -> u16 {
         self.n
@@ -86,6 +91,10 @@ impl Entries for Br2 {
         if self.scope.can_break(game.slot) && self.scope.has_team(game) {
             keys.push(0);
         }
+    }
+
+    fn watches(&self, team: TeamId) -> bool {
+        self.scope.teams.has(team.0)
     }
 }
 

@@ -60,9 +60,10 @@ impl Ca1 {
 impl Entries for Ca1 {
     ghost use Rattle.league.specs.Deviation.{entry_of};
     ghost use Rattle.rule_core.specs.Ready.{entry_count};
-    ghost use Rattle.rule_core.specs.Touched.{most_touched, touched_keys};
+    ghost use Rattle.rule_core.specs.Touched.{is_watched, most_touched, touched_keys};
     ghost use Rattle.rule_core.proofs.FrameLemmas.{touched_keys-frame};
     ghost use Rattle.rule_core.proofs.TouchedLemmas.{touched_keys-ascending, touched_keys-below, touched_keys-few};
+    ghost use Rattle.rule_core.proofs.WatchLemmas.{touched_keys-quiet};
     ghost use Rattle.capacity.specs.Ca1.{class_of};
 
     ghost team_count = { λ r. r.n };
@@ -75,6 +76,8 @@ impl Entries for Ca1 {
 
     ghost touches = { λ r. touched_keys (class_of r) };
 
+    ghost watched = { λ r. is_watched (class_of r) };
+
     ghost few = { λ r. touched_keys-few r.n (class_of r) r.ready };
 
     ghost below = { λ r g fits. touched_keys-below (class_of r) g };
@@ -82,6 +85,8 @@ impl Entries for Ca1 {
     ghost ascending = { λ r g fits. touched_keys-ascending (class_of r) g };
 
     ghost frame = { λ r. touched_keys-frame r.n (class_of r) };
+
+    ghost quiet = { λ r g fits. touched_keys-quiet (class_of r) g };
 
     fn teams(&self) -> u16 {
         self.n
@@ -103,6 +108,10 @@ impl Entries for Ca1 {
                 Side::Both => unreachable!(),
             }
         }
+    }
+
+    fn watches(&self, team: TeamId) -> bool {
+        self.teams.has(team.0)
     }
 }
 

@@ -10,7 +10,7 @@ ghost use Rattle.keys.specs.Keys.{keys_where, with_keys};
 ghost use Rattle.rule_core.specs.Ready.{IsReady};
 
 use crate::opponents::Opponents;
-use league::{Class, ClassName, Constraint, Game, Span};
+use league::{Class, ClassName, Constraint, Game, Span, TeamId};
 use rule_core::{Cells, Entries, Keys, Listed, Rule, Steps, outside};
 use std::alloc::{AllocError, Global};
 
@@ -98,9 +98,10 @@ impl Ca4 {
 impl Entries for Ca4 {
     ghost use Rattle.league.specs.Deviation.{entry_of};
     ghost use Rattle.rule_core.specs.Ready.{entry_count};
-    ghost use Rattle.rule_core.specs.Touched.{most_touched, touched_keys};
+    ghost use Rattle.rule_core.specs.Touched.{is_watched, most_touched, touched_keys};
     ghost use Rattle.rule_core.proofs.FrameLemmas.{touched_keys-frame};
     ghost use Rattle.rule_core.proofs.TouchedLemmas.{touched_keys-ascending, touched_keys-below, touched_keys-few};
+    ghost use Rattle.rule_core.proofs.WatchLemmas.{touched_keys-quiet};
     ghost use Rattle.capacity.specs.Ca4.{class_of};
 
     ghost team_count = { λ r. r.n };
@@ -113,6 +114,8 @@ impl Entries for Ca4 {
 
     ghost touches = { λ r. touched_keys (class_of r) };
 
+    ghost watched = { λ r. is_watched (class_of r) };
+
     ghost few = { λ r. touched_keys-few r.n (class_of r) r.ready };
 
     ghost below = { λ r g fits. touched_keys-below (class_of r) g };
@@ -120,6 +123,8 @@ impl Entries for Ca4 {
     ghost ascending = { λ r g fits. touched_keys-ascending (class_of r) g };
 
     ghost frame = { λ r. touched_keys-frame r.n (class_of r) };
+
+    ghost quiet = { λ r g fits. touched_keys-quiet (class_of r) g };
 
     fn teams(&self) -> u16 {
         self.n
@@ -140,6 +145,10 @@ impl Entries for Ca4 {
         if self.opponents.meet(game.home, game.away) {
             self.push_slot(game.slot.0, keys);
         }
+    }
+
+    fn watches(&self, team: TeamId) -> bool {
+        self.opponents.teams1.has(team.0)
     }
 }
 

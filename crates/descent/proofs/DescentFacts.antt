@@ -32,7 +32,7 @@ no_worse-equal = refl
 
 -- a hard rule of penalty 10 and a soft one of penalty 3, whose one entry is how often team 0 is away to team 3 in slot 0
 abbrev one_entry : Ghosts ℕ
-one_entry = record { team_count = λ r. 4; term_count = λ r. 1; reach_of = λ r. 1; entry = λ r k m. m 3 0 0; touches = λ r g. 0 ∷ [] }
+one_entry = record { team_count = λ r. 4; term_count = λ r. 1; reach_of = λ r. 1; entry = λ r k m. m 3 0 0; touches = λ r g. 0 ∷ []; watched = λ r t. true }
 
 abbrev weights : List (Weighted ℕ)
 weights = record { rule = 0; hard = true; penalty = 10 } ∷ record { rule = 0; hard = false; penalty = 3 } ∷ []

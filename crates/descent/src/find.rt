@@ -10,7 +10,7 @@ ghost use Rattle.descent.specs.Score.{score_on};
 ghost use Rattle.descent.specs.Settled.{IsLowering};
 ghost use Rattle.descent.specs.Walks.{IsFoundAt, IsFullEdit, KeepsGames};
 
-use crate::score::Score;
+use crate::score::lowers;
 use moves::{Board, Edit, Neighbours, Swap, edit_of};
 use rule_core::{Rule, Steps};
 use std::alloc::{AllocError, Global};
@@ -54,9 +54,7 @@ pub(crate) fn is_lowering<R: Rule<L>, L>(
     if !edit_of(&step, board, edit) {
         return false;
     }
-    let before = Score::of(tally);
-    let after = Score::after(tally, edit, steps);
-    after.is_lower(before)
+    lowers(tally, edit, steps)
 }
 
 /// The place of the first of these moves that is legal and lowers the score of a tally's games, which stand on a board.

@@ -10,7 +10,7 @@ ghost use Rattle.descent.specs.Walks.{KeepsGames};
 
 use moves::Edit;
 use rule_core::{Entries, Rule, Steps};
-use tally::Tally;
+use tally::{Sums, Tally};
 
 /// What the hard rules cost, and what the soft ones cost. Scores are compared by the infeasibility first, and by the
 /// objective where the infeasibilities are equal.
@@ -31,23 +31,19 @@ impl Score {
         }
     }
 
-    /// The score of a tally's games after an edit. The tally has the same games as before.
-    pub(crate) fn after<R: Rule<L>, L>(
-        tally: &mut Tally<R>,
-        edit: &Edit,
-        steps: &mut Steps<L>,
-    ) -> Score
-        requires out_fit { All (IsGame tally.old.table.n) edit.now.out }
-        requires into_fit { All (IsGame tally.old.table.n) edit.now.into }
-        requires there { (i j s : ℕ) → counts_of edit.now.out i j s ≤ table_counts tally.old.table i j s }
-        ensures keeps { KeepsGames tally.old tally.new }
-        ensures score { result ≡ scores.score_on R.Entries tally.old.weights
-            (edited (table_counts tally.old.table) edit.now) }
+    /// What each lower score is at most: the infeasibility, and where this is 0, less than the objective.
+    fn bounds_below(self) -> Sums
+        ensures { scores.AreBoundsBelow result self }
     {
-        let sums = tally.weigh(edit, steps);
-        Score {
-            infeasibility: sums.infeasibility,
-            objective: sums.objective,
+        if self.infeasibility > 0 {
+            return Sums {
+                infeasibility: self.infeasibility,
+                objective: u128::MAX,
+            };
+        }
+        Sums {
+            infeasibility: 0,
+            objective: self.objective.saturating_sub(1),
         }
     }
 
@@ -57,5 +53,28 @@ impl Score {
     {
         self.infeasibility < other.infeasibility
             || (self.infeasibility == other.infeasibility && self.objective < other.objective)
+    }
+}
+
+/// Whether an edit lowers the score of a tally's games. The tally has the same games as before.
+pub(crate) fn lowers<R: Rule<L>, L>(tally: &mut Tally<R>, edit: &Edit, steps: &mut Steps<L>) -> bool
+    requires out_fit { All (IsGame tally.old.table.n) edit.now.out }
+    requires into_fit { All (IsGame tally.old.table.n) edit.now.into }
+    requires there { (i j s : ℕ) → counts_of edit.now.out i j s ≤ table_counts tally.old.table i j s }
+    ensures keeps { KeepsGames tally.old tally.new }
+    ensures lowers { result ≡ scores.is_lower
+        (scores.score_on R.Entries tally.old.weights (edited (table_counts tally.old.table) edit.now))
+        (scores.score_on R.Entries tally.old.weights (table_counts tally.old.table)) }
+{
+    let before = Score::of(tally);
+    match tally.weigh_within(edit, before.bounds_below(), steps) {
+        None => false,
+        Some(sums) => {
+            let after = Score {
+                infeasibility: sums.infeasibility,
+                objective: sums.objective,
+            };
+            after.is_lower(before)
+        }
     }
 }

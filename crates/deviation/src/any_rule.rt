@@ -7,7 +7,7 @@ use breaks::{Br1, Br2};
 use capacity::{Ca1, Ca2, Ca3, Ca4};
 use fairness::Fa2;
 use games::Ga1;
-use league::{ClassName, Constraint, Game};
+use league::{ClassName, Constraint, Game, TeamId};
 use rule_core::{Cells, Entries, Keys, Rule, Steps};
 use separation::Se1;
 use std::alloc::{AllocError, Global};
@@ -123,6 +123,18 @@ impl Entries for AnyRule {
       | Se1 r ↦ ⟦<Se1 as Entries>⟧.touches r
     ] };
 
+    ghost watched = { elim [
+      | Ca1 r ↦ ⟦<Ca1 as Entries>⟧.watched r
+      | Ca2 r ↦ ⟦<Ca2 as Entries>⟧.watched r
+      | Ca3 r ↦ ⟦<Ca3 as Entries>⟧.watched r
+      | Ca4 r ↦ ⟦<Ca4 as Entries>⟧.watched r
+      | Ga1 r ↦ ⟦<Ga1 as Entries>⟧.watched r
+      | Br1 r ↦ ⟦<Br1 as Entries>⟧.watched r
+      | Br2 r ↦ ⟦<Br2 as Entries>⟧.watched r
+      | Fa2 r ↦ ⟦<Fa2 as Entries>⟧.watched r
+      | Se1 r ↦ ⟦<Se1 as Entries>⟧.watched r
+    ] };
+
     ghost few = { elim [
       | Ca1 r ↦ ca1_laws.few-law r
       | Ca2 r ↦ ca2_laws.few-law r
@@ -169,6 +181,18 @@ impl Entries for AnyRule {
       | Br2 r ↦ br2_laws.frame-law r
       | Fa2 r ↦ fa2_laws.frame-law r
       | Se1 r ↦ se1_laws.frame-law r
+    ] };
+
+    ghost quiet = { elim [
+      | Ca1 r ↦ ca1_laws.quiet-law r
+      | Ca2 r ↦ ca2_laws.quiet-law r
+      | Ca3 r ↦ ca3_laws.quiet-law r
+      | Ca4 r ↦ ca4_laws.quiet-law r
+      | Ga1 r ↦ ga1_laws.quiet-law r
+      | Br1 r ↦ br1_laws.quiet-law r
+      | Br2 r ↦ br2_laws.quiet-law r
+      | Fa2 r ↦ fa2_laws.quiet-law r
+      | Se1 r ↦ se1_laws.quiet-law r
     ] };
 
     fn teams(&self) -> u16 {
@@ -224,6 +248,20 @@ impl Entries for AnyRule {
             AnyRule::Br2(rule) => rule.touched(game, keys),
             AnyRule::Fa2(rule) => rule.touched(game, keys),
             AnyRule::Se1(rule) => rule.touched(game, keys),
+        }
+    }
+
+    fn watches(&self, team: TeamId) -> bool {
+        match self {
+            AnyRule::Ca1(rule) => rule.watches(team),
+            AnyRule::Ca2(rule) => rule.watches(team),
+            AnyRule::Ca3(rule) => rule.watches(team),
+            AnyRule::Ca4(rule) => rule.watches(team),
+            AnyRule::Ga1(rule) => rule.watches(team),
+            AnyRule::Br1(rule) => rule.watches(team),
+            AnyRule::Br2(rule) => rule.watches(team),
+            AnyRule::Fa2(rule) => rule.watches(team),
+            AnyRule::Se1(rule) => rule.watches(team),
         }
     }
 }

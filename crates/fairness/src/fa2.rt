@@ -8,7 +8,7 @@ ghost use Rattle.rule_core.specs.Ready.{IsReady};
 
 use crate::leads::largest_lead;
 use crate::played::{fill_played, lead_in_rows};
-use league::{Class, ClassName, Constraint, Game};
+use league::{Class, ClassName, Constraint, Game, TeamId};
 use rule_core::{Cells, Entries, Keys, Pairs, Rule, Steps};
 use std::alloc::{AllocError, Global};
 
@@ -53,9 +53,10 @@ impl Fa2 {
 impl Entries for Fa2 {
     ghost use Rattle.league.specs.Deviation.{entry_of};
     ghost use Rattle.rule_core.specs.Ready.{entry_count};
-    ghost use Rattle.rule_core.specs.Touched.{most_touched, touched_keys};
+    ghost use Rattle.rule_core.specs.Touched.{is_watched, most_touched, touched_keys};
     ghost use Rattle.rule_core.proofs.FrameLemmas.{touched_keys-frame};
     ghost use Rattle.rule_core.proofs.TouchedLemmas.{touched_keys-ascending, touched_keys-below, touched_keys-few};
+    ghost use Rattle.rule_core.proofs.WatchLemmas.{touched_keys-quiet};
     ghost use Rattle.fairness.specs.Fa2.{class_of};
 
     ghost team_count = { λ r. r.n };
@@ -68,6 +69,8 @@ impl Entries for Fa2 {
 
     ghost touches = { λ r. touched_keys (class_of r) };
 
+    ghost watched = { λ r. is_watched (class_of r) };
+
     ghost few = { λ r. touched_keys-few r.n (class_of r) r.ready };
 
     ghost below = { λ r g fits. touched_keys-below (class_of r) g };
@@ -75,6 +78,8 @@ impl Entries for Fa2 {
     ghost ascending = { λ r g fits. touched_keys-ascending (class_of r) g };
 
     ghost frame = { λ r. touched_keys-frame r.n (class_of r) };
+
+    ghost quiet = { λ r g fits. touched_keys-quiet (class_of r) g };
 
     fn teams(&self) -> u16 {
         self.n
@@ -92,6 +97,10 @@ impl Entries for Fa2 {
         if has_from(&self.slots, game.slot.0) {
             self.pairs.push_keys(game.home.0, keys);
         }
+    }
+
+    fn watches(&self, team: TeamId) -> bool {
+        self.pairs.teams().contains(&team.0)
     }
 }
 

@@ -1,3 +1,4 @@
 pub mod Ga1Facts
+pub mod HostLemmas
 pub mod ListedLemmas
 pub mod TermLemmas

@@ -1,10 +1,10 @@
 //! GA1: from so many to so many games of some meetings in some slots.
-ghost use Rattle.std.specs.Prelude.{◌≡◌, ◌≤◌, IfOk, IsTrue};
+ghost use Rattle.std.specs.Prelude.{◌≡◌, ◌<◌, ◌≤◌, IfOk, IsTrue};
 ghost use Rattle.league.specs.declared.class.Class.TheVariants as class;
 ghost use Rattle.rule_core.specs.Ready.{IsReady};
 
 use crate::by_slot::games_by_slot;
-use league::{Class, ClassName, Constraint, Game};
+use league::{Class, ClassName, Constraint, Game, TeamId};
 use rule_core::{Cells, Entries, Keys, Listed, Meetings, Rule, Steps, outside};
 use std::alloc::{AllocError, Global};
 
@@ -57,6 +57,15 @@ impl Ga1 {
 impl Ga1 {
     ghost use Rattle.league.specs.Meetings.{games_of};
     ghost use Rattle.cells.specs.Table.{table_counts};
+    ghost use Rattle.rule_core.specs.Touched.{is_host};
+
+    /// Whether a team is at home in one of the meetings: a look-up for each team that can be its guest.
+    fn is_host(&self, team: TeamId) -> bool
+        requires team { team.0 < self.now.meetings.n }
+        ensures { result ≡ is_host self.now.meetings.list team.0 }
+    {
+        (0..self.meetings.n()).any(|away| self.meetings.has(team, TeamId(away)))
+    }
 
     /// The games of the meetings in the slots: meeting by meeting, or slot by slot where there are many.
     fn games(&self, cells: &Cells) -> u64
@@ -75,9 +84,10 @@ impl Ga1 {
 impl Entries for Ga1 {
     ghost use Rattle.league.specs.Deviation.{entry_of};
     ghost use Rattle.rule_core.specs.Ready.{entry_count};
-    ghost use Rattle.rule_core.specs.Touched.{most_touched, touched_keys};
+    ghost use Rattle.rule_core.specs.Touched.{is_watched, most_touched, touched_keys};
     ghost use Rattle.rule_core.proofs.FrameLemmas.{touched_keys-frame};
     ghost use Rattle.rule_core.proofs.TouchedLemmas.{touched_keys-ascending, touched_keys-below, touched_keys-few};
+    ghost use Rattle.rule_core.proofs.WatchLemmas.{touched_keys-quiet};
     ghost use Rattle.games.specs.Ga1.{class_of};
 
     ghost team_count = { λ r. r.meetings.n };
@@ -90,6 +100,8 @@ impl Entries for Ga1 {
 
     ghost touches = { λ r. touched_keys (class_of r) };
 
+    ghost watched = { λ r. is_watched (class_of r) };
+
     ghost few = { λ r. touched_keys-few r.meetings.n (class_of r) r.ready };
 
     ghost below = { λ r g fits. touched_keys-below (class_of r) g };
@@ -97,6 +109,8 @@ impl Entries for Ga1 {
     ghost ascending = { λ r g fits. touched_keys-ascending (class_of r) g };
 
     ghost frame = { λ r. touched_keys-frame r.meetings.n (class_of r) };
+
+    ghost quiet = { λ r g fits. touched_keys-quiet (class_of r) g };
 
     fn teams(&self) -> u16 {
         self.meetings.n()
@@ -114,6 +128,10 @@ impl Entries for Ga1 {
         if self.meetings.has(game.home, game.away) && self.slots.has(game.slot.0) {
             keys.push(0);
         }
+    }
+
+    fn watches(&self, team: TeamId) -> bool {
+        self.is_host(team)
     }
 }
 

@@ -9,3 +9,4 @@ pub mod OpponentLemmas
 pub mod ReadyLemmas
 pub mod TouchedFacts
 pub mod TouchedLemmas
+pub mod WatchLemmas

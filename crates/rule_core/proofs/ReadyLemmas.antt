@@ -18,7 +18,7 @@ use Rattle.league.specs.declared.game.Game.{Game}
 use Rattle.league.proofs.FitLemmas.{are_slots-ascending, are_slots-below, are_teams-ascending, are_teams-below}
 use Rattle.rule_core.specs.Ready.{IsReady, entry_count}
 use Rattle.rule_core.specs.Rule.{IsRuleOf}
-use Rattle.rule_core.specs.Touched.{most_touched, touched_keys}
+use Rattle.rule_core.specs.Touched.{is_watched, most_touched, touched_keys}
 use Rattle.rule_core.specs.declared.rule.Entries.{Ghosts}
 use Rattle.keys.proofs.PairLemmas.{pairs_of-few, slots-few, teams-few}
 
@@ -69,8 +69,9 @@ entry_count-few n (Se1 teams min) ready = pairs_of-few n teams ready.at_most (ar
 -- a value that says of its entries what a constraint's class says is its rule
 pub IsRuleOf-made : {R : Type 0} (E : Ghosts R) (n : ℕ) (class other : Class) (rule : R) → class ≡ other → n ≤ 40 → IsTrue (class_fits n other)
     → E.team_count rule ≡ n → E.term_count rule ≡ entry_count class → E.reach_of rule ≡ most_touched class
-    → ((k : ℕ) (m : Counts) → E.entry rule k m ≡ entry_of n m class k) → ((g : Game) → E.touches rule g ≡ touched_keys class g) → IsRuleOf E n other rule
-IsRuleOf-made E n class other rule same at_most fits teams terms reach entries touches =
+    → ((k : ℕ) (m : Counts) → E.entry rule k m ≡ entry_of n m class k) → ((g : Game) → E.touches rule g ≡ touched_keys class g)
+    → ((t : ℕ) → E.watched rule t ≡ is_watched class t) → IsRuleOf E n other rule
+IsRuleOf-made E n class other rule same at_most fits teams terms reach entries touches watched =
     let ready : IsReady n class = record { at_most = at_most; fits = subst (λ (c : Class). IsTrue (class_fits n c)) (sym same) fits } in
     subst (λ (c : Class). IsRuleOf E n c rule) same
     (record {
@@ -80,4 +81,5 @@ IsRuleOf-made E n class other rule same at_most fits teams terms reach entries t
       entries = entries;
       reach = reach;
       touches = touches;
+      watched = watched;
     })

@@ -1,12 +1,13 @@
 -- Worked examples of the keys that a game touches, so that a wrong definition does not check: each was made by hand.
-use Rattle.std.proofs.Common.{◌≡◌, ℕ, true, false, List, [], ◌∷◌, map, refl}
+use Rattle.std.proofs.Common.{◌≡◌, ℕ, Bool, true, false, List, [], ◌∷◌, map, refl}
+use Rattle.league.specs.declared.class.Class.{Class}
 use Rattle.league.specs.declared.class.Class.TheVariants.{Ca1, Ca2, Ca3, Ca4, Ga1, Br1, Br2, Fa2, Se1}
 use Rattle.league.specs.declared.class.Side.{Side}
 use Rattle.league.specs.declared.class.Side.TheVariants.{H, A, Both}
 use Rattle.league.specs.declared.class.Span.TheVariants.{Global, Every}
 use Rattle.league.specs.declared.game.Game.{Game}
 use Rattle.league.proofs.DoubleFour.{game}
-use Rattle.rule_core.specs.Touched.{can_break, most_touched, touched_keys}
+use Rattle.rule_core.specs.Touched.{can_break, is_watched, most_touched, touched_keys}
 
 -- ---- capacity: where teams count
 
@@ -153,3 +154,31 @@ pub most_touched-each : map most_touched
     ∷ Se1 teams 1
     ∷ []) ≡ 1 ∷ 2 ∷ 2 ∷ 1 ∷ 1 ∷ 2 ∷ 1 ∷ 2 ∷ 0 ∷ 1 ∷ []
 most_touched-each = refl
+
+-- ---- whose games
+
+-- of the teams 0 to 3
+abbrev watched_of : Class → List Bool
+watched_of class = map (is_watched class) (0 ∷ 1 ∷ 2 ∷ 3 ∷ [])
+
+abbrev one_and_three : List Bool
+one_and_three = false ∷ true ∷ false ∷ true ∷ []
+
+-- the teams are 1 and 3: on no side is 2 watched, who is one of the others alone
+pub is_watched-against : map watched_of
+    (Ca2 teams others 0 1 H slots ∷ Ca2 teams others 0 1 A slots ∷ Ca3 teams others 0 1 3 Both ∷ Ca4 teams others 0 1 A Every slots ∷ [])
+    ≡ one_and_three ∷ one_and_three ∷ one_and_three ∷ one_and_three ∷ []
+is_watched-against = refl
+
+pub is_watched-of_teams : map watched_of
+    (Ca1 teams 0 1 A slots ∷ Br1 teams 1 H slots ∷ Br2 teams 1 slots ∷ Fa2 teams 1 slots ∷ Se1 teams 1 ∷ [])
+    ≡ one_and_three ∷ one_and_three ∷ one_and_three ∷ one_and_three ∷ one_and_three ∷ []
+is_watched-of_teams = refl
+
+-- 1 at home to 0 and to 3: 1 alone, since each game of these meetings is one of its own
+pub is_watched-of_meetings : watched_of (Ga1 ((1, 0) ∷ (1, 3) ∷ []) 1 1 slots) ≡ false ∷ true ∷ false ∷ false ∷ []
+is_watched-of_meetings = refl
+
+-- of no teams and of no meetings none
+pub is_watched-none : (watched_of (Ca1 [] 0 1 A slots) ≡ watched_of (Ga1 [] 1 1 slots)) × (watched_of (Ga1 [] 1 1 slots) ≡ false ∷ false ∷ false ∷ false ∷ [])
+is_watched-none = (refl, refl)

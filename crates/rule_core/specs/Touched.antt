@@ -1,4 +1,4 @@
--- Which entries of a constraint one game can change, by class, and how many at most (own).
+-- Which entries of a constraint one game can change, by class, how many at most, and which teams' games can (own).
 use Rattle.std.specs.Prelude.{ℕ, ◌+◌, ◌-◌, Bool, ◌&&◌, ◌||◌, ◌==◌, nat_le, if◌then◌else◌, List, [], ◌∷◌, length}
 use Rattle.std.specs.List.{list_any}
 use Rattle.league.specs.Capacity.{is_between}
@@ -59,3 +59,20 @@ most_touched (Br1 teams intp side slots) = 2
 most_touched (Br2 teams intp slots) = 1
 most_touched (Fa2 teams intp slots) = length teams - 1
 most_touched (Se1 teams min) = 1
+
+-- whether team t is at home in one of these meetings
+abbrev pub is_host : List (ℕ × ℕ) → ℕ → Bool
+is_host meetings t = list_any (λ p. p.0 == t) meetings
+
+-- whether team t is one of those in whose games alone an entry can change: the teams of the constraint, those of them
+-- whose games it counts against others, or the home teams of its meetings
+abbrev pub is_watched : Class → ℕ → Bool
+is_watched (Ca1 teams min max side slots) t = is_in t teams
+is_watched (Ca2 teams1 teams2 min max side slots) t = is_in t teams1
+is_watched (Ca3 teams1 teams2 min max intp side) t = is_in t teams1
+is_watched (Ca4 teams1 teams2 min max side span slots) t = is_in t teams1
+is_watched (Ga1 meetings min max slots) t = is_host meetings t
+is_watched (Br1 teams intp side slots) t = is_in t teams
+is_watched (Br2 teams intp slots) t = is_in t teams
+is_watched (Fa2 teams intp slots) t = is_in t teams
+is_watched (Se1 teams min) t = is_in t teams

@@ -1,5 +1,6 @@
 //! What a constraint's class is, once it is made ready for evaluation.
-ghost use Rattle.std.specs.Prelude.{◌≡◌, ◌<◌, ◌≤◌, ◌+◌, ◌++◌, ℕ, List, length, map, Contains, vec_capacity, vec_len};
+ghost use Rattle.std.specs.Prelude.{◌≡◌, ◌<◌, ◌≤◌, ◌+◌, ◌++◌, ℕ, Bool, false, List, [], length, map, Contains};
+ghost use Rattle.std.specs.Prelude.{vec_capacity, vec_len};
 ghost use Rattle.std.specs.List.{All, range_with_len};
 ghost use Rattle.std.specs.List.Sorted.{IsStrictlyIncreasing};
 ghost use Rattle.league.specs.Counts.{Counts, one_more};
@@ -9,7 +10,7 @@ ghost use Rattle.cells.specs.Table.{table_counts};
 
 use cells::Cells;
 use keys::Keys;
-use league::Game;
+use league::{Game, TeamId};
 use steps::Steps;
 
 /// The entries of a constraint's deviation vector, and which of them a game can change. No call takes memory.
@@ -26,6 +27,8 @@ pub trait Entries: Drop {
     ghost entry: { Self → ℕ → Counts → ℕ };
 
     ghost touches: { Self → Game → List ℕ };
+
+    ghost watched: { Self → ℕ → Bool };
 
     /// The number of teams of the league.
     fn teams(&self) -> u16
@@ -46,6 +49,11 @@ pub trait Entries: Drop {
         ensures room { keys.new.room ≡ keys.old.room }
         ensures list { keys.new.list ≡ keys.old.list ++ touches self.now game };
 
+    /// Whether a team is watched: a game of two teams that aren't can change no entry.
+    fn watches(&self, team: TeamId) -> bool
+        requires team { team.0 < team_count self.now }
+        ensures { result ≡ watched self.now team.0 };
+
     ghost few: { (r : Self) (g : Game) → IsGame (team_count r) g → length (touches r g) ≤ reach_of r };
 
     ghost below: { (r : Self) (g : Game) → IsGame (team_count r) g → All (λ k. k < term_count r) (touches r g) };
@@ -54,6 +62,9 @@ pub trait Entries: Drop {
 
     ghost frame: { (r : Self) (g : Game) (m : Counts) (k : ℕ) → IsGame (team_count r) g → k < term_count r
         → (Contains (touches r g) k → ⊥) → entry r k (one_more m g) ≡ entry r k m };
+
+    ghost quiet: { (r : Self) (g : Game) → IsGame (team_count r) g → watched r g.home.0 ≡ false
+        → watched r g.away.0 ≡ false → touches r g ≡ [] };
 }
 
 /// Entries that can be evaluated, each at the price of one step in the ledger `L`.

@@ -1,15 +1,17 @@
 -- What kept rules cost: that it fits, how it follows one rule's change, and that it is what is counted afresh.
 use Rattle.std.proofs.Common.{◌≡◌, ℕ, ◌+◌, ◌*◌, ◌^◌, ◌<◌, ◌≤◌, Bool, true, false, not, if◌then◌else◌, List, [], ◌∷◌, length, map, get_or, set, take, refl, ap, subst, sym, ◌∙◌, arith}
-use Rattle.std.proofs.lemmas.List.{map-set, set-get_or}
+use Rattle.std.proofs.lemmas.List.{map-set, set-get_or, take_all}
 use Rattle.std.proofs.lemmas.List.Elements.{All-head, All-set, All-tail}
-use Rattle.std.proofs.lemmas.List.Sums.{sum_by-cons, sum_by-set, sum_by_more}
+use Rattle.std.proofs.lemmas.List.Sums.{sum_by-cons, sum_by-set, sum_by-take-le, sum_by_more}
 use Rattle.std.specs.List.{All, filter, sum, sum_by}
 use Rattle.league.specs.Counts.{Counts}
 use Rattle.rule_core.specs.declared.rule.Entries.{Ghosts}
 use Rattle.keys.specs.Keys.{KeyList}
 use Rattle.cells.specs.Table.{Table, table_counts}
+use Rattle.tally.specs.ByTeam.{GameRoom}
 use Rattle.tally.specs.Ready.{AreReady, IsExact, IsReady, IsTallied, hard_cost, soft_cost}
-use Rattle.tally.specs.Tallies.{cost_on, infeasibility_on, objective_on, vector_on}
+use Rattle.tally.specs.Tallies.{cost_on, infeasibility_on, objective_on}
+use Rattle.tally.specs.Weighing.{if_kind, is_kind}
 use Rattle.tally.specs.declared.kept.Kept.{Kept}
 use Rattle.tally.specs.declared.weigh.Sums.{Sums}
 use Rattle.tally.specs.declared.weighted.Weighted.{Weighted}
@@ -20,6 +22,10 @@ product_fits p d len small fits =
     let a : p ≤ 2 ^ 32 = omega arith in
     let b : p * d ≤ 2 ^ 32 * (2 ^ 64 * len) = mul-le-mul a fits in
     omega (arith, b)
+
+either : (b : Bool) (x : ℕ) → (if b then x else 0) + (if b then 0 else x) ≡ x
+either true x = omega arith
+either false x = omega arith
 
 if_le : (b : Bool) (x y : ℕ) → x ≤ y → (if b then x else 0) ≤ y
 if_le true x y h = h
@@ -96,30 +102,33 @@ soft_counted {R} E n room m (k ∷ rules) ready exact =
 
 -- ---- rules weighed on other counts than those of their entries
 
--- what a hard rule costs on some counts, and 0 for a soft one
-abbrev pub hard_on : {R : Type 0} → Ghosts R → Counts → Weighted R → ℕ
-hard_on E m w = if w.hard then cost_on E m w else 0
+-- a number of the rules of a kind, summed
+pub kind_summed : {R : Type 0} (kind : Bool) (f : Weighted R → ℕ) (rules : List (Kept R))
+    → sum_by (λ k. if_kind kind f k.weighted) rules
+    ≡ sum_by f (filter (λ w. is_kind kind w.hard) (map (λ k. k.weighted) rules))
+kind_summed kind f [] = refl
+kind_summed {R} kind f (k ∷ rules) =
+    sum_by-cons (λ (k : Kept R). if_kind kind f k.weighted) k rules
+    ∙ hard_step (is_kind kind k.weighted.hard) (f k.weighted) (sum_by (λ (k : Kept R). if_kind kind f k.weighted) rules)
+    f k.weighted (filter (λ w. is_kind kind w.hard) (map (λ (k : Kept R). k.weighted) rules)) refl
+    (kind_summed kind f rules)
 
--- what a soft rule costs on some counts, and 0 for a hard one
-abbrev pub soft_on : {R : Type 0} → Ghosts R → Counts → Weighted R → ℕ
-soft_on E m w = if w.hard then 0 else cost_on E m w
-
-pub hard_weighed : {R : Type 0} (E : Ghosts R) (m : Counts) (rules : List (Kept R))
-    → sum_by (λ k. hard_on E m k.weighted) rules ≡ infeasibility_on E m (map (λ k. k.weighted) rules)
-hard_weighed E m [] = refl
-hard_weighed {R} E m (k ∷ rules) =
-    sum_by-cons (λ (k : Kept R). hard_on E m k.weighted) k rules
-    ∙ hard_step k.weighted.hard (cost_on E m k.weighted) (sum_by (λ (k : Kept R). hard_on E m k.weighted) rules)
-    (cost_on E m) k.weighted (filter (λ w. w.hard) (map (λ (k : Kept R). k.weighted) rules)) refl (hard_weighed E m rules)
-
-pub soft_weighed : {R : Type 0} (E : Ghosts R) (m : Counts) (rules : List (Kept R))
-    → sum_by (λ k. soft_on E m k.weighted) rules ≡ objective_on E m (map (λ k. k.weighted) rules)
-soft_weighed E m [] = refl
-soft_weighed {R} E m (k ∷ rules) =
-    sum_by-cons (λ (k : Kept R). soft_on E m k.weighted) k rules
-    ∙ soft_step k.weighted.hard (cost_on E m k.weighted) (sum_by (λ (k : Kept R). soft_on E m k.weighted) rules)
-    (cost_on E m) k.weighted (filter (λ w. not w.hard) (map (λ (k : Kept R). k.weighted) rules)) refl
-    (soft_weighed E m rules)
+-- both kinds are all
+pub both_kinds : {R : Type 0} (f : Weighted R → ℕ) (weights : List (Weighted R))
+    → sum_by f (filter (λ w. is_kind true w.hard) weights) + sum_by f (filter (λ w. is_kind false w.hard) weights)
+    ≡ sum_by f weights
+both_kinds f [] = refl
+both_kinds {R} f (w ∷ weights) =
+    omega (
+      arith,
+      sum_by-cons f w weights,
+      hard_step w.hard (f w) (sum_by f (filter (λ w. is_kind true w.hard) weights)) f w
+          (filter (λ w. is_kind true w.hard) weights) refl refl,
+      soft_step w.hard (f w) (sum_by f (filter (λ w. is_kind false w.hard) weights)) f w
+          (filter (λ w. is_kind false w.hard) weights) refl refl,
+      either w.hard (f w),
+      both_kinds f weights,
+    )
 
 -- the next of some rules is ready
 pub item_ready : {R : Type 0} (E : Ghosts R) (n room room_now : ℕ) (rules : List (Kept R)) (i : ℕ) (x : Kept R)
@@ -134,80 +143,68 @@ pub cost_small : {R : Type 0} (E : Ghosts R) (n room : ℕ) (x : Kept R) (deviat
 cost_small E n room x deviation ready small =
     product_fits x.weighted.penalty deviation (length x.vector.items) ready.penalty_fits small
 
--- a sum of what hard rules cost with that of the next
-pub hard_small_more : {R : Type 0} (rules : List (Kept R)) (i before after cost : ℕ) (x : Kept R) → i < length rules
+-- a sum of what rules cost with that of the next
+pub small_more : {R : Type 0} (rules : List (Kept R)) (i before after cost : ℕ) (x : Kept R) → i < length rules
     → x ≡ get_or rules i x → cost ≤ 2 ^ 96 * length x.vector.items
-    → before ≤ 2 ^ 96 * sum_by (λ k. length k.vector.items) (take i rules)
-    → after ≡ before + (if x.weighted.hard then cost else 0)
+    → before ≤ 2 ^ 96 * sum_by (λ k. length k.vector.items) (take i rules) → after ≡ before + cost
     → after ≤ 2 ^ 96 * sum_by (λ k. length k.vector.items) (take (i + 1) rules)
-hard_small_more {R} rules i before after cost x within is small so_far more =
+small_more {R} rules i before after cost x within is small so_far more =
     omega (
       arith,
       so_far,
       more,
-      if_le x.weighted.hard cost (2 ^ 96 * length x.vector.items) small,
+      small,
       sum_by_more (λ (k : Kept R). length k.vector.items) rules i x within,
       ap (λ (k : Kept R). length k.vector.items) is,
     )
 
-pub soft_small_more : {R : Type 0} (rules : List (Kept R)) (i before after cost : ℕ) (x : Kept R) → i < length rules
-    → x ≡ get_or rules i x → cost ≤ 2 ^ 96 * length x.vector.items
-    → before ≤ 2 ^ 96 * sum_by (λ k. length k.vector.items) (take i rules)
-    → after ≡ before + (if x.weighted.hard then 0 else cost)
-    → after ≤ 2 ^ 96 * sum_by (λ k. length k.vector.items) (take (i + 1) rules)
-soft_small_more {R} rules i before after cost x within is small so_far more =
+-- a number of the rules of a kind with that of the next
+pub kind_more : {R : Type 0} (kind : Bool) (f : Weighted R → ℕ) (rules : List (Kept R)) (i before after more : ℕ)
+    (x : Kept R) → i < length rules → x ≡ get_or rules i x → more ≡ if_kind kind f x.weighted
+    → before ≡ sum_by (λ k. if_kind kind f k.weighted) (take i rules) → after ≡ before + more
+    → after ≡ sum_by (λ k. if_kind kind f k.weighted) (take (i + 1) rules)
+kind_more {R} kind f rules i before after more x within is this so_far adds =
     omega (
       arith,
       so_far,
-      more,
-      else_le x.weighted.hard cost (2 ^ 96 * length x.vector.items) small,
-      sum_by_more (λ (k : Kept R). length k.vector.items) rules i x within,
-      ap (λ (k : Kept R). length k.vector.items) is,
+      adds,
+      this,
+      sum_by_more (λ (k : Kept R). if_kind kind f k.weighted) rules i x within,
+      ap (λ (k : Kept R). if_kind kind f k.weighted) is,
     )
 
--- and that it is what is counted afresh
-pub hard_more : {R : Type 0} (E : Ghosts R) (m : Counts) (rules : List (Kept R)) (i before after deviation : ℕ)
-    (x : Kept R) → i < length rules → x ≡ get_or rules i x → deviation ≡ sum (vector_on E m x.weighted.rule)
-    → before ≡ sum_by (λ k. hard_on E m k.weighted) (take i rules)
-    → after ≡ before + (if x.weighted.hard then x.weighted.penalty * deviation else 0)
-    → after ≡ sum_by (λ k. hard_on E m k.weighted) (take (i + 1) rules)
-hard_more {R} E m rules i before after deviation x within is exact so_far more =
-    let cost : (if x.weighted.hard then x.weighted.penalty * deviation else 0) ≡ hard_on E m x.weighted =
-    ap (λ (d : ℕ). if x.weighted.hard then x.weighted.penalty * d else 0) exact in
+-- that of some of them is at most that of all
+pub kind_part : {R : Type 0} (kind : Bool) (f : Weighted R → ℕ) (rules : List (Kept R)) (i part : ℕ)
+    → part ≡ sum_by (λ k. if_kind kind f k.weighted) (take i rules)
+    → part ≤ sum_by f (filter (λ w. is_kind kind w.hard) (map (λ k. k.weighted) rules))
+kind_part {R} kind f rules i part is =
     omega (
       arith,
-      so_far,
-      more,
-      cost,
-      sum_by_more (λ (k : Kept R). hard_on E m k.weighted) rules i x within,
-      ap (λ (k : Kept R). hard_on E m k.weighted) is,
+      is,
+      sum_by-take-le (λ (k : Kept R). if_kind kind f k.weighted) rules i,
+      kind_summed kind f rules,
     )
 
-pub soft_more : {R : Type 0} (E : Ghosts R) (m : Counts) (rules : List (Kept R)) (i before after deviation : ℕ)
-    (x : Kept R) → i < length rules → x ≡ get_or rules i x → deviation ≡ sum (vector_on E m x.weighted.rule)
-    → before ≡ sum_by (λ k. soft_on E m k.weighted) (take i rules)
-    → after ≡ before + (if x.weighted.hard then 0 else x.weighted.penalty * deviation)
-    → after ≡ sum_by (λ k. soft_on E m k.weighted) (take (i + 1) rules)
-soft_more {R} E m rules i before after deviation x within is exact so_far more =
-    let cost : (if x.weighted.hard then 0 else x.weighted.penalty * deviation) ≡ soft_on E m x.weighted =
-    ap (λ (d : ℕ). if x.weighted.hard then 0 else x.weighted.penalty * d) exact in
-    omega (
-      arith,
-      so_far,
-      more,
-      cost,
-      sum_by_more (λ (k : Kept R). soft_on E m k.weighted) rules i x within,
-      ap (λ (k : Kept R). soft_on E m k.weighted) is,
-    )
+-- and with no rule left it is that of all
+pub kind_whole : {R : Type 0} (kind : Bool) (f : Weighted R → ℕ) (rules : List (Kept R)) (i whole : ℕ)
+    → length rules ≤ i → whole ≡ sum_by (λ k. if_kind kind f k.weighted) (take i rules)
+    → whole ≡ sum_by f (filter (λ w. is_kind kind w.hard) (map (λ k. k.weighted) rules))
+kind_whole {R} kind f rules i whole past is =
+    is
+    ∙ ap (λ (l : List (Kept R)). sum_by (λ k. if_kind kind f k.weighted) l) (take_all i rules past)
+    ∙ kind_summed kind f rules
 
 -- nothing has changed but the counts' representation
-pub tallied-kept : {R : Type 0} (E : Ghosts R) (rules : List (Kept R)) (table now : Table) (keys_room room : ℕ)
-    (done done_now : KeyList) (sums : Sums) → IsTallied E rules table keys_room done sums → now.n ≡ table.n
-    → table_counts now ≡ table_counts table → room ≡ keys_room → done_now ≡ done
-    → IsTallied E rules now room done_now sums
-tallied-kept E rules table now keys_room room done done_now sums is n counts same_room same_done = record {
+pub tallied-kept : {R : Type 0} (E : Ghosts R) (rules : List (Kept R)) (table now : Table)
+    (by_team by_team_now : List GameRoom) (keys_room room : ℕ) (done done_now : KeyList) (sums : Sums)
+    → IsTallied E rules table by_team keys_room done sums → now.n ≡ table.n → table_counts now ≡ table_counts table
+    → length by_team_now ≡ table.n → All (λ l. 8 * table.n ≤ l.room) by_team_now → room ≡ keys_room → done_now ≡ done
+    → IsTallied E rules now by_team_now room done_now sums
+tallied-kept E rules table now by_team by_team_now keys_room room done done_now sums is n counts teams lists same_room same_done = record {
   ready = subst (λ (k : ℕ). AreReady E k room done_now rules sums) (sym n)
       (subst (λ (k : ℕ). AreReady E table.n k done_now rules sums) (sym same_room)
       (subst (λ (d : KeyList). AreReady E table.n keys_room d rules sums) (sym same_done) is.ready));
+  teams = teams ∙ sym n;
+  room = subst (λ (k : ℕ). All (λ (l : GameRoom). 8 * k ≤ l.room) by_team_now) (sym n) lists;
   exact = subst (λ (m : Counts). All (IsExact E m) rules) (sym counts) is.exact;
 }

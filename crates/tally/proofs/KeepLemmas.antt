@@ -1,9 +1,11 @@
 -- Rules that are made ready one after another.
-use Rattle.std.proofs.Common.{◌≡◌, ℕ, ◌+◌, ◌^◌, ◌<◌, ◌≤◌, List, [], ◌∷◌, ◌++◌, length, map, get_or, take, refl, ap, subst, sym, ◌∙◌, arith}
+use Rattle.std.proofs.Common.{◌≡◌, ℕ, ◌+◌, ◌^◌, ◌<◌, ◌≤◌, Bool, true, false, inl, inr, List, [], ◌∷◌, ◌++◌, length, map, get_or, take, refl, ap, subst, sym, ◌∙◌, arith}
 use Rattle.std.proofs.lemmas.List.{append_assoc, take_more}
-use Rattle.std.proofs.lemmas.List.Elements.{All-cons, All-head, All-push, All-tail}
+use Rattle.std.proofs.lemmas.Bool.{cases_eq, false≢true}
+use Rattle.std.proofs.lemmas.List.Elements.{All-cons, All-head, All-push, All-tail, Contains-append_left, Contains-push}
 use Rattle.std.proofs.lemmas.List.Sums.{sum_by-cons, sum_by_push}
-use Rattle.std.specs.List.{All, sum_by}
+use Rattle.std.specs.List.{All, Contains, sum_by}
+use Rattle.league.specs.declared.game.TeamId.{TeamId}
 use Rattle.rule_core.specs.declared.rule.Entries.{Ghosts}
 use Rattle.tally.specs.Ready.{IsReady}
 use Rattle.tally.specs.Tallies.{all_terms}
@@ -63,3 +65,28 @@ terms_next {R} E kept after k x start before now so_far is more steps =
 -- few entries are kept
 pub few_kept : {R : Type 0} (E : Ghosts R) (n room : ℕ) (kept : List (Kept R)) (rules : List (Weighted R)) → All (IsReady E n room) kept → map (λ k. k.weighted) kept ≡ rules → all_terms E rules < 2 ^ 31 → sum_by (λ k. length k.vector.items) kept < 2 ^ 31
 few_kept {R} E n room kept rules ready weights few = subst (λ (t : ℕ). t < 2 ^ 31) (sym (kept_terms E n room kept ready ∙ ap (λ (l : List (Weighted R)). all_terms E l) weights)) few
+
+-- ---- the teams that a rule watches, found one after another
+
+-- a team that isn't watched is left out
+pub watched_skip : (watched : ℕ → Bool) (teams : List TeamId) (i : ℕ)
+    → ((t : ℕ) → t < i → watched t ≡ true → Contains teams (record { 0 = t })) → watched i ≡ false
+    → (t : ℕ) → t < i + 1 → watched t ≡ true → Contains teams (record { 0 = t })
+watched_skip watched teams i so_far unseen t below seen =
+    elim (cases_eq t i) as (λ _. Contains teams (record { 0 = t })) [
+      | inl same ↦ absurd (false≢true (sym unseen ∙ ap watched (sym same) ∙ seen))
+      | inr other ↦ so_far t (omega (arith, below, other)) seen
+    ]
+
+-- and one that is watched comes last
+pub watched_push : (watched : ℕ → Bool) (teams : List TeamId) (i : ℕ)
+    → ((t : ℕ) → t < i → watched t ≡ true → Contains teams (record { 0 = t }))
+    → (t : ℕ) → t < i + 1 → watched t ≡ true → Contains (teams ++ (record { 0 = i }) ∷ []) (record { 0 = t })
+watched_push watched teams i so_far t below seen =
+    let team : TeamId = record { 0 = i } in
+    elim (cases_eq t i) as (λ _. Contains (teams ++ team ∷ []) (record { 0 = t })) [
+      | inl same ↦
+          subst (λ (k : ℕ). Contains (teams ++ team ∷ []) (record { 0 = k })) (sym same) (Contains-push teams team)
+      | inr other ↦
+          Contains-append_left teams (team ∷ []) (record { 0 = t }) (so_far t (omega (arith, below, other)) seen)
+    ]

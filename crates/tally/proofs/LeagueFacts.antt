@@ -11,7 +11,7 @@ use Rattle.league.specs.declared.class.Side.TheVariants.{A, H}
 use Rattle.league.proofs.DoubleFour.{all_teams, four}
 use Rattle.rule_core.specs.Ready.{entry_count}
 use Rattle.rule_core.specs.Rule.{IsRuleOf}
-use Rattle.rule_core.specs.Touched.{most_touched, touched_keys}
+use Rattle.rule_core.specs.Touched.{is_watched, most_touched, touched_keys}
 use Rattle.rule_core.specs.declared.rule.Entries.{Ghosts}
 use Rattle.tally.specs.League.{AreRulesOf, hard_sum, price_of}
 use Rattle.tally.specs.Tallies.{infeasibility_on, objective_on}
@@ -59,10 +59,10 @@ hard_sum-twenty = refl
 
 -- classes that are their own rules
 abbrev itself : Ghosts Class
-itself = record { team_count = λ class. 4; term_count = entry_count; reach_of = most_touched; entry = λ class k m. entry_of 4 m class k; touches = touched_keys }
+itself = record { team_count = λ class. 4; term_count = entry_count; reach_of = most_touched; entry = λ class k m. entry_of 4 m class k; touches = touched_keys; watched = is_watched }
 
 is_rule : (class : Class) → ((m : Counts) → entry_count class ≡ length (vector_of 4 m class)) → entry_count class ≤ 1600 → IsRuleOf itself 4 class class
-is_rule class terms short = record { teams = refl; terms = terms; short = short; entries = λ k m. refl; reach = refl; touches = λ g. refl }
+is_rule class terms short = record { teams = refl; terms = terms; short = short; entries = λ k m. refl; reach = refl; touches = λ g. refl; watched = λ t. refl }
 
 -- the rules of the three, where the first costs so much a unit
 abbrev rules : ℕ → List (Weighted Class)

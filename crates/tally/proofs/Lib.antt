@@ -1,5 +1,6 @@
 pub mod SetLemmas
 pub mod RenewalLemmas
+pub mod ByTeamLemmas
 pub mod WeighingLemmas
 pub mod FrameLemmas
 pub mod ExchangeLemmas

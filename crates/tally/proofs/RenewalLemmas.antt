@@ -30,6 +30,16 @@ renewal-append f xs ys d₀ d₁ d₂ e₀ e₁ e₂ s₀ s₁ s₂ a b = record
   count = omega (arith, a.count, b.count);
 }
 
+-- the same keys in another list
+pub renewal-same : (f : ℕ → ℕ) (xs ys d₀ d₁ e₀ e₁ : List ℕ) (s₀ s₁ : ℕ) → ((k : ℕ) → is_in xs k ≡ is_in ys k)
+    → IsRenewal f xs d₀ d₁ e₀ e₁ s₀ s₁ → IsRenewal f ys d₀ d₁ e₀ e₁ s₀ s₁
+renewal-same f xs ys d₀ d₁ e₀ e₁ s₀ s₁ same are = record {
+  long = are.long;
+  keys = λ k. are.keys k ∙ ap (λ (t : Bool). is_in d₀ k || t) (same k);
+  renewed = are.renewed;
+  count = are.count;
+}
+
 same_done : (done : List ℕ) (key k : ℕ) → is_in done key ≡ true → is_in done k ≡ (is_in done k || is_in (key ∷ []) k)
 same_done done key k there = elim (cases_eq k key) as (λ _. is_in done k ≡ (is_in done k || is_in (key ∷ []) k)) [
   | inl same ↦ ap (λ (i : ℕ). is_in done i) same ∙ there ∙ sym (or_right (is_in done k) (is_in (key ∷ []) k) (one_has key k same))
@@ -99,6 +109,12 @@ touched_more touches games i within = ap (λ (l : List Game). flat_map touches l
 pub flat_map-append : (touches : Game → List ℕ) (xs ys : List Game) → flat_map touches (xs ++ ys) ≡ flat_map touches xs ++ flat_map touches ys
 flat_map-append touches [] ys = refl
 flat_map-append touches (x ∷ xs) ys = ap (λ (l : List ℕ). touches x ++ l) (flat_map-append touches xs ys) ∙ sym (append_assoc (touches x) (flat_map touches xs) (flat_map touches ys))
+
+-- the keys of the lists so far, and those of the next one
+pub keys_of_more : {X : Type 0} (f : X → List ℕ) (xs : List X) (i : ℕ) (d : X) → i < length xs
+    → flat_map f (take (i + 1) xs) ≡ flat_map f (take i xs) ++ f (get_or xs i d)
+keys_of_more {X} f xs i d within =
+    ap (λ (l : List X). flat_map f l) (take_more xs i d within) ∙ sym (flat_map_more f [] (take i xs) (get_or xs i d))
 
 -- from nothing done, each different key cost a step
 pub renewal-steps : (f : ℕ → ℕ) (touched done done_after entries entries_after : List ℕ) (steps steps_after : ℕ) → IsRenewal f touched done done_after entries entries_after steps steps_after → done ≡ [] → IsDistinct eqb done_after → steps_after ≡ steps + distinct_count eqb touched

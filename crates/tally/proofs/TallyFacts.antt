@@ -9,7 +9,7 @@ use Rattle.tally.specs.Tallies.{all_terms, all_touched, infeasibility_on, object
 use Rattle.tally.specs.declared.weighted.Weighted.{Weighted}
 
 abbrev worked : Ghosts ℕ
-worked = record { team_count = λ r. 4; term_count = λ r. r; reach_of = λ r. 2; entry = λ r k m. k + m 0 1 0; touches = λ r g. 0 ∷ g.slot.0 ∷ [] }
+worked = record { team_count = λ r. 4; term_count = λ r. r; reach_of = λ r. 2; entry = λ r k m. k + m 0 1 0; touches = λ r g. 0 ∷ g.slot.0 ∷ []; watched = λ r t. true }
 
 abbrev ones : Counts
 ones i j s = 1

@@ -3,6 +3,7 @@ pub mod Tallies
 pub mod League
 -- Kept inside (laws, and how fields are seen):
 pub mod KeySet
+pub mod ByTeam
 pub mod Renewal
 pub mod Weighing
 pub mod Ready

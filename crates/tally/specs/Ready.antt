@@ -1,17 +1,25 @@
 -- Rules with their kept entries, and what they cost.
-use Rattle.std.specs.Prelude.{◌≡◌, ℕ, ◌*◌, ◌^◌, ◌<◌, ◌≤◌, if◌then◌else◌, List, [], length}
-use Rattle.std.specs.List.{All, sum, sum_by}
+use Rattle.std.specs.Prelude.{◌≡◌, ℕ, ◌*◌, ◌^◌, ◌<◌, ◌≤◌, true, if◌then◌else◌, List, [], length}
+use Rattle.std.specs.List.{All, Contains, sum, sum_by}
 use Rattle.league.specs.Counts.{Counts}
+use Rattle.league.specs.declared.game.TeamId.{TeamId}
 use Rattle.rule_core.specs.declared.rule.Entries.{Ghosts}
+use Rattle.tally.specs.ByTeam.{GameRoom}
 use Rattle.tally.specs.Tallies.{vector_on}
 use Rattle.cells.specs.Table.{Table, table_counts}
 use Rattle.keys.specs.Keys.{KeyList}
 use Rattle.tally.specs.declared.kept.Kept.{Kept}
 use Rattle.tally.specs.declared.weigh.Sums.{Sums}
 
--- a rule of a league of n teams whose keys have room, with the sum of its entries
+-- each team that a rule watches is one of these
+abbrev pub HasWatched : {R : Type 0} → Ghosts R → R → List TeamId → Type 0
+HasWatched E rule teams = (t : ℕ) → t < E.team_count rule → E.watched rule t ≡ true → Contains teams (record { 0 = t })
+
+-- a rule of a league of n teams whose keys have room, with the teams that it watches and the sum of its entries
 pub record IsReady {R : Type 0} (E : Ghosts R) (n room : ℕ) (k : Kept R) : Type 0 where
   pub teams : n ≡ E.team_count k.weighted.rule
+  pub of_league : All (λ t. t.0 < n) k.watched.items
+  pub watches : HasWatched E k.weighted.rule k.watched.items
   pub terms : length k.vector.items ≡ E.term_count k.weighted.rule
   pub sum_is : k.deviation ≡ sum k.vector.items
   pub small : k.deviation ≤ 2 ^ 64 * length k.vector.items
@@ -41,8 +49,10 @@ pub record AreReady {R : Type 0} (E : Ghosts R) (n keys_room : ℕ) (done : KeyL
   pub infeasibility : sums.infeasibility ≡ sum_by hard_cost rules
   pub objective : sums.objective ≡ sum_by soft_cost rules
 
--- and their entries are those on the counts
-pub record IsTallied {R : Type 0} (E : Ghosts R) (rules : List (Kept R)) (table : Table) (keys_room : ℕ)
-    (done : KeyList) (sums : Sums) : Type 0 where
+-- and their entries are those on the counts; and there is a list of games for each team
+pub record IsTallied {R : Type 0} (E : Ghosts R) (rules : List (Kept R)) (table : Table) (by_team : List GameRoom)
+    (keys_room : ℕ) (done : KeyList) (sums : Sums) : Type 0 where
   pub ready : AreReady E table.n keys_room done rules sums
+  pub teams : length by_team ≡ table.n
+  pub room : All (λ l. 8 * table.n ≤ l.room) by_team
   pub exact : All (IsExact E (table_counts table)) rules

@@ -1,11 +1,12 @@
 -- What rules give and cost on some counts, counted afresh.
-use Rattle.std.specs.Prelude.{ℕ, ◌+◌, ◌*◌, not, eqb, List, map}
+use Rattle.std.specs.Prelude.{ℕ, ◌+◌, ◌-◌, ◌*◌, ◌^◌, ◌<◌, ◌≤◌, not, eqb, List, map}
 use Rattle.std.specs.List.{filter, flat_map, range_with_len, sum, sum_by}
 use Rattle.std.specs.Set.{distinct_count}
 use Rattle.league.specs.Counts.{Counts, counts_of}
 use Rattle.league.specs.declared.game.Game.{Game}
 use Rattle.rule_core.specs.declared.rule.Entries.{Ghosts}
 use Rattle.cells.specs.Table.{Table}
+use Rattle.tally.specs.declared.weigh.Sums.{Sums}
 use Rattle.tally.specs.declared.weighted.Weighted.{Weighted}
 
 -- weighted rules, and a table of counts
@@ -28,6 +29,15 @@ infeasibility_on E m weights = sum_by (cost_on E m) (filter (λ w. w.hard) weigh
 -- what the soft rules cost
 abbrev pub objective_on : {R : Type 0} → Ghosts R → Counts → List (Weighted R) → ℕ
 objective_on E m weights = sum_by (cost_on E m) (filter (λ w. not w.hard) weights)
+
+-- a number is at most a bound; the greatest number of 128 bits is no bound
+abbrev pub IsAtMost : ℕ → ℕ → Type 0
+IsAtMost bound number = bound < 2 ^ 128 - 1 → number ≤ bound
+
+-- what the rules cost is at most these bounds
+pub record IsWithin {R : Type 0} (E : Ghosts R) (most : Sums) (m : Counts) (weights : List (Weighted R)) : Type 0 where
+  pub infeasibility : IsAtMost most.infeasibility (infeasibility_on E m weights)
+  pub objective : IsAtMost most.objective (objective_on E m weights)
 
 -- how many entries the rules have in all
 abbrev pub all_terms : {R : Type 0} → Ghosts R → List (Weighted R) → ℕ

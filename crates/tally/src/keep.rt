@@ -2,13 +2,14 @@
 ghost use Rattle.std.specs.Prelude.{◌≡◌, ◌<◌, ◌≤◌, ◌+◌, ◌*◌, ◌^◌, ℕ, length, map, IfOk};
 ghost use Rattle.std.specs.List.{All, sum_by};
 ghost use Rattle.cells.specs.Table.{table_counts};
-ghost use Rattle.tally.specs.Ready.{IsExact, IsReady, hard_cost, soft_cost};
+ghost use Rattle.tally.specs.Ready.{HasWatched, IsExact, IsReady, hard_cost, soft_cost};
 ghost use Rattle.tally.specs.Tallies.{all_terms};
 
 use crate::kept::Kept;
 use crate::weigh::Sums;
 use crate::weighted::Weighted;
 use deviation::{entries_of, total};
+use league::TeamId;
 use rule_core::{Cells, Entries, Rule, Steps};
 use std::alloc::{AllocError, Global};
 
@@ -52,15 +53,32 @@ impl<R: Entries> Kept<R> {
         ensures exact { IfOk result (λ kept. IsExact R.Entries (table_counts cells.now) kept) }
         ensures steps { steps.new ≤ steps.old + R.term_count weighted.rule }
     {
+        let watched = watched_teams(alloc, &weighted.rule)?;
         let vector = entries_of(alloc, &weighted.rule, cells, steps)?;
         let deviation = total(&vector);
         at_most_half_word(weighted.penalty);
         Ok(Kept {
             weighted,
+            watched,
             vector,
             deviation,
         })
     }
+}
+
+/// The teams that a rule watches.
+fn watched_teams<R: Entries>(alloc: Global, rule: &R) -> Result<Vec<TeamId>, AllocError>
+    ensures of_league { IfOk result (λ teams. All (λ t. t.0 < R.team_count rule.now) teams.items) }
+    ensures watched { IfOk result (λ teams. HasWatched R.Entries rule.now teams.items) }
+{
+    let mut teams = Vec::new(alloc);
+    for number in 0..rule.teams() {
+        let team = TeamId(number);
+        if rule.watches(team) {
+            teams.push(team)?;
+        }
+    }
+    Ok(teams)
 }
 
 /// The same for each of some rules.

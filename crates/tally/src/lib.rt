@@ -7,6 +7,7 @@
 //! are the league's own (`laws`).
 #![tactic(auto)]
 
+mod by_team;
 mod exchange;
 mod keep;
 mod kept;

@@ -1,12 +1,14 @@
 //! Weighted rules with their deviation vectors and costs, kept exact while games come and go.
-ghost use Rattle.std.specs.Prelude.{◌≡◌, ℕ, ◌<◌, ◌≤◌, ◌+◌, ◌++◌, ◌^◌, length, map, slice_get, Some, IfOk, OnOk};
+ghost use Rattle.std.specs.Prelude.{◌≡◌, ℕ, ◌<◌, ◌≤◌, ◌+◌, ◌++◌, ◌^◌, length, map, slice_get, Some, IfOk, IfSome, MatchOption};
 ghost use Rattle.std.specs.List.{All, sum};
 ghost use Rattle.league.specs.Counts.{Counts, counts_of};
 ghost use Rattle.league.specs.Instance.{IsGame};
 ghost use Rattle.cells.specs.Table.{table_counts};
 ghost use Rattle.moves.specs.Round.{edited};
-ghost use Rattle.tally.specs.Tallies.{all_terms, all_touched, infeasibility_on, objective_on, vector_on};
+ghost use Rattle.tally.specs.Tallies.{IsWithin, all_terms, all_touched, infeasibility_on, objective_on, vector_on};
+ghost use Rattle.tally.specs.Weighing.{AreWeighed};
 
+use crate::by_team::{GameList, list_edit, team_lists};
 use crate::exchange::exchange_games;
 use crate::keep::{costs, greatest_reach, greatest_terms, keep_rules};
 use crate::kept::Kept;
@@ -25,6 +27,7 @@ use std::marker::Model;
 pub struct Tally<R: Entries> {
     rules: Vec<Kept<R>>,
     cells: Cells,
+    by_team: Vec<GameList>,
     keys: Keys,
     done: KeySet,
     sums: Sums,
@@ -39,7 +42,7 @@ impl<R: Entries> Model for Tally<R> {
 
     ghost view = { λ t. record { weights = map (λ k. k.weighted) t.rules.items; table = t.cells } };
 
-    ghost invariant = { λ t. IsTallied R.Entries t.rules.items t.cells t.keys.room t.done t.sums };
+    ghost invariant = { λ t. IsTallied R.Entries t.rules.items t.cells t.by_team.items t.keys.room t.done t.sums };
 }
 
 impl<R: Entries> Tally<R> {
@@ -61,6 +64,7 @@ impl<R: Entries> Tally<R> {
         ensures table { IfOk result (λ tally. tally.table ≡ cells) }
         ensures steps { steps.new ≤ steps.old + all_terms R.Entries rules.items }
     {
+        let by_team = team_lists(alloc, cells.n())?;
         let keys = Keys::new(alloc, greatest_reach(&rules))?;
         let room = greatest_terms(&rules);
         let done = KeySet::new(alloc, room)?;
@@ -69,6 +73,7 @@ impl<R: Entries> Tally<R> {
         Ok(Tally {
             rules,
             cells,
+            by_team,
             keys,
             done,
             sums,
@@ -128,11 +133,13 @@ impl<R: Entries> Tally<R> {
         ensures steps { steps.new ≤ steps.old + all_touched R.Entries self.old.weights (out.now ++ into.now) }
     {
         let _few = self.cells.games();
+        let listed = list_edit(&mut self.by_team, self.cells.n(), out, into);
         exchange_games(&mut self.cells, out, into);
         renew_rules(
             &mut self.rules,
             out,
             into,
+            &self.by_team[..listed],
             &self.cells,
             &mut self.keys,
             &mut self.done,
@@ -161,11 +168,54 @@ impl<R: Entries> Tally<R> {
         ensures steps { steps.new ≤ steps.old
             + all_touched R.Entries self.old.weights (edit.now.out ++ edit.now.into) }
     {
-        self.weigh_games(edit.out(), edit.into_games(), steps)
+        let no_bound = Sums {
+            infeasibility: u128::MAX,
+            objective: u128::MAX,
+        };
+        self.weigh_games(edit.out(), edit.into_games(), no_bound, steps)
     }
 
-    /// What the rules would cost with some games taken off the counts and as many others put on.
-    fn weigh_games<L>(&mut self, out: &[Game], into: &[Game], steps: &mut Steps<L>) -> Sums
+    /// What the rules would cost after an edit, as `weigh` says, where neither number is above its bound; else nothing. A
+    /// bound of `u128::MAX` is none. The rules and the counts stay as they are. The hard rules are weighed before the soft
+    /// ones, and no further rule once a sum is above its bound. It takes no memory.
+    pub fn weigh_within<L>(&mut self, edit: &Edit, most: Sums, steps: &mut Steps<L>) -> Option<Sums>
+    where
+        R: Rule<L>,
+        requires out_fit { All (IsGame self.old.table.n) edit.now.out }
+        requires into_fit { All (IsGame self.old.table.n) edit.now.into }
+        requires there { (i j s : ℕ) → counts_of edit.now.out i j s ≤ table_counts self.old.table i j s }
+        ensures weights { self.new.weights ≡ self.old.weights }
+        ensures n { self.new.table.n ≡ self.old.table.n }
+        ensures counts { table_counts self.new.table ≡ table_counts self.old.table }
+        ensures total { sum self.new.table.list ≡ sum self.old.table.list }
+
+        // Nothing comes exactly where a number is above its bound.
+        ensures within { MatchOption result
+            (IsWithin R.Entries most (edited (table_counts self.old.table) edit.now) self.old.weights → ⊥)
+            (λ _sums. IsWithin R.Entries most (edited (table_counts self.old.table) edit.now) self.old.weights) }
+        ensures infeasibility { IfSome result (λ sums. sums.infeasibility
+            ≡ infeasibility_on R.Entries (edited (table_counts self.old.table) edit.now) self.old.weights) }
+        ensures objective { IfSome result (λ sums. sums.objective
+            ≡ objective_on R.Entries (edited (table_counts self.old.table) edit.now) self.old.weights) }
+        ensures steps { steps.new ≤ steps.old
+            + all_touched R.Entries self.old.weights (edit.now.out ++ edit.now.into) }
+    {
+        let sums = self.weigh_games(edit.out(), edit.into_games(), most, steps);
+        if sums.infeasibility > most.infeasibility || sums.objective > most.objective {
+            return None;
+        }
+        Some(sums)
+    }
+
+    /// What the rules would cost with some games taken off the counts and as many others put on; or parts of it, one of
+    /// which is above its bound.
+    fn weigh_games<L>(
+        &mut self,
+        out: &[Game],
+        into: &[Game],
+        most: Sums,
+        steps: &mut Steps<L>,
+    ) -> Sums
     where
         R: Rule<L>,
         requires out_fit { All (IsGame self.old.table.n) out.now }
@@ -176,20 +226,20 @@ impl<R: Entries> Tally<R> {
         ensures n { self.new.table.n ≡ self.old.table.n }
         ensures counts { table_counts self.new.table ≡ table_counts self.old.table }
         ensures total { sum self.new.table.list ≡ sum self.old.table.list }
-        ensures infeasibility { (m : Counts) → ((i j s : ℕ) → m i j s + counts_of out.now i j s
+        ensures weighed { (m : Counts) → ((i j s : ℕ) → m i j s + counts_of out.now i j s
             ≡ table_counts self.old.table i j s + counts_of into.now i j s)
-            → result.infeasibility ≡ infeasibility_on R.Entries m self.old.weights }
-        ensures objective { (m : Counts) → ((i j s : ℕ) → m i j s + counts_of out.now i j s
-            ≡ table_counts self.old.table i j s + counts_of into.now i j s)
-            → result.objective ≡ objective_on R.Entries m self.old.weights }
+            → AreWeighed R.Entries most m self.old.weights result }
         ensures steps { steps.new ≤ steps.old + all_touched R.Entries self.old.weights (out.now ++ into.now) }
     {
         let _few = self.cells.games();
+        let listed = list_edit(&mut self.by_team, self.cells.n(), out, into);
         exchange_games(&mut self.cells, out, into);
         let sums = weigh_rules(
             &self.rules,
+            most,
             out,
             into,
+            &self.by_team[..listed],
             &self.cells,
             &mut self.keys,
             &mut self.done,

@@ -1,5 +1,6 @@
 use Rattle.std.proofs.Common.{◌≡◌, ◌≤◌, true, ap, subst, sym, ◌∙◌}
 use Rattle.league.specs.Counts.{Counts, counts_of}
+use Rattle.cells.specs.Table.{table_counts}
 use Rattle.moves.specs.Moves.{moved}
 use Rattle.moves.specs.Round.{edited, round_counts}
 use Rattle.descent.specs.Score.{score_on}
@@ -7,8 +8,8 @@ use Rattle.descent.proofs.EditLemmas.{edited-is}
 use Rattle.descent.proofs.SettledLemmas.{lowering-read}
 use Rattle.descent.proofs.find.is_lowering.Goals as goal
 
-pub after-after-requires-clause-there : goal.after-after-requires-clause-there
-after-after-requires-clause-there g c i j s =
+pub lowers-requires-clause-there : goal.lowers-requires-clause-there
+lowers-requires-clause-there g c i j s =
     let legal : c.edit_of.result ≡ true = c.if-not-edit_of.false in
     subst (λ (m : Counts). counts_of c.edit_of.new.edit.out i j s ≤ m i j s) (sym c.requires.counts)
     ((c.edit_of.ensures.edit legal).there i j s)
@@ -19,14 +20,15 @@ returns-clause-lowers g c =
     let m = round_counts c.args.board.now in
     let weights = c.args.tally.now.weights in
     let legal : c.edit_of.result ≡ true = c.if-not-edit_of.false in
-    lowering-read n c.args.board.now.phased (score_on g.R.Entries weights) m c.args.step c.is_lower.result
-    c.of-before.result c.after-after.result c.requires.league (c.edit_of.ensures.legal.0 legal)
-    (c.of-before.ensures ∙ ap (λ (k : Counts). score_on g.R.Entries weights k) c.requires.counts)
-    (c.after-after.ensures.score
-    ∙ ap (λ (k : Counts). score_on g.R.Entries weights (edited k c.edit_of.new.edit)) c.requires.counts
+    lowering-read n c.args.board.now.phased (score_on g.R.Entries weights) m c.args.step c.lowers.result
+    (score_on g.R.Entries weights (table_counts c.args.tally.now.table))
+    (score_on g.R.Entries weights (edited (table_counts c.args.tally.now.table) c.edit_of.new.edit)) c.requires.league
+    (c.edit_of.ensures.legal.0 legal)
+    (ap (λ (k : Counts). score_on g.R.Entries weights k) c.requires.counts)
+    (ap (λ (k : Counts). score_on g.R.Entries weights (edited k c.edit_of.new.edit)) c.requires.counts
     ∙ ap (λ (k : Counts). score_on g.R.Entries weights k)
     (edited-is m (moved n m c.args.step) c.edit_of.new.edit (c.edit_of.ensures.edit legal)))
-    c.is_lower.ensures
+    c.lowers.ensures.lowers
 
 pub returns-clause-edit : goal.returns-clause-edit
 returns-clause-edit g c lower =

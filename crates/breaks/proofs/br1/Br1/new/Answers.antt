@@ -11,5 +11,5 @@ returns c =
           (ap (λ (teams : List ℕ). Br1 teams c.in-Br1.intp c.in-Br1.side scope.slots) c.in_ok-of.ensures.teams
           ∙ ap (λ (slots : List ℕ). Br1 c.in-Br1.teams c.in-Br1.intp c.in-Br1.side slots) c.in_ok-of.ensures.slots
           ∙ sym c.in-Br1.is)
-          c.requires.at_most c.requires.fits refl refl refl (λ k m. refl) (λ g. refl);
+          c.requires.at_most c.requires.fits refl refl refl (λ k m. refl) (λ g. refl) (λ t. refl);
     }

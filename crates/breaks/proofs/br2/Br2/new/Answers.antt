@@ -11,5 +11,5 @@ returns c =
           (ap (λ (teams : List ℕ). Br2 teams c.in-Br2.intp scope.slots) c.in_ok-of.ensures.teams
           ∙ ap (λ (slots : List ℕ). Br2 c.in-Br2.teams c.in-Br2.intp slots) c.in_ok-of.ensures.slots
           ∙ sym c.in-Br2.is)
-          c.requires.at_most c.requires.fits refl refl refl (λ k m. refl) (λ g. refl);
+          c.requires.at_most c.requires.fits refl refl refl (λ k m. refl) (λ g. refl) (λ t. refl);
     }

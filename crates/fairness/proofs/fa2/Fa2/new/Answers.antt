@@ -9,5 +9,5 @@ returns c = record {
       (ap (λ (teams : List ℕ). Fa2 teams c.in-Fa2.intp c.in_ok-from_slice.field-0.items) c.in_ok-of_teams.ensures
       ∙ ap (λ (slots : List ℕ). Fa2 c.in-Fa2.teams c.in-Fa2.intp slots) (c.in_ok-from_slice.ensures.items ∙ c.numbers.ensures.numbers)
       ∙ sym c.in-Fa2.is)
-      c.requires.at_most c.requires.fits refl refl refl (λ k m. refl) (λ g. refl);
+      c.requires.at_most c.requires.fits refl refl refl (λ k m. refl) (λ g. refl) (λ t. refl);
 }

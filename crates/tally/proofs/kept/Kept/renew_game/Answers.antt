@@ -24,6 +24,7 @@ loop-place-preserved g c =
     let next = subst (λ (w : Weighted g.row.R.Denot). IsRenewal (λ k. g.R.Entries.entry w.rule k m) (c.get.result ∷ []) c.loop-place.done.list c.renew.new.done.list c.loop-place.self.vector.items c.renew.new.self.vector.items c.loop-place.steps c.renew.new.steps) c.loop-place.invariant.weighted c.renew.ensures.renewal in
     record {
       weighted = c.renew.ensures.weighted ∙ c.loop-place.invariant.weighted;
+      watched = c.renew.ensures.watched ∙ c.loop-place.invariant.watched;
       ready = subst (λ (room : ℕ). IsReady g.R.Entries c.args.cells.now.n room c.renew.new.self) (sym c.renew.ensures.room) c.renew.ensures.ready;
       room = c.renew.ensures.room ∙ c.loop-place.invariant.room;
       renewal = renewal-step _ _ (c.get.result ∷ []) _ _ _ _ _ _ _ _ _ _ c.loop-place.invariant.renewal next (keys_more c.touched.new.keys.list c.loop-place.place c.get.result c.get.ensures);

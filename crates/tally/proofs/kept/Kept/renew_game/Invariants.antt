@@ -7,6 +7,7 @@ use Rattle.tally.proofs.kept.Kept.renew_game.Given as goal
 abbrev pub invariant-loop-place : goal.invariant-loop-place
 invariant-loop-place g l = record {
   weighted : l.self.weighted ≡ l.initial.self.weighted;
+  watched : l.self.watched ≡ l.initial.self.watched;
   ready : IsReady g.R.Entries l.cells.n l.done.room l.self;
   room : l.done.room ≡ l.initial.done.room;
   renewal : IsRenewal (λ k. g.R.Entries.entry l.initial.self.weighted.rule k (table_counts l.cells)) (take l.place l.keys.list) l.initial.done.list l.done.list l.initial.self.vector.items l.self.vector.items l.initial.steps l.steps;

@@ -14,6 +14,7 @@ loop-game-preserved g c =
     let next = subst (λ (w : Weighted g.row.R.Denot). IsRenewal (λ k. g.R.Entries.entry w.rule k m) (g.R.Entries.touches w.rule game) c.loop-game.done.list c.renew_game.new.done.list c.loop-game.self.vector.items c.renew_game.new.self.vector.items c.loop-game.steps c.renew_game.new.steps) c.loop-game.invariant.weighted c.renew_game.ensures.renewal in
     record {
       weighted = c.renew_game.ensures.weighted ∙ c.loop-game.invariant.weighted;
+      watched = c.renew_game.ensures.watched ∙ c.loop-game.invariant.watched;
       ready = subst (λ (room : ℕ). IsReady g.R.Entries c.args.cells.now.n room c.renew_game.new.self) (sym c.renew_game.ensures.room) c.renew_game.ensures.ready;
       room = c.renew_game.ensures.room ∙ c.loop-game.invariant.room;
       keys = c.renew_game.ensures.keys ∙ c.loop-game.invariant.keys;

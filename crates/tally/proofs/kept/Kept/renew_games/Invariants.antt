@@ -8,6 +8,7 @@ use Rattle.tally.proofs.kept.Kept.renew_games.Given as goal
 abbrev pub invariant-loop-game : goal.invariant-loop-game
 invariant-loop-game g l = record {
   weighted : l.self.weighted ≡ l.initial.self.weighted;
+  watched : l.self.watched ≡ l.initial.self.watched;
   ready : IsReady g.R.Entries l.cells.n l.done.room l.self;
   room : l.done.room ≡ l.initial.done.room;
   keys : l.keys.room ≡ l.initial.keys.room;

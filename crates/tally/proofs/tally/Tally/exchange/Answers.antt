@@ -2,17 +2,26 @@ use Rattle.std.proofs.Common.{◌≡◌, ◌++◌, List, length, take, drop, ap,
 use Rattle.std.proofs.lemmas.List.{take_at}
 use Rattle.std.specs.List.{All}
 use Rattle.cells.specs.Table.{table_counts}
+use Rattle.tally.specs.ByTeam.{GameRoom}
 use Rattle.tally.specs.Ready.{IsExact, IsTallied}
 use Rattle.tally.specs.declared.kept.Kept.{Kept}
 use Rattle.tally.proofs.tally.Tally.exchange.Goals as goal
 
 pub invariant_of-self : goal.invariant_of-self
 invariant_of-self g c =
-    let long : length c.renew_rules.new.rules ≡ c.self.inside.rules.len = omega (arith, c.renew_rules.auto.rules, c.deref_mut.ensures.len, ap length c.deref_mut.ensures.value) in
+    let lists = c.list_edit-listed.new.lists in
+    let as_long : length lists ≡ c.self.inside.by_team.len =
+    omega (arith, c.list_edit-listed.auto.lists, c.deref_mut.ensures.len, ap length c.deref_mut.ensures.value) in
+    let all : take c.self.inside.by_team.len (lists ++ drop (length lists) c.self.inside.by_team.items) ≡ lists =
+    take_at lists (drop (length lists) c.self.inside.by_team.items) c.self.inside.by_team.len as_long in
+    let long : length c.renew_rules.new.rules ≡ c.self.inside.rules.len = omega (arith, c.renew_rules.auto.rules, c.deref_mut-2.ensures.len, ap length c.deref_mut-2.ensures.value) in
     let whole : take c.self.inside.rules.len (c.renew_rules.new.rules ++ drop (length c.renew_rules.new.rules) c.self.inside.rules.items) ≡ c.renew_rules.new.rules = take_at c.renew_rules.new.rules (drop (length c.renew_rules.new.rules) c.self.inside.rules.items) c.self.inside.rules.len long in
-    let was : All (IsExact g.R.Entries (table_counts c.self.inside.cells)) c.deref_mut.result.now = subst (λ (l : List (Kept g.row.R.Denot)). All (IsExact g.R.Entries (table_counts c.self.inside.cells)) l) (sym c.deref_mut.ensures.value) c.self.invariant.exact in
-    subst (λ (l : List (Kept g.row.R.Denot)). IsTallied g.R.Entries l c.exchange_games.new.cells c.renew_rules.new.keys.room c.renew_rules.new.done c.renew_rules.new.sums) (sym whole)
+    let was : All (IsExact g.R.Entries (table_counts c.self.inside.cells)) c.deref_mut-2.result.now = subst (λ (l : List (Kept g.row.R.Denot)). All (IsExact g.R.Entries (table_counts c.self.inside.cells)) l) (sym c.deref_mut-2.ensures.value) c.self.invariant.exact in
+    subst (λ (l : List (Kept g.row.R.Denot)). IsTallied g.R.Entries l c.exchange_games.new.cells (take c.self.inside.by_team.len (lists ++ drop (length lists) c.self.inside.by_team.items)) c.renew_rules.new.keys.room c.renew_rules.new.done c.renew_rules.new.sums) (sym whole)
+    (subst (λ (l : List GameRoom). IsTallied g.R.Entries c.renew_rules.new.rules c.exchange_games.new.cells l c.renew_rules.new.keys.room c.renew_rules.new.done c.renew_rules.new.sums) (sym all)
     (record {
       ready = c.renew_rules.ensures.ready;
+      teams = omega (arith, c.list_edit-listed.auto.lists, ap length c.deref_mut.ensures.value, c.self.invariant.teams, c.exchange_games.ensures.n);
+      room = λ k d h. omega (arith, c.list_edit-listed.ensures.room k d h, c.n.ensures.n, c.exchange_games.ensures.n);
       exact = c.renew_rules.ensures.exact (table_counts c.self.inside.cells) c.exchange_games.ensures.same was;
-    })
+    }))

@@ -1,4 +1,4 @@
-use Rattle.std.proofs.Common.{◌<◌, ◌≤◌, ◌^◌, ℕ, List, map, length, ap, subst, sym, ◌∙◌}
+use Rattle.std.proofs.Common.{◌<◌, ◌≤◌, ◌*◌, ◌^◌, ℕ, List, map, length, ap, subst, sym, ◌∙◌}
 use Rattle.std.specs.List.{All, sum_by}
 use Rattle.keys.specs.Keys.{KeyList}
 use Rattle.tally.specs.Ready.{IsReady, hard_cost, soft_cost}
@@ -25,5 +25,8 @@ invariant_of-result g c =
         infeasibility = c.costs-sums.ensures.infeasibility ∙ ap (λ (l : List (Kept g.row.R.Denot)). sum_by hard_cost l) c.deref-3.ensures.value;
         objective = c.costs-sums.ensures.objective ∙ ap (λ (l : List (Kept g.row.R.Denot)). sum_by soft_cost l) c.deref-3.ensures.value;
       };
+      teams = c.in_ok-by_team.ensures.teams ∙ c.n.ensures.n;
+      room = subst (λ (n : ℕ). All (λ l. 8 * n ≤ l.room) c.in_ok-by_team.by_team.items) c.n.ensures.n
+          c.in_ok-by_team.ensures.room;
       exact = c.in_ok-rules.ensures.exact;
     }

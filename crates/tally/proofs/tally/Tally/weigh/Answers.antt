@@ -8,20 +8,20 @@ use Rattle.tally.proofs.tally.Tally.weigh.Goals as goal
 
 pub returns-clause-infeasibility : goal.returns-clause-infeasibility
 returns-clause-infeasibility g c =
-    c.weigh_games.ensures.infeasibility (edited (table_counts c.args.self.now.table) c.args.edit.now)
+    (c.weigh_games.ensures.weighed (edited (table_counts c.args.self.now.table) c.args.edit.now)
     (λ i j s. omega (
       arith,
       edited-there (table_counts c.args.self.now.table) c.args.edit.now c.requires.there i j s,
       ap (λ (l : List Game). counts_of l i j s) c.out.ensures.games,
       ap (λ (l : List Game). counts_of l i j s) c.into_games.ensures,
-    ))
+    ))).infeasibility (omega (arith, c.weigh_games.type_inv.1.1.0.1))
 
 pub returns-clause-objective : goal.returns-clause-objective
 returns-clause-objective g c =
-    c.weigh_games.ensures.objective (edited (table_counts c.args.self.now.table) c.args.edit.now)
+    (c.weigh_games.ensures.weighed (edited (table_counts c.args.self.now.table) c.args.edit.now)
     (λ i j s. omega (
       arith,
       edited-there (table_counts c.args.self.now.table) c.args.edit.now c.requires.there i j s,
       ap (λ (l : List Game). counts_of l i j s) c.out.ensures.games,
       ap (λ (l : List Game). counts_of l i j s) c.into_games.ensures,
-    ))
+    ))).objective (omega (arith, c.weigh_games.type_inv.1.1.0.1)) (omega (arith, c.weigh_games.type_inv.1.1.1.0.1))
