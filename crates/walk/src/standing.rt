@@ -161,9 +161,9 @@ impl Standing {
         if !edit_of(&step, &self.board, &mut self.edit) || self.is_long(&step) {
             return false;
         }
-        let before = Score::of(tally);
-        let after = tally.weigh(&self.edit, steps);
-        if !threshold.passes(before, &after) {
+        let most = threshold.most(Score::of(tally));
+        let within = tally.weigh_within(&self.edit, most, steps);
+        if within.is_none() {
             return true;
         }
         tally.apply(&self.edit, steps);

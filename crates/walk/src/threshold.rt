@@ -35,9 +35,11 @@ impl Threshold {
         }
     }
 
-    /// Whether a move may be made from a score to games that cost so much.
-    pub(crate) fn passes(self, before: Score, after: &Sums) -> bool {
-        after.infeasibility <= before.infeasibility.saturating_add(self.hard)
-            && after.objective <= before.objective.saturating_add(self.soft)
+    /// The most that the rules may cost after a move that is made from games of a score.
+    pub(crate) fn most(self, before: Score) -> Sums {
+        Sums {
+            infeasibility: before.infeasibility.saturating_add(self.hard),
+            objective: before.objective.saturating_add(self.soft),
+        }
     }
 }
