@@ -6,6 +6,8 @@ pub mod FewLemmas
 pub mod LowerLemmas
 -- What venue counts say:
 pub mod CountingLemmas
+-- Which of several tries is the best:
+pub mod EarliestLemmas
 -- What the answers say:
 pub mod AnswerLemmas
 -- Worked answers:

@@ -6,5 +6,7 @@ pub mod Solutions
 --
 -- What one try says of it:
 pub mod Tried
+-- Which try's schedule is the answer:
+pub mod Earliest
 -- Which fault stands for one of the encoding's:
 pub mod Faults

@@ -11,6 +11,9 @@ use walk::walk;
 /// How many moves a walk may try for each that a descent may make, and for each that the league has.
 const TRIED: u64 = 100;
 
+/// As often as a descent may make so many moves, a walk may try each that the league has.
+const USUAL: u64 = 10_000;
+
 /// What a descent of at most so many moves makes of the schedule that a walk finds, where the league accepts that. The
 /// walk goes from the schedule of the circle method by the moves that a seed draws. Without moves there is none.
 ///
@@ -29,13 +32,20 @@ pub(crate) fn try_walk(
     }
     let n = league.n();
     let start = double(alloc, n)?;
-    let tried = moves.min(move_count(n)).saturating_mul(TRIED);
-    let walked = walk(alloc, league, &start, seed, tried)?;
+    let walked = walk(alloc, league, &start, seed, walk_budget(n, moves))?;
     if walked.best.score.infeasibility > 0 {
         return Ok(None);
     }
     let season = lowered(alloc, league, &walked.best.games, moves)?;
     Ok(Some(season))
+}
+
+/// How many moves a walk may try of n teams, where a descent may make so many: a hundred for each of these, but at most a
+/// hundred for each that there is of n teams, as often as 10,000 go into the descent's, and once where they are fewer.
+fn walk_budget(n: u16, moves: u64) -> u64 {
+    let times = (moves / USUAL).max(1);
+    let most = move_count(n).saturating_mul(times);
+    moves.min(most).saturating_mul(TRIED)
 }
 
 /// How many moves there are of n teams, legal or not: of two teams, of two slots, of two teams in all slots, of a team and

@@ -6,6 +6,7 @@ ghost use Rattle.circle_method.specs.Circle.{double_games};
 ghost use Rattle.encoding_base.specs.Encoding.{encoding_size};
 ghost use Rattle.pattern_search.specs.PatternLogs.{IsPatternSpent};
 ghost use Rattle.pattern_search.specs.PatternSets.{IsPatternSet};
+ghost use Rattle.solve.specs.Earliest.{IsBestOfTries};
 ghost use Rattle.solve.specs.Solutions.{HasSchedule, IsRefuted, IsSolution};
 ghost use Rattle.solve.specs.Tried.{IsTried};
 ghost use Rattle.venue_counts.specs.VenueCounts.{are_crowded, are_short};
@@ -16,7 +17,7 @@ use crate::counting::count_out;
 use crate::fault::SolveFault;
 use crate::prefer::{preferred, shuffled, venues};
 use crate::solved::Solved;
-use crate::tries::{Tried, better, schedule_found, solved_by};
+use crate::tries::{Tried, better, is_refuted, schedule_found, solved_by};
 use budgets::Budgets;
 use encoding::{Encoding, encode};
 use league::League;
@@ -78,10 +79,11 @@ fn best_try(
     requires league { encoding.now ≡ league.now }
     ensures solution { IfOk result (IsSolution league.now budgets) }
     ensures circle { IsAccepted league.now (counts_of (double_games league.now.n)) → IfOk result HasSchedule }
+    ensures best { IfOk result (IsBestOfTries league.now budgets) }
 {
     let mut best = first_try(alloc, league, encoding, budgets)?;
     for k in 1..budgets.tries {
-        if matches!(best, Solved::Refuted(_)) {
+        if is_refuted(&best) {
             return Ok(best);
         }
         let later = later_try(alloc, league, encoding, budgets, k)?;

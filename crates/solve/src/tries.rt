@@ -1,9 +1,11 @@
 //! Several tries, of which the best answer is kept.
-ghost use Rattle.std.specs.Prelude.{◌≡◌, nat_lt, if◌then◌else◌, IfSome};
+ghost use Rattle.std.specs.Prelude.{◌≡◌, ◌↔◌, ◌∷◌, ◌++◌, [], nat_lt, if◌then◌else◌, List, Option, Some, IfSome, IsTrue};
 ghost use Rattle.budgets.specs.declared.budgets.Budgets.{Budgets};
 ghost use Rattle.league.specs.Instance.{Instance};
-ghost use Rattle.solve.specs.Solutions.{HasSchedule, IsSolution, LeavesOpen};
+ghost use Rattle.solve.specs.Earliest.{IsBestOf, season_of, season_tried};
+ghost use Rattle.solve.specs.Solutions.{HasSchedule, IsRefuted, IsSolution, LeavesOpen};
 ghost use Rattle.solve.specs.Tried.{IsSeason, IsTried};
+ghost use Rattle.solve.specs.declared.lower.Season.{Season};
 
 use crate::lower::Season;
 use crate::solved::Solved;
@@ -26,6 +28,7 @@ pub(crate) fn schedule_found(season: Season) -> Solved
     ensures solution { (league : Instance) (budgets : Budgets) → IsSeason league budgets.moves season
         → IsSolution league budgets result }
     ensures schedule { HasSchedule result }
+    ensures season { season_of result ≡ Some season }
 {
     let Season {
         schedule,
@@ -41,8 +44,9 @@ pub(crate) fn schedule_found(season: Season) -> Solved
 
 /// What a try comes to, as the answer, where this is known of the league's patterns.
 pub(crate) fn solved_by(tried: Tried, patterns: PatternFound) -> Solved
-    ensures { (league : Instance) (budgets : Budgets) → IsTried league budgets tried
+    ensures solution { (league : Instance) (budgets : Budgets) → IsTried league budgets tried
         → LeavesOpen league budgets.patterns patterns → IsSolution league budgets result }
+    ensures season { season_of result ≡ season_tried tried }
 {
     match tried {
         Tried::Found(season) => schedule_found(season),
@@ -51,12 +55,23 @@ pub(crate) fn solved_by(tried: Tried, patterns: PatternFound) -> Solved
     }
 }
 
+/// Whether an answer is a refutation.
+pub(crate) fn is_refuted(answer: &Solved) -> bool
+    ensures { IsTrue result ↔ IsRefuted answer.now }
+{
+    matches!(answer, Solved::Refuted(_))
+}
+
 /// The better one of an answer and of a later try: a refutation stays, the schedule of the lesser objective is kept, of
 /// equal ones the earlier, and a spent search gives way to what comes later.
 pub(crate) fn better(best: Solved, later: Tried) -> Solved
     ensures solution { (league : Instance) (budgets : Budgets) → IsSolution league budgets best
         → IsTried league budgets later → IsSolution league budgets result }
     ensures schedule { HasSchedule best → HasSchedule result }
+
+    // Of the best of what some tries found, and of one try more, it is the best.
+    ensures best { (found : List (Option Season)) → (IsRefuted best → ⊥) → IsBestOf found (season_of best)
+        → IsBestOf (found ++ season_tried later ∷ []) (season_of result) }
 {
     match best {
         Solved::Refuted(log) => Solved::Refuted(log),
@@ -89,8 +104,10 @@ pub(crate) fn with_walked(found: Tried, walked: Option<Season>) -> Tried
 
 /// The better one of a schedule and of what a later try comes to.
 fn better_season(best: Season, later: Tried) -> Season
-    ensures { (league : Instance) (budgets : Budgets) → IsSeason league budgets.moves best
+    ensures season { (league : Instance) (budgets : Budgets) → IsSeason league budgets.moves best
         → IsTried league budgets later → IsSeason league budgets.moves result }
+    ensures best { (found : List (Option Season)) → IsBestOf found (Some best)
+        → IsBestOf (found ++ season_tried later ∷ []) (Some result) }
 {
     match later {
         Tried::Found(season) => lesser(best, season),

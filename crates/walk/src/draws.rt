@@ -1,11 +1,12 @@
 //! Draws of moves.
-ghost use Rattle.std.specs.Prelude.{◌≡◌, ◌<◌, ◌≤◌};
+ghost use Rattle.std.specs.Prelude.{◌≡◌, ℕ, ◌<◌, ◌≤◌};
 ghost use Rattle.league.specs.Counts.{slot_count};
 ghost use Rattle.league.specs.Instance.{IsTeamCount};
 ghost use Rattle.moves.specs.Moves.{IsOfLeague};
 
+use crate::aims::Aim;
 use league::{SlotId, TeamId};
-use moves::Swap;
+use moves::{Board, Swap};
 use rand_core::utils::NextWord;
 use rand_pcg::Pcg32;
 
@@ -15,6 +16,15 @@ pub(crate) fn below(random: &mut Pcg32, bound: u16) -> u16
     ensures below { result < bound }
 {
     (random.next_word() % u32::from(bound)) as u16
+}
+
+/// One of some values, where there are any.
+pub(crate) fn any_of<T: Copy>(random: &mut Pcg32, values: &[T]) -> Option<T> {
+    let count = values.len();
+    if count == 0 {
+        return None;
+    }
+    values.get(random.next_word() as usize % count).copied()
 }
 
 /// Two different numbers.
@@ -139,15 +149,107 @@ pub(crate) fn drawn_move(random: &mut Pcg32, n: u16, phased: bool) -> Swap
     ensures league { IsOfLeague n result }
 {
     let kind = below(random, 256);
-    if kind < 60 {
+    if kind < 62 {
         home_swap(random, n)
-    } else if kind < 66 {
+    } else if kind < 63 {
         round_swap(random, n, phased)
-    } else if kind < 72 {
+    } else if kind < 65 {
         team_swap(random, n)
-    } else if kind < 164 {
+    } else if kind < 161 {
         part_round_swap(random, n, phased)
     } else {
         part_team_swap(random, n)
     }
+}
+
+/// A move that changes a game of a team in a slot.
+pub(crate) fn aimed_move(random: &mut Pcg32, board: &Board, aim: Aim) -> Swap
+    requires team { aim.team < board.now.n }
+    requires slot { aim.slot < slot_count board.now.n }
+    ensures league { IsOfLeague board.now.n result }
+{
+    let n = board.n();
+    let team = TeamId(aim.team);
+    let slot = SlotId(aim.slot);
+    let kind = below(random, 256);
+    if kind < 62 {
+        return venues_turned(team, board.opponent(team, slot));
+    }
+    if kind < 160 {
+        return slots_exchanged(team, slot, other_slot(random, n, board.phased(), slot));
+    }
+    teams_exchanged(team, other_team(random, n, team), slot)
+}
+
+/// A move of two teams, in order.
+fn venues_turned(one: TeamId, other: TeamId) -> Swap
+    ensures { (n : ℕ) → one.0 < n → other.0 < n → IsOfLeague n result }
+{
+    if one.0 < other.0 {
+        Swap::HomeSwap { i: one, j: other }
+    } else {
+        Swap::HomeSwap { i: other, j: one }
+    }
+}
+
+/// A move of a team and two slots, in order.
+fn slots_exchanged(team: TeamId, one: SlotId, other: SlotId) -> Swap
+    ensures { (n : ℕ) → team.0 < n → one.0 < slot_count n → other.0 < slot_count n → IsOfLeague n result }
+{
+    if one.0 < other.0 {
+        Swap::PartRoundSwap {
+            i: team,
+            s: one,
+            t: other,
+        }
+    } else {
+        Swap::PartRoundSwap {
+            i: team,
+            s: other,
+            t: one,
+        }
+    }
+}
+
+/// A move of two teams, in order, and a slot.
+fn teams_exchanged(one: TeamId, other: TeamId, slot: SlotId) -> Swap
+    ensures { (n : ℕ) → one.0 < n → other.0 < n → slot.0 < slot_count n → IsOfLeague n result }
+{
+    if one.0 < other.0 {
+        Swap::PartTeamSwap {
+            i: one,
+            j: other,
+            s: slot,
+        }
+    } else {
+        Swap::PartTeamSwap {
+            i: other,
+            j: one,
+            s: slot,
+        }
+    }
+}
+
+/// Another team of n.
+fn other_team(random: &mut Pcg32, n: u16, team: TeamId) -> TeamId
+    requires teams { IsTeamCount n }
+    ensures { result.0 < n }
+{
+    let other = below(random, n - 1);
+    TeamId(if other < team.0 { other } else { other + 1 })
+}
+
+/// Another slot of a season of n teams: of the same half where there are phases.
+fn other_slot(random: &mut Pcg32, n: u16, phased: bool, slot: SlotId) -> SlotId
+    requires teams { IsTeamCount n }
+    ensures { result.0 < slot_count n }
+{
+    let half = n - 1;
+    if !phased || half < 2 {
+        let other = below(random, 2 * half - 1);
+        return SlotId(if other < slot.0 { other } else { other + 1 });
+    }
+    let start = if slot.0 < half { 0 } else { half };
+    let other = start + below(random, half - 1);
+    SlotId(if other < slot.0 { other } else { other + 1 })
 }

@@ -1,19 +1,22 @@
-//! The tally of a league's hard constraints alone, by weights.
-ghost use Rattle.std.specs.Prelude.{◌≡◌, ℕ, ◌<◌, ◌≤◌, ◌+◌, ◌^◌, length, IfOk, OnOk};
+//! The tally of a league's hard constraints alone, in parts, by weights.
+ghost use Rattle.std.specs.Prelude.{◌≡◌, ◌*◌, ◌<◌, ◌≤◌, ◌^◌, length, IfOk, IsTrue, OnOk};
 ghost use Rattle.std.specs.List.{All};
 ghost use Rattle.league.specs.Counts.{counts_of};
-ghost use Rattle.league.specs.Instance.{IsGame};
+ghost use Rattle.league.specs.Instance.{IsGame, class_fits};
 ghost use Rattle.cells.specs.Table.{table_counts};
 ghost use Rattle.tally.specs.Tallies.{all_terms};
 
 use crate::weights::Weights;
 use deviation::{AnyRule, counted};
-use league::{Game, League};
+use league::{Constraint, Game, League};
 use rule_core::{Entries, Steps};
 use std::alloc::{AllocError, Global};
-use tally::{Tally, Weighted, weighted_rules};
+use tally::{Tally, Weighted};
 
-/// The tally of a league's hard constraints on these games, each by its weight.
+/// The most parts that a tally has.
+const MOST: usize = 1_000_000;
+
+/// The tally of a league's hard constraints on these games, in parts, each by its weight.
 ///
 /// # Errors
 /// Only where memory runs out.
@@ -31,53 +34,76 @@ pub(crate) fn hard_tally<L>(
 {
     let n = league.n();
     let cells = counted(alloc, n, games)?;
-    let rules = weighted_rules(alloc, league, 1)?;
-    let hard = hard_rules(alloc, n, rules, weights)?;
-    Tally::new(alloc, hard, cells, steps)
+    let rules = weighted_parts(alloc, n, weights)?;
+    Tally::new(alloc, rules, cells, steps)
 }
 
-/// The hard ones of some rules of a league of n teams, each with its weight.
+/// The rules of the parts, each with its weight, in a league of n teams.
 ///
 /// # Errors
 /// Only where memory runs out.
-fn hard_rules<R: Entries>(
+fn weighted_parts(
     alloc: Global,
     n: u16,
-    rules: Vec<Weighted<R>>,
     weights: &Weights,
-) -> Result<Vec<Weighted<R>>, AllocError>
-    requires teams { All (λ w. R.team_count w.rule ≡ n) rules.items }
-    ensures teams { IfOk result (λ hard. All (λ w. R.team_count w.rule ≡ n) hard.items) }
-    ensures few { IfOk result (λ hard. all_terms R.Entries hard.items ≤ all_terms R.Entries rules.items) }
+) -> Result<Vec<Weighted<AnyRule>>, AllocError>
+    requires at_most { n ≤ 40 }
+    ensures teams { IfOk result (λ rules. All (λ w. ⟦<AnyRule as Entries>⟧.team_count w.rule ≡ n) rules.items) }
+    ensures few { IfOk result (λ rules. all_terms ⟦<AnyRule as Entries>⟧ rules.items < 2 ^ 31) }
 {
-    let mut hard = Vec::new(alloc);
-    for weighted in rules {
-        add_if_hard(&mut hard, weighted, weights)?;
+    let mut rules = Vec::new(alloc);
+    for part in weights.parts() {
+        let weight = weights.at(rules.len());
+        add_part(alloc, n, part, weight, &mut rules)?;
     }
-    Ok(hard)
+    Ok(rules)
 }
 
-/// Adds a rule with its weight where it is hard.
+/// Adds the rule of a part, with its weight, where it fits a league of n teams and there aren't too many.
 ///
 /// # Errors
 /// Only where memory runs out.
-fn add_if_hard<R: Entries>(
-    hard: &mut Vec<Weighted<R>>,
-    weighted: Weighted<R>,
-    weights: &Weights,
+fn add_part(
+    alloc: Global,
+    n: u16,
+    part: &Constraint,
+    weight: u32,
+    rules: &mut Vec<Weighted<AnyRule>>,
 ) -> Result<(), AllocError>
-    ensures teams { OnOk result ((n : ℕ) → R.team_count weighted.rule ≡ n
-        → All (λ w. R.team_count w.rule ≡ n) hard.old.items → All (λ w. R.team_count w.rule ≡ n) hard.new.items) }
-    ensures few { OnOk result (all_terms R.Entries hard.new.items
-        ≤ all_terms R.Entries hard.old.items + R.term_count weighted.rule) }
+    requires at_most { n ≤ 40 }
+    requires teams { All (λ w. ⟦<AnyRule as Entries>⟧.team_count w.rule ≡ n) rules.old.items }
+    requires few { all_terms ⟦<AnyRule as Entries>⟧ rules.old.items ≤ 1600 * length rules.old.items }
+    requires most { length rules.old.items ≤ 1000000 }
+    ensures teams { OnOk result (All (λ w. ⟦<AnyRule as Entries>⟧.team_count w.rule ≡ n) rules.new.items) }
+    ensures few { OnOk result (all_terms ⟦<AnyRule as Entries>⟧ rules.new.items ≤ 1600 * length rules.new.items) }
+    ensures most { OnOk result (length rules.new.items ≤ 1000000) }
 {
-    if !weighted.hard {
+    if rules.len() >= MOST || !part.fits(n) {
         return Ok(());
     }
-    let penalty = weights.at(hard.len());
-    hard.push(Weighted {
-        penalty,
-        ..weighted
-    })?;
+    let weighted = weighted_part(alloc, n, part, weight)?;
+    rules.push(weighted)?;
     Ok(())
+}
+
+/// The rule of a part, with its weight, in a league of n teams.
+///
+/// # Errors
+/// Only where memory runs out.
+fn weighted_part(
+    alloc: Global,
+    n: u16,
+    part: &Constraint,
+    weight: u32,
+) -> Result<Weighted<AnyRule>, AllocError>
+    requires at_most { n ≤ 40 }
+    requires fits { IsTrue (class_fits n part.now.class) }
+    ensures teams { IfOk result (λ w. ⟦<AnyRule as Entries>⟧.team_count w.rule ≡ n) }
+    ensures short { IfOk result (λ w. ⟦<AnyRule as Entries>⟧.term_count w.rule ≤ 1600) }
+{
+    Ok(Weighted {
+        rule: AnyRule::new(alloc, n, part)?,
+        hard: true,
+        penalty: weight,
+    })
 }

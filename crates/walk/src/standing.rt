@@ -10,19 +10,26 @@ ghost use Rattle.moves.specs.Round.{round_counts};
 ghost use Rattle.descent.specs.Score.{IsNoWorse, score_on};
 ghost use Rattle.walk.specs.Standing.{IsKept, IsStandingOn};
 
+use crate::aims::aim_at;
 use crate::best::Kept;
-use crate::draws::{below, drawn_move};
+use crate::draws::{aimed_move, below, drawn_move};
 use crate::threshold::Threshold;
 use descent::Score;
-use league::{Schedule, TeamId};
+use league::{Constraint, Schedule, TeamId};
 use moves::{Board, Edit, Swap, edit_of};
 use rand_pcg::Pcg32;
-use rule_core::{Rule, Steps};
+use rule_core::{Entries, Rule, Steps};
 use std::alloc::{AllocError, Global};
 use tally::Tally;
 
 /// How many moves are drawn, legal or not, for each that may be tried.
 const DRAWS: u64 = 8;
+
+/// Of 256 moves that are to meet hard constraints, so many are aimed at unmet ones.
+const AIMED: u16 = 64;
+
+/// A move of parts of rounds or of teams' games that takes out more games isn't tried: hardly one is ever made.
+const LONGEST: usize = 12;
 
 /// A double round robin on a board, and room for the games of a move.
 #[derive(Drop)]
@@ -54,11 +61,13 @@ impl Standing {
     }
 
     /// Tries moves until so many were legal, or the hard rules cost nothing: each is made where its score passes a drawn
-    /// threshold. Says how many were tried.
+    /// threshold. A quarter of them is aimed at unmet parts of the hard constraints, of which the tally's rules are. Says
+    /// how many were tried.
     pub(crate) fn meet<R: Rule<L>, L>(
         &mut self,
         random: &mut Pcg32,
         limit: u64,
+        parts: &[Constraint],
         tally: &mut Tally<R>,
         steps: &mut Steps<L>,
     ) -> u64
@@ -68,18 +77,33 @@ impl Standing {
             self.new }
         ensures tried { result ≤ limit }
     {
-        let n = self.board.n();
-        let phased = self.board.phased();
         let mut tried = 0;
         'draws: for _drawn in 0..limit.saturating_mul(DRAWS) {
             if tried == limit || tally.infeasibility() == 0 {
                 return tried;
             }
-            let step = drawn_move(random, n, phased);
+            let step = self.hard_move(random, parts, tally);
             let legal = self.attempt(step, Threshold::hard(random), tally, steps);
             tried = with_move(tried, limit, legal);
         }
         tried
+    }
+
+    /// A move that is drawn to meet hard constraints.
+    fn hard_move<R: Entries>(
+        &self,
+        random: &mut Pcg32,
+        parts: &[Constraint],
+        tally: &Tally<R>,
+    ) -> Swap
+        ensures { IsOfLeague self.now.board.n result }
+    {
+        if below(random, 256) < AIMED
+            && let Some(aim) = aim_at(random, &self.board, parts, tally)
+        {
+            return aimed_move(random, &self.board, aim);
+        }
+        drawn_move(random, self.board.n(), self.board.phased())
     }
 
     /// Tries moves until so many were legal, or the soft rules cost nothing: each is made where the hard rules cost no
@@ -118,7 +142,7 @@ impl Standing {
     }
 
     /// Tries a move on a tally's games: makes it where it is legal and its score passes the threshold. Says whether it is
-    /// legal.
+    /// legal and not too long.
     fn attempt<R: Rule<L>, L>(
         &mut self,
         step: Swap,
@@ -134,17 +158,27 @@ impl Standing {
         ensures standing { IsStandingOn tally.old.table.n self.old.board.phased (table_counts tally.new.table)
             self.new }
     {
-        if !edit_of(&step, &self.board, &mut self.edit) {
+        if !edit_of(&step, &self.board, &mut self.edit) || self.is_long(&step) {
             return false;
         }
-        let before = Score::of(tally);
-        let after = tally.weigh(&self.edit, steps);
-        if !threshold.passes(before, &after) {
+        let most = threshold.most(Score::of(tally));
+        let within = tally.weigh_within(&self.edit, most, steps);
+        if within.is_none() {
             return true;
         }
         tally.apply(&self.edit, steps);
         self.board.apply(&self.edit);
         true
+    }
+
+    /// Whether the edit of a move is too long to be tried.
+    fn is_long(&self, step: &Swap) -> bool {
+        match step {
+            Swap::PartRoundSwap { .. } | Swap::PartTeamSwap { .. } => {
+                self.edit.out().len() > LONGEST
+            }
+            Swap::HomeSwap { .. } | Swap::RoundSwap { .. } | Swap::TeamSwap { .. } => false,
+        }
     }
 
     /// Puts the teams in a random order, by moves of two teams.

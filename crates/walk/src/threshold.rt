@@ -13,7 +13,7 @@ pub(crate) struct Threshold {
 }
 
 impl Threshold {
-    /// A drawn threshold of the hard rules: three times the negated logarithm, to the base 2, of a random number below 1.
+    /// A drawn threshold of the hard rules: twice the negated logarithm, to the base 2, of a random number below 1.
     /// The soft rules cost nothing more.
     pub(crate) fn hard(random: &mut Pcg32) -> Threshold {
         let word = random.next_word();
@@ -21,7 +21,7 @@ impl Threshold {
         let rest = u64::from(word).wrapping_shl(word.leading_zeros()) % 2_147_483_648;
         let eighths = (8 * zeros + 8).saturating_sub(rest / 268_435_456);
         Threshold {
-            hard: u128::from(3 * eighths / 8),
+            hard: u128::from(eighths / 4),
             soft: 0,
         }
     }
@@ -35,9 +35,11 @@ impl Threshold {
         }
     }
 
-    /// Whether a move may be made from a score to games that cost so much.
-    pub(crate) fn passes(self, before: Score, after: &Sums) -> bool {
-        after.infeasibility <= before.infeasibility.saturating_add(self.hard)
-            && after.objective <= before.objective.saturating_add(self.soft)
+    /// The most that the rules may cost after a move that is made from games of a score.
+    pub(crate) fn most(self, before: Score) -> Sums {
+        Sums {
+            infeasibility: before.infeasibility.saturating_add(self.hard),
+            objective: before.objective.saturating_add(self.soft),
+        }
     }
 }

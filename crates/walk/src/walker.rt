@@ -25,6 +25,37 @@ use tally::league_tally;
 /// After so many moves tried the weights of the hard constraints are adapted.
 const STRETCH: u64 = 2000;
 
+/// A search ends after so many moves tried that didn't lower what the hard constraints cost.
+const PATIENCE: u64 = 1_600_000;
+
+/// How long a search has been in vain.
+#[derive(Clone, Copy)]
+struct Patience {
+    lowest: u128,
+    vain: u64,
+}
+
+impl Patience {
+    /// Nothing was searched yet.
+    fn new() -> Patience {
+        Patience {
+            lowest: u128::MAX,
+            vain: 0,
+        }
+    }
+
+    /// Whether the search ends after one more stretch, behind which the hard constraints cost so much.
+    fn ends(&mut self, sum: u128) -> bool {
+        if sum < self.lowest {
+            self.lowest = sum;
+            self.vain = 0;
+        } else {
+            self.vain = self.vain.saturating_add(STRETCH);
+        }
+        self.vain >= PATIENCE
+    }
+}
+
 /// Where a walk stands, room for a copy of its games, the best games so far, and how many moves may still be tried.
 #[derive(Drop)]
 pub(crate) struct Walker {
@@ -68,56 +99,73 @@ impl Walker {
         })
     }
 
-    /// Looks for games that meet the hard constraints, and from there for better ones: from the games where it stands, or
-    /// from a new double round robin where that is wanted, with the teams in a random order.
+    /// Searches, each from a new double round robin, one after another until no move may be tried any more, or nothing is
+    /// left to lower.
     ///
     /// # Errors
     /// Only where memory runs out.
-    pub(crate) fn search(
-        &mut self,
-        alloc: Global,
-        league: &League,
-        afresh: bool,
-    ) -> Result<(), AllocError>
+    pub(crate) fn search(&mut self, alloc: Global, league: &League) -> Result<(), AllocError>
         requires walker { IsWalkerIn league.now self.old }
         ensures walker { OnOk result (IsWalkerIn league.now self.new) }
         ensures no_worse { OnOk result (IsNoWorse self.new.best.score self.old.best.score) }
         ensures left { OnOk result (self.new.left ≤ self.old.left) }
     {
-        self.place(alloc, league, afresh)?;
+        'searches: for _search in 0..self.left / PATIENCE + 1 {
+            self.search_once(alloc, league)?;
+            if self.is_done() {
+                return Ok(());
+            }
+        }
+        Ok(())
+    }
+
+    /// Whether no move may be tried any more, or the best games cost nothing.
+    fn is_done(&self) -> bool {
+        let score = self.best.score();
+        self.left == 0 || (score.infeasibility == 0 && score.objective == 0)
+    }
+
+    /// Looks for games that meet the hard constraints, and from there for better ones.
+    ///
+    /// # Errors
+    /// Only where memory runs out.
+    fn search_once(&mut self, alloc: Global, league: &League) -> Result<(), AllocError>
+        requires walker { IsWalkerIn league.now self.old }
+        ensures walker { OnOk result (IsWalkerIn league.now self.new) }
+        ensures no_worse { OnOk result (IsNoWorse self.new.best.score self.old.best.score) }
+        ensures left { OnOk result (self.new.left ≤ self.old.left) }
+    {
+        self.place(alloc, league)?;
         self.meet_hard(alloc, league)?;
         self.lower_soft(alloc, league)?;
         Ok(())
     }
 
-    /// Puts the teams in a random order, of a new double round robin where that is wanted and one is found.
+    /// Goes to a random double round robin, or where none is found stays, with the teams in a random order.
     ///
     /// # Errors
     /// Only where memory runs out.
-    fn place(&mut self, alloc: Global, league: &League, afresh: bool) -> Result<(), AllocError>
+    fn place(&mut self, alloc: Global, league: &League) -> Result<(), AllocError>
         requires walker { IsWalkerIn league.now self.old }
         ensures walker { OnOk result (IsWalkerIn league.now self.new) }
         ensures best { OnOk result (self.new.best ≡ self.old.best) }
         ensures left { OnOk result (self.new.left ≡ self.old.left) }
     {
-        self.restart(alloc, league, afresh)?;
+        self.restart(alloc, league)?;
         self.standing.shuffle(&mut self.random);
         Ok(())
     }
 
-    /// Goes to a random double round robin, where that is wanted and one is found.
+    /// Goes to a random double round robin, where one is found.
     ///
     /// # Errors
     /// Only where memory runs out.
-    fn restart(&mut self, alloc: Global, league: &League, afresh: bool) -> Result<(), AllocError>
+    fn restart(&mut self, alloc: Global, league: &League) -> Result<(), AllocError>
         requires walker { IsWalkerIn league.now self.old }
         ensures walker { OnOk result (IsWalkerIn league.now self.new) }
         ensures best { OnOk result (self.new.best ≡ self.old.best) }
         ensures left { OnOk result (self.new.left ≡ self.old.left) }
     {
-        if !afresh {
-            return Ok(());
-        }
         let Some(start) = random_start(alloc, league, &mut self.random)? else {
             return Ok(());
         };
@@ -125,8 +173,8 @@ impl Walker {
         Ok(())
     }
 
-    /// Looks for games that meet the hard constraints, in stretches after each of which the weights are adapted. The best
-    /// games at the end of a stretch are kept.
+    /// Looks for games that meet the hard constraints, in stretches after each of which the weights are adapted, until
+    /// the search has been in vain for long. The best games at the end of a stretch are kept.
     ///
     /// # Errors
     /// Only where memory runs out.
@@ -137,10 +185,11 @@ impl Walker {
         ensures left { OnOk result (self.new.left ≤ self.old.left) }
     {
         let mut weights = Weights::new(alloc, league)?;
+        let mut patience = Patience::new();
         'stretches: for _stretch in 0..self.left / STRETCH + 1 {
             let sum = self.stretch(alloc, league, &mut weights)?;
             self.keep_lower(alloc, league, sum)?;
-            if sum == 0 || self.left == 0 {
+            if sum == 0 || self.left == 0 || patience.ends(sum) {
                 return Ok(());
             }
         }
@@ -166,9 +215,13 @@ impl Walker {
         let mut steps = Steps::<Plain>::start();
         let mut tally = hard_tally(alloc, league, weights, &self.games, &mut steps)?;
         let limit = self.left.min(STRETCH);
-        let tried = self
-            .standing
-            .meet(&mut self.random, limit, &mut tally, &mut steps);
+        let tried = self.standing.meet(
+            &mut self.random,
+            limit,
+            weights.parts(),
+            &mut tally,
+            &mut steps,
+        );
         self.left -= tried;
         weights.adapt(&tally);
         Ok(weights.hard_sum(&tally))

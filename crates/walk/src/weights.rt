@@ -1,12 +1,13 @@
-//! Weights of the hard constraints, which grow while a constraint isn't met.
+//! Weights of the hard constraints' parts, which grow while a part isn't met.
 
+use crate::parts::hard_parts;
 use deviation::total;
 use league::{Constraint, League};
 use rule_core::Entries;
 use std::alloc::{AllocError, Global};
 use tally::Tally;
 
-/// What a unit of a hard constraint's deviation weighs now, and its penalty.
+/// What a unit of the deviation of a hard constraint's part weighs now, and its penalty.
 #[derive(Clone, Copy)]
 struct Weight {
     penalty: u32,
@@ -23,8 +24,8 @@ impl Weight {
         }
     }
 
-    /// A sixteenth less where the constraint is met, but at least 5 times the penalty; else an eighth more, but at most
-    /// 80 times the penalty.
+    /// A sixteenth less where the part is met, but at least 5 times the penalty; else an eighth more, but at most 80 times
+    /// the penalty.
     fn adapted(self, met: bool) -> Weight {
         let now = if met {
             let less = self.now - self.now / 16;
@@ -37,9 +38,10 @@ impl Weight {
     }
 }
 
-/// A weight for each hard constraint, in their order.
+/// The parts of the hard constraints, and a weight for each.
 #[derive(Drop)]
 pub(crate) struct Weights {
+    parts: Vec<Constraint>,
     weights: Vec<Weight>,
 }
 
@@ -49,16 +51,20 @@ impl Weights {
     /// # Errors
     /// Only where memory runs out.
     pub(crate) fn new(alloc: Global, league: &League) -> Result<Weights, AllocError> {
-        let mut weights = Vec::new(alloc);
-        for constraint in league.constraints() {
-            if constraint.hard {
-                weights.push(Weight::of(constraint))?;
-            }
+        let parts = hard_parts(alloc, league)?;
+        let mut weights = Vec::with_capacity(alloc, parts.len())?;
+        for part in &parts {
+            weights.push(Weight::of(part))?;
         }
-        Ok(Weights { weights })
+        Ok(Weights { parts, weights })
     }
 
-    /// The weight of the hard constraint at a place, from 0.
+    /// The parts of the hard constraints.
+    pub(crate) fn parts(&self) -> &[Constraint] {
+        &self.parts
+    }
+
+    /// The weight of the part at a place, from 0.
     pub(crate) fn at(&self, place: usize) -> u32 {
         match self.weights.get(place) {
             Some(weight) => weight.now,
@@ -66,7 +72,7 @@ impl Weights {
         }
     }
 
-    /// What the rules of a tally of the hard constraints cost by their penalties.
+    /// What the rules of a tally of the parts cost by their penalties.
     pub(crate) fn hard_sum<R: Entries>(&self, tally: &Tally<R>) -> u128 {
         let mut sum = 0u128;
         for place in 0..tally.rule_count() {
@@ -78,7 +84,7 @@ impl Weights {
         sum
     }
 
-    /// Makes each weight greater or smaller by whether its rule, of a tally of the hard constraints, is met.
+    /// Makes each weight greater or smaller by whether its rule, of a tally of the parts, is met.
     pub(crate) fn adapt<R: Entries>(&mut self, tally: &Tally<R>) {
         for place in 0..tally.rule_count() {
             let met = tally.vector(place).iter().all(|entry| *entry == 0);

@@ -1,4 +1,4 @@
-use Rattle.std.proofs.Common.{◌≡◌, ℕ, ◌≤◌, true, arith, subst}
+use Rattle.std.proofs.Common.{ℕ, true, arith, subst}
 use Rattle.std.specs.List.{All}
 use Rattle.league.specs.Counts.{counts_of}
 use Rattle.league.specs.Instance.{IsGame}

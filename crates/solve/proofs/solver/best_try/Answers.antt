@@ -1,8 +1,61 @@
+use Rattle.std.proofs.Common.{◌≡◌, true, List, [], ◌∷◌, ◌++◌, Option, length-append, refl, arith}
+use Rattle.std.specs.Prelude.{IfSome}
+use Rattle.std.proofs.lemmas.List.Elements.{All-cons, All-nil, All-push}
+use Rattle.solve.specs.Earliest.{season_of, season_tried}
+use Rattle.solve.specs.Solutions.{IsRefuted}
+use Rattle.solve.specs.Tried.{IsSeason}
+use Rattle.solve.specs.declared.lower.Season.{Season}
+use Rattle.solve.proofs.EarliestLemmas.{one-best, season-is_tried, season-solved}
 use Rattle.solve.proofs.solver.best_try.Goals as goal
 
+pub loop-k-init : goal.loop-k-init
+loop-k-init c =
+    let P : Option Season → Type 0 = λ o. IfSome o (IsSeason c.args.league.now c.args.budgets.moves) in
+    let first : Option Season = season_of c.in_ok-best.best in
+    record {
+      solution = c.in_ok-best.ensures.solution;
+      found = first ∷ [];
+      each = All-cons P first []
+          (season-solved c.args.league.now c.args.budgets c.in_ok-best.best c.in_ok-best.ensures.solution) (All-nil P);
+      tried = refl;
+      within = λ more. absurd (omega (arith, more));
+      best = one-best first;
+      circle = c.in_ok-best.ensures.circle;
+    }
+
 pub loop-k-preserved : goal.loop-k-preserved
-loop-k-preserved c = record {
-  solution = c.better-best.ensures.solution c.args.league.now c.args.budgets c.loop-k.invariant.solution
-      c.in_ok-later.ensures;
-  circle = λ accepted. c.better-best.ensures.schedule (c.loop-k.invariant.circle accepted);
+loop-k-preserved c =
+    let P : Option Season → Type 0 = λ o. IfSome o (IsSeason c.args.league.now c.args.budgets.moves) in
+    let found : List (Option Season) = c.loop-k.invariant.found in
+    let later : Option Season = season_tried c.in_ok-later.later in
+    let goes_on : IsRefuted c.loop-k.best → ⊥ =
+    λ refuted. let is : c.is_refuted.result ≡ true = c.is_refuted.ensures.1 refuted in absurd (cc) in
+    record {
+      solution = c.better-best.ensures.solution c.args.league.now c.args.budgets c.loop-k.invariant.solution
+          c.in_ok-later.ensures;
+      found = found ++ later ∷ [];
+      each = All-push P found later c.loop-k.invariant.each
+          (season-is_tried c.args.league.now c.args.budgets c.in_ok-later.later c.in_ok-later.ensures);
+      tried = omega (arith, length-append found (later ∷ []), c.loop-k.invariant.tried);
+      within = λ more. omega arith;
+      best = c.better-best.ensures.best found goes_on c.loop-k.invariant.best;
+      circle = λ accepted. c.better-best.ensures.schedule (c.loop-k.invariant.circle accepted);
+    }
+
+pub returns-then-is_refuted-clause-best : goal.returns-then-is_refuted-clause-best
+returns-then-is_refuted-clause-best c = record {
+  found = c.loop-k.invariant.found;
+  each = c.loop-k.invariant.each;
+  few = λ more. omega (arith, c.loop-k.invariant.tried, c.loop-k.invariant.within (omega (arith, more, c.loop-k.invariant.tried)));
+  all = λ goes_on. absurd (goes_on (c.is_refuted.ensures.0 c.if-is_refuted.true));
+  best = c.loop-k.invariant.best;
+}
+
+pub returns-clause-best : goal.returns-clause-best
+returns-clause-best c = record {
+  found = c.loop-k.invariant.found;
+  each = c.loop-k.invariant.each;
+  few = λ more. omega (arith, c.loop-k.invariant.tried, c.loop-k.invariant.within (omega (arith, more, c.loop-k.invariant.tried)));
+  all = λ goes_on. omega (arith, c.loop-k.invariant.tried);
+  best = c.loop-k.invariant.best;
 }

@@ -1,6 +1,9 @@
-use Rattle.std.proofs.Common.{subst}
+use Rattle.std.proofs.Common.{[], ◌∷◌, ◌++◌, Option, None, subst, sym}
+use Rattle.solve.specs.Earliest.{IsBestOf, season_of, season_tried}
 use Rattle.solve.specs.Solutions.{IsSolution, IsSpentOn, LeavesOpen}
+use Rattle.solve.specs.declared.lower.Season.{Season}
 use Rattle.solve.specs.declared.solved.Solved.{Solved}
+use Rattle.solve.proofs.EarliestLemmas.{after-none}
 use Rattle.solve.proofs.tries.better.Goals as goal
 
 pub returns-in-Spent-clause-solution : goal.returns-in-Spent-clause-solution
@@ -8,10 +11,16 @@ returns-in-Spent-clause-solution c = λ league budgets best later.
     let known : IsSpentOn league budgets.conflicts c.in-Spent.log
     × LeavesOpen league budgets.patterns c.in-Spent.patterns =
     subst (λ (s : Solved). IsSolution league budgets s) c.in-Spent.is best in
-    c.solved_by.ensures league budgets later known.1
+    c.solved_by.ensures.solution league budgets later known.1
 
 pub returns-clause-solution : goal.returns-clause-solution
 returns-clause-solution c = λ league budgets best later.
     c.schedule_found.ensures.solution league budgets
-    (c.better_season.ensures league budgets
+    (c.better_season.ensures.season league budgets
     (subst (λ (s : Solved). IsSolution league budgets s) c.in-Schedule.is best) later)
+
+pub returns-in-Spent-clause-best : goal.returns-in-Spent-clause-best
+returns-in-Spent-clause-best c = λ found open_yet so_far.
+    let none : IsBestOf found None = subst (λ (s : Solved). IsBestOf found (season_of s)) c.in-Spent.is so_far in
+    subst (λ (o : Option Season). IsBestOf (found ++ season_tried c.args.later ∷ []) o) (sym c.solved_by.ensures.season)
+    (after-none found c.args.later none)
