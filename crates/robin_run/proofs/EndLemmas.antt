@@ -42,8 +42,7 @@ use Rattle.resume_answer.specs.Audited as auditing
 use Rattle.resume_answer.specs.Audited.{audited}
 use Rattle.resume_answer.specs.Resumed as resuming
 use Rattle.resume_answer.specs.Resumed.{resumed}
-use Rattle.resume_answer.specs.Seasons.{has_size, has_slots, plays}
-use Rattle.resume_answer.specs.declared.season.Season.{Season}
+use Rattle.resume_answer.specs.Seasons.{has_size, has_slots}
 use Rattle.instance_gen.specs.Draws.{seeded}
 use Rattle.instance_gen.specs.Made.{made_league}
 use Rattle.trial_answer.specs.Trial.{IsTrial, tried}
@@ -331,39 +330,36 @@ size-ends : (Ends : Status → Type 0) → Ends File → (league : Instance) (k 
 size-ends Ends file league k next answer later (inl h) = later h.1
 size-ends Ends file league k next answer later (inr h) = ends-as Ends answer _ h.1 file
 
--- the stages that read the second file, and go on with the season
-abbrev season_from : (List ℕ → Option (List ℕ)) → (ℕ → Type 0) → (List ℕ → Type 0) → List ℕ → ℕ → (Season → Outcome)
-    → List ℕ → Instance → Outcome
-season_from contents took_more failed solution k next first league =
+-- the stages that read the second file, and go on with the league, the games and how many bytes both files had
+abbrev season_from : (List ℕ → Option (List ℕ)) → (ℕ → Type 0) → (List ℕ → Type 0) → List ℕ
+    → (Instance → List Game → ℕ → Outcome) → List ℕ → Instance → Outcome
+season_from contents took_more failed solution next first league =
     reads (codes "solution") (contents solution) SOLUTION_LIMIT (took_more (length first + SOLUTION_LIMIT))
     (failed solution)
     (λ second. says (codes "solution") (solution_of league.n (pieces second))
-    (λ played. next (record {
-      league = league;
-      played = played;
-      slots = k;
-      bytes = length first + length second;
-    })))
+    (λ played. next league played (length first + length second)))
 
 plays-ends : (Ends : Status → Type 0) → Ends File → Ends ReadFault → (contents : List ℕ → Option (List ℕ))
     (took_more : ℕ → Type 0) (failed : List ℕ → Type 0) (instance solution : List ℕ) (k : ℕ)
-    (next : Season → Outcome) (answer : Answer) → ((season : Season) → next season answer → Ends answer.status)
-    → plays contents took_more failed instance solution k next answer → Ends answer.status
+    (next : Instance → List Game → ℕ → Outcome) (answer : Answer)
+    → ((league : Instance) (played : List Game) (bytes : ℕ) → next league played bytes answer → Ends answer.status)
+    → reads (codes "instance") (contents instance) INSTANCE_LIMIT (took_more INSTANCE_LIMIT) (failed instance)
+    (λ first. says (codes "instance") (instance_of (pieces first))
+    (λ league. has_slots league k
+    (λ slots. has_size league k (λ size. season_from contents took_more failed solution next first league)))) answer
+    → Ends answer.status
 plays-ends Ends file fault contents took_more failed instance solution k next answer later given =
-    let rest : List ℕ → Instance → Outcome = season_from contents took_more failed solution k next in
     league-ends Ends file fault (contents instance) (took_more INSTANCE_LIMIT) (failed instance)
-    (λ first league. has_slots league k (λ slots. has_size league k (λ size. rest first league))) answer
-    (λ first league at_league. slots-ends Ends file league k (λ slots. has_size league k (λ size. rest first league))
-    answer
-    (λ at_slots. size-ends Ends file league k (λ size. rest first league) answer
+    (λ first league. has_slots league k
+    (λ slots. has_size league k (λ size. season_from contents took_more failed solution next first league))) answer
+    (λ first league at_league. slots-ends Ends file league k
+    (λ slots. has_size league k (λ size. season_from contents took_more failed solution next first league)) answer
+    (λ at_slots. size-ends Ends file league k
+    (λ size. season_from contents took_more failed solution next first league) answer
     (λ at_size. games-ends Ends file fault league.n (contents solution) (took_more (length first + SOLUTION_LIMIT))
-    (failed solution)
-    (λ second played. next (record {
-      league = league;
-      played = played;
-      slots = k;
-      bytes = length first + length second;
-    })) answer (λ second played at_season. later _ at_season) at_size) at_slots) at_league) given
+    (failed solution) (λ second played. next league played (length first + length second)) answer
+    (λ second played at_season. later league played (length first + length second) at_season) at_size) at_slots)
+    at_league) given
 
 resuming-ends : (Ends : Status → Type 0) → Ends Yes → Ends Refuted → Ends Spent → (league : Instance)
     (played : List Game) (k : ℕ) (conflicts : Option ℕ) (answer : Answer)
@@ -382,8 +378,8 @@ resumed-ends : (Ends : Status → Type 0) → Ends File → Ends ReadFault → E
 resumed-ends Ends file fault ends_yes refuted spent contents took_more failed instance solution k conflicts answer
     given =
     plays-ends Ends file fault contents took_more failed instance solution k
-    (λ season. resuming.IsFound season.league season.played k conflicts) answer
-    (λ season found. resuming-ends Ends ends_yes refuted spent season.league season.played k conflicts answer found)
+    (λ league played bytes. resuming.IsFound league played k conflicts) answer
+    (λ league played bytes found. resuming-ends Ends ends_yes refuted spent league played k conflicts answer found)
     given
 
 audited-ends : (Ends : Status → Type 0) → Ends File → Ends ReadFault → Ends Yes → Ends No
@@ -392,13 +388,12 @@ audited-ends : (Ends : Status → Type 0) → Ends File → Ends ReadFault → E
     → audited contents took_more failed instance solution k log answer → Ends answer.status
 audited-ends Ends file fault ends_yes ends_no contents took_more failed instance solution k log answer given =
     plays-ends Ends file fault contents took_more failed instance solution k
-    (λ season. reads (codes "log") (contents log) most_log_bytes (took_more (season.bytes + most_log_bytes))
-    (failed log) (λ third. says_log (log_of third) (auditing.IsVerdict season.league season.played k))) answer
-    (λ season at_season. log-ends Ends file fault (contents log) (took_more (season.bytes + most_log_bytes))
-    (failed log) (auditing.IsVerdict season.league season.played k) answer
+    (λ league played bytes. reads (codes "log") (contents log) most_log_bytes (took_more (bytes + most_log_bytes))
+    (failed log) (λ third. says_log (log_of third) (auditing.IsVerdict league played k))) answer
+    (λ league played bytes at_season. log-ends Ends file fault (contents log) (took_more (bytes + most_log_bytes))
+    (failed log) (auditing.IsVerdict league played k) answer
     (λ steps verdict. ends-as Ends answer _ verdict.verdict (verdict-ends Ends ends_yes ends_no (length steps) _))
-    at_season)
-    given
+    at_season) given
 
 -- ---- `trial`
 
