@@ -2,7 +2,7 @@
 
 python3 second/hostile.py PROGRAM [GROUP ..] [--cases N] [--seed N] [--keep FOLDER]
 
-PROGRAM is robin as it was built. Each GROUP (all but `heavy` where none is named) makes its cases in a folder of its own,
+PROGRAM is robin as it was built. Each GROUP (all but `costly`, `steps` and `heavy` where none is named) makes its cases in a folder of its own,
 runs the program on them under a limit of time and of memory, and compares the status and each byte with what the rules
 in words demand (forms.py, leagues.py, logs.py). One line a group says how many cases there were and how many differed; the
 input of each difference is kept in FOLDER. `--cases` is the number of changed files or logs. `memory` and `faults` want cc.
@@ -341,11 +341,11 @@ def limits(t):
     for value in ("4294967295", "4294967296"):
         text = I4.replace(b'<team id="0"/>', f'<team id="{value}"/>'.encode())
         path = t.path("id.xml", text)
-        kind = "WrongCounts line 24" if value == "4294967295" else "NumberTooLarge line 12"
+        kind = "WrongCounts line 25" if value == "4294967295" else "NumberTooLarge line 12"
         t.answers(["validate", path, season], 3, f"refused instance {kind}\n", files=[path])
         text = I4.replace(b'<slot id="0"/>', f'<slot id="{value}"/>'.encode())
         path = t.path("id.xml", text)
-        kind = "WrongCounts line 24" if value == "4294967295" else "NumberTooLarge line 18"
+        kind = "WrongCounts line 25" if value == "4294967295" else "NumberTooLarge line 18"
         t.answers(["validate", path, season], 3, f"refused instance {kind}\n", files=[path])
         text = season_text([(value, 0, 0)])
         path = t.path("id.xml", text)
@@ -602,7 +602,7 @@ def commands(t):
         (["solve", league, "--conflicts", "0"], ["instance"]),
         (["solve", one], ["instance"]),
         (["solve", four], ["instance"]),
-        (["solve", breaks, "--conflicts", "all"], ["instance"]),
+        (["solve", breaks, "--conflicts", "2", "--moves", "0"], ["instance"]),
         (["check", league, log], ["instance", "log"]),
         (["patterns", league], ["instance"]),
         (["patterns", four], ["instance"]),
@@ -1048,7 +1048,7 @@ def costly(t):
 
 
 def heavy(t):
-    """Logs of 256 MiB, and logs that ask for much: time and peak memory beside the file's size."""
+    """Logs of 256 MiB: time and peak memory beside the file's size."""
     text = instance_text(4, True, [NO_HOME])
     it, size = t.path("league.xml", text), 256 * MIB
     start = b"refutation 1\n"
@@ -1058,23 +1058,47 @@ def heavy(t):
         ("spaces", 3, "refused log TooLong line 1\n", lambda: (b" " * MIB for _ in range(256))),
         ("spaces and one", 3, "refused log TooLong limit 268435456\n", lambda: (b" " * (MIB + (k == 0)) for k in range(256))),
         ("a single endless step", 3, "refused log TooLong line 2\n", lambda: filled(start, b"1 ", b"", size)),
-        ("steps of two literals", 1, None, lambda: filled(start, b"1 -1 0 0\n", b"0 0\nend\n", size)),
         ("empty lines", 3, "refused log BadLine line 2\n", lambda: filled(start, b"\n", b"", size)),
     ]
     for name, status, answer, chunks in cases:
         path = t.path("heavy.log", *chunks())
-        real = os.path.getsize(path)
-        if name == "steps of two literals":
-            # The last line but two is padded with spaces, which is no line of a log.
-            status, answer = None, None
-            ran = t.run("check", it, path, memory=8192, seconds=600)
-            status = ran.status
-        measured(t, name, ["check", it, path], status, answer, real)
+        measured(t, name, ["check", it, path], status, answer, os.path.getsize(path))
     os.remove(path)
     measured(t, "/dev/zero", ["check", it, "/dev/zero"], 3, "refused log TooLong limit 268435456\n", size)
 
 
-GROUPS = [prefixes, wild, limits, edges, memory, faults, devices, texts, mutants, files, large, costly, heavy]
+def steps(t):
+    """Logs of many steps, of long lines and of long sums: time and peak memory beside the file's size."""
+    it = t.path("league.xml", instance_text(4, True, [NO_HOME]))
+    for name, unit, mib in (("short steps", b"1 -1 0 0\n", 32), ("clauses", b"1 2 3 4 5 6 7 8 -1 0 0\n", 32), ("hints", b"1 -1 0 1 1 1 1 1 1 0\n", 32)):
+        many = mib * MIB // len(unit)
+        path = t.path("steps.log", b"refutation 1\n", *[unit * 1024] * (many // 1024), b"end\n")
+        answer = f"rejected step {many // 1024 * 1024} cause NoEmptyClause\n"
+        measured(t, f"{many // 1024 * 1024} {name}", ["check", it, path], 1, answer, os.path.getsize(path))
+    for name, head, unit, tail, told in (
+        ("a literal again and again", b"", b"1 ", b"0 0\n", "NoConflict"),
+        ("a literal and its negation", b"", b"1 -1 ", b"0 0\n", "NoEmptyClause"),
+        ("a hint again and again", b"0 ", b"133 ", b"0\n", "NoConflict"),
+        ("literals that are no variable", b"", b"2147483647 ", b"0 0\n", "UnknownVariable"),
+    ):
+        line = head + unit * ((16 * MIB - len(head) - len(tail)) // len(unit)) + tail
+        path = t.path("line.log", b"refutation 1\n", line, b"end\n")
+        measured(t, name, ["check", it, path], 1, f"rejected step 1 cause {told}\n", os.path.getsize(path))
+    line = b"l " + b"1 133 " * ((16 * MIB - 6) // 6) + b"0 1\n"
+    path = t.path("line.log", b"refutation 2\n", line, b"end\n")
+    measured(t, "a sum of one row again and again", ["check", it, path], 1, "rejected step 1 cause NoEmptyClause\n", os.path.getsize(path))
+    n, slots = 40, 78
+    forty = t.path("forty.xml", instance_text(n, True))
+    first = n * (n - 1) * 2 + 1
+    row = n * (n - 1) * 2 + n * slots * 2 + n * (n - 1) + n * slots * 2 + slots * 2 + n * 2
+    wide = b"l " + b"".join(b"1 %d " % (first + 2 * k) for k in range(n * slots)) + b"0 1\n"
+    for count in (100, 400):
+        path = t.path("sums.log", b"refutation 2\n", wide, *[b"l 1 %d 0 1\n" % (row + k + 1) for k in range(count - 1)], b"end\n")
+        answer = f"rejected step {count} cause NoEmptyClause\n"
+        measured(t, f"{count} sums of 121680 terms", ["check", forty, path], 1, answer, os.path.getsize(path), memory=16384)
+
+
+GROUPS = [prefixes, wild, limits, edges, memory, faults, devices, texts, mutants, files, large, costly, steps, heavy]
 
 
 def main():
@@ -1086,7 +1110,7 @@ def main():
     words.add_argument("--keep")
     words.add_argument("--scratch", help="where the folders stand; one in memory, as /dev/shm, is faster")
     said = words.parse_args()
-    chosen = [it for it in GROUPS if (it.__name__ in said.groups if said.groups else it is not heavy)]
+    chosen = [it for it in GROUPS if (it.__name__ in said.groups if said.groups else it not in (costly, steps, heavy))]
     total = 0
     for group in chosen:
         with tempfile.TemporaryDirectory(dir=said.scratch) as folder:
