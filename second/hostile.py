@@ -30,6 +30,7 @@ import rows
 
 Ran = collections.namedtuple("Ran", "status out err seconds peak calls clock")
 MIB = 1 << 20
+BATCH = 200
 
 
 # Texts of files.
@@ -168,6 +169,18 @@ class Tries:
         shown = [it if len(str(it)) < 60 else str(it)[:60] for it in words]
         self.must(is_same, shown, "gave", ran.status, ran.out[:200], "not", status, (text or b"")[:200], files=files)
         return ran
+
+    def batch(self, runs, wanted):
+        """Many runs at once, where the program can be loaded once, and else one by one."""
+        if self.server.process:
+            given = self.server.many(runs)
+        else:
+            given = [(ran.status, ran.out) for ran in (self.run(*words) for _, words in runs)]
+        for (_, words), (status, out), (told, text) in zip(runs, given, wanted):
+            is_same = (status, out) == (told, text.encode()) and is_lawful(words[0], status, text)
+            self.must(is_same, words, "gave", status, out[:200], "not", told, text[:200], files=words[1:])
+        if self.count[self.group] % 2000 < len(runs):
+            print(f"    {self.count[self.group]} cases, {self.differences[self.group]} differences", flush=True)
 
 
 # What is demanded.
@@ -517,12 +530,28 @@ static void run(char *text, int size, char **environment) {
     is_child = 1;
     exit(whole(count - 2, words + 2, environment));
 }
+/* Many runs one after another in this process, each a call of `main`: OUT, ERR, the words, and an empty word. */
+static void run_all(char *text, int size, char **environment) {
+    static long said[4096]; int runs = 0;
+    for (char *at = text; at < text + size; runs++) {
+        char *words[64]; int count = 0;
+        for (; *at; at += strlen(at) + 1) words[count++] = at;
+        words[count] = 0; at++;
+        int out = syscall(SYS_openat, AT_FDCWD, words[0], O_WRONLY | O_CREAT | O_TRUNC, 0600), kept = dup(1);
+        dup2(out, 1); close(out);
+        dl_iterate_phdr(begin_again, words + 1);
+        said[runs] = whole(count - 1, words + 1, environment);
+        dup2(kept, 1); close(kept);
+    }
+    syscall(SYS_write, 1, said, runs * sizeof(long));
+}
 static int serve(int count, char **words, char **environment) {
     int size;
     counts = mmap(0, 4096, PROT_READ | PROT_WRITE, MAP_SHARED | MAP_ANONYMOUS, -1, 0);
     while (whole_read(&ask, sizeof ask) && whole_read(&size, sizeof size)) {
         char *text = __libc_malloc(size + 1); struct rusage used; int status;
         if (!whole_read(text, size)) return 0;
+        if (!ask.seconds) { run_all(text, size, environment); free(text); continue; }
         memset(counts, 0, 4 * sizeof(long));
         int child = fork();
         if (!child) run(text, size, environment);
@@ -567,6 +596,23 @@ class Server:
             said, complaint = file.read(head), errors.read(1 << 16)
         clock = time.monotonic() - began
         return Ran(os.waitstatus_to_exitcode(status), said, complaint, used / 1e6, peak / 1024, calls, clock)
+
+    def many(self, runs):
+        """The statuses and outputs of many runs, (out, words) each, one after another in one process: `main` is called
+        again and again, so each run also shows that the one before left nothing behind."""
+        text = b"".join(b"".join(os.fsencode(it) + b"\0" for it in (out, "robin", *words)) + b"\0" for out, words in runs)
+        self.process.stdin.write(struct.pack("=11qi", *[0] * 11, len(text)) + text)
+        told = b""
+        while len(told) < 8 * len(runs):
+            more = self.process.stdout.read(8 * len(runs) - len(told))
+            if not more:
+                raise SystemExit(f"the program ended within a batch: {self.process.wait()}")
+            told += more
+        found = []
+        for status, (out, _) in zip(struct.unpack(f"={len(runs)}q", told), runs):
+            with open(out, "rb") as file:
+                found.append((status, file.read()))
+        return found
 
     def end(self):
         if self.process:
@@ -828,17 +874,21 @@ def files(t):
     pairs += [(example("competition.xml"), example("competition-season.xml")), (example("one-home-game.xml"), C4_TEXT)]
     pairs += [(t.run("make", n, seed).out, t.run("circle", n).out) for n, seed in (("2", "1"), ("4", "1"), ("6", "2"))]
     kinds = collections.Counter()
-    for number in range(t.cases):
-        league, season = rng.choice(pairs)
-        if rng.random() < 0.6:
-            league = changed_file(rng, league, [rng.choice(pairs)[0]])
-        else:
-            season = changed_file(rng, season, [rng.choice(pairs)[1]])
-        it, path = t.path("league.xml", league), t.path("season.xml", season)
-        status, text = validated(league, season)
-        t.answers(["validate", it, path], status, text, files=[it, path])
-        kinds[" ".join(text.split(" ")[1:3]) if status == 3 else f"status {status}"] += 1
-        if number % 10 == 0:
+    for first in range(0, t.cases, BATCH):
+        runs, wanted = [], []
+        for k in range(min(BATCH, t.cases - first)):
+            league, season = rng.choice(pairs)
+            if rng.random() < 0.6:
+                league = changed_file(rng, league, [rng.choice(pairs)[0]])
+            else:
+                season = changed_file(rng, season, [rng.choice(pairs)[1]])
+            it, path = t.path(f"league-{k}.xml", league), t.path(f"season-{k}.xml", season)
+            runs.append((os.path.join(t.folder, f"told-{k}"), ["validate", it, path]))
+            wanted.append(validated(league, season))
+            status, text = wanted[-1]
+            kinds[" ".join(text.split(" ")[1:3]) if status == 3 else f"status {status}"] += 1
+        t.batch(runs, wanted)
+        if first // BATCH % 5 == 0:
             told = instance_refusal(league)[1]
             few = ["--conflicts", "30"]
             for words in (["solve", it, *few, "--moves", "20"], ["patterns", it, *few], ["explain", it, *few], ["part", it, "1"]):
@@ -927,14 +977,17 @@ def mutants(t):
         for log in found:
             path = t.path("whole.log", log)
             t.answers(["check", os.path.join(t.folder, f"league-{number}.xml"), path], *checked(count, own, log), files=[path])
-    for _ in range(t.cases):
-        number = rng.randrange(len(known))
-        _, found, (count, own) = known[number]
-        log = changed_log(rng, rng.choice(found), texts_of)
-        it, path = os.path.join(t.folder, f"league-{number}.xml"), t.path("changed.log", log)
-        status, told = checked(count, own, log)
-        kinds[re.sub(r"(refused log|rejected step \d+ cause|line \d+|steps \d+)\s*", "", told).strip()] += 1
-        t.answers(["check", it, path], status, told, files=[it, path])
+    for first in range(0, t.cases, BATCH):
+        runs, wanted = [], []
+        for k in range(min(BATCH, t.cases - first)):
+            number = rng.randrange(len(known))
+            _, found, (count, own) = known[number]
+            log = changed_log(rng, rng.choice(found), texts_of)
+            path = t.path(f"changed-{k}.log", log)
+            runs.append((os.path.join(t.folder, f"told-{k}"), ["check", os.path.join(t.folder, f"league-{number}.xml"), path]))
+            wanted.append(checked(count, own, log))
+            kinds[re.sub(r"(refused log|rejected step \d+ cause|line \d+|steps \d+)\s*", "", wanted[-1][1]).strip()] += 1
+        t.batch(runs, wanted)
     print("    " + ", ".join(f"{it}: {count}" for it, count in kinds.most_common()), flush=True)
 
 
