@@ -28,19 +28,28 @@ const STRETCH: u64 = 2000;
 /// A search ends after so many moves tried that didn't lower what the hard constraints cost.
 const PATIENCE: u64 = 1_600_000;
 
-/// How long a search has been in vain.
+/// The same for the first search, from the games where the walk starts.
+const FIRST_PATIENCE: u64 = 100_000;
+
+/// How long a search has been in vain, and how long it may be.
 #[derive(Clone, Copy)]
 struct Patience {
     lowest: u128,
     vain: u64,
+    most: u64,
 }
 
 impl Patience {
-    /// Nothing was searched yet.
-    fn new() -> Patience {
+    /// That of a search with this number, from 0, of which nothing was searched yet.
+    fn of(search: u64) -> Patience {
         Patience {
             lowest: u128::MAX,
             vain: 0,
+            most: if search == 0 {
+                FIRST_PATIENCE
+            } else {
+                PATIENCE
+            },
         }
     }
 
@@ -52,7 +61,7 @@ impl Patience {
         } else {
             self.vain = self.vain.saturating_add(STRETCH);
         }
-        self.vain >= PATIENCE
+        self.vain >= self.most
     }
 }
 
@@ -99,8 +108,8 @@ impl Walker {
         })
     }
 
-    /// Searches, each from a new double round robin, one after another until no move may be tried any more, or nothing is
-    /// left to lower.
+    /// Searches, from the games where it stands and then each time from a new double round robin, one after another until
+    /// no move may be tried any more, or nothing is left to lower.
     ///
     /// # Errors
     /// Only where memory runs out.
@@ -110,8 +119,8 @@ impl Walker {
         ensures no_worse { OnOk result (IsNoWorse self.new.best.score self.old.best.score) }
         ensures left { OnOk result (self.new.left ≤ self.old.left) }
     {
-        'searches: for _search in 0..self.left / PATIENCE + 1 {
-            self.search_once(alloc, league)?;
+        'searches: for search in 0..self.left / PATIENCE + 2 {
+            self.search_once(alloc, league, search)?;
             if self.is_done() {
                 return Ok(());
             }
@@ -125,32 +134,36 @@ impl Walker {
         self.left == 0 || (score.infeasibility == 0 && score.objective == 0)
     }
 
-    /// Looks for games that meet the hard constraints, and from there for better ones.
+    /// Looks for games that meet the hard constraints, and from there for better ones: the search with this number.
     ///
     /// # Errors
     /// Only where memory runs out.
-    fn search_once(&mut self, alloc: Global, league: &League) -> Result<(), AllocError>
+    fn search_once(&mut self, alloc: Global, league: &League, search: u64) -> Result<(), AllocError>
         requires walker { IsWalkerIn league.now self.old }
         ensures walker { OnOk result (IsWalkerIn league.now self.new) }
         ensures no_worse { OnOk result (IsNoWorse self.new.best.score self.old.best.score) }
         ensures left { OnOk result (self.new.left ≤ self.old.left) }
     {
-        self.place(alloc, league)?;
-        self.meet_hard(alloc, league)?;
+        self.place(alloc, league, search)?;
+        self.meet_hard(alloc, league, Patience::of(search))?;
         self.lower_soft(alloc, league)?;
         Ok(())
     }
 
-    /// Goes to a random double round robin, or where none is found stays, with the teams in a random order.
+    /// Goes to where the search with this number begins. The first one stays, and the others begin at a random double
+    /// round robin, or where none is found at the same games, with the teams in a random order.
     ///
     /// # Errors
     /// Only where memory runs out.
-    fn place(&mut self, alloc: Global, league: &League) -> Result<(), AllocError>
+    fn place(&mut self, alloc: Global, league: &League, search: u64) -> Result<(), AllocError>
         requires walker { IsWalkerIn league.now self.old }
         ensures walker { OnOk result (IsWalkerIn league.now self.new) }
         ensures best { OnOk result (self.new.best ≡ self.old.best) }
         ensures left { OnOk result (self.new.left ≡ self.old.left) }
     {
+        if search == 0 {
+            return Ok(());
+        }
         self.restart(alloc, league)?;
         self.standing.shuffle(&mut self.random);
         Ok(())
@@ -178,14 +191,19 @@ impl Walker {
     ///
     /// # Errors
     /// Only where memory runs out.
-    fn meet_hard(&mut self, alloc: Global, league: &League) -> Result<(), AllocError>
+    fn meet_hard(
+        &mut self,
+        alloc: Global,
+        league: &League,
+        patience: Patience,
+    ) -> Result<(), AllocError>
         requires walker { IsWalkerIn league.now self.old }
         ensures walker { OnOk result (IsWalkerIn league.now self.new) }
         ensures no_worse { OnOk result (IsNoWorse self.new.best.score self.old.best.score) }
         ensures left { OnOk result (self.new.left ≤ self.old.left) }
     {
         let mut weights = Weights::new(alloc, league)?;
-        let mut patience = Patience::new();
+        let mut patience = patience;
         'stretches: for _stretch in 0..self.left / STRETCH + 1 {
             let sum = self.stretch(alloc, league, &mut weights)?;
             self.keep_lower(alloc, league, sum)?;
