@@ -73,10 +73,19 @@ status 0 accepted, found, proved or made        1 not accepted
       10 the words can't be read (they aren't UTF-8, say)
 "#;
 
+/// The exit status where the words can't be had.
+fn without_words(error: &io::Error) -> u8 {
+    if error.kind() == io::ErrorKind::OutOfMemory {
+        return code(Status::Memory);
+    }
+    NO_ARGUMENTS
+}
+
 /// The words of the command line without the program's name, or the exit status where there are none.
 fn words_of(rt: &HostRuntime) -> Result<Vec<String>, u8> {
-    let Ok(arguments) = env::args(rt) else {
-        return Err(NO_ARGUMENTS);
+    let arguments = match env::args(rt) {
+        Ok(arguments) => arguments,
+        Err(error) => return Err(without_words(&error)),
     };
     let mut words = Vec::new(rt.alloc());
     for word in arguments.skip(1) {

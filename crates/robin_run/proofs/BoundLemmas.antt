@@ -1,5 +1,6 @@
 -- What follows from a run of `prove` and of `bound`.
-use Rattle.std.proofs.Common.{◌≡◌, ℕ, ◌+◌, List, ◌++◌, length, decimal, Option, Some, Result, Ok, Err, codes, ap, inl, inr, refl, sym, subst, ◌∙◌}
+use Rattle.std.proofs.Common.{◌≡◌, ℕ, ◌+◌, List, ◌++◌, length, decimal, Option, Some, Result, Ok, Err, codes, ap, inl}
+use Rattle.std.proofs.Common.{inr, refl, sym, subst, ◌∙◌}
 use Rattle.std.specs.Io.KnownBytes.{Appends}
 use Rattle.std.specs.Prelude.{IfSome}
 use Rattle.robinx_tags.specs.Pieces.{pieces}
@@ -97,9 +98,9 @@ pub run-unbettered : (words : Option Command) (contents : List ℕ → Option (L
     → words ≡ Some (Prove instance solution conflicts) → SaySeason contents instance solution league games
     → ended ≡ Yes → IsUnbettered league games old new
 run-unbettered words contents took_more failed instance solution conflicts league games answer ended old new sink_failed
-    answered written is say yes =
+    answered written is say accepted =
     let whole : (answer.status ≡ Yes) × Appends old new answer.text =
-    written-as answer ended Yes old new sink_failed yes (λ same. cc) written in
+    written-as answer ended Yes old new sink_failed accepted (λ same. cc) written in
     let shown : IsShownBy league games answer =
     answered-proved words contents took_more failed instance solution conflicts league games answer answered is say in
     unbettered league games answer old new (shown.0 whole.0) whole.1
@@ -165,26 +166,26 @@ accepted-text bound steps (Rejected step cause) is = let same : No ≡ Yes = is 
 verdict-certified : (league : Instance) (certificate : Certificate) (answer : Answer) (old new : Option (List ℕ))
     → answer.status ≡ Yes → Appends old new answer.text → IsBoundVerdict league certificate answer
     → IsCertified league old new
-verdict-certified league certificate answer old new yes written verdict =
+verdict-certified league certificate answer old new accepted written verdict =
     let text : answer.text ≡ accepted_line certificate.bound (length certificate.log) =
     ap (λ (a : Answer). a.text) verdict.verdict
     ∙ accepted-text certificate.bound (length certificate.log)
     (bound_verdict league certificate.bound certificate.log)
-    (sym (ap (λ (a : Answer). a.status) verdict.verdict) ∙ yes) in
+    (sym (ap (λ (a : Answer). a.status) verdict.verdict) ∙ accepted) in
     record {
       bound = certificate.bound;
       steps = length certificate.log;
-      least = verdict.holds yes;
+      least = verdict.holds accepted;
       written = subst (λ (t : List ℕ). Appends old new t) text written;
     }
 
 said-certified : (league : Instance) (said : Result Certificate Fault) (answer : Answer) (old new : Option (List ℕ))
     → answer.status ≡ Yes → Appends old new answer.text → says_certificate said (IsBoundVerdict league) answer
     → IsCertified league old new
-said-certified league (Ok certificate) answer old new yes written verdict =
-    verdict-certified league certificate answer old new yes written verdict
-said-certified league (Err fault) answer old new yes written is =
-    let same : File ≡ Yes = sym (ap (λ (a : Answer). a.status) is) ∙ yes in absurd (cc)
+said-certified league (Ok certificate) answer old new accepted written verdict =
+    verdict-certified league certificate answer old new accepted written verdict
+said-certified league (Err fault) answer old new accepted written is =
+    let same : File ≡ Yes = sym (ap (λ (a : Answer). a.status) is) ∙ accepted in absurd (cc)
 
 -- the stages behind the league, where the instance file had so many bytes
 abbrev certificate_from : (List ℕ → Option (List ℕ)) → (ℕ → Type 0) → (List ℕ → Type 0) → List ℕ → List ℕ → Instance
@@ -198,27 +199,27 @@ few-certified : (contents : List ℕ → Option (List ℕ)) (took_more : ℕ →
     (log first : List ℕ) (league : Instance) (answer : Answer) (old new : Option (List ℕ)) → answer.status ≡ Yes
     → Appends old new answer.text → certificate_from contents took_more failed log first league answer
     → IsCertified league old new
-few-certified contents took_more failed log first league answer old new yes written (inl h) =
+few-certified contents took_more failed log first league answer old new accepted written (inl h) =
     let read = reads-yes (codes "log") (contents log) most_log_bytes (took_more (length first + most_log_bytes))
-    (failed log) (λ second. says_certificate (certificate_of second) (IsBoundVerdict league)) answer yes h.1 in
-    said-certified league (certificate_of read.0) answer old new yes written read.2
-few-certified contents took_more failed log first league answer old new yes written (inr h) =
-    let same : File ≡ Yes = sym (ap (λ (a : Answer). a.status) h.1) ∙ yes in absurd (cc)
+    (failed log) (λ second. says_certificate (certificate_of second) (IsBoundVerdict league)) answer accepted h.1 in
+    said-certified league (certificate_of read.0) answer old new accepted written read.2
+few-certified contents took_more failed log first league answer old new accepted written (inr h) =
+    let same : File ≡ Yes = sym (ap (λ (a : Answer). a.status) h.1) ∙ accepted in absurd (cc)
 
 bounded-certified : (contents : List ℕ → Option (List ℕ)) (took_more : ℕ → Type 0) (failed : List ℕ → Type 0)
     (instance log bytes : List ℕ) (league : Instance) (answer : Answer) (old new : Option (List ℕ))
     → contents instance ≡ Some bytes → instance_of (pieces bytes) ≡ Ok league → answer.status ≡ Yes
     → Appends old new answer.text → bounded contents took_more failed instance log answer → IsCertified league old new
-bounded-certified contents took_more failed instance log bytes league answer old new known says_league yes written
+bounded-certified contents took_more failed instance log bytes league answer old new known says_league accepted written
     given =
     let next : List ℕ → Outcome =
     λ first. says (codes "instance") (instance_of (pieces first))
     (certificate_from contents took_more failed log first) in
     let read = reads-yes (codes "instance") (contents instance) INSTANCE_LIMIT (took_more INSTANCE_LIMIT)
-    (failed instance) next answer yes given in
+    (failed instance) next answer accepted given in
     let same : read.0 ≡ bytes = subst (λ (k : Option (List ℕ)). IfSome k (λ file. read.0 ≡ file)) known read.1.same in
     let at_instance : next bytes answer = subst (λ (b : List ℕ). next b answer) same read.2 in
-    few-certified contents took_more failed log bytes league answer old new yes written
+    few-certified contents took_more failed log bytes league answer old new accepted written
     (says-known (codes "instance") (instance_of (pieces bytes)) league
     (certificate_from contents took_more failed log bytes) answer says_league at_instance)
 
@@ -229,10 +230,10 @@ pub run-certified : (words : Option Command) (contents : List ℕ → Option (Li
     → IsWritten answer ended old new sink_failed → words ≡ Some (Bound instance log) → contents instance ≡ Some bytes
     → instance_of (pieces bytes) ≡ Ok league → ended ≡ Yes → IsCertified league old new
 run-certified words contents took_more failed instance log bytes league answer ended old new sink_failed answered
-    written is known says_league yes =
+    written is known says_league accepted =
     let given : bounded contents took_more failed instance log answer =
     subst (λ (w : Option Command). IsAnswer w contents took_more failed answer) is answered in
     let whole : (answer.status ≡ Yes) × Appends old new answer.text =
-    written-as answer ended Yes old new sink_failed yes (λ same. cc) written in
+    written-as answer ended Yes old new sink_failed accepted (λ same. cc) written in
     bounded-certified contents took_more failed instance log bytes league answer old new known says_league whole.0
     whole.1 given

@@ -1,5 +1,6 @@
 -- How the answers to each command end a run: none does so as want of memory does.
-use Rattle.std.proofs.Common.{◌≡◌, ℕ, ◌+◌, Bool, true, false, if◌then◌else◌, List, length, Option, Some, None, Result, Ok, Err, codes, ap, inl, inr, refl, sym, subst, ◌∙◌}
+use Rattle.std.proofs.Common.{◌≡◌, ℕ, ◌+◌, Bool, true, false, if◌then◌else◌, List, length, Option, Some, None, Result}
+use Rattle.std.proofs.Common.{Ok, Err, codes, ap, inl, inr, refl, sym, subst, ◌∙◌}
 use Rattle.rows.specs.Rows.{Row}
 use Rattle.league.specs.Instance.{Instance}
 use Rattle.league.specs.declared.game.Game.{Game}
@@ -15,7 +16,8 @@ use Rattle.command_line.specs.Words.Command.{Solve, Trial, Validate}
 use Rattle.answers.specs.Reply.{Answer}
 use Rattle.answers.specs.Stages.{IsWritten, Outcome, reads, says}
 use Rattle.answers.specs.declared.status.Status.{Status}
-use Rattle.answers.specs.declared.status.Status.TheVariants.{Yes, No, Words, File, Refuted, Spent, ReadFault, WriteFault}
+use Rattle.answers.specs.declared.status.Status.TheVariants.{Yes, No, Words, File, Refuted, Spent, ReadFault}
+use Rattle.answers.specs.declared.status.Status.TheVariants.{WriteFault}
 use Rattle.answers.specs.declared.status.Status.TheVariants.{Memory, Better}
 use Rattle.encoding.specs.Encoding.{rows_of}
 use Rattle.refutation.specs.Steps.{Step}
@@ -40,8 +42,7 @@ use Rattle.resume_answer.specs.Audited as auditing
 use Rattle.resume_answer.specs.Audited.{audited}
 use Rattle.resume_answer.specs.Resumed as resuming
 use Rattle.resume_answer.specs.Resumed.{resumed}
-use Rattle.resume_answer.specs.Seasons.{has_size, has_slots, plays}
-use Rattle.resume_answer.specs.declared.season.Season.{Season}
+use Rattle.resume_answer.specs.Seasons.{has_size, has_slots}
 use Rattle.instance_gen.specs.Draws.{seeded}
 use Rattle.instance_gen.specs.Made.{made_league}
 use Rattle.trial_answer.specs.Trial.{IsTrial, tried}
@@ -63,7 +64,8 @@ read-ends : (Ends : Status → Type 0) → Ends File → Ends ReadFault → (whi
     → Ends answer.status
 read-ends Ends file fault which known limit long failed next answer later (inl read) = later read.0 read.2
 read-ends Ends file fault which known limit long failed next answer later (inr (inl h)) = ends-as Ends answer _ h.2 file
-read-ends Ends file fault which known limit long failed next answer later (inr (inr h)) = ends-as Ends answer _ h.1 fault
+read-ends Ends file fault which known limit long failed next answer later (inr (inr h)) = ends-as Ends answer _ h.1
+    fault
 
 said-ends : {A : Type 0} (Ends : Status → Type 0) → Ends File → (which : List ℕ) (said : Result A Fault)
     (next : A → Outcome) (answer : Answer) → ((x : A) → next x answer → Ends answer.status)
@@ -105,33 +107,33 @@ encodes-ends Ends file league next answer later (inr h) = ends-as Ends answer _ 
 -- ---- `validate`
 
 feasible-ends : (Ends : Status → Type 0) → Ends Yes → Ends No → (feasible : Bool) → Ends (if feasible then Yes else No)
-feasible-ends Ends yes no true = yes
-feasible-ends Ends yes no false = no
+feasible-ends Ends ends_yes ends_no true = ends_yes
+feasible-ends Ends ends_yes ends_no false = ends_no
 
 judgement-ends : (Ends : Status → Type 0) → Ends Yes → Ends No → (league : Instance) (games : List Game)
     (answer : Answer) → IsJudgement league games answer → Ends answer.status
-judgement-ends Ends yes no league games answer judgement =
-    ends-with Ends answer _ judgement.status (feasible-ends Ends yes no judgement.feasible)
+judgement-ends Ends ends_yes ends_no league games answer judgement =
+    ends-with Ends answer _ judgement.status (feasible-ends Ends ends_yes ends_no judgement.feasible)
 
 validated-ends : (Ends : Status → Type 0) → Ends File → Ends ReadFault → Ends Yes → Ends No
     → (contents : List ℕ → Option (List ℕ)) (took_more : ℕ → Type 0) (failed : List ℕ → Type 0)
     (instance solution : List ℕ) (answer : Answer) → validated contents took_more failed instance solution answer
     → Ends answer.status
-validated-ends Ends file fault yes no contents took_more failed instance solution answer given =
+validated-ends Ends file fault ends_yes ends_no contents took_more failed instance solution answer given =
     league-ends Ends file fault (contents instance) (took_more INSTANCE_LIMIT) (failed instance)
     (λ first league. reads (codes "solution") (contents solution) SOLUTION_LIMIT
     (took_more (length first + SOLUTION_LIMIT)) (failed solution)
     (λ second. says (codes "solution") (solution_of league.n (pieces second)) (IsJudgement league))) answer
     (λ first league at_league. games-ends Ends file fault league.n (contents solution)
     (took_more (length first + SOLUTION_LIMIT)) (failed solution) (λ second. IsJudgement league) answer
-    (λ second games judgement. judgement-ends Ends yes no league games answer judgement) at_league) given
+    (λ second games judgement. judgement-ends Ends ends_yes ends_no league games answer judgement) at_league) given
 
 -- ---- `check`, and logs
 
 verdict-ends : (Ends : Status → Type 0) → Ends Yes → Ends No → (steps : ℕ) (verdict : Verdict)
     → Ends (verdict_answer steps verdict).status
-verdict-ends Ends yes no steps Accepted = yes
-verdict-ends Ends yes no steps (Rejected step cause) = no
+verdict-ends Ends ends_yes ends_no steps Accepted = ends_yes
+verdict-ends Ends ends_yes ends_no steps (Rejected step cause) = ends_no
 
 said_log-ends : (Ends : Status → Type 0) → Ends File → (said : Result (List Step) logs.Fault)
     (next : List Step → Outcome) (answer : Answer) → ((steps : List Step) → next steps answer → Ends answer.status)
@@ -153,7 +155,7 @@ checked-ends : (Ends : Status → Type 0) → Ends File → Ends ReadFault → E
     → (contents : List ℕ → Option (List ℕ)) (took_more : ℕ → Type 0) (failed : List ℕ → Type 0)
     (instance log : List ℕ) (answer : Answer) → checked contents took_more failed instance log answer
     → Ends answer.status
-checked-ends Ends file fault yes no contents took_more failed instance log answer given =
+checked-ends Ends file fault ends_yes ends_no contents took_more failed instance log answer given =
     league-ends Ends file fault (contents instance) (took_more INSTANCE_LIMIT) (failed instance)
     (λ first league. encodes league
     (λ rows. reads (codes "log") (contents log) most_log_bytes (took_more (length first + most_log_bytes)) (failed log)
@@ -163,7 +165,8 @@ checked-ends Ends file fault yes no contents took_more failed instance log answe
     (λ bytes. says_log (log_of bytes) (IsVerdict league rows))) answer
     (λ rows at_rows. log-ends Ends file fault (contents log) (took_more (length first + most_log_bytes)) (failed log)
     (IsVerdict league rows) answer
-    (λ steps verdict. ends-as Ends answer _ verdict.verdict (verdict-ends Ends yes no (length steps) _)) at_rows)
+    (λ steps verdict. ends-as Ends answer _ verdict.verdict (verdict-ends Ends ends_yes ends_no (length steps) _))
+    at_rows)
     at_league) given
 
 -- ---- `solve`, `patterns` and `explain`
@@ -171,9 +174,9 @@ checked-ends Ends file fault yes no contents took_more failed instance log answe
 -- the ends of a search
 searched-ends : (Ends : Status → Type 0) → Ends Yes → Ends Refuted → Ends Spent → (league : Instance)
     (budgets : Budgets) (rows : List Row) (answer : Answer) → IsFound league budgets rows answer → Ends answer.status
-searched-ends Ends yes refuted spent league budgets rows answer found =
+searched-ends Ends ends_yes refuted spent league budgets rows answer found =
     elim found.found [
-      | inl schedule ↦ ends-with Ends answer Yes schedule.status yes
+      | inl schedule ↦ ends-with Ends answer Yes schedule.status ends_yes
       | inr (inl log) ↦ ends-with Ends answer Refuted log.status refuted
       | inr (inr log) ↦ ends-with Ends answer Spent log.status spent
     ]
@@ -182,35 +185,36 @@ solved-ends : (Ends : Status → Type 0) → Ends File → Ends ReadFault → En
     → (contents : List ℕ → Option (List ℕ)) (took_more : ℕ → Type 0) (failed : List ℕ → Type 0) (instance : List ℕ)
     (budgets : Budgets) (answer : Answer) → solved contents took_more failed instance budgets answer
     → Ends answer.status
-solved-ends Ends file fault yes refuted spent contents took_more failed instance budgets answer given =
+solved-ends Ends file fault ends_yes refuted spent contents took_more failed instance budgets answer given =
     league-ends Ends file fault (contents instance) (took_more INSTANCE_LIMIT) (failed instance)
     (λ bytes league. encodes league (IsFound league budgets)) answer
     (λ bytes league at_league. encodes-ends Ends file league (IsFound league budgets) answer
-    (λ rows found. searched-ends Ends yes refuted spent league budgets rows answer found) at_league) given
+    (λ rows found. searched-ends Ends ends_yes refuted spent league budgets rows answer found) at_league) given
 
 patterns-ends : (Ends : Status → Type 0) → Ends Yes → Ends Refuted → Ends Spent → (league : Instance)
     (conflicts : Option ℕ) (answer : Answer) → AreFound league conflicts answer → Ends answer.status
-patterns-ends Ends yes refuted spent league conflicts answer (inl found) = ends-with Ends answer Yes found.status yes
-patterns-ends Ends yes refuted spent league conflicts answer (inr (inl log)) =
+patterns-ends Ends ends_yes refuted spent league conflicts answer (inl found) = ends-with Ends answer Yes found.status
+    ends_yes
+patterns-ends Ends ends_yes refuted spent league conflicts answer (inr (inl log)) =
     ends-with Ends answer Refuted log.status refuted
-patterns-ends Ends yes refuted spent league conflicts answer (inr (inr log)) =
+patterns-ends Ends ends_yes refuted spent league conflicts answer (inr (inr log)) =
     ends-with Ends answer Spent log.status spent
 
 patterned-ends : (Ends : Status → Type 0) → Ends File → Ends ReadFault → Ends Yes → Ends Refuted → Ends Spent
     → (contents : List ℕ → Option (List ℕ)) (took_more : ℕ → Type 0) (failed : List ℕ → Type 0) (instance : List ℕ)
     (conflicts : Option ℕ) (answer : Answer) → patterned contents took_more failed instance conflicts answer
     → Ends answer.status
-patterned-ends Ends file fault yes refuted spent contents took_more failed instance conflicts answer given =
+patterned-ends Ends file fault ends_yes refuted spent contents took_more failed instance conflicts answer given =
     league-ends Ends file fault (contents instance) (took_more INSTANCE_LIMIT) (failed instance)
     (λ bytes league. encodes league (λ rows. AreFound league conflicts)) answer
     (λ bytes league at_league. encodes-ends Ends file league (λ rows. AreFound league conflicts) answer
-    (λ rows found. patterns-ends Ends yes refuted spent league conflicts answer found) at_league) given
+    (λ rows found. patterns-ends Ends ends_yes refuted spent league conflicts answer found) at_league) given
 
 explaining-ends : (Ends : Status → Type 0) → Ends Yes → Ends Refuted → Ends Spent → (league : Instance)
     (conflicts : Option ℕ) (answer : Answer) → explaining.IsFound league conflicts answer → Ends answer.status
-explaining-ends Ends yes refuted spent league conflicts answer found =
+explaining-ends Ends ends_yes refuted spent league conflicts answer found =
     elim found.found [
-      | inl met ↦ ends-with Ends answer Yes met.status yes
+      | inl met ↦ ends-with Ends answer Yes met.status ends_yes
       | inr (inl named) ↦ ends-with Ends answer Refuted named.status refuted
       | inr (inr log) ↦ ends-with Ends answer Spent log.status spent
     ]
@@ -219,28 +223,28 @@ explained-ends : (Ends : Status → Type 0) → Ends File → Ends ReadFault →
     → (contents : List ℕ → Option (List ℕ)) (took_more : ℕ → Type 0) (failed : List ℕ → Type 0) (instance : List ℕ)
     (conflicts : Option ℕ) (answer : Answer) → explained contents took_more failed instance conflicts answer
     → Ends answer.status
-explained-ends Ends file fault yes refuted spent contents took_more failed instance conflicts answer given =
+explained-ends Ends file fault ends_yes refuted spent contents took_more failed instance conflicts answer given =
     league-ends Ends file fault (contents instance) (took_more INSTANCE_LIMIT) (failed instance)
     (λ bytes league. encodes league (λ rows. explaining.IsFound league conflicts)) answer
     (λ bytes league at_league. encodes-ends Ends file league (λ rows. explaining.IsFound league conflicts) answer
-    (λ rows found. explaining-ends Ends yes refuted spent league conflicts answer found) at_league) given
+    (λ rows found. explaining-ends Ends ends_yes refuted spent league conflicts answer found) at_league) given
 
 -- ---- `part`
 
 part-ends : (Ends : Status → Type 0) → Ends File → Ends Yes → (league : Instance) (members : List ℕ)
     (unknown : Option ℕ) → Ends (part_answer league members unknown).status
-part-ends Ends file yes league members None = yes
-part-ends Ends file yes league members (Some k) = file
+part-ends Ends file ends_yes league members None = ends_yes
+part-ends Ends file ends_yes league members (Some k) = file
 
 parted-ends : (Ends : Status → Type 0) → Ends File → Ends ReadFault → Ends Yes
     → (contents : List ℕ → Option (List ℕ)) (took_more : ℕ → Type 0) (failed : List ℕ → Type 0)
     (instance members : List ℕ) (answer : Answer) → parted contents took_more failed instance members answer
     → Ends answer.status
-parted-ends Ends file fault yes contents took_more failed instance members answer given =
+parted-ends Ends file fault ends_yes contents took_more failed instance members answer given =
     league-ends Ends file fault (contents instance) (took_more INSTANCE_LIMIT) (failed instance)
     (λ bytes league. IsPart league members) answer
     (λ bytes league part. ends-as Ends answer _ part.is
-    (part-ends Ends file yes league members (first_unknown league members))) given
+    (part-ends Ends file ends_yes league members (first_unknown league members))) given
 
 -- ---- `prove` and `bound`
 
@@ -252,20 +256,21 @@ few-ends Ends file league next answer later (inr h) = ends-as Ends answer _ h.1 
 shown-ends : (Ends : Status → Type 0) → Ends Yes → Ends No → Ends Better → Ends Spent → (league : Instance)
     (conflicts : Option ℕ) (games : List Game) (answer : Answer) → IsShown league conflicts games answer
     → Ends answer.status
-shown-ends Ends yes no better spent league conflicts games answer (inl rejected) =
-    ends-with Ends answer No rejected.status no
-shown-ends Ends yes no better spent league conflicts games answer (inr (inl least)) =
-    ends-with Ends answer Yes least.status yes
-shown-ends Ends yes no better spent league conflicts games answer (inr (inr (inl bettered))) =
+shown-ends Ends ends_yes ends_no better spent league conflicts games answer (inl rejected) =
+    ends-with Ends answer No rejected.status ends_no
+shown-ends Ends ends_yes ends_no better spent league conflicts games answer (inr (inl least)) =
+    ends-with Ends answer Yes least.status ends_yes
+shown-ends Ends ends_yes ends_no better spent league conflicts games answer (inr (inr (inl bettered))) =
     ends-with Ends answer Better bettered.status better
-shown-ends Ends yes no better spent league conflicts games answer (inr (inr (inr log))) =
+shown-ends Ends ends_yes ends_no better spent league conflicts games answer (inr (inr (inr log))) =
     ends-with Ends answer Spent log.status spent
 
 proved-ends : (Ends : Status → Type 0) → Ends File → Ends ReadFault → Ends Yes → Ends No → Ends Better → Ends Spent
     → (contents : List ℕ → Option (List ℕ)) (took_more : ℕ → Type 0) (failed : List ℕ → Type 0)
     (instance solution : List ℕ) (conflicts : Option ℕ) (answer : Answer)
     → proved contents took_more failed instance solution conflicts answer → Ends answer.status
-proved-ends Ends file fault yes no better spent contents took_more failed instance solution conflicts answer given =
+proved-ends Ends file fault ends_yes ends_no better spent contents took_more failed instance solution conflicts answer
+    given =
     league-ends Ends file fault (contents instance) (took_more INSTANCE_LIMIT) (failed instance)
     (λ first league. has_few_terms league
     (λ few. reads (codes "solution") (contents solution) SOLUTION_LIMIT (took_more (length first + SOLUTION_LIMIT))
@@ -277,13 +282,14 @@ proved-ends Ends file fault yes no better spent contents took_more failed instan
     (λ second. says (codes "solution") (solution_of league.n (pieces second)) (IsShown league conflicts))) answer
     (λ at_few. games-ends Ends file fault league.n (contents solution) (took_more (length first + SOLUTION_LIMIT))
     (failed solution) (λ second. IsShown league conflicts) answer
-    (λ second games shown. shown-ends Ends yes no better spent league conflicts games answer shown) at_few) at_league)
+    (λ second games shown. shown-ends Ends ends_yes ends_no better spent league conflicts games answer shown) at_few)
+    at_league)
     given
 
 bound_verdict-ends : (Ends : Status → Type 0) → Ends Yes → Ends No → (bound steps : ℕ) (verdict : Verdict)
     → Ends (bound_answer bound steps verdict).status
-bound_verdict-ends Ends yes no bound steps Accepted = yes
-bound_verdict-ends Ends yes no bound steps (Rejected step cause) = no
+bound_verdict-ends Ends ends_yes ends_no bound steps Accepted = ends_yes
+bound_verdict-ends Ends ends_yes ends_no bound steps (Rejected step cause) = ends_no
 
 said_certificate-ends : (Ends : Status → Type 0) → Ends File → (said : Result Certificate logs.Fault)
     (next : Certificate → Outcome) (answer : Answer)
@@ -296,7 +302,7 @@ bounded-ends : (Ends : Status → Type 0) → Ends File → Ends ReadFault → E
     → (contents : List ℕ → Option (List ℕ)) (took_more : ℕ → Type 0) (failed : List ℕ → Type 0)
     (instance log : List ℕ) (answer : Answer) → bounded contents took_more failed instance log answer
     → Ends answer.status
-bounded-ends Ends file fault yes no contents took_more failed instance log answer given =
+bounded-ends Ends file fault ends_yes ends_no contents took_more failed instance log answer given =
     league-ends Ends file fault (contents instance) (took_more INSTANCE_LIMIT) (failed instance)
     (λ first league. has_few_terms league
     (λ few. reads (codes "log") (contents log) most_log_bytes (took_more (length first + most_log_bytes)) (failed log)
@@ -309,7 +315,7 @@ bounded-ends Ends file fault yes no contents took_more failed instance log answe
     (λ second. says_certificate (certificate_of second) (IsBoundVerdict league)) answer
     (λ second at_second. said_certificate-ends Ends file (certificate_of second) (IsBoundVerdict league) answer
     (λ certificate verdict. ends-as Ends answer _ verdict.verdict
-    (bound_verdict-ends Ends yes no certificate.bound (length certificate.log)
+    (bound_verdict-ends Ends ends_yes ends_no certificate.bound (length certificate.log)
     (bound_verdict league certificate.bound certificate.log))) at_second) at_few) at_league) given
 
 -- ---- `resume` and `audit`
@@ -324,46 +330,43 @@ size-ends : (Ends : Status → Type 0) → Ends File → (league : Instance) (k 
 size-ends Ends file league k next answer later (inl h) = later h.1
 size-ends Ends file league k next answer later (inr h) = ends-as Ends answer _ h.1 file
 
--- the stages that read the second file, and go on with the season
-abbrev season_from : (List ℕ → Option (List ℕ)) → (ℕ → Type 0) → (List ℕ → Type 0) → List ℕ → ℕ → (Season → Outcome)
-    → List ℕ → Instance → Outcome
-season_from contents took_more failed solution k next first league =
+-- the stages that read the second file, and go on with the league, the games and how many bytes both files had
+abbrev season_from : (List ℕ → Option (List ℕ)) → (ℕ → Type 0) → (List ℕ → Type 0) → List ℕ
+    → (Instance → List Game → ℕ → Outcome) → List ℕ → Instance → Outcome
+season_from contents took_more failed solution next first league =
     reads (codes "solution") (contents solution) SOLUTION_LIMIT (took_more (length first + SOLUTION_LIMIT))
     (failed solution)
     (λ second. says (codes "solution") (solution_of league.n (pieces second))
-    (λ played. next (record {
-      league = league;
-      played = played;
-      slots = k;
-      bytes = length first + length second;
-    })))
+    (λ played. next league played (length first + length second)))
 
 plays-ends : (Ends : Status → Type 0) → Ends File → Ends ReadFault → (contents : List ℕ → Option (List ℕ))
     (took_more : ℕ → Type 0) (failed : List ℕ → Type 0) (instance solution : List ℕ) (k : ℕ)
-    (next : Season → Outcome) (answer : Answer) → ((season : Season) → next season answer → Ends answer.status)
-    → plays contents took_more failed instance solution k next answer → Ends answer.status
+    (next : Instance → List Game → ℕ → Outcome) (answer : Answer)
+    → ((league : Instance) (played : List Game) (bytes : ℕ) → next league played bytes answer → Ends answer.status)
+    → reads (codes "instance") (contents instance) INSTANCE_LIMIT (took_more INSTANCE_LIMIT) (failed instance)
+    (λ first. says (codes "instance") (instance_of (pieces first))
+    (λ league. has_slots league k
+    (λ slots. has_size league k (λ size. season_from contents took_more failed solution next first league)))) answer
+    → Ends answer.status
 plays-ends Ends file fault contents took_more failed instance solution k next answer later given =
-    let rest : List ℕ → Instance → Outcome = season_from contents took_more failed solution k next in
     league-ends Ends file fault (contents instance) (took_more INSTANCE_LIMIT) (failed instance)
-    (λ first league. has_slots league k (λ slots. has_size league k (λ size. rest first league))) answer
-    (λ first league at_league. slots-ends Ends file league k (λ slots. has_size league k (λ size. rest first league))
-    answer
-    (λ at_slots. size-ends Ends file league k (λ size. rest first league) answer
+    (λ first league. has_slots league k
+    (λ slots. has_size league k (λ size. season_from contents took_more failed solution next first league))) answer
+    (λ first league at_league. slots-ends Ends file league k
+    (λ slots. has_size league k (λ size. season_from contents took_more failed solution next first league)) answer
+    (λ at_slots. size-ends Ends file league k
+    (λ size. season_from contents took_more failed solution next first league) answer
     (λ at_size. games-ends Ends file fault league.n (contents solution) (took_more (length first + SOLUTION_LIMIT))
-    (failed solution)
-    (λ second played. next (record {
-      league = league;
-      played = played;
-      slots = k;
-      bytes = length first + length second;
-    })) answer (λ second played at_season. later _ at_season) at_size) at_slots) at_league) given
+    (failed solution) (λ second played. next league played (length first + length second)) answer
+    (λ second played at_season. later league played (length first + length second) at_season) at_size) at_slots)
+    at_league) given
 
 resuming-ends : (Ends : Status → Type 0) → Ends Yes → Ends Refuted → Ends Spent → (league : Instance)
     (played : List Game) (k : ℕ) (conflicts : Option ℕ) (answer : Answer)
     → resuming.IsFound league played k conflicts answer → Ends answer.status
-resuming-ends Ends yes refuted spent league played k conflicts answer found =
+resuming-ends Ends ends_yes refuted spent league played k conflicts answer found =
     elim found.found [
-      | inl planned ↦ ends-with Ends answer Yes planned.status yes
+      | inl planned ↦ ends-with Ends answer Yes planned.status ends_yes
       | inr (inl log) ↦ ends-with Ends answer Refuted log.status refuted
       | inr (inr log) ↦ ends-with Ends answer Spent log.status spent
     ]
@@ -372,32 +375,34 @@ resumed-ends : (Ends : Status → Type 0) → Ends File → Ends ReadFault → E
     → (contents : List ℕ → Option (List ℕ)) (took_more : ℕ → Type 0) (failed : List ℕ → Type 0)
     (instance solution : List ℕ) (k : ℕ) (conflicts : Option ℕ) (answer : Answer)
     → resumed contents took_more failed instance solution k conflicts answer → Ends answer.status
-resumed-ends Ends file fault yes refuted spent contents took_more failed instance solution k conflicts answer given =
+resumed-ends Ends file fault ends_yes refuted spent contents took_more failed instance solution k conflicts answer
+    given =
     plays-ends Ends file fault contents took_more failed instance solution k
-    (λ season. resuming.IsFound season.league season.played k conflicts) answer
-    (λ season found. resuming-ends Ends yes refuted spent season.league season.played k conflicts answer found) given
+    (λ league played bytes. resuming.IsFound league played k conflicts) answer
+    (λ league played bytes found. resuming-ends Ends ends_yes refuted spent league played k conflicts answer found)
+    given
 
 audited-ends : (Ends : Status → Type 0) → Ends File → Ends ReadFault → Ends Yes → Ends No
     → (contents : List ℕ → Option (List ℕ)) (took_more : ℕ → Type 0) (failed : List ℕ → Type 0)
     (instance solution : List ℕ) (k : ℕ) (log : List ℕ) (answer : Answer)
     → audited contents took_more failed instance solution k log answer → Ends answer.status
-audited-ends Ends file fault yes no contents took_more failed instance solution k log answer given =
+audited-ends Ends file fault ends_yes ends_no contents took_more failed instance solution k log answer given =
     plays-ends Ends file fault contents took_more failed instance solution k
-    (λ season. reads (codes "log") (contents log) most_log_bytes (took_more (season.bytes + most_log_bytes))
-    (failed log) (λ third. says_log (log_of third) (auditing.IsVerdict season.league season.played k))) answer
-    (λ season at_season. log-ends Ends file fault (contents log) (took_more (season.bytes + most_log_bytes))
-    (failed log) (auditing.IsVerdict season.league season.played k) answer
-    (λ steps verdict. ends-as Ends answer _ verdict.verdict (verdict-ends Ends yes no (length steps) _)) at_season)
-    given
+    (λ league played bytes. reads (codes "log") (contents log) most_log_bytes (took_more (bytes + most_log_bytes))
+    (failed log) (λ third. says_log (log_of third) (auditing.IsVerdict league played k))) answer
+    (λ league played bytes at_season. log-ends Ends file fault (contents log) (took_more (bytes + most_log_bytes))
+    (failed log) (auditing.IsVerdict league played k) answer
+    (λ steps verdict. ends-as Ends answer _ verdict.verdict (verdict-ends Ends ends_yes ends_no (length steps) _))
+    at_season) given
 
 -- ---- `trial`
 
 tried-ends : (Ends : Status → Type 0) → Ends File → Ends Yes → (n seed : ℕ) (budgets : Budgets) (answer : Answer)
     → tried n seed budgets answer → Ends answer.status
-tried-ends Ends file yes n seed budgets answer given =
+tried-ends Ends file ends_yes n seed budgets answer given =
     encodes-ends Ends file (made_league n (seeded seed))
     (λ rows. IsTrial n seed (made_league n (seeded seed)) budgets.moves) answer
-    (λ rows trial. ends-with Ends answer Yes trial.status yes) given
+    (λ rows trial. ends-with Ends answer Yes trial.status ends_yes) given
 
 -- ---- a run
 

@@ -61,11 +61,11 @@ pub run-kept : (words : Option Command) (contents : List ℕ → Option (List �
     → words ≡ Some (Resume instance solution k conflicts) → SaySeason contents instance solution league played
     → ended ≡ Yes → IsKeptSeason league played k old new
 run-kept words contents took_more failed instance solution k conflicts league played answer ended old new sink_failed
-    answered written is say yes =
+    answered written is say accepted =
     let given : resumed contents took_more failed instance solution k conflicts answer =
     subst (λ (w : Option Command). IsAnswer w contents took_more failed answer) is answered in
     let whole : (answer.status ≡ Yes) × Appends old new answer.text =
-    written-as answer ended Yes old new sink_failed yes (λ same. cc) written in
+    written-as answer ended Yes old new sink_failed accepted (λ same. cc) written in
     planned_whole league played k answer old new
     (resumed-planned contents took_more failed instance solution k conflicts league played answer say whole.0 given)
     whole.1
@@ -118,9 +118,9 @@ pub run-excluded : (words : Option Command) (contents : List ℕ → Option (Lis
     → words ≡ Some (Audit instance solution k log) → SaySeason contents instance solution league played → ended ≡ Yes
     → NoneResumes league (counts_of played) k
 run-excluded words contents took_more failed instance solution k log league played answer ended old new sink_failed
-    answered written is say yes =
+    answered written is say accepted =
     let given : audited contents took_more failed instance solution k log answer =
     subst (λ (w : Option Command). IsAnswer w contents took_more failed answer) is answered in
     let whole : (answer.status ≡ Yes) × Appends old new answer.text =
-    written-as answer ended Yes old new sink_failed yes (λ same. cc) written in
+    written-as answer ended Yes old new sink_failed accepted (λ same. cc) written in
     audited-excluded contents took_more failed instance solution k log league played answer say whole.0 given

@@ -16,38 +16,55 @@ use Rattle.robin_run.proofs.call.run.Goals as goal
 pub returns-in-Ok-clause-refuted : goal.returns-in-Ok-clause-refuted
 returns-in-Ok-clause-refuted g c = λ instance log bytes league is known says_league ended.
     let contents : List ℕ → Option (List ℕ) = g.S.Shelf.contents c.args.shelf.now in
-    let took_more : ℕ → Type 0 = λ limit. TookMore limit (g.S.Shelf.taken c.args.shelf.now) (g.S.Shelf.taken c.answer.new.shelf) in
-    let failed : List ℕ → Type 0 = λ name. Rose (g.S.Shelf.faults c.args.shelf.now name) (g.S.Shelf.faults c.answer.new.shelf name) in
-    run-refuted (reading (map string_bytes c.args.words.now)) contents took_more failed instance log bytes league (answer_of c.in-Ok.reply) c.write_answer.result _ _ _ c.in-Ok.ensures.answer c.write_answer.ensures is known says_league ended
+    let took_more : ℕ → Type 0 = λ limit. TookMore limit (g.S.Shelf.taken c.args.shelf.now) (g.S.Shelf.taken
+    c.answer.new.shelf) in
+    let failed : List ℕ → Type 0 = λ name. Rose (g.S.Shelf.faults c.args.shelf.now name) (g.S.Shelf.faults
+    c.answer.new.shelf name) in
+    run-refuted (reading (map string_bytes c.args.words.now)) contents took_more failed instance log bytes league
+    (answer_of c.in-Ok.reply) c.write_answer.result _ _ _ c.in-Ok.ensures.answer c.write_answer.ensures is known
+    says_league ended
 
 -- an answer is written, so memory didn't run out
 pub returns-in-Ok-clause-memory : goal.returns-in-Ok-clause-memory
 returns-in-Ok-clause-memory g c = λ ended.
     let contents : List ℕ → Option (List ℕ) = g.S.Shelf.contents c.args.shelf.now in
-    let took_more : ℕ → Type 0 = λ limit. TookMore limit (g.S.Shelf.taken c.args.shelf.now) (g.S.Shelf.taken c.answer.new.shelf) in
-    let failed : List ℕ → Type 0 = λ name. Rose (g.S.Shelf.faults c.args.shelf.now name) (g.S.Shelf.faults c.answer.new.shelf name) in
-    absurd (written-memory (reading (map string_bytes c.args.words.now)) contents took_more failed (answer_of c.in-Ok.reply) c.write_answer.result _ _ _ c.in-Ok.ensures.answer c.write_answer.ensures ended)
+    let took_more : ℕ → Type 0 = λ limit. TookMore limit (g.S.Shelf.taken c.args.shelf.now) (g.S.Shelf.taken
+    c.answer.new.shelf) in
+    let failed : List ℕ → Type 0 = λ name. Rose (g.S.Shelf.faults c.args.shelf.now name) (g.S.Shelf.faults
+    c.answer.new.shelf name) in
+    absurd (written-memory (reading (map string_bytes c.args.words.now)) contents took_more failed (answer_of
+    c.in-Ok.reply) c.write_answer.result _ _ _ c.in-Ok.ensures.answer c.write_answer.ensures ended)
 
 pub returns-in-Ok-clause-checked : goal.returns-in-Ok-clause-checked
 returns-in-Ok-clause-checked g c = λ instance log league steps is good works later.
     let contents : List ℕ → Option (List ℕ) = g.S.Shelf.contents c.args.shelf.now in
-    let took_more : ℕ → Type 0 = λ limit. TookMore limit (g.S.Shelf.taken c.args.shelf.now) (g.S.Shelf.taken c.answer.new.shelf) in
-    let failed : List ℕ → Type 0 = λ name. Rose (g.S.Shelf.faults c.args.shelf.now name) (g.S.Shelf.faults c.answer.new.shelf name) in
-    run-checked (reading (map string_bytes c.args.words.now)) contents took_more failed instance log league steps (answer_of c.in-Ok.reply) c.write_answer.result _ _ _ c.in-Ok.ensures.answer c.write_answer.ensures is good works
+    let took_more : ℕ → Type 0 = λ limit. TookMore limit (g.S.Shelf.taken c.args.shelf.now) (g.S.Shelf.taken
+    c.answer.new.shelf) in
+    let failed : List ℕ → Type 0 = λ name. Rose (g.S.Shelf.faults c.args.shelf.now name) (g.S.Shelf.faults
+    c.answer.new.shelf name) in
+    run-checked (reading (map string_bytes c.args.words.now)) contents took_more failed instance log league steps
+    (answer_of c.in-Ok.reply) c.write_answer.result _ _ _ c.in-Ok.ensures.answer c.write_answer.ensures is good works
 
 pub returns-in-Ok-clause-solved : goal.returns-in-Ok-clause-solved
 returns-in-Ok-clause-solved g c = λ instance budgets league is good works later.
     let contents : List ℕ → Option (List ℕ) = g.S.Shelf.contents c.args.shelf.now in
-    let took_more : ℕ → Type 0 = λ limit. TookMore limit (g.S.Shelf.taken c.args.shelf.now) (g.S.Shelf.taken c.answer.new.shelf) in
-    let failed : List ℕ → Type 0 = λ name. Rose (g.S.Shelf.faults c.args.shelf.now name) (g.S.Shelf.faults c.answer.new.shelf name) in
-    run-solved (reading (map string_bytes c.args.words.now)) contents took_more failed instance budgets league (answer_of c.in-Ok.reply) c.write_answer.result _ _ _ c.in-Ok.ensures.answer c.write_answer.ensures is good works
+    let took_more : ℕ → Type 0 = λ limit. TookMore limit (g.S.Shelf.taken c.args.shelf.now) (g.S.Shelf.taken
+    c.answer.new.shelf) in
+    let failed : List ℕ → Type 0 = λ name. Rose (g.S.Shelf.faults c.args.shelf.now name) (g.S.Shelf.faults
+    c.answer.new.shelf name) in
+    run-solved (reading (map string_bytes c.args.words.now)) contents took_more failed instance budgets league
+    (answer_of c.in-Ok.reply) c.write_answer.result _ _ _ c.in-Ok.ensures.answer c.write_answer.ensures is good works
 
 pub returns-in-Ok-clause-unsolvable : goal.returns-in-Ok-clause-unsolvable
 returns-in-Ok-clause-unsolvable g c = λ instance bytes budgets league is known says_league ended.
     let contents : List ℕ → Option (List ℕ) = g.S.Shelf.contents c.args.shelf.now in
-    let took_more : ℕ → Type 0 = λ limit. TookMore limit (g.S.Shelf.taken c.args.shelf.now) (g.S.Shelf.taken c.answer.new.shelf) in
-    let failed : List ℕ → Type 0 = λ name. Rose (g.S.Shelf.faults c.args.shelf.now name) (g.S.Shelf.faults c.answer.new.shelf name) in
-    run-unsolvable (reading (map string_bytes c.args.words.now)) contents took_more failed instance bytes budgets league (answer_of c.in-Ok.reply) c.write_answer.result _ _ _ c.in-Ok.ensures.answer c.write_answer.ensures is known says_league ended
+    let took_more : ℕ → Type 0 = λ limit. TookMore limit (g.S.Shelf.taken c.args.shelf.now) (g.S.Shelf.taken
+    c.answer.new.shelf) in
+    let failed : List ℕ → Type 0 = λ name. Rose (g.S.Shelf.faults c.args.shelf.now name) (g.S.Shelf.faults
+    c.answer.new.shelf name) in
+    run-unsolvable (reading (map string_bytes c.args.words.now)) contents took_more failed instance bytes budgets
+    league (answer_of c.in-Ok.reply) c.write_answer.result _ _ _ c.in-Ok.ensures.answer c.write_answer.ensures is
+    known says_league ended
 
 pub returns-in-Ok-clause-patterned : goal.returns-in-Ok-clause-patterned
 returns-in-Ok-clause-patterned g c = λ instance conflicts league is good works later.
@@ -213,7 +230,8 @@ returns-in-Ok-clause-certified g c = λ instance log bytes league is known says_
     let failed : List ℕ → Type 0 =
     λ name. Rose (g.S.Shelf.faults c.args.shelf.now name) (g.S.Shelf.faults c.answer.new.shelf name) in
     run-certified (reading (map string_bytes c.args.words.now)) contents took_more failed instance log bytes league
-    (answer_of c.in-Ok.reply) c.write_answer.result _ _ _ c.in-Ok.ensures.answer c.write_answer.ensures is known says_league ended
+    (answer_of c.in-Ok.reply) c.write_answer.result _ _ _ c.in-Ok.ensures.answer c.write_answer.ensures is known
+    says_league ended
 
 pub returns-in-Ok-clause-resumed : goal.returns-in-Ok-clause-resumed
 returns-in-Ok-clause-resumed g c = λ instance solution k conflicts league played is good works later.
