@@ -30,6 +30,7 @@ limited() {
     ) 2>times
     status=$?
     user=$(tail -n 1 times)
+    return 0
 }
 
 # rows [--objective]: the league's rows, in the forms that the installed solvers read.
@@ -40,7 +41,7 @@ rows() {
     installed | grep -qE 'cbc|glpsol' && $write --form lp >rows.lp
 }
 
-# ask SOLVER LIMIT: asks it about the rows; `verdict` is found, best, none or spent, and `least` the objective that it says last.
+# ask SOLVER LIMIT: asks it about the rows; `verdict` is found, best, none, spent or gave up, and `least` the objective that it says last.
 ask() {
     local limit=$2
     rm -f answer
@@ -48,12 +49,14 @@ ask() {
     clasp) limited "$limit" clasp rows.opb ;;
     minisat+) limited "$limit" stdbuf -oL minisat+ -a plain.opb ;;
     sat4j) limited "$limit" java -XX:+UseSerialGC -jar $jar rows.opb ;;
-    z3) limited "$limit" z3 -v:1 opt.dump_models=true plain.opb ;;
+    z3) limited "$limit" z3 -v:1 opt.dump_models=true plain.opb && cat errors >>out ;;
     toulbar2) limited "$limit" stdbuf -oL toulbar2 plain.opb -w=answer ;;
     cbc) limited "$((limit + 5))" cbc rows.lp -sec "$limit" -timeMode cpu -solve -solution answer ;;
     glpsol) limited "$limit" stdbuf -oL glpsol --lp rows.lp -o answer ;;
     esac
     verdict=spent
+    [ "$status" != 152 ] && [ "$status" != 137 ] && awk -v user="$user" -v limit="$limit" \
+        'BEGIN { exit !(2 * user < limit) }' && verdict="gave up, status $status"
     if grep -qE '^(s UNSATISFIABLE|unsat|No solution)|PROBLEM HAS NO|proven infeasible|Problem is infeasible' out; then
         verdict=none
     elif grep -qE '^(s OPTIMUM|sat$|Optimum:)|INTEGER OPTIMAL|Result - Optimal' out; then
@@ -99,7 +102,7 @@ decide() {
     rows
     for solver in $(installed); do
         ask "$solver" "$seconds"
-        if [ $verdict = found ] || [ $verdict = best ]; then
+        if [ "$verdict" = found ] || [ "$verdict" = best ]; then
             answered "$solver" >said
             python3 "$here/../second/opb.py" league.xml --season said >season.xml
             verdict="found $(judged season.xml)"
@@ -180,7 +183,7 @@ objectives() {
 
 leagues() {
     local league
-    for league in "$here"/leagues/*.xml; do
+    for league in "$here"/leagues/${LEAGUES:-*}.xml; do
         grep -v 'type="SOFT"' "$league" >league.xml
         decide "$(basename "$league" .xml)" --tries 100
     done
