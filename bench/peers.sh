@@ -89,16 +89,30 @@ say() {
     echo "$1: $2, $user s, load $(cut -d ' ' -f 1 /proc/loadavg)"
 }
 
+# by_robin NAME OPTIONS ..: solves with the seeds 0, 1 .. until a season is found or refuted, or the seconds are used up.
+by_robin() {
+    local name=$1 seed=0 used=0 left=$seconds
+    shift
+    while :; do
+        limited "$left" "$program" solve league.xml --seed $seed "$@"
+        used=$(awk -v a="$used" -v b="$user" 'BEGIN { print a + b }')
+        left=$(awk -v a="$seconds" -v b="$used" 'BEGIN { print int(a - b) }')
+        [ "$status" = 5 ] && [ "$left" -ge 1 ] || break
+        seed=$((seed + 1))
+    done
+    user=$used
+    case $status in
+    0) cp out season.xml && say "$name robin" "found $(judged season.xml), seed $seed" ;;
+    4) say "$name robin" "none, $(($(wc -l <out) - 2)) steps" ;;
+    *) say "$name robin" "spent, status $status, seed $seed" ;;
+    esac
+}
+
 # decide NAME OPTIONS ..: whether the league accepts a season: by robin with these options of `solve`, and by each peer.
 decide() {
     local name=$1 solver
     shift
-    limited "$seconds" "$program" solve league.xml "$@"
-    case $status in
-    0) cp out season.xml && say "$name robin" "found $(judged season.xml)" ;;
-    4) say "$name robin" "none, $(($(wc -l <out) - 2)) steps" ;;
-    *) say "$name robin" "spent, status $status" ;;
-    esac
+    by_robin "$name" "$@"
     rows
     for solver in $(installed); do
         ask "$solver" "$seconds"
@@ -185,7 +199,7 @@ leagues() {
     local league
     for league in "$here"/leagues/${LEAGUES:-*}.xml; do
         grep -v 'type="SOFT"' "$league" >league.xml
-        decide "$(basename "$league" .xml)" --tries 100
+        decide "$(basename "$league" .xml),"
     done
 }
 
