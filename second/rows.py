@@ -177,8 +177,8 @@ def resume_rows(league, played, upto):
     return count, rows
 
 
-def bound_rows(league, bound):
-    """The rows whose solutions are the accepted seasons of an objective of at most the bound."""
+def softened_rows(league):
+    """The rows of the accepted seasons with the softened rows of what is paid for, the units with their penalties, and the order rows."""
     base = [it for it in league.constraints if it.hard]
     softs = [it for it in league.constraints if not it.hard and it.penalty >= 1]
     has = any(it.name in ("BR1", "BR2") for it in base)
@@ -188,7 +188,7 @@ def bound_rows(league, bound):
     league = League(league.n, league.phased, base)
     v = Numbers(league)
     count, rows = league_rows(league)
-    objective, orders, total = [], [], 0
+    priced, orders = [], []
     for it in softs:
         for key in unit_groups(it, v):
             for units, group in key:
@@ -197,10 +197,16 @@ def bound_rows(league, bound):
                 for terms, degree in group:
                     if degree > 0:
                         rows.append((terms + [(1, u) for u in own], degree))
-                objective += [(it.penalty, -u) for u in own]
-                total += it.penalty * units
+                priced += [(it.penalty, u) for u in own]
                 orders += [at_least(1, [u, -(u + 1)]) for u in own[:-1]]
-    rows.append((objective, max(total - bound, 0)))
+    return count, rows, priced, orders
+
+
+def bound_rows(league, bound):
+    """The rows whose solutions are the accepted seasons of an objective of at most the bound."""
+    count, rows, priced, orders = softened_rows(league)
+    total = sum(penalty for penalty, _ in priced)
+    rows.append(([(penalty, -unit) for penalty, unit in priced], max(total - bound, 0)))
     return count, rows + orders
 
 
@@ -220,10 +226,38 @@ def unit_groups(constraint, v):
     ]
 
 
-def opb(count, rows):
-    """The rows in the form that pseudo-Boolean solvers read."""
+def opb(count, rows, priced=None):
+    """The rows in the form that pseudo-Boolean solvers read, with what is to be least."""
     lines = [f"* #variable= {count} #constraint= {len(rows)}"]
+    if priced is not None:
+        lines.append("min: " + " ".join(f"+{coef} x{unit}" for coef, unit in priced or [(0, 1)]) + " ;")
     for terms, degree in rows:
         text = " ".join(f"+{coef} {'~' if lit < 0 else ''}x{abs(lit)}" for coef, lit in terms)
         lines.append(f"{text} >= {degree} ;" if terms else f"+0 x1 >= {degree} ;")
+    return "\n".join(lines) + "\n"
+
+
+def signed(terms, degree):
+    """A row without negations: c times the negation of x is c less c times x."""
+    degree -= sum(coef for coef, lit in terms if lit < 0)
+    return [(coef if lit > 0 else -coef, abs(lit)) for coef, lit in terms] or [(0, 1)], degree
+
+
+def plain_opb(count, rows, priced=None):
+    """The rows in the older form of the same, which has no negations."""
+    return opb(count, [], priced).replace("#constraint= 0", f"#constraint= {len(rows)}") + "".join(
+        " ".join(f"{coef:+} x{variable}" for coef, variable in terms) + f" >= {degree} ;\n"
+        for terms, degree in (signed(*row) for row in rows)
+    )
+
+
+def program(count, rows, priced=None):
+    """The rows as an integer program in the form of CPLEX (LP)."""
+    lines = ["minimize", "objective: " + " ".join(f"+{coef} x{unit}" for coef, unit in priced or [(0, 1)]), "subject to"]
+    for number, row in enumerate(rows, 1):
+        terms, degree = signed(*row)
+        words = [f"{coef:+} x{variable}" for coef, variable in terms]
+        parts = [" ".join(words[at : at + 20]) for at in range(0, len(words), 20)]
+        lines.append(f"r{number}: " + "\n ".join(parts) + f" >= {degree}")
+    lines += ["binary", *(f" x{variable}" for variable in range(1, count + 1)), "end"]
     return "\n".join(lines) + "\n"
