@@ -1,12 +1,12 @@
 -- Sets as ascending lists: where an item stands, and the set with one item more.
-use Rattle.std.proofs.Common.{◌≡◌, ℕ, zero, suc, ◌+◌, ◌<◌, ◌≤◌, List, [], ◌∷◌, ◌++◌, length, get_or, take, drop, refl, sym, ap, ◌∙◌, subst, arith, Contains, Bool, true, false, Result, Ok, Err, inl, inr, IsTrue, is_ok, ◌↔◌}
+use Rattle.std.proofs.Common.{◌≡◌, ℕ, zero, suc, ◌+◌, ◌-◌, ◌<◌, ◌≤◌, List, [], ◌∷◌, ◌++◌, length, get_or, take, drop, refl, sym, ap, ◌∙◌, subst, arith, le_refl, Contains, Bool, true, false, Result, Ok, Err, inl, inr, IsTrue, is_ok, ◌↔◌}
 use Rattle.std.specs.List.{All, AllPairs, AllWithin, HoldsAt, filter, insert}
 use Rattle.std.specs.List.Sorted.{IsBinarySearchResult, IsNonDecreasingBy, IsSearchInRange, IsPartitionPoint}
 use Rattle.std.specs.Cmp.{IsTotalOrder}
 use Rattle.std.specs.Ordering.{is_lt, nat_cmp, ordering_index, ordering_reverse}
 use Rattle.std.specs.declared.cmp.Ordering.{Ordering}
 use Rattle.std.specs.declared.cmp.Ordering.TheVariants.{Less, Equal, Greater}
-use Rattle.std.proofs.lemmas.List.{take-append-drop, get_or-take, get_or-drop, length-take-le, length-drop, append-nil}
+use Rattle.std.proofs.lemmas.List.{take-append-drop, take_all, drop_all, get_or-take, get_or-drop, length-take-le, length-drop, append-nil}
 use Rattle.std.proofs.lemmas.List.Elements.{filter-append, filter_passes, All-append, All-cons, All-tail}
 use Rattle.std.proofs.lemmas.List.Kept.{AllPairs-cons, AllPairs-filter}
 use Rattle.std.proofs.Math.Seq.{drop-cons}
@@ -155,6 +155,21 @@ module _ {X : Type 0} (cmp : X → X → Ordering) (total : IsTotalOrder cmp) wh
     -- where a binary search that doesn't find x says that its place is
     pub goes_at : (i : ℕ) → i ≤ length xs → (IsNonDecreasingBy (λ y. ordering_index (cmp y x)) xs → IsPartitionPoint (λ y. cmp y x ≡ Less) (λ y. cmp y x ≡ Greater) xs i) → (with_item cmp x xs ≡ insert xs i x) × (Contains xs x → ⊥)
     goes_at i le splits = let parts = splits ranks in (with_item-placed i le parts.0 parts.1, absent i parts.0 parts.1)
+
+    -- where x comes after the last, and so after all
+    pub goes_last : (0 < length xs → HoldsAt (λ y. cmp y x ≡ Less) xs (length xs - 1)) → (with_item cmp x xs ≡ xs ++ x ∷ []) × (Contains xs x → ⊥)
+    goes_last last =
+        let before : AllWithin (λ y. cmp y x ≡ Less) xs 0 (length xs) = λ k d from below. by_last k d below in
+        let after : AllWithin (λ y. cmp y x ≡ Greater) xs (length xs) (length xs) = λ k d from below. absurd (omega arith) in
+        let whole : insert xs (length xs) x ≡ xs ++ x ∷ [] = rw (take_all (length xs) xs (le_refl (length xs)), drop_all (length xs) xs (le_refl (length xs))) refl in
+        (with_item-placed (length xs) (le_refl (length xs)) before after ∙ whole, absent (length xs) before after) where
+          by_last : (k : ℕ) (d : X) → k < length xs → cmp (get_or xs k d) x ≡ Less
+          by_last k d below =
+              let at_last = last (omega arith) d in
+              elim (cases_lt k (length xs - 1)) [
+                | inl earlier ↦ total.trans (get_or xs k d) (get_or xs (length xs - 1) d) x (ascending k (length xs - 1) d earlier (omega arith)) at_last
+                | inr late ↦ let e : k ≡ length xs - 1 = omega arith in rw e at_last
+              ]
 
     -- what a binary search says of x
     pub tells : (answer : Result ℕ ℕ) → IsSearchInRange answer (length xs) → IsBinarySearchResult (λ y. cmp y x) xs answer → IsTrue (is_ok answer) ↔ Contains xs x

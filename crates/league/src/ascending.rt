@@ -1,7 +1,8 @@
 //! What the three kinds of sets share: a list in ascending order without repeats.
-ghost use Rattle.std.specs.Prelude.{◌≡◌, ◌<◌, ◌↔◌, [], length, Contains, IsTrue, OnOk, OnErr, IfOk, Some, slice_get};
+ghost use Rattle.std.specs.Prelude.{◌≡◌, ◌<◌, ◌-◌, ◌↔◌, [], length, Contains, IsTrue, OnOk, OnErr, IfOk};
+ghost use Rattle.std.specs.List.{HoldsAt};
 ghost use Rattle.std.specs.Bool.{MatchBool};
-ghost use Rattle.std.specs.declared.cmp.Ordering.TheVariants.{Equal};
+ghost use Rattle.std.specs.declared.cmp.Ordering.TheVariants.{Less, Equal};
 ghost use Rattle.league.specs.Sets.{IsAscending, with_item};
 
 use std::alloc::{AllocError, Global};
@@ -49,6 +50,31 @@ impl<T: Item> Ascending<T> {
             MatchBool fresh (Contains self.old item → ⊥) (Contains self.old item)) }
         ensures err { OnErr result (self.new ≡ self.old) }
     {
+        if comes_last(&self.items, item) {
+            self.append(item)?;
+            return Ok(true);
+        }
+        self.place(item)
+    }
+
+    /// Adds an item that comes after the others.
+    fn append(&mut self, item: T) -> Result<(), AllocError>
+        requires { 0 < length self.old → HoldsAt (λ last. T.cmp last item ≡ Less) self.old (length self.old - 1) }
+        ensures ok { OnOk result (self.new ≡ with_item T.cmp item self.old) }
+        ensures fresh { Contains self.old item → ⊥ }
+        ensures err { OnErr result (self.new ≡ self.old) }
+    {
+        self.items.push(item)?;
+        Ok(())
+    }
+
+    /// Adds an item as `insert` does, at the place that a search finds.
+    fn place(&mut self, item: T) -> Result<bool, AllocError>
+        ensures ok { OnOk result (self.new ≡ with_item T.cmp item self.old) }
+        ensures fresh { IfOk result (λ fresh.
+            MatchBool fresh (Contains self.old item → ⊥) (Contains self.old item)) }
+        ensures err { OnErr result (self.new ≡ self.old) }
+    {
         match self.items.binary_search(&item) {
             Ok(_) => Ok(false),
             Err(place) => {
@@ -83,6 +109,17 @@ impl<T: Item> Ascending<T> {
         ensures ascending { IsAscending T.cmp self.now }
     {
         &self.items
+    }
+}
+
+/// Whether the item comes after the last of these, or there is none.
+fn comes_last<T: Item>(items: &[T], item: T) -> bool
+    ensures { IsTrue result → 0 < length items.now →
+        HoldsAt (λ last. T.cmp last item ≡ Less) items.now (length items.now - 1) }
+{
+    match items.last() {
+        Some(last) => last.cmp(&item).is_lt(),
+        None => true,
     }
 }
 

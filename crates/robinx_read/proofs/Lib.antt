@@ -1,4 +1,5 @@
--- Lemmas on lists of items, on drafts, and on the walk:
+-- Lemmas on numbers, on lists of items, on drafts, and on the walk:
+pub mod NumberLemmas
 pub mod PositionLemmas
 pub mod ItemLemmas
 pub mod WalkLemmas

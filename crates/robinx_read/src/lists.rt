@@ -12,17 +12,21 @@ ghost use Rattle.robinx_form.specs.Gathered.{gathered};
 
 use crate::values::{id, required};
 use league::{PairSet, SlotId, SlotSet, TeamId, TeamSet, slot_count};
-use memchr::memchr;
 use robinx_tags::{Attrs, FormKind, Stop};
 use std::alloc::Global;
 
-/// How many bytes stand before this one.
-#[tactic(auto, using(robinx_tags::proofs::SearchLemmas::first_or_len, robinx_tags::proofs::SearchLemmas::found_within))]
+/// How many bytes stand before this one. An item has few bytes, so that a plain loop finds its end sooner than a
+/// search by vectors would.
+#[tactic(auto, using(std::proofs::lemmas::List::Sums::position_or_len_is))]
 fn len_before(byte: u8, text: &[u8]) -> usize
     ensures value { result ≡ position_or_len (λ b. b == byte) text.now }
     ensures within { result ≤ length text.now }
 {
-    memchr(byte, text).unwrap_or(text.len())
+    let mut len = 0;
+    while len < text.len() && text[len] != byte {
+        len += 1;
+    }
+    len
 }
 
 /// What stands before the first of these bytes, and what after it.

@@ -1,19 +1,42 @@
 // Values of attributes, and which attributes there are.
-ghost use Rattle.std.specs.Prelude.{◌≡◌, ◌<◌, bytes_eq, IfOk};
+ghost use Rattle.std.specs.Prelude.{◌≡◌, ◌<◌, ◌-◌, true, bytes_eq, IfOk};
+ghost use Rattle.std.specs.Char.{is_ascii_digit};
 ghost use Rattle.robinx_tags.specs.Seen.{Finds};
 ghost use Rattle.robinx_form.specs.Values as values;
 
 use robin_io::{NumberFault, decimal};
 use robinx_tags::{Attrs, FormKind};
 
+/// The value of an ASCII digit.
+fn digit_value(digit: u8) -> u32
+    requires { is_ascii_digit digit ≡ true }
+    ensures { result ≡ digit - 48 }
+{
+    u32::from(digit - b'0')
+}
+
 /// A number below 2^32.
-pub(crate) fn number(text: &[u8]) -> Result<u32, FormKind>
+fn long_number(text: &[u8]) -> Result<u32, FormKind>
     ensures { result ≡ values.number text.now }
 {
     match decimal(text) {
         Ok(n) if n <= 0xFFFF_FFFF => Ok(n as u32),
         Ok(_) | Err(NumberFault::TooLarge) => Err(FormKind::NumberTooLarge),
         Err(NumberFault::Bad) => Err(FormKind::BadNumber),
+    }
+}
+
+/// A number below 2^32. Most have one digit or two.
+#[tactic(auto, using(crate::proofs::NumberLemmas::number_of_one, crate::proofs::NumberLemmas::number_of_two))]
+pub(crate) fn number(text: &[u8]) -> Result<u32, FormKind>
+    ensures { result ≡ values.number text.now }
+{
+    match text {
+        [digit] if digit.is_ascii_digit() => Ok(digit_value(*digit)),
+        [tens, ones] if tens.is_ascii_digit() && ones.is_ascii_digit() => {
+            Ok(digit_value(*tens) * 10 + digit_value(*ones))
+        }
+        _ => long_number(text),
     }
 }
 

@@ -2,7 +2,7 @@ use Rattle.std.proofs.Common.{◌≡◌, List, Contains, ◌∙◌, sym, subst, 
 use Rattle.std.specs.List.{insert}
 use Rattle.league.specs.Sets.{IsAscending, with_item}
 use Rattle.league.proofs.SetLemmas.{IsAscending-with_item, goes_at, with_item-found}
-use Rattle.league.proofs.ascending.Ascending.insert.Goals as goal
+use Rattle.league.proofs.ascending.Ascending.place.Goals as goal
 
 pub invariant_of-self-in-Err : goal.invariant_of-self-in-Err
 invariant_of-self-in-Err g c =
