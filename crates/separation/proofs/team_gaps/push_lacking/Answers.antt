@@ -1,9 +1,21 @@
-use Rattle.std.proofs.Common.{◌≡◌, ℕ, ◌+◌, ◌<◌, ◌∷◌, List, drop, length, get_or, map, arith, ap, ◌++◌, ◌∙◌}
+use Rattle.std.proofs.Common.{◌≡◌, ℕ, ◌+◌, ◌<◌, ◌∷◌, List, drop, length, get_or, map, arith, ap, ◌++◌, ◌∙◌, subst, sym}
 use Rattle.std.proofs.lemmas.List.{drop_more, take_rest}
+use Rattle.std.specs.Ordering.{nat_cmp}
 use Rattle.league.specs.Separation.{se1_entry}
+use Rattle.league.specs.Sets.{IsAscending}
 use Rattle.cells.specs.Table.{table_counts}
+use Rattle.keys.proofs.KeyLemmas.{ascending-drop}
 use Rattle.separation.proofs.TeamLemmas.{pairs_left, pairs_next}
 use Rattle.separation.proofs.team_gaps.push_lacking.Goals as goal
+
+pub push_team-requires-clause-ascending : goal.push_team-requires-clause-ascending
+push_team-requires-clause-ascending c =
+    let teams = c.args.teams.now in
+    let place : ℕ = c.loop-place.place in
+    let inside : place < length teams = omega arith in
+    let is : drop place teams ≡ get_or teams place 0 ∷ drop (place + 1) teams = drop_more teams place 0 inside in
+    subst (λ (xs : List ℕ). IsAscending nat_cmp (get_or teams place 0 ∷ xs)) (sym (take_rest teams (place + 1)))
+    (subst (λ (xs : List ℕ). IsAscending nat_cmp xs) is (ascending-drop place teams c.requires.ascending))
 
 pub loop-place-preserved : goal.loop-place-preserved
 loop-place-preserved c =

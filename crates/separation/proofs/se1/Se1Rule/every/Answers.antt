@@ -1,7 +1,16 @@
-use Rattle.std.proofs.Common.{ℕ, ◌++◌, List, ap, ◌∙◌}
+use Rattle.std.proofs.Common.{ℕ, ◌++◌, List, ap, ◌∙◌, subst, sym}
+use Rattle.std.specs.Ordering.{nat_cmp}
+use Rattle.league.specs.Sets.{IsAscending}
+use Rattle.league.proofs.FitLemmas.{are_teams-ascending}
 use Rattle.cells.specs.Table.{table_counts}
 use Rattle.separation.proofs.TermLemmas.{se1_vector}
 use Rattle.separation.proofs.se1.Se1Rule.every.Goals as goal
+
+pub push_lacking-requires-clause-ascending : goal.push_lacking-requires-clause-ascending
+push_lacking-requires-clause-ascending g c =
+    let rule = c.args.self.now in
+    subst (λ (teams : List ℕ). IsAscending nat_cmp teams) (sym c.teams.ensures)
+    (are_teams-ascending rule.n rule.pairs rule.ready.fits)
 
 pub returns-clause-entries : goal.returns-clause-entries
 returns-clause-entries g c =

@@ -1,8 +1,11 @@
+use Rattle.std.proofs.Common.{arith}
 use Rattle.cells.specs.Table.{table_counts}
 use Rattle.separation.proofs.team_gaps.TeamGaps.add_slot.Goals as goal
 
+pub add_place-requires-clause-teams : goal.add_place-requires-clause-teams
+add_place-requires-clause-teams c = λ j stands. omega (arith, c.in-Some.ensures.teams j stands, c.requires.few)
+
 pub returns-in-Some-clause-summed : goal.returns-in-Some-clause-summed
 returns-in-Some-clause-summed c =
-    c.add_place.ensures.summed c.args.cells.now.n (table_counts c.args.cells.now) c.args.team.0 c.requires.slot
-    (record { home = c.in-Some.ensures.home; away = c.in-Some.ensures.away; teams = c.in-Some.ensures.teams })
-    c.requires.summed
+    c.add_place.ensures.summed c.args.cells.now.n (table_counts c.args.cells.now) c.args.later.now c.requires.slot
+    (record { home = c.in-Some.ensures.home; away = c.in-Some.ensures.away }) c.requires.ascending c.requires.summed
