@@ -7,18 +7,25 @@ ghost use Rattle.robinx_tags.specs.Fronts as fronts;
 
 use memchr::{memchr, memchr_iter, memchr2};
 
-/// Whether this byte is a space, a tab, a CR or an LF.
+/// How many bytes of a value are looked at one by one. Most values end within these, sooner than a search by vectors
+/// would begin.
+const NEAR: usize = 8;
+
+/// Whether this byte is a space, a tab, a CR or an LF. Most bytes are above all four.
 fn is_white(byte: u8) -> bool
     ensures { result ≡ letters.is_white byte }
 {
-    matches!(byte, b' ' | b'\t' | b'\r' | b'\n')
+    byte <= b' ' && matches!(byte, b' ' | b'\t' | b'\r' | b'\n')
 }
 
 /// Whether this byte may stand in a name: an ASCII letter or digit, `_`, `-`, `.`, `:`, or any byte from 128 up.
 fn is_name_byte(byte: u8) -> bool
     ensures { result ≡ letters.is_name_byte byte }
 {
-    byte.is_ascii_alphanumeric() || matches!(byte, b'_' | b'-' | b'.' | b':') || byte >= 128
+    byte.is_ascii_alphabetic()
+        || byte.is_ascii_digit()
+        || matches!(byte, b'_' | b'-' | b'.' | b':')
+        || byte >= 128
 }
 
 /// Whether a name may begin with this byte: a name byte other than a digit, `-`, `.` and `:`.
@@ -64,7 +71,8 @@ pub(crate) fn len_without_white(bytes: &[u8]) -> usize
     len
 }
 
-/// How many name bytes these begin with.
+/// How many name bytes these begin with. It stands by itself, since its loop is slower within a larger function.
+#[inline(never)]
 #[tactic(auto, using(std::proofs::lemmas::List::Sums::position_or_len_is))]
 pub(crate) fn name_len(bytes: &[u8]) -> usize
     ensures value { result ≡ position_or_len (λ b. not (letters.is_name_byte b)) bytes.now }
@@ -77,13 +85,29 @@ pub(crate) fn name_len(bytes: &[u8]) -> usize
     len
 }
 
-/// How many bytes stand before the quote or a `<`.
+/// How many bytes stand before the quote or a `<`, where most likely many do.
 #[tactic(auto, using(crate::proofs::SearchLemmas::first_or_len, crate::proofs::SearchLemmas::found_within))]
-pub(crate) fn value_len(quote: u8, bytes: &[u8]) -> usize
+fn long_value_len(quote: u8, bytes: &[u8]) -> usize
     ensures value { result ≡ position_or_len (λ b. b == quote || b == byte "<") bytes.now }
     ensures within { result ≤ length bytes.now }
 {
     memchr2(quote, b'<', bytes).unwrap_or(bytes.len())
+}
+
+/// How many bytes stand before the quote or a `<`.
+#[tactic(auto, using(std::proofs::lemmas::List::Sums::position_or_len_is))]
+pub(crate) fn value_len(quote: u8, bytes: &[u8]) -> usize
+    ensures value { result ≡ position_or_len (λ b. b == quote || b == byte "<") bytes.now }
+    ensures within { result ≤ length bytes.now }
+{
+    let mut len = 0;
+    while len < bytes.len() && len < NEAR {
+        if bytes[len] == quote || bytes[len] == b'<' {
+            return len;
+        }
+        len += 1;
+    }
+    len + long_value_len(quote, &bytes[len..])
 }
 
 /// How many bytes stand before a `<`.
