@@ -1,3 +1,4 @@
 -- Kept inside (laws, and how fields are seen):
+pub mod Bits
 pub mod Br1
 pub mod Br2

@@ -115,7 +115,7 @@ impl<L> Rule<L> for Br1 {
     fn term(&self, key: usize, cells: &Cells, steps: &mut Steps<L>) -> u64 {
         steps.tick();
         let team = TeamId(self.scope.teams.get(key));
-        let breaks = team_breaks(cells, self.side, team, self.scope.slots.numbers());
+        let breaks = team_breaks(cells, self.side, team, &self.scope);
         breaks.saturating_sub(u64::from(self.intp))
     }
 }

@@ -101,11 +101,7 @@ impl Entries for Br2 {
 impl<L> Rule<L> for Br2 {
     fn term(&self, _key: usize, cells: &Cells, steps: &mut Steps<L>) -> u64 {
         steps.tick();
-        let breaks = all_breaks(
-            cells,
-            self.scope.teams.numbers(),
-            self.scope.slots.numbers(),
-        );
+        let breaks = all_breaks(cells, self.scope.teams.numbers(), &self.scope);
         breaks.saturating_sub(u64::from(self.intp))
     }
 }

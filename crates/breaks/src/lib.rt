@@ -4,6 +4,7 @@
 //! constraint's deviation vector, as `league` defines it.
 #![tactic(auto)]
 
+mod bits;
 mod br1;
 mod br2;
 mod scope;

@@ -3,7 +3,9 @@ ghost use Rattle.std.specs.Prelude.{◌≡◌, ◌<◌, ◌≤◌, ◌||◌, IfO
 ghost use Rattle.league.specs.Instance.{are_slots, are_teams};
 ghost use Rattle.league.specs.Sets.{is_in};
 ghost use Rattle.rule_core.specs.Touched.{can_break};
+ghost use Rattle.breaks.specs.Bits.{AreBits};
 
+use crate::bits::bits_of;
 use league::{Game, SlotId, SlotSet, TeamSet};
 use rule_core::Listed;
 use std::alloc::{AllocError, Global};
@@ -13,6 +15,9 @@ use std::alloc::{AllocError, Global};
 pub(crate) struct Scope {
     pub(crate) teams: Listed,
     pub(crate) slots: Listed,
+    /// A bit for each of the slots.
+    pub(crate) bits: u128,
+    ghost set: { AreBits slots bits },
 }
 
 impl Scope {
@@ -32,6 +37,7 @@ impl Scope {
         Ok(Scope {
             teams: Listed::of_teams(alloc, n, teams)?,
             slots: Listed::of_slots(alloc, n, slots)?,
+            bits: bits_of(slots.numbers()),
         })
     }
 

@@ -1,76 +1,74 @@
 //! Sums of breaks.
-ghost use Rattle.std.specs.Prelude.{◌≡◌, ◌<◌, ◌≤◌, length};
-ghost use Rattle.std.specs.List.{All};
+ghost use Rattle.std.specs.Prelude.{◌≡◌, ℕ, ◌<◌, ◌≤◌, ◌^◌, nat_lt, if◌then◌else◌, length};
+ghost use Rattle.std.specs.Int.{bit_at};
+ghost use Rattle.std.specs.List.{All, sum_by};
 ghost use Rattle.league.specs.Breaks as breaks;
-ghost use Rattle.league.specs.Breaks.{breaks_among, breaks_at, is_away_break, is_home_break};
+ghost use Rattle.league.specs.Breaks.{breaks_among, twice_in_a_row};
 ghost use Rattle.league.specs.Counts.{slot_count};
+ghost use Rattle.league.specs.declared.class.Side.TheVariants.{A, H};
 ghost use Rattle.cells.specs.Table.{table_counts};
 
-use league::{Side, SlotId, TeamId};
+use crate::scope::Scope;
+use league::{Side, TeamId};
 use rule_core::Cells;
 
-/// The breaks of some teams on both sides, at some slots: for each team and slot at most four look-ups.
-pub(crate) fn all_breaks(cells: &Cells, teams: &[u16], slots: &[u16]) -> u64
+/// The breaks of some teams on both sides, at the slots: two look-ups for each team.
+pub(crate) fn all_breaks(cells: &Cells, teams: &[u16], scope: &Scope) -> u64
     requires teams { All (λ t. t < cells.now.n) teams.now }
     requires few_teams { length teams.now ≤ 78 }
-    requires slots { All (λ s. s < slot_count cells.now.n) slots.now }
-    requires few_slots { length slots.now ≤ 78 }
-    ensures { result ≡ breaks.all_breaks cells.now.n (table_counts cells.now) teams.now slots.now }
+    requires slots { All (λ s. s < slot_count cells.now.n) scope.now.slots }
+    ensures { result ≡ breaks.all_breaks cells.now.n (table_counts cells.now) teams.now scope.now.slots }
 {
     let mut breaks: u64 = 0;
     for team in teams {
-        breaks += team_breaks(cells, Side::Both, TeamId(*team), slots);
+        breaks += team_breaks(cells, Side::Both, TeamId(*team), scope);
     }
     breaks
 }
 
-/// The breaks of a team on a side, at some slots: for each slot at most two look-ups, or four for both sides.
-pub(crate) fn team_breaks(cells: &Cells, side: Side, team: TeamId, slots: &[u16]) -> u64
+/// The breaks of a team on a side, at the slots: one look-up, or two for both sides.
+pub(crate) fn team_breaks(cells: &Cells, side: Side, team: TeamId, scope: &Scope) -> u64
     requires team { team.0 < cells.now.n }
-    requires slots { All (λ s. s < slot_count cells.now.n) slots.now }
-    requires few { length slots.now ≤ 78 }
-    ensures breaks { result ≡ breaks_among cells.now.n (table_counts cells.now) side slots.now team.0 }
+    requires slots { All (λ s. s < slot_count cells.now.n) scope.now.slots }
+    ensures breaks { result ≡ breaks_among cells.now.n (table_counts cells.now) side scope.now.slots team.0 }
     ensures at_most { result ≤ 156 }
 {
-    let mut breaks: u64 = 0;
-    for slot in slots {
-        breaks += slot_breaks(cells, side, team, SlotId(*slot));
-    }
-    breaks
-}
-
-/// The breaks of a team on a side at a slot.
-fn slot_breaks(cells: &Cells, side: Side, team: TeamId, slot: SlotId) -> u64
-    requires team { team.0 < cells.now.n }
-    requires slot { slot.0 < slot_count cells.now.n }
-    ensures breaks { result ≡ breaks_at cells.now.n (table_counts cells.now) side team.0 slot.0 }
-    ensures at_most { result ≤ 2 }
-{
     match side {
-        Side::H => u64::from(has_home_break(cells, team, slot)),
-        Side::A => u64::from(has_away_break(cells, team, slot)),
-        Side::Both => {
-            let at_home = u64::from(has_home_break(cells, team, slot));
-            let away = u64::from(has_away_break(cells, team, slot));
-            at_home + away
-        }
+        Side::H => home_breaks(cells, team, scope),
+        Side::A => away_breaks(cells, team, scope),
+        Side::Both => home_breaks(cells, team, scope) + away_breaks(cells, team, scope),
     }
 }
 
-/// Whether a team has a home break at a slot.
-fn has_home_break(cells: &Cells, team: TeamId, slot: SlotId) -> bool
+/// The home breaks of a team at the slots.
+fn home_breaks(cells: &Cells, team: TeamId, scope: &Scope) -> u64
     requires team { team.0 < cells.now.n }
-    requires slot { slot.0 < slot_count cells.now.n }
-    ensures { result ≡ is_home_break cells.now.n (table_counts cells.now) team.0 slot.0 }
+    requires slots { All (λ s. s < slot_count cells.now.n) scope.now.slots }
+    ensures breaks { result ≡ breaks_among cells.now.n (table_counts cells.now) H scope.now.slots team.0 }
+    ensures at_most { result ≤ 78 }
 {
-    slot.0 > 0 && cells.home(team, SlotId(slot.0 - 1)) > 0 && cells.home(team, slot) > 0
+    breaks_of(cells.home_slots(team), scope)
 }
 
-/// Whether a team has an away break at a slot.
-fn has_away_break(cells: &Cells, team: TeamId, slot: SlotId) -> bool
+/// The away breaks of a team at the slots.
+fn away_breaks(cells: &Cells, team: TeamId, scope: &Scope) -> u64
     requires team { team.0 < cells.now.n }
-    requires slot { slot.0 < slot_count cells.now.n }
-    ensures { result ≡ is_away_break cells.now.n (table_counts cells.now) team.0 slot.0 }
+    requires slots { All (λ s. s < slot_count cells.now.n) scope.now.slots }
+    ensures breaks { result ≡ breaks_among cells.now.n (table_counts cells.now) A scope.now.slots team.0 }
+    ensures at_most { result ≤ 78 }
 {
-    slot.0 > 0 && cells.away(team, SlotId(slot.0 - 1)) > 0 && cells.away(team, slot) > 0
+    breaks_of(cells.away_slots(team), scope)
+}
+
+/// At how many of the slots there are games, as there are in the slot before: a bit of `played` is set for each slot
+/// with games.
+fn breaks_of(played: u128, scope: &Scope) -> u64
+    requires small { played < 2 ^ 78 }
+    ensures breaks { (season : ℕ) (games : ℕ → ℕ) → All (λ s. s < season) scope.now.slots
+        → ((s : ℕ) → s < season → bit_at played s ≡ (if nat_lt 0 (games s) then 1 else 0))
+        → result ≡ sum_by (λ s. if twice_in_a_row games s then 1 else 0) scope.now.slots }
+    ensures at_most { result ≤ 78 }
+{
+    let twice = played & (played << 1);
+    u64::from((twice & scope.bits).count_ones())
 }

@@ -1,6 +1,7 @@
 pub mod KeepLemmas
 pub mod KeptMeetingLemmas
 pub mod ListedLemmas
+pub mod MarkLemmas
 pub mod OpponentLemmas
 pub mod PlaceFacts
 pub mod PlaceLemmas

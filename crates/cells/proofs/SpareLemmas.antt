@@ -280,6 +280,10 @@ no_counts xs none i j s =
       if_none true = refl
       if_none false = refl
 
+pub no_length : (xs : List ℕ) → length xs ≡ 0 → (i j s : ℕ) → spare_counts xs i j s ≡ 0
+no_length [] none i j s = no_counts [] refl i j s
+no_length (x ∷ xs) none i j s = absurd (omega arith)
+
 pub AreSpare-none : (n : ℕ) (xs : List ℕ) → xs ≡ [] → AreSpare n xs
 AreSpare-none n xs none = record {
   within = λ i j s past. no_counts xs none i j s;

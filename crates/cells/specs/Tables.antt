@@ -1,5 +1,7 @@
 -- The tables in which the counts are kept.
-use Rattle.std.specs.Prelude.{◌≡◌, ℕ, ◌+◌, ◌*◌, ◌/◌, ◌%◌, ◌≤◌, ◌&&◌, ◌==◌, if◌then◌else◌, List, length, map}
+use Rattle.std.specs.Prelude.{◌≡◌, ◌≢◌, ℕ, ◌+◌, ◌*◌, ◌/◌, ◌%◌, ◌^◌, ◌<◌, ◌≤◌, Bool, ◌&&◌, ◌==◌, nat_lt, if◌then◌else◌, List}
+use Rattle.std.specs.Prelude.{length, map, slice_index}
+use Rattle.std.specs.Int.{bit_at}
 use Rattle.std.specs.List.{range_with_len, sum}
 use Rattle.league.specs.Counts.{Counts, slot_count}
 use Rattle.league.specs.Instance.{IsTeamCount}
@@ -17,6 +19,28 @@ pub record IsOneMore (row column : ℕ) (before after : Counters) : Type 0 where
   pub as_long : length after.numbers.items ≡ length before.numbers.items
   pub each : (i k : ℕ) → number after.columns after.numbers.items i k
       ≡ number before.columns before.numbers.items i k + (if (row == i) && (column == k) then 1 else 0)
+
+-- of each row, the columns below 78 whose number isn't 0 are set
+pub record AreMarked (counters : Counters) : Type 0 where
+  pub small : (i : ℕ) → slice_index counters.marks.items i < 2 ^ 78
+  pub each : (i k : ℕ) → k < 78 → bit_at (slice_index counters.marks.items i) k
+      ≡ (if nat_lt 0 (number counters.columns counters.numbers.items i k) then 1 else 0)
+
+-- a row and column is marked or isn't, and all else is the same
+pub record IsMark (row column : ℕ) (there : Bool) (before after : Counters) : Type 0 where
+  pub as_wide : after.columns ≡ before.columns
+  pub as_numbered : after.numbers.items ≡ before.numbers.items
+  pub as_many : length after.marks.items ≡ length before.marks.items
+  pub small : slice_index after.marks.items row < 2 ^ 78
+  pub here : bit_at (slice_index after.marks.items row) column ≡ (if there then 1 else 0)
+  pub along : (k : ℕ) → k < 78 → k ≢ column
+      → bit_at (slice_index after.marks.items row) k ≡ bit_at (slice_index before.marks.items row) k
+  pub others : (i : ℕ) → i ≢ row → slice_index after.marks.items i ≡ slice_index before.marks.items i
+
+-- a row of marks for each team
+pub record HasMarks (n : ℕ) (counters : Counters) : Type 0 where
+  pub rows : length counters.marks.items ≡ n
+  pub marked : AreMarked counters
 
 -- so many rows, each with a number for every slot of a season of n teams
 pub record HasRows (n rows : ℕ) (counters : Counters) : Type 0 where

@@ -1,6 +1,7 @@
 //! How often each game is played, kept while games come and go.
-ghost use Rattle.std.specs.Prelude.{◌≡◌, ℕ, ◌<◌, ◌≤◌, ◌+◌, ◌||◌, true, if◌then◌else◌, [], ◌∷◌};
+ghost use Rattle.std.specs.Prelude.{◌≡◌, ℕ, ◌<◌, ◌≤◌, ◌+◌, ◌^◌, ◌||◌, nat_lt, true, if◌then◌else◌, [], ◌∷◌};
 ghost use Rattle.std.specs.Prelude.{IfOk, IfSome, IfNone};
+ghost use Rattle.std.specs.Int.{bit_at};
 ghost use Rattle.std.specs.List.{All, sum};
 ghost use Rattle.league.specs.Capacity.{meetings_with};
 ghost use Rattle.league.specs.Counts as counts;
@@ -27,7 +28,8 @@ use std::marker::Model;
 /// Each team has one place in each slot. A game stands in the places of its two teams, if both were free when it came,
 /// and else it is a spare one, which is counted by slot, home team and away team. These counts reach no further than
 /// the last slot that has a spare game, so that a round robin has none, but there is room for all from the start.
-/// Beside them the home games and the away games of each team in each slot are counted.
+/// Beside them the home games and the away games of each team in each slot are counted, and the slots in which there are
+/// any are marked.
 #[derive(Drop)]
 pub struct Cells {
     n: u16,
@@ -47,14 +49,14 @@ impl Model for Cells {
     ghost use Rattle.std.specs.Prelude.{◌*◌, ◌≤◌, vec_capacity};
     ghost use Rattle.league.specs.Counts.{slot_count};
     ghost use Rattle.cells.specs.Table.{Table};
-    ghost use Rattle.cells.specs.Tables.{AreKept, kept_counts, listed};
+    ghost use Rattle.cells.specs.Tables.{AreKept, HasMarks, kept_counts, listed};
 
     ghost Value = { Table };
 
     ghost view = { λ c. record { n = c.n; list = listed c.n (kept_counts c.n c.places.items c.spare.items) } };
 
     ghost invariant = { λ c. AreKept c.n c.games c.places.items c.spare.items c.homes c.aways
-        × (slot_count c.n * 1600 ≤ vec_capacity c.spare) };
+        × (slot_count c.n * 1600 ≤ vec_capacity c.spare) × HasMarks c.n c.homes × HasMarks c.n c.aways };
 }
 
 impl Cells {
@@ -163,6 +165,26 @@ impl Cells {
         self.aways.at(team.0 as usize, slot.0 as usize)
     }
 
+    /// The slots in which a team is at home, as bits: bit s, of worth 2^s, for slot s. It is one look-up.
+    pub fn home_slots(&self, team: TeamId) -> u128
+        requires team { team.0 < self.now.n }
+        ensures slots { (s : ℕ) → s < counts.slot_count self.now.n → bit_at result s
+            ≡ (if nat_lt 0 (home_games self.now.n (table_counts self.now) team.0 s) then 1 else 0) }
+        ensures small { result < 2 ^ 78 }
+    {
+        self.homes.row_marks(team.0 as usize)
+    }
+
+    /// The slots in which a team is away, as bits: bit s, of worth 2^s, for slot s. It is one look-up.
+    pub fn away_slots(&self, team: TeamId) -> u128
+        requires team { team.0 < self.now.n }
+        ensures slots { (s : ℕ) → s < counts.slot_count self.now.n → bit_at result s
+            ≡ (if nat_lt 0 (away_games self.now.n (table_counts self.now) team.0 s) then 1 else 0) }
+        ensures small { result < 2 ^ 78 }
+    {
+        self.aways.row_marks(team.0 as usize)
+    }
+
     /// The games of a team at home to some others in a slot, itself left out. It is one look-up, unless the team has a
     /// spare home game in the slot.
     pub fn at_home_to(&self, team: TeamId, others: &Listed, slot: SlotId) -> u32
@@ -175,6 +197,9 @@ impl Cells {
         let numbers = others.numbers();
         let place = read_place(&self.places, slot_count(self.n) as usize, team, slot);
         let placed = place.games_at_home_to(others);
+        if self.spare.is_empty() {
+            return placed;
+        }
         if self.home(team, slot) == place.home_games() {
             return placed;
         }
@@ -193,6 +218,9 @@ impl Cells {
         let numbers = others.numbers();
         let place = read_place(&self.places, slot_count(self.n) as usize, team, slot);
         let placed = place.games_away_at(others);
+        if self.spare.is_empty() {
+            return placed;
+        }
         if self.away(team, slot) == place.away_games() {
             return placed;
         }

@@ -1,5 +1,5 @@
 //! The lines of the report.
-ghost use Rattle.std.specs.Prelude.{◌≡◌, ◌++◌, IfOk, OnOk, string_bytes, sum};
+ghost use Rattle.std.specs.Prelude.{◌≡◌, ◌++◌, IfOk, OnOk, string_bytes, sum, codes, decimal};
 ghost use Rattle.report.specs.Report.{head_text, structure_text, verdict_text};
 ghost use Rattle.report.specs.Report.{entries_text, constraint_front, constraint_text};
 
@@ -41,12 +41,24 @@ pub fn verdict(
     format!(in alloc; "infeasibility {infeasibility}\nobjective {objective}\nfeasible {word}\n")
 }
 
+/// Adds an entry after a space. Most entries are 0.
+fn push_entry(text: &mut String, entry: u64) -> Result<(), AllocError>
+    ensures { OnOk result (string_bytes text.new ≡ string_bytes text.old ++ (codes " " ++ decimal entry)) }
+{
+    if entry == 0 {
+        text.push_str(" 0")?;
+        return Ok(());
+    }
+    write!(text, " {entry}")?;
+    Ok(())
+}
+
 /// Adds the entries, each after a space.
 fn push_entries(text: &mut String, entries: &[u64]) -> Result<(), AllocError>
     ensures { OnOk result (string_bytes text.new ≡ string_bytes text.old ++ entries_text entries.now) }
 {
     for entry in entries {
-        write!(text, " {entry}")?;
+        push_entry(text, *entry)?;
     }
     Ok(())
 }

@@ -10,6 +10,6 @@ team_breaks-breaks-requires-clause-team c = c.requires.teams c.loop-team.team-in
 
 pub loop-team-preserved : goal.loop-team-preserved
 loop-team-preserved c = record {
-  counted = omega (arith, c.loop-team.invariant.counted, c.team_breaks-breaks.ensures.breaks, sum_by_more (breaks_among c.args.cells.now.n (table_counts c.args.cells.now) Both c.args.slots.now) c.args.teams.now c.loop-team.team-index 0 c.loop-team-test.true);
+  counted = omega (arith, c.loop-team.invariant.counted, c.team_breaks-breaks.ensures.breaks, sum_by_more (breaks_among c.args.cells.now.n (table_counts c.args.cells.now) Both c.args.scope.now.slots) c.args.teams.now c.loop-team.team-index 0 c.loop-team-test.true);
   bounded = omega (arith, c.loop-team.invariant.bounded, c.team_breaks-breaks.ensures.at_most);
 }

@@ -7,6 +7,6 @@ use Rattle.breaks.proofs.sums.all_breaks.Given as goal
 
 abbrev pub invariant-loop-team : goal.invariant-loop-team
 invariant-loop-team l = record {
-  counted : l.breaks ≡ sum_by (breaks_among l.cells.n (table_counts l.cells) Both l.slots) (take l.team-index l.teams);
+  counted : l.breaks ≡ sum_by (breaks_among l.cells.n (table_counts l.cells) Both l.scope.slots) (take l.team-index l.teams);
   bounded : l.breaks ≤ 156 * l.team-index;
 }

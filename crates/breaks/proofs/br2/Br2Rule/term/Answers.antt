@@ -1,7 +1,8 @@
+use Rattle.std.proofs.Common.{refl}
 use Rattle.cells.specs.Table.{table_counts}
 use Rattle.breaks.proofs.TermLemmas.{br2_term}
 use Rattle.breaks.proofs.br2.Br2Rule.term.Goals as goal
 
 pub returns-clause-entry : goal.returns-clause-entry
 returns-clause-entry g c =
-    br2_term c.args.self.now (table_counts c.args.cells.now) c.args._key c.args.cells.now.n c.numbers.result.now c.numbers-2.result.now c.all_breaks-breaks.result c.from.result c.saturating_sub.result c.requires.key c.requires.teams c.numbers.ensures.numbers c.numbers-2.ensures.numbers c.all_breaks-breaks.ensures c.from.ensures c.saturating_sub.ensures
+    br2_term c.args.self.now (table_counts c.args.cells.now) c.args._key c.args.cells.now.n c.numbers.result.now c.args.self.now.scope.slots c.all_breaks-breaks.result c.from.result c.saturating_sub.result c.requires.key c.requires.teams c.numbers.ensures.numbers refl c.all_breaks-breaks.ensures c.from.ensures c.saturating_sub.ensures

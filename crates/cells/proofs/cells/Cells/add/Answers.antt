@@ -46,6 +46,30 @@ keep-requires-clause-few c i j s =
     c.self.inside.homes
     c.self.inside.aways c.self.invariant.0 i j s
 
+pub add-requires-clause-row : goal.add-requires-clause-row
+add-requires-clause-row c =
+    let fits : IsGame c.self.inside.n c.args.game = subst (λ (t : Table). IsGame t.n c.args.game)
+    (sym c.self.view_is) c.requires.fits in
+    omega (arith, fits.home, c.self.invariant.2.rows)
+
+pub add-requires-clause-few : goal.add-requires-clause-few
+add-requires-clause-few c = omega (arith, c.self.invariant.0.home_rows.wide, c.self.invariant.0.teams.at_most)
+
+pub add-requires-clause-marked : goal.add-requires-clause-marked
+add-requires-clause-marked c = c.self.invariant.2.marked
+
+pub add-requires-2-clause-row : goal.add-requires-2-clause-row
+add-requires-2-clause-row c =
+    let fits : IsGame c.self.inside.n c.args.game = subst (λ (t : Table). IsGame t.n c.args.game)
+    (sym c.self.view_is) c.requires.fits in
+    omega (arith, fits.away, c.self.invariant.3.rows)
+
+pub add-requires-2-clause-few : goal.add-requires-2-clause-few
+add-requires-2-clause-few c = omega (arith, c.self.invariant.0.away_rows.wide, c.self.invariant.0.teams.at_most)
+
+pub add-requires-2-clause-marked : goal.add-requires-2-clause-marked
+add-requires-2-clause-marked c = c.self.invariant.3.marked
+
 pub invariant_of-self : goal.invariant_of-self
 invariant_of-self c =
     let game = c.args.game in
@@ -56,9 +80,17 @@ invariant_of-self c =
       AreKept-more c.self.inside.n c.self.inside.games game c.self.inside.places.items c.keep.new.places.items
           c.self.inside.spare.items c.keep.new.spare.items c.self.inside.homes c.self.inside.aways c.add.new.self
           c.add-2.new.self fits room
-          (record { by_home = c.add.ensures; by_away = c.add-2.ensures }) c.keep.ensures.table c.keep.ensures.counts
+          (record { by_home = c.add.ensures.more; by_away = c.add-2.ensures.more }) c.keep.ensures.table c.keep.ensures.counts
           c.self.invariant.0,
       omega (arith, c.keep.ensures.room, c.self.invariant.1),
+      record {
+        rows = c.add.ensures.rows ∙ c.self.invariant.2.rows;
+        marked = c.add.ensures.marked;
+      },
+      record {
+        rows = c.add-2.ensures.rows ∙ c.self.invariant.3.rows;
+        marked = c.add-2.ensures.marked;
+      },
     )
 
 pub returns-clause-counts : goal.returns-clause-counts

@@ -1,9 +1,11 @@
-use Rattle.std.proofs.Common.{ℕ, List, length, arith, ap, ◌∙◌}
+use Rattle.std.proofs.Common.{◌≡◌, ℕ, List, length, arith, ap, ◌∙◌}
+use Rattle.std.proofs.lemmas.Bool.Decides.{nat_tests}
 use Rattle.std.specs.List.{sum_by}
 use Rattle.league.specs.Counts.{slot_count}
 use Rattle.cells.specs.Spare.{spare_counts}
 use Rattle.cells.specs.Table.{Table}
 use Rattle.cells.proofs.SeenLemmas.{at_home-le, at_home_all, at_home_settled, no_more_home}
+use Rattle.cells.proofs.SpareLemmas.{no_length}
 use Rattle.cells.proofs.TableLemmas.{kept-le, place_in_rows}
 use Rattle.cells.proofs.cells.Cells.at_home_to.Goals as goal
 
@@ -14,6 +16,15 @@ read_place-place-requires-clause-place c =
     place_in_rows c.self.inside.n c.args.team.0 c.args.slot.0 c.slot_count.result
     (length c.self.inside.places.items) c.slot_count.ensures c.self.invariant.0.table.size
     (omega (arith, teams, c.requires.team)) (omega (arith, slots, c.requires.slot))
+
+pub returns-then-is_empty-clause-games : goal.returns-then-is_empty-clause-games
+returns-then-is_empty-clause-games c =
+    let none : length c.self.inside.spare.items ≡ 0 = grind (arith, nat_tests, c.is_empty.ensures, c.if-is_empty.true) in
+    at_home_settled c.self.inside.n c.self.inside.games c.self.inside.places.items c.self.inside.spare.items
+    c.self.inside.homes c.self.inside.aways c.self.invariant.0 c.args.self.now c.self.view_is c.args.team.0
+    c.args.slot.0 c.args.others.now c.numbers-numbers.ensures.ascending c.slot_count.result
+    c.read_place-place.result c.slot_count.ensures c.read_place-place.ensures c.games_at_home_to-placed.result
+    c.games_at_home_to-placed.ensures (λ j. no_length c.self.inside.spare.items none c.args.team.0 j c.args.slot.0)
 
 pub returns-then-home-home_games-clause-games : goal.returns-then-home-home_games-clause-games
 returns-then-home-home_games-clause-games c =

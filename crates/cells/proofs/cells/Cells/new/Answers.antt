@@ -1,5 +1,6 @@
 use Rattle.std.proofs.Common.{ℕ, ◌*◌, List, replicate, ap, sym, arith, ◌∙◌}
 use Rattle.cells.specs.declared.place.Place.TheVariants.{Free}
+use Rattle.cells.proofs.MarkLemmas.{HasMarks-none}
 use Rattle.cells.proofs.TableLemmas.{AreKept-none, AreOpponents-none, kept-counts, kept-none}
 use Rattle.cells.proofs.cells.Cells.new.Goals as goal
 
@@ -16,6 +17,10 @@ invariant_of-result c =
           (c.in_ok-new.ensures.columns ∙ season) (c.in_ok-new.ensures.numbers ∙ ap zeros season)
           (c.in_ok-new-2.ensures.columns ∙ season) (c.in_ok-new-2.ensures.numbers ∙ ap zeros season),
       omega (arith, c.in_ok-with_capacity.ensures.exact, ap (λ (slots : ℕ). slots * 1600) season),
+      HasMarks-none n (n * c.slot_count-slots.result) c.in_ok-new.field-0 c.in_ok-new.ensures.numbers
+          c.in_ok-new.ensures.marks,
+      HasMarks-none n (n * c.slot_count-slots.result) c.in_ok-new-2.field-0 c.in_ok-new-2.ensures.numbers
+          c.in_ok-new-2.ensures.marks,
     )
 
 pub returns-clause-counts : goal.returns-clause-counts

@@ -70,6 +70,30 @@ let_go-requires-clause-there c =
     (seen c.self.inside.n c.self.inside.places.items c.self.inside.spare.items c.args.self.now
     c.self.invariant.0.table c.self.view_is) c.requires.there
 
+pub take-requires-clause-row : goal.take-requires-clause-row
+take-requires-clause-row c =
+    let fits : IsGame c.self.inside.n c.args.game = subst (λ (t : Table). IsGame t.n c.args.game)
+    (sym c.self.view_is) c.requires.fits in
+    omega (arith, fits.home, c.self.invariant.2.rows)
+
+pub take-requires-clause-few : goal.take-requires-clause-few
+take-requires-clause-few c = omega (arith, c.self.invariant.0.home_rows.wide, c.self.invariant.0.teams.at_most)
+
+pub take-requires-clause-marked : goal.take-requires-clause-marked
+take-requires-clause-marked c = c.self.invariant.2.marked
+
+pub take-requires-2-clause-row : goal.take-requires-2-clause-row
+take-requires-2-clause-row c =
+    let fits : IsGame c.self.inside.n c.args.game = subst (λ (t : Table). IsGame t.n c.args.game)
+    (sym c.self.view_is) c.requires.fits in
+    omega (arith, fits.away, c.self.invariant.3.rows)
+
+pub take-requires-2-clause-few : goal.take-requires-2-clause-few
+take-requires-2-clause-few c = omega (arith, c.self.invariant.0.away_rows.wide, c.self.invariant.0.teams.at_most)
+
+pub take-requires-2-clause-marked : goal.take-requires-2-clause-marked
+take-requires-2-clause-marked c = c.self.invariant.3.marked
+
 pub invariant_of-self : goal.invariant_of-self
 invariant_of-self c =
     let game = c.args.game in
@@ -78,9 +102,17 @@ invariant_of-self c =
       AreKept-less c.self.inside.n c.self.inside.games game c.let_go.new.places.items c.self.inside.places.items
           c.let_go.new.spare.items c.self.inside.spare.items c.take.new.self c.take-2.new.self c.self.inside.homes
           c.self.inside.aways fits
-          (record { by_home = c.take.ensures; by_away = c.take-2.ensures }) c.let_go.ensures.table
+          (record { by_home = c.take.ensures.less; by_away = c.take-2.ensures.less }) c.let_go.ensures.table
           c.let_go.ensures.counts c.self.invariant.0,
       omega (arith, c.let_go.ensures.room, c.self.invariant.1),
+      record {
+        rows = c.take.ensures.rows ∙ c.self.invariant.2.rows;
+        marked = c.take.ensures.marked;
+      },
+      record {
+        rows = c.take-2.ensures.rows ∙ c.self.invariant.3.rows;
+        marked = c.take-2.ensures.marked;
+      },
     )
 
 pub returns-clause-counts : goal.returns-clause-counts
