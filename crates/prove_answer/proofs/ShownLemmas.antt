@@ -5,9 +5,13 @@ use Rattle.std.specs.Prelude.{IfOk, IsTrue}
 use Rattle.std.proofs.lemmas.Bool.Decides.{nat_tests}
 use Rattle.league.specs.Accepted.{IsAccepted, objective}
 use Rattle.league.specs.Counts.{Counts, counts_of}
-use Rattle.league.specs.Instance.{Instance}
+use Rattle.league.specs.Instance.{Instance, IsTeamCount}
 use Rattle.league.specs.declared.game.Game.{Game}
+use Rattle.robinx_tags.specs.Pieces.{pieces}
+use Rattle.robinx_form.specs.SolutionFile.{solution_of}
 use Rattle.robinx_form.specs.Texts.{solution_text}
+use Rattle.robinx_write.proofs.SolutionLemmas.{solution-reads_back}
+use Rattle.solve.proofs.FewLemmas.{round_robin-few}
 use Rattle.answers.specs.Reply.{Answer}
 use Rattle.answers.specs.SeenReply.{answer_of}
 use Rattle.answers.specs.declared.reply.Reply.{Reply}
@@ -74,9 +78,9 @@ abbrev certificate_said : List Step → ℕ → Result Certificate Fault
 certificate_said log cost = Ok (record { bound = cost; log = log })
 
 pub shown-told : (league : Instance) (limit : Option ℕ) (games : List Game) (proved : Proved) (answer : Answer)
-    → IsAccepted league (counts_of games) → proofs.IsProved league (counts_of games) limit proved
-    → Tells proved answer → IsShown league limit games answer
-shown-told league limit games (Least cost log) answer accepted is told = inr (inl (record {
+    → IsTeamCount league.n → IsAccepted league (counts_of games)
+    → proofs.IsProved league (counts_of games) limit proved → Tells proved answer → IsShown league limit games answer
+shown-told league limit games (Least cost log) answer teams accepted is told = inr (inl (record {
   steps = log;
   accepted = accepted;
   least = subst (λ (c : ℕ). IsLowerBound league c) is.cost is.least;
@@ -86,16 +90,20 @@ shown-told league limit games (Least cost log) answer accepted is told = inr (in
   text = told.text ∙ ap (λ (c : ℕ). certificate_text c log) is.cost;
   reads_back = λ short. told.reads_back short is.nothing ∙ ap (certificate_said log) is.cost;
 }))
-shown-told league limit games (Better better cost) answer accepted is told = inr (inr (inl (record {
+shown-told league limit games (Better better cost) answer teams accepted is told = inr (inr (inl (record {
   better = better;
   accepted = accepted;
   better_accepted = is.accepted;
+  fit = is.fit;
   in_order = is.in_order;
   lower = subst (λ (c : ℕ). c < objective league (counts_of games)) is.cost is.lower;
   status = told.0;
   text = told.1 ∙ ap (λ (c : ℕ). solution_text better (Some (0, c))) is.cost;
+  reads_back = ap (λ (written : List ℕ). solution_of league.n (pieces written)) told.1
+      ∙ solution-reads_back league.n better (Some (0, cost)) teams.at_most
+      (round_robin-few league.n league.phased better teams is.fit is.accepted.round_robin) is.fit;
 })))
-shown-told league limit games (Spent log) answer accepted is told = inr (inr (inr (record {
+shown-told league limit games (Spent log) answer teams accepted is told = inr (inr (inr (record {
   steps = log;
   accepted = accepted;
   some = is.some;
@@ -124,10 +132,10 @@ replied-rejected league conflicts games (Ok reply) fails judged =
 replied-rejected league conflicts games (Err error) fails judged = tt
 
 pub replied-told : {E : Type 0} (league : Instance) (limit : Option ℕ) (games : List Game) (proved : Proved)
-    (result : Result Reply E) → IsAccepted league (counts_of games)
+    (result : Result Reply E) → IsTeamCount league.n → IsAccepted league (counts_of games)
     → proofs.IsProved league (counts_of games) limit proved
     → IfOk result (λ reply. Tells proved (answer_of reply))
     → IfOk result (λ reply. IsShown league limit games (answer_of reply))
-replied-told league limit games proved (Ok reply) accepted is told =
-    shown-told league limit games proved (answer_of reply) accepted is told
-replied-told league limit games proved (Err error) accepted is told = tt
+replied-told league limit games proved (Ok reply) teams accepted is told =
+    shown-told league limit games proved (answer_of reply) teams accepted is told
+replied-told league limit games proved (Err error) teams accepted is told = tt

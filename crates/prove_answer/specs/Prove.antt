@@ -1,9 +1,10 @@
 -- What `prove` answers: its stages in their order, and what is shown of a schedule.
 use Rattle.std.specs.Prelude.{◌≡◌, ℕ, ◌+◌, ◌-◌, ◌<◌, ◌≤◌, ◌^◌, ◌⊎◌, List, length, codes, Option, Some, Ok}
 use Rattle.std.specs.Io.KnownBytes.{Appends}
+use Rattle.std.specs.List.{All}
 use Rattle.league.specs.Accepted.{IsAccepted, objective}
 use Rattle.league.specs.Counts.{counts_of}
-use Rattle.league.specs.Instance.{Instance}
+use Rattle.league.specs.Instance.{Instance, IsGame}
 use Rattle.league.specs.Order.{IsInOrder}
 use Rattle.league.specs.declared.game.Game.{Game}
 use Rattle.robinx_tags.specs.Pieces.{pieces}
@@ -47,15 +48,18 @@ pub record IsLeast (league : Instance) (games : List Game) (answer : Answer) : T
   pub reads_back : HasShortLines steps
       → certificate_of answer.text ≡ Ok (record { bound = objective league (counts_of games); log = steps })
 
--- a schedule that the league accepts, in order, with a lower objective, is written as a solution file, with it
+-- A schedule of games of the league, which accepts it, in order, with a lower objective, is written as a solution file,
+-- with it, and reads back as these games.
 pub record IsBettered (league : Instance) (games : List Game) (answer : Answer) : Type 0 where
   pub better : List Game
   pub accepted : IsAccepted league (counts_of games)
   pub better_accepted : IsAccepted league (counts_of better)
+  pub fit : All (IsGame league.n) better
   pub in_order : IsInOrder better
   pub lower : objective league (counts_of better) < objective league (counts_of games)
   pub status : answer.status ≡ Better
   pub text : answer.text ≡ solution_text better (Some (0, objective league (counts_of better)))
+  pub reads_back : solution_of league.n (pieces answer.text) ≡ Ok better
 
 -- A log that is spent at the budget over the bound rows of one less than the schedule's objective is written; where no
 -- line of it passes the limit of a line, it reads back as it. The budget is below 3 to the number of variables, so a

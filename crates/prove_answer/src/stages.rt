@@ -56,6 +56,8 @@ fn show(
     requires fit { All (IsGame league.now.n) schedule.now }
     ensures { IfOk result (λ reply. IsShown league.now conflicts schedule.now (answer_of reply)) }
 {
+    // For its contract: a league has at most 40 teams.
+    let _n = league.n();
     let assessed = assess(alloc, league, schedule)?;
     if !assessed.feasible {
         return judge(alloc, league, schedule);

@@ -111,6 +111,7 @@ bettered league games answer old new shown written = record {
   better = shown.better;
   accepted = shown.accepted;
   better_accepted = shown.better_accepted;
+  fit = shown.fit;
   lower = shown.lower;
   written = subst (λ (text : List ℕ). Appends old new text) shown.text written;
 }

@@ -7,7 +7,8 @@ pub mod TextLemmas
 pub mod ListTexts
 pub mod ClassLemmas
 pub mod GroupLemmas
--- Texts of files:
+-- Texts of files, and comments behind them:
+pub mod CommentLemmas
 pub mod SolutionLemmas
 pub mod InstanceLemmas
 pub mod PartLemmas

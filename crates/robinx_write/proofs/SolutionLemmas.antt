@@ -1,7 +1,8 @@
 -- What the text of a solution says.
-use Rattle.std.proofs.Common.{◌≡◌, ◌≢◌, ℕ, ◌+◌, ◌<◌, ◌≤◌, true, not, ◌==◌, List, [], ◌∷◌, ◌++◌, length, length-append, Option, Some, None, Ok, decimal, refl, sym, ap, append_assoc, arith}
+use Rattle.std.proofs.Common.{◌≡◌, ◌≢◌, ℕ, ◌+◌, ◌<◌, ◌≤◌, true, not, ◌==◌, List, [], ◌∷◌, ◌++◌, length, length-append}
+use Rattle.std.proofs.Common.{Option, Some, None, Ok, decimal, refl, sym, ap, ◌∙◌, append_assoc, arith}
 use Rattle.std.specs.Prelude.{codes, nat_lt, Result}
-use Rattle.std.specs.List.{All, flat_map}
+use Rattle.std.specs.List.{All, flat_map, list_all}
 use Rattle.std.proofs.lemmas.Bool.Decides.{nat_tests}
 use Rattle.std.proofs.lemmas.List.{append-nil}
 use Rattle.std.proofs.lemmas.List.Elements.{All-tail, All-head}
@@ -11,7 +12,7 @@ use Rattle.league.specs.declared.game.Game.{Game}
 use Rattle.robinx_tags.specs.Fronts.{◌>>=◌}
 use Rattle.robinx_tags.specs.Tags.{attributes_at}
 use Rattle.robinx_tags.specs.Pieces.{pieces, pieces_from}
-use Rattle.robinx_tags.specs.declared.tag.TagKind.TheVariants.{Empty}
+use Rattle.robinx_tags.specs.declared.tag.TagKind.TheVariants.{Empty, End}
 use Rattle.robinx_tags.specs.declared.fault.FormKind.TheVariants.{UnknownTeam, UnknownSlot}
 use Rattle.robinx_tags.specs.Tags.{Attribute}
 use Rattle.robinx_form.specs.Attributes.{count, tag_line}
@@ -20,8 +21,10 @@ use Rattle.robinx_form.specs.Values.{team, slot}
 use Rattle.robinx_form.specs.Walk.{Open, Position, Fault, walk, at_piece}
 use Rattle.robinx_form.specs.SolutionFile.{Games, solution_meaning, solution_of, game_of}
 use Rattle.robinx_form.specs.declared.element.Element.TheVariants as element
-use Rattle.robinx_write.proofs.TagLemmas.{are_plain_values}
-use Rattle.robinx_write.proofs.StepLemmas.{tag, BeginsTag, Reads, Reads-passed, Reads-newline, Reads-tag_line, Reads-start_line, Reads-end_line}
+use Rattle.robinx_write.proofs.TagLemmas.{and_parts, are_plain_values}
+use Rattle.robinx_write.proofs.StepLemmas.{tag, piece_at-end, BeginsTag, Reads, Reads-piece, Reads-passed, Reads-newline}
+use Rattle.robinx_write.proofs.StepLemmas.{Reads-tag_line, Reads-start_line, Reads-end_line}
+use Rattle.robinx_write.proofs.CommentLemmas.{Reads-comment, comment_line, is_plain_comment}
 use Rattle.robinx_write.proofs.NumberTexts.{id-decimal, decimal-plain}
 
 -- ---- a game
@@ -46,6 +49,18 @@ game-plain g =
     let away = decimal-plain g.away.0 in
     let at = decimal-plain g.slot.0 in
     rw (home, away, at) refl
+
+-- ---- parts of the text
+
+-- the ends of the games and of the root
+abbrev games_end : List ℕ
+games_end = codes "</Games>\n</Solution>\n"
+
+-- the text up to its games, and what stands behind them
+abbrev text_to : List Game → Option (ℕ × ℕ) → List ℕ → List ℕ
+text_to games score end =
+    codes "<?xml version=\"1.0\" encoding=\"UTF-8\"?>\n<Solution>\n"
+    ++ (score_text score ++ (codes "<Games>\n" ++ (flat_map game_line games ++ end)))
 
 -- ---- the games
 
@@ -87,22 +102,65 @@ module _ (n : ℕ) (size : n ≤ 40) where
   abbrev around : ℕ → List Open
   around line = record { element = element.Solution; line = line; seen = codes "Games" ∷ []; text = [] } ∷ record { element = element.SolutionFile; line = 0; seen = codes "Solution" ∷ []; text = [] } ∷ []
 
-  abbrev games_end : List ℕ
-  games_end = codes "</Games>\n</Solution>\n"
+  -- in the root, behind the games
+  abbrev behind_games : ℕ → List Game → Position Games
+  behind_games line games = record {
+    inner = record { element = element.Solution; line = line; seen = codes "Games" ∷ []; text = [] };
+    outer = record { element = element.SolutionFile; line = 0; seen = codes "Solution" ∷ []; text = [] } ∷ [];
+    passing = None;
+    read = record { n = n; games = games };
+  }
 
-  end-read : (line outer_line : ℕ) (games : List Game) → Reads solution_meaning games_end (among line (around outer_line) games) (record { n = n; games = games })
+  -- behind the root
+  abbrev behind_root : List Game → Position Games
+  behind_root games = record {
+    inner = record { element = element.SolutionFile; line = 0; seen = codes "Solution" ∷ []; text = [] };
+    outer = [];
+    passing = None;
+    read = record { n = n; games = games };
+  }
+
+  file_end-read : (games : List Game) → Reads solution_meaning (10 ∷ []) (behind_root games) (record { n = n; games = games })
   unfolding attributes_at pieces_from walk
-  end-read line outer_line games = λ at. refl
+  file_end-read games = λ at. refl
+
+  -- comments behind the root are passed over
+  comments-read : (games : List Game) (comments : List (List ℕ)) → list_all is_plain_comment comments ≡ true
+      → Reads solution_meaning (10 ∷ flat_map comment_line comments) (behind_root games) (record { n = n; games = games })
+  comments-read games [] plain = file_end-read games
+  comments-read games (body ∷ comments) plain =
+      let x : Games = record { n = n; games = games } in
+      let others : List ℕ = flat_map comment_line comments in
+      let parts = and_parts (is_plain_comment body) (list_all is_plain_comment comments) plain in
+      rw (append_assoc body (codes "-->\n") others)
+      (Reads-newline solution_meaning (60 ∷ 33 ∷ 45 ∷ 45 ∷ (body ++ (45 ∷ 45 ∷ 62 ∷ 10 ∷ others))) (behind_root games) x (_, refl) refl
+      (Reads-comment solution_meaning body (10 ∷ others) (behind_root games) x parts.0 (comments-read games comments parts.1)))
+
+  end-read : (line outer_line : ℕ) (games : List Game) (comments : List (List ℕ)) → list_all is_plain_comment comments ≡ true
+      → Reads solution_meaning (games_end ++ flat_map comment_line comments) (among line (around outer_line) games) (record { n = n; games = games })
+  end-read line outer_line games comments plain =
+      let x : Games = record { n = n; games = games } in
+      let others : List ℕ = 10 ∷ flat_map comment_line comments in
+      Reads-end_line solution_meaning (codes "Games") (codes "</Solution>" ++ others) (among line (around outer_line) games) x
+      (λ at. behind_games outer_line games) refl (_, refl) (λ at. refl) (λ at. refl)
+      (λ at. Reads-piece solution_meaning (codes "</Solution>") others (behind_games outer_line games) x
+      (tag End (codes "Solution") []) (λ to. behind_root games) (omega arith)
+      (λ to. piece_at-end to (codes "Solution") others refl) (λ to. refl) (λ to. comments-read games comments plain))
 
   -- in the root, before the games
   abbrev in_solution : ℕ → Option (List ℕ) → Position Games
   in_solution line passing = record { inner = record { element = element.Solution; line = line; seen = []; text = [] }; outer = record { element = element.SolutionFile; line = 0; seen = codes "Solution" ∷ []; text = [] } ∷ []; passing = passing; read = record { n = n; games = [] } }
 
-  from_games : (games : List Game) (line : ℕ) → length games ≤ 10000 → All (IsGame n) games
-      → Reads solution_meaning (codes "<Games>\n" ++ (flat_map game_line games ++ games_end)) (in_solution line None) (record { n = n; games = games })
-  from_games games line few fit =
-      Reads-start_line solution_meaning (codes "Games") [] (flat_map game_line games ++ games_end) (in_solution line None) (record { n = n; games = games }) (λ at. among at (around line) []) refl (omega arith) refl refl (BeginsTag-games games games_end (_, refl))
-      (λ at. refl) (λ at. refl) (λ at. games-read games [] at (around line) games_end (record { n = n; games = games }) (omega arith) fit (_, refl) (end-read at line games))
+  from_games : (games : List Game) (comments : List (List ℕ)) (line : ℕ) → length games ≤ 10000 → All (IsGame n) games
+      → list_all is_plain_comment comments ≡ true
+      → Reads solution_meaning (codes "<Games>\n" ++ (flat_map game_line games ++ (games_end ++ flat_map comment_line comments)))
+      (in_solution line None) (record { n = n; games = games })
+  from_games games comments line few fit plain =
+      let x : Games = record { n = n; games = games } in
+      let end : List ℕ = games_end ++ flat_map comment_line comments in
+      Reads-start_line solution_meaning (codes "Games") [] (flat_map game_line games ++ end) (in_solution line None) x
+      (λ at. among at (around line) []) refl (omega arith) refl refl (BeginsTag-games games end (_, refl)) (λ at. refl) (λ at. refl)
+      (λ at. games-read games [] at (around line) end x (omega arith) fit (_, refl) (end-read at line games comments plain))
 
   -- the score, which is passed over
   score-passed : (score : Option (ℕ × ℕ)) (line : ℕ) (rest : List ℕ) (x : Games) → BeginsTag rest → Reads solution_meaning rest (in_solution line None) x → Reads solution_meaning (score_text score ++ rest) (in_solution line None) x
@@ -126,17 +184,36 @@ module _ (n : ℕ) (size : n ≤ 40) where
   abbrev at_start : Position Games
   at_start = record { inner = record { element = element.SolutionFile; line = 0; seen = []; text = [] }; outer = []; passing = None; read = record { n = n; games = [] } }
 
-  pub text-read : (games : List Game) (score : Option (ℕ × ℕ)) → length games ≤ 10000 → All (IsGame n) games → Reads solution_meaning (solution_text games score) at_start (record { n = n; games = games })
-  text-read games score few fit =
-      let games_text : List ℕ = codes "<Games>\n" ++ (flat_map game_line games ++ games_end) in
+  pub text-read : (games : List Game) (score : Option (ℕ × ℕ)) (comments : List (List ℕ)) → length games ≤ 10000
+      → All (IsGame n) games → list_all is_plain_comment comments ≡ true
+      → Reads solution_meaning (text_to games score (games_end ++ flat_map comment_line comments)) at_start (record { n = n; games = games })
+  text-read games score comments few fit plain =
+      let games_text : List ℕ = codes "<Games>\n" ++ (flat_map game_line games ++ (games_end ++ flat_map comment_line comments)) in
       let body : List ℕ = score_text score ++ games_text in
       let x : Games = record { n = n; games = games } in
       Reads-passed solution_meaning (codes "<?xml version=\"1.0\" encoding=\"UTF-8\"?>") (codes "\n<Solution>\n" ++ body) at_start x (omega arith) (λ line. refl)
       (Reads-newline solution_meaning (codes "<Solution>\n" ++ body) at_start x (_, refl) refl
       (Reads-start_line solution_meaning (codes "Solution") [] body at_start x (λ at. in_solution at None) refl (omega arith) refl refl (score-begins score games_text (_, refl)) (λ at. refl) (λ at. refl)
-      (λ at. score-passed score at games_text x (_, refl) (from_games games at few fit))))
+      (λ at. score-passed score at games_text x (_, refl) (from_games games comments at few fit plain))))
 
 -- the text of games that fit a league is read as these games
 pub solution-reads_back : (n : ℕ) (games : List Game) (score : Option (ℕ × ℕ)) → n ≤ 40 → length games ≤ 10000 → All (IsGame n) games → solution_of n (pieces (solution_text games score)) ≡ Ok games
 solution-reads_back n games score size few fit =
-    ap (λ (r : Result Games Fault). r >>= λ read. Ok read.games) (text-read n size games score few fit 1)
+    ap (λ (r : Result Games Fault). r >>= λ read. Ok read.games) (text-read n size games score [] few fit refl 1)
+
+-- what stands behind a text stands behind its last part
+text_to-behind : (games : List Game) (score : Option (ℕ × ℕ)) (more : List ℕ)
+    → solution_text games score ++ more ≡ text_to games score (games_end ++ more)
+text_to-behind games score more =
+    let lines : List ℕ = flat_map game_line games in
+    let front : List ℕ → List ℕ = λ l. codes "<?xml version=\"1.0\" encoding=\"UTF-8\"?>\n<Solution>\n" ++ l in
+    ap front (append_assoc (score_text score) (codes "<Games>\n" ++ (lines ++ games_end)) more
+    ∙ ap (λ (l : List ℕ). score_text score ++ (codes "<Games>\n" ++ l)) (append_assoc lines games_end more))
+
+-- and with comments behind it too: they are passed over
+pub solution-reads_back_commented : (n : ℕ) (games : List Game) (score : Option (ℕ × ℕ)) (comments : List (List ℕ)) → n ≤ 40
+    → length games ≤ 10000 → All (IsGame n) games → list_all is_plain_comment comments ≡ true
+    → solution_of n (pieces (solution_text games score ++ flat_map comment_line comments)) ≡ Ok games
+solution-reads_back_commented n games score comments size few fit plain =
+    ap (λ (text : List ℕ). solution_of n (pieces text)) (text_to-behind games score (flat_map comment_line comments))
+    ∙ ap (λ (r : Result Games Fault). r >>= λ read. Ok read.games) (text-read n size games score comments few fit plain 1)

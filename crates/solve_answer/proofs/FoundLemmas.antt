@@ -5,9 +5,11 @@ use Rattle.budgets.specs.declared.budgets.Budgets.{Budgets}
 use Rattle.league.specs.Accepted as costs
 use Rattle.league.specs.Accepted.{IsAccepted}
 use Rattle.league.specs.Counts.{counts_of}
-use Rattle.league.specs.Instance.{Instance}
+use Rattle.league.specs.Instance.{Instance, IsTeamCount}
 use Rattle.league.specs.declared.game.Game.{Game}
 use Rattle.circle_method.specs.Circle.{double_games}
+use Rattle.robinx_tags.specs.Pieces.{pieces}
+use Rattle.robinx_form.specs.SolutionFile.{solution_of}
 use Rattle.robinx_form.specs.Texts.{solution_text}
 use Rattle.encoding_base.specs.Encoding.{rows_of}
 use Rattle.refutation.specs.Steps.{Step}
@@ -20,22 +22,26 @@ use Rattle.answers.specs.declared.status.Status.TheVariants.{Yes, Refuted, Spent
 use Rattle.pattern_search.specs.declared.found.PatternFound.{PatternFound}
 use Rattle.solve.specs.Solutions.{IsSpentOn, LeavesOpen, RefutesLeague}
 use Rattle.solve.specs.Solutions as solutions
+use Rattle.solve.proofs.FewLemmas.{round_robin-few}
 use Rattle.solve.proofs.LowerLemmas.{IsDescent-climbs, IsDescent-settles}
 use Rattle.descent.specs.Descended.{Descended}
 use Rattle.venue_counts.specs.VenueCounts.{are_crowded, are_short}
 use Rattle.solve_answer.specs.Solve.{IsFound, IsSchedule, descent_text}
+use Rattle.solve_answer.proofs.ReadingLemmas.{schedule-reads_back}
 
 -- a schedule that is written
 abbrev pub schedule-told : (league : Instance) (moves : ℕ) (games : List Game) (objective : ℕ) (descent : Descended)
-    (answer : Answer) → solutions.IsSchedule league moves games objective descent → answer.status ≡ Yes
+    (answer : Answer) → IsTeamCount league.n → solutions.IsSchedule league moves games objective descent
+    → answer.status ≡ Yes
     → answer.text
     ≡ solution_text games (Some (0, objective))
     ++ descent_text (costs.objective league (counts_of descent.first)) descent
     → IsSchedule league moves answer
-schedule-told league moves games objective descent answer schedule status text = record {
+schedule-told league moves games objective descent answer teams schedule status text = record {
   games = games;
   descent = descent;
   accepted = schedule.accepted;
+  fit = schedule.fit;
   in_order = schedule.in_order;
   descends = schedule.descends;
   climbs = IsDescent-climbs league moves games descent schedule.descends;
@@ -46,17 +52,21 @@ schedule-told league moves games objective descent answer schedule status text =
       (λ (cost : ℕ). solution_text games (Some (0, cost))
       ++ descent_text (costs.objective league (counts_of descent.first)) descent)
       schedule.cost;
+  reads_back = ap (λ (written : List ℕ). solution_of league.n (pieces written)) text
+      ∙ schedule-reads_back league.n games objective (costs.objective league (counts_of descent.first)) descent
+      teams.at_most
+      (round_robin-few league.n league.phased games teams schedule.fit schedule.accepted.round_robin) schedule.fit;
 }
 
 pub found-schedule : (league : Instance) (budgets : Budgets) (games : List Game) (objective : ℕ) (descent : Descended)
-    (answer : Answer) → solutions.IsSchedule league budgets.moves games objective descent
+    (answer : Answer) → IsTeamCount league.n → solutions.IsSchedule league budgets.moves games objective descent
     → (are_short league ≡ true → ⊥) → (are_crowded league ≡ true → ⊥) → answer.status ≡ Yes
     → answer.text
     ≡ solution_text games (Some (0, objective))
     ++ descent_text (costs.objective league (counts_of descent.first)) descent
     → IsFound league budgets (rows_of league) answer
-found-schedule league budgets games objective descent answer schedule not_short not_crowded status text = record {
-  found = inl (schedule-told league budgets.moves games objective descent answer schedule status text);
+found-schedule league budgets games objective descent answer teams schedule not_short not_crowded status text = record {
+  found = inl (schedule-told league budgets.moves games objective descent answer teams schedule status text);
   circle = λ accepted. status;
   short = λ is. absurd (not_short is);
   crowded = λ is. absurd (not_crowded is);
@@ -106,16 +116,18 @@ found-spent league budgets steps patterns answer spent leaves no_circle not_shor
 -- ---- the same of a reply, unless memory ran out
 
 pub replied-schedule : {E : Type 0} (league : Instance) (budgets : Budgets) (games : List Game) (objective : ℕ)
-    (descent : Descended) (result : Result Reply E) → solutions.IsSchedule league budgets.moves games objective descent
-    → (are_short league ≡ true → ⊥) → (are_crowded league ≡ true → ⊥)
-    → IfOk result (λ reply. (answer_of reply).status ≡ Yes)
+    (descent : Descended) (result : Result Reply E) → IsTeamCount league.n
+    → solutions.IsSchedule league budgets.moves games objective descent → (are_short league ≡ true → ⊥)
+    → (are_crowded league ≡ true → ⊥) → IfOk result (λ reply. (answer_of reply).status ≡ Yes)
     → IfOk result (λ reply. (answer_of reply).text
     ≡ solution_text games (Some (0, objective))
     ++ descent_text (costs.objective league (counts_of descent.first)) descent)
     → IfOk result (λ reply. IsFound league budgets (rows_of league) (answer_of reply))
-replied-schedule league budgets games objective descent (Ok reply) schedule not_short not_crowded status text =
-    found-schedule league budgets games objective descent (answer_of reply) schedule not_short not_crowded status text
-replied-schedule league budgets games objective descent (Err error) schedule not_short not_crowded status text = tt
+replied-schedule league budgets games objective descent (Ok reply) teams schedule not_short not_crowded status text =
+    found-schedule league budgets games objective descent (answer_of reply) teams schedule not_short not_crowded status
+    text
+replied-schedule league budgets games objective descent (Err error) teams schedule not_short not_crowded status text =
+    tt
 
 pub replied-refuted : {E : Type 0} (league : Instance) (budgets : Budgets) (steps : List Step)
     (result : Result Reply E) → RefutesLeague league steps

@@ -1,5 +1,6 @@
 -- Lemmas on what is found, and on the stages:
 mod CommentLemmas
+mod ReadingLemmas
 pub mod FoundLemmas
 mod StageLemmas
 -- What follows from an answer:

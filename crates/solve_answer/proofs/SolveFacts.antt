@@ -1,5 +1,5 @@
 -- Worked answers, so that a wrong definition of what `solve` may answer does not check.
-use Rattle.std.proofs.Common.{◌≡◌, ℕ, ◌≤◌, ◌∙◌, true, false, if◌then◌else◌, List, [], ◌∷◌, Option, Some, None, Ok, codes, IsTrue, zero, suc, inl, inr, arith, refl, sym}
+use Rattle.std.proofs.Common.{◌≡◌, ℕ, ◌≤◌, ◌∙◌, true, false, if◌then◌else◌, List, [], ◌∷◌, ◌++◌, Option, Some, None, Ok, Err, codes, IsTrue, zero, suc, inl, inr, arith, refl, sym}
 use Rattle.std.specs.Prelude.{bytes_eq}
 use Rattle.std.specs.Fmt.{digits}
 use Rattle.std.specs.List.{All}
@@ -10,10 +10,14 @@ use Rattle.league.specs.Accepted.{IsAccepted}
 use Rattle.league.specs.Counts.{counts_of}
 use Rattle.league.specs.Instance.{Instance, IsInstance, IsTeamCount, class_fits}
 use Rattle.league.specs.declared.class.Constraint.{Constraint}
+use Rattle.league.specs.declared.game.Game.{Game}
 use Rattle.circle_method.specs.Circle.{double_games}
 use Rattle.circle_method.proofs.RoundRobinLemmas.{IsRoundRobin-double_games}
 use Rattle.robinx_form.specs.InstanceFile.{instance_of}
+use Rattle.robinx_form.specs.SolutionFile.{solution_of}
+use Rattle.robinx_form.specs.Texts.{solution_text}
 use Rattle.robinx_form.specs.Walk.{walk}
+use Rattle.robinx_tags.specs.declared.fault.FormKind.TheVariants.{Truncated}
 use Rattle.answers.specs.Reply.{Answer}
 use Rattle.answers.specs.declared.status.Status.TheVariants.{Yes, Refuted, Spent}
 use Rattle.encoding_base.specs.Encoding.{encoding_size, rows_of}
@@ -140,3 +144,20 @@ descent_text-none = refl
 pub move_line-each : (move_line (RoundSwap (record { 0 = 2 }) (record { 0 = 3 })) ≡ codes "<!-- move RoundSwap 2 3 -->\n") × (move_line (TeamSwap (record { 0 = 1 }) (record { 0 = 2 })) ≡ codes "<!-- move TeamSwap 1 2 -->\n") × (move_line (PartRoundSwap (record { 0 = 0 }) (record { 0 = 1 }) (record { 0 = 4 })) ≡ codes "<!-- move PartRoundSwap 0 1 4 -->\n")
 unfolding digits
 move_line-each = (refl, refl, refl)
+
+-- ---- what is written is read
+
+abbrev game : ℕ → ℕ → ℕ → Game
+game i j s = record { home = record { 0 = i }; away = record { 0 = j }; slot = record { 0 = s } }
+
+abbrev season : List Game
+season = game 0 1 0 ∷ game 1 0 1 ∷ []
+
+-- a season of two teams says its two games, with the three comments of a descent behind it too; where one of these
+-- doesn't end, it is told with its line: the text of the season has 10 lines
+pub reads_back-two :
+    (solution_of 2 (pieces (solution_text season (Some (0, 7)) ++ descent_text 7 step)) ≡ Ok season)
+    × (solution_of 2 (pieces (solution_text season (Some (0, 7)) ++ codes "<!-- descent first=7 --\n"))
+    ≡ Err (Truncated, 11))
+unfolding attributes_at pieces_from walk digits
+reads_back-two = (refl, refl)

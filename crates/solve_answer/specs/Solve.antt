@@ -2,15 +2,16 @@
 use Rattle.std.specs.Prelude.{◌≡◌, ℕ, ◌<◌, ◌≤◌, ◌^◌, ◌++◌, ◌⊎◌, true, if◌then◌else◌, List, length, reverse}
 use Rattle.std.specs.Prelude.{codes, decimal, Option, Some, Ok}
 use Rattle.std.specs.Io.KnownBytes.{Appends}
-use Rattle.std.specs.List.{flat_map}
+use Rattle.std.specs.List.{All, flat_map}
 use Rattle.league.specs.Accepted.{IsAccepted, objective}
 use Rattle.league.specs.Counts.{counts_of}
-use Rattle.league.specs.Instance.{Instance}
+use Rattle.league.specs.Instance.{Instance, IsGame}
 use Rattle.league.specs.Order.{IsInOrder}
 use Rattle.league.specs.declared.game.Game.{Game}
 use Rattle.circle_method.specs.Circle.{double_games}
 use Rattle.robinx_tags.specs.Pieces.{pieces}
 use Rattle.robinx_form.specs.InstanceFile.{instance_of}
+use Rattle.robinx_form.specs.SolutionFile.{solution_of}
 use Rattle.robinx_form.specs.Texts.{solution_text}
 use Rattle.robinx_read.specs.declared.instance.TheConstants.{INSTANCE_LIMIT}
 use Rattle.answers.specs.Reply.{Answer}
@@ -70,13 +71,15 @@ descent_line cost descent =
 abbrev pub descent_text : ℕ → Descended → List ℕ
 descent_text cost descent = descent_line cost descent ++ flat_map move_line descent.trail
 
--- A schedule that the league accepts, in order, is written as a solution file, with its objective, and behind it the
--- descent that led to it. Taken backwards from the schedule, its moves are legal, each raises the score, and they end
--- in an accepted schedule, whose objective is written too. As many moves as that objective says are enough to settle.
+-- A schedule of games of the league, which accepts it, in order, is written as a solution file, with its objective, and
+-- behind it the descent that led to it; the whole reads back as these games. Taken backwards from the schedule, the moves
+-- are legal, each raises the score, and they end in an accepted schedule, whose objective is written too. As many moves
+-- as that objective says are enough to settle.
 pub record IsSchedule (league : Instance) (moves : ℕ) (answer : Answer) : Type 0 where
   pub games : List Game
   pub descent : Descended
   pub accepted : IsAccepted league (counts_of games)
+  pub fit : All (IsGame league.n) games
   pub in_order : IsInOrder games
   pub descends : IsDescent league moves games descent
   pub climbs : IsClimb league.n league.phased (league_score league) (counts_of games) (reverse descent.trail)
@@ -85,6 +88,7 @@ pub record IsSchedule (league : Instance) (moves : ℕ) (answer : Answer) : Type
   pub status : answer.status ≡ Yes
   pub text : answer.text ≡ solution_text games (Some (0, objective league (counts_of games)))
       ++ descent_text (objective league (counts_of descent.first)) descent
+  pub reads_back : solution_of league.n (pieces answer.text) ≡ Ok games
 
 -- A log that is accepted over the league's rows is written, and reads back as it: so the league accepts no list of
 -- games, of whatever length.

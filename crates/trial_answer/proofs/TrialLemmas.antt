@@ -5,7 +5,7 @@ use Rattle.budgets.specs.declared.budgets.Budgets.{Budgets}
 use Rattle.league.specs.Accepted as costs
 use Rattle.league.specs.Accepted.{IsAccepted}
 use Rattle.league.specs.Counts.{counts_of}
-use Rattle.league.specs.Instance.{Instance}
+use Rattle.league.specs.Instance.{Instance, IsTeamCount}
 use Rattle.league.specs.declared.game.Game.{Game}
 use Rattle.circle_method.specs.Circle.{double_games}
 use Rattle.robinx_form.specs.Texts.{solution_text}
@@ -38,14 +38,15 @@ lines_with seed league objective descent =
     ++ found_lines objective (first_cost league descent) (length descent.trail) descent.settled
 
 trial-told : (seed : ℕ) (league : Instance) (moves : ℕ) (games : List Game) (objective : ℕ) (descent : Descended)
-    (answer : Answer) → solutions.IsSchedule league moves games objective descent → answer.status ≡ Yes
+    (answer : Answer) → IsTeamCount league.n → solutions.IsSchedule league moves games objective descent
+    → answer.status ≡ Yes
     → answer.text ≡ lines_with seed league objective descent ++ solved_text league games objective descent
     → IsTrial league.n seed league moves answer
-trial-told seed league moves games objective descent answer schedule status text =
+trial-told seed league moves games objective descent answer teams schedule status text =
     let solved : Answer = record { status = Yes; text = solved_text league games objective descent } in
     record {
       solved = solved;
-      schedule = schedule-told league moves games objective descent solved schedule refl refl;
+      schedule = schedule-told league moves games objective descent solved teams schedule refl refl;
       status = status;
       text = text
           ∙ ap (λ (cost : ℕ). lines_with seed league cost descent ++ solved_text league games objective descent)
@@ -54,14 +55,15 @@ trial-told seed league moves games objective descent answer schedule status text
 
 -- the same of a reply, unless memory ran out
 pub replied-trial : {E : Type 0} (seed : ℕ) (league : Instance) (moves : ℕ) (games : List Game) (objective : ℕ)
-    (descent : Descended) (result : Result Reply E) → solutions.IsSchedule league moves games objective descent
+    (descent : Descended) (result : Result Reply E) → IsTeamCount league.n
+    → solutions.IsSchedule league moves games objective descent
     → IfOk result (λ reply. (answer_of reply).status ≡ Yes)
     → IfOk result (λ reply. (answer_of reply).text
     ≡ lines_with seed league objective descent ++ solved_text league games objective descent)
     → IfOk result (λ reply. IsTrial league.n seed league moves (answer_of reply))
-replied-trial {E} seed league moves games objective descent (Ok reply) schedule status text =
-    trial-told seed league moves games objective descent (answer_of reply) schedule status text
-replied-trial {E} seed league moves games objective descent (Err error) schedule status text = tt
+replied-trial {E} seed league moves games objective descent (Ok reply) teams schedule status text =
+    trial-told seed league moves games objective descent (answer_of reply) teams schedule status text
+replied-trial {E} seed league moves games objective descent (Err error) teams schedule status text = tt
 
 -- ---- the made league
 

@@ -20,5 +20,6 @@ proof_reply-requires c =
 pub returns : goal.returns
 returns c =
     replied-told c.args.league.now c.args.conflicts c.args.schedule.now c.in_ok-proved.proved c.proof_reply.result
+    c.n-n.ensures.instance.teams
     (c.in_ok-assessed.ensures.feasible.0 (passed c.in_ok-assessed.assessed.feasible c.if-not-assessed.false))
     c.in_ok-proved.ensures c.proof_reply.ensures

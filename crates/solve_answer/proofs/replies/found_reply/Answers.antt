@@ -5,8 +5,9 @@ use Rattle.solve_answer.proofs.replies.found_reply.Goals as goal
 pub returns-in-Schedule : goal.returns-in-Schedule
 returns-in-Schedule c =
     replied-schedule c.args.league.now c.args.budgets c.in-Schedule.schedule c.in-Schedule.objective
-    c.in-Schedule.descent c.schedule_reply.result (rw c.in-Schedule.is at c.requires.solution)
-    (λ is. rw c.in-Schedule.is at c.requires.short is) (λ is. rw c.in-Schedule.is at c.requires.crowded is)
+    c.in-Schedule.descent c.schedule_reply.result c.n-n.ensures.instance.teams
+    (rw c.in-Schedule.is at c.requires.solution) (λ is. rw c.in-Schedule.is at c.requires.short is)
+    (λ is. rw c.in-Schedule.is at c.requires.crowded is)
     c.schedule_reply.ensures.status c.schedule_reply.ensures.text
 
 pub returns-in-Refuted : goal.returns-in-Refuted

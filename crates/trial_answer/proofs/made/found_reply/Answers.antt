@@ -5,7 +5,8 @@ use Rattle.trial_answer.proofs.made.found_reply.Goals as goal
 pub returns : goal.returns
 returns c =
     replied-trial c.args.seed c.args.league.now c.args.budgets.moves c.in-Schedule.schedule c.in-Schedule.objective
-    c.in-Schedule.descent c.schedule_reply.result (rw c.in-Schedule.is at c.requires.solution)
+    c.in-Schedule.descent c.schedule_reply.result c.n-n.ensures.instance.teams
+    (rw c.in-Schedule.is at c.requires.solution)
     c.schedule_reply.ensures.status c.schedule_reply.ensures.text
 
 pub schedule_reply-requires : goal.schedule_reply-requires
