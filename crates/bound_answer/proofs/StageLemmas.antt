@@ -23,7 +23,7 @@ use Rattle.refutation.specs.declared.verdict.Verdict.TheVariants.{Accepted, Reje
 use Rattle.check_answer.specs.Check.{most_log_bytes, most_terms, too_large}
 use Rattle.bound_base.specs.BoundRows.{bound_size}
 use Rattle.bound_laws.specs.Faithful.{IsLowerBound}
-use Rattle.bound_rows.specs.Sizes.{capped}
+use Rattle.encoding.specs.Capped.{capped}
 use Rattle.certificates.specs.Certificates.{certificate_of}
 use Rattle.certificates.specs.declared.certificate.Certificate.{Certificate}
 use Rattle.bound_answer.specs.Bound.{IsBoundVerdict, bound_answer, bound_verdict, bounded, has_few_terms}

@@ -4,7 +4,7 @@ ghost use Rattle.robin_io.specs.Counts.{Rose, TookMore};
 ghost use Rattle.answers.specs.SeenReply.{answer_of, Answers, MatchStage};
 ghost use Rattle.check_answer.specs.Check.{most_terms, too_large};
 ghost use Rattle.bound_base.specs.BoundRows.{bound_size};
-ghost use Rattle.bound_rows.specs.Sizes.{capped};
+ghost use Rattle.encoding.specs.Capped.{capped};
 ghost use Rattle.certificates.specs.Certificates.{certificate_of};
 ghost use Rattle.bound_answer.specs.Bound.{IsBoundVerdict, bounded, says_certificate};
 ghost use Rattle.bound_answer.specs.Faults.{IsMalformed};

@@ -26,7 +26,8 @@ use Rattle.encoding_sizes.proofs.SeasonSizes.{size_of-breaks}
 use Rattle.encoding_base.specs.Season.{break_rows}
 use Rattle.bound_base.specs.BoundRows.{base_rows, needs_breaks}
 use Rattle.bound_base.specs.Parts.{se1_parts}
-use Rattle.bound_rows.specs.Sizes.{capped, group_size, paid_size, part_size, parts_size, row_size}
+use Rattle.encoding.specs.Capped.{capped}
+use Rattle.bound_rows.specs.Sizes.{group_size, paid_size, part_size, parts_size, row_size}
 use Rattle.bound_rows.proofs.DraftLemmas.{paid_of-append}
 
 -- ---- capped sums

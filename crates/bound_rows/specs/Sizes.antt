@@ -1,5 +1,5 @@
 -- How many terms bound rows have, part by part.
-use Rattle.std.specs.Prelude.{ℕ, ◌+◌, ◌-◌, ◌*◌, ◌^◌, min as smaller, List, [], length, slice_index_or}
+use Rattle.std.specs.Prelude.{ℕ, ◌+◌, ◌-◌, ◌*◌, List, [], length, slice_index_or}
 use Rattle.std.specs.List.{sum_by}
 use Rattle.league.specs.declared.class.Class.{Class}
 use Rattle.league.specs.declared.class.Constraint.{Constraint}
@@ -7,10 +7,6 @@ use Rattle.rows.specs.Rows.{Row}
 use Rattle.encoding_base.specs.Encoding.{class_rows}
 use Rattle.bound_base.specs.BoundRows.{paid_of, units_of}
 use Rattle.bound_base.specs.Parts.{parts_of}
-
--- as many as a number of 64 bits says, which is more than any league's rows have
-abbrev pub capped : ℕ → ℕ
-capped terms = smaller terms (2 ^ 64 - 1)
 
 -- one of a group's rows with so many units, by its place
 abbrev pub row_size : ℕ → List Row → ℕ → ℕ

@@ -8,7 +8,7 @@ ghost use Rattle.encoding_base.specs.Pairs.{IsPair};
 ghost use Rattle.bound_base.specs.BoundRows as bounds;
 ghost use Rattle.bound_base.specs.Parts as parts;
 ghost use Rattle.bound_rows.specs.Sizes as sizes;
-ghost use Rattle.bound_rows.specs.Sizes.{capped};
+ghost use Rattle.encoding.specs.Capped.{capped};
 
 use bound_base::{is_paid, needs_breaks};
 use bound_groups::unit_count;

@@ -4,7 +4,7 @@ ghost use Rattle.league.specs.Instance.{IsInstance};
 ghost use Rattle.encoding_base.specs.Known.{AreKnown};
 ghost use Rattle.bound_base.specs.BoundRows as bounds;
 ghost use Rattle.bound_base.specs.BoundRows.{bound_rows, bound_size, bound_vars};
-ghost use Rattle.bound_rows.specs.Sizes.{capped};
+ghost use Rattle.encoding.specs.Capped.{capped};
 
 use crate::count::bound_terms;
 use crate::written::{Written, write_bound};

@@ -8,7 +8,7 @@ ghost use Rattle.league.specs.Instance.{IsGame};
 ghost use Rattle.rows.specs.Rows.{SatisfiesAll};
 ghost use Rattle.rows.specs.Values.{assigned};
 ghost use Rattle.bound_base.specs.BoundRows.{bound_rows, bound_size, bound_vars};
-ghost use Rattle.bound_rows.specs.Sizes.{capped};
+ghost use Rattle.encoding.specs.Capped.{capped};
 ghost use Rattle.bounds.specs.Lower.{IsLower};
 ghost use Rattle.bounds.specs.Proofs.{IsProved};
 

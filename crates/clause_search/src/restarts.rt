@@ -19,6 +19,7 @@ pub(crate) struct Restarts {
 }
 
 impl Restarts {
+    /// Before all conflicts.
     pub(crate) fn new() -> Restarts {
         Restarts {
             turn: 1,

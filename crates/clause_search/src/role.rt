@@ -12,6 +12,7 @@ pub(crate) enum Role {
     Used,
 }
 
+/// Whether the negation stands in the learnt clause.
 pub(crate) fn is_kept(role: Role) -> bool
     ensures kept { result ≡ true → role ≡ Role.Kept }
     ensures other { result ≡ false → role ≢ Role.Kept }

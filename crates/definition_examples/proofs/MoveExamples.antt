@@ -7,8 +7,6 @@ use Rattle.moves.specs.Closure.{closure, reached}
 use Rattle.moves.specs.Moves.{IsLegal, do_meet, exchange, moved}
 use Rattle.moves.specs.Neighbours.{all_moves, round_swap, team_swap}
 use Rattle.descent.specs.Score.{is_lower}
-use Rattle.bound_rows.specs.Sizes as bound_sizes
-use Rattle.resume_rows.specs.Sizes as resume_sizes
 use Rattle.descent.specs.declared.score.Score.{Score}
 
 -- ---- the least closed set: from 1 each second number below 7; what is next to none stands alone
@@ -59,8 +57,3 @@ score a b = record { infeasibility = a; objective = b }
 pub is_lower-some : (is_lower (score 3 1000) (score 4 0) ≡ true) × (is_lower (score 4 0) (score 3 1000) ≡ false)
     × (is_lower (score 0 0) (score 0 0) ≡ false)
 is_lower-some = (refl, refl, refl)
-
--- ---- what two crates say by definitions of their own is one
-
-pub capped-one : (terms : ℕ) → bound_sizes.capped terms ≡ resume_sizes.capped terms
-capped-one terms = refl

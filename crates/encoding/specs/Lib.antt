@@ -8,6 +8,8 @@ pub use Rattle.encoding_base.specs.Demands
 pub use Rattle.encoding_base.specs.Encoding
 pub use Rattle.encoding_base.specs.Known
 pub use Rattle.encoding_base.specs.Shadow
+-- A number of terms that is too large, as it is told:
+pub mod Capped
 -- Kept inside (laws, and how fields are seen):
 --
 -- What an encoding keeps:

@@ -10,7 +10,7 @@ use Rattle.answers.specs.Stages.{IsFile, IsUnread, reads, says}
 use Rattle.answers.proofs.StageLemmas.{says-value}
 use Rattle.check_answer.specs.Check.{most_terms, too_large}
 use Rattle.bound_base.specs.BoundRows.{bound_size}
-use Rattle.bound_rows.specs.Sizes.{capped}
+use Rattle.encoding.specs.Capped.{capped}
 use Rattle.bound_answer.specs.Bound.{has_few_terms}
 use Rattle.prove_answer.specs.Prove.{IsShown, proved}
 

@@ -30,6 +30,7 @@ pub(crate) struct Room {
 }
 
 impl Room {
+    /// Room that holds nothing yet.
     pub(crate) fn new(alloc: Global) -> Room {
         Room {
             literals: Vec::new(alloc),

@@ -10,7 +10,7 @@ ghost use Rattle.refutation_check.specs.Judged.{no_step_of};
 ghost use Rattle.resume_rows.specs.Kept as kept;
 ghost use Rattle.resume_rows.specs.Kept.{resume_rows};
 ghost use Rattle.resume_rows.specs.Resumable.{NoneResumes};
-ghost use Rattle.resume_rows.specs.Sizes.{capped};
+ghost use Rattle.encoding.specs.Capped.{capped};
 ghost use Rattle.resume_rows.specs.Systems.{rows_for};
 
 use encoding::EncodeFault;

@@ -13,7 +13,7 @@ ghost use Rattle.encoding_base.specs.Shadow.{decoded};
 ghost use Rattle.encoding_base.specs.Variables.{var_count};
 ghost use Rattle.clause_search.specs.Answers.{IsAnswer};
 ghost use Rattle.resume_rows.specs.Kept as kept;
-ghost use Rattle.resume_rows.specs.Sizes.{capped};
+ghost use Rattle.encoding.specs.Capped.{capped};
 ghost use Rattle.resume_rows.specs.Systems.{rows_for};
 ghost use Rattle.resume.specs.Answers.{IsPlan, IsResumed};
 ghost use Rattle.resume.specs.Found.{MeetsLeague, Tells};

@@ -12,7 +12,7 @@ use Rattle.answers.specs.Stages.{◌>>=◌, Outcome, reads, says}
 use Rattle.answers.specs.declared.status.Status.TheVariants.{File}
 use Rattle.check_answer.specs.Check.{most_terms, too_large}
 use Rattle.resume_rows.specs.Kept.{resume_size}
-use Rattle.resume_rows.specs.Sizes.{capped}
+use Rattle.encoding.specs.Capped.{capped}
 use Rattle.resume_answer.specs.declared.season.Season.{Season}
 
 -- ---- stages

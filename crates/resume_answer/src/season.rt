@@ -7,7 +7,7 @@ ghost use Rattle.league.specs.Instance.{IsGame};
 ghost use Rattle.answers.specs.SeenReply.{answer_of, MatchStage};
 ghost use Rattle.check_answer.specs.Check.{most_terms, too_large};
 ghost use Rattle.resume_rows.specs.Kept as kept;
-ghost use Rattle.resume_rows.specs.Sizes.{capped};
+ghost use Rattle.encoding.specs.Capped.{capped};
 ghost use Rattle.resume_answer.specs.Seasons as seasons;
 ghost use Rattle.resume_answer.specs.Seasons.{has_size, has_slots, plays};
 ghost use Rattle.resume_answer.specs.SeenSeason.{IsSaid};

@@ -6,7 +6,3 @@ pub mod Kept
 pub mod Resumable
 -- What a resume system is of:
 pub mod Systems
--- Kept inside (laws, and how fields are seen):
---
--- A number of terms that a number of 64 bits holds:
-pub mod Sizes

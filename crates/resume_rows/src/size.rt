@@ -2,7 +2,7 @@
 ghost use Rattle.std.specs.Prelude.{◌≡◌, ◌≤◌};
 ghost use Rattle.league.specs.Counts as counts;
 ghost use Rattle.resume_rows.specs.Kept as kept;
-ghost use Rattle.resume_rows.specs.Sizes.{capped};
+ghost use Rattle.encoding.specs.Capped.{capped};
 
 use encoding_sizes::encoding_size;
 use league::League;

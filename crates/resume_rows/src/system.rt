@@ -11,7 +11,7 @@ ghost use Rattle.encoding_base.specs.Known.{AreKnown};
 ghost use Rattle.encoding_base.specs.Variables.{var_count};
 ghost use Rattle.resume_rows.specs.Kept as kept;
 ghost use Rattle.resume_rows.specs.Kept.{resume_rows};
-ghost use Rattle.resume_rows.specs.Sizes.{capped};
+ghost use Rattle.encoding.specs.Capped.{capped};
 ghost use Rattle.resume_rows.specs.Systems.{rows_for};
 
 use crate::kept::add_kept_rows;

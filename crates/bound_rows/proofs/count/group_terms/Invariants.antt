@@ -1,6 +1,6 @@
 use Rattle.std.proofs.Common.{◌≡◌, ◌+◌, ◌-◌, ◌*◌, length, take}
 use Rattle.std.specs.List.{sum_by}
-use Rattle.bound_rows.specs.Sizes.{capped}
+use Rattle.encoding.specs.Capped.{capped}
 use Rattle.bound_rows.proofs.count.group_terms.Given as goal
 
 abbrev pub invariant-loop-k : goal.invariant-loop-k

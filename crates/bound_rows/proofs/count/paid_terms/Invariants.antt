@@ -1,5 +1,6 @@
 use Rattle.std.proofs.Common.{◌≡◌, take}
-use Rattle.bound_rows.specs.Sizes.{capped, paid_size}
+use Rattle.encoding.specs.Capped.{capped}
+use Rattle.bound_rows.specs.Sizes.{paid_size}
 use Rattle.bound_rows.proofs.count.paid_terms.Given as goal
 
 abbrev pub invariant-loop-constraint : goal.invariant-loop-constraint

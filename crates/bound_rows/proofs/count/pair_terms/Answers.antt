@@ -2,7 +2,8 @@ use Rattle.std.proofs.Common.{◌≡◌, ◌+◌, ◌-◌, ◌*◌, min as small
 use Rattle.std.specs.List.{range_with_len, sum_by}
 use Rattle.league.specs.Counts.{slot_count}
 use Rattle.league.specs.declared.class.Class.TheVariants.{Se1}
-use Rattle.bound_rows.specs.Sizes.{capped, part_size}
+use Rattle.encoding.specs.Capped.{capped}
+use Rattle.bound_rows.specs.Sizes.{part_size}
 use Rattle.bound_rows.proofs.CountLemmas.{capped-add, capped-as, capped-range, capped-times, pair_size}
 use Rattle.bound_rows.proofs.count.pair_terms.Goals as goal
 

@@ -1,7 +1,8 @@
 use Rattle.std.proofs.Common.{◌≡◌, ◌+◌, [], ◌∷◌}
 use Rattle.std.specs.List.{range_with_len, sum_by}
 use Rattle.league.specs.declared.class.Class.TheVariants.{Se1}
-use Rattle.bound_rows.specs.Sizes.{capped, part_size}
+use Rattle.encoding.specs.Capped.{capped}
+use Rattle.bound_rows.specs.Sizes.{part_size}
 use Rattle.bound_rows.proofs.count.pair_terms.Given as goal
 
 abbrev pub invariant-loop-before : goal.invariant-loop-before

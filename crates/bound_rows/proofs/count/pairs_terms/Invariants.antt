@@ -1,7 +1,8 @@
 use Rattle.std.proofs.Common.{◌≡◌, take}
 use Rattle.std.specs.List.{sum_by}
 use Rattle.bound_base.specs.Parts.{se1_parts}
-use Rattle.bound_rows.specs.Sizes.{capped, parts_size}
+use Rattle.encoding.specs.Capped.{capped}
+use Rattle.bound_rows.specs.Sizes.{parts_size}
 use Rattle.bound_rows.proofs.count.pairs_terms.Given as goal
 
 abbrev pub invariant-loop-first : goal.invariant-loop-first

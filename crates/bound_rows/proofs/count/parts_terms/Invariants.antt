@@ -1,5 +1,6 @@
 use Rattle.std.proofs.Common.{◌≡◌, take}
-use Rattle.bound_rows.specs.Sizes.{capped, parts_size}
+use Rattle.encoding.specs.Capped.{capped}
+use Rattle.bound_rows.specs.Sizes.{parts_size}
 use Rattle.bound_rows.proofs.count.parts_terms.Given as goal
 
 abbrev pub invariant-loop-part : goal.invariant-loop-part

@@ -3,7 +3,8 @@ use Rattle.std.specs.List.{sum_by}
 use Rattle.league.specs.Meetings.{pairs_of}
 use Rattle.league.proofs.SumLemmas.{sum_by-flat_map}
 use Rattle.bound_base.specs.Parts.{se1_parts}
-use Rattle.bound_rows.specs.Sizes.{capped, part_size, parts_size}
+use Rattle.encoding.specs.Capped.{capped}
+use Rattle.bound_rows.specs.Sizes.{part_size, parts_size}
 use Rattle.bound_rows.proofs.count.se1_terms.Goals as goal
 
 pub returns : goal.returns

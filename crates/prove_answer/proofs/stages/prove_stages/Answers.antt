@@ -7,7 +7,7 @@ use Rattle.answers.specs.Stages.{IsFile, IsUnread}
 use Rattle.answers.proofs.StageLemmas.{Answers-wider}
 use Rattle.check_answer.specs.Check.{most_terms, too_large}
 use Rattle.bound_base.specs.BoundRows.{bound_size}
-use Rattle.bound_rows.specs.Sizes.{capped}
+use Rattle.encoding.specs.Capped.{capped}
 use Rattle.bound_answer.proofs.StageLemmas.{rose-before, took_more-before, unread-wider}
 use Rattle.prove_answer.proofs.StageLemmas.{proved-large, proved-last, proved-unread}
 use Rattle.prove_answer.proofs.stages.prove_stages.Goals as goal
