@@ -1,5 +1,5 @@
 -- Six games of four teams of which some slots come from one list and the rest from another.
-use Rattle.std.proofs.Common.{◌≡◌, ℕ, List, [], ◌∷◌, refl}
+use Rattle.std.proofs.Common.{◌≡◌, List, [], ◌∷◌, refl}
 use Rattle.league.specs.declared.game.Game.{Game}
 use Rattle.league.proofs.DoubleFour.{game}
 use Rattle.resume_lower.specs.Merged.{merged_games}

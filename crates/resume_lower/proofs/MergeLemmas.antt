@@ -24,36 +24,27 @@ late i j s a b t k slot from = grind (arith, nat_tests)
 before-same : (k : ℕ) (games : List Game) (i j s : ℕ) → s < k
     → counts_of (flat_map (game_before k) games) i j s ≡ counts_of games i j s
 before-same k [] i j s slot = refl
-before-same k (g ∷ games) i j s slot = by (nat_lt g.slot.0 k) refl where
-  by : (b : Bool) → nat_lt g.slot.0 k ≡ b
+before-same k (g ∷ games) i j s slot = by (before-same k games i j s slot) (nat_lt g.slot.0 k) refl where
+  by : counts_of (flat_map (game_before k) games) i j s ≡ counts_of games i j s
+      → (b : Bool) → nat_lt g.slot.0 k ≡ b
       → counts_of ((if b then g ∷ [] else []) ++ flat_map (game_before k) games) i j s
       ≡ counts_of (g ∷ games) i j s
-  by true early =
-      omega (
-        arith,
-        one_more g (flat_map (game_before k) games) i j s,
-        before-same k games i j s slot,
-        one_more g games i j s,
-      )
-  by false from =
-      omega (
-        arith,
-        before-same k games i j s slot,
-        one_more g games i j s,
-        late i j s g.home.0 g.away.0 g.slot.0 k slot from,
-      )
+  by rest true early =
+      omega (arith, one_more g (flat_map (game_before k) games) i j s, rest, one_more g games i j s)
+  by rest false from =
+      omega (arith, rest, one_more g games i j s, late i j s g.home.0 g.away.0 g.slot.0 k slot from)
 
 from-none : (k : ℕ) (games : List Game) (i j s : ℕ) → s < k → counts_of (flat_map (game_from k) games) i j s ≡ 0
 from-none k [] i j s slot = refl
-from-none k (g ∷ games) i j s slot = by (nat_lt g.slot.0 k) refl where
-  by : (b : Bool) → nat_lt g.slot.0 k ≡ b
+from-none k (g ∷ games) i j s slot = by (from-none k games i j s slot) (nat_lt g.slot.0 k) refl where
+  by : counts_of (flat_map (game_from k) games) i j s ≡ 0 → (b : Bool) → nat_lt g.slot.0 k ≡ b
       → counts_of ((if b then [] else g ∷ []) ++ flat_map (game_from k) games) i j s ≡ 0
-  by true early = from-none k games i j s slot
-  by false from =
+  by rest true early = rest
+  by rest false from =
       omega (
         arith,
         one_more g (flat_map (game_from k) games) i j s,
-        from-none k games i j s slot,
+        rest,
         late i j s g.home.0 g.away.0 g.slot.0 k slot from,
       )
 
@@ -70,21 +61,21 @@ merged-same k first second i j s slot =
 
 before-fit : (n k : ℕ) (games : List Game) → All (IsGame n) games → All (IsGame n) (flat_map (game_before k) games)
 before-fit n k [] fit = All-nil (IsGame n)
-before-fit n k (g ∷ games) fit = by (nat_lt g.slot.0 k) where
-  by : (b : Bool) → All (IsGame n) ((if b then g ∷ [] else []) ++ flat_map (game_before k) games)
-  by true =
-      All-cons (IsGame n) g (flat_map (game_before k) games) (All-head (IsGame n) g games fit)
-      (before-fit n k games (All-tail (IsGame n) g games fit))
-  by false = before-fit n k games (All-tail (IsGame n) g games fit)
+before-fit n k (g ∷ games) fit =
+    by (before-fit n k games (All-tail (IsGame n) g games fit)) (nat_lt g.slot.0 k) where
+      by : All (IsGame n) (flat_map (game_before k) games) → (b : Bool)
+          → All (IsGame n) ((if b then g ∷ [] else []) ++ flat_map (game_before k) games)
+      by rest true = All-cons (IsGame n) g (flat_map (game_before k) games) (All-head (IsGame n) g games fit) rest
+      by rest false = rest
 
 from-fit : (n k : ℕ) (games : List Game) → All (IsGame n) games → All (IsGame n) (flat_map (game_from k) games)
 from-fit n k [] fit = All-nil (IsGame n)
-from-fit n k (g ∷ games) fit = by (nat_lt g.slot.0 k) where
-  by : (b : Bool) → All (IsGame n) ((if b then [] else g ∷ []) ++ flat_map (game_from k) games)
-  by true = from-fit n k games (All-tail (IsGame n) g games fit)
-  by false =
-      All-cons (IsGame n) g (flat_map (game_from k) games) (All-head (IsGame n) g games fit)
-      (from-fit n k games (All-tail (IsGame n) g games fit))
+from-fit n k (g ∷ games) fit =
+    by (from-fit n k games (All-tail (IsGame n) g games fit)) (nat_lt g.slot.0 k) where
+      by : All (IsGame n) (flat_map (game_from k) games) → (b : Bool)
+          → All (IsGame n) ((if b then [] else g ∷ []) ++ flat_map (game_from k) games)
+      by rest true = rest
+      by rest false = All-cons (IsGame n) g (flat_map (game_from k) games) (All-head (IsGame n) g games fit) rest
 
 pub merged-fit : (n k : ℕ) (first second : List Game) → All (IsGame n) first → All (IsGame n) second
     → All (IsGame n) (merged_games k first second)

@@ -6,7 +6,7 @@ ghost use Rattle.league.specs.Counts as counts;
 ghost use Rattle.league.specs.Counts.{counts_of};
 ghost use Rattle.league.specs.Instance.{IsGame};
 ghost use Rattle.resume_rows.specs.Kept as kept;
-ghost use Rattle.resume_rows.specs.Sizes.{capped};
+ghost use Rattle.encoding.specs.Capped.{capped};
 ghost use Rattle.resume.specs.Answers.{IsPlan, IsResumed, IsResumedSeason};
 
 use crate::lower::{MOST_GAMES, Season, lowered};
