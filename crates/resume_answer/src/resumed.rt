@@ -13,7 +13,7 @@ use crate::season::season_in;
 use answers::{NoValue, Reply};
 use encoding::EncodeFault;
 use league::{League, Schedule};
-use resume::resume;
+use resume_lower::resume_lowered;
 use robin_io::Shelf;
 use std::alloc::{AllocError, Global};
 
@@ -31,7 +31,7 @@ fn found_of(
     requires small { kept.resume_size league.now k ≤ 40000000 }
     ensures { IfOk result (λ reply. IsFound league.now played.now k conflicts (answer_of reply)) }
 {
-    match resume(alloc, league, played, k, conflicts) {
+    match resume_lowered(alloc, league, played, k, conflicts) {
         Ok(resumed) => found_reply(alloc, league, played, k, conflicts, &resumed),
         Err(EncodeFault::TooLarge { .. }) => unreachable!(),
         Err(EncodeFault::Mem) => Err(AllocError),
@@ -66,7 +66,8 @@ fn resume_stages<S: Shelf>(
 
 /// Finds a schedule that the league of a file accepts and that keeps, in the first k slots, the games of a solution
 /// file; or a log that there is none. With a budget the search learns at most so many clauses, and its log is the
-/// answer where it is spent. Where the league accepts all games of the solution file as they are, they are the answer.
+/// answer where it is spent. Where the league accepts all games of the solution file as they are, they are the answer;
+/// a schedule that the search finds is made better by moves that leave the played games alone.
 pub fn resume_file<S: Shelf>(
     alloc: Global,
     shelf: &mut S,

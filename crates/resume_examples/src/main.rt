@@ -2,8 +2,8 @@
 //! of four teams, of which some slots are played.
 //!
 //! A line of standard input is `INSTANCE SOLUTION K: WHAT`, two files of `data`, how many slots are played, and either
-//! a budget of conflicts (`all` or a number), `size`, or `audit` and the file of a log; and else a title. Of a schedule
-//! that is found the games of the played slots are shown.
+//! a budget of conflicts (`all` or a number), `lowered` and a budget, `size`, or `audit` and the file of a log; and else a
+//! title. Of a schedule that is found the games of the played slots are shown; with `lowered` it is made better first.
 #![tactic(auto)]
 
 mod shown;
@@ -17,6 +17,7 @@ use anyhow::{Result, ensure};
 use league::{League, Schedule, slot_count};
 use refutation::read_log;
 use resume::{check_resume, resume, resume_size};
+use resume_lower::resume_lowered;
 use robinx_read::{SOLUTION_LIMIT, read_instance, read_solution};
 use shown::{show_resumed, show_verdict};
 use std::fs;
@@ -91,6 +92,10 @@ fn show(
         let log = read_log(rt.alloc(), &bytes)?;
         let verdict = check_resume(rt.alloc(), league, played, k, &log)?;
         return show_verdict(rt, verdict);
+    }
+    if let Some(rest) = what.strip_prefix("lowered ") {
+        let resumed = resume_lowered(rt.alloc(), league, played, k, budget(rest)?)?;
+        return show_resumed(rt, league, played, k, &resumed);
     }
     let resumed = resume(rt.alloc(), league, played, k, budget(what)?)?;
     show_resumed(rt, league, played, k, &resumed)

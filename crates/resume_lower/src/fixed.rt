@@ -1,0 +1,88 @@
+//! A league in which the games of some slots are asked for.
+ghost use Rattle.std.specs.Prelude.{◌≡◌, ◌≤◌, length, IfOk, IfSome, IsTrue, OnOk};
+ghost use Rattle.std.specs.List.{All};
+ghost use Rattle.league.specs.Instance.{class_fits};
+
+use league::{Class, Constraint, League, PairSet, Schedule, SlotId, SlotSet};
+use std::alloc::{AllocError, Global};
+
+/// The most constraints of a league.
+const MOST_CONSTRAINTS: usize = 20_000;
+
+/// A league with a hard constraint more for each slot below k, which asks for just the games that a schedule has there;
+/// none where it would have too many constraints.
+///
+/// # Errors
+/// Only where memory runs out.
+pub(crate) fn fixed_league(
+    alloc: Global,
+    league: &League,
+    games: &Schedule,
+    k: u16,
+) -> Result<Option<League>, AllocError>
+    ensures teams { IfOk result (λ made. IfSome made (λ fixed. fixed.n ≡ league.now.n)) }
+    ensures phases { IfOk result (λ made. IfSome made (λ fixed. fixed.phased ≡ league.now.phased)) }
+{
+    let n = league.n();
+    let mut constraints = Vec::new(alloc);
+    for constraint in league.constraints() {
+        let copy = constraint.copy()?;
+        if !add_fitting(&mut constraints, n, copy)? {
+            return Ok(None);
+        }
+    }
+    for slot in 0..k {
+        let ask = asked(alloc, games, slot)?;
+        if !add_fitting(&mut constraints, n, ask)? {
+            return Ok(None);
+        }
+    }
+    Ok(Some(League::new(n, league.phased(), constraints)))
+}
+
+/// Adds a constraint that fits a league of n teams, where there is room for one, and says whether it did.
+///
+/// # Errors
+/// Only where memory runs out.
+fn add_fitting(
+    constraints: &mut Vec<Constraint>,
+    n: u16,
+    constraint: Constraint,
+) -> Result<bool, AllocError>
+    requires fit { All (λ c. IsTrue (class_fits n c.class)) constraints.old.items }
+    requires few { length constraints.old.items ≤ 20000 }
+    ensures fit { OnOk result (All (λ c. IsTrue (class_fits n c.class)) constraints.new.items) }
+    ensures few { OnOk result (length constraints.new.items ≤ 20000) }
+{
+    if constraints.len() >= MOST_CONSTRAINTS || !constraint.fits(n) {
+        return Ok(false);
+    }
+    constraints.push(constraint)?;
+    Ok(true)
+}
+
+/// The constraint that asks for just the games that a schedule has in a slot.
+///
+/// # Errors
+/// Only where memory runs out.
+fn asked(alloc: Global, games: &Schedule, slot: u16) -> Result<Constraint, AllocError> {
+    let mut meetings = PairSet::new(alloc);
+    for game in games.games() {
+        if game.slot.0 == slot {
+            let _new = meetings.insert((game.home, game.away))?;
+        }
+    }
+    let mut slots = SlotSet::new(alloc);
+    let _new = slots.insert(SlotId(slot))?;
+    let count = u32::try_from(meetings.len()).unwrap_or(u32::MAX);
+    Ok(Constraint {
+        hard: true,
+        penalty: 1,
+        class: Class::Ga1 {
+            meetings,
+            min: count,
+            max: count,
+            slots,
+        },
+    })
+}
