@@ -4,7 +4,7 @@ use Rattle.cells.specs.Table.{table_counts}
 use Rattle.moves.specs.Round.{round_counts}
 use Rattle.descent.specs.declared.score.Score.{Score}
 use Rattle.walk.specs.Walked.{league_score}
-use Rattle.walk.proofs.WalkLemmas.{counted-on, kept-at, kept-in, scores-are, standing-at}
+use Rattle.walk.proofs.WalkLemmas.{counted-on, IsNoWorse-both, kept-at, kept-in, scores-are, standing-at}
 use Rattle.walk.proofs.walker.Walker.lower_soft.Goals as goal
 
 pub returns-then-infeasibility-gt0-clause-walker : goal.returns-then-infeasibility-gt0-clause-walker
@@ -62,3 +62,8 @@ returns-clause-walker c =
           (scores-are _ c.args.league.now c.in_ok-tally.tally.weights c.in_ok-tally.ensures.rules)
           c.improve-tried.ensures.best;
     }
+
+pub returns-clause-no_worse : goal.returns-clause-no_worse
+returns-clause-no_worse c =
+    IsNoWorse-both c.improve-tried.new.best.score c.keep.new.self.score c.args.self.now.best.score
+    c.improve-tried.ensures.no_worse c.keep.ensures.no_worse
