@@ -1,20 +1,23 @@
 -- An accepted schedule costs at most what all units cost, and each unit is a term of the objective row.
-use Rattle.std.proofs.Common.{◌≡◌, ℕ, ◌+◌, ◌*◌, ◌≤◌, Bool, false, not, nat_lt, List, [], ◌∷◌, ◌++◌, length, map, get_or}
+use Rattle.std.proofs.Common.{◌≡◌, ℕ, ◌+◌, ◌*◌, ◌≤◌, Bool, not, nat_lt, List, [], ◌∷◌, ◌++◌, length, map, get_or}
 use Rattle.std.proofs.Common.{length-append, refl, ap, ◌∙◌, arith}
 use Rattle.std.proofs.Math.Nat.{mul-add, mul-le-mul_left, mul-le-mul_right}
 use Rattle.std.proofs.lemmas.List.{length-map}
-use Rattle.std.proofs.lemmas.List.Elements.{All-filter, All-head, All-map, All-tail}
+use Rattle.std.proofs.lemmas.List.Elements.{All-cons, All-filter, All-head, All-map, All-tail}
 use Rattle.std.proofs.lemmas.List.FromFn.{length-range_with_len}
 use Rattle.std.proofs.lemmas.List.Sums.{sum_by-append, sum_by-cons}
 use Rattle.std.specs.List.{All, range_with_len, sum_by}
 use Rattle.league.specs.Accepted.{IsAccepted, objective, soft_of}
+use Rattle.league.specs.Bounds.{largest}
 use Rattle.league.specs.Counts.{Counts}
 use Rattle.league.specs.Instance.{Instance, IsInstance}
 use Rattle.league.specs.declared.class.Constraint.{Constraint}
+use Rattle.rows.specs.Literals.{no}
 use Rattle.rows.specs.Rows.{Row}
 use Rattle.encoding_base.proofs.AscendLemmas.{All-flat_map}
 use Rattle.decoding.specs.Shortfalls.{units_needed}
 use Rattle.decoding.proofs.ConstraintLaws.{all_fit}
+use Rattle.decoding.proofs.ShortfallLemmas.{largest-cons}
 use Rattle.decoding.proofs.SeasonRows.{mirrored-from_shadow}
 use Rattle.decoding.proofs.SomeShadow.{shadow_values, some_shadow}
 use Rattle.bound_base.specs.BoundRows.{base_rows, bound_size, first_unit, group_of, groups_of, league_groups}
@@ -88,7 +91,7 @@ groups_small n most constraints small =
 
 length-costs_from : (penalty first count : ℕ) → length (costs_from penalty first count) ≡ count
 length-costs_from penalty first count =
-    length-map (range_with_len first count) (λ v. record { coef = penalty; lit = record { var = v; positive = false } })
+    length-map (range_with_len first count) (λ v. record { coef = penalty; lit = no v })
     ∙ length-range_with_len first count
 
 length-costs : (first : ℕ) (groups : List Group) → length (costs first groups) ≡ sum_by (λ g. g.units) groups
@@ -118,11 +121,21 @@ units-le-size league =
 
 -- ---- the law
 
+-- none is above the largest
+largest-ge : {X : Type 0} (f : X → ℕ) (xs : List X) → All (λ x. f x ≤ largest f xs) xs
+largest-ge f [] = λ k d within. absurd (omega arith)
+largest-ge {X} f (x ∷ xs) =
+    All-cons (λ (y : X). f y ≤ largest f (x ∷ xs)) x xs (omega (arith, largest-cons f x xs))
+    (λ k d within. omega (arith, largest-cons f x xs, largest-ge f xs k d within))
+
 pub costs-bounded : CostsAreBounded
-costs-bounded league most m is small accepted =
+costs-bounded league m is accepted =
+    let penalty : Constraint → ℕ = λ c. c.penalty in
+    let most : ℕ = largest penalty league.constraints in
+    let small = groups_small league.n most league.constraints (largest-ge penalty league.constraints) in
     omega (
       arith,
       objective-le-all league m is accepted,
-      total-le most (league_groups league) (groups_small league.n most league.constraints small),
+      total-le most (league_groups league) small,
       mul-le-mul_left most (units-le-size league),
     )

@@ -11,7 +11,7 @@ pub fn faithful()
     ensures refuted { RefutedBoundsHold }
 {}
 
-/// An accepted schedule has an objective of at most the largest penalty times the number of terms of the bound rows.
+/// The objective of an accepted schedule is at most the largest penalty times the number of terms of the bound rows.
 pub fn bounded_costs()
     ensures { CostsAreBounded }
 {}
