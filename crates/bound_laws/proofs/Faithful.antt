@@ -46,7 +46,7 @@ hard_breaks league m values breaks some =
     breaks (or_left (has_breaks league.constraints)
     (list_any (λ c. bounds_breaks c.class) (paid_of league.constraints)) some)
 
-paid_breaks : (league : Instance) (m : Counts) (values : ℕ → Bool)
+pub paid_breaks : (league : Instance) (m : Counts) (values : ℕ → Bool)
     → (needs_breaks league.constraints ≡ true → MirrorsBreaks league.n m values)
     → list_any (λ c. bounds_breaks c.class) (paid_of league.constraints) ≡ true → MirrorsBreaks league.n m values
 paid_breaks league m values breaks some =
@@ -159,7 +159,7 @@ told n m values (c ∷ constraints) breaks =
     (λ here. breaks (or_left (bounds_breaks c.class) later here))
     (told n m values constraints (λ some. breaks (or_right (bounds_breaks c.class) later some)))
 
-all_served : (league : Instance) (m : Counts) (found values : ℕ → Bool) → IsInstance league
+pub all_served : (league : Instance) (m : Counts) (found values : ℕ → Bool) → IsInstance league
     → IsMirroredSeason league.n league.phased (needs_breaks league.constraints) m found
     → IsMirroredSeason league.n league.phased (needs_breaks league.constraints) m values
     → All (IsServed found values) (league_groups league)

@@ -9,3 +9,5 @@ pub mod ObjectiveLaws
 pub mod UnitLemmas
 -- The bound rows are faithful both ways:
 pub mod Faithful
+-- What a schedule costs at most:
+pub mod CostLaws

@@ -1,4 +1,5 @@
-//! Laws of bound rows: a function that does nothing and whose contract is proved.
+//! Laws of bound rows: functions that do nothing and whose contracts are proved.
+ghost use Rattle.bound_laws.specs.Cost.{CostsAreBounded};
 ghost use Rattle.bound_laws.specs.Faithful.{AnswersAreBounded, BoundedHaveValues, RefutedBoundsHold};
 
 /// The bound rows are faithful both ways, for every league and bound. An accepted schedule with an objective of at most
@@ -8,4 +9,9 @@ pub fn faithful()
     ensures values { BoundedHaveValues }
     ensures answers { AnswersAreBounded }
     ensures refuted { RefutedBoundsHold }
+{}
+
+/// The objective of an accepted schedule is at most the largest penalty times the number of terms of the bound rows.
+pub fn bounded_costs()
+    ensures { CostsAreBounded }
 {}

@@ -1,23 +1,25 @@
 -- What the answers say of a league and a schedule.
-use Rattle.std.proofs.Common.{◌≡◌, ℕ, ◌+◌, ◌-◌, ◌*◌, ◌<◌, ◌≤◌, Bool, true, false, cond, List, [], ◌∷◌, ◌++◌, length}
-use Rattle.std.proofs.Common.{get_or, Option, refl, sym, ap, subst, ◌∙◌, arith}
+use Rattle.std.proofs.Common.{◌≡◌, ℕ, ◌+◌, ◌-◌, ◌*◌, ◌^◌, ◌<◌, ◌≤◌, Bool, true, false, cond, max, List, [], ◌++◌}
+use Rattle.std.proofs.Common.{get_or, length, take, Option, refl, sym, ap, subst, ◌∙◌, arith}
+use Rattle.std.proofs.Math.Nat.{mul-le-mul}
 use Rattle.std.proofs.lemmas.Bool.{or_left}
 use Rattle.std.proofs.lemmas.List.Elements.{All-nil, All-weaker}
-use Rattle.std.proofs.lemmas.List.Sums.{sum_by-append}
-use Rattle.std.specs.List.{All, sum_by}
+use Rattle.std.proofs.lemmas.List.Sums.{fold_more, sum_by-append}
+use Rattle.std.specs.List.{All}
 use Rattle.league.specs.Accepted.{IsAccepted, objective}
+use Rattle.league.specs.Bounds.{largest}
 use Rattle.league.specs.Counts.{Counts, counts_of}
 use Rattle.league.specs.Instance.{Instance, IsGame, IsInstance}
 use Rattle.league.specs.Order.{IsInOrder}
+use Rattle.league.specs.declared.class.Constraint.{Constraint}
 use Rattle.league.specs.declared.game.Game.{Game}
 use Rattle.rows.specs.Rows.{Row, SatisfiesAll, size_of}
 use Rattle.encoding_base.specs.Encoding.{constraint_rows, encoding_size, season_rows}
 use Rattle.encoding_base.specs.Known.{AreKnown, IsKnown}
 use Rattle.encoding_base.specs.Season.{break_rows}
 use Rattle.encoding_base.specs.Shadow.{decoded}
-use Rattle.encoding_base.specs.Variables.{h_count, has_breaks, hb_count, var_count, x_count}
+use Rattle.encoding_base.specs.Variables.{has_breaks, hb_count, var_count}
 use Rattle.propagate.specs.Trails.{KnowsVariables}
-use Rattle.refutation_check.specs.Soundness.{HaveNoSolution}
 use Rattle.refutation_check.proofs.SoundLemmas.{accepted_logs_refute}
 use Rattle.refutation.specs.Steps.{NamesRows, Step, is_linear}
 use Rattle.clause_search.specs.Answers.{IsAnswer, IsSpentAt, Refutes}
@@ -28,9 +30,9 @@ use Rattle.pattern_search.proofs.NewsLemmas.{news-clauses}
 use Rattle.descent.specs.Descended.{Descended}
 use Rattle.solve.specs.Solutions.{IsSchedule}
 use Rattle.solve.proofs.GameLemmas.{accepted_few, decoded_fit}
-use Rattle.bound_base.specs.BoundRows.{base_rows, base_vars, bound_rows, bound_size, bound_vars, has_paid_breaks}
+use Rattle.bound_base.specs.BoundRows.{base_vars, bound_rows, bound_size, bound_vars, has_paid_breaks}
 use Rattle.bound_base.specs.BoundRows.{needs_breaks}
-use Rattle.bound_laws.specs.Faithful.{IsLowerBound}
+use Rattle.bound_laws.proofs.CostLaws.{costs-bounded}
 use Rattle.bound_laws.proofs.Faithful.{bounded-from_rows, bounds-from_refuted}
 use Rattle.bound_rows.proofs.SizeLemmas.{bound_size-groups}
 use Rattle.bounds.specs.Lower.{IsLower}
@@ -84,6 +86,30 @@ vars-by league false has = omega (arith, ap (λ (b : Bool). cond b (2 * hb_count
 
 pub vars-le : (league : Instance) → var_count league ≤ bound_vars league
 vars-le league = omega (arith, vars-by league (has_breaks league.constraints) refl)
+
+-- ---- objectives of 64 bits
+
+pub greatest-more : (constraints : List Constraint) (i before after : ℕ) (next : Constraint) → i < length constraints
+    → next ≡ get_or constraints i next → before ≡ largest (λ c. c.penalty) (take i constraints)
+    → after ≡ max before next.penalty → after ≡ largest (λ c. c.penalty) (take (i + 1) constraints)
+greatest-more constraints i before after next within is so_far larger =
+    larger ∙ ap (λ (b : ℕ). max b next.penalty) so_far
+    ∙ ap (λ (c : Constraint). max (largest (λ (c : Constraint). c.penalty) (take i constraints)) c.penalty) is
+    ∙ sym (fold_more (λ (a : ℕ) (c : Constraint). max a c.penalty) 0 constraints i next within)
+
+-- the greatest penalty has 32 bits, and an accepted schedule pays it at most once for each term
+pub objective_small : (league : Instance) (m : Counts) (most : ℕ) → IsInstance league
+    → most ≡ largest (λ c. c.penalty) league.constraints → most < 2 ^ 32 → bound_size league ≤ 40000000
+    → IsAccepted league m → objective league m < 2 ^ 64
+objective_small league m most is greatest fits few accepted =
+    let small : most ≤ 4294967295 = omega (arith, fits) in
+    let paid : most * bound_size league ≤ 4294967295 * 40000000 = mul-le-mul small few in
+    omega (
+      arith,
+      costs-bounded league m is accepted,
+      ap (λ (p : ℕ). p * bound_size league) greatest,
+      paid,
+    )
 
 -- ---- logs that can be written
 

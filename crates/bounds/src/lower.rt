@@ -1,5 +1,5 @@
 //! From a schedule that is accepted down to a better one.
-ghost use Rattle.std.specs.Prelude.{◌≡◌, ◌≤◌, length, IfOk};
+ghost use Rattle.std.specs.Prelude.{◌≡◌, ◌^◌, ◌<◌, ◌≤◌, length, IfOk};
 ghost use Rattle.std.specs.List.{All};
 ghost use Rattle.league.specs.Accepted.{IsAccepted};
 ghost use Rattle.league.specs.Accepted as costs;
@@ -47,10 +47,10 @@ pub(crate) fn lowered(
     })
 }
 
-/// The objective of a schedule.
+/// The objective of a schedule, where 64 bits hold it.
 ///
 /// # Errors
-/// Where memory runs out, and where the objective passes 64 bits.
+/// Only where memory runs out.
 pub(crate) fn objective_of(
     alloc: Global,
     league: &League,
@@ -58,11 +58,9 @@ pub(crate) fn objective_of(
 ) -> Result<u64, AllocError>
     requires few { length schedule.now ≤ 10000 }
     requires fit { All (IsGame league.now.n) schedule.now }
+    requires small { costs.objective league.now (counts_of schedule.now) < 2 ^ 64 }
     ensures { IfOk result (λ objective. objective ≡ costs.objective league.now (counts_of schedule.now)) }
 {
     let assessed = assess(alloc, league, schedule)?;
-    if assessed.objective > u128::from(u64::MAX) {
-        return Err(AllocError);
-    }
     Ok(assessed.objective as u64)
 }

@@ -3,6 +3,7 @@ ghost use Rattle.std.specs.Prelude.{◌≡◌, ℕ, ◌-◌, ◌^◌, ◌<◌, �
 ghost use Rattle.std.specs.List.{All};
 ghost use Rattle.league.specs.Accepted.{IsAccepted};
 ghost use Rattle.league.specs.Accepted as costs;
+ghost use Rattle.league.specs.Bounds.{largest};
 ghost use Rattle.league.specs.Counts.{Counts, counts_of};
 ghost use Rattle.league.specs.Instance.{IsGame};
 ghost use Rattle.rows.specs.Rows.{SatisfiesAll};
@@ -18,7 +19,7 @@ use bound_rows::{MOST_TERMS, bound_system, bound_terms};
 use clause_search::{Found, search};
 use decoding::decode;
 use encoding::{EncodeFault, encode};
-use league::{League, Schedule};
+use league::{Constraint, League, Schedule};
 use refutation::Log;
 use rows::Assignment;
 use std::alloc::Global;
@@ -34,8 +35,7 @@ const MOVES: u64 = 1_000_000;
 ///
 /// # Errors
 /// `TooLarge` exactly where the bound rows have more than 40,000,000 terms, with their number as far as a number of 64 bits
-/// holds it; else only where memory runs out, or where the objective passes 64 bits: bound rows that are so few leave no room
-/// for that, but it isn't proved.
+/// holds it; else only where memory runs out.
 pub fn prove(
     alloc: Global,
     league: &League,
@@ -59,7 +59,8 @@ pub fn prove(
     Ok(proved)
 }
 
-/// What is shown of an accepted schedule of a league whose bound rows are few enough.
+/// What is shown of an accepted schedule of a league whose bound rows are few enough: it pays the greatest penalty at most
+/// once for each of their terms, so that 64 bits hold its objective.
 fn shown(
     alloc: Global,
     league: &League,
@@ -69,9 +70,12 @@ fn shown(
     requires accepted { IsAccepted league.now (counts_of schedule.now) }
     requires fit { All (IsGame league.now.n) schedule.now }
     requires few { length schedule.now ≤ 10000 }
+    requires size { bound_size league.now ≤ 40000000 }
     ensures proved { IfOk result (IsProved league.now (counts_of schedule.now) conflicts) }
     ensures only { (terms : ℕ) → result ≡ Err (EncodeFault.TooLarge terms) → 40000000 < bound_size league.now }
 {
+    let _n = league.n();
+    let _greatest = greatest_penalty(league.constraints());
     let objective = objective_of(alloc, league, schedule)?;
     if objective == 0 {
         return Ok(least_of_all(alloc));
@@ -82,6 +86,17 @@ fn shown(
     }
     let proved = searched(alloc, league, objective, conflicts)?;
     Ok(proved)
+}
+
+/// The greatest penalty, and 0 where there is no constraint.
+fn greatest_penalty(constraints: &[Constraint]) -> u32
+    ensures { result ≡ largest (λ c. c.penalty) constraints.now }
+{
+    let mut greatest = 0_u32;
+    for constraint in constraints {
+        greatest = greatest.max(constraint.penalty);
+    }
+    greatest
 }
 
 /// That an objective of 0 is the least.

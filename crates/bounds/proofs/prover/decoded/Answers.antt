@@ -1,9 +1,4 @@
-use Rattle.std.proofs.Common.{◌≡◌, ℕ, ◌<◌, ◌≤◌, arith, subst, sym}
-use Rattle.league.specs.Accepted as costs
-use Rattle.league.specs.Counts.{Counts, counts_of}
-use Rattle.bounds.specs.Proofs.{IsProved}
-use Rattle.bounds.specs.declared.proved.Proved.{Proved}
-use Rattle.bounds.proofs.ProofLemmas.{better-of, better-than}
+use Rattle.bounds.proofs.ProofLemmas.{better-than}
 use Rattle.bounds.proofs.prover.decoded.Goals as goal
 
 pub returns-clause-proved : goal.returns-clause-proved

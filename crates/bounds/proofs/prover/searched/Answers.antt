@@ -1,9 +1,7 @@
-use Rattle.std.proofs.Common.{◌≡◌, ℕ, ◌-◌, List, ap, subst, sym, ◌∙◌}
+use Rattle.std.proofs.Common.{ℕ, ◌-◌, List, ap, subst, sym, ◌∙◌}
 use Rattle.std.specs.List.{All}
 use Rattle.rows.specs.Rows.{Row}
 use Rattle.propagate.specs.Trails.{KnowsVariables}
-use Rattle.clause_search.specs.Answers.{IsAnswer}
-use Rattle.clause_search.specs.declared.found.Found.{Found}
 use Rattle.bound_base.specs.BoundRows.{bound_rows, bound_vars}
 use Rattle.bound_rows.specs.Bounded.{Bounded}
 use Rattle.bounds.proofs.ProofLemmas.{answer-of, knows-from_known, least-of, spent-of}

@@ -1,9 +1,10 @@
-use Rattle.std.proofs.Common.{◌≡◌, ℕ, ◌<◌, arith, subst, sym}
-use Rattle.league.specs.Accepted as costs
+use Rattle.std.proofs.Common.{List, arith, ap, subst, sym, ◌∙◌}
+use Rattle.league.specs.Bounds.{largest}
 use Rattle.league.specs.Counts.{counts_of}
+use Rattle.league.specs.declared.class.Constraint.{Constraint}
 use Rattle.bounds.specs.Proofs.{IsProved}
 use Rattle.bounds.specs.declared.proved.Proved.{Proved}
-use Rattle.bounds.proofs.ProofLemmas.{better-of, least_of_none}
+use Rattle.bounds.proofs.ProofLemmas.{least_of_none, objective_small}
 use Rattle.bounds.proofs.prover.shown.Goals as goal
 
 pub returns-then-objective-eq0-clause-proved : goal.returns-then-objective-eq0-clause-proved
@@ -12,3 +13,11 @@ returns-then-objective-eq0-clause-proved c =
     (sym c.least_of_all.ensures)
     (least_of_none c.args.league.now (counts_of c.args.schedule.now) c.args.conflicts
     (omega (arith, c.in_ok-objective.ensures)))
+
+pub objective_of-requires-clause-small : goal.objective_of-requires-clause-small
+objective_of-requires-clause-small c =
+    objective_small c.args.league.now (counts_of c.args.schedule.now) c.greatest_penalty-greatest.result
+    c.n-n.ensures.instance
+    (c.greatest_penalty-greatest.ensures
+    ∙ ap (λ (cs : List Constraint). largest (λ (x : Constraint). x.penalty) cs) c.constraints.ensures)
+    c.greatest_penalty-greatest.type_inv c.requires.size c.requires.accepted
