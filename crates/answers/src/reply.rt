@@ -31,6 +31,9 @@ impl From<AllocError> for NoValue {
 }
 
 /// The words are no command.
+///
+/// # Errors
+/// Only where memory runs out.
 pub fn words_refused(alloc: Global) -> Result<Reply, AllocError>
     ensures { IfOk result (λ reply. answer_of reply ≡ refusals.refused_words) }
 {
@@ -42,6 +45,9 @@ pub fn words_refused(alloc: Global) -> Result<Reply, AllocError>
 }
 
 /// The store failed at a file.
+///
+/// # Errors
+/// Only where memory runs out.
 pub fn unreadable(alloc: Global, which: &str) -> Result<Reply, AllocError>
     ensures { IfOk result (λ reply. answer_of reply ≡ refusals.read_fault which.now) }
 {
@@ -53,6 +59,9 @@ pub fn unreadable(alloc: Global, which: &str) -> Result<Reply, AllocError>
 }
 
 /// A file has more bytes than its limit.
+///
+/// # Errors
+/// Only where memory runs out.
 pub fn past_limit(alloc: Global, which: &str, limit: usize) -> Result<Reply, AllocError>
     ensures { IfOk result (λ reply. answer_of reply ≡ refusals.too_long which.now limit) }
 {
@@ -90,6 +99,9 @@ fn kind_word(kind: FormKind) -> &'static str
 }
 
 /// A file has a fault of form of this kind, on this line.
+///
+/// # Errors
+/// Only where memory runs out.
 pub fn malformed(alloc: Global, which: &str, kind: FormKind, line: u32) -> Result<Reply, AllocError>
     ensures { IfOk result (λ reply. answer_of reply ≡ refusals.malformed which.now kind line) }
 {

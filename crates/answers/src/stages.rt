@@ -17,6 +17,10 @@ use robinx_read::{INSTANCE_LIMIT, ReadFault, SOLUTION_LIMIT, read_instance, read
 use std::alloc::Global;
 
 /// Reads a file whole, or answers why it can't be read.
+///
+/// # Errors
+/// Where more than the limit was taken or the store failed at this file, with the reply that says so, and where memory
+/// runs out.
 pub fn file<S: Shelf>(
     alloc: Global,
     shelf: &mut S,
@@ -44,6 +48,9 @@ pub fn file<S: Shelf>(
 }
 
 /// The league that an instance file says.
+///
+/// # Errors
+/// Where the file has a fault of form, with the reply that names its first one, and where memory runs out.
 pub fn league_in(alloc: Global, bytes: &[u8]) -> Result<League, NoValue>
     requires { length bytes.now ≤ INSTANCE_LIMIT }
     ensures { MatchStage result
@@ -60,6 +67,9 @@ pub fn league_in(alloc: Global, bytes: &[u8]) -> Result<League, NoValue>
 }
 
 /// The schedule of the league that a solution file says.
+///
+/// # Errors
+/// Where the file has a fault of form, with the reply that names its first one, and where memory runs out.
 pub fn schedule_in(alloc: Global, bytes: &[u8], league: &League) -> Result<Schedule, NoValue>
     requires { length bytes.now ≤ SOLUTION_LIMIT }
     ensures says { MatchStage result

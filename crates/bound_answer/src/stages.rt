@@ -21,6 +21,9 @@ use robinx_read::INSTANCE_LIMIT;
 use std::alloc::{AllocError, Global};
 
 /// Goes on where the bound rows of a league haven't too many terms.
+///
+/// # Errors
+/// Where they have more than 40,000,000, with the reply that says how many, and where memory runs out.
 pub fn has_few_terms(alloc: Global, league: &League) -> Result<(), NoValue>
     ensures { MatchStage result
         (λ few. bound_size league.now ≤ most_terms)
@@ -78,6 +81,9 @@ fn bound_stages<S: Shelf>(
 }
 
 /// Checks the certificate of one file over the bound rows of the league of the other.
+///
+/// # Errors
+/// Only where memory runs out: a refused file has a reply of its own.
 pub fn bound_file<S: Shelf>(
     alloc: Global,
     shelf: &mut S,

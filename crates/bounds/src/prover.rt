@@ -34,8 +34,8 @@ const MOVES: u64 = 1_000_000;
 /// it finds a descent goes on, too. What is found first is not promised.
 ///
 /// # Errors
-/// `TooLarge` exactly where the bound rows have more than 40,000,000 terms, with their number as far as a number of 64 bits
-/// holds it; else only where memory runs out.
+/// `TooLarge` only where the bound rows have more than 40,000,000 terms, with their number as far as a number of 64 bits
+/// holds it; where they have more, this or want of memory; else only where memory runs out.
 pub fn prove(
     alloc: Global,
     league: &League,

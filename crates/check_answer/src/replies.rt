@@ -8,6 +8,9 @@ use refutation::{Cause, LogKind, Verdict};
 use std::alloc::{AllocError, Global};
 
 /// The rows of the league have so many terms, which are too many.
+///
+/// # Errors
+/// Only where memory runs out.
 pub fn rows_refused(alloc: Global, terms: u64) -> Result<Reply, AllocError>
     ensures { IfOk result (λ reply. answer_of reply ≡ texts.too_large terms) }
 {
@@ -31,6 +34,9 @@ fn kind_word(kind: LogKind) -> &'static str
 }
 
 /// The log has a fault of form of this kind, on this line.
+///
+/// # Errors
+/// Only where memory runs out.
 pub fn log_refused(alloc: Global, kind: LogKind, line: u64) -> Result<Reply, AllocError>
     ensures { IfOk result (λ reply. answer_of reply ≡ texts.log_malformed kind line) }
 {
@@ -79,6 +85,9 @@ fn rejected(alloc: Global, step: u64, cause: Cause) -> Result<Reply, AllocError>
 }
 
 /// The verdict on a log of so many steps.
+///
+/// # Errors
+/// Only where memory runs out.
 pub fn verdict_reply(alloc: Global, steps: usize, verdict: Verdict) -> Result<Reply, AllocError>
     ensures { IfOk result (λ reply. answer_of reply ≡ texts.verdict_answer steps verdict) }
 {

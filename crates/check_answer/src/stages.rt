@@ -98,6 +98,9 @@ fn verdict_on(
 
 /// Reads the log of a file and answers with the verdict on it, over the rows of a checker that was given no step yet.
 /// The log is read in pieces and its steps are judged as they come; it is read to its end before the answer.
+///
+/// # Errors
+/// Where the file is refused, with the reply that says why, and where memory runs out.
 pub fn judge_log<S: Shelf>(
     alloc: Global,
     shelf: &mut S,
@@ -157,6 +160,9 @@ fn check_stages<S: Shelf>(
 /// Checks the log of one file over the rows of the league of the other.
 ///
 /// The log is read in pieces and its steps are judged as they come; it is read to its end before the answer.
+///
+/// # Errors
+/// Only where memory runs out: a refused file has a reply of its own.
 pub fn check<S: Shelf>(
     alloc: Global,
     shelf: &mut S,

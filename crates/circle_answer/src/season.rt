@@ -22,6 +22,9 @@ fn season(alloc: Global, n: u16) -> Result<Schedule, AllocError>
 }
 
 /// Makes the season of the circle method, and its text.
+///
+/// # Errors
+/// Only where memory runs out.
 pub fn circle(alloc: Global, n: u16) -> Result<Reply, AllocError>
     requires teams { IsTeamCount n }
     ensures { IfOk result (λ reply. answer_of reply ≡ circle_season n) }

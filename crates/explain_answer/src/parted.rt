@@ -77,6 +77,9 @@ fn part_stages<S: Shelf>(
 
 /// Makes the league of some hard constraints of the league of a file, by their numbers, and its text; or names the
 /// first number that no hard constraint has.
+///
+/// # Errors
+/// Only where memory runs out: a refused file has a reply of its own.
 pub fn part_file<S: Shelf>(
     alloc: Global,
     shelf: &mut S,

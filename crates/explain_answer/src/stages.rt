@@ -46,6 +46,9 @@ fn explain_stages<S: Shelf>(
 /// Finds hard constraints of the league of a file that contradict each other, with a case for each, or a schedule that
 /// the league accepts. With a budget each search learns at most so many clauses; where that of the whole league is
 /// spent, its log is the answer.
+///
+/// # Errors
+/// Only where memory runs out: a refused file has a reply of its own.
 pub fn explain_file<S: Shelf>(
     alloc: Global,
     shelf: &mut S,

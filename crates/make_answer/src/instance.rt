@@ -10,6 +10,9 @@ use robinx_write::instance_text;
 use std::alloc::{AllocError, Global};
 
 /// Makes the league of n teams and a seed, and its text, which reads back as it.
+///
+/// # Errors
+/// Only where memory runs out.
 pub fn make_league(alloc: Global, n: u16, seed: u64) -> Result<Reply, AllocError>
     requires teams { IsTeamCount n }
     ensures { IfOk result (λ reply. IsMade n seed (answer_of reply)) }

@@ -44,6 +44,9 @@ fn patterns_stages<S: Shelf>(
 
 /// Finds patterns that the pattern rows of the league of a file allow, or a log that refutes them, and so the league.
 /// With a budget the search learns at most so many clauses, and its log is the answer where it is spent.
+///
+/// # Errors
+/// Only where memory runs out: a refused file has a reply of its own.
 pub fn patterns_file<S: Shelf>(
     alloc: Global,
     shelf: &mut S,

@@ -8,6 +8,9 @@ use robinx_write::type_word;
 use std::alloc::{AllocError, Global};
 
 /// The lines that say what was read.
+///
+/// # Errors
+/// Only where memory runs out.
 pub fn head(alloc: Global, league: &League, games: usize) -> Result<String, AllocError>
     ensures { IfOk result (λ text. string_bytes text ≡ head_text league.now.n league.now.phased games) }
 {
@@ -18,6 +21,9 @@ pub fn head(alloc: Global, league: &League, games: usize) -> Result<String, Allo
 }
 
 /// The line on the round robin.
+///
+/// # Errors
+/// Only where memory runs out.
 pub fn structure_line(alloc: Global, wrongs: Wrongs) -> Result<String, AllocError>
     ensures { IfOk result (λ text. string_bytes text
         ≡ structure_text wrongs.pairs_wrong wrongs.cells_wrong wrongs.phases_wrong) }
@@ -29,6 +35,9 @@ pub fn structure_line(alloc: Global, wrongs: Wrongs) -> Result<String, AllocErro
 }
 
 /// The last lines.
+///
+/// # Errors
+/// Only where memory runs out.
 pub fn verdict(
     alloc: Global,
     infeasibility: u128,
@@ -84,6 +93,9 @@ fn push_front(
 }
 
 /// Adds the line of a constraint with its deviation, which is the sum of its entries.
+///
+/// # Errors
+/// Only where memory runs out; then nothing is said of the text.
 pub fn push_constraint(
     text: &mut String,
     number: usize,

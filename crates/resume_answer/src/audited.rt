@@ -83,6 +83,9 @@ fn audit_stages<S: Shelf>(
 
 /// Checks the log of a file over the resume rows of a league, of which the first k slots are played as a solution file
 /// says. The log is read in pieces and its steps are judged as they come; it is read to its end before the answer.
+///
+/// # Errors
+/// Only where memory runs out: a refused file has a reply of its own.
 pub fn audit_file<S: Shelf>(
     alloc: Global,
     shelf: &mut S,

@@ -68,6 +68,9 @@ fn resume_stages<S: Shelf>(
 /// file; or a log that there is none. With a budget the search learns at most so many clauses, and its log is the
 /// answer where it is spent. Where the league accepts all games of the solution file as they are, they are the answer;
 /// a schedule that the search finds is made better by moves that leave the played games alone.
+///
+/// # Errors
+/// Only where memory runs out: a refused file has a reply of its own.
 pub fn resume_file<S: Shelf>(
     alloc: Global,
     shelf: &mut S,

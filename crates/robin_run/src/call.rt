@@ -164,15 +164,15 @@ fn answer<S: Shelf>(alloc: Global, words: &[String], shelf: &mut S) -> Result<Re
 /// - `refuted` needs a store that tells the bytes of the instance file alone: where a run of `check` ends with `Yes`,
 ///   the league of that file accepts no list of games.
 /// - `solved` says the same as `checked` of `solve`: where the instance file is within its limit and well-formed, and
-///   the rows of its league have at most 40,000,000 terms, what is found is written whole. It is a schedule that the
-///   league accepts with its objective, a log that `check` accepts, or a log that is spent at the budget of conflicts,
-///   and then there are patterns that satisfy the league's pattern rows, or a log that is spent over these at the
-///   budget of patterns; and a schedule wherever the league accepts that of the circle method, a log that `check`
-///   accepts wherever its venue counts are short or crowded. Behind a schedule stand the moves of the descent that led
-///   to it, at most as many as the budget of moves: taken backwards from the schedule they are legal, each raises the
-///   score, and they end in a schedule that is accepted too, whose objective is written. It says `settled=yes` exactly
-///   where no legal move lowers the score of the schedule, and a budget of as many moves as the first objective
-///   settles.
+///   the rows of its league have at most 40,000,000 terms, what is found is written whole. It is a schedule of games of
+///   the league, which accepts it, with its objective, and the text reads back as these games; a log that `check`
+///   accepts; or a log that is spent at the budget of conflicts, and then there are patterns that satisfy the league's
+///   pattern rows, or a log that is spent over these at the budget of patterns; and a schedule wherever the league
+///   accepts that of the circle method, a log that `check` accepts wherever its venue counts are short or crowded.
+///   Behind a schedule stand the moves of the descent that led to it, at most as many as the budget of moves: taken
+///   backwards from the schedule they are legal, each raises the score, and they end in a schedule that is accepted
+///   too, whose objective is written. It says `settled=yes` exactly where no legal move lowers the score of the
+///   schedule, and a budget of as many moves as the first objective settles.
 /// - `unsolvable` is as `refuted`: where a run of `solve` ends with `Refuted`, the league accepts no list of games.
 /// - `patterned` says the same as `solved` of `patterns`: what is found is patterns that satisfy the pattern rows of
 ///   the league, a log that refutes them, or one that is spent at the budget; a log's hints name pattern rows and
@@ -196,8 +196,8 @@ fn answer<S: Shelf>(alloc: Global, words: &[String], shelf: &mut S) -> Result<Re
 ///   season, or a log that is spent at the budget over the bound rows of one less than the objective.
 /// - `unbettered` needs a store that tells the bytes of both files: where a run of `prove` ends with `Yes`, the season
 ///   of the second is accepted, no accepted season has a lower objective, and the certificate that says so is written.
-/// - `bettered` needs the same: where it ends with `Better`, the season that is written is accepted, with an objective
-///   below that of the season of the file, which is accepted too.
+/// - `bettered` needs the same: where it ends with `Better`, the season that is written is of games of the league and
+///   accepted, with an objective below that of the season of the file, which is accepted too.
 /// - `bounded` says the same as `checked` of `bound`: the verdict on a well-formed certificate is written whole.
 /// - `certified` is as `refuted`: where a run of `bound` ends with `Yes`, the line that is written states a bound, and
 ///   each season that the league accepts has an objective of at least this.

@@ -29,6 +29,9 @@ use solve::Solved;
 use std::alloc::{AllocError, Global};
 
 /// The rows of the league have so many terms, which are too many.
+///
+/// # Errors
+/// Only where memory runs out.
 pub fn rows_refused(alloc: Global, terms: u64) -> Result<Reply, AllocError>
     ensures { IfOk result (λ reply. answer_of reply ≡ too_large terms) }
 {

@@ -45,6 +45,9 @@ fn solve_stages<S: Shelf>(
 
 /// Finds a schedule that the league of a file accepts, with its objective and the descent that led to it, or a log that
 /// refutes the league, within budgets. The log is the answer too where the budget of conflicts is spent.
+///
+/// # Errors
+/// Only where memory runs out: a refused file has a reply of its own.
 pub fn solve_file<S: Shelf>(
     alloc: Global,
     shelf: &mut S,

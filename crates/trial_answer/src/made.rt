@@ -26,6 +26,9 @@ use std::alloc::{AllocError, Global};
 
 /// Makes the league of n teams and a seed, and finds a schedule of it within budgets: seven lines say what came of it,
 /// and what `solve` writes comes behind them.
+///
+/// # Errors
+/// Only where memory runs out: rows that are too many have a reply of their own.
 pub fn trial(alloc: Global, n: u16, seed: u64, budgets: Budgets) -> Result<Reply, AllocError>
     requires teams { IsTeamCount n }
     ensures { IfOk result (λ reply. tried n seed budgets (answer_of reply)) }

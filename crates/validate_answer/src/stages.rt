@@ -45,6 +45,9 @@ fn validate_stages<S: Shelf>(
 }
 
 /// Judges the schedule of one file by the league of the other.
+///
+/// # Errors
+/// Only where memory runs out: a refused file has a reply of its own.
 pub fn validate<S: Shelf>(
     alloc: Global,
     shelf: &mut S,
