@@ -1,7 +1,8 @@
 //! Logs over bound rows.
-ghost use Rattle.std.specs.Prelude.{◌≡◌, ℕ, ◌-◌, ◌<◌, ◌≤◌, IfOk, IsOk, Ok, Err};
+ghost use Rattle.std.specs.Prelude.{◌≡◌, ℕ, ◌-◌, ◌<◌, ◌≤◌, ◌⊎◌, IfOk, IsOk, Ok, Err};
 ghost use Rattle.bound_base.specs.BoundRows.{bound_rows, bound_size, bound_vars};
 ghost use Rattle.bound_laws.specs.Faithful.{IsLowerBound};
+ghost use Rattle.encoding.specs.Capped.{capped};
 ghost use Rattle.refutation.specs.Verdict.{verdict_of};
 
 use bound_rows::bound_system;
@@ -15,7 +16,8 @@ use std::alloc::Global;
 /// league accepts has an objective of at least the bound.
 ///
 /// # Errors
-/// `TooLarge` only where the bound rows have more than 40,000,000 terms; else only where memory runs out.
+/// `TooLarge` only where the bound rows have more than 40,000,000 terms, with their number as far as a number of 64
+/// bits holds it; else only where memory runs out.
 pub fn check_bound(
     alloc: Global,
     league: &League,
@@ -27,6 +29,8 @@ pub fn check_bound(
         verdict ≡ verdict_of (bound_rows league.now (bound - 1)) (bound_vars league.now) log.now) }
     ensures holds { result ≡ Ok Verdict.Accepted → IsLowerBound league.now bound }
     ensures within { IsOk result → bound_size league.now ≤ 40000000 }
+    ensures too_large { 40000000 < bound_size league.now → (result ≡ Err EncodeFault.Mem)
+        ⊎ (result ≡ Err (EncodeFault.TooLarge (capped (bound_size league.now)))) }
     ensures only { (terms : ℕ) → result ≡ Err (EncodeFault.TooLarge terms) → 40000000 < bound_size league.now }
 {
     let _n = league.n();
