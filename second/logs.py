@@ -80,6 +80,45 @@ def clause_row(clause):
     return [(1, lit) for lit in distinct], 1
 
 
+def settled(rows, values):
+    """The values with all that the rows force under them, or None where a row is then in conflict."""
+    values, is_changed = dict(values), True
+    while is_changed:
+        is_changed = False
+        for terms, degree in rows:
+            slack = reach(terms, values) - degree
+            if slack < 0:
+                return None
+            for coef, lit in terms:
+                if coef > slack and abs(lit) not in values:
+                    values[abs(lit)] = lit > 0
+                    is_changed = True
+    return values
+
+
+def is_empowering(clause, rows):
+    """Whether a quiet assignment leaves a literal of the clause free and has all others false: the least one that has
+    them false is what the rows force, since each quiet one holds it."""
+    for lit in set(clause):
+        others = set(clause) - {lit}
+        if lit and not any(-it in clause for it in clause):
+            values = settled(rows, {abs(it): it < 0 for it in others})
+            if values is not None and abs(lit) not in values:
+                return True
+    return False
+
+
+def is_spent(count, rows, steps, limit):
+    """Whether a log is spent at a limit over rows: so many clauses, each of which follows and is empowering, and a
+    quiet assignment over all."""
+    rows = list(rows)
+    for kind, clause, hints in steps:
+        if kind != "c" or follow_clause(clause, hints, rows, count) or not is_empowering(clause, rows):
+            return False
+        rows.append(clause_row(clause))
+    return len(steps) == limit and settled(rows, {}) is not None
+
+
 def check(count, rows, steps):
     rows = list(rows)
     last = False
