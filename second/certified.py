@@ -153,6 +153,10 @@ def spent_fault(text, count, own_rows, limit):
     steps, refusal = log_of(text, forms.read_log)
     if refusal:
         return refusal
+    if limit > 64:
+        # Too slow for this reading: that each step follows, and their number.
+        is_spent = logs.check(count, own_rows, steps) == f"rejected step {limit} cause NoEmptyClause"
+        return None if is_spent and len(steps) == limit else "not spent"
     return None if logs.is_spent(count, own_rows, steps, limit) else "not spent"
 
 
@@ -742,7 +746,7 @@ def stands(t):
 
 def told_kind(text):
     """A line of an answer without its numbers."""
-    return re.sub(r"(refused log|rejected step \d+ cause|line \d+|bound \d+|steps \d+)\s*", "", text).strip()
+    return re.sub(r"\s*\d+", "", text.replace("rejected step", "").replace(" cause", "")).strip()
 
 
 def rechanged(t):
@@ -813,7 +817,7 @@ def reshown(t):
 
 
 def weighed(t):
-    """Certificates of 256 MiB, and of 32 MiB of steps; many games, many constraints: time and peak memory."""
+    """Certificates of 256 MiB, and of 32 MiB of steps; played lists of 10,000 games: time and peak memory."""
     two, size = instance_text(2, True, [FIRST_HOME % ("0;1", 5)]), 256 * MIB
     it, rng = t.path("two.xml", two), random.Random(3)
     start = b"bound 5\nrefutation 1\n"
@@ -837,6 +841,14 @@ def weighed(t):
         path = t.path("steps.log", start, *[unit * 1024] * (many // 1024), b"end\n")
         told = f"rejected step {many} cause NoEmptyClause\n"
         measured(t, f"certificate of {many} {name}", ["bound", it, path], 1, told, os.path.getsize(path))
+    unit, many = step_units[1][1], 255 * MIB // 24
+    path = t.path("steps.log", start, *[unit * 1024] * (many // 1024), unit * (many % 1024), b"end\n")
+    told = f"rejected step {many} cause NoEmptyClause\n"
+    measured(t, f"certificate of {many} clauses", ["bound", it, path], 1, told, os.path.getsize(path))
+    wide = b"1 " * (8 * MIB - 4) + b"0 0\n"
+    path = t.path("steps.log", start, *[wide] * 15, b"end\n")
+    told = "rejected step 1 cause NoConflict\n"
+    measured(t, "certificate of 15 steps of 16 MiB", ["bound", it, path], 1, told, os.path.getsize(path))
     os.remove(path)
     late, season = t.path("late.xml", I4), t.path("many.xml", season_text([(1, 2, 0)] * 10_000))
     size = os.path.getsize(season)
@@ -866,6 +878,13 @@ def sums(t):
             told = f"rejected step {count} cause NoEmptyClause\n"
             name = f"{command} of {count} sums of 121680 terms"
             measured(t, name, [command, *words, path], 1, told, os.path.getsize(path), memory=6144)
+    # Each hint looks at the whole row, which isn't in conflict.
+    hints = 20_000
+    line = b"c 0 " + b"%d " % (own + 1) * hints + b"0\n"
+    path = t.path("sums.log", b"refutation 2\n", wide, line, b"end\n")
+    told = "rejected step 2 cause NoConflict\n"
+    name = f"check of {hints} hints at a sum of 121680 terms"
+    measured(t, name, ["check", forty, path], 1, told, os.path.getsize(path))
     # Of so many that no memory of 2 GiB holds them: the answer is want of memory, and nothing is written.
     copies = [b"l 1 %d 0 1\n" % (own + k + 1) for k in range(5_000)]
     path = t.path("sums.log", b"refutation 2\n", wide, *copies, b"end\n")
