@@ -117,7 +117,7 @@ class Tries:
         self.count = collections.Counter()
         self.differences = collections.Counter()
         self.group = ""
-        self.only = ""
+        self.only, self.queue, self.serial = "", [], 0
         self.server = Server(self.program, folder)
 
     def path(self, name, *chunks):
@@ -127,6 +127,11 @@ class Tries:
             for chunk in chunks:
                 file.write(chunk)
         return path
+
+    def fresh(self, name, *chunks):
+        """A file that stands until some thousand more are made."""
+        self.serial = (self.serial + 1) % 4000
+        return self.path(f"{self.serial}-{name}", *chunks)
 
     def run(self, *words, seconds=60, memory=4096, out=None, env=None, limits=(), head=1 << 26):
         """The program's answer; at most `seconds` of processor time and `memory` MiB of address space."""
@@ -176,12 +181,37 @@ class Tries:
     def answers(self, words, status, text, files=(), **more):
         """The program's answer on these words is of this status, with this text (None: any lawful one)."""
         ran = self.run(*words, **more)
+        self.judge(words, ran, status, text, files)
+        return ran
+
+    def demands(self, words, status, text, files=()):
+        """As `answers`, with many runs in one process."""
+        self.later(words, lambda ran: self.judge(words, ran, status, text, files))
+
+    def judge(self, words, ran, status, text, files=()):
+        """Whether a run has this status and text."""
         text = text if text is None or isinstance(text, bytes) else text.encode()
         is_same = ran.status == status and (text is None or ran.out == text)
         is_same = is_same and is_lawful(words[0] if words else "", ran.status, ran.out.decode("utf-8", "replace"))
         shown = [it if len(str(it)) < 60 else str(it)[:60] for it in words]
         self.must(is_same, shown, "gave", ran.status, ran.out[:200], "not", status, (text or b"")[:200], files=files)
-        return ran
+
+    def later(self, words, judge):
+        """A run that is judged when a batch of them is full, or at `flush`; its files have to stand until then."""
+        if not self.server.process or "" in words:
+            judge(self.run(*words))
+            return
+        self.queue.append((list(words), judge))
+        if len(self.queue) >= BATCH:
+            self.flush()
+
+    def flush(self):
+        """Makes the runs that were put off, many in one process."""
+        while self.queue:
+            queue, self.queue = self.queue[:BATCH], self.queue[BATCH:]
+            runs = [(os.path.join(self.folder, f"told-{k}"), words) for k, (words, _) in enumerate(queue)]
+            for (_, judge), (status, out) in zip(queue, self.server.many(runs)):
+                judge(Ran(status, out, b"", 0.0, 0, None, 0.0))
 
     def batch(self, runs, wanted):
         """Many runs at once, where the program can be loaded once, and else one by one."""
@@ -272,6 +302,7 @@ SHIM = r"""
 #include <fcntl.h>
 #include <link.h>
 #include <stdarg.h>
+#include <stdio.h>
 #include <stdlib.h>
 #include <string.h>
 #include <sys/mman.h>
@@ -281,7 +312,7 @@ SHIM = r"""
 #include <unistd.h>
 extern void *__libc_malloc(size_t); extern void *__libc_realloc(void *, size_t);
 typedef int entry(int, char **, char **);
-struct { long at[4], from[4], most, seconds, bytes; } ask;
+struct { long at[4], from[4], most, seconds, bytes, more; } ask;
 static long *counts; static int is_child; static entry *whole;
 static int fails(int k) {
     if (!is_child) return 0;
@@ -330,12 +361,16 @@ static int begin_again(struct dl_phdr_info *it, size_t size, void *given) {
     for (size_t k = 0; k < count; k++) list[k](many, words, 0);
     return 1;
 }
-static void run(char *text, int size, char **environment) {
+/* One run in a child; of several, each step has the planned calls one later, and files of its own. */
+static void run(char *text, int size, char **environment, long step) {
+    char names[2][4096];
     char **words = __libc_malloc((size + 2) * sizeof(char *)); int count = 0;
     for (char *at = text; at < text + size; at += strlen(at) + 1) words[count++] = at;
     words[count] = 0;
-    int out = syscall(SYS_openat, AT_FDCWD, words[0], O_WRONLY | O_CREAT | O_TRUNC, 0600);
-    int err = syscall(SYS_openat, AT_FDCWD, words[1], O_WRONLY | O_CREAT | O_TRUNC, 0600);
+    for (int k = 0; k < 2; k++) snprintf(names[k], 4096, ask.more ? "%s.%ld" : "%s", words[k], step);
+    for (int k = 0; k < 4; k++) { if (ask.at[k]) ask.at[k] += step; if (ask.from[k]) ask.from[k] += step; }
+    int out = syscall(SYS_openat, AT_FDCWD, names[0], O_WRONLY | O_CREAT | O_TRUNC, 0600);
+    int err = syscall(SYS_openat, AT_FDCWD, names[1], O_WRONLY | O_CREAT | O_TRUNC, 0600);
     dup2(syscall(SYS_openat, AT_FDCWD, "/dev/null", O_RDONLY, 0), 0); dup2(out, 1); dup2(err, 2);
     struct rlimit time = {ask.seconds, ask.seconds + 1}, space = {ask.bytes, ask.bytes};
     setrlimit(RLIMIT_CPU, &time); setrlimit(RLIMIT_AS, &space);
@@ -365,14 +400,18 @@ static int serve(int count, char **words, char **environment) {
         char *text = __libc_malloc(size + 1); struct rusage used; int status;
         if (!whole_read(text, size)) return 0;
         if (!ask.seconds) { run_all(text, size, environment); free(text); continue; }
-        memset(counts, 0, 4 * sizeof(long));
-        int child = fork();
-        if (!child) run(text, size, environment);
-        wait4(child, &status, 0, &used); free(text);
-        long tick = 1000000, said[7] = {status, used.ru_maxrss};
-        said[2] = (used.ru_utime.tv_sec + used.ru_stime.tv_sec) * tick + used.ru_utime.tv_usec + used.ru_stime.tv_usec;
-        memcpy(said + 3, counts, 4 * sizeof(long));
-        syscall(SYS_write, 1, said, sizeof said);
+        for (long step = 0; step <= ask.more; step++) {
+            memset(counts, 0, 4 * sizeof(long));
+            int child = fork();
+            if (!child) run(text, size, environment, step);
+            wait4(child, &status, 0, &used);
+            long tick = 1000000, said[7] = {status, used.ru_maxrss};
+            said[2] = (used.ru_utime.tv_sec + used.ru_stime.tv_sec) * tick;
+            said[2] += used.ru_utime.tv_usec + used.ru_stime.tv_usec;
+            memcpy(said + 3, counts, 4 * sizeof(long));
+            syscall(SYS_write, 1, said, sizeof said);
+        }
+        free(text);
     }
     return 0;
 }
@@ -399,14 +438,15 @@ class Server:
         if not shutil.which("cc") or subprocess.run(compiled, check=False).returncode:
             return
         pipe = subprocess.PIPE
-        self.process = subprocess.Popen([program], stdin=pipe, stdout=pipe, bufsize=0, env={"LD_PRELOAD": made})
+        known, null = {"LD_PRELOAD": made}, subprocess.DEVNULL
+        self.process = subprocess.Popen([program], stdin=pipe, stdout=pipe, stderr=null, bufsize=0, env=known)
         self.out, self.err = os.path.join(folder, "out"), os.path.join(folder, "err")
 
     def run(self, words, at=(0, 0, 0, 0), first=(0, 0, 0, 0), most=0, seconds=60, memory=4096, head=1 << 26):
         """One run: the calls `at` these numbers fail, or all from `first` on; reads and writes take `most` bytes."""
         began = time.monotonic()
         text = b"".join(os.fsencode(it) + b"\0" for it in (self.out, self.err, "robin", *words))
-        self.process.stdin.write(struct.pack("=11qi", *at, *first, most, seconds, memory * MIB, len(text)) + text)
+        self.process.stdin.write(struct.pack("=12qi", *at, *first, most, seconds, memory * MIB, 0, len(text)) + text)
         status, peak, used, *calls = struct.unpack("=7q", self.process.stdout.read(56))
         with open(self.out, "rb") as file, open(self.err, "rb") as errors:
             said, complaint = file.read(head), errors.read(1 << 16)
@@ -418,17 +458,41 @@ class Server:
         again and again, so each run also shows that the one before left nothing behind."""
         joined = lambda it: b"".join(os.fsencode(word) + b"\0" for word in it)
         text = b"".join(joined((out, "robin", *words)) + b"\0" for out, words in runs)
-        self.process.stdin.write(struct.pack("=11qi", *[0] * 11, len(text)) + text)
-        told = b""
-        while len(told) < 8 * len(runs):
-            more = self.process.stdout.read(8 * len(runs) - len(told))
-            if not more:
-                raise SystemExit(f"the program ended within a batch: {self.process.wait()}")
-            told += more
+        self.process.stdin.write(struct.pack("=12qi", *[0] * 12, len(text)) + text)
+        told = self.told(8 * len(runs))
         found = []
         for status, (out, _) in zip(struct.unpack(f"={len(runs)}q", told), runs):
             with open(out, "rb") as file:
                 found.append((status, file.read()))
+        return found
+
+    def told(self, size):
+        """So many bytes of what the program that was loaded says."""
+        told = b""
+        while len(told) < size:
+            more = self.process.stdout.read(size - len(told))
+            if not more:
+                raise SystemExit(f"the program ended within a batch: {self.process.wait()}")
+            told += more
+        return told
+
+    def each(self, words, kind, place, count, most=0):
+        """So many runs, in the kth of which the kth call of a place fails (`at`), or all from there on (`first`)."""
+        found = []
+        for start in range(1, count + 1, 512):
+            many = min(512, count + 1 - start)
+            own = [start * (it == place) for it in range(4)]
+            plan = [*own, *[0] * 4] if kind == "at" else [*[0] * 4, *own]
+            text = b"".join(os.fsencode(it) + b"\0" for it in (self.out, self.err, "robin", *words))
+            # Of one run the files have no numbers: one more is made.
+            self.process.stdin.write(struct.pack("=12qi", *plan, most, 60, 4096 * MIB, many, len(text)) + text)
+            said = self.told(56 * (many + 1))
+            for step in range(many):
+                status, peak, used, *calls = struct.unpack_from("=7q", said, 56 * step)
+                with open(f"{self.out}.{step}", "rb") as file, open(f"{self.err}.{step}", "rb") as errors:
+                    told, complaint = file.read(), errors.read(1 << 16)
+                ended = os.waitstatus_to_exitcode(status)
+                found.append(Ran(ended, told, complaint, used / 1e6, peak / 1024, calls, 0.0))
         return found
 
     def end(self):

@@ -204,23 +204,30 @@ def prove_fault(instance, solution, limit, ran):
     return None if ran.out.startswith(head) and verdict[0] == 0 else f"{head} {verdict}"
 
 
-def resumes(t, instance, solution, k, limit, files):
-    """`resume` on two files, judged."""
+def resumes(t, instance, solution, k, limit, files, then=lambda ran: None):
+    """`resume` on two files, judged when its batch is run; then what is said."""
     more = [] if limit is None else ["--conflicts", "all" if limit == "all" else str(limit)]
-    ran = t.run("resume", *files, str(k), *more)
     limit = {None: 2000, "all": None}.get(limit, limit)
-    fault = resume_fault(instance, solution, k, limit, ran)
-    t.must(not fault, "resume", k, more, fault, ran.status, ran.out[:300], files=files)
-    return ran
+
+    def judge(ran):
+        fault = resume_fault(instance, solution, k, limit, ran)
+        t.must(not fault, "resume", k, more, fault, ran.status, ran.out[:300], files=files)
+        then(ran)
+
+    t.later(["resume", *files, str(k), *more], judge)
 
 
-def proves(t, instance, solution, limit, files):
-    """`prove` on two files, judged."""
+def proves(t, instance, solution, limit, files, then=lambda ran: None):
+    """`prove` on two files, judged when its batch is run; then what is said."""
     more = [] if limit is None else ["--conflicts", "all" if limit == "all" else str(limit)]
-    ran = t.run("prove", *files, *more)
-    fault = prove_fault(instance, solution, {None: 2000, "all": None}.get(limit, limit), ran)
-    t.must(not fault, "prove", more, fault, ran.status, ran.out[:300], files=files)
-    return ran
+    limit = {None: 2000, "all": None}.get(limit, limit)
+
+    def judge(ran):
+        fault = prove_fault(instance, solution, limit, ran)
+        t.must(not fault, "prove", more, fault, ran.status, ran.out[:300], files=files)
+        then(ran)
+
+    t.later(["prove", *files, *more], judge)
 
 
 # Leagues, seasons and what is known of them.
@@ -252,11 +259,14 @@ def certificates(t):
         for limit in (0, 1, 2, None):
             proves(t, instance, season, limit, files)
         for _ in range(60):
-            ran = proves(t, instance, season, "all", files)
+            said = []
+            proves(t, instance, season, "all", files, said.append)
+            t.flush()
+            ran = said[0]
             if ran.status != 9:
                 break
             season = ran.out
-            t.path(os.path.basename(files[1]), season)
+            files[1] = t.path(os.path.basename(files[1]), season)
         t.must(ran.status == 0, "no end", ran.status, files=files)
         yield instance, season, ran.out, files
 
@@ -283,11 +293,13 @@ def conflicting(t):
         for place, played in enumerate(lists):
             solution = season_text(played)
             files = [t.path(f"late-{number}.xml", instance), t.path(f"played-{number}-{place}.xml", solution)]
+            said = []
             for k in range(leagues.slots_of(n) + 1):
                 for limit in (0, 1, "all"):
-                    ran = resumes(t, instance, solution, k, limit, files)
-                if ran.status == 4:
-                    yield instance, solution, k, ran.out, files
+                    resumes(t, instance, solution, k, limit, files, lambda ran, k=k: said.append((k, ran)))
+            t.flush()
+            for k, log in dict((k, ran.out) for k, ran in said if ran.status == 4).items():
+                yield instance, solution, k, log, files
 
 
 # Groups.
@@ -314,26 +326,26 @@ def fronts(t):
     late = instance_text(4, True, [AWAY_LATE])
     for text in (two, late):
         for k in range(len(text) - 1):
-            it = t.path("cut.xml", text[:k])
+            it = t.fresh("cut.xml", text[:k])
             told = f"refused instance Truncated line {1 + text.count(bytes([10]), 0, k)}\n"
             for words in (["prove", it, season], ["bound", it, five], ["resume", it, season, "9"]):
-                t.answers(words, 3, told, files=[it])
-            t.answers(["audit", it, season, "9", log], 3, told, files=[it])
+                t.demands(words, 3, told, files=[it])
+            t.demands(["audit", it, season, "9", log], 3, told, files=[it])
     it, cut = t.path("league.xml", late), None
     for k in range(len(C4_TEXT) + 1):
         text = C4_TEXT[:k]
-        cut = t.path("cut-season.xml", text)
+        cut = t.fresh("cut-season.xml", text)
         resumes(t, late, text, 3, 0, [it, cut])
         proves(t, late, text, 0, [it, cut])
-        t.answers(["audit", it, cut, "3", log], *audited(late, text, 3, AWAY_LATE_LOG), files=[cut])
+        t.demands(["audit", it, cut, "3", log], *audited(late, text, 3, AWAY_LATE_LOG), files=[cut])
     for k in range(len(AWAY_LATE_LOG) + 1):
-        cut = t.path("cut.log", AWAY_LATE_LOG[:k])
-        t.answers(["audit", it, season, "3", cut], *audited(late, C4_TEXT, 3, AWAY_LATE_LOG[:k]), files=[cut])
+        cut = t.fresh("cut.log", AWAY_LATE_LOG[:k])
+        t.demands(["audit", it, season, "3", cut], *audited(late, C4_TEXT, 3, AWAY_LATE_LOG[:k]), files=[cut])
     it = t.path("two.xml", two)
     for text in (FIVE, b"bound 18446744073709551615\nrefutation 2\nl 1 31 0 2\nc 0 34 0\nend\n", b"bound 0\n\n"):
         for k in range(len(text) + 1):
-            cut = t.path("cut.log", text[:k])
-            t.answers(["bound", it, cut], *bounded(two, text[:k]), files=[cut])
+            cut = t.fresh("cut.log", text[:k])
+            t.demands(["bound", it, cut], *bounded(two, text[:k]), files=[cut])
 
 
 # The first lines of certificates over the league of two teams of which each home game of the first costs 5.
@@ -412,8 +424,8 @@ def stated(t):
         lines.append((b"bound %d\n" % bound + FIVE[8:], told))
     for certificate, answer in lines:
         status = 3 if answer.startswith("refused") else 0 if answer.startswith("accepted") else 1
-        path = t.path("stated.log", certificate)
-        t.answers(["bound", it, path], status, answer + "\n", files=[path])
+        path = t.fresh("stated.log", certificate)
+        t.demands(["bound", it, path], status, answer + "\n", files=[path])
         own = bounded(text, certificate)
         t.must((status, answer + "\n") == own, "second reading", certificate[:60], own)
     # Coefficients of 4,294,967,295 and factors of 64 bits: totals pass 2^127 - 1 in two steps.
@@ -427,8 +439,8 @@ def stated(t):
             for again in (1, 2**28, 2**29, 2**30, 2**31, 2**32, 2**63, 2**64 - 1):
                 steps = f"l {factor} {objective} 0 1\nl {again} {last + 1} 0 1\nl {again} {last + 2} 0 7\n"
                 certificate = f"bound {bound}\nrefutation 2\n{steps}end\n".encode()
-                path = t.path("dear.log", certificate)
-                t.answers(["bound", it, path], *bounded(text, certificate), files=[path])
+                path = t.fresh("dear.log", certificate)
+                t.demands(["bound", it, path], *bounded(text, certificate), files=[path])
 
 
 WILD_K = [0, 1, 5, 6, 7, 255, 256, 262, 65_535, 65_536, 65_542, 2**31, 2**32, 2**32 + 3, 2**32 + 6, 2**63, 2**64 - 1]
@@ -442,31 +454,34 @@ def played(t):
     it, season, log = t.path("late.xml", late), t.path("season.xml", C4_TEXT), t.path("late.log", AWAY_LATE_LOG)
     for word in NO_K:
         for words in (["resume", it, season, word], ["audit", it, season, word, log], ["resume", it, word, season]):
-            t.answers(words, 2, "refused words\n")
+            t.demands(words, 2, "refused words\n")
     for k in WILD_K:
         for words in (["resume", it, season, str(k)], ["audit", it, season, str(k), log]):
             if k > 6:
-                t.answers(words, 3, f"refused slot {k}\n")
+                t.demands(words, 3, f"refused slot {k}\n")
         if k <= 6:
             resumes(t, late, C4_TEXT, k, 0, [it, season])
-            t.answers(["audit", it, season, str(k), log], *audited(late, C4_TEXT, k, AWAY_LATE_LOG))
+            t.demands(["audit", it, season, str(k), log], *audited(late, C4_TEXT, k, AWAY_LATE_LOG))
     one = [(1, 2, 0)]
     lists = [C4 * 800, one * 10_000, one * 10_001, [], [it for it in C4 if it[2] > 2], C4 + one * 9_000, C4[:3], C4[1:]]
     pairs = [(i, j) for i in range(4) for j in range(4) if i != j]
     lists += [[(i, j, s) for s in range(6) for i, j in pairs], [(i, j, 5) for i, j in pairs]]
     leagues_of = [I4, late, instance_text(4, False), instance_text(4, True, [NO_HOME])]
     for text in leagues_of:
-        it = t.path("league.xml", text)
+        it = t.fresh("league.xml", text)
         for games in lists:
             solution = season_text(games)
-            path = t.path("played.xml", solution)
+            path = t.fresh("played.xml", solution)
             proves(t, text, solution, 1, [it, path])
             for k in range(8):
                 for limit in (0, 1, "all"):
-                    ran = resumes(t, text, solution, k, limit, [it, path])
-                own = ran.out if ran.status == 4 else AWAY_LATE_LOG
-                log = t.path("played.log", own)
-                t.answers(["audit", it, path, str(k), log], *audited(text, solution, k, own), files=[it, path, log])
+
+                    def audits(ran, text=text, solution=solution, k=k, files=(it, path)):
+                        own = ran.out if ran.status == 4 else AWAY_LATE_LOG
+                        log = t.fresh("played.log", own)
+                        t.demands(["audit", *files, str(k), log], *audited(text, solution, k, own), files=[*files, log])
+
+                    resumes(t, text, solution, k, limit, [it, path], audits)
 
 
 def order(t):
@@ -508,15 +523,15 @@ def order(t):
                     told = next((it for it in [*stages, *[it[1] for it in rest]] if it), None)
                     words = [command, first[0], rest[0][0], *([k[0]] if k else []), *[it[0] for it in rest[1:]]]
                     if told or command == "bound":
-                        t.answers(words, *(told or own))
+                        t.demands(words, *(told or own))
                     elif command == "resume":
                         resumes(t, late, C4_TEXT, 3, None, words[1:3])
                     elif command == "prove":
                         proves(t, late, C4_TEXT, None, words[1:3])
                     elif command == "audit":
-                        t.answers(words, *audited(late, C4_TEXT, 3, AWAY_LATE_LOG))
+                        t.demands(words, *audited(late, C4_TEXT, 3, AWAY_LATE_LOG))
                     else:
-                        t.answers(words, 1, None)
+                        t.demands(words, 1, None)
 
 
 def full(k, extra):
@@ -650,20 +665,20 @@ def words_of(t):
             option = ["--conflicts", value]
             for place in range(len(rest) + 3):
                 words = [command, *[absent, "b", *rest][:place], *option, *[absent, "b", *rest][place:]]
-                t.answers(words, *told(words))
+                t.demands(words, *told(words))
         for words in (["resume", absent, "b", value], ["audit", absent, "b", value, "c"]):
-            t.answers(words, *told(words))
-            t.answers([words[0], absent, value, *words[2:3]], *told([words[0], absent, value, *words[2:3]]))
+            t.demands(words, *told(words))
+            t.demands([words[0], absent, value, *words[2:3]], *told([words[0], absent, value, *words[2:3]]))
         for option in ("--moves", "--tries", "--patterns", "--seed", "--k", "--bound"):
             for command, rest in (("prove", []), ("resume", ["3"])):
                 words = [command, absent, "b", *rest, option, value]
-                t.answers(words, *told(words))
+                t.demands(words, *told(words))
     rng = random.Random(t.seed)
     pool = [*forms.COMMANDS, *forms.SOLVE, *numbers, "2", "3", "100", absent, absent, absent, "a", "b", "3", "--", "-x"]
     for _ in range(max(t.cases // 10, 200)):
         command = rng.choice(["prove", "bound", "resume", "audit"])
         words = [command, absent] + [rng.choice(pool) for _ in range(rng.randint(0, 6))]
-        t.answers(words, *told(words))
+        t.demands(words, *told(words))
         if forms.are_words(words):
             continue
         rest = {"prove": ["b"], "bound": ["b"], "resume": ["b", "3"], "audit": ["b", "3", "c"]}[command]
@@ -671,7 +686,7 @@ def words_of(t):
             place = rng.randint(0, len(rest))
             rest[place:place] = ["--conflicts", rng.choice(numbers)]
         words = [command, absent, *rest]
-        t.answers(words, *told(words))
+        t.demands(words, *told(words))
 
 
 def places(t):
@@ -683,14 +698,14 @@ def places(t):
     os.symlink(broken, broken)
     for name in (absent, directory, broken, "", it + "/x", "/proc/self/mem", "/dev/tty"):
         for words in (["prove", name, season], ["bound", name, log], ["resume", name, season, "3"]):
-            t.answers(words, 6, "read fault instance\n")
-        t.answers(["audit", name, season, "3", log], 6, "read fault instance\n")
+            t.demands(words, 6, "read fault instance\n")
+        t.demands(["audit", name, season, "3", log], 6, "read fault instance\n")
         for words in (["prove", it, name], ["resume", it, name, "3"], ["audit", it, name, "3", log]):
-            t.answers(words, 6, "read fault solution\n")
+            t.demands(words, 6, "read fault solution\n")
         for words in (["bound", it, name], ["audit", it, season, "3", name]):
-            t.answers(words, 6, "read fault log\n")
-        t.answers(["resume", it, name, "7"], 3, "refused slot 7\n")
-        t.answers(["audit", it, name, "7", name], 3, "refused slot 7\n")
+            t.demands(words, 6, "read fault log\n")
+        t.demands(["resume", it, name, "7"], 3, "refused slot 7\n")
+        t.demands(["audit", it, name, "7", name], 3, "refused slot 7\n")
     null, zero = "/dev/null", "/dev/zero"
     for words, status, told in (
         (["bound", it, null], 3, "refused log NoEnd line 1\n"),
@@ -709,7 +724,7 @@ def places(t):
         (["prove", season, season], 3, "refused instance BadNesting line 2\n"),
         (["prove", it, it], 3, "refused solution BadNesting line 2\n"),
     ):
-        t.answers(words, status, told)
+        t.demands(words, status, told)
 
 
 def stands(t):
@@ -804,15 +819,16 @@ def reshown(t):
             instance = changed_file(rng, instance, [rng.choice(pairs)[0]])
         if rng.random() < 0.4:
             solution = changed_file(rng, solution, [rng.choice(pairs)[1]])
-        files = [t.path("league.xml", instance), t.path("season.xml", solution)]
+        files = [t.fresh("league.xml", instance), t.fresh("season.xml", solution)]
         limit = rng.choice([0, 1, 2, 4])
+        count = lambda ran: kinds.update([ran.status])
         if rng.random() < 0.5:
-            ran = proves(t, instance, solution, limit, files)
+            proves(t, instance, solution, limit, files, count)
         else:
-            ran = resumes(t, instance, solution, rng.randint(0, 7), limit, files)
-        kinds[ran.status] += 1
+            resumes(t, instance, solution, rng.randint(0, 7), limit, files, count)
         if number % 1000 == 0:
             print(f"    {number} changed, {t.differences[t.group]} differences", flush=True)
+    t.flush()
     print("    " + ", ".join(f"status {it}: {count}" for it, count in sorted(kinds.items())), flush=True)
 
 

@@ -334,8 +334,7 @@ def memory(t):
         t.must(is_lawful(words[0], plain.status, plain.out.decode()), shown, plain)
         for kind in ("at", "first"):
             statuses = []
-            for k in range(1, plain.calls[0] + 2):
-                ran = under(t, words, **{kind: (k, 0, 0, 0)})
+            for k, ran in enumerate(t.server.each(words, kind, 0, plain.calls[0] + 1), 1):
                 statuses.append(ran.status)
                 own = (ran.status, ran.out) == (plain.status, plain.out)
                 t.must(own or (ran.status, ran.out, ran.err) == (8, b"", b""), shown, kind, k, ran)
@@ -352,20 +351,19 @@ def faults(t):
         t.must(same(under(t, words, most=1)), shown, "byte by byte")
         for place, what in ((1, "open"), (2, "read")):
             told = []
-            for k in range(1, plain.calls[place] + 2):
-                ran = under(t, words, at=tuple(k if it == place else 0 for it in range(4)))
+            for k, ran in enumerate(t.server.each(words, "at", place, plain.calls[place] + 1), 1):
                 is_read = ran.status == 6 and ran.out in [f"read fault {it}\n".encode() for it in names]
                 t.must(same(ran) if k > plain.calls[place] else is_read, shown, what, k, ran)
                 told.append(f"{ran.status} {ran.out.split()[-1].decode()}" if is_read else str(ran.status))
             if names:
                 print(f"    {shown}: the Nth {what} fails: {ranges(told)}", flush=True)
-        for k in range(1, plain.calls[3] + 2):
-            ran = under(t, words, at=(0, 0, 0, k))
+        for k, ran in enumerate(t.server.each(words, "at", 3, plain.calls[3] + 1), 1):
             is_cut = ran.status == 7 and plain.out.startswith(ran.out) and ran.out != plain.out
             t.must(same(ran) if k > plain.calls[3] else is_cut, shown, "write", k, ran)
-        for k in [*range(1, min(len(plain.out), 40) + 1), len(plain.out)]:
-            ran = under(t, words, at=(0, 0, 0, k), most=1)
+        for k, ran in enumerate(t.server.each(words, "at", 3, min(len(plain.out), 40), most=1), 1):
             t.must((ran.status, ran.out) == (7, plain.out[: k - 1]), shown, "write of a byte", k, ran)
+        ran = under(t, words, at=(0, 0, 0, len(plain.out)), most=1)
+        t.must((ran.status, ran.out) == (7, plain.out[:-1]), shown, "write of the last byte", ran)
 
 
 def devices(t):
@@ -717,6 +715,7 @@ def main():
             t.group, t.cases, t.seed, t.only = group.__name__, said.cases, said.seed, said.only and said.only.split(",")
             began = time.monotonic()
             group(t)
+            t.flush()
             t.server.end()
             count, wrong = t.count[t.group], t.differences[t.group]
             print(f"{t.group}: {count} cases, {wrong} differences, {time.monotonic() - began:.0f} s", flush=True)
