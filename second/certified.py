@@ -295,7 +295,7 @@ def conflicting(t):
             files = [t.path(f"late-{number}.xml", instance), t.path(f"played-{number}-{place}.xml", solution)]
             said = []
             for k in range(leagues.slots_of(n) + 1):
-                for limit in (0, 1, "all"):
+                for limit in (0, 1, "all") if place < 2 else (0, "all"):
                     resumes(t, instance, solution, k, limit, files, lambda ran, k=k: said.append((k, ran)))
             t.flush()
             for k, log in dict((k, ran.out) for k, ran in said if ran.status == 4).items():
