@@ -4,8 +4,10 @@ python3 second/compare.py PROGRAM [--seed N] [--rounds N] [--teams N] [--conflic
 
 PROGRAM is robin as it was built. Each round draws a league of up to so many teams, with constraints of all classes,
 and compares: the report on seasons that are round robins and on lists that aren't; what `solve` says (a season is
-judged, its trail taken backwards move by move, a log checked step by step here and by `robin check`); what
-`patterns` says; what `explain` says (the log over the part's own rows, each season of a case); and, for logs with one number changed, the verdict of `robin check`.
+judged, its trail taken backwards move by move, a log checked step by step here and by `robin check`); what `patterns`
+says; what `explain` says (the log over the part's own rows, each season of a case); what `prove` and `resume` say
+(a season and its objective, a certificate or log here and by `robin bound` and `robin audit`); and, for logs and
+certificates with one number changed, the verdict of `robin check`, `bound` and `audit`.
 """
 
 import argparse
@@ -60,7 +62,8 @@ def drawn_class(rng, n):
         return name, {"meetings": text, **bounds, "slots": joined(some(rng, slots))}
     intp = rng.randint(0, 3)
     if name == "BR1":
-        return name, {"teams": joined(some(rng, teams)), "intp": intp, "mode1": "LEQ", "mode2": side, "slots": all_slots}
+        at = {"teams": joined(some(rng, teams)), "intp": intp, "mode1": "LEQ", "mode2": side}
+        return name, {**at, "slots": all_slots}
     if name == "BR2":
         most = n * (n - 2)
         return name, {"teams": joined(teams), "intp": rng.randint(0, most), "mode2": "LEQ", "slots": all_slots}
@@ -232,6 +235,86 @@ class Round:
         else:
             self.conflict(text)
 
+    def asked(self, *words):
+        return run(self.program, *words, "--conflicts", self.conflicts)
+
+    def better(self):
+        """From the circle method's season, or one that is found, by what `prove` says to its end."""
+        status, text = self.asked("solve", self.path)
+        if status != 0:
+            return
+        games, softened = leagues.read_season(text), rows.softened_rows(self.league)
+        for _ in range(200):
+            path = self.write("season.xml", season_text(games))
+            objective = leagues.sums(self.league, games)[1]
+            status, text = self.asked("prove", self.path, path)
+            self.must(f"prove ended with {status}", status in (0, 5, 9), status, text)
+            if status != 9:
+                break
+            games = leagues.read_season(text)
+            now = leagues.sums(self.league, games)[1]
+            self.must("better", leagues.is_accepted(self.league, games) and now < objective, now, objective)
+            told = int(re.search(r'objective="(\d+)"', text)[1])
+            self.must("better objective", now == told, now, told)
+        if status == 5:
+            verdict = logs.check(*rows.with_bound(softened, objective - 1), logs.read_log(text))
+            self.must("prove as spent", objective and verdict.endswith("NoEmptyClause"), verdict)
+        else:
+            self.certificate(text, objective, softened)
+
+    def certificate(self, text, objective, softened):
+        first, rest = text.split("\n", 1)
+        self.must("bound line", first == f"bound {objective}" and bool(rest) == (objective > 0), first, objective)
+        for bound, log in [(objective, rest), *[self.changed(objective, rest) for _ in range(6 if rest else 0)]]:
+            path = self.write("certificate", f"bound {bound}\n{log if bound else ''}")
+            answer = run(self.program, "bound", self.path, path)
+            steps = logs.read_log(log) if bound else []
+            verdict = logs.check(*rows.with_bound(softened, bound - 1), steps) if bound else "accepted steps 0"
+            verdict = verdict.replace("accepted", f"accepted bound {bound}")
+            is_same = answer == (0 if verdict[0] == "a" else 1, verdict + "\n")
+            self.must("verdict on a certificate", is_same, answer, verdict)
+            if (bound, log) == (objective, rest):
+                self.must("certificate accepted", verdict[0] == "a", verdict)
+
+    def changed(self, number, log):
+        """A log with one number changed, or the number beside it."""
+        found = list(re.finditer(r"(?<= )[1-9]\d*(?= )", log))
+        if self.rng.random() < 0.3 or not found:
+            return max(number + self.rng.choice([-2, -1, 1, 2]), 0), log
+        at = self.rng.choice(found)
+        other = self.rng.choice([int(at[0]) + 1, self.rng.randint(1, 400), max(int(at[0]) - 1, 1)])
+        return number, log[: at.start()] + str(other) + log[at.end() :]
+
+    def resumed(self):
+        """A season by the circle method or by moves from it, kept up to a slot; games may stand twice, or one lack."""
+        games = self.rng.choice(list(self.seasons())[:2])
+        if self.rng.random() < 0.2:
+            games = games + self.rng.sample(games, 2)
+        if self.rng.random() < 0.1:
+            games = games[1:]
+        k = self.rng.randint(0, leagues.slots_of(self.n))
+        path = self.write("played.xml", season_text(games))
+        status, text = self.asked("resume", self.path, path, k)
+        self.must(f"resume ended with {status}", status in (0, 4, 5), status, text)
+        if status == 0:
+            found = leagues.read_season(text)
+            early = lambda of: {it for it in of if it[2] < k}
+            is_kept = early(found) == early(games)
+            self.must("resumed season", leagues.is_accepted(self.league, found) and is_kept, k, text)
+            told = int(re.search(r'objective="(\d+)"', text)[1])
+            self.must("resumed objective", told == leagues.sums(self.league, found)[1], told)
+            return
+        for upto, log in [(k, text), *[self.changed(k, text) for _ in range(6)]]:
+            answer = run(self.program, "audit", self.path, path, upto, self.write("log", log))
+            if upto > leagues.slots_of(self.n):
+                self.must("slot", answer == (3, f"refused slot {upto}\n"), answer)
+                continue
+            verdict = logs.check(*rows.resume_rows(self.league, games, upto), logs.read_log(log))
+            self.must("verdict of audit", answer == (0 if verdict[0] == "a" else 1, verdict + "\n"), answer, verdict)
+            if (upto, log) == (k, text):
+                proves = verdict[0] == "a" if status == 4 else verdict.endswith("NoEmptyClause")
+                self.must("resume proves" if status == 4 else "resume as spent", proves, verdict)
+
     def conflict(self, text):
         first, second, rest = text.split("\n", 2)
         members = [int(word) for word in first.split(" ")[1:]]
@@ -274,6 +357,8 @@ def main():
             it.solve()
             it.patterns()
             it.explain()
+            it.better()
+            it.resumed()
             for what, count in it.counted.items():
                 total[what] = total.get(what, 0) + count
     for what in sorted(total):

@@ -17,12 +17,16 @@ LINE = 16_777_216
 
 
 class Fault(Exception):
+    """The first fault of a file: its kind and line."""
+
     def __init__(self, kind, line):
         super().__init__(kind, line)
         self.kind, self.line = kind, line
 
 
 class Piece:
+    """A tag's start or end with its name and attributes, or a text; and its line."""
+
     def __init__(self, kind, name, at, text, line):
         self.kind, self.name, self.at, self.text, self.line = kind, name, at, text, line
 
@@ -56,6 +60,8 @@ def pieces(text):
 
 
 def tag(text, place, line):
+    """The tag that begins at a place: its kind, name, attributes, and the place behind it."""
+
     def here():
         if place >= len(text):
             raise Fault("Truncated", line)
@@ -103,6 +109,7 @@ def tag(text, place, line):
 
 
 def number(value, line):
+    """The number that digits say, leading zeros taken."""
     if not re.fullmatch(rb"[0-9]+", value):
         raise Fault("BadNumber", line)
     digits = value.lstrip(b"0") or b"0"
@@ -112,6 +119,7 @@ def number(value, line):
 
 
 def below(value, limit, kind, line):
+    """A number that has to be below a limit, or the fault of this kind."""
     found = number(value, line)
     if found >= limit:
         raise Fault(kind, line)
@@ -119,6 +127,7 @@ def below(value, limit, kind, line):
 
 
 def items(value):
+    """The items of a list that are joined by `;`, with one more `;` taken behind the last."""
     return [] if not value else (value[:-1] if value.endswith(b";") else value).split(b";")
 
 
@@ -129,14 +138,17 @@ class At:
         self.at, self.line, self.n = piece.at, piece.line, n
 
     def text(self, key):
+        """The value of an attribute that has to be there."""
         if key not in self.at:
             raise Fault("MissingAttribute", self.line)
         return self.at[key]
 
     def number(self, key, absent=None):
+        """A number, or what it is where the attribute may be absent."""
         return absent if absent is not None and key not in self.at else number(self.text(key), self.line)
 
     def choice(self, key, *words, absent=None):
+        """One of some words."""
         if absent and key not in self.at:
             return absent
         if self.text(key) not in words:
@@ -144,18 +156,23 @@ class At:
         return self.at[key].decode()
 
     def team(self, key):
+        """A team of the league."""
         return below(self.text(key), self.n, "UnknownTeam", self.line)
 
     def slot(self, key):
+        """A slot of the season."""
         return below(self.text(key), 2 * (self.n - 1), "UnknownSlot", self.line)
 
     def teams(self, key):
+        """A set of teams."""
         return sorted({below(it, self.n, "UnknownTeam", self.line) for it in items(self.text(key))})
 
     def slots(self, key=b"slots"):
+        """A set of slots."""
         return sorted({below(it, 2 * (self.n - 1), "UnknownSlot", self.line) for it in items(self.text(key))})
 
     def meetings(self, key):
+        """A set of meetings."""
         found = set()
         for item in items(self.text(key)):
             if item.count(b",") != 1:
@@ -168,6 +185,7 @@ class At:
 
 
 def constraint(piece, n):
+    """The constraint of a tag of one of the nine classes; its attributes are read in the order of the rules."""
     it, name = At(piece, n), piece.name.decode()
     kind = it.choice(b"type", b"HARD", b"SOFT")
     penalty = it.number(b"penalty", 1)
@@ -223,18 +241,21 @@ class Reader:
         self.pieces = pieces(text)
 
     def next(self):
+        """The next piece; the end of the file is a fault."""
         piece = next(self.pieces)
         if piece.kind is None:
             raise Fault("Truncated", piece.line)
         return piece
 
     def tag(self):
+        """The next tag; text is passed over."""
         while True:
             piece = self.next()
             if piece.kind != "Text":
                 return piece
 
     def skip(self, name):
+        """Passes over an element, up to the first end of its name."""
         while True:
             piece = self.next()
             if piece.kind == "End" and piece.name == name:
@@ -261,11 +282,13 @@ class Reader:
             yield piece
 
     def close(self, piece):
+        """The end of an element in which no tag may stand."""
         found = self.tag()
         if found.kind != "End" or found.name != piece.name:
             raise Fault("BadNesting", found.line)
 
     def value(self, piece):
+        """The text of a value element, without white bytes at its ends."""
         text = b""
         while True:
             found = self.next()
@@ -277,23 +300,29 @@ class Reader:
                 raise Fault("BadNesting", found.line)
 
     def root(self, name):
+        """The root's start, which has to be the first tag."""
         found = self.tag()
         if found.kind != "Start" or found.name != name:
             raise Fault("BadNesting", found.line)
 
     def last(self):
+        """What stands behind the root: no tag."""
         for piece in self.pieces:
             if piece.kind in ("Start", "End"):
                 raise Fault("BadNesting", piece.line)
 
     def need(self, *names):
+        """Elements that have to be there, told at the end of the one around them."""
         missing = [it for it in names if it not in self.had]
         if missing:
             raise Fault("MissingElement", self.ended)
 
 
 class InstanceReader(Reader):
+    """The walk over an instance file, element by element."""
+
     def league(self):
+        """The league of the file."""
         self.root(b"Instance")
         had, self.n, self.phased, self.found = set(), None, False, []
         parts = (b"Structure", b"Resources", b"Constraints")
@@ -313,6 +342,7 @@ class InstanceReader(Reader):
         return League(self.n, self.phased, self.found)
 
     def structure(self):
+        """What stands in `Structure`."""
         had = set()
         for _ in self.inside(b"Structure", (b"Format",), (b"Format",)):
             had.add(b"Format")
@@ -321,6 +351,7 @@ class InstanceReader(Reader):
         self.need(b"Format")
 
     def format(self):
+        """The three values of `Format`."""
         had, values = set(), (b"numberRoundRobin", b"compactness", b"gameMode")
         for piece in self.inside(b"Format", values, values):
             had.add(piece.name)
@@ -339,6 +370,7 @@ class InstanceReader(Reader):
         self.need(*values[:2])
 
     def resources(self):
+        """The ids of teams and slots."""
         had, lists = set(), (b"Teams", b"Slots")
         ids = {it: [] for it in lists}
         for piece in self.inside(b"Resources", lists, lists):
@@ -356,6 +388,7 @@ class InstanceReader(Reader):
         self.n = n
 
     def constraints(self):
+        """The constraints of the groups."""
         for piece in self.inside(b"Constraints", GROUPS, none_else=True):
             for each in self.inside(piece.name, CLASSES, none_else=True):
                 if len(self.found) == CONSTRAINTS:
@@ -365,10 +398,12 @@ class InstanceReader(Reader):
 
 
 def read_instance(text):
+    """The league of an instance file."""
     return InstanceReader(text).league()
 
 
 def read_solution(text, n):
+    """The games of a solution file, of a league of n teams."""
     reader, games, had = Reader(text), [], set()
     reader.root(b"Solution")
     for piece in reader.inside(b"Solution", (b"Games",), (b"Games",)):
@@ -396,6 +431,7 @@ FORMS = {
 
 
 def step_of(line, forms, place):
+    """The step of one line: its shape is judged whole, then the sizes of its numbers."""
     if not any(form.fullmatch(line) for form in forms):
         raise Fault("BadLine", place)
     words = line.split(b" ")
@@ -436,15 +472,37 @@ def read_log(text):
             steps.append(step_of(words, forms, line))
 
 
+def read_certificate(text):
+    """The stated bound and the steps behind it; lines are counted from the first."""
+    found = text.find(b"\n")
+    if found < 0:
+        raise Fault("NoEnd", 1)
+    stated = re.fullmatch(rb"bound (0|[1-9][0-9]{0,19})", text[:found])
+    if not stated or int(stated[1]) >= 2**64:
+        raise Fault("BadLine", 1)
+    bound, rest = int(stated[1]), text[found + 1 :]
+    if bound == 0:
+        if rest:
+            raise Fault("BadLine", 2)
+        return 0, []
+    try:
+        return bound, read_log(rest)
+    except Fault as fault:
+        raise Fault(fault.kind, fault.line + 1) from None
+
+
 def is_number(word, least=0, most=2**64 - 1):
+    """Whether a word is a number without leading zeros, in a range."""
     return bool(re.fullmatch(r"0|[1-9][0-9]*", word)) and len(word) <= 20 and least <= int(word) <= most
 
 
 def is_team_count(word):
+    """Whether a word is an even number of teams, from 2 to 40."""
     return is_number(word, 2, TEAMS) and int(word) % 2 == 0
 
 
 def is_list(word):
+    """Whether a word is numbers from 1 that rise strictly, joined by `;`."""
     parts = word.split(";")
     if not all(is_number(it, 1, LARGEST) for it in parts):
         return False
@@ -468,6 +526,10 @@ COMMANDS = {
     "patterns": ([is_file], CONFLICTS),
     "explain": ([is_file], CONFLICTS),
     "part": ([is_file, is_list], {}),
+    "prove": ([is_file, is_file], CONFLICTS),
+    "bound": ([is_file, is_file], {}),
+    "resume": ([is_file, is_file, is_number], CONFLICTS),
+    "audit": ([is_file, is_file, is_number, is_file], {}),
     "circle": ([is_team_count], {}),
     "make": ([is_team_count, is_number], {}),
     "trial": ([is_team_count, is_number], SOLVE),

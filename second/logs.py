@@ -80,6 +80,58 @@ def clause_row(clause):
     return [(1, lit) for lit in distinct], 1
 
 
+def places_of(rows):
+    """For each variable the places of the rows that it stands in."""
+    where = {}
+    for place, (terms, _) in enumerate(rows):
+        for _, lit in terms:
+            where.setdefault(abs(lit), []).append(place)
+    return where
+
+
+def settled(rows, values, where):
+    """The values with all that the rows force under them, or None where a row is then in conflict."""
+    values, todo, waits = dict(values), list(range(len(rows))), [True] * len(rows)
+    while todo:
+        place = todo.pop()
+        waits[place] = False
+        terms, degree = rows[place]
+        slack = reach(terms, values) - degree
+        if slack < 0:
+            return None
+        for coef, lit in terms:
+            if coef > slack and abs(lit) not in values:
+                values[abs(lit)] = lit > 0
+                later = [it for it in where[abs(lit)] if not waits[it]]
+                todo += later
+                for it in later:
+                    waits[it] = True
+    return values
+
+
+def is_empowering(clause, rows, where):
+    """Whether a quiet assignment leaves a literal of the clause free and has all others false: the least one that has
+    them false is what the rows force, since each quiet one holds it."""
+    for lit in set(clause):
+        others = set(clause) - {lit}
+        if lit and not any(-it in clause for it in clause):
+            values = settled(rows, {abs(it): it < 0 for it in others}, where)
+            if values is not None and abs(lit) not in values:
+                return True
+    return False
+
+
+def is_spent(count, rows, steps, limit):
+    """Whether a log is spent at a limit over rows: so many clauses, each of which follows and is empowering, and a
+    quiet assignment over all."""
+    rows = list(rows)
+    for kind, clause, hints in steps:
+        if kind != "c" or follow_clause(clause, hints, rows, count) or not is_empowering(clause, rows, places_of(rows)):
+            return False
+        rows.append(clause_row(clause))
+    return len(steps) == limit and settled(rows, {}, places_of(rows)) is not None
+
+
 def check(count, rows, steps):
     rows = list(rows)
     last = False

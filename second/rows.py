@@ -177,15 +177,51 @@ def resume_rows(league, played, upto):
     return count, rows
 
 
-def softened_rows(league):
-    """The rows of the accepted seasons with the softened rows of what is paid for, the units with their penalties, and the order rows."""
+def bound_base(league):
+    """The league of the hard constraints, in which breaks have variables if one that is paid for bounds them; and what
+    is paid for."""
     base = [it for it in league.constraints if it.hard]
     softs = [it for it in league.constraints if not it.hard and it.penalty >= 1]
     has = any(it.name in ("BR1", "BR2") for it in base)
     if not has and any(it.name in ("BR1", "BR2") for it in softs):
         at = {"teams": [], "slots": [], "intp": 0, "mode2": "HA"}
         base = [*base, Constraint("BR1", True, 1, at)]
-    league = League(league.n, league.phased, base)
+    return League(league.n, league.phased, base), softs
+
+
+def size_of(rows):
+    return sum(len(terms) for terms, _ in rows)
+
+
+def bound_size(league):
+    """How many terms the bound rows have; no unit is listed, so that there may be many."""
+    league, softs = bound_base(league)
+    v = Numbers(league)
+    size = size_of(league_rows(league)[1])
+    for it in softs:
+        if it.name == "SE1":
+            size += separation_size(it.at["min"], v.slots) * len(list(combinations(it.at["teams"], 2)))
+            continue
+        for key in unit_groups(it, v):
+            for units, group in key:
+                size += sum(len(terms) + units for terms, degree in group if degree > 0)
+                size += units + 2 * max(units - 1, 0)
+    return size
+
+
+def separation_size(least, slots):
+    """The terms of a pair's softened rows and of its units in the objective row: a unit for each of the least slots."""
+    alike = min(least, max(least - slots + 2, 0))
+    size = alike * (2 * slots + 2)
+    for length in range(2, min(least + 2, slots)):
+        size += (slots - length + 1) * (2 * length + 1) + 1
+    return size
+
+
+def softened_rows(league):
+    """The rows of the accepted seasons with the softened rows of what is paid for, the units with their penalties, and
+    the order rows."""
+    league, softs = bound_base(league)
     v = Numbers(league)
     count, rows = league_rows(league)
     priced, orders = [], []
@@ -204,10 +240,14 @@ def softened_rows(league):
 
 def bound_rows(league, bound):
     """The rows whose solutions are the accepted seasons of an objective of at most the bound."""
-    count, rows, priced, orders = softened_rows(league)
+    return with_bound(softened_rows(league), bound)
+
+
+def with_bound(softened, bound):
+    """The bound rows of softened rows: with the objective row, and the order rows behind it."""
+    count, rows, priced, orders = softened
     total = sum(penalty for penalty, _ in priced)
-    rows.append(([(penalty, -unit) for penalty, unit in priced], max(total - bound, 0)))
-    return count, rows + orders
+    return count, [*rows, ([(penalty, -unit) for penalty, unit in priced], max(total - bound, 0)), *orders]
 
 
 def unit_groups(constraint, v):
@@ -253,7 +293,8 @@ def plain_opb(count, rows, priced=None):
 
 def program(count, rows, priced=None):
     """The rows as an integer program in the form of CPLEX (LP)."""
-    lines = ["minimize", "objective: " + " ".join(f"+{coef} x{unit}" for coef, unit in priced or [(0, 1)]), "subject to"]
+    cost = " ".join(f"+{coef} x{unit}" for coef, unit in priced or [(0, 1)])
+    lines = ["minimize", "objective: " + cost, "subject to"]
     for number, row in enumerate(rows, 1):
         terms, degree = signed(*row)
         words = [f"{coef:+} x{variable}" for coef, variable in terms]
