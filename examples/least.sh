@@ -16,7 +16,7 @@ instance=$1
 name=$3
 conflicts=${4:-all}
 answer=$name.answer
-cp "$2" "$name.xml" || exit 6
+cmp -s "$2" "$name.xml" || cp "$2" "$name.xml" || exit 6
 while true; do
   "$robin" prove "$instance" "$name.xml" --conflicts "$conflicts" >"$answer"
   status=$?
