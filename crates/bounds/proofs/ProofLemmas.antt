@@ -28,8 +28,10 @@ use Rattle.log_lines.proofs.LineLemmas.{step_named}
 use Rattle.pattern_search.proofs.LogLemmas.{refuted-clauses}
 use Rattle.pattern_search.proofs.NewsLemmas.{news-clauses}
 use Rattle.descent.specs.Descended.{Descended}
-use Rattle.solve.specs.Solutions.{IsSchedule}
+use Rattle.descent.specs.Settled.{IsSettled}
+use Rattle.solve.specs.Solutions.{IsSchedule, league_score}
 use Rattle.solve.proofs.GameLemmas.{accepted_few, decoded_fit}
+use Rattle.solve.proofs.LowerLemmas.{IsSchedule-settled}
 use Rattle.bound_base.specs.BoundRows.{base_vars, bound_rows, bound_size, bound_vars, has_paid_breaks}
 use Rattle.bound_base.specs.BoundRows.{needs_breaks}
 use Rattle.bound_laws.proofs.CostLaws.{costs-bounded}
@@ -160,13 +162,23 @@ least-of league m limit cost steps is costs some refutes = record {
 }
 
 pub spent-of : (league : Instance) (m : Counts) (limit : Option ℕ) (cost : ℕ) (steps : List Step)
-    → objective league m ≡ cost → 1 ≤ cost → IsSpentAt (bound_rows league (cost - 1)) (bound_vars league) limit steps
+    → objective league m ≡ cost → IsSettled league.n league.phased (league_score league) m → 1 ≤ cost → IsSpentAt (bound_rows league (cost - 1)) (bound_vars league) limit steps
     → IsSpentBelow league m limit steps
-spent-of league m limit cost steps costs some spent = record {
+spent-of league m limit cost steps costs settled some spent = record {
   some = omega (arith, costs, some);
+  settled = settled;
   spent = subst (λ (c : ℕ). IsSpentAt (bound_rows league (c - 1)) (bound_vars league) limit steps) (sym costs) spent;
   named = spent-named (bound_rows league (cost - 1)) (bound_vars league) limit steps spent;
 }
+
+-- a descent that doesn't better a schedule leaves no move that does
+pub settled-of : (league : Instance) (m : Counts) (moves cost : ℕ) (games : List Game) (descent : Descended)
+    → IsSchedule league moves games cost descent → counts_of descent.first ≡ m → 1 ≤ moves → objective league m ≤ cost
+    → IsSettled league.n league.phased (league_score league) m
+settled-of league m moves cost games descent is first some none_lower =
+    subst (λ (k : Counts). IsSettled league.n league.phased (league_score league) k) first
+    (IsSchedule-settled league moves cost games descent is some
+    (subst (λ (k : Counts). objective league k ≤ cost) (sym first) none_lower))
 
 pub least_of_none : (league : Instance) (m : Counts) (limit : Option ℕ) → objective league m ≡ 0
     → IsLeast league m limit 0 []

@@ -10,6 +10,8 @@ use Rattle.league.specs.Order.{IsInOrder}
 use Rattle.league.specs.declared.game.Game.{Game}
 use Rattle.refutation.specs.Steps.{NamesRows, Step}
 use Rattle.clause_search.specs.Answers.{IsSpentAt, Refutes}
+use Rattle.descent.specs.Settled.{IsSettled}
+use Rattle.solve.specs.Solutions.{league_score}
 use Rattle.bound_base.specs.BoundRows.{bound_rows, bound_vars}
 use Rattle.bound_laws.specs.Faithful.{IsLowerBound}
 use Rattle.bounds.specs.declared.proved.Proved.{Proved}
@@ -33,10 +35,11 @@ pub record IsBetter (league : Instance) (m : Counts) (games : List Game) (object
   pub cost : objective ≡ costs.objective league (counts_of games)
   pub lower : objective < costs.objective league m
 
--- The schedule's objective is above 0, and the log is spent at the limit over the bound rows of one less; its text can
--- be written.
+-- The schedule's objective is above 0, no single legal move betters it, and the log is spent at the limit over the bound
+-- rows of one less; its text can be written.
 pub record IsSpentBelow (league : Instance) (m : Counts) (limit : Option ℕ) (steps : List Step) : Type 0 where
   pub some : 1 ≤ costs.objective league m
+  pub settled : IsSettled league.n league.phased (league_score league) m
   pub spent : IsSpentAt (bound_rows league (costs.objective league m - 1)) (bound_vars league) limit steps
   pub named : All NamesRows steps
 

@@ -23,6 +23,9 @@ pub(crate) struct Season {
 }
 
 /// The schedule to which a descent of at most so many moves leads from an accepted one.
+///
+/// # Errors
+/// Only where memory runs out.
 pub(crate) fn lowered(
     alloc: Global,
     league: &League,
@@ -32,8 +35,9 @@ pub(crate) fn lowered(
     requires accepted { IsAccepted league.now (counts_of start.now) }
     requires fit { All (IsGame league.now.n) start.now }
     requires few { length start.now ≤ 10000 }
-    ensures { IfOk result (λ season.
+    ensures descends { IfOk result (λ season.
         IsSchedule league.now moves season.schedule season.objective season.descent) }
+    ensures first { IfOk result (λ season. counts_of season.descent.first ≡ counts_of start.now) }
 {
     let mut steps = Steps::<Plain>::start();
     let mut tally = league_tally(alloc, league, 1, start.games(), &mut steps)?;

@@ -8,6 +8,8 @@ ghost use Rattle.league.specs.Counts.{Counts, counts_of};
 ghost use Rattle.league.specs.Instance.{IsGame};
 ghost use Rattle.rows.specs.Rows.{SatisfiesAll};
 ghost use Rattle.rows.specs.Values.{assigned};
+ghost use Rattle.descent.specs.Settled.{IsSettled};
+ghost use Rattle.solve.specs.Solutions.{league_score};
 ghost use Rattle.bound_base.specs.BoundRows.{bound_rows, bound_size, bound_vars};
 ghost use Rattle.encoding.specs.Capped.{capped};
 ghost use Rattle.bounds.specs.Lower.{IsLower};
@@ -31,7 +33,8 @@ const MOVES: u64 = 1_000_000;
 ///
 /// A descent goes on from the schedule by moves. Where that betters it, the schedule to which it leads is the answer, and
 /// else what a search over the bound rows of one less finds, which learns at most so many clauses: from a schedule that
-/// it finds a descent goes on, too. What is found first is not promised.
+/// it finds a descent goes on, too. So the budget is spent only where no single move betters the schedule. What is found
+/// first is not promised.
 ///
 /// # Errors
 /// `TooLarge` only where the bound rows have more than 40,000,000 terms, with their number as far as a number of 64 bits
@@ -125,7 +128,7 @@ fn bettered(lower: Season) -> Proved
     }
 }
 
-/// The answer of a search over the bound rows of one less than an objective.
+/// The answer of a search over the bound rows of one less than an objective, of a schedule that no single move betters.
 fn searched(
     alloc: Global,
     league: &League,
@@ -134,6 +137,7 @@ fn searched(
 ) -> Result<Proved, EncodeFault>
     requires some { 1 ≤ objective }
     ensures proved { IfOk result (λ proved. (m : Counts) → costs.objective league.now m ≡ objective
+        → IsSettled league.now.n league.now.phased (league_score league.now) m
         → IsProved league.now m conflicts proved) }
     ensures only { (terms : ℕ) → result ≡ Err (EncodeFault.TooLarge terms) → 40000000 < bound_size league.now }
 {

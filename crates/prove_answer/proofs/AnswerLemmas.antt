@@ -97,7 +97,7 @@ other : (a b : Status) (answer : Answer) → answer.status ≡ a → answer.stat
 other a b answer first second = sym first ∙ second
 
 pub shown-yes : (league : Instance) (conflicts : Option ℕ) (games : List Game) (answer : Answer)
-    → IsShown league conflicts games answer → answer.status ≡ Yes → IsLeast league games answer
+    → IsShown league conflicts games answer → answer.status ≡ Yes → IsLeast league conflicts games answer
 shown-yes league conflicts games answer (inl h) is = let same : No ≡ Yes = other No Yes answer h.status is in cc
 shown-yes league conflicts games answer (inr (inl h)) is = h
 shown-yes league conflicts games answer (inr (inr (inl h))) is =
@@ -159,7 +159,7 @@ pub proved-known : (contents : List ℕ → Option (List ℕ)) (took_more : ℕ 
     (answer : Answer) → contents instance ≡ Some first → contents solution ≡ Some second
     → instance_of (pieces first) ≡ Ok league → solution_of league.n (pieces second) ≡ Ok games
     → proved contents took_more failed instance solution conflicts answer
-    → (answer.status ≡ Yes → IsLeast league games answer) × (answer.status ≡ Better → IsBettered league games answer)
+    → (answer.status ≡ Yes → IsLeast league conflicts games answer) × (answer.status ≡ Better → IsBettered league games answer)
 proved-known contents took_more failed instance solution first second league games conflicts answer first_known
     second_known says_league says_games given = (
       λ is. shown-yes league conflicts games answer

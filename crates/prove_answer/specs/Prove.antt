@@ -1,5 +1,5 @@
 -- What `prove` answers: its stages in their order, and what is shown of a schedule.
-use Rattle.std.specs.Prelude.{◌≡◌, ℕ, ◌+◌, ◌-◌, ◌<◌, ◌≤◌, ◌^◌, ◌⊎◌, List, length, codes, Option, Some, Ok}
+use Rattle.std.specs.Prelude.{◌≡◌, ℕ, ◌+◌, ◌-◌, ◌<◌, ◌≤◌, ◌^◌, ◌⊎◌, List, length, codes, Option, Some, Ok, IfSome}
 use Rattle.std.specs.Io.KnownBytes.{Appends}
 use Rattle.std.specs.List.{All}
 use Rattle.league.specs.Accepted.{IsAccepted, objective}
@@ -22,6 +22,8 @@ use Rattle.refutation.specs.Texts.{log_text}
 use Rattle.refutation.specs.Writable.{HasShortLines}
 use Rattle.refutation.specs.declared.verdict.Verdict.TheVariants.{Accepted}
 use Rattle.clause_search.specs.News.{IsSpent}
+use Rattle.descent.specs.Settled.{IsSettled}
+use Rattle.solve.specs.Solutions.{league_score}
 use Rattle.bound_base.specs.BoundRows.{bound_rows, bound_size, bound_vars}
 use Rattle.bound_laws.specs.Faithful.{IsLowerBound}
 use Rattle.certificates.specs.Certificates.{certificate_of, certificate_text}
@@ -36,13 +38,14 @@ pub record IsRejected (league : Instance) (games : List Game) (answer : Answer) 
   pub judgement : IsJudgement league games answer
   pub status : answer.status ≡ No
 
--- No schedule that the league accepts has a lower objective. A certificate that `bound` accepts is written; where no
--- line of its log passes the limit of a line, it reads back as it.
-pub record IsLeast (league : Instance) (games : List Game) (answer : Answer) : Type 0 where
+-- No schedule that the league accepts has a lower objective. A certificate whose log has one step more than the budget at
+-- most, and is accepted, is written; where no line of it passes the limit of a line, it reads back as it.
+pub record IsLeast (league : Instance) (conflicts : Option ℕ) (games : List Game) (answer : Answer) : Type 0 where
   pub steps : List Step
   pub accepted : IsAccepted league (counts_of games)
   pub least : IsLowerBound league (objective league (counts_of games))
   pub proves : bound_verdict league (objective league (counts_of games)) steps ≡ Accepted
+  pub within : 1 ≤ objective league (counts_of games) → IfSome conflicts (λ most. length steps ≤ most + 1)
   pub status : answer.status ≡ Yes
   pub text : answer.text ≡ certificate_text (objective league (counts_of games)) steps
   pub reads_back : HasShortLines steps
@@ -61,14 +64,15 @@ pub record IsBettered (league : Instance) (games : List Game) (answer : Answer) 
   pub text : answer.text ≡ solution_text better (Some (0, objective league (counts_of better)))
   pub reads_back : solution_of league.n (pieces answer.text) ≡ Ok better
 
--- A log that is spent at the budget over the bound rows of one less than the schedule's objective is written; where no
--- line of it passes the limit of a line, it reads back as it. The budget is below 3 to the number of variables, so a
+-- No single legal move betters the schedule, and a log that is spent at the budget over the bound rows of one less than
+-- its objective is written; where no line of it passes the limit of a line, it reads back as it. The budget is below 3 to the number of variables, so a
 -- greater one, or none, is never spent.
 pub record IsSpentBelow (league : Instance) (conflicts : Option ℕ) (games : List Game) (answer : Answer) : Type 0
   where
     pub steps : List Step
     pub accepted : IsAccepted league (counts_of games)
     pub some : 1 ≤ objective league (counts_of games)
+    pub settled : IsSettled league.n league.phased (league_score league) (counts_of games)
     pub budget : conflicts ≡ Some (length steps)
     pub spent : IsSpent (length steps) (bound_rows league (objective league (counts_of games) - 1)) (bound_vars league)
         steps
@@ -81,7 +85,7 @@ pub record IsSpentBelow (league : Instance) (conflicts : Option ℕ) (games : Li
 abbrev pub IsShown : Instance → Option ℕ → List Game → Outcome
 IsShown league conflicts games answer =
     IsRejected league games answer
-    ⊎ (IsLeast league games answer
+    ⊎ (IsLeast league conflicts games answer
     ⊎ (IsBettered league games answer ⊎ IsSpentBelow league conflicts games answer))
 
 -- ---- stages

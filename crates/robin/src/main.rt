@@ -38,21 +38,22 @@ solve    finds a season that the league of an instance file accepts, or a log of
          clauses at most of them (500)
 patterns finds home-away patterns, a line for each team, that the rows of the
          league of an instance file allow which speak of no game, or a log of
-         steps that refutes these rows, and so the league
+         steps that refutes these rows, and so the league; its search may learn N
+         clauses (2000)
 explain  names hard constraints that contradict each other, by their numbers in the
          instance file, with a log that refutes the league of these alone and, for
          each of them, a season that meets the others; or finds a season; each of
-         its searches may learn N clauses
+         its searches may learn N clauses (2000)
 part     writes the league of the hard constraints with the numbers of LIST, as
          2;7: numbers that rise, joined by ; (quote it for the shell)
 check    checks a log of steps that refutes the league of an instance file
 prove    finds a better season than the accepted one of a solution file, or a
          certificate that no accepted season has a lower objective: a line with the
-         objective, and a log of steps behind it; its search may learn N clauses
+         objective, and a log of steps behind it; its search may learn N clauses (2000)
 bound    checks such a certificate, without a search
 resume   finds a season that has, in the first K slots, the games of a solution
          file, K a number, or a log of steps that refutes that any accepted season
-         has; its search may learn N clauses
+         has; its search may learn N clauses (2000)
 audit    checks such a log, over the same three words
 circle   writes the season of the circle method for N teams, N even, 2 to 40
 make     writes a league of N teams, N even, 2 to 40, with N + 17 constraints that

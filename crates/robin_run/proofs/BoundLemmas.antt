@@ -64,9 +64,9 @@ run-proved words contents took_more failed instance solution conflicts league ga
     written
 
 -- what the status of an answer says
-abbrev IsShownBy : Instance → List Game → Outcome
-IsShownBy league games answer =
-    (answer.status ≡ Yes → IsLeast league games answer)
+abbrev IsShownBy : Instance → Option ℕ → List Game → Outcome
+IsShownBy league conflicts games answer =
+    (answer.status ≡ Yes → IsLeast league conflicts games answer)
     × (answer.status ≡ Better → proving.IsBettered league games answer)
 
 -- what is shown of the games of two files, where the answer is that they are least, or bettered
@@ -74,15 +74,16 @@ answered-proved : (words : Option Command) (contents : List ℕ → Option (List
     (failed : List ℕ → Type 0) (instance solution : List ℕ) (conflicts : Option ℕ) (league : Instance)
     (games : List Game) (answer : Answer) → IsAnswer words contents took_more failed answer
     → words ≡ Some (Prove instance solution conflicts) → SaySeason contents instance solution league games
-    → IsShownBy league games answer
+    → IsShownBy league conflicts games answer
 answered-proved words contents took_more failed instance solution conflicts league games answer answered is say =
     proved-known contents took_more failed instance solution say.first say.second league games conflicts answer
     say.first_known say.second_known say.says_league say.says_played
     (subst (λ (w : Option Command). IsAnswer w contents took_more failed answer) is answered)
 
-unbettered : (league : Instance) (games : List Game) (answer : Answer) (old new : Option (List ℕ))
-    → IsLeast league games answer → Appends old new answer.text → IsUnbettered league games old new
-unbettered league games answer old new shown written = record {
+unbettered : (league : Instance) (conflicts : Option ℕ) (games : List Game) (answer : Answer)
+    (old new : Option (List ℕ)) → IsLeast league conflicts games answer → Appends old new answer.text
+    → IsUnbettered league games old new
+unbettered league conflicts games answer old new shown written = record {
   steps = shown.steps;
   accepted = shown.accepted;
   least = shown.least;
@@ -101,9 +102,9 @@ run-unbettered words contents took_more failed instance solution conflicts leagu
     answered written is say accepted =
     let whole : (answer.status ≡ Yes) × Appends old new answer.text =
     written-as answer ended Yes old new sink_failed accepted (λ same. cc) written in
-    let shown : IsShownBy league games answer =
+    let shown : IsShownBy league conflicts games answer =
     answered-proved words contents took_more failed instance solution conflicts league games answer answered is say in
-    unbettered league games answer old new (shown.0 whole.0) whole.1
+    unbettered league conflicts games answer old new (shown.0 whole.0) whole.1
 
 bettered : (league : Instance) (games : List Game) (answer : Answer) (old new : Option (List ℕ))
     → proving.IsBettered league games answer → Appends old new answer.text → IsBettered league games old new
@@ -127,7 +128,7 @@ run-bettered words contents took_more failed instance solution conflicts league 
     answered written is say better =
     let whole : (answer.status ≡ Better) × Appends old new answer.text =
     written-as answer ended Better old new sink_failed better (λ same. cc) written in
-    let shown : IsShownBy league games answer =
+    let shown : IsShownBy league conflicts games answer =
     answered-proved words contents took_more failed instance solution conflicts league games answer answered is say in
     bettered league games answer old new (shown.1 whole.0) whole.1
 

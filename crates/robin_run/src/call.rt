@@ -165,10 +165,10 @@ fn answer<S: Shelf>(alloc: Global, words: &[String], shelf: &mut S) -> Result<Re
 ///   the league of that file accepts no list of games.
 /// - `solved` says the same as `checked` of `solve`: where the instance file is within its limit and well-formed, and
 ///   the rows of its league have at most 40,000,000 terms, what is found is written whole. It is a schedule of games of
-///   the league, which accepts it, with its objective, and the text reads back as these games; a log that `check`
-///   accepts; or a log that is spent at the budget of conflicts, and then there are patterns that satisfy the league's
-///   pattern rows, or a log that is spent over these at the budget of patterns; and a schedule wherever the league
-///   accepts that of the circle method, a log that `check` accepts wherever its venue counts are short or crowded.
+///   the league, which accepts it, with its objective, and the text reads back as these games; a log that is accepted
+///   over the league's rows; or one that is spent at the budget of conflicts, and then there are patterns that satisfy
+///   the league's pattern rows, or a log that is spent over these at the budget of patterns; and a schedule wherever the
+///   league accepts that of the circle method, a log that is accepted wherever its venue counts are short or crowded.
 ///   Behind a schedule stand the moves of the descent that led to it, at most as many as the budget of moves: taken
 ///   backwards from the schedule they are legal, each raises the score, and they end in a schedule that is accepted
 ///   too, whose objective is written. It says `settled=yes` exactly where no legal move lowers the score of the
@@ -192,8 +192,9 @@ fn answer<S: Shelf>(alloc: Global, words: &[String], shelf: &mut S) -> Result<Re
 ///   well-formed file as `judged` does; how many terms the rows of the league have doesn't matter.
 /// - `proved` says the same as `solved` of `prove`, over two files: where they are well-formed and the bound rows of
 ///   the league have at most 40,000,000 terms, what is shown of the season of the second is written whole. It is the
-///   report of `validate` where the league doesn't accept the season, a certificate that `bound` accepts, a better
-///   season, or a log that is spent at the budget over the bound rows of one less than the objective.
+///   report of `validate` where the league doesn't accept the season, a certificate whose log is accepted (it reads
+///   back where its lines are short), a better season, or a log that is spent at the budget over the bound rows of one
+///   less than the objective, and then no single legal move betters the season.
 /// - `unbettered` needs a store that tells the bytes of both files: where a run of `prove` ends with `Yes`, the season
 ///   of the second is accepted, no accepted season has a lower objective, and the certificate that says so is written.
 /// - `bettered` needs the same: where it ends with `Better`, the season that is written is of games of the league and
@@ -203,8 +204,8 @@ fn answer<S: Shelf>(alloc: Global, words: &[String], shelf: &mut S) -> Result<Re
 ///   each season that the league accepts has an objective of at least this.
 /// - `resumed` says the same as `solved` of `resume`, over two files: where they are well-formed, the season has k
 ///   slots and the resume rows of the league have at most 40,000,000 terms, what is found is written whole. It is a
-///   season that is accepted and keeps the played games in the first k slots, a log that `audit` accepts, or a log that
-///   is spent at the budget over the resume rows; and just the games of the second file, where the league accepts
+///   season that is accepted and keeps the played games in the first k slots, a log that is accepted over the resume
+///   rows, or one that is spent at the budget over the resume rows; and just the games of the second file, where the league accepts
 ///   these.
 /// - `kept` and `unresumable` need a store that tells the bytes of both files: where a run of `resume` ends with `Yes`,
 ///   the season that is written is accepted and keeps the played games, and where it ends with `Refuted`, no accepted

@@ -78,6 +78,7 @@ spent league limit steps most is small = record {
   limited = is.limited;
   spent = is.spent;
   few = is.few;
+  tidy = is.tidy;
   writable = writable (var_count league) steps most is.tidy
       (none_linear (rows_of league) (var_count league) steps is.spent.news) small;
 }

@@ -1,5 +1,5 @@
 -- What a descent makes of an accepted schedule.
-use Rattle.std.proofs.Common.{◌≡◌, ◌↔◌, ℕ, ◌≤◌, Bool, true, false, List, length, reverse, inl, inr, arith, ap, sym, subst, ◌∙◌}
+use Rattle.std.proofs.Common.{◌≡◌, ◌↔◌, ℕ, ◌≤◌, Bool, true, false, List, [], ◌∷◌, length, reverse, inl, inr, arith, ap, refl, sym, subst, ◌∙◌}
 use Rattle.std.specs.Prelude.{IsTrue}
 use Rattle.std.specs.List.{All}
 use Rattle.std.proofs.Math.Path.{fun_ext}
@@ -11,6 +11,7 @@ use Rattle.league.specs.Order.{IsInOrder}
 use Rattle.league.specs.Structure.{IsRoundRobin}
 use Rattle.league.specs.declared.game.Game.{Game}
 use Rattle.moves.specs.Moves.{moved}
+use Rattle.moves.specs.declared.swap.Swap.{Swap}
 use Rattle.rule_core.specs.declared.rule.Entries.{Ghosts}
 use Rattle.tally.specs.League.{AreRulesOf, hard_sum}
 use Rattle.tally.specs.Tallies.{objective_on}
@@ -122,6 +123,33 @@ none-lower a b feasible free lower = omega (arith, lower-objective a b feasible 
 
 none_both : (b : Bool) → b ≡ false → b ≡ true → ⊥
 none_both b first second = cc
+
+-- no moves lead nowhere
+no_moves : (n : ℕ) (phased : Bool) (score : Counts → Score) (first last : Counts) (trail : List Swap)
+    → length trail ≡ 0 → IsTrail n phased score first trail last → last ≡ first
+no_moves n phased score first last [] none is = is
+no_moves n phased score first last (step ∷ trail) none is = absurd (omega (arith, none))
+
+settled-end : (league : Instance) (moves : ℕ) (games : List Game) (descent : Descended) (b : Bool)
+    → descent.settled ≡ b → IsDescent league moves games descent → 1 ≤ moves → length descent.trail ≡ 0
+    → IsSettled league.n league.phased (league_score league) (counts_of games)
+settled-end league moves games descent true settled is some none = is.settled.0 settled
+settled-end league moves games descent false settled is some none =
+    absurd (omega (arith, is.spent settled, none, some))
+
+-- where a descent that may make a move ends no lower than it began, no legal move lowers the score at its beginning
+pub IsSchedule-settled : (league : Instance) (moves cost : ℕ) (games : List Game) (descent : Descended)
+    → IsSchedule league moves games cost descent → 1 ≤ moves → objective league (counts_of descent.first) ≤ cost
+    → IsSettled league.n league.phased (league_score league) (counts_of descent.first)
+IsSchedule-settled league moves cost games descent is some none_lower =
+    let first : Counts = counts_of descent.first in
+    let stays = trails-stay_feasible league.n league.phased (league_score league) first (counts_of games) descent.trail
+    ((met league first).1 is.descends.first.hard) is.descends.trail in
+    let none : length descent.trail ≡ 0 = omega (arith, stays.1, is.cost, none_lower) in
+    subst (λ (m : Counts). IsSettled league.n league.phased (league_score league) m)
+    (no_moves league.n league.phased (league_score league) first (counts_of games) descent.trail none
+    is.descends.trail)
+    (settled-end league moves games descent descent.settled refl is.descends some none)
 
 -- with as many moves as the first objective says it is settled
 pub IsDescent-settles : (league : Instance) (moves : ℕ) (games : List Game) (descent : Descended)

@@ -15,7 +15,7 @@ use Rattle.refutation.specs.Steps.{NamesRows, Step}
 use Rattle.refutation.specs.Verdict.{verdict_of}
 use Rattle.refutation.specs.Writable.{HasShortLines}
 use Rattle.refutation.specs.declared.verdict.Verdict.TheVariants.{Accepted}
-use Rattle.clause_search.specs.News.{IsSpent}
+use Rattle.clause_search.specs.News.{IsSpent, IsTidy}
 use Rattle.tally.specs.League.{hard_sum}
 use Rattle.descent.specs.Descended.{Descended}
 use Rattle.descent.specs.Settled.{IsSettled}
@@ -66,11 +66,12 @@ pub record RefutesLeague (league : Instance) (steps : List Step) : Type 0 where
   pub none : NoneAccepted league
   pub writable : IsWritable steps
 
--- a log that is spent at the limit over the league's rows, which is below 3 to the number of variables
+-- a log of tidy steps that is spent at the limit over the league's rows, which is below 3 to the number of variables
 pub record IsSpentOn (league : Instance) (limit : Option ℕ) (steps : List Step) : Type 0 where
   pub limited : limit ≡ Some (length steps)
   pub spent : IsSpent (length steps) (rows_of league) (var_count league) steps
   pub few : length steps < 3 ^ var_count league
+  pub tidy : All (IsTidy (var_count league)) steps
   pub writable : IsWritable steps
 
 -- What is known of the patterns of a league where it is neither solved nor refuted: patterns that satisfy its pattern

@@ -32,7 +32,7 @@ decoded-requires-clause-satisfied c =
     (rw c.in-Sat.is at answer).1
 
 pub returns-in-Refuted-clause-proved : goal.returns-in-Refuted-clause-proved
-returns-in-Refuted-clause-proved c = λ m cost.
+returns-in-Refuted-clause-proved c = λ m cost settled.
     let answer = answer-of c.args.league.now (c.args.objective - 1) c.vars.result c.rows.result.now c.args.conflicts
     c.in_ok-found.found (c.rows.ensures ∙ ap (λ (b : Bounded). bound_rows b.league b.bound) c.in_ok-system.ensures.of)
     (c.vars.ensures.vars ∙ ap (λ (b : Bounded). bound_vars b.league) c.in_ok-system.ensures.of) c.in_ok-found.ensures
@@ -41,10 +41,10 @@ returns-in-Refuted-clause-proved c = λ m cost.
     c.requires.some (rw c.in-Refuted.is at answer)
 
 pub returns-clause-proved : goal.returns-clause-proved
-returns-clause-proved c = λ m cost.
+returns-clause-proved c = λ m cost settled.
     let answer = answer-of c.args.league.now (c.args.objective - 1) c.vars.result c.rows.result.now c.args.conflicts
     c.in_ok-found.found (c.rows.ensures ∙ ap (λ (b : Bounded). bound_rows b.league b.bound) c.in_ok-system.ensures.of)
     (c.vars.ensures.vars ∙ ap (λ (b : Bounded). bound_vars b.league) c.in_ok-system.ensures.of) c.in_ok-found.ensures
     in
-    spent-of c.args.league.now m c.args.conflicts c.args.objective c.in-Spent.log cost c.requires.some
+    spent-of c.args.league.now m c.args.conflicts c.args.objective c.in-Spent.log cost settled c.requires.some
     (rw c.in-Spent.is at answer)
