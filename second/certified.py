@@ -857,7 +857,7 @@ def weighed(t):
         path = t.path("steps.log", start, *[unit * 1024] * (many // 1024), b"end\n")
         told = f"rejected step {many} cause NoEmptyClause\n"
         measured(t, f"certificate of {many} {name}", ["bound", it, path], 1, told, os.path.getsize(path))
-    unit, many = step_units[1][1], 255 * MIB // 24
+    unit, many = step_units[1][0], 255 * MIB // 24
     path = t.path("steps.log", start, *[unit * 1024] * (many // 1024), unit * (many % 1024), b"end\n")
     told = f"rejected step {many} cause NoEmptyClause\n"
     measured(t, f"certificate of {many} clauses", ["bound", it, path], 1, told, os.path.getsize(path))
