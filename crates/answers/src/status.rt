@@ -5,15 +5,15 @@ ghost use Rattle.answers.specs.Status.{status_code};
 /// How a run ended.
 #[derive(Clone, Copy, Debug, PartialEq, Eq)]
 pub enum Status {
-    /// The answer is yes: the schedule or the log is accepted, a schedule was made, or one can't be bettered.
+    /// The answer is yes: what is judged is accepted, or what is asked for was found or made, or can't be bettered.
     Yes,
     /// The answer is no: the schedule or the log isn't accepted.
     No,
     /// The words of the command line are no command.
     Words,
-    /// A file is refused, or the rows of its league are too many.
+    /// A file is refused, or its rows are too many, or a number of `part` or of slots is none of its league.
     File,
-    /// No schedule meets the hard constraints, which the log that is written proves.
+    /// The log that is written proves that there is no schedule such as was asked for.
     Refuted,
     /// A budget is spent, and what was learnt is written.
     Spent,

@@ -1,7 +1,7 @@
 //! What `bound` answers: the verdict on a certificate that no schedule that a league accepts has a lower objective.
 //!
-//! A contract sees the answer by the stages of `specs/Bound.antt`, and the verdict by the definitions of `refutation` over
-//! bound rows.
+//! A contract sees the answer by the stages of `specs/Bound.antt`, and the verdict by the definitions of `refutation`
+//! over bound rows.
 #![tactic(auto)]
 
 mod replies;

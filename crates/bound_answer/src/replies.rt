@@ -14,8 +14,8 @@ use league::League;
 use refutation::Verdict;
 use std::alloc::{AllocError, Global};
 
-/// The verdict on a certificate. Where it is accepted, every schedule that the league accepts has an objective of at least
-/// the bound.
+/// The verdict on a certificate. Where it is accepted, every schedule that the league accepts has an objective of at
+/// least the bound.
 ///
 /// # Errors
 /// Where memory runs out, and where the bound rows have too many terms, which the caller has excluded.

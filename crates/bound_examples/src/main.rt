@@ -1,10 +1,10 @@
 //! Worked runs of `prove` and `bound`, whose transcript is compared with the file `stdout`.
 //!
-//! A line of standard input is a command, run over the files of `data`, `prove INSTANCE SOLUTION CONFLICTS` or `bound INSTANCE
-//! LOG`, of which the transcript has the text and the exit status. Or it is a league, its name, its instance file and a season
-//! in one line, with `|` between: `prove` goes on from the season until nothing is better, and the transcript has the least
-//! objective, what `bound` says of the certificate, and what it says where the certificate states one more. What is wanted
-//! was found by going over all seasons (`leagues.py`). Any other line is a title.
+//! A line of standard input is a command, run over the files of `data`, `prove INSTANCE SOLUTION CONFLICTS` or `bound
+//! INSTANCE LOG`, of which the transcript has the text and the exit status. Or it is a league, its name, its instance
+//! file and a season in one line, with `|` between: `prove` goes on from the season until nothing is better, and the
+//! transcript has the least objective, what `bound` says of the certificate, and what it says where the certificate
+//! states one more. What is wanted was found by going over all seasons (`leagues.py`). Any other line is a title.
 #![tactic(auto)]
 
 mod least;

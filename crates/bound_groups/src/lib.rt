@@ -1,5 +1,5 @@
-//! The bound rows of groups: those of a group with its units, the row that bounds what the units of all groups cost, and
-//! those that order the units of each.
+//! The bound rows of groups: those of a group with its units, the row that bounds what the units of all groups cost,
+//! and those that order the units of each.
 #![tactic(auto)]
 
 mod objective;

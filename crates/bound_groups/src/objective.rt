@@ -8,7 +8,8 @@ use crate::units::{Units, add_costs};
 use rows::{RowStore, Term};
 use std::alloc::{AllocError, Global};
 
-/// Adds that the true unit variables of some groups, numbered on from the first, cost at most the bound.
+/// Adds that the true unit variables of some groups, numbered on from the first, cost at most the bound. Their numbers
+/// are from 1 to 2,147,483,647.
 ///
 /// # Errors
 /// Only where memory runs out.

@@ -10,9 +10,10 @@ use rows::{Lit, RowStore};
 use std::alloc::AllocError;
 
 /// Adds, for each group, that none of its unit variables, numbered on from the first, is true after one that is false.
+/// Their numbers are from 1 to 2,147,483,647.
 ///
 /// # Errors
-/// Only where memory runs out.
+/// Only where memory runs out: then some of these rows stand.
 pub fn push_orders(rows: &mut RowStore, groups: &[Units], first: u32) -> Result<(), AllocError>
     requires first { 1 ≤ first }
     requires last { first + unit_total groups.now ≤ 2147483648 }

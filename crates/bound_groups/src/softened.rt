@@ -9,9 +9,10 @@ use rows::{RowStore, Term};
 use std::alloc::{AllocError, Global};
 
 /// Adds the rows of a group, each with so many unit variables from a number on, which stand after all of its variables.
+/// Their numbers are from 1 to 2,147,483,647.
 ///
 /// # Errors
-/// Only where memory runs out.
+/// Only where memory runs out: then some of these rows stand.
 pub fn add_softened(
     rows: &mut RowStore,
     alloc: Global,

@@ -202,7 +202,7 @@ pub(crate) fn fa2_part(
     Ok(Class::Fa2 { teams, intp, slots })
 }
 
-/// SE1 of two teams, the earlier first.
+/// SE1 of two different teams, the one of the lower number first.
 ///
 /// # Errors
 /// Only where memory runs out.

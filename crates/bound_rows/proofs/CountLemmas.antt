@@ -1,21 +1,18 @@
 -- Sums that are capped, and the parts of an SE1.
-use Rattle.std.proofs.Common.{◌≡◌, ℕ, zero, suc, ◌+◌, ◌-◌, ◌*◌, ◌^◌, ◌<◌, ◌≤◌, Bool, true, false, not, ◌&&◌, ◌||◌, cond}
-use Rattle.std.proofs.Common.{min as smaller, nat_lt, List, [], ◌∷◌, ◌++◌, length, map, get_or, take, refl, sym, ap, ◌∙◌}
-use Rattle.std.proofs.Common.{arith, inl, inr, IsTrue}
-use Rattle.std.proofs.Math.Nat.{mul-le-mul_left, mul-suc}
+use Rattle.std.proofs.Common.{◌≡◌, ℕ, zero, suc, ◌+◌, ◌-◌, ◌*◌, ◌^◌, ◌<◌, ◌≤◌, Bool, true, false}
+use Rattle.std.proofs.Common.{min as smaller, List, [], ◌∷◌, ◌++◌, length, map, get_or, take, refl, sym, ap, ◌∙◌}
+use Rattle.std.proofs.Common.{arith, inl, inr}
+use Rattle.std.proofs.Math.Nat.{mul-suc}
 use Rattle.std.proofs.lemmas.Bool.{cases_lt}
-use Rattle.std.proofs.lemmas.List.{take_all, take_more}
 use Rattle.std.proofs.lemmas.List.Sums.{sum_by-append, sum_by-cons, sum_by_more}
 use Rattle.std.specs.List.{filter, range_with_len, sum_by}
 use Rattle.league.specs.Capacity.{meetings_with, windows_of}
 use Rattle.league.specs.Counts.{slot_count}
 use Rattle.league.specs.Instance.{Instance}
-use Rattle.league.specs.declared.class.Class.{Class}
 use Rattle.league.specs.declared.class.Class.TheVariants.{Se1}
-use Rattle.league.specs.declared.class.Constraint.{Constraint}
 use Rattle.league.specs.declared.class.Side.TheVariants.{Both}
 use Rattle.league.proofs.RangeLemmas.{sum_by-range_more}
-use Rattle.league.proofs.SumLemmas.{sum_by-flat_map, sum_by-map}
+use Rattle.league.proofs.SumLemmas.{sum_by-map}
 use Rattle.rows.specs.Cardinality.{at_most}
 use Rattle.rows.specs.Rows.{Row, size_of}
 use Rattle.rows.proofs.ListLemmas.{sum_by-range-append}
@@ -27,8 +24,7 @@ use Rattle.encoding_base.specs.Season.{break_rows}
 use Rattle.bound_base.specs.BoundRows.{base_rows, needs_breaks}
 use Rattle.bound_base.specs.Parts.{se1_parts}
 use Rattle.encoding.specs.Capped.{capped}
-use Rattle.bound_rows.specs.Sizes.{group_size, paid_size, part_size, parts_size, row_size}
-use Rattle.bound_rows.proofs.DraftLemmas.{paid_of-append}
+use Rattle.bound_rows.specs.Sizes.{group_size, part_size, parts_size}
 
 -- ---- capped sums
 

@@ -1,13 +1,13 @@
 -- Groups that are added one after another.
-use Rattle.std.proofs.Common.{◌≡◌, ℕ, suc, ◌+◌, ◌-◌, ◌^◌, ◌<◌, ◌≤◌, Bool, true, false, not, ◌&&◌, cond, nat_lt, List, [], ◌∷◌, ◌++◌}
+use Rattle.std.proofs.Common.{◌≡◌, ℕ, suc, ◌+◌, ◌<◌, ◌≤◌, Bool, true, false, not, ◌&&◌, cond, nat_lt, List, [], ◌∷◌, ◌++◌}
 use Rattle.std.proofs.Common.{length, map, get_or, take, drop, append_assoc, refl, sym, ap, subst, ◌∙◌, arith}
 use Rattle.std.proofs.lemmas.Bool.{and_parts}
-use Rattle.std.proofs.lemmas.List.{append-nil, length-append, length-map, map-append, take-append-drop, take_more}
+use Rattle.std.proofs.lemmas.List.{append-nil, map-append, take-append-drop, take_more}
 use Rattle.std.proofs.lemmas.List.Concat.{flat_map-append}
 use Rattle.std.proofs.lemmas.List.Elements.{All-cons, All-head, All-nil, All-tail, All-weaker, filter-append}
 use Rattle.std.proofs.lemmas.List.Sums.{sum_by-append, sum_by-cons}
 use Rattle.std.proofs.Math.Seq.{drop-cons}
-use Rattle.std.specs.List.{All, filter, flat_map, sum_by}
+use Rattle.std.specs.List.{All, filter, flat_map}
 use Rattle.league.specs.Accepted.{soft_of}
 use Rattle.league.specs.declared.class.Class.{Class}
 use Rattle.league.specs.declared.class.Constraint.{Constraint}
@@ -16,7 +16,7 @@ use Rattle.bound_base.specs.BoundRows.{group_of, groups_of, paid_of}
 use Rattle.bound_base.specs.Parts.{parts_of}
 use Rattle.bound_base.specs.Softening.{Group, soften, softened_rows, units_from}
 use Rattle.bound_groups.specs.Bare.{bare_groups}
-use Rattle.bound_rows.specs.Drafts.{AreBefore, Extends, HasRoom, rows_in, stripped, units_in}
+use Rattle.bound_rows.specs.Drafts.{AreBefore, Extends, HasRoom, stripped, units_in}
 use Rattle.bound_rows.specs.declared.draft.Draft.{Draft}
 
 softened-append : (first : ℕ) (xs ys : List Group)

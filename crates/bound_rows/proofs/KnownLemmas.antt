@@ -1,18 +1,17 @@
 -- The bound rows speak of their variables alone.
-use Rattle.std.proofs.Common.{◌≡◌, ℕ, suc, ◌+◌, ◌-◌, ◌*◌, ◌<◌, ◌≤◌, Bool, true, false, cond, List, [], ◌∷◌, ◌++◌, map}
-use Rattle.std.proofs.Common.{IsTrue, length, get_or, refl, sym, ap, subst, ◌∙◌, arith}
+use Rattle.std.proofs.Common.{◌≡◌, ℕ, ◌+◌, ◌-◌, ◌*◌, ◌<◌, ◌≤◌, Bool, true, false, List, [], ◌∷◌, ◌++◌, map}
+use Rattle.std.proofs.Common.{IsTrue, length, get_or, refl, arith}
 use Rattle.std.proofs.lemmas.Bool.{or_left}
-use Rattle.std.proofs.lemmas.List.Elements.{All-append, All-cons, All-head, All-map, All-nil, All-tail, All-weaker}
+use Rattle.std.proofs.lemmas.List.Elements.{All-append, All-cons, All-head, All-map, All-nil, All-tail}
 use Rattle.std.proofs.lemmas.List.FromFn.{get_or-range_with_len, length-range_with_len}
 use Rattle.std.proofs.lemmas.List.Sums.{sum_by-cons}
-use Rattle.std.specs.List.{All, range_with_len, sum_by}
+use Rattle.std.specs.List.{All, range_with_len}
 use Rattle.league.specs.Instance.{Instance, IsInstance, class_fits}
 use Rattle.league.specs.declared.class.Class.TheVariants.{Br1}
 use Rattle.league.specs.declared.class.Constraint.{Constraint}
 use Rattle.league.specs.declared.class.Side.TheVariants.{Both}
-use Rattle.rows.specs.Cardinality.{at_least, unit}
+use Rattle.rows.specs.Cardinality.{unit}
 use Rattle.rows.specs.Literals.{Literal, no, yes}
-use Rattle.rows.specs.Rows.{Row}
 use Rattle.rows.specs.declared.lit.Term.{Term}
 use Rattle.encoding_base.specs.Encoding.{constraint_rows, season_rows}
 use Rattle.encoding_base.specs.Known.{AreKnown, IsKnown}

@@ -3,6 +3,7 @@ pub mod DraftLemmas
 -- How many terms bound rows have:
 pub mod SizeLemmas
 pub mod CountLemmas
+pub mod SeparationSizes
 -- Every group has room:
 pub mod RoomLemmas
 -- All bound rows:

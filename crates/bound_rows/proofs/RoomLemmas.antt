@@ -1,10 +1,10 @@
 -- Every group of a league whose bound rows are few enough has room.
-use Rattle.std.proofs.Common.{◌≡◌, ℕ, zero, suc, ◌+◌, ◌-◌, ◌*◌, ◌^◌, ◌<◌, ◌≤◌, Bool, true, false, not, ◌||◌, cond, nat_lt, List}
-use Rattle.std.proofs.Common.{[], ◌∷◌, ◌++◌, length, map, get_or, IsTrue, refl, sym, ap, subst, ◌∙◌, arith}
+use Rattle.std.proofs.Common.{◌≡◌, ℕ, zero, suc, ◌+◌, ◌-◌, ◌*◌, ◌<◌, ◌≤◌, Bool, true, not, cond, nat_lt, List}
+use Rattle.std.proofs.Common.{[], ◌∷◌, length, map, get_or, IsTrue, refl, sym, ap, subst, ◌∙◌, arith}
 use Rattle.std.proofs.lemmas.Bool.{ltb-true, or_left, or_right}
 use Rattle.std.proofs.lemmas.List.{get_or-map, length-map}
 use Rattle.std.proofs.lemmas.List.Elements.{All-cons, All-filter, All-map, All-nil, All-weaker, filter_passes}
-use Rattle.std.specs.List.{All, filter, list_any, sum_by}
+use Rattle.std.specs.List.{All, list_any, sum_by}
 use Rattle.league.specs.Accepted.{soft_of}
 use Rattle.league.specs.Instance.{Instance, IsInstance, class_fits}
 use Rattle.league.specs.declared.class.Class.{Class}
@@ -16,8 +16,6 @@ use Rattle.league.specs.Deviation.{spans}
 use Rattle.league.specs.Meetings.{pairs_of}
 use Rattle.std.specs.List.{range_with_len}
 use Rattle.league.proofs.SumLemmas.{sum_by-map}
-use Rattle.rows.specs.Rows.{Row}
-use Rattle.rows.specs.declared.lit.Term.{Term}
 use Rattle.encoding_base.specs.Known.{AreKnown}
 use Rattle.encoding_base.specs.Variables.{bounds_breaks, h_count, has_breaks, hb_count, x_count}
 use Rattle.encoding_base.proofs.AscendLemmas.{All-flat_map}
@@ -29,7 +27,7 @@ use Rattle.bound_base.specs.Softening.{Group}
 use Rattle.bound_groups.specs.Bare.{bare, bare_groups, unit_total}
 use Rattle.bound_groups.specs.declared.units.Units.{Units}
 use Rattle.bound_parts.proofs.FitParts.{fits-parts}
-use Rattle.bound_rows.specs.Drafts.{AreBefore, HasRoom, rows_in, stripped, units_in}
+use Rattle.bound_rows.specs.Drafts.{AreBefore, HasRoom, stripped, units_in}
 use Rattle.bound_rows.specs.declared.draft.Draft.{Draft}
 use Rattle.bound_rows.proofs.SizeLemmas.{bound_size-groups, rows_in-le, units_in-le}
 

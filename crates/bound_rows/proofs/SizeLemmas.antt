@@ -1,13 +1,12 @@
 -- How many terms bound rows have, group by group.
-use Rattle.std.proofs.Common.{◌≡◌, ℕ, zero, suc, ◌+◌, ◌-◌, ◌*◌, ◌<◌, ◌≤◌, Bool, true, false, max, List, [], ◌∷◌, ◌++◌, length, map}
-use Rattle.std.proofs.Common.{get_or, length-append, refl, sym, ap, ◌∙◌, arith}
+use Rattle.std.proofs.Common.{◌≡◌, ℕ, zero, suc, ◌+◌, ◌-◌, ◌*◌, ◌≤◌, false, max, List, [], ◌∷◌, ◌++◌, length, map}
+use Rattle.std.proofs.Common.{get_or, length-append, refl, ap, ◌∙◌, arith}
 use Rattle.std.proofs.lemmas.Bool.{ltb-true}
 use Rattle.std.proofs.lemmas.List.{length-map}
 use Rattle.std.proofs.lemmas.List.Elements.{All-cons, All-head, All-nil, All-tail, filter_passes}
 use Rattle.std.proofs.lemmas.List.FromFn.{length-range_with_len}
 use Rattle.std.proofs.lemmas.List.Sums.{sum_by-append, sum_by-cons}
 use Rattle.std.specs.List.{All, flat_map, fold, range_with_len, sum_by}
-use Rattle.league.specs.Bounds.{largest}
 use Rattle.league.specs.Instance.{Instance}
 use Rattle.league.specs.declared.class.Class.{Class}
 use Rattle.league.specs.declared.class.Class.TheVariants.{Se1}
@@ -26,7 +25,7 @@ use Rattle.bound_base.specs.Parts.{parts_of}
 use Rattle.bound_base.specs.Softening.{Group, costs, costs_from, objective_row, one_before, order_rows, soften}
 use Rattle.bound_base.specs.Softening.{softened_rows, units_from}
 use Rattle.bound_rows.specs.Drafts.{rows_in, units_in}
-use Rattle.bound_rows.specs.Sizes.{group_size, paid_size, part_size, parts_size}
+use Rattle.bound_rows.specs.Sizes.{group_size, paid_size, parts_size}
 
 length-units : (first count : ℕ) → length (map unit (units_from first count)) ≡ count
 length-units first count =

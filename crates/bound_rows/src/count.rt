@@ -12,7 +12,7 @@ ghost use Rattle.encoding.specs.Capped.{capped};
 
 use bound_base::{is_paid, needs_breaks};
 use bound_groups::unit_count;
-use bound_parts::{parts_of, se1_part};
+use bound_parts::parts_of;
 use encoding_base::{has_breaks, team_pairs};
 use encoding_rows::{Season, write_class};
 use encoding_sizes::encoding_size;
@@ -138,69 +138,38 @@ fn row_terms(rows: &RowStore, k: usize, units: u64) -> u64
     (rows.terms(k).len() as u64).saturating_add(units)
 }
 
-/// Those of an SE1. Its least numbers of slots from the season's on are all alike, so that only one of them is written.
+/// Those of an SE1: as many for each two of its teams.
+///
+/// # Errors
+/// Only where memory runs out.
 fn se1_terms(alloc: Global, season: &Season, teams: &TeamSet, min: u32) -> Result<u64, AllocError>
     requires { IsTrue (class_fits season.now (Class.Se1 teams.now min)) }
     ensures { IfOk result (λ terms. terms
         ≡ capped (sizes.parts_size season.now (parts.parts_of season.now (Class.Se1 teams.now min)))) }
 {
-    let n = season.n();
-    let pairs = team_pairs(alloc, n, teams)?;
-    let terms = pairs_terms(alloc, season, &pairs, min)?;
+    let pairs = team_pairs(alloc, season.n(), teams)?;
+    let terms = pair_terms(season, min).saturating_mul(pairs.len() as u64);
     Ok(terms)
 }
 
-/// Those of some pairs of teams.
-fn pairs_terms(
-    alloc: Global,
-    season: &Season,
-    pairs: &[(u16, u16)],
-    min: u32,
-) -> Result<u64, AllocError>
-    requires { All (IsPair season.now) pairs.now }
-    ensures { IfOk result (λ terms. terms
-        ≡ capped (sum_by (λ p. sizes.parts_size season.now (parts.se1_parts min p)) pairs.now)) }
-{
-    let mut total = 0_u64;
-    for (first, second) in pairs {
-        total = total.saturating_add(pair_terms(alloc, season, *first, *second, min)?);
-    }
-    Ok(total)
-}
-
-/// Those of a pair of teams.
-fn pair_terms(
-    alloc: Global,
-    season: &Season,
-    first: u16,
-    second: u16,
-    min: u32,
-) -> Result<u64, AllocError>
-    requires { IsPair season.now (first, second) }
-    ensures { IfOk result (λ terms. terms
-        ≡ capped (sizes.parts_size season.now (parts.se1_parts min (first, second)))) }
+/// Those of two teams. With the least numbers of slots from the season's on they are all alike.
+fn pair_terms(season: &Season, min: u32) -> u64
+    ensures { result ≡ capped (sizes.parts_size season.now (parts.se1_parts min (0, 1))) }
 {
     let near = min.min(u32::from(slot_count(season.n())));
     let mut total = 0_u64;
     for before in 0..near {
-        total = total.saturating_add(apart_terms(alloc, season, first, second, before + 1)?);
+        total = total.saturating_add(apart_terms(season, before + 1));
     }
-    let last = apart_terms(alloc, season, first, second, near)?;
-    Ok(total.saturating_add(last.saturating_mul(u64::from(min - near))))
+    let last = apart_terms(season, near);
+    total.saturating_add(last.saturating_mul(u64::from(min - near)))
 }
 
-/// Those of a pair of teams and one number of slots.
-fn apart_terms(
-    alloc: Global,
-    season: &Season,
-    first: u16,
-    second: u16,
-    min: u32,
-) -> Result<u64, AllocError>
-    requires { IsPair season.now (first, second) }
-    ensures { IfOk result (λ terms. terms
-        ≡ capped (sizes.part_size season.now (Class.Se1 (first ∷ second ∷ []) min))) }
+/// Those of two teams and one least number of slots: a row with a unit for each window, and the unit's price.
+fn apart_terms(season: &Season, min: u32) -> u64
+    ensures { result ≡ capped (sizes.part_size season.now (Class.Se1 (0 ∷ 1 ∷ []) min)) }
 {
-    let part = se1_part(alloc, first, second, min)?;
-    part_terms(alloc, season, &part)
+    let slots = u64::from(slot_count(season.n()));
+    let window = (u64::from(min) + 1).min(slots);
+    (slots + 1 - window) * (2 * window + 1) + 1
 }

@@ -37,8 +37,8 @@ impl Model for BoundSystem {
 }
 
 impl BoundSystem {
-    /// The bound rows: those of the league, the softened rows of each group, the objective row, and those that order the
-    /// units of each group.
+    /// The bound rows: those of the league, the softened rows of each group, the objective row, and those that order
+    /// the units of each group.
     pub fn rows(&self) -> &RowStore
         ensures { result.now ≡ bound_rows self.now.league self.now.bound }
     {

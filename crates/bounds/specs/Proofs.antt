@@ -1,5 +1,5 @@
--- What is shown of a schedule that a league accepts, given by the counts m of its games: that none costs less, a schedule
--- that does, or a log that is spent.
+-- What is shown of a schedule that a league accepts, given by the counts m of its games: that none costs less, a
+-- schedule that does, or a log that is spent.
 use Rattle.std.specs.Prelude.{◌≡◌, ℕ, ◌-◌, ◌<◌, ◌≤◌, List, [], Option}
 use Rattle.std.specs.List.{All}
 use Rattle.league.specs.Accepted.{IsAccepted}
@@ -35,8 +35,8 @@ pub record IsBetter (league : Instance) (m : Counts) (games : List Game) (object
   pub cost : objective ≡ costs.objective league (counts_of games)
   pub lower : objective < costs.objective league m
 
--- The schedule's objective is above 0, no single legal move betters it, and the log is spent at the limit over the bound
--- rows of one less; its text can be written.
+-- The schedule's objective is above 0, no single legal move betters it, and the log is spent at the limit over the
+-- bound rows of one less; its text can be written.
 pub record IsSpentBelow (league : Instance) (m : Counts) (limit : Option ℕ) (steps : List Step) : Type 0 where
   pub some : 1 ≤ costs.objective league m
   pub settled : IsSettled league.n league.phased (league_score league) m

@@ -5,8 +5,8 @@ use refutation::Log;
 /// What is shown of a schedule that a league accepts. `specs/Proofs.antt` says what each answer promises.
 #[derive(Drop)]
 pub enum Proved {
-    /// No schedule that the league accepts has a lower objective: the log is accepted over the bound rows of one less. Of
-    /// an objective of 0 the log is empty.
+    /// No schedule that the league accepts has a lower objective: the log is accepted over the bound rows of one less.
+    /// Of an objective of 0 the log is empty.
     Least { objective: u64, log: Log },
     /// A schedule that the league accepts, with a lower objective.
     Better { schedule: Schedule, objective: u64 },

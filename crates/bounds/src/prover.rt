@@ -31,14 +31,14 @@ const MOVES: u64 = 1_000_000;
 
 /// Shows that an accepted schedule can't be bettered, betters it, or spends its budget.
 ///
-/// A descent goes on from the schedule by moves. Where that betters it, the schedule to which it leads is the answer, and
-/// else what a search over the bound rows of one less finds, which learns at most so many clauses: from a schedule that
-/// it finds a descent goes on, too. So the budget is spent only where no single move betters the schedule. What is found
-/// first is not promised.
+/// A descent goes on from the schedule by moves. Where that betters it, the schedule to which it leads is the answer,
+/// and else what a search over the bound rows of one less finds, which learns at most so many clauses: from a schedule
+/// that it finds a descent goes on, too. So the budget is spent only where no single move betters the schedule. What is
+/// found first is not promised.
 ///
 /// # Errors
-/// `TooLarge` only where the bound rows have more than 40,000,000 terms, with their number as far as a number of 64 bits
-/// holds it; where they have more, this or want of memory; else only where memory runs out.
+/// `TooLarge` only where the bound rows have more than 40,000,000 terms, with their number as far as a number of 64
+/// bits holds it; where they have more, this or want of memory; else only where memory runs out.
 pub fn prove(
     alloc: Global,
     league: &League,
@@ -62,8 +62,8 @@ pub fn prove(
     Ok(proved)
 }
 
-/// What is shown of an accepted schedule of a league whose bound rows are few enough: it pays the greatest penalty at most
-/// once for each of their terms, so that 64 bits hold its objective.
+/// What is shown of an accepted schedule of a league whose bound rows are few enough: it pays the greatest penalty at
+/// most once for each of their terms, so that 64 bits hold its objective.
 fn shown(
     alloc: Global,
     league: &League,

@@ -28,8 +28,8 @@ use std::marker::Model;
 /// Each team has one place in each slot. A game stands in the places of its two teams, if both were free when it came,
 /// and else it is a spare one, which is counted by slot, home team and away team. These counts reach no further than
 /// the last slot that has a spare game, so that a round robin has none, but there is room for all from the start.
-/// Beside them the home games and the away games of each team in each slot are counted, and the slots in which there are
-/// any are marked.
+/// Beside them the home games and the away games of each team in each slot are counted, and the slots in which there
+/// are any are marked.
 #[derive(Drop)]
 pub struct Cells {
     n: u16,
@@ -90,7 +90,7 @@ impl Cells {
         self.n
     }
 
-    /// The number of slots of the season.
+    /// The number of slots of the season: 2(n - 1), at most 78.
     pub fn slots(&self) -> u16
         ensures slots { result ≡ counts.slot_count self.now.n }
         ensures at_most { result ≤ 78 }

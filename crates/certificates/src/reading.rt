@@ -11,8 +11,8 @@ use refutation::{Log, LogFault, LogFeed, LogKind};
 use robin_io::decimal;
 use std::alloc::Global;
 
-/// The certificate that a text writes. The first line states the bound, and behind it stands the log, whose first line has
-/// the number 2; where the bound is 0, nothing.
+/// The certificate that a text writes. The first line states the bound, and behind it stands the log, whose first line
+/// has the number 2; where the bound is 0, nothing.
 ///
 /// # Errors
 /// `Form` with the kind and the line of the text's first fault: NoEnd in line 1 where no LF ends it, BadLine in line 1

@@ -33,7 +33,8 @@ encodes-large league next answer large (inr h) = h.1
 pub said-known : (said : Result (List Step) Fault) (steps : List Step) (next : List Step → Outcome) (answer : Answer) → said ≡ Ok steps → says_log said next answer → next steps answer
 said-known said steps next answer is given = subst (λ r. says_log r next answer) is given
 
--- two files that are known and within their limits, at which nothing fails, the first of which says a league whose rows aren't too many: the answer is that to what the second says
+-- two files that are known and within their limits, at which nothing fails, the first of which says a league whose rows
+-- aren't too many: the answer is that to what the second says
 pub checked-at_log : (contents : List ℕ → Option (List ℕ)) (took_more : ℕ → Type 0) (failed : List ℕ → Type 0) (instance log first second : List ℕ) (league : Instance) (answer : Answer)
     → contents instance ≡ Some first → contents log ≡ Some second → length first ≤ INSTANCE_LIMIT → length second ≤ most_log_bytes → instance_of (pieces first) ≡ Ok league → encoding_size league ≤ most_terms → (failed instance → ⊥) → (failed log → ⊥)
     → checked contents took_more failed instance log answer → says_log (log_of second) (IsVerdict league (rows_of league)) answer

@@ -64,7 +64,8 @@ says_league : instance_of (pieces league_file) ≡ Ok homeless
 unfolding attributes_at pieces_from walk
 says_league = refl
 
--- it has 8 variables, 32 rows and few terms: rows 31 and 32 are the constraint's, and row 23 wants a team at home in slot 0
+-- it has 8 variables, 32 rows and few terms: rows 31 and 32 are the constraint's, and row 23 wants a team at home in
+-- slot 0
 vars-is : var_count homeless ≡ 8
 vars-is = refl
 

@@ -21,7 +21,7 @@ fn season(alloc: Global, n: u16) -> Result<Schedule, AllocError>
     Ok(schedule)
 }
 
-/// Makes the season of the circle method, and its text.
+/// Makes the season of the circle method for n teams, n even and from 2 to 40, and its text.
 ///
 /// # Errors
 /// Only where memory runs out.

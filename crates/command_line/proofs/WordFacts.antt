@@ -146,8 +146,8 @@ pub trial-some : (reading (codes "trial" ∷ codes "8" ∷ codes "7" ∷ []) ≡
 unfolding teams_and_seed
 trial-some = (refl, refl, refl)
 
--- no seed or two, an odd number of teams, a seed with a leading zero or a sign, an option without its value, twice, or of
--- another name
+-- no seed or two, an odd number of teams, a seed with a leading zero or a sign, an option without its value, twice, or
+-- of another name
 pub trial-none : (reading (codes "trial" ∷ codes "8" ∷ []) ≡ None)
     × (reading (codes "trial" ∷ []) ≡ None)
     × (reading (codes "trial" ∷ codes "8" ∷ codes "7" ∷ codes "7" ∷ []) ≡ None)
@@ -235,8 +235,8 @@ pub prove-some : (reading (codes "prove" ∷ codes "a" ∷ codes "b" ∷ []) ≡
     ≡ Some (Prove (codes "a") (codes "b") None))
 prove-some = (refl, refl, refl, refl)
 
--- no file, one or three, an option in place of a file, an option of `solve` alone, the option twice, without its value or
--- with a wrong one, another spelling
+-- no file, one or three, an option in place of a file, an option of `solve` alone, the option twice, without its value
+-- or with a wrong one, another spelling
 pub prove-none : (reading (codes "prove" ∷ []) ≡ None) × (reading (codes "prove" ∷ codes "a" ∷ []) ≡ None)
     × (reading (codes "prove" ∷ codes "a" ∷ codes "b" ∷ codes "c" ∷ []) ≡ None)
     × (reading (codes "prove" ∷ codes "-a" ∷ codes "b" ∷ []) ≡ None)

@@ -1,4 +1,5 @@
--- A league of two teams whose first constraint wants 0 at home to 1 in slot 0, and whose third wants 1 at home to 0 there.
+-- A league of two teams whose first constraint wants 0 at home to 1 in slot 0, and whose third wants 1 at home to 0
+-- there.
 use Rattle.std.proofs.Common.{◌≡◌, true, false, Some, List, [], ◌∷◌, map, zero, suc, IsTrue}
 use Rattle.std.proofs.Common.{refl, arith}
 use Rattle.std.specs.List.{All}

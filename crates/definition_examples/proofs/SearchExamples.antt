@@ -1,5 +1,5 @@
--- Two clauses of two variables, 1 or 2, and 1 or not 2: what a log of one step makes of them; and the trail of four rows
--- of which each forces something.
+-- Two clauses of two variables, 1 or 2, and 1 or not 2: what a log of one step makes of them; and the trail of four
+-- rows of which each forces something.
 use Rattle.std.proofs.Common.{◌≡◌, ◌≢◌, ℕ, zero, suc, ◌+◌, ◌<◌, ◌≤◌, List, [], ◌∷◌, get_or, map, Some}
 use Rattle.std.proofs.Common.{refl, arith, lit<, sym}
 use Rattle.std.specs.Prelude.{Contains}

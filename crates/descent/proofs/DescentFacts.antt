@@ -30,7 +30,8 @@ is_lower-equal = refl
 pub no_worse-equal : IsNoWorse (score 2 3) (score 2 3)
 no_worse-equal = refl
 
--- a hard rule of penalty 10 and a soft one of penalty 3, whose one entry is how often team 0 is away to team 3 in slot 0
+-- a hard rule of penalty 10 and a soft one of penalty 3, whose one entry is how often team 0 is away to team 3 in slot
+-- 0
 abbrev one_entry : Ghosts ℕ
 one_entry = record { team_count = λ r. 4; term_count = λ r. 1; reach_of = λ r. 1; entry = λ r k m. m 3 0 0; touches = λ r g. 0 ∷ []; watched = λ r t. true }
 

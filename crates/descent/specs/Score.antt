@@ -7,7 +7,8 @@ use Rattle.tally.specs.declared.weigh.Sums.{Sums}
 use Rattle.tally.specs.declared.weighted.Weighted.{Weighted}
 use Rattle.descent.specs.declared.score.Score.{Score}
 
--- whether a score is the lower one of two: by the infeasibility, and by the objective where the infeasibilities are equal
+-- whether a score is the lower one of two: by the infeasibility, and by the objective where the infeasibilities are
+-- equal
 abbrev pub is_lower : Score → Score → Bool
 is_lower a b =
     nat_lt a.infeasibility b.infeasibility

@@ -60,12 +60,12 @@ impl Descent {
 }
 
 /// Makes moves on a tally's games, a double round robin, each of which is legal and lowers the score by the tally's
-/// rules, at most `limit` of them. After a move it goes on with the move behind it, and it ends after one whole round of
-/// all moves of which none lowers the score, or at the limit.
+/// rules, at most `limit` of them. After a move it goes on with the move behind it, and it ends after one whole round
+/// of all moves of which none lowers the score, or at the limit.
 ///
 /// # Errors
-/// Only where memory runs out. Then the moves made so far stay made: the tally has a double round robin that isn't worse
-/// than at the start.
+/// Only where memory runs out. Then the moves made so far stay made: the tally has a double round robin that isn't
+/// worse than at the start.
 pub fn descend<R: Rule<L>, L>(
     alloc: Global,
     phased: bool,

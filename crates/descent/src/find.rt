@@ -32,8 +32,8 @@ pub(crate) fn all_moves(alloc: Global, n: u16) -> Result<Vec<Swap>, AllocError>
     Ok(moves)
 }
 
-/// Whether a move is legal and lowers the score of a tally's games, which stand on a board. Then the edit is that of the
-/// move. The tally has the same games as before.
+/// Whether a move is legal and lowers the score of a tally's games, which stand on a board. Then the edit is that of
+/// the move. The tally has the same games as before.
 pub(crate) fn is_lowering<R: Rule<L>, L>(
     step: Swap,
     board: &Board,

@@ -6,8 +6,8 @@ pub fn climbs_back()
     ensures { TrailsClimbBack }
 {}
 
-/// Where nothing is infeasible at a trail's start, nothing is at its end, and each of its moves lowers the objective. So
-/// a descent that may make as many moves as its first objective says is settled at its end.
+/// Where nothing is infeasible at a trail's start, nothing is at its end, and each of its moves lowers the objective.
+/// So a descent that may make as many moves as its first objective says is settled at its end.
 pub fn stays_feasible()
     ensures { TrailsStayFeasible }
 {}

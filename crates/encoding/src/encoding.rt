@@ -61,7 +61,7 @@ impl Encoding {
         self.breaks
     }
 
-    /// The number of variables.
+    /// The number of variables, at most 130,960.
     pub fn vars(&self) -> u32
         ensures vars { result ≡ var_count self.now }
         ensures at_most { result ≤ 130960 }
@@ -75,7 +75,8 @@ impl Encoding {
         x_count(n) + h_count(n) + breaks
     }
 
-    /// The variable that is true where the game of `home` at home to `away` takes place in the slot.
+    /// The variable, from 1 to `vars`, that is true where the game of `home` at home to `away`, another team, takes
+    /// place in the slot.
     pub fn x(&self, home: TeamId, away: TeamId, slot: SlotId) -> u32
         requires home { home.0 < self.now.n }
         requires away { away.0 < self.now.n }
@@ -88,7 +89,7 @@ impl Encoding {
         x_at(self.league.n(), home.0, away.0, slot.0)
     }
 
-    /// The variable that is true where the team plays at home in the slot.
+    /// The variable, from 1 to `vars`, that is true where the team plays at home in the slot.
     pub fn h(&self, team: TeamId, slot: SlotId) -> u32
         requires team { team.0 < self.now.n }
         requires slot { slot.0 < counts.slot_count self.now.n }

@@ -1,6 +1,6 @@
--- Rows of four teams, literal by literal: x(i,j,s) is 1 + 6 (3 i + j') + s, where j' is the place of j beside i, h(i,s) is
--- 73 + 6 i + s, hb(i,s) is 97 + 5 i + s - 1, and ab(i,s) is 20 more. What stands here pins the order of rows and terms,
--- of which no law says anything.
+-- Rows of four teams, literal by literal: x(i,j,s) is 1 + 6 (3 i + j') + s, where j' is the place of j beside i, h(i,s)
+-- is 73 + 6 i + s, hb(i,s) is 97 + 5 i + s - 1, and ab(i,s) is 20 more. What stands here pins the order of rows and
+-- terms, of which no law says anything.
 use Rattle.std.proofs.Common.{◌≡◌, ℕ, [], ◌∷◌, true, false, length, refl, take}
 use Rattle.league.specs.Instance.{Instance}
 use Rattle.league.specs.declared.class.Class.TheVariants.{Ca1, Ca2, Ca3, Ca4, Ga1, Br1, Br2, Fa2, Se1}

@@ -2,7 +2,8 @@
 //! its rules give them, a league whose rows have too many terms, and a season read back from its shadow.
 //!
 //! A line of standard input is `FILE: WHAT`, what is to be shown of the encoding of the league of a file of `data`, or
-//! else a title. A variable is shown by its name, with its teams and slot, and a row as its sum and what that is at least.
+//! else a title. A variable is shown by its name, with its teams and slot, and a row as its sum and what that is at
+//! least.
 #![tactic(auto)]
 
 mod lines;

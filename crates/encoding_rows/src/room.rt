@@ -4,8 +4,8 @@ ghost use Rattle.std.specs.Prelude.{◌≤◌};
 use encoding_base::pairs_at_most;
 use league::{Class, League, slot_count};
 
-/// At least as many as a league has rows. Each has a term, but for those that ask for at least some of no games, of which
-/// each key has one at most.
+/// At least as many as a league has rows. Each has a term, but for those that ask for at least some of no games, of
+/// which each key has one at most.
 pub(crate) fn rows_at_most(league: &League, terms: u64) -> usize {
     let n = league.n();
     let mut rows = season_rows_at_most(n);

@@ -186,7 +186,7 @@ pairs_of-ascend (t ∷ teams) ascending =
     (pairs_of-ascend teams (λ i j d h k. ascending (suc i) (suc j) d (omega arith) (omega arith)))
 
 -- two teams have two meetings
-two_meetings : (i j : ℕ) → i < j → length (meetings_with Both i (j ∷ [])) ≡ 2
+pub two_meetings : (i j : ℕ) → i < j → length (meetings_with Both i (j ∷ [])) ≡ 2
 two_meetings i j order = grind (arith, nat_tests)
 
 se1-key : (n min : ℕ) (p : ℕ × ℕ) → 2 ≤ n → p.0 < p.1 → size_of (filter demands (se1_rows n min p)) ≡ (slot_count n + 1 - smaller (min + 1) (slot_count n)) * (2 * smaller (min + 1) (slot_count n))

@@ -11,7 +11,7 @@ use crate::sizes::class_terms;
 use encoding_base::has_breaks;
 use league::{Constraint, League};
 
-/// How many terms the rows of a league have.
+/// How many terms the rows of a league have. It takes no memory.
 pub fn encoding_size(league: &League) -> u64
     ensures { result ≡ encoding.encoding_size league.now }
 {

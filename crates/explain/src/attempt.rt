@@ -32,8 +32,8 @@ pub(crate) enum Attempt {
 /// How many clauses a search for patterns learns at most.
 const MOST_FOR_PATTERNS: u64 = 500;
 
-/// What a try may do: one search, which learns at most so many clauses, and before it a search for patterns, which learns
-/// at most as many, and at most 500; no move.
+/// What a try may do: one search, which learns at most so many clauses, and before it a search for patterns, which
+/// learns at most as many, and at most 500; no move.
 fn budgets_of(conflicts: Option<u64>) -> Budgets
     ensures conflicts { result.conflicts ≡ conflicts }
     ensures moves { result.moves ≡ 0 }

@@ -28,8 +28,8 @@ use std::alloc::{AllocError, Global};
 /// The members of a conflict are found by leaving out one after another: one without which the others still contradict
 /// each other is dropped, and then the members that were undecided are tried again. After each refutation those
 /// constraints whose rows its log uses are searched alone, and where that is refuted too, the others are dropped. Each
-/// search learns at most `conflicts` clauses, or goes on to the end; the search for patterns before it learns at most as
-/// many, and at most 500.
+/// search learns at most `conflicts` clauses, or goes on to the end; the search for patterns before it learns at most
+/// as many, and at most 500.
 ///
 /// # Errors
 /// `TooLarge` exactly where the league's rows have more than 40,000,000 terms, with their number, before anything

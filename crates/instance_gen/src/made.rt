@@ -17,8 +17,8 @@ use rand_pcg::Pcg32;
 use std::alloc::{AllocError, Global};
 
 /// The league of n teams that a seed makes, for an even n from 2 to 40: phased, with n + 17 constraints of all nine
-/// classes, each of them made of the next words of the PCG32 of the seed. Its hard constraints bound what the double
-/// round robin of the circle method has, so that the league accepts it.
+/// classes, all but seven of them made of the next words of the PCG32 of the seed. Its hard constraints bound what the
+/// double round robin of the circle method has, so that the league accepts it.
 ///
 /// # Errors
 /// Only where memory runs out.

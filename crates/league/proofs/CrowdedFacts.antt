@@ -1,5 +1,5 @@
--- Each class and the structure on the crowded schedule, computed by hand. Slots are 0 to 5, and the first half has 0, 1 and 2.
--- Games by slot: 0-1 and 0-1; 0-2 and 3-0; 1-0; none; 0-3 and 2-0; 1-0 and 0-2 (home team first).
+-- Each class and the structure on the crowded schedule, computed by hand. Slots are 0 to 5, and the first half has 0, 1
+-- and 2. Games by slot: 0-1 and 0-1; 0-2 and 3-0; 1-0; none; 0-3 and 2-0; 1-0 and 0-2 (home team first).
 use Rattle.std.proofs.Common.{◌≡◌, ℕ, List, [], ◌∷◌, map, true, false, refl}
 use Rattle.league.specs.Bounds.{difference}
 use Rattle.league.specs.Breaks.{breaks_at, is_away_break, is_home_break}
@@ -80,7 +80,8 @@ ca2-away = refl
 pub ca2-no_opponent : entries (Ca2 (0 ∷ 3 ∷ []) [] 0 0 Both all_slots) ≡ 0 ∷ 0 ∷ []
 ca2-no_opponent = refl
 
--- home games of team 0 by slot are 2 1 0 0 1 1. In the five windows of two slots they are 3 1 0 1 2: two and one beyond 1
+-- home games of team 0 by slot are 2 1 0 0 1 1. In the five windows of two slots they are 3 1 0 1 2: two and one beyond
+-- 1
 pub ca3-two_slots : entries (Ca3 (0 ∷ []) (1 ∷ 2 ∷ 3 ∷ []) 0 1 2 H) ≡ 3 ∷ []
 ca3-two_slots = refl
 
@@ -107,7 +108,8 @@ ca3-both = refl
 pub windows-last_one : windows_of 4 5 ≡ (0 ∷ 1 ∷ 2 ∷ 3 ∷ 4 ∷ []) ∷ (1 ∷ 2 ∷ 3 ∷ 4 ∷ 5 ∷ []) ∷ []
 windows-last_one = refl
 
--- teams1 and teams2 share 0 and 1. With the home team in teams1 and the away team in teams2: 0-1, 0-1, 0-2, 1-0, 1-0, 0-2
+-- teams1 and teams2 share 0 and 1. With the home team in teams1 and the away team in teams2: 0-1, 0-1, 0-2, 1-0, 1-0,
+-- 0-2
 pub ca4-home : entries (Ca4 (0 ∷ 1 ∷ []) (0 ∷ 1 ∷ 2 ∷ []) 0 0 H Global all_slots) ≡ 6 ∷ []
 ca4-home = refl
 
@@ -154,7 +156,8 @@ ga1-no_meeting = refl
 pub ga1-no_slot : entries (Ga1 ((0, 1) ∷ []) 2 5 []) ≡ 2 ∷ []
 ga1-no_slot = refl
 
--- team 0 is at home in slots 0, 1, 4 and 5, and away in 1, 2, 4 and 5: slot 0 has none before it, and slot 5 has a break on each side
+-- team 0 is at home in slots 0, 1, 4 and 5, and away in 1, 2, 4 and 5: slot 0 has none before it, and slot 5 has a
+-- break on each side
 pub breaks-home : map (is_home_break 4 crowded 0) all_slots ≡ false ∷ true ∷ false ∷ false ∷ false ∷ true ∷ []
 breaks-home = refl
 
@@ -201,8 +204,8 @@ played-1 = refl
 pub played-3 : map (home_played 4 crowded 3) all_slots ≡ 0 ∷ 1 ∷ 1 ∷ 1 ∷ 1 ∷ 1 ∷ []
 played-3 = refl
 
--- After slots 0 and 2 teams 0 and 1 differ by 2, 0 and 3 by 2, 1 and 3 by 0. That 0 and 1 differ by 3 after slot 1 isn't looked at,
--- but the games in slot 1 have been played by slot 2
+-- After slots 0 and 2 teams 0 and 1 differ by 2, 0 and 3 by 2, 1 and 3 by 0. That 0 and 1 differ by 3 after slot 1
+-- isn't looked at, but the games in slot 1 have been played by slot 2
 pub fa2-slot_1_skipped : entries (Fa2 (0 ∷ 1 ∷ 3 ∷ []) 1 (0 ∷ 2 ∷ [])) ≡ 1 ∷ 1 ∷ 0 ∷ []
 fa2-slot_1_skipped = refl
 
@@ -216,8 +219,9 @@ fa2-one_team = refl
 pub mutual_games-0_1 : mutual_games 4 crowded (0, 1) ≡ 0 ∷ 0 ∷ 2 ∷ 5 ∷ []
 mutual_games-0_1 = refl
 
--- Between neighbours lie, for 0 and 1: none, slot 1, slots 3 and 4; so they lack 2, 1 and 0 of 2. For 0 and 2, which meet in 1, 4 and 5: two
--- slots and none, which lack 0 and 2. 0 and 3 meet in 1 and 4, with two between, and the others never
+-- Between neighbours lie, for 0 and 1: none, slot 1, slots 3 and 4; so they lack 2, 1 and 0 of 2. For 0 and 2, which
+-- meet in 1, 4 and 5: two slots and none, which lack 0 and 2. 0 and 3 meet in 1 and 4, with two between, and the others
+-- never
 pub se1-all : entries (Se1 all_teams 2) ≡ 3 ∷ 2 ∷ 0 ∷ 0 ∷ 0 ∷ 0 ∷ []
 se1-all = refl
 
@@ -230,7 +234,8 @@ se1-no_min = refl
 pub se1-one_team : entries (Se1 (3 ∷ []) 9) ≡ []
 se1-one_team = refl
 
--- with 1-0 in slot 0 once more they meet there three times: two neighbours more without a slot between them than with one game
+-- with 1-0 in slot 0 once more they meet there three times: two neighbours more without a slot between them than with
+-- one game
 pub se1-three_in_one_slot : vector_of 4 (one_more crowded (game 1 0 0)) (Se1 (0 ∷ 1 ∷ []) 2) ≡ 5 ∷ []
 se1-three_in_one_slot = refl
 

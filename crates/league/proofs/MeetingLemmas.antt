@@ -1,4 +1,5 @@
--- All meetings of a league as a loop over home teams and away teams, and all pairs as a loop over teams and later teams.
+-- All meetings of a league as a loop over home teams and away teams, and all pairs as a loop over teams and later
+-- teams.
 use Rattle.std.proofs.Common.{◌≡◌, ℕ, ◌+◌, ◌-◌, ◌<◌, Bool, true, false, not, ◌&&◌, ◌==◌, List, ◌∷◌, map, suc, cond, if◌then◌else◌, refl, arith, ap, ◌∙◌}
 use Rattle.std.proofs.lemmas.List.Sums.{sum_by-append}
 use Rattle.std.specs.List.{count_by, range_with_len, sum_by}

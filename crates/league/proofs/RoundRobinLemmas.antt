@@ -1,5 +1,5 @@
--- What the three counts of a round robin mean: they are 0 exactly where each two teams meet once at each venue, each team has one game in
--- each slot, and, in a phased league, each two teams meet once in the first half.
+-- What the three counts of a round robin mean: they are 0 exactly where each two teams meet once at each venue, each
+-- team has one game in each slot, and, in a phased league, each two teams meet once in the first half.
 use Rattle.std.proofs.Common.{◌≡◌, ◌≢◌, ℕ, zero, suc, ◌+◌, ◌-◌, ◌<◌, ◌≤◌, Bool, true, false, not, ◌&&◌, ◌==◌, [], ◌∷◌, length, refl, arith, ap, ◌∙◌, sym, ◌↔◌}
 use Rattle.std.proofs.lemmas.Bool.Decides.{nat_tests}
 use Rattle.std.proofs.lemmas.List.FromFn.{get_or-range_with_len, length-range_with_len}

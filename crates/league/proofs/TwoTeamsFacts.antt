@@ -1,5 +1,5 @@
--- The smallest league: two teams, two slots, one slot in each half. In `fair` team 1 is at home in slot 0 and team 0 in slot 1; in
--- `unfair` team 0 is at home in both.
+-- The smallest league: two teams, two slots, one slot in each half. In `fair` team 1 is at home in slot 0 and team 0 in
+-- slot 1; in `unfair` team 0 is at home in both.
 use Rattle.std.proofs.Common.{◌≡◌, ℕ, List, [], ◌∷◌, true, refl}
 use Rattle.league.specs.Capacity.{windows_of}
 use Rattle.league.specs.Counts.{Counts, counts_of, slot_count, slots_of, teams_of}

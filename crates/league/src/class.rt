@@ -333,7 +333,7 @@ fn copy_three(
     Ok((teams1, teams2, slots.copy()?))
 }
 
-/// A constraint of a league: hard or soft, with the penalty for each unit of its deviation.
+/// A constraint of a league: hard or soft, with the penalty, of 32 bits, for each unit of its deviation.
 #[derive(Drop)]
 pub struct Constraint {
     pub hard: bool,

@@ -27,7 +27,7 @@ impl Grid {
         Grid { numbers: [0; 3120] }
     }
 
-    /// The count in a row and column.
+    /// The count in a row below 40 and a column below 78.
     pub fn at(&self, row: u16, column: u16) -> u16
         requires row { row < 40 }
         requires column { column < 78 }
@@ -36,7 +36,7 @@ impl Grid {
         self.numbers[place(row, column)]
     }
 
-    /// Adds 1 to a count.
+    /// Adds 1 to the count, which is below 65,535, in a row below 40 and a column below 78.
     pub fn add(&mut self, row: u16, column: u16)
         requires row { row < 40 }
         requires column { column < 78 }

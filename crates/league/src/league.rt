@@ -18,7 +18,7 @@ pub fn is_team_count(n: u64) -> bool
     n % 2 == 0 && 2 <= n && n <= 40
 }
 
-/// The number of slots of a double round robin of n teams: 2(n - 1), and 0 of no team.
+/// The number of slots of a double round robin of n teams, n at most 40: 2(n - 1), and 0 of no team.
 pub fn slot_count(n: u16) -> u16
     requires { n ≤ 40 }
     ensures { result ≡ counts.slot_count n }
@@ -45,7 +45,8 @@ impl Model for League {
 }
 
 impl League {
-    /// The league of n teams with these constraints. It takes no memory.
+    /// The league of n teams, n even and from 2 to 40, with these constraints, at most 20,000, each of which fits n. It
+    /// takes no memory.
     pub fn new(n: u16, phased: bool, constraints: Vec<Constraint>) -> League
         requires teams { IsTeamCount n }
         requires few { length constraints.items ≤ 20000 }

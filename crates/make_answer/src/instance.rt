@@ -9,7 +9,7 @@ use instance_gen::make;
 use robinx_write::instance_text;
 use std::alloc::{AllocError, Global};
 
-/// Makes the league of n teams and a seed, and its text, which reads back as it.
+/// Makes the league of n teams, n even and from 2 to 40, and a seed, and its text, which reads back as it.
 ///
 /// # Errors
 /// Only where memory runs out.

@@ -1,5 +1,5 @@
--- When exchanging two slots of a closed set of teams leads to a round robin: exactly where there are no phases, or the slots are of one half, or each
--- of the teams has the same opponent in both.
+-- When exchanging two slots of a closed set of teams leads to a round robin: exactly where there are no phases, or the
+-- slots are of one half, or each of the teams has the same opponent in both.
 use Rattle.std.proofs.Common.{◌≡◌, ◌≢◌, ℕ, ◌+◌, ◌-◌, ◌<◌, ◌≤◌, Bool, true, false, ◌||◌, nat_lt, if◌then◌else◌, ◌⊎◌, inl, inr, refl, arith, ap, subst, sym, ◌∙◌}
 use Rattle.std.proofs.lemmas.Bool.{cases_eq, cases_Bool}
 use Rattle.std.proofs.lemmas.Bool.Decides.{nat_tests}

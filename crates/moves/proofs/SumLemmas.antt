@@ -1,4 +1,5 @@
--- Sums over the numbers below a bound: with two of the numbers exchanged, with at most one term that counts, and in either order.
+-- Sums over the numbers below a bound: with two of the numbers exchanged, with at most one term that counts, and in
+-- either order.
 use Rattle.std.proofs.Common.{◌≡◌, ◌≢◌, ℕ, zero, suc, ◌+◌, ◌<◌, ◌≤◌, ◌&&◌, not, nat_lt, if◌then◌else◌, inl, inr, refl, arith, ap, sym, ◌∙◌}
 use Rattle.std.proofs.lemmas.Bool.{cases_eq}
 use Rattle.std.proofs.lemmas.Bool.Decides.{nat_tests}

@@ -1,5 +1,5 @@
--- When exchanging two teams in a closed set of slots leads to a round robin: exactly where there are no phases, or, in those of the slots that are in
--- the first half, both meet the same teams.
+-- When exchanging two teams in a closed set of slots leads to a round robin: exactly where there are no phases, or, in
+-- those of the slots that are in the first half, both meet the same teams.
 use Rattle.std.proofs.Common.{◌≡◌, ◌≢◌, ℕ, ◌+◌, ◌-◌, ◌<◌, ◌≤◌, Bool, true, false, ◌&&◌, ◌||◌, nat_lt, if◌then◌else◌, inl, inr, refl, arith, ap, subst, sym, ◌∙◌}
 use Rattle.std.proofs.lemmas.Bool.{cases_eq, cases_Bool}
 use Rattle.std.proofs.lemmas.Bool.Decides.{nat_tests}

@@ -5,8 +5,8 @@ use league::Game;
 use std::alloc::{AllocError, Global};
 use std::marker::Model;
 
-/// The games that a move takes out of a board of n teams, and those that it puts in, with room for 4n of each. There are
-/// as many of both. It is `edit_of` that fills it, with no game in both lists.
+/// The games that a move takes out of a board of n teams, and those that it puts in, with room for 4n of each. There
+/// are as many of both. It is `edit_of` that fills it, with no game in both lists.
 #[derive(Drop)]
 pub struct Edit {
     n: u16,

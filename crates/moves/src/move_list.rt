@@ -34,13 +34,14 @@ impl MoveList {
         }
     }
 
-    /// Makes room for so many more moves.
+    /// Makes room for so many more moves, and gives up none.
     ///
     /// # Errors
     /// Only where memory runs out: then the list is as it was.
     pub fn reserve(&mut self, more: usize) -> Result<(), AllocError>
         ensures list { self.new.list ≡ self.old.list }
         ensures ok { OnOk result (more ≤ self.new.spare) }
+        ensures kept { self.old.spare ≤ self.new.spare }
         ensures err { OnErr result (self.new ≡ self.old) }
     {
         if more > self.spare {

@@ -87,8 +87,9 @@ half-is_single = record {
 pub canonical_patterns-four : canonical_patterns 4 ≡ (A ∷ A ∷ H ∷ []) ∷ (H ∷ H ∷ A ∷ []) ∷ (A ∷ H ∷ A ∷ []) ∷ (H ∷ A ∷ H ∷ []) ∷ []
 canonical_patterns-four = refl
 
--- of six teams, from the games of the single circle schedule: slot 0 has 5-0, 1-4, 3-2; slot 1 has 1-5, 2-0, 4-3; slot 2
--- has 5-2, 3-1, 0-4; slot 3 has 3-5, 4-2, 1-0; slot 4 has 5-4, 0-3, 2-1. Teams 4 and 5 have no break, the others one each
+-- of six teams, from the games of the single circle schedule: slot 0 has 5-0, 1-4, 3-2; slot 1 has 1-5, 2-0, 4-3; slot
+-- 2 has 5-2, 3-1, 0-4; slot 3 has 3-5, 4-2, 1-0; slot 4 has 5-4, 0-3, 2-1. Teams 4 and 5 have no break, the others one
+-- each
 pub canonical_patterns-six : canonical_patterns 6 ≡ (A ∷ A ∷ H ∷ A ∷ H ∷ []) ∷ (H ∷ H ∷ A ∷ H ∷ A ∷ []) ∷ (A ∷ H ∷ A ∷ A ∷ H ∷ []) ∷ (H ∷ A ∷ H ∷ H ∷ A ∷ []) ∷ (A ∷ H ∷ A ∷ H ∷ A ∷ []) ∷ (H ∷ A ∷ H ∷ A ∷ H ∷ []) ∷ []
 canonical_patterns-six = refl
 

@@ -114,7 +114,7 @@ impl<'a> Trail<'a> {
     /// Adds a clause behind the rows, and gives its number. No literal is made true.
     ///
     /// # Errors
-    /// Only where memory runs out, or there would be 2^32 rows, or 2^32 terms: then nothing changes.
+    /// Only where memory runs out, or there would be 2^32 rows, or 2^32 watched literals: then nothing changes.
     pub fn add(&mut self, clause: &[Lit]) -> Result<u64, AllocError>
         requires known { All (λ l. l.var ≤ self.old.vars) clause.now }
         requires variables { AllPairs (λ l m. l.var ≢ m.var) clause.now }

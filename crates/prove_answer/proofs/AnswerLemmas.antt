@@ -153,7 +153,8 @@ better-no_file answer is refused = let same : Better ≡ File = other Better Fil
 better-no_fault : (answer : Answer) → answer.status ≡ Better → answer.status ≡ ReadFault → ⊥
 better-no_fault answer is refused = let same : Better ≡ ReadFault = other Better ReadFault answer is refused in cc
 
--- where the answer is yes, the schedule's objective is the least; where it is a better schedule, the league accepts that
+-- where the answer is yes, the schedule's objective is the least; where it is a better schedule, the league accepts
+-- that
 pub proved-known : (contents : List ℕ → Option (List ℕ)) (took_more : ℕ → Type 0) (failed : List ℕ → Type 0)
     (instance solution first second : List ℕ) (league : Instance) (games : List Game) (conflicts : Option ℕ)
     (answer : Answer) → contents instance ≡ Some first → contents solution ≡ Some second

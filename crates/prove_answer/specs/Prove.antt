@@ -38,8 +38,8 @@ pub record IsRejected (league : Instance) (games : List Game) (answer : Answer) 
   pub judgement : IsJudgement league games answer
   pub status : answer.status ≡ No
 
--- No schedule that the league accepts has a lower objective. A certificate whose log has one step more than the budget at
--- most, and is accepted, is written; where no line of it passes the limit of a line, it reads back as it.
+-- No schedule that the league accepts has a lower objective. A certificate whose log has one step more than the budget
+-- at most, and is accepted, is written; where no line of it passes the limit of a line, it reads back as it.
 pub record IsLeast (league : Instance) (conflicts : Option ℕ) (games : List Game) (answer : Answer) : Type 0 where
   pub steps : List Step
   pub accepted : IsAccepted league (counts_of games)
@@ -65,8 +65,8 @@ pub record IsBettered (league : Instance) (games : List Game) (answer : Answer) 
   pub reads_back : solution_of league.n (pieces answer.text) ≡ Ok better
 
 -- No single legal move betters the schedule, and a log that is spent at the budget over the bound rows of one less than
--- its objective is written; where no line of it passes the limit of a line, it reads back as it. The budget is below 3 to the number of variables, so a
--- greater one, or none, is never spent.
+-- its objective is written; where no line of it passes the limit of a line, it reads back as it. The budget is below 3
+-- to the number of variables, so a greater one, or none, is never spent.
 pub record IsSpentBelow (league : Instance) (conflicts : Option ℕ) (games : List Game) (answer : Answer) : Type 0
   where
     pub steps : List Step

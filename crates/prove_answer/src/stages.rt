@@ -103,8 +103,8 @@ fn prove_stages<S: Shelf>(
     show_file(alloc, &second, &league, conflicts)
 }
 
-/// Shows that the schedule of one file can't be bettered in the league of the other, betters it, or spends its budget of
-/// conflicts. A schedule that the league doesn't accept is judged.
+/// Shows that the schedule of one file can't be bettered in the league of the other, betters it, or spends its budget
+/// of conflicts. A schedule that the league doesn't accept is judged.
 ///
 /// # Errors
 /// Only where memory runs out: a refused file has a reply of its own.

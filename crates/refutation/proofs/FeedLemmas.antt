@@ -1,6 +1,6 @@
 -- Lines of a log, taken from the front, and pieces of it.
 use Rattle.std.proofs.Common.{◌≡◌, ℕ, ◌+◌, ◌-◌, ◌<◌, ◌≤◌, Bool, true, false, nat_le, List, [], ◌∷◌, ◌++◌}
-use Rattle.std.proofs.Common.{length, take, drop, Option, Some, None, Result, Ok, Err, refl, sym, ap}
+use Rattle.std.proofs.Common.{length, take, drop, Option, IfSome, Some, None, Result, Ok, Err, refl, sym, ap}
 use Rattle.std.proofs.Common.{◌∙◌, arith, append_assoc, length-append}
 use Rattle.std.specs.Prelude.{is_some}
 use Rattle.std.proofs.lemmas.Bool.{false≢true}
@@ -131,14 +131,16 @@ IsPlace-kept at now front within place lacks short is = rw is (record {
   one_line = All-append (λ b. is_line_feed b ≡ false) at.text front place.one_line lacks;
   short = omega (arith, length-append at.text front, place.short);
   nothing = λ ended. absurd (false≢true (sym within ∙ ended));
+  at_fault = place.at_fault;
 })
 
 -- a place whose line is empty
-pub IsPlace-empty : (now : Place) → now.text ≡ [] → IsPlace now
-IsPlace-empty now is = record {
+pub IsPlace-empty : (now : Place) → now.text ≡ [] → IfSome now.fault (λ fault. fault.1 ≡ now.line) → IsPlace now
+IsPlace-empty now is faulty = record {
   one_line = rw is (λ k d below. absurd (omega arith));
   short = rw is (omega arith);
   nothing = λ ended. is;
+  at_fault = faulty;
 }
 
 -- ---- a line and its LF

@@ -74,7 +74,7 @@ module _ (version : Version) (bytes left : List ℕ) (old new : List Step)
       record {
         front = step_line_text version adds.step;
         parts = adds.line.written;
-        read = fed-line at text (ap is_some is.no_fault) is.within (IsPlace-empty at is.text) no-line_feed
+        read = fed-line at text (ap is_some is.no_fault) is.within (IsPlace-empty at is.text (rw is.no_fault tt)) no-line_feed
             outcomes.Step (next_line at) old new says next;
         line = omega (arith, clause-shorter);
       }

@@ -1,5 +1,5 @@
 -- How a place is kept, and where it goes.
-use Rattle.std.specs.Prelude.{◌≡◌, ℕ, ◌+◌, ◌≤◌, ◌==◌, Bool, true, List, [], length, Some, Result, Ok}
+use Rattle.std.specs.Prelude.{◌≡◌, ℕ, ◌+◌, ◌≤◌, ◌==◌, Bool, true, List, [], length, IfSome, Some, Result, Ok}
 use Rattle.std.specs.Prelude.{Err}
 use Rattle.refutation.specs.Steps.{Step}
 use Rattle.std.specs.Str.{byte}
@@ -20,11 +20,13 @@ use Rattle.refutation.specs.declared.place.Outcome.TheVariants as outcomes
 abbrev pub is_line_feed : ℕ → Bool
 is_line_feed b = b == byte "\n"
 
--- what each reader keeps: the bytes of one line, not too many, and none behind `end`
+-- what each reader keeps: the bytes of one line, not too many, and none behind `end`; a fault is of the line that it is
+-- in
 pub record IsPlace (at : Place) : Type 0 where
   pub one_line : Lacks is_line_feed at.text
   pub short : length at.text ≤ most_bytes
   pub nothing : at.ended ≡ true → at.text ≡ []
+  pub at_fault : IfSome at.fault (λ fault. fault.1 ≡ at.line)
 
 -- a place as contracts see it
 abbrev pub place_of : Kept → Place

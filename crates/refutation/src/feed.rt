@@ -1,5 +1,5 @@
 //! A log's text, read in pieces and whole.
-ghost use Rattle.std.specs.Prelude.{◌≡◌, ◌+◌, ◌<◌, ◌≤◌, ◌^◌, [], ℕ, List, IfOk, OnOk, length};
+ghost use Rattle.std.specs.Prelude.{◌≡◌, ◌+◌, ◌<◌, ◌≤◌, ◌^◌, [], ℕ, List, IfOk, IfSome, OnOk, length};
 ghost use Rattle.refutation.specs.Logs.{log_of, most_bytes};
 ghost use Rattle.refutation.specs.Places.{log_from, start, start_at};
 ghost use Rattle.refutation.specs.Feeding.{ReadsOn};
@@ -56,7 +56,8 @@ impl LogFeed {
 
     /// The number of the line that the reader is in, or at a fault the number of its line.
     pub fn line(&self) -> u64
-        ensures { result ≡ self.now.line }
+        ensures line { result ≡ self.now.line }
+        ensures at_fault { IfSome self.now.fault (λ fault. result ≡ fault.1) }
     {
         self.at.line
     }

@@ -69,8 +69,8 @@ pub lines_text-some : lines_text demanding 9 (record { pairs_wrong = 1; cells_wr
 unfolding digits
 lines_text-some = refl
 
--- 0-1 three times in slot 0, and nothing else: both ordered pairs are wrong, all four cells, and the one pair of the first half;
--- team 0 has two home games too many, and the game is played three times too often
+-- 0-1 three times in slot 0, and nothing else: both ordered pairs are wrong, all four cells, and the one pair of the
+-- first half; team 0 has two home games too many, and the game is played three times too often
 abbrev pub thrice : List Game
 thrice = game 0 1 0 ∷ game 0 1 0 ∷ game 0 1 0 ∷ []
 

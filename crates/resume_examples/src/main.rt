@@ -2,8 +2,9 @@
 //! of four teams, of which some slots are played.
 //!
 //! A line of standard input is `INSTANCE SOLUTION K: WHAT`, two files of `data`, how many slots are played, and either
-//! a budget of conflicts (`all` or a number), `lowered` and a budget, `size`, or `audit` and the file of a log; and else a
-//! title. Of a schedule that is found the games of the played slots are shown; with `lowered` it is made better first.
+//! a budget of conflicts (`all` or a number), `lowered` and a budget, `size`, or `audit` and the file of a log; and
+//! else a title. Of a schedule that is found the games of the played slots are shown; with `lowered` it is made better
+//! first.
 #![tactic(auto)]
 
 mod shown;

@@ -32,8 +32,8 @@ pub(crate) struct Season {
 }
 
 /// A schedule that the league accepts, that has the games of `start` in the slots below k, and whose objective is below
-/// `cost`; if a descent of at most 10,000 moves from `start` leads to one. Nothing where it doesn't, and where the league
-/// with a constraint more for each of these slots would have more than 20,000.
+/// `cost`; if a descent of at most 10,000 moves from `start` leads to one. Nothing where it doesn't, and where the
+/// league with a constraint more for each of these slots would have more than 20,000.
 ///
 /// # Errors
 /// Only where memory runs out.

@@ -16,9 +16,9 @@ use league::{League, Schedule};
 use resume::{Resumed, resume};
 use std::alloc::{AllocError, Global};
 
-/// Resumes a season as `resume` does. Where that answers with a schedule, and not with the old plan as it is, the answer
-/// is a schedule of a lower objective that keeps the played games too, if a descent of at most 10,000 moves that leave
-/// them alone leads to one.
+/// Resumes a season as `resume` does. Where that answers with a schedule, and not with the old plan as it is, the
+/// answer is a schedule of a lower objective that keeps the played games too, if a descent of at most 10,000 moves that
+/// leave them alone leads to one.
 ///
 /// # Errors
 /// As `resume`.

@@ -72,8 +72,8 @@ impl ResumeSystem {
 }
 
 /// The resume rows of a league whose first k slots are played, where `played` has their games. Its games from slot k on
-/// play no part, and one that it has twice is kept once. The terms are counted before any row is written, which takes no
-/// memory: where there are too many, that is the answer.
+/// play no part, and one that it has twice is kept once. The terms are counted before any row is written, which takes
+/// no memory: where there are too many, that is the answer.
 ///
 /// # Errors
 /// `TooLarge` exactly where the rows have more than 40,000,000 terms, with their number, as far as a number of 64 bits

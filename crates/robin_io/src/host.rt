@@ -1,6 +1,6 @@
 // The machine's files and its standard output: the trusted edge. What they give and keep is outside any proof.
-ghost use Rattle.std.specs.Prelude.{◌≡◌, ◌-◌, ◌^◌, ◌<◌, ◌≤◌, ℕ, List, None, length, take};
-ghost use Rattle.std.specs.Prelude.{IsSome, IsNone, IsSomeAnd, IfOk, OnOk, OnErr, MatchResult};
+ghost use Rattle.std.specs.Prelude.{◌≡◌, ◌↔◌, ◌-◌, ◌^◌, ◌<◌, ◌≤◌, ℕ, List, None, length, take};
+ghost use Rattle.std.specs.Prelude.{IsErr, IsSome, IsNone, IsSomeAnd, IfOk, OnOk, OnErr, MatchResult};
 ghost use Rattle.std.specs.Option.{option_and_then};
 ghost use Rattle.std.specs.Io.KnownBytes.{Keeps, Appends, Consumes, IsAtEnd};
 ghost use Rattle.robin_io.specs.Counts.{raised, HasCause, HasOneCause};
@@ -38,6 +38,7 @@ impl<R: Files> HostShelf<R> {
 
 /// Keeps what was opened as the started file, with nothing read of it. Where it can't be opened, no file is started.
 fn keep_opened<F: Read + Drop>(opened: io::Result<F>, kept: &mut Option<F>) -> Result<(), Failed>
+    ensures failed { IsErr result ↔ IsErr opened }
     ensures unread { IfOk opened (λ file. IsSomeAnd kept.new (λ reader. F.remaining reader ≡ F.remaining file)) }
     ensures started { MatchResult result (λ _. IsSome kept.new) (λ _. IsNone kept.new) }
 {
@@ -94,6 +95,9 @@ impl<R: Files> Shelf for HostShelf<R> {
         ensures count { IfOk result (λ k. k ≤ length room.new) }
         ensures taken { IfOk result (λ k. bytes_taken self.new ≡ raised (bytes_taken self.old) k) }
         ensures err { OnErr result (bytes_taken self.new ≡ bytes_taken self.old) }
+        ensures kept { OnErr result (Keeps
+            (option_and_then R.File.remaining (reader_of self.old))
+            (option_and_then R.File.remaining (reader_of self.new))) }
         ensures cause { HasCause (λ _. files_failed self.old) (λ _. files_failed self.new) name.now result }
 
         ensures faults { MatchResult result

@@ -73,6 +73,9 @@ impl MemShelf {
     }
 
     /// Sets the contents of a name. No file is started then.
+    ///
+    /// # Errors
+    /// Only where memory runs out: then nothing changes.
     pub fn add(&mut self, name: &str, bytes: &[u8]) -> Result<(), AllocError>
         ensures added { OnOk result (contents_in self.new.files name.now ≡ Some bytes.now) }
         ensures others { (n : List ℕ) → n ≢ name.now →
@@ -95,6 +98,9 @@ impl MemShelf {
     /// Plans that the call of this number fails. All calls of `start` and `take` are counted together from 1,
     /// the refused ones too, and the number stays at the greatest `u64`.
     /// So 0 and the number of an earlier call plan nothing.
+    ///
+    /// # Errors
+    /// Only where memory runs out: then nothing changes.
     pub fn fail_at(&mut self, call: u64) -> Result<(), AllocError>
         ensures ok { OnOk result (self.new ≡ record self.old { plan = self.old.plan ++ call ∷ [] }) }
         ensures err { OnErr result (self.new ≡ self.old) }

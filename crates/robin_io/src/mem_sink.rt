@@ -34,7 +34,10 @@ impl Model for MemSink {
 }
 
 impl MemSink {
-    /// An empty sink with this room, of which a put takes at most `piece` bytes. Puts take no memory.
+    /// An empty sink with this room, of which a put takes at most `piece` bytes, at least 1. Puts take no memory.
+    ///
+    /// # Errors
+    /// Only where memory runs out.
     pub fn new(alloc: Global, room: usize, piece: usize) -> Result<MemSink, AllocError>
         requires { 1 ≤ piece }
         ensures empty { IfOk result (λ s. s.written ≡ []) }
@@ -55,6 +58,9 @@ impl MemSink {
 
     /// Plans that the put of this number fails. All puts are counted from 1, the refused ones too,
     /// and the number stays at the greatest `u64`. So 0 and the number of an earlier put plan nothing.
+    ///
+    /// # Errors
+    /// Only where memory runs out: then nothing changes.
     pub fn fail_at(&mut self, call: u64) -> Result<(), AllocError>
         ensures ok { OnOk result (self.new ≡ record self.old { plan = self.old.plan ++ call ∷ [] }) }
         ensures err { OnErr result (self.new ≡ self.old) }

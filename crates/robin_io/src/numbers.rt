@@ -21,6 +21,10 @@ pub enum NumberFault {
 }
 
 /// The number that the digits write. Leading zeros are taken.
+///
+/// # Errors
+/// `Bad` exactly where there is no byte or one that isn't an ASCII digit, `TooLarge` exactly where the number is above
+/// 18,446,744,073,709,551,615.
 pub fn decimal(bytes: &[u8]) -> Result<u64, NumberFault>
     ensures value { IfOk result (λ n. IsTrue (is_number bytes.now) × (n ≡ digits_value 10 bytes.now)) }
     ensures bad { IsErrOf result NumberFault.Bad ↔ IsFalse (is_number bytes.now) }
@@ -63,6 +67,9 @@ fn followed_by(value: u64, digit: u8) -> Option<u64>
 }
 
 /// Appends the number's shortest decimal text.
+///
+/// # Errors
+/// Only where memory runs out: then nothing changes.
 pub fn put_decimal(out: &mut Vec<u8>, value: u128) -> Result<(), AllocError>
     ensures ok { OnOk result (out.new.items ≡ out.old.items ++ decimal_text value) }
     ensures err { OnErr result (out.new.items ≡ out.old.items) }

@@ -24,6 +24,9 @@ impl Plan {
     }
 
     /// Plans that the call of this number fails.
+    ///
+    /// # Errors
+    /// Only where memory runs out: then nothing changes.
     pub fn add(&mut self, call: u64) -> Result<(), AllocError>
         ensures ok { OnOk result (self.new.failing.items ≡ self.old.failing.items ++ call ∷ []) }
         ensures err { OnErr result (self.new.failing.items ≡ self.old.failing.items) }

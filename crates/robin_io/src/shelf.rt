@@ -88,6 +88,10 @@ impl From<AllocError> for TakeFault {
 const PIECE: usize = 8192;
 
 /// Reads a whole file of at most `limit` bytes, and takes at most `limit + 1` of its bytes.
+///
+/// # Errors
+/// `TooLong` exactly where more than the limit was taken, `Failed` only where the store failed at this name, `Mem`
+/// where memory runs out.
 pub fn read_all<S: Shelf>(
     alloc: Global,
     shelf: &mut S,

@@ -28,7 +28,10 @@ pub trait Sink {
         ensures cause { HasOneCause (faults self.old) (faults self.new) result };
 }
 
-/// Writes all the bytes, and takes no memory. After `Failed` a prefix of them was written.
+/// Writes all the bytes, and takes no memory.
+///
+/// # Errors
+/// Only where the sink failed: then a prefix of the bytes was written.
 pub fn put_all<K: Sink>(sink: &mut K, bytes: &[u8]) -> Result<(), Failed>
     ensures ok { OnOk result (Appends (K.written sink.old) (K.written sink.new) bytes.now) }
     ensures err { OnErr result (AppendsPrefix (K.written sink.old) (K.written sink.new) bytes.now) }

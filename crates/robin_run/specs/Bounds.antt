@@ -22,8 +22,8 @@ pub record IsUnbettered (league : Instance) (games : List Game) (old new : Optio
   pub certified : bound_verdict league (objective league (counts_of games)) steps ≡ Accepted
   pub written : Appends old new (certificate_text (objective league (counts_of games)) steps)
 
--- the games are accepted, and the schedule that is written, of games of the league, is too, with a lower objective, which
--- is written beside it
+-- the games are accepted, and the schedule that is written, of games of the league, is too, with a lower objective,
+-- which is written beside it
 pub record IsBettered (league : Instance) (games : List Game) (old new : Option (List ℕ)) : Type 0 where
   pub better : List Game
   pub accepted : IsAccepted league (counts_of games)

@@ -167,8 +167,9 @@ fn answer<S: Shelf>(alloc: Global, words: &[String], shelf: &mut S) -> Result<Re
 ///   the rows of its league have at most 40,000,000 terms, what is found is written whole. It is a schedule of games of
 ///   the league, which accepts it, with its objective, and the text reads back as these games; a log that is accepted
 ///   over the league's rows; or one that is spent at the budget of conflicts, and then there are patterns that satisfy
-///   the league's pattern rows, or a log that is spent over these at the budget of patterns; and a schedule wherever the
-///   league accepts that of the circle method, a log that is accepted wherever its venue counts are short or crowded.
+///   the league's pattern rows, or a log that is spent over these at the budget of patterns; and a schedule wherever
+///   the league accepts that of the circle method, a log that is accepted wherever its venue counts are short or
+///   crowded.
 ///   Behind a schedule stand the moves of the descent that led to it, at most as many as the budget of moves: taken
 ///   backwards from the schedule they are legal, each raises the score, and they end in a schedule that is accepted
 ///   too, whose objective is written. It says `settled=yes` exactly where no legal move lowers the score of the
@@ -205,8 +206,8 @@ fn answer<S: Shelf>(alloc: Global, words: &[String], shelf: &mut S) -> Result<Re
 /// - `resumed` says the same as `solved` of `resume`, over two files: where they are well-formed, the season has k
 ///   slots and the resume rows of the league have at most 40,000,000 terms, what is found is written whole. It is a
 ///   season that is accepted and keeps the played games in the first k slots, a log that is accepted over the resume
-///   rows, or one that is spent at the budget over the resume rows; and just the games of the second file, where the league accepts
-///   these.
+///   rows, or one that is spent at the budget over the resume rows; and just the games of the second file, where the
+///   league accepts these.
 /// - `kept` and `unresumable` need a store that tells the bytes of both files: where a run of `resume` ends with `Yes`,
 ///   the season that is written is accepted and keeps the played games, and where it ends with `Refuted`, no accepted
 ///   season keeps them.

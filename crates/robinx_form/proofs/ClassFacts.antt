@@ -1,6 +1,7 @@
--- The attributes of the nine classes, worked out by hand, so that a wrong row of a class does not check. A row has the name of an
--- attribute, a right value and a wrong one, which may be its absence, in the order in which they are read. Neighbours have faults
--- of different kinds, so that another order is another list of faults; but `homeMode` and `mode2` of BR2, whose one fault is the same.
+-- The attributes of the nine classes, worked out by hand, so that a wrong row of a class does not check. A row has the
+-- name of an attribute, a right value and a wrong one, which may be its absence, in the order in which they are read.
+-- Neighbours have faults of different kinds, so that another order is another list of faults; but `homeMode` and
+-- `mode2` of BR2, whose one fault is the same.
 use Prim.Native.String.{String}
 use Rattle.std.proofs.Common.{◌≡◌, ◌+◌, true, false, List, [], ◌∷◌, ◌++◌, map, take, drop, length, Option, Some, None, Ok, Err, refl}
 use Rattle.std.specs.Prelude.{codes}

@@ -1,5 +1,5 @@
--- Where elements stand in a file, and what is told of what stands elsewhere: worked out by hand over the 28 lines of a league
--- of four teams and the 17 of a season, so that a wrong definition does not check.
+-- Where elements stand in a file, and what is told of what stands elsewhere: worked out by hand over the 28 lines of a
+-- league of four teams and the 17 of a season, so that a wrong definition does not check.
 use Prim.Native.String.{String}
 use Rattle.std.proofs.Common.{◌≡◌, ℕ, ◌+◌, ◌-◌, true, false, List, [], ◌∷◌, ◌++◌, take, drop, refl}
 use Rattle.std.specs.Prelude.{Result, Ok, Err, codes}
@@ -66,8 +66,8 @@ pub root_first :
 unfolding attributes_at pieces_from walk
 root_first = (refl, refl)
 
--- the last of the 28 lines ends the root, and the last of 17 that of a season: behind it a second root, another element and an End
--- are on line 29, and on line 18
+-- the last of the 28 lines ends the root, and the last of 17 that of a season: behind it a second root, another element
+-- and an End are on line 29, and on line 18
 pub root_last :
     (says 29 0 ("<Instance/>" ∷ []) ≡ Err (BadNesting, 29))
     × (says 29 0 ("<a/>" ∷ []) ≡ Err (BadNesting, 29))
@@ -83,15 +83,16 @@ pub root_alone :
 unfolding attributes_at pieces_from walk
 root_alone = (refl, refl)
 
--- pieces that end before the root's End: 2 LF stand before the file's end, which is on line 3; without any tag on line 1
+-- pieces that end before the root's End: 2 LF stand before the file's end, which is on line 3; without any tag on line
+-- 1
 pub root_not_ended :
     (instance_of (pieces (codes "<Instance>\n<Structure>\n")) ≡ Err (Truncated, 3))
     × (instance_of (pieces (codes "no tag")) ≡ Err (Truncated, 1))
 unfolding attributes_at pieces_from walk
 root_not_ended = (refl, refl)
 
--- a fault of a piece counts where the pieces come to it: in a team's tag, in an End, in a comment that doesn't end; and the file's end
--- before the root's
+-- a fault of a piece counts where the pieces come to it: in a team's tag, in an End, in a comment that doesn't end; and
+-- the file's end before the root's
 pub piece_faults :
     (says 12 1 ("<1/>" ∷ []) ≡ Err (BadTag, 12))
     × (says 8 1 ("</Format" ∷ "x>" ∷ []) ≡ Err (BadTag, 8))
@@ -123,8 +124,9 @@ pub any_order :
 unfolding attributes_at pieces_from walk
 any_order = (refl, refl)
 
--- each that is missing is told at the End of the element around it: of `Instance` without `Structure` (28 - 7) and without
--- `Constraints` (28 - 2), of `Structure` (9 - 5), of `Format` (8 - 1), of `Resources` without `Teams` (25 - 6) and `Slots` (25 - 8)
+-- each that is missing is told at the End of the element around it: of `Instance` without `Structure` (28 - 7) and
+-- without `Constraints` (28 - 2), of `Structure` (9 - 5), of `Format` (8 - 1), of `Resources` without `Teams` (25 - 6)
+-- and `Slots` (25 - 8)
 pub missing :
     (says 3 7 [] ≡ Err (MissingElement, 21))
     × (says 26 2 [] ≡ Err (MissingElement, 26))
@@ -164,7 +166,8 @@ pub groups : says 27 0 ("<SeparationConstraints/>" ∷ "<BasicConstraints>" ∷ 
 unfolding attributes_at pieces_from walk
 groups = refl
 
--- nothing is passed over among the constraints: another group, a class in no group, a group in a group, another class, another case
+-- nothing is passed over among the constraints: another group, a class in no group, a group in a group, another class,
+-- another case
 pub unsupported :
     (says 27 0 ("<OtherConstraints/>" ∷ []) ≡ Err (UnsupportedClass, 27))
     × (says 27 0 ("<SE1 teams=\"\" min=\"0\" type=\"HARD\"/>" ∷ []) ≡ Err (UnsupportedClass, 27))
@@ -176,7 +179,8 @@ unsupported = (refl, refl, refl, refl, refl)
 
 -- ---- what is passed over
 
--- elsewhere an element that isn't listed is passed over with all in it, also with what would be read or wrong in another place
+-- elsewhere an element that isn't listed is passed over with all in it, also with what would be read or wrong in
+-- another place
 pub passed_over :
     (says 3 0 ("<a id=\"\" type=\"X\">" ∷ "<Structure><team/></Resources>b" ∷ "</a>" ∷ []) ≡ Ok league)
     × (says 5 0 ("<team/>" ∷ []) ≡ Ok league)
@@ -193,7 +197,8 @@ pub passed_over_in_itself :
 unfolding attributes_at pieces_from walk
 passed_over_in_itself = (refl, refl)
 
--- one that doesn't end is passed over up to the file's end, on line 30 since one line more stands there; a fault of a piece counts in it
+-- one that doesn't end is passed over up to the file's end, on line 30 since one line more stands there; a fault of a
+-- piece counts in it
 pub passed_over_to_the_end :
     (says 3 0 ("<a>" ∷ []) ≡ Err (Truncated, 30))
     × (says 3 0 ("<a>" ∷ "</a b>" ∷ []) ≡ Err (BadTag, 4))

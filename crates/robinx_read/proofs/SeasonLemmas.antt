@@ -79,7 +79,8 @@ constraints_some tag draft next h =
 abbrev pub is_known : List ℕ → List (List ℕ) → Bool
 is_known name seen = list_any (bytes_eq name) seen
 
--- Before there are teams: outside of `Instance` none was read, and inside of it no `Constraints`. With what was seen in the innermost element, and those around it.
+-- Before there are teams: outside of `Instance` none was read, and inside of it no `Constraints`. With what was seen in
+-- the innermost element, and those around it.
 abbrev pub IsEarly : Element → List (List ℕ) → List Open → Type 0
 IsEarly element seen [] = (element ≡ InstanceFile) × (is_known (codes "Instance") seen ≡ false)
 IsEarly element seen (around ∷ []) = (around.element ≡ InstanceFile) × (element ≡ Instance) × (is_known (codes "Constraints") seen ≡ false)

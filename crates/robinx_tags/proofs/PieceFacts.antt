@@ -313,7 +313,8 @@ pub pieces-in_value : pieces (codes "<a b='/>' c=\"\"/>") ≡ onto (tag Empty (c
 unfolding attributes_at more_attributes pieces_from
 pieces-in_value = refl
 
--- from left to right: `c` without white bytes before it is a fault before the file's end is one, and a `<` before a name that was had
+-- from left to right: `c` without white bytes before it is a fault before the file's end is one, and a `<` before a
+-- name that was had
 pub pieces-no_white_cut : pieces (codes "<a b='1'c") ≡ fault_after 1 BadTag 1
 unfolding attributes_at more_attributes pieces_from
 pieces-no_white_cut = refl

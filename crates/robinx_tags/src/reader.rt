@@ -48,8 +48,11 @@ impl<'a> TagReader<'a> {
     ///
     /// Each piece is the first of those that are left, and the others are left then. So calls from `new` on give the
     /// pieces of the file one by one, and then None or the fault, as often as they are made: a whole run is this
-    /// clause for each of its calls. Memory is taken only for a tag that has a ninth attribute before its end or its
-    /// fault.
+    /// clause for each of its calls.
+    ///
+    /// # Errors
+    /// The fault of form of what stands next; or that memory ran out, only at a tag that has a ninth attribute before
+    /// its end or its fault. The reader is then as it was.
     pub fn next(&mut self, alloc: Global) -> Result<Option<Tag<'a>>, TagFault>
         ensures { GivesNext self.old result self.new }
     {

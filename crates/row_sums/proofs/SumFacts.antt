@@ -42,7 +42,8 @@ pub cancelled-stops : cancelled (added ((1, at_least 1 (yes 1 ∷ yes 2 ∷ []))
     ≡ row (term 2 (no 1) ∷ term 2 (no 2) ∷ term 3 (no 3) ∷ []) 0
 cancelled-stops = refl
 
--- 3 of not 5 and 2 of 2, at least 3: halved, each number is rounded up, and what is left is in the order of the variables
+-- 3 of not 5 and 2 of 2, at least 3: halved, each number is rounded up, and what is left is in the order of the
+-- variables
 pub divided-rounds_up : divided 2 (cancelled (added ((1, row (term 3 (no 5) ∷ term 2 (yes 2) ∷ []) 3) ∷ []))) ≡ row (term 1 (yes 2) ∷ term 2 (no 5) ∷ []) 2
 divided-rounds_up = refl
 

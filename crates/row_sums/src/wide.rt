@@ -139,7 +139,7 @@ pub fn wide_forced(
 /// which the row has before and after; a row in conflict forces each of its free literals.
 ///
 /// # Errors
-/// Only where memory runs out: then some of these literals are true.
+/// Only where memory runs out: then the trail still lists each variable that has a value.
 pub fn wide_force(
     terms: &[WideTerm],
     degree: u128,

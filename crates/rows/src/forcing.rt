@@ -53,7 +53,7 @@ pub fn forced(terms: &[Term], degree: u64, partial: &Partial, from: usize) -> Op
 /// is the row's reach, which the row has before and after; a row in conflict forces each of its free literals.
 ///
 /// # Errors
-/// Only where memory runs out: then some of these literals are true.
+/// Only where memory runs out: then the trail still lists each variable that has a value.
 pub fn force(
     terms: &[Term],
     degree: u64,
@@ -81,7 +81,7 @@ pub fn force(
 /// Makes a free literal true and lists its variable; any other literal stays as it is.
 ///
 /// # Errors
-/// Only where memory runs out: then nothing changes.
+/// Only where memory runs out: then no value changes.
 pub fn make_true(lit: Lit, partial: &mut Partial, trail: &mut Vec<u32>) -> Result<(), AllocError>
     requires known { lit.var ≤ length partial.old }
     requires listed { IsListed partial.old trail.old.items }
@@ -99,6 +99,9 @@ pub fn make_true(lit: Lit, partial: &mut Partial, trail: &mut Vec<u32>) -> Resul
 }
 
 /// The same where a test says so.
+///
+/// # Errors
+/// Only where memory runs out: then the trail still lists each variable that has a value.
 pub fn make_true_if(
     test: bool,
     lit: Lit,

@@ -65,7 +65,7 @@ impl Lit {
     }
 }
 
-/// A literal with a coefficient. It takes 8 bytes.
+/// A literal with a coefficient, which is from 1 in a row. It takes 8 bytes.
 #[derive(Clone, Copy, Debug, PartialEq, Eq)]
 pub struct Term {
     pub coef: u32,

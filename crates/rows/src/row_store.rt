@@ -63,7 +63,8 @@ impl RowStore {
         })
     }
 
-    /// Adds a row at the end.
+    /// Adds a row at the end: coefficients from 1, and each variable once. The store has fewer than 2^32 - 1 rows
+    /// before.
     ///
     /// # Errors
     /// Only where memory runs out.

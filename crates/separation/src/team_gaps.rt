@@ -165,8 +165,8 @@ fn last_before(next: u16) -> Option<u16>
     if next > 0 { Some(next - 1) } else { None }
 }
 
-/// Adds the entries of all pairs of some teams to a list that has room for them. The slots of each team but the last are
-/// gone over once for all its pairs.
+/// Adds the entries of all pairs of some teams to a list that has room for them. The slots of each team but the last
+/// are gone over once for all its pairs.
 pub(crate) fn push_lacking(cells: &Cells, teams: &[u16], min: u32, entries: &mut Vec<u64>)
     requires teams { All (λ t. t < cells.now.n) teams.now }
     requires ascending { IsAscending nat_cmp teams.now }

@@ -20,9 +20,9 @@ use log_lines::note_numbers;
 use rows::{Assignment, Lit};
 use std::alloc::{AllocError, Global};
 
-/// One try: a search that decides these literals first, and a walk by the moves that a seed draws. Where a limit is set to
-/// the search it comes first: unless it refutes the league, the walk follows, and the better schedule of both stays. Where
-/// none is set the walk comes first, and the search only if the walk finds no schedule.
+/// One try: a search that decides these literals first, and a walk by the moves that a seed draws. Where a limit is set
+/// to the search it comes first: unless it refutes the league, the walk follows, and the better schedule of both stays.
+/// Where none is set the walk comes first, and the search only if the walk finds no schedule.
 ///
 /// # Errors
 /// Only where memory runs out.

@@ -40,16 +40,17 @@ pub(crate) fn try_walk(
     Ok(Some(season))
 }
 
-/// How many moves a walk may try of n teams, where a descent may make so many: a hundred for each of these, but at most a
-/// hundred for each that there is of n teams, as often as 10,000 go into the descent's, and once where they are fewer.
+/// How many moves a walk may try of n teams, where a descent may make so many: a hundred for each of these, but at most
+/// a hundred for each that there is of n teams, as often as 10,000 go into the descent's, and once where they are
+/// fewer.
 fn walk_budget(n: u16, moves: u64) -> u64 {
     let times = (moves / USUAL).max(1);
     let most = move_count(n).saturating_mul(times);
     moves.min(most).saturating_mul(TRIED)
 }
 
-/// How many moves there are of n teams, legal or not: of two teams, of two slots, of two teams in all slots, of a team and
-/// two slots, and of two teams and a slot.
+/// How many moves there are of n teams, legal or not: of two teams, of two slots, of two teams in all slots, of a team
+/// and two slots, and of two teams and a slot.
 fn move_count(n: u16) -> u64 {
     let teams = u64::from(n);
     let slots = 2 * teams.saturating_sub(1);

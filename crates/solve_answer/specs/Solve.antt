@@ -72,9 +72,9 @@ abbrev pub descent_text : ℕ → Descended → List ℕ
 descent_text cost descent = descent_line cost descent ++ flat_map move_line descent.trail
 
 -- A schedule of games of the league, which accepts it, in order, is written as a solution file, with its objective, and
--- behind it the descent that led to it; the whole reads back as these games. Taken backwards from the schedule, the moves
--- are legal, each raises the score, and they end in an accepted schedule, whose objective is written too. As many moves
--- as that objective says are enough to settle.
+-- behind it the descent that led to it; the whole reads back as these games. Taken backwards from the schedule, the
+-- moves are legal, each raises the score, and they end in an accepted schedule, whose objective is written too. As many
+-- moves as that objective says are enough to settle.
 pub record IsSchedule (league : Instance) (moves : ℕ) (answer : Answer) : Type 0 where
   pub games : List Game
   pub descent : Descended

@@ -1,10 +1,10 @@
 //! The number of steps that an evaluation took. It stands in proofs alone, and costs nothing at run time.
 //!
 //! A body that is lent a `Steps<L>` can't cheat. The fields are private, and `tick` alone changes the number, by
-//! one more (`tick_all` calls it so many times). Nor can a second counter take its place: `start` makes one at the ledger `Plain` alone, and code
-//! that knows `L` only as a type parameter can make none of an `L`. So a bound on the steps of a function that is
-//! generic in `L` holds of every evaluation that its body makes. (A bound that is stated at `Plain` itself says
-//! nothing, since a body there may start again.)
+//! one more (`tick_all` calls it so many times). Nor can a second counter take its place: `start` makes one at the
+//! ledger `Plain` alone, and code that knows `L` only as a type parameter can make none of an `L`. So a bound on the
+//! steps of a function that is generic in `L` holds of every evaluation that its body makes. (A bound that is stated at
+//! `Plain` itself says nothing, since a body there may start again.)
 //!
 //! The number is a ghost number, which only a proof by hand can set: the two that do, of `Taken`, stand in this
 //! crate, and no other crate of the workspace has a proof by hand.

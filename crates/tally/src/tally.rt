@@ -175,9 +175,9 @@ impl<R: Entries> Tally<R> {
         self.weigh_games(edit.out(), edit.into_games(), no_bound, steps)
     }
 
-    /// What the rules would cost after an edit, as `weigh` says, where neither number is above its bound; else nothing. A
-    /// bound of `u128::MAX` is none. The rules and the counts stay as they are. The hard rules are weighed before the soft
-    /// ones, and no further rule once a sum is above its bound. It takes no memory.
+    /// What the rules would cost after an edit, as `weigh` says, where neither number is above its bound; else nothing.
+    /// A bound of `u128::MAX` is none. The rules and the counts stay as they are. The hard rules are weighed before the
+    /// soft ones, and no further rule once a sum is above its bound. It takes no memory.
     pub fn weigh_within<L>(&mut self, edit: &Edit, most: Sums, steps: &mut Steps<L>) -> Option<Sums>
     where
         R: Rule<L>,

@@ -24,8 +24,8 @@ use solve::{SolveFault, Solved, solve};
 use solve_answer::{first_objective, rows_refused, schedule_text};
 use std::alloc::{AllocError, Global};
 
-/// Makes the league of n teams and a seed, and finds a schedule of it within budgets: seven lines say what came of it,
-/// and what `solve` writes comes behind them.
+/// Makes the league of n teams, n even and from 2 to 40, and a seed, and finds a schedule of it within budgets: seven
+/// lines say what came of it, and what `solve` writes comes behind them.
 ///
 /// # Errors
 /// Only where memory runs out: rows that are too many have a reply of their own.

@@ -34,7 +34,7 @@ pub fn venue_count(
 }
 
 /// Some exactly where the venue counts of a league are crowded: the log of two steps that refutes it, which adds up the
-/// rows of some slots, and of the teams that have to play there at home, or away, more often than half of them can.
+/// rows of some slots, and of the teams that have to play there on a side: together more often than there are games.
 ///
 /// # Errors
 /// Only where memory runs out.

@@ -60,9 +60,9 @@ impl Standing {
         })
     }
 
-    /// Tries moves until so many were legal, or the hard rules cost nothing: each is made where its score passes a drawn
-    /// threshold. A quarter of them is aimed at unmet parts of the hard constraints, of which the tally's rules are. Says
-    /// how many were tried.
+    /// Tries moves until so many were legal, or the hard rules cost nothing: each is made where its score passes a
+    /// drawn threshold. A quarter of them is aimed at unmet parts of the hard constraints, of which the tally's rules
+    /// are. Says how many were tried.
     pub(crate) fn meet<R: Rule<L>, L>(
         &mut self,
         random: &mut Pcg32,
@@ -107,8 +107,8 @@ impl Standing {
     }
 
     /// Tries moves until so many were legal, or the soft rules cost nothing: each is made where the hard rules cost no
-    /// more, and the soft ones not much more, by a threshold that falls. The best games on the way are kept. Says how many
-    /// moves were tried.
+    /// more, and the soft ones not much more, by a threshold that falls. The best games on the way are kept. Says how
+    /// many moves were tried.
     pub(crate) fn improve<R: Rule<L>, L>(
         &mut self,
         random: &mut Pcg32,
@@ -141,8 +141,8 @@ impl Standing {
         tried
     }
 
-    /// Tries a move on a tally's games: makes it where it is legal and its score passes the threshold. Says whether it is
-    /// legal and not too long.
+    /// Tries a move on a tally's games: makes it where it is legal and its score passes the threshold. Says whether it
+    /// is legal and not too long.
     fn attempt<R: Rule<L>, L>(
         &mut self,
         step: Swap,

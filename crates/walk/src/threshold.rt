@@ -26,8 +26,8 @@ impl Threshold {
         }
     }
 
-    /// The threshold of the soft rules where so many of a number of moves are left: it falls from 10 to 0. The hard rules
-    /// cost nothing more.
+    /// The threshold of the soft rules where so many of a number of moves are left: it falls from 10 to 0. The hard
+    /// rules cost nothing more.
     pub(crate) fn soft(left: u64, limit: u64) -> Threshold {
         Threshold {
             hard: 0,

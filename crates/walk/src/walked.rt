@@ -13,14 +13,15 @@ use crate::walker::Walker;
 use league::{League, Schedule};
 use std::alloc::{AllocError, Global};
 
-/// What a walk gives: the best double round robin that it kept, and how many legal moves it tried.
+/// What a walk gives: the best double round robin that it kept, and how many legal moves it says it tried.
 #[derive(Drop)]
 pub struct Walked {
     pub best: Best,
     pub tried: u64,
 }
 
-/// Walks from a double round robin of a league by the moves that a seed draws, at most so many of which are tried.
+/// Walks from a double round robin of a league by the moves that a seed draws, at most so many of which are tried. It
+/// gives the best double round robin that it kept, which isn't worse than the start.
 ///
 /// # Errors
 /// Only where memory runs out.

@@ -108,8 +108,8 @@ impl Walker {
         })
     }
 
-    /// Searches, from the games where it stands and then each time from a new double round robin, one after another until
-    /// no move may be tried any more, or nothing is left to lower.
+    /// Searches, from the games where it stands and then each time from a new double round robin, one after another
+    /// until no move may be tried any more, or nothing is left to lower.
     ///
     /// # Errors
     /// Only where memory runs out.

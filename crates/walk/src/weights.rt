@@ -24,8 +24,8 @@ impl Weight {
         }
     }
 
-    /// A sixteenth less where the part is met, but at least 5 times the penalty; else an eighth more, but at most 80 times
-    /// the penalty.
+    /// A sixteenth less where the part is met, but at least 5 times the penalty; else an eighth more, but at most 80
+    /// times the penalty.
     fn adapted(self, met: bool) -> Weight {
         let now = if met {
             let less = self.now - self.now / 16;

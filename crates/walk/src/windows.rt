@@ -7,8 +7,8 @@ use league::{Class, Game, Side, SlotId, TeamId};
 use moves::Board;
 use rand_pcg::Pcg32;
 
-/// A slot of a window in which a team's games are outside of the bounds of a CA3: of the first such window from a random
-/// one on.
+/// A slot of a window in which a team's games are outside of the bounds of a CA3: of the first such window from a
+/// random one on.
 pub(crate) fn unmet_window(
     random: &mut Pcg32,
     board: &Board,

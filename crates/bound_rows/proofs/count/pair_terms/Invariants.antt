@@ -8,4 +8,4 @@ use Rattle.bound_rows.proofs.count.pair_terms.Given as goal
 abbrev pub invariant-loop-before : goal.invariant-loop-before
 invariant-loop-before l =
     l.total ≡ capped
-    (sum_by (λ v. part_size l.season (Se1 (l.first ∷ l.second ∷ []) (v + 1))) (range_with_len 0 l.before))
+    (sum_by (λ v. part_size l.season (Se1 (0 ∷ 1 ∷ []) (v + 1))) (range_with_len 0 l.before))

@@ -1,4 +1,4 @@
-use Rattle.std.proofs.Common.{◌∷◌, [], ap, drop, ◌+◌, take, take_all, arith}
+use Rattle.std.proofs.Common.{◌∷◌, [], drop, ◌+◌, take}
 use Rattle.bound_base.specs.BoundRows.{groups_of}
 use Rattle.bound_rows.proofs.DraftLemmas.{constraints-more, constraints-split, extends-as, extends-both, extends-none}
 use Rattle.bound_rows.proofs.DraftLemmas.{room-between}
