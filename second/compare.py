@@ -175,7 +175,7 @@ class Round:
             self.must("move lowers", soft > score, kind, numbers)
             score = soft
         self.must("first objective", score == int(first), text)
-        if settled == "yes" and self.n <= 6:
+        if settled == "yes" and self.n <= 8:
             for move in self.all_moves:
                 after = moves.made(move, self.n, self.phased, games)
                 if after is not None and leagues.is_accepted(self.league, after):

@@ -1,0 +1,102 @@
+"""Compares a transcript of moves with this second reading of the rules.
+
+python3 second/boards.py [TRANSCRIPT]
+
+TRANSCRIPT is what `move_examples` prints (crates/move_examples/stdout, which the gate compares with what it prints).
+Said once more here, from the rules in words: the season of the circle method, whether each worked move is legal, which
+games it takes out and puts in, and how many moves of boards of two to eight teams there are and are legal, on the
+circle method's season and ten moves away from it. The games of an edit are compared without their order.
+"""
+
+import os
+import sys
+from collections import Counter
+
+sys.path.insert(0, os.path.dirname(os.path.abspath(__file__)))
+import moves
+
+TOP = os.path.dirname(os.path.dirname(os.path.abspath(__file__)))
+WORKED = ["HomeSwap 0 3", "RoundSwap 2 3", "RoundSwap 0 3", "TeamSwap 1 2", "PartRoundSwap 0 1 4"]
+WORKED += ["PartRoundSwap 0 0 4", "PartTeamSwap 0 3 0", "PartTeamSwap 0 1 0"]
+
+
+def circle(n):
+    """The double season of the circle method."""
+    first = []
+    for s in range(n - 1):
+        first.append((n - 1, s, s) if s % 2 == 0 else (s, n - 1, s))
+        for k in range(1, n // 2):
+            ahead, behind = (s + k) % (n - 1), (s - k) % (n - 1)
+            first.append((ahead, behind, s) if k % 2 else (behind, ahead, s))
+    return first + [(j, i, s + n - 1) for i, j, s in first]
+
+
+def said(flag):
+    return "true" if flag else "false"
+
+
+def worked(phased):
+    """The worked moves of four teams: a line for each, and for each game of its edit."""
+    season = circle(4)
+    yield f"four teams, phased: {said(phased)}", []
+    for name in WORKED:
+        kind, *numbers = name.split(" ")
+        after = moves.made((kind, *map(int, numbers)), 4, phased, season)
+        if after is None:
+            yield f"{name}: false", []
+            continue
+        out, into = Counter(season) - Counter(after), Counter(after) - Counter(season)
+        games = [("out", it) for it in out.elements()] + [("into", it) for it in into.elements()]
+        yield f"{name}: true", sorted("  %s %d %d %d" % (where, *it) for where, it in games)
+
+
+def counted(n, phased, season):
+    """How many moves there are and how many are legal."""
+    legal = [move for move in moves.neighbours(n) if moves.made(move, n, phased, season) is not None]
+    return f"{len(list(moves.neighbours(n)))} moves, {len(legal)} legal, 0 astray"
+
+
+def ten_on(n, phased):
+    """The season that ten moves lead to: at step k the first legal one from place 53 k on."""
+    season, all_moves = circle(n), list(moves.neighbours(n))
+    for k in range(10):
+        tried = (moves.made(move, n, phased, season) for move in all_moves[53 * k % len(all_moves) :])
+        season = next((after for after in tried if after is not None), season)
+    return season
+
+
+def own():
+    """The whole transcript."""
+    for phased in [True, False]:
+        yield from worked(phased)
+    for phased in [True, False]:
+        for n in [2, 4, 6, 8]:
+            yield f"{n} teams, phased: {said(phased)}: {counted(n, phased, circle(n))}", []
+    for phased in [True, False]:
+        for n in [4, 6, 8]:
+            yield f"{n} teams, phased: {said(phased)}, ten moves on: {counted(n, phased, ten_on(n, phased))}", []
+
+
+def read(path):
+    """The transcript's lines, each with the games behind it."""
+    found = []
+    for line in open(path, encoding="utf-8").read().splitlines():
+        if line.startswith("  "):
+            found[-1][1].append(line)
+        else:
+            found.append((line, []))
+    return [(line, sorted(games)) for line, games in found]
+
+
+def main():
+    path = sys.argv[1] if len(sys.argv) > 1 else os.path.join(TOP, "crates/move_examples/stdout")
+    told, mine = read(path), list(own())
+    wrong = [pair for pair in zip(told, mine) if pair[0] != pair[1]]
+    for theirs, ours in wrong:
+        print("DIFFERS", theirs, ours)
+    games = sum(len(games) for _, games in mine)
+    print(f"{len(mine)} lines and {games} games, {len(wrong) + abs(len(told) - len(mine))} differences")
+    raise SystemExit(1 if wrong or len(told) != len(mine) else 0)
+
+
+main()
