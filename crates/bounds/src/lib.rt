@@ -3,7 +3,7 @@
 //! `specs/Proofs.antt` says what each answer promises.
 #![tactic(auto)]
 
-mod lower;
+mod cost;
 mod proved;
 mod prover;
 

@@ -15,7 +15,7 @@ ghost use Rattle.encoding.specs.Capped.{capped};
 ghost use Rattle.bounds.specs.Lower.{IsLower};
 ghost use Rattle.bounds.specs.Proofs.{IsProved};
 
-use crate::lower::{Season, lowered, objective_of};
+use crate::cost::objective_of;
 use crate::proved::Proved;
 use bound_rows::{MOST_TERMS, bound_system, bound_terms};
 use clause_search::{Found, search};
@@ -24,6 +24,7 @@ use encoding::{EncodeFault, encode};
 use league::{Constraint, League, Schedule};
 use refutation::Log;
 use rows::Assignment;
+use solve::{Season, lowered};
 use std::alloc::Global;
 
 /// The most moves of a descent.

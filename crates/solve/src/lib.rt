@@ -15,5 +15,6 @@ mod solver;
 mod tries;
 
 pub use fault::SolveFault;
+pub use lower::{Season, lowered};
 pub use solved::Solved;
 pub use solver::solve;

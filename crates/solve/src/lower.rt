@@ -1,10 +1,10 @@
 //! From a schedule that is accepted down to a better one.
-ghost use Rattle.std.specs.Prelude.{◌≤◌, length, IfOk};
+ghost use Rattle.std.specs.Prelude.{◌≡◌, ◌≤◌, length, IfOk};
 ghost use Rattle.std.specs.List.{All};
 ghost use Rattle.league.specs.Accepted.{IsAccepted};
 ghost use Rattle.league.specs.Counts.{counts_of};
 ghost use Rattle.league.specs.Instance.{IsGame};
-ghost use Rattle.solve.specs.Tried.{IsSeason};
+ghost use Rattle.solve.specs.Solutions.{IsSchedule};
 
 use descent::{Descent, descend, season_of};
 use league::{League, Schedule};
@@ -14,17 +14,17 @@ use tally::league_tally;
 
 /// A schedule that is accepted, in order, with its objective, and the descent that led to it.
 #[derive(Drop)]
-pub(crate) struct Season {
-    pub(crate) schedule: Schedule,
-    pub(crate) objective: u128,
-    pub(crate) descent: Descent,
+pub struct Season {
+    pub schedule: Schedule,
+    pub objective: u128,
+    pub descent: Descent,
 }
 
 /// The schedule to which a descent of at most so many moves leads from an accepted one.
 ///
 /// # Errors
 /// Only where memory runs out.
-pub(crate) fn lowered(
+pub fn lowered(
     alloc: Global,
     league: &League,
     start: &Schedule,
@@ -33,7 +33,9 @@ pub(crate) fn lowered(
     requires accepted { IsAccepted league.now (counts_of start.now) }
     requires fit { All (IsGame league.now.n) start.now }
     requires few { length start.now ≤ 10000 }
-    ensures { IfOk result (IsSeason league.now moves) }
+    ensures descends { IfOk result (λ season.
+        IsSchedule league.now moves season.schedule season.objective season.descent) }
+    ensures first { IfOk result (λ season. counts_of season.descent.first ≡ counts_of start.now) }
 {
     let mut steps = Steps::<Plain>::start();
     let mut tally = league_tally(alloc, league, 1, start.games(), &mut steps)?;

@@ -26,8 +26,8 @@ season_of-requires c = record {
       (sym c.descend.ensures.teams) c.descend.ensures.round_robin);
 }
 
-pub returns : goal.returns
-returns c =
+pub returns-clause-descends : goal.returns-clause-descends
+returns-clause-descends c =
     let end : Counts = table_counts c.descend.new.tally.table in
     let counts : counts_of c.in_ok-schedule.schedule ≡ end =
     c.in_ok-schedule.ensures.counts ∙ ap (λ (t : Table). table_counts t) c.cells.ensures in
@@ -56,3 +56,8 @@ returns c =
     (c.objective.ensures
     ∙ cost-is _ c.args.league.now c.in_ok-tally.tally.weights c.descend.new.tally.weights end
     c.in_ok-tally.ensures.rules c.descend.ensures.weights)
+
+pub returns-clause-first : goal.returns-clause-first
+returns-clause-first c =
+    c.in_ok-descent.ensures.first
+    ∙ (c.in_ok-tally.ensures.counts ∙ ap (λ (games : List Game). counts_of games) c.games.ensures)
