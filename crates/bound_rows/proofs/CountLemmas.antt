@@ -63,6 +63,12 @@ capped-times c (suc count) x product is times =
           omega (arith, times, most, large, mul-suc x count, mul-suc c count)
     ]
 
+-- a number that is told by another name
+pub capped-times-as : (c count x k product : ℕ) → x ≡ capped c → k ≡ count → product ≡ smaller (x * k) (2 ^ 64 - 1)
+    → product ≡ capped (c * count)
+capped-times-as c count x k product is same times =
+    capped-times c count x product is (times ∙ ap (λ (k : ℕ). smaller (x * k) (2 ^ 64 - 1)) same)
+
 -- ---- the parts of an SE1, from the least number of slots on
 
 sum_down : (g : ℕ → ℕ) (k a end : ℕ) → end ≡ a + k
