@@ -49,6 +49,9 @@ capped-range f k old part new so_far next is =
     let place : 0 + k ≡ k = omega arith in
     omega (arith, so_far, next, is, sum_by-range_more f 0 k, ap f place)
 
+pub times-comm : (a b : ℕ) → a * b ≡ b * a
+times-comm a b = grind arith
+
 -- so many times a capped number
 pub capped-times : (c count x product : ℕ) → x ≡ capped c → product ≡ smaller (x * count) (2 ^ 64 - 1)
     → product ≡ capped (c * count)

@@ -1,10 +1,10 @@
 -- How many terms a group has, by the number of literals of its rows.
-use Rattle.std.proofs.Common.{◌≡◌, ℕ, ◌+◌, ◌-◌, ◌*◌, ◌<◌, ◌≤◌, max, List, [], ◌∷◌, ◌++◌, length, map, refl, ap, ◌∙◌}
+use Rattle.std.proofs.Common.{◌≡◌, ℕ, ◌+◌, ◌-◌, ◌*◌, max, List, [], ◌∷◌, ◌++◌, length, map, refl, ap, ◌∙◌}
 use Rattle.std.proofs.Common.{arith, inl, inr}
 use Rattle.std.proofs.lemmas.Bool.{cases_lt, le-ltb, lt-ltb}
 use Rattle.std.proofs.lemmas.List.{length-append, length-map}
 use Rattle.std.proofs.lemmas.List.FromFn.{length-range_with_len}
-use Rattle.std.specs.List.{filter, flat_map, fold, sum_by}
+use Rattle.std.specs.List.{filter, fold, sum_by}
 use Rattle.league.specs.Bounds.{largest}
 use Rattle.league.proofs.SumLemmas.{sum_by-filter, sum_by-flat_map, sum_by-same}
 use Rattle.rows.specs.Cardinality.{at_most, between, unit}

@@ -14,7 +14,6 @@ use Rattle.league.specs.declared.class.Span.{Span}
 use Rattle.league.specs.declared.class.Span.TheVariants.{Global, Every}
 use Rattle.league.proofs.SumLemmas.{sum_by-flat_map, sum_by-map, sum_by-same}
 use Rattle.rows.specs.Literals.{Literal}
-use Rattle.rows.specs.Rows.{Row}
 use Rattle.encoding_base.specs.Demands.{fa2_rows}
 use Rattle.encoding_base.specs.Lists.{after_first, away_breaks_at, breaks_in, games_in, home_breaks_at}
 use Rattle.encoding_base.specs.Lists.{meetings_in_order, venues_in}
@@ -23,10 +22,8 @@ use Rattle.encoding_sizes.proofs.SizeLemmas.{length-all_breaks, length-breaks, l
 use Rattle.encoding_sizes.proofs.SizeLemmas.{length-venues, sum_by-constant, sum_by-times}
 use Rattle.bound_base.specs.Parts.{ca3_parts, parts_of}
 use Rattle.bound_rows.specs.Sizes.{between_size, lead_size, part_size, parts_size, span_size}
+use Rattle.bound_rows.proofs.CountLemmas.{times-comm}
 use Rattle.bound_rows.proofs.GroupSizes.{listed_size, listed_size-between, listed_size-leads, listed_size-most}
-
-times-comm : (a b : ℕ) → a * b ≡ b * a
-times-comm a b = grind arith
 
 -- parts that all have as many terms
 alike : {K : Type 0} (n c : ℕ) (part : K → Class) → ((k : K) → part_size n (part k) ≡ c) → (keys : List K)

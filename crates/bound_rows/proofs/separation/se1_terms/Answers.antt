@@ -1,4 +1,4 @@
-use Rattle.std.proofs.Common.{◌≡◌, ◌*◌, ◌<◌, ℕ, List, length, min as smaller, sym, ap, ◌∙◌, arith}
+use Rattle.std.proofs.Common.{◌≡◌, ◌<◌, ℕ, List, length, sym, ap, ◌∙◌, arith}
 use Rattle.std.specs.List.{All}
 use Rattle.league.specs.Meetings.{pairs_of}
 use Rattle.league.proofs.FitLemmas.{are_teams-ascending}
@@ -6,12 +6,9 @@ use Rattle.league.proofs.SumLemmas.{sum_by-flat_map}
 use Rattle.encoding_sizes.proofs.ClassSizeLemmas.{pairs_of-ascend}
 use Rattle.bound_base.specs.Parts.{se1_parts}
 use Rattle.bound_rows.specs.Sizes.{part_size, parts_size}
-use Rattle.bound_rows.proofs.CountLemmas.{capped-as, capped-times-as}
+use Rattle.bound_rows.proofs.CountLemmas.{capped-as, capped-times-as, times-comm}
 use Rattle.bound_rows.proofs.SeparationSizes.{pairs_size}
 use Rattle.bound_rows.proofs.separation.se1_terms.Goals as goal
-
-times-comm : (a b : ℕ) → a * b ≡ b * a
-times-comm a b = grind arith
 
 pub returns : goal.returns
 returns c =

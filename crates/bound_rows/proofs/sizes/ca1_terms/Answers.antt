@@ -1,4 +1,4 @@
-use Rattle.std.proofs.Common.{◌&&◌, ◌≡◌, ◌*◌, ℕ, length, min as smaller, ap, ◌∙◌}
+use Rattle.std.proofs.Common.{◌&&◌, ℕ, length, ap, ◌∙◌}
 use Rattle.std.proofs.lemmas.Bool.{and_parts}
 use Rattle.league.specs.Instance.{are_slots, are_teams, is_one_side}
 use Rattle.encoding.specs.Capped.{capped}
