@@ -49,6 +49,9 @@ capped-range f k old part new so_far next is =
     let place : 0 + k ≡ k = omega arith in
     omega (arith, so_far, next, is, sum_by-range_more f 0 k, ap f place)
 
+pub times-comm : (a b : ℕ) → a * b ≡ b * a
+times-comm a b = grind arith
+
 -- so many times a capped number
 pub capped-times : (c count x product : ℕ) → x ≡ capped c → product ≡ smaller (x * count) (2 ^ 64 - 1)
     → product ≡ capped (c * count)
@@ -62,6 +65,12 @@ capped-times c (suc count) x product is times =
           let most : x ≡ 2 ^ 64 - 1 = omega (arith, is, large) in
           omega (arith, times, most, large, mul-suc x count, mul-suc c count)
     ]
+
+-- a number that is told by another name
+pub capped-times-as : (c count x k product : ℕ) → x ≡ capped c → k ≡ count → product ≡ smaller (x * k) (2 ^ 64 - 1)
+    → product ≡ capped (c * count)
+capped-times-as c count x k product is same times =
+    capped-times c count x product is (times ∙ ap (λ (k : ℕ). smaller (x * k) (2 ^ 64 - 1)) same)
 
 -- ---- the parts of an SE1, from the least number of slots on
 

@@ -4,6 +4,8 @@ pub mod DraftLemmas
 pub mod SizeLemmas
 pub mod CountLemmas
 pub mod SeparationSizes
+pub mod GroupSizes
+pub mod PartSizes
 -- Every group has room:
 pub mod RoomLemmas
 -- All bound rows:

@@ -1,16 +1,15 @@
 -- How many terms bound rows have, part by part.
-use Rattle.std.specs.Prelude.{ℕ, ◌+◌, ◌-◌, ◌*◌, List, [], length, slice_index_or}
+use Rattle.std.specs.Prelude.{ℕ, ◌+◌, ◌-◌, ◌*◌, max, nat_lt, if◌then◌else◌, List, length}
 use Rattle.std.specs.List.{sum_by}
+use Rattle.league.specs.Bounds.{largest}
 use Rattle.league.specs.declared.class.Class.{Class}
 use Rattle.league.specs.declared.class.Constraint.{Constraint}
+use Rattle.league.specs.declared.class.Span.{Span}
+use Rattle.league.specs.declared.class.Span.TheVariants.{Global, Every}
 use Rattle.rows.specs.Rows.{Row}
 use Rattle.encoding_base.specs.Encoding.{class_rows}
 use Rattle.bound_base.specs.BoundRows.{paid_of, units_of}
 use Rattle.bound_base.specs.Parts.{parts_of}
-
--- one of a group's rows with so many units, by its place
-abbrev pub row_size : ℕ → List Row → ℕ → ℕ
-row_size units rows k = length (slice_index_or rows k (record { terms = []; degree = 0 })).terms + units
 
 -- the rows of a group with so many units, the units in the objective row, and the rows that order them
 abbrev pub group_size : ℕ → List Row → ℕ
@@ -24,3 +23,37 @@ parts_size n parts = sum_by (part_size n) parts
 
 abbrev pub paid_size : ℕ → List Constraint → ℕ
 paid_size n constraints = sum_by (λ c. parts_size n (parts_of n c.class)) (paid_of constraints)
+
+-- ---- by the number of literals
+
+-- a row of so many literals with so many units: one that demands nothing isn't listed
+abbrev pub row_size : ℕ → ℕ → ℕ → ℕ
+row_size units degree count = if nat_lt 0 degree then count + units else 0
+
+-- the units beside these rows
+abbrev pub units_size : ℕ → ℕ
+units_size units = units + 2 * (units - 1)
+
+-- a group of two rows of so many literals, with these degrees
+abbrev pub two_rows_size : ℕ → ℕ → ℕ → ℕ
+two_rows_size low beyond count =
+    row_size (max low beyond) low count + row_size (max low beyond) beyond count + units_size (max low beyond)
+
+-- a group that bounds so many literals from low to high
+abbrev pub between_size : ℕ → ℕ → ℕ → ℕ
+between_size low high count = two_rows_size low (count - high) count
+
+-- of a CA4 with so many meetings and slots: of all slots together, or of each
+abbrev pub span_size : Span → ℕ → ℕ → ℕ → ℕ → ℕ
+span_size Global low high meetings slots = between_size low high (meetings * slots)
+span_size Every low high meetings slots = between_size low high meetings * slots
+
+-- of two teams of an FA2: at each slot two rows, each with two literals for each slot so far
+abbrev pub lead_units : ℕ → List ℕ → ℕ
+lead_units intp slots = largest (λ s. s + 1 - intp) slots
+
+abbrev pub lead_size_at : ℕ → ℕ → ℕ → ℕ
+lead_size_at units intp s = row_size units (s + 1 - intp) (2 * (s + 1)) * 2
+
+abbrev pub lead_size : ℕ → List ℕ → ℕ
+lead_size intp slots = sum_by (lead_size_at (lead_units intp slots) intp) slots + units_size (lead_units intp slots)

@@ -3,6 +3,10 @@
 
 mod count;
 mod draft;
+mod groups;
+mod literals;
+mod separation;
+mod sizes;
 mod system;
 mod written;
 

@@ -6,8 +6,8 @@ use Rattle.bound_rows.proofs.count.bound_terms.Goals as goal
 pub returns : goal.returns
 returns c =
     let league = c.args.league.now in
-    let same : paid_size c.in_ok-season.season c.constraints.result.now ≡ paid_size league.n league.constraints =
-    ap (λ (k : ℕ). paid_size k c.constraints.result.now) (c.in_ok-season.ensures ∙ c.n.ensures.n)
+    let same : paid_size c.n.result c.constraints.result.now ≡ paid_size league.n league.constraints =
+    ap (λ (k : ℕ). paid_size k c.constraints.result.now) c.n.ensures.n
     ∙ ap (paid_size league.n) c.constraints.ensures in
     omega (
       arith,

@@ -4,4 +4,4 @@ use Rattle.bound_rows.specs.Sizes.{paid_size}
 use Rattle.bound_rows.proofs.count.paid_terms.Given as goal
 
 abbrev pub invariant-loop-constraint : goal.invariant-loop-constraint
-invariant-loop-constraint l = l.total ≡ capped (paid_size l.season (take l.constraint-index l.constraints))
+invariant-loop-constraint l = l.total ≡ capped (paid_size l.n (take l.constraint-index l.constraints))

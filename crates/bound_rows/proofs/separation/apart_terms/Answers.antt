@@ -2,24 +2,25 @@ use Rattle.std.proofs.Common.{◌≡◌, ◌≤◌, ℕ, ◌+◌, ◌-◌, ◌*�
 use Rattle.std.proofs.lemmas.Nat.{mul-le}
 use Rattle.league.specs.Counts.{slot_count}
 use Rattle.bound_rows.proofs.SeparationSizes.{part_size-se1}
-use Rattle.bound_rows.proofs.count.apart_terms.Goals as goal
+use Rattle.bound_rows.proofs.separation.apart_terms.Goals as goal
 
 pub returns : goal.returns
 returns c =
-    let n = c.args.season.now in
+    let n = c.args.n in
     let season = c.from-slots.result in
     let window = c.min-window.result in
-    let slots : season ≡ slot_count n = c.from-slots.ensures ∙ c.slot_count.ensures ∙ ap slot_count c.n.ensures.n in
+    let slots : season ≡ slot_count n = c.from-slots.ensures ∙ c.slot_count.ensures in
     let width : window ≡ smaller (c.args.min + 1) (slot_count n) =
-    c.min-window.ensures ∙ ap (λ (k : ℕ). smaller (k + 1) season) c.from.ensures ∙ ap (smaller (c.args.min + 1)) slots in
+    c.min-window.ensures ∙ ap (λ (k : ℕ). smaller (k + 1) season) c.from.ensures
+    ∙ ap (smaller (c.args.min + 1)) slots in
     let terms : ℕ → ℕ → ℕ = λ s w. (s + 1 - w) * (2 * w + 1) + 1 in
     let same : terms season window ≡ terms (slot_count n) (smaller (c.args.min + 1) (slot_count n)) =
     ap (λ (s : ℕ). terms s window) slots ∙ ap (terms (slot_count n)) width in
-    let few : season + 1 - window ≤ 79 = omega (arith, slots, c.n.ensures.count.at_most) in
-    let short : 2 * window + 1 ≤ 157 = omega (arith, slots, c.min-window.ensures, c.n.ensures.count.at_most) in
+    let few : season + 1 - window ≤ 79 = omega (arith, slots, c.requires.at_most) in
+    let short : 2 * window + 1 ≤ 157 = omega (arith, slots, c.min-window.ensures, c.requires.at_most) in
     omega (
       arith,
       same,
-      part_size-se1 n 0 1 c.args.min c.n.ensures.count.at_least (omega arith),
+      part_size-se1 n 0 1 c.args.min c.requires.at_least (omega arith),
       mul-le (season + 1 - window) (2 * window + 1) 79 157 few short,
     )

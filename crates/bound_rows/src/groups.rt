@@ -1,0 +1,77 @@
+//! How many terms the rows of a group have: its own rows, the units in the objective row, and the rows that order them.
+ghost use Rattle.std.specs.Prelude.{◌≡◌, ◌+◌, ◌-◌, ◌*◌};
+ghost use Rattle.bound_rows.specs.Sizes as sizes;
+ghost use Rattle.encoding.specs.Capped.{capped};
+
+/// Those of a group that bounds so many literals from below and from above.
+pub(crate) fn between_terms(low: u32, high: u32, count: u64) -> u64
+    ensures { result ≡ capped (sizes.between_size low high count) }
+{
+    two_rows_terms(u64::from(low), count.saturating_sub(u64::from(high)), count)
+}
+
+/// Those of a group of two rows of so many literals, with these degrees: it has so many units as the larger degree.
+fn two_rows_terms(low: u64, beyond: u64, count: u64) -> u64
+    ensures { result ≡ capped (sizes.two_rows_size low beyond count) }
+{
+    let units = low.max(beyond);
+    let rows = row_terms(units, low, count).saturating_add(row_terms(units, beyond, count));
+    rows.saturating_add(units_terms(units))
+}
+
+/// Those of a group of two rows at each slot, each with two literals for each slot so far.
+pub(crate) fn lead_terms(intp: u32, slots: &[u16]) -> u64
+    ensures { result ≡ capped (sizes.lead_size intp slots.now) }
+{
+    let units = lead_units(intp, slots);
+    let mut total = 0_u64;
+    for slot in slots {
+        total = total.saturating_add(lead_terms_at(units, intp, *slot));
+    }
+    total.saturating_add(units_terms(units))
+}
+
+/// How many units it has: so many as the largest degree.
+fn lead_units(intp: u32, slots: &[u16]) -> u64
+    ensures { result ≡ sizes.lead_units intp slots.now }
+{
+    let mut units = 0_u64;
+    for slot in slots {
+        units = units.max(lead_degree(intp, *slot));
+    }
+    units
+}
+
+/// Those of its two rows at a slot.
+fn lead_terms_at(units: u64, intp: u32, slot: u16) -> u64
+    ensures { result ≡ capped (sizes.lead_size_at units intp slot) }
+{
+    let row = row_terms(units, lead_degree(intp, slot), 2 * (u64::from(slot) + 1));
+    row.saturating_mul(2)
+}
+
+/// The degree of either.
+fn lead_degree(intp: u32, slot: u16) -> u64
+    ensures { result ≡ slot + 1 - intp }
+{
+    (u64::from(slot) + 1).saturating_sub(u64::from(intp))
+}
+
+/// Those of a row of so many literals with so many units. It isn't listed where it demands nothing.
+fn row_terms(units: u64, degree: u64, count: u64) -> u64
+    ensures { result ≡ capped (sizes.row_size units degree count) }
+{
+    if degree > 0 {
+        count.saturating_add(units)
+    } else {
+        0
+    }
+}
+
+/// Those of so many units beside these rows.
+fn units_terms(units: u64) -> u64
+    ensures { result ≡ capped (sizes.units_size units) }
+{
+    let order = units.saturating_sub(1).saturating_mul(2);
+    units.saturating_add(order)
+}

@@ -1,0 +1,49 @@
+//! How many terms the groups of an SE1 have: as many for each two of its teams.
+ghost use Rattle.std.specs.Prelude.{◌≡◌, [], ◌∷◌, IfOk, IsTrue};
+ghost use Rattle.league.specs.Instance.{IsTeamCount, class_fits};
+ghost use Rattle.bound_base.specs.Parts as parts;
+ghost use Rattle.bound_rows.specs.Sizes as sizes;
+ghost use Rattle.encoding.specs.Capped.{capped};
+
+use encoding_base::team_pairs;
+use league::{Class, TeamSet, slot_count};
+use std::alloc::{AllocError, Global};
+
+/// Those of an SE1: as many for each two of its teams.
+///
+/// # Errors
+/// Only where memory runs out.
+pub(crate) fn se1_terms(alloc: Global, n: u16, teams: &TeamSet, min: u32) -> Result<u64, AllocError>
+    requires n { IsTeamCount n }
+    requires fits { IsTrue (class_fits n (Class.Se1 teams.now min)) }
+    ensures { IfOk result (λ terms. terms
+        ≡ capped (sizes.parts_size n (parts.parts_of n (Class.Se1 teams.now min)))) }
+{
+    let pairs = team_pairs(alloc, n, teams)?;
+    let terms = pair_terms(n, min).saturating_mul(pairs.len() as u64);
+    Ok(terms)
+}
+
+/// Those of two teams. With the least numbers of slots from the season's on they are all alike.
+fn pair_terms(n: u16, min: u32) -> u64
+    requires { IsTeamCount n }
+    ensures { result ≡ capped (sizes.parts_size n (parts.se1_parts min (0, 1))) }
+{
+    let near = min.min(u32::from(slot_count(n)));
+    let mut total = 0_u64;
+    for before in 0..near {
+        total = total.saturating_add(apart_terms(n, before + 1));
+    }
+    let last = apart_terms(n, near);
+    total.saturating_add(last.saturating_mul(u64::from(min - near)))
+}
+
+/// Those of two teams and one least number of slots: a row with a unit for each window, and the unit's price.
+fn apart_terms(n: u16, min: u32) -> u64
+    requires { IsTeamCount n }
+    ensures { result ≡ capped (sizes.part_size n (Class.Se1 (0 ∷ 1 ∷ []) min)) }
+{
+    let slots = u64::from(slot_count(n));
+    let window = (u64::from(min) + 1).min(slots);
+    (slots + 1 - window) * (2 * window + 1) + 1
+}
