@@ -20,9 +20,12 @@ use Rattle.bound_rows.specs.Sizes.{between_size, group_size, lead_size, lead_siz
 abbrev pub listed_size : List Row → ℕ
 listed_size rows = group_size (largest (λ row. row.degree) (filter demands rows)) (filter demands rows)
 
+-- the largest degree, where it is above a number
+abbrev largest_from : ℕ → List Row → ℕ
+largest_from a rows = fold (λ b row. max b row.degree) a rows
+
 -- the others have no larger degree
-largest-listed : (a : ℕ) (rows : List Row)
-    → fold (λ b row. max b row.degree) a (filter demands rows) ≡ fold (λ b row. max b row.degree) a rows
+largest-listed : (a : ℕ) (rows : List Row) → largest_from a (filter demands rows) ≡ largest_from a rows
 largest-listed a [] = refl
 largest-listed a (r ∷ rows) =
     elim (cases_lt 0 r.degree) [
@@ -30,7 +33,7 @@ largest-listed a (r ∷ rows) =
       | inr none ↦
           let same : a ≡ max a r.degree = omega (arith, none) in
           rw (le-ltb 0 r.degree none)
-          (largest-listed a rows ∙ ap (λ (b : ℕ). fold (λ b row. max b row.degree) b rows) same)
+          (largest-listed a rows ∙ ap (λ (b : ℕ). largest_from b rows) same)
     ]
 
 pub listed_size-rows : (rows : List Row)
@@ -74,9 +77,6 @@ listed_size-most high literals =
     omega (arith, listed_size-rows (at_most high literals ∷ []), row)
 
 -- ---- two teams of an FA2
-
-abbrev largest_from : ℕ → List Row → ℕ
-largest_from a rows = fold (λ b row. max b row.degree) a rows
 
 abbrev lead_from : ℕ → ℕ → List ℕ → ℕ
 lead_from intp a slots = fold (λ b s. max b (s + 1 - intp)) a slots

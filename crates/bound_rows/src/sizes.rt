@@ -1,6 +1,6 @@
 //! How many terms the groups of a class have, those of all its parts together: by the number of their literals.
-ghost use Rattle.std.specs.Prelude.{◌≡◌, ◌+◌, ◌-◌, ◌*◌, ◌≤◌, length, IfOk, IsTrue};
-ghost use Rattle.std.specs.List.{All, sum_by};
+ghost use Rattle.std.specs.Prelude.{◌≡◌, ◌*◌, ◌≤◌, length, IfOk, IsTrue};
+ghost use Rattle.std.specs.List.{sum_by};
 ghost use Rattle.league.specs.Instance.{IsTeamCount, are_teams, class_fits};
 ghost use Rattle.league.specs.Meetings.{others};
 ghost use Rattle.bound_base.specs.Parts as parts;
