@@ -624,27 +624,31 @@ def large(t):
 
 
 def costly(t):
-    """Leagues that are dear to judge: many constraints of one class with all teams and slots."""
+    """Leagues that are dear to judge: many constraints of one class with all teams and slots; and how `bound` refuses
+    the number of their bound rows' terms, which is that of one team's or one pair's so many times."""
     n = 40
     teams, slots = ";".join(map(str, range(n))), ";".join(map(str, range(78)))
-    two = f'teams1="{teams}" teams2="{teams}" max="1" mode1="HA"'
+    two = f'teams2="{teams}" max="1" mode1="HA"'
     pairs = "".join(f"{i},{j};" for i in range(n) for j in range(n) if i != j)
     cases = [
-        ("CA1", f'<CA1 teams="{teams}" max="1" mode="H" slots="{slots}" type="SOFT"/>', 20_000),
-        ("CA2", f'<CA2 {two} slots="{slots}" type="SOFT"/>', 20_000),
-        ("CA3", f'<CA3 {two} intp="39" type="SOFT"/>', 20_000),
-        ("CA4 EVERY", f'<CA4 {two} mode2="EVERY" slots="{slots}" type="SOFT"/>', 20_000),
-        ("GA1", f'<GA1 meetings="{pairs}" min="0" max="1" slots="{slots}" type="SOFT"/>', 1_500),
-        ("BR1", f'<BR1 teams="{teams}" intp="1" mode2="HA" slots="{slots}" type="SOFT"/>', 20_000),
-        ("BR2", f'<BR2 teams="{teams}" intp="1" slots="{slots}" type="SOFT"/>', 20_000),
-        ("FA2", f'<FA2 teams="{teams}" intp="0" slots="{slots}" type="SOFT"/>', 20_000),
-        ("SE1", f'<SE1 teams="{teams}" min="60" type="SOFT"/>', 20_000),
+        ("CA1", f'<CA1 teams="%s" max="1" mode="H" slots="{slots}" type="SOFT"/>', 20_000, "0", n),
+        ("CA2", f'<CA2 teams1="%s" {two} slots="{slots}" type="SOFT"/>', 20_000, "0", n),
+        ("CA3", f'<CA3 teams1="%s" {two} intp="39" type="SOFT"/>', 20_000, "0", n),
+        ("CA4 EVERY", f'<CA4 teams1="%s" {two} mode2="EVERY" slots="{slots}" type="SOFT"/>', 20_000, teams, 1),
+        ("GA1", f'<GA1 meetings="%s" min="0" max="1" slots="{slots}" type="SOFT"/>', 1_500, pairs, 1),
+        ("BR1", f'<BR1 teams="%s" intp="1" mode2="HA" slots="{slots}" type="SOFT"/>', 20_000, "0", n),
+        ("BR2", f'<BR2 teams="%s" intp="1" slots="{slots}" type="SOFT"/>', 20_000, teams, 1),
+        ("FA2", f'<FA2 teams="%s" intp="0" slots="{slots}" type="SOFT"/>', 20_000, "0;1", n * (n - 1) // 2),
+        ("SE1", '<SE1 teams="%s" min="60" type="SOFT"/>', 20_000, "0;1", n * (n - 1) // 2),
     ]
-    season = t.path("forty.xml", t.run("circle", "40").out)
-    for name, line, count in cases:
-        text = instance_text(n, True, [line] * count)
+    season, absent = t.path("forty.xml", t.run("circle", "40").out), os.path.join(t.folder, "absent")
+    for name, line, count, few, times in cases:
+        text = instance_text(n, True, [line % (pairs if name == "GA1" else teams)] * count)
         path = t.path("costly.xml", text)
         measured(t, f"{count} {name}", ["validate", path, season], 0, None, len(text), seconds=900)
+        once, twice = (certified.bound_size_of(instance_text(n, True, [line % few] * k)) for k in (1, 2))
+        told = f"refused rows TooLarge terms {once + (count * times - 1) * (twice - once)}\n"
+        measured(t, f"bound of {count} {name}", ["bound", path, absent], 3, told, len(text), seconds=900)
 
 
 def heavy(t):
