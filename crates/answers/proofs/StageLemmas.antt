@@ -5,7 +5,7 @@ use Rattle.robinx_form.specs.Walk.{Fault}
 use Rattle.answers.specs.Reply.{Answer}
 use Rattle.answers.specs.SeenReply.{Answers}
 use Rattle.answers.specs.Stages.{IsFile, Outcome, reads, says}
-use Rattle.answers.specs.declared.status.Status.TheVariants.{Yes, File, ReadFault}
+use Rattle.answers.specs.declared.status.Status.TheVariants.{File, ReadFault, Refuted, Yes}
 use Rattle.answers.specs.declared.reply.Reply.{Reply}
 use Rattle.answers.specs.declared.reply.NoValue.{NoValue}
 use Rattle.answers.specs.declared.reply.NoValue.TheVariants.{Refused, Memory}
@@ -44,3 +44,15 @@ reads-yes which known limit long failed next answer accepted (inr (inr h)) = let
 -- what a file says, where that is known
 pub says-known : {A : Type 0} (which : List ℕ) (said : Result A Fault) (x : A) (next : A → Outcome) (answer : Answer) → said ≡ Ok x → says which said next answer → next x answer
 says-known which said x next answer is given = subst (λ r. says which r next answer) is given
+
+-- where the answer is a refutation, the file was read
+pub reads-refuted : (which : List ℕ) (known : Option (List ℕ)) (limit : ℕ) (long failed : Type 0) (next : List ℕ → Outcome)
+    (answer : Answer) (bytes : List ℕ) → known ≡ Some bytes → answer.status ≡ Refuted
+    → reads which known limit long failed next answer → next bytes answer
+reads-refuted which known limit long failed next answer bytes is ended (inl read) =
+    let same : read.0 ≡ bytes = subst (λ (k : Option (List ℕ)). IfSome k (λ file. read.0 ≡ file)) is read.1.same in
+    subst (λ (b : List ℕ). next b answer) same read.2
+reads-refuted which known limit long failed next answer bytes is ended (inr (inl h)) =
+    let same : File ≡ Refuted = sym (ap (λ (a : Answer). a.status) h.2) ∙ ended in absurd (cc)
+reads-refuted which known limit long failed next answer bytes is ended (inr (inr h)) =
+    let same : ReadFault ≡ Refuted = sym (ap (λ (a : Answer). a.status) h.1) ∙ ended in absurd (cc)

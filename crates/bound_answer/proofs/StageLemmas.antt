@@ -1,8 +1,7 @@
 -- How the stages of `bound` make an answer.
 use Rattle.std.proofs.Common.{◌≡◌, ℕ, ◌+◌, ◌<◌, ◌≤◌, List, length, Option, Ok, Err, codes, inl, inr, ap, sym, ◌∙◌, Result}
-use Rattle.std.proofs.Common.{arith, refl, subst}
+use Rattle.std.proofs.Common.{refl, subst}
 use Rattle.std.specs.Prelude.{IfSome}
-use Rattle.robin_io.specs.Counts.{Rose, TookMore, raised}
 use Rattle.league.specs.Instance.{Instance}
 use Rattle.robinx_tags.specs.Pieces.{pieces}
 use Rattle.robinx_form.specs.InstanceFile.{instance_of}
@@ -21,6 +20,7 @@ use Rattle.refutation.specs.declared.verdict.Cause.{Cause}
 use Rattle.refutation.specs.declared.verdict.Verdict.{Verdict}
 use Rattle.refutation.specs.declared.verdict.Verdict.TheVariants.{Accepted, Rejected}
 use Rattle.check_answer.specs.Check.{most_log_bytes, most_terms, too_large}
+use Rattle.check_answer.proofs.StageLemmas.{rose-before, took_more-before}
 use Rattle.bound_base.specs.BoundRows.{bound_size}
 use Rattle.bound_laws.specs.Faithful.{IsLowerBound}
 use Rattle.encoding.specs.Capped.{capped}
@@ -85,17 +85,6 @@ bounded-last contents took_more failed instance log first second league is_first
     (inl (small, inl (second, is_second, last)))
 
 -- ---- counts of a run, by those of a call in it
-
-pub took_more-before : (front more old between now : ℕ) → between ≡ raised old front → TookMore more between now
-    → TookMore (front + more) old now
-took_more-before front more old between now is took =
-    let told : raised (raised old front) (more + 1) ≤ now = subst (λ (n : ℕ). TookMore more n now) is took in
-    omega arith
-
-pub rose-before : (old between now : ℕ) → old ≤ between → Rose between now → Rose old now
-rose-before old between now later rose =
-    let told : raised between 1 ≤ now = rose in
-    omega arith
 
 unread-by : (which : List ℕ) (known between : Option (List ℕ)) (limit : ℕ) (long wide_long failed wide_failed : Type 0)
     (answer : Answer) → between ≡ known → (long → wide_long) → (failed → wide_failed)

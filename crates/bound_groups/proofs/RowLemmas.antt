@@ -1,11 +1,11 @@
 -- Softened rows, and the objective row, are rows: their variables differ.
-use Rattle.std.proofs.Common.{◌≡◌, ◌≢◌, ℕ, suc, ◌+◌, ◌<◌, ◌≤◌, List, [], ◌∷◌, ◌++◌, length, map, get_or, sym, subst}
+use Rattle.std.proofs.Common.{◌≡◌, ◌≢◌, ℕ, ◌+◌, ◌<◌, ◌≤◌, List, [], ◌∷◌, length, map, get_or, sym, subst}
 use Rattle.std.proofs.Common.{false, arith, ap, ◌∙◌, append_assoc}
 use Rattle.std.proofs.lemmas.List.{length-append, map-append, take_more}
 use Rattle.std.proofs.lemmas.List.Elements.{All-append, All-head, All-map, All-nil, All-tail, All-weaker}
-use Rattle.std.proofs.lemmas.List.Kept.{AllPairs-cons}
 use Rattle.std.proofs.lemmas.List.Sums.{sum_by-cons}
-use Rattle.std.specs.List.{All, AllPairs, range_with_len, sum_by}
+use Rattle.std.specs.List.{All, range_with_len, sum_by}
+use Rattle.league.proofs.SetLemmas.{AllPairs-append}
 use Rattle.rows.specs.Cardinality.{unit}
 use Rattle.rows.specs.Literals.{Literal, yes}
 use Rattle.rows.specs.Rows.{IsRow, Row}
@@ -23,16 +23,6 @@ var_of t = t.lit.var
 
 abbrev Apart : Term → Term → Type 0
 Apart t u = t.lit.var ≢ u.lit.var
-
--- two lists of terms that are apart, and apart from each other
-AllPairs-append : {X : Type 0} (R : X → X → Type 0) (xs ys : List X) → AllPairs R xs → AllPairs R ys
-    → All (λ x. All (R x) ys) xs → AllPairs R (xs ++ ys)
-AllPairs-append R [] ys first second across = second
-AllPairs-append R (x ∷ xs) ys first second across =
-    AllPairs-cons R x (xs ++ ys)
-    (All-append (R x) xs ys (λ k d h. first 0 (suc k) d (omega arith) (omega arith)) (across 0 x (omega arith)))
-    (AllPairs-append R xs ys (λ i j d h k. first (suc i) (suc j) d (omega arith) (omega arith)) second
-    (All-tail (λ x. All (R x) ys) x xs across))
 
 units_ascend : (first count : ℕ) → AscendsBy var_of first (map unit (units_from first count)) (first + count)
 units_ascend first count =

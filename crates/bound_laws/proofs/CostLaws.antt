@@ -12,9 +12,9 @@ use Rattle.league.specs.Bounds.{largest}
 use Rattle.league.specs.Counts.{Counts}
 use Rattle.league.specs.Instance.{Instance, IsInstance}
 use Rattle.league.specs.declared.class.Constraint.{Constraint}
+use Rattle.league.proofs.OneTermLemmas.{All-flat_map}
 use Rattle.rows.specs.Literals.{no}
 use Rattle.rows.specs.Rows.{Row}
-use Rattle.encoding_base.proofs.AscendLemmas.{All-flat_map}
 use Rattle.decoding.specs.Shortfalls.{units_needed}
 use Rattle.decoding.proofs.ConstraintLaws.{all_fit}
 use Rattle.decoding.proofs.ShortfallLemmas.{largest-cons}

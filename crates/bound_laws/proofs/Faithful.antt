@@ -10,6 +10,7 @@ use Rattle.league.specs.Counts.{Counts, counts_of, slot_count}
 use Rattle.league.specs.Instance.{Instance, IsInstance, class_fits}
 use Rattle.league.specs.declared.class.Class.{Class}
 use Rattle.league.specs.declared.class.Constraint.{Constraint}
+use Rattle.league.proofs.OneTermLemmas.{All-flat_map}
 use Rattle.rows.specs.Tests.{satisfied}
 use Rattle.rows.proofs.TestLemmas.{SatisfiesAll-from_true, all_satisfied-true}
 use Rattle.encoding_base.specs.Encoding.{constraint_rows, season_rows}
@@ -17,7 +18,6 @@ use Rattle.encoding_base.specs.Season.{break_rows}
 use Rattle.encoding_base.specs.Shadow.{IsShadow, decoded}
 use Rattle.encoding_base.specs.Variables.{ab_var, bounds_breaks, h_count, h_var, has_breaks, hb_count, hb_var, x_count}
 use Rattle.encoding_base.specs.Variables.{x_var}
-use Rattle.encoding_base.proofs.AscendLemmas.{All-flat_map}
 use Rattle.encoding_base.proofs.Places.{ab_var-place, b_place-below, h_place-below, h_var-place, hb_var-place}
 use Rattle.encoding_base.proofs.Places.{x_place-below, x_var-place}
 use Rattle.decoding.specs.Mirrors.{MirrorsBreaks}

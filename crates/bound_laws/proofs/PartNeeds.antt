@@ -1,12 +1,10 @@
 -- What the rows of a part lack, and that the parts of a constraint need as many units as its deviation.
-use Rattle.std.proofs.Common.{◌≡◌, ℕ, ◌+◌, ◌-◌, ◌≤◌, Bool, true, false, not, ◌&&◌, ◌==◌, nat_lt, max}
+use Rattle.std.proofs.Common.{◌≡◌, ℕ, ◌+◌, ◌-◌, ◌≤◌, Bool, true, not, ◌&&◌, ◌==◌, nat_lt, max}
 use Rattle.std.proofs.Common.{List, [], ◌∷◌, map, get_or, refl, arith, ap, sym, ◌∙◌}
-use Rattle.std.proofs.lemmas.Bool.{and_from, and_parts, ltb-true}
+use Rattle.std.proofs.lemmas.Bool.{and_parts, ltb-true}
 use Rattle.std.proofs.lemmas.List.Elements.{All-cons, All-map, All-nil}
-use Rattle.std.proofs.lemmas.List.Folds.{list_all-map}
 use Rattle.std.proofs.lemmas.List.Sums.{AllPass-from_list_all, sum-map}
 use Rattle.std.specs.List.{All, list_all, range_with_len, sum, sum_by}
-use Rattle.std.specs.Ordering.{nat_cmp}
 use Rattle.league.specs.Bounds.{largest}
 use Rattle.league.specs.Breaks.{br1_entry, br2_entry}
 use Rattle.league.specs.Capacity.{ca1_entry, ca2_entry, ca3_entry, ca4_entry, windows_of}
@@ -14,24 +12,21 @@ use Rattle.league.specs.Counts.{Counts, slot_count}
 use Rattle.league.specs.Deviation.{deviation_of, spans}
 use Rattle.league.specs.Fairness.{fa2_entry}
 use Rattle.league.specs.Games.{ga1_entry}
-use Rattle.league.specs.Instance.{are_meetings, are_slots, are_teams, class_fits, is_meeting, is_one_side}
+use Rattle.league.specs.Instance.{are_meetings, are_slots, are_teams, class_fits, is_one_side}
 use Rattle.league.specs.Meetings.{pairs_of}
 use Rattle.league.specs.Separation.{se1_entry}
-use Rattle.league.specs.Sets.{ascends, pair_cmp}
 use Rattle.league.specs.Structure.{pairs_wrong}
 use Rattle.league.specs.declared.class.Class.{Class}
 use Rattle.league.specs.declared.class.Class.TheVariants.{Ca1, Ca2, Ca3, Ca4, Ga1, Br1, Br2, Fa2, Se1}
 use Rattle.league.specs.declared.class.Side.{Side}
-use Rattle.league.specs.declared.class.Span.{Span}
-use Rattle.league.specs.declared.class.Span.TheVariants.{Global, Every}
-use Rattle.league.proofs.AscendingLemmas.{first_true}
-use Rattle.league.proofs.RangeLemmas.{one_if}
+use Rattle.league.specs.declared.class.Span.TheVariants.{Global}
+use Rattle.league.proofs.RangeLemmas.{one_if, one_if-le}
 use Rattle.league.proofs.SumLemmas.{sum_by-flat_map, sum_by-map, sum_by-same}
-use Rattle.rows.proofs.ListLemmas.{list_all-weaker, sum_by-agree}
+use Rattle.league.proofs.OneTermLemmas.{All-flat_map}
+use Rattle.rows.proofs.ListLemmas.{sum_by-agree}
 use Rattle.encoding_base.specs.Demands.{br1_rows, br2_rows, ca1_rows, ca2_rows, ca4_rows, fa2_rows, ga1_rows, se1_rows}
 use Rattle.encoding_base.specs.Encoding.{class_rows}
 use Rattle.encoding_base.specs.Variables.{bounds_breaks}
-use Rattle.encoding_base.proofs.AscendLemmas.{All-flat_map}
 use Rattle.decoding.specs.Below.{all_below}
 use Rattle.decoding.specs.Mirrors.{Mirrors, MirrorsBreaks}
 use Rattle.decoding.specs.Shortfalls.{shortfall, units_needed}
@@ -40,6 +35,7 @@ use Rattle.decoding.proofs.CapacityLaws.{units_needed-ca1, units_needed-ca2, uni
 use Rattle.decoding.proofs.FairnessLaw.{units_needed-fa2}
 use Rattle.decoding.proofs.MeetingLists.{pairs_of-fit, windows_of-fit}
 use Rattle.decoding.proofs.ShortfallLemmas.{largest-cons}
+use Rattle.decoding.proofs.ClassLaws.{meetings_fit, slots_fit, spans-fit, teams_fit}
 use Rattle.bound_base.specs.BoundRows.{units_of}
 use Rattle.bound_base.specs.Parts.{ca3_parts, parts_of, se1_parts}
 use Rattle.bound_laws.specs.Units.{need_of}
@@ -47,24 +43,6 @@ use Rattle.bound_laws.proofs.SeparationNeeds.{needs-se1, steps-se1}
 use Rattle.bound_laws.proofs.SoftLaws.{needs_of_key}
 
 -- ---- the sets of a class that fits
-
-teams_fit : (n : ℕ) (teams : List ℕ) → are_teams n teams ≡ true → all_below n teams ≡ true
-teams_fit n teams fits = first_true (all_below n teams) (ascends nat_cmp teams) fits
-
-slots_fit : (n : ℕ) (slots : List ℕ) → are_slots n slots ≡ true → all_below (slot_count n) slots ≡ true
-slots_fit n slots fits = first_true (all_below (slot_count n) slots) (ascends nat_cmp slots) fits
-
-meetings_fit : (n : ℕ) (meetings : List (ℕ × ℕ)) → are_meetings n meetings ≡ true
-    → list_all (is_meeting n) meetings ≡ true
-meetings_fit n meetings fits = first_true (list_all (is_meeting n) meetings) (ascends pair_cmp meetings) fits
-
-spans_fit : (n : ℕ) (span : Span) (slots : List ℕ) → all_below (slot_count n) slots ≡ true
-    → list_all (all_below (slot_count n)) (spans span slots) ≡ true
-spans_fit n Global slots fit = and_from _ _ fit refl
-spans_fit n Every slots fit =
-    let below : ℕ → Bool = λ s. nat_lt s (slot_count n) in
-    list_all-map (λ part. list_all below part) (λ s. s ∷ []) slots
-    ∙ list_all-weaker below (λ s. below s && true) (λ s slot. and_from (below s) true slot refl) slots fit
 
 -- ---- key by key
 
@@ -83,9 +61,6 @@ sum_of_keys : {K : Type 0} (need : Class → ℕ) (part : K → Class) (entry : 
     → sum_by need (map part keys) ≡ sum (map entry keys)
 sum_of_keys need part entry law keys =
     sum_by-map need part keys ∙ sum_by-same (λ k. need (part k)) entry law keys ∙ sym (sum-map entry keys)
-
-one_entry : (entry sums : ℕ) → sums ≡ entry → one_if (not (entry == 0)) ≡ one_if (not (sums == 0))
-one_entry entry sums same = ap (λ (e : ℕ). one_if (not (e == 0))) (sym same)
 
 -- the rows of a part lack as much as its schedule needs
 abbrev pub LacksNeed : ℕ → Counts → (ℕ → Bool) → Class → Type 0
@@ -143,7 +118,7 @@ module _ (n : ℕ) (m : Counts) (values : ℕ → Bool) (mirrors : Mirrors n m v
       needs_of_key values (ca4_rows n teams1 teams2 min max side part)
       ∙ units_needed-ca4 n m values mirrors teams1 teams2 min max side part fit
       ∙ as_sum (ca4_entry n m teams1 teams2 min max side part))
-      (spans span slots) (spans_fit n span slots (slots_fit n slots both.1))
+      (spans span slots) (spans-fit n span slots (slots_fit n slots both.1))
   part_law (Ga1 meetings min max slots) breaks fits =
       let both = and_parts (are_meetings n meetings) (are_slots n slots) fits in
       All-cons (LacksNeed n m values) (Ga1 meetings min max slots) []
@@ -245,13 +220,9 @@ larger_largest f g less [] = omega arith
 larger_largest f g less (x ∷ xs) =
     omega (arith, largest-cons f x xs, largest-cons g x xs, less x, larger_largest f g less xs)
 
-one_if_or_none : (b : Bool) → one_if b ≤ 1
-one_if_or_none true = omega arith
-one_if_or_none false = omega arith
-
 pub needs_fit : (n : ℕ) (m : Counts) (values : ℕ → Bool) (part : Class) → LacksNeed n m values part
     → units_needed values (class_rows n part) ≤ units_of part (class_rows n part)
 needs_fit n m values (Se1 teams min) lacks =
-    omega (arith, lacks, one_if_or_none (not (deviation_of n m (Se1 teams min) == 0)))
+    omega (arith, lacks, one_if-le (not (deviation_of n m (Se1 teams min) == 0)))
 needs_fit n m values other lacks =
     larger_largest (shortfall values) (λ row. row.degree) (λ row. omega arith) (class_rows n other)

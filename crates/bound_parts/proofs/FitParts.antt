@@ -2,7 +2,6 @@
 use Rattle.std.proofs.Common.{◌≡◌, ℕ, zero, suc, ◌+◌, ◌-◌, ◌<◌, ◌≤◌, Bool, true, ◌&&◌, nat_lt, List, [], ◌∷◌, map}
 use Rattle.std.proofs.Common.{get_or, refl, arith, ◌∙◌}
 use Rattle.std.proofs.lemmas.Bool.{and_from, and_parts, lt-ltb}
-use Rattle.std.proofs.lemmas.Bool.Decides.{nat_tests}
 use Rattle.std.proofs.lemmas.List.Elements.{All-cons, All-map, All-nil}
 use Rattle.std.proofs.lemmas.List.Folds.{list_all-map}
 use Rattle.std.proofs.lemmas.List.Sums.{AllPass-from_list_all}
@@ -19,8 +18,9 @@ use Rattle.league.specs.declared.class.Class.TheVariants.{Ca1, Ca2, Ca3, Ca4, Ga
 use Rattle.league.specs.declared.class.Span.{Span}
 use Rattle.league.specs.declared.class.Span.TheVariants.{Global, Every}
 use Rattle.league.proofs.FitLemmas.{are_slots-below, are_teams-below}
+use Rattle.league.proofs.OneTermLemmas.{All-flat_map}
+use Rattle.league.proofs.NumberSets.{is_before}
 use Rattle.rows.proofs.ListLemmas.{list_all-range}
-use Rattle.encoding_base.proofs.AscendLemmas.{All-flat_map}
 use Rattle.encoding_base.proofs.MeetingOrder.{AreTeams-from_test, pairs_of-in_order}
 use Rattle.bound_base.specs.Parts.{ca3_parts, parts_of, se1_parts}
 
@@ -36,22 +36,19 @@ one_slot n s slot =
     and_from (nat_lt s (slot_count n) && true) true
     (and_from (nat_lt s (slot_count n)) true (lt-ltb s (slot_count n) slot) refl) refl
 
-before : (a b : ℕ) → a < b → is_lt (nat_cmp a b) ≡ true
-before a b h = grind (arith, nat_tests)
-
 pub two_teams : (n i j : ℕ) → i < j → j < n → are_teams n (i ∷ j ∷ []) ≡ true
 two_teams n i j order within =
     and_from (nat_lt i n && (nat_lt j n && true)) ((is_lt (nat_cmp i j) && true) && true)
     (and_from (nat_lt i n) (nat_lt j n && true) (lt-ltb i n (omega arith))
     (and_from (nat_lt j n) true (lt-ltb j n within) refl))
-    (and_from (is_lt (nat_cmp i j) && true) true (and_from (is_lt (nat_cmp i j)) true (before i j order) refl) refl)
+    (and_from (is_lt (nat_cmp i j) && true) true (and_from (is_lt (nat_cmp i j)) true (is_before i j order) refl) refl)
 
 range_ascends : (a k : ℕ) → ascends nat_cmp (range_with_len a k) ≡ true
 range_ascends a zero = refl
 range_ascends a (suc k) =
     and_from (list_all (λ y. is_lt (nat_cmp a y)) (range_with_len (a + 1) k))
     (ascends nat_cmp (range_with_len (a + 1) k))
-    (list_all-range (λ y. is_lt (nat_cmp a y)) (a + 1) k (λ y from within. before a y (omega arith)))
+    (list_all-range (λ y. is_lt (nat_cmp a y)) (a + 1) k (λ y from within. is_before a y (omega arith)))
     (range_ascends (a + 1) k)
 
 window : (n a k : ℕ) → a + k ≤ slot_count n → are_slots n (range_with_len a k) ≡ true

@@ -12,12 +12,12 @@ use Rattle.league.specs.declared.class.Class.{Class}
 use Rattle.league.specs.declared.class.Class.TheVariants.{Se1}
 use Rattle.league.specs.declared.class.Constraint.{Constraint}
 use Rattle.league.proofs.SumLemmas.{sum_by-flat_map, sum_by-map, sum_by-same}
+use Rattle.league.proofs.OneTermLemmas.{All-flat_map}
 use Rattle.rows.specs.Cardinality.{unit}
 use Rattle.rows.specs.Literals.{yes}
 use Rattle.rows.specs.Rows.{Row, size_of}
 use Rattle.encoding_base.specs.Demands.{rows_by_key}
 use Rattle.encoding_base.specs.Encoding.{class_rows, demands}
-use Rattle.encoding_base.proofs.AscendLemmas.{All-flat_map}
 use Rattle.std.proofs.lemmas.List.Elements.{All-map}
 use Rattle.bound_base.specs.BoundRows.{base_rows, bound_size, first_unit, group_of, groups_of, league_groups, paid_of}
 use Rattle.bound_base.specs.BoundRows.{units_of}

@@ -4,7 +4,6 @@
 mod count;
 mod draft;
 mod groups;
-mod literals;
 mod separation;
 mod sizes;
 mod system;

@@ -8,11 +8,11 @@ ghost use Rattle.bound_rows.specs.Sizes as sizes;
 ghost use Rattle.encoding.specs.Capped.{capped};
 
 use crate::groups::{between_terms, lead_terms};
-use crate::literals::{
-    between_total, later_total, meeting_total, other_total, side_total, slot_total, team_total,
-};
 use crate::separation::se1_terms;
 use encoding_base::{slot_numbers, team_numbers, team_pairs};
+use encoding_sizes::{
+    between_total, later_total, meeting_total, other_total, side_total, slot_total, team_total,
+};
 use league::{Class, PairSet, Side, SlotSet, Span, TeamSet, slot_count};
 use std::alloc::{AllocError, Global};
 

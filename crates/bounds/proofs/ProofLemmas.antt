@@ -30,7 +30,7 @@ use Rattle.pattern_search.proofs.NewsLemmas.{news-clauses}
 use Rattle.descent.specs.Descended.{Descended}
 use Rattle.descent.specs.Settled.{IsSettled}
 use Rattle.solve.specs.Solutions.{IsSchedule, league_score}
-use Rattle.solve.proofs.GameLemmas.{accepted_few, decoded_fit}
+use Rattle.decoding.proofs.GameLemmas.{accepted_few, decoded_fit}
 use Rattle.solve.proofs.LowerLemmas.{IsSchedule-settled}
 use Rattle.bound_base.specs.BoundRows.{base_vars, bound_rows, bound_size, bound_vars, has_paid_breaks}
 use Rattle.bound_base.specs.BoundRows.{needs_breaks}

@@ -16,6 +16,7 @@ use Rattle.league.proofs.AscendingLemmas.{IsAscending-ascends}
 use Rattle.league.proofs.SetLemmas.{length-ascending, less_than}
 use Rattle.league.specs.SetLaws.{same-nat_cmp}
 use Rattle.league.specs.Sets.{IsAscending, ascends, pair_cmp}
+use Rattle.league.proofs.NumberSets.{nat_cmp-less}
 use Rattle.cells.specs.KeptMeetings.{IsTableOf}
 use Rattle.cells.specs.Meetings.{is_listed}
 
@@ -93,14 +94,11 @@ earlier Less p h = inl refl
 earlier Equal p h = inr (refl, h)
 earlier Greater p h = absurd (cc)
 
-less : (a b : ℕ) → a < b → nat_cmp a b ≡ Less
-less a b h = grind (arith, nat_tests)
-
 earlier_place : (n : ℕ) (p q : ℕ × ℕ) → p.1 < n → pair_cmp p q ≡ Less → nat_cmp (p.0 * n + p.1) (q.0 * n + q.1) ≡ Less
 earlier_place n p q in_away before =
     elim (earlier (nat_cmp p.0 q.0) (nat_cmp p.1 q.1) before) [
-      | inl home ↦ less (p.0 * n + p.1) (q.0 * n + q.1) (omega (arith, mul-add-lt p.0 n p.1 q.0 (less_than p.0 q.0 home) in_away, mul_comm n q.0))
-      | inr away ↦ less (p.0 * n + p.1) (q.0 * n + q.1) (omega (arith, ap (λ (i : ℕ). i * n) (same-nat_cmp p.0 q.0 away.0), less_than p.1 q.1 away.1))
+      | inl home ↦ nat_cmp-less (p.0 * n + p.1) (q.0 * n + q.1) (omega (arith, mul-add-lt p.0 n p.1 q.0 (less_than p.0 q.0 home) in_away, mul_comm n q.0))
+      | inr away ↦ nat_cmp-less (p.0 * n + p.1) (q.0 * n + q.1) (omega (arith, ap (λ (i : ℕ). i * n) (same-nat_cmp p.0 q.0 away.0), less_than p.1 q.1 away.1))
     ]
 
 -- a set of meetings of at most 40 teams has at most 1600

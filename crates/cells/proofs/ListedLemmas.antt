@@ -1,7 +1,6 @@
 -- Counts as one list, by home team, then away team, then slot.
 use Rattle.std.proofs.Common.{◌≡◌, ℕ, ◌+◌, ◌*◌, ◌/◌, ◌%◌, ◌<◌, ◌≤◌, Bool, true, false, ◌&&◌, ◌==◌, nat_lt, List}
 use Rattle.std.proofs.Common.{length, get_or, refl, arith, ap, sym, ◌∙◌, inl, inr, zero-add, mul_comm}
-use Rattle.std.proofs.Math.Path.{fun_ext}
 use Rattle.std.proofs.lemmas.Bool.{cases_lt, cond_both}
 use Rattle.std.proofs.lemmas.Bool.Decides.{nat_tests}
 use Rattle.std.proofs.lemmas.List.{get_or_past, length-map}
@@ -17,10 +16,7 @@ use Rattle.league.proofs.CountLemmas.{sum_by-one_game}
 use Rattle.league.proofs.RangeLemmas.{one_if}
 use Rattle.cells.specs.Table.{Table, table_counts}
 use Rattle.cells.specs.Tables.{listed}
-
--- functions that give equal counts are one
-pub same_counts : (m k : Counts) → ((i j s : ℕ) → m i j s ≡ k i j s) → m ≡ k
-same_counts m k same = fun_ext (λ i. fun_ext (λ j. fun_ext (λ s. same i j s)))
+use Rattle.cells.proofs.TableLemmas.{same_counts}
 
 -- counts of no game beyond the league
 pub record IsWithin (n : ℕ) (m : Counts) : Type 0 where

@@ -1,22 +1,18 @@
 -- Two lists in order that have the same games are one list.
 use Rattle.std.proofs.Common.{◌≡◌, ℕ, ◌+◌, ◌<◌, Bool, true, false, if◌then◌else◌, List, [], ◌∷◌, length, suc, get_or, refl, sym, ap, ◌∙◌, subst, arith, IsTrue}
-use Rattle.std.specs.Cmp.{IsTotalOrder}
 use Rattle.std.specs.List.{count_by}
 use Rattle.std.specs.List.Sorted.{IsPermutation}
 use Rattle.std.specs.Ordering.{is_eq, is_gt, is_le, is_lt, nat_cmp, ordering_reverse, ordering_then}
 use Rattle.std.specs.declared.cmp.Ordering.{Ordering}
 use Rattle.std.specs.declared.cmp.Ordering.TheVariants.{Less, Equal, Greater}
 use Rattle.std.proofs.lemmas.Bool.Decides.{nat_tests}
-use Rattle.std.proofs.lemmas.Cmp.{then_total, on_total, nat_cmp_total, upto, tied_itself}
+use Rattle.std.proofs.lemmas.Cmp.{upto, tied_itself}
 use Rattle.std.proofs.lemmas.List.Sorted.{sum_by-IsPermutation}
 use Rattle.std.proofs.lemmas.List.Sums.{sum_by-cons}
 use Rattle.league.specs.Order.{game_cmp, IsInOrder}
 use Rattle.league.specs.declared.game.Game.{Game}
+use Rattle.league.proofs.OrderLemmas.{game_cmp-total}
 use Rattle.circle_answer.specs.Circle.{with_game, in_order}
-
-game_cmp-total : IsTotalOrder game_cmp
-game_cmp-total =
-    then_total (then_total (on_total (λ (g : Game). g.slot.0) nat_cmp_total) (on_total (λ (g : Game). g.home.0) nat_cmp_total)) (on_total (λ (g : Game). g.away.0) nat_cmp_total)
 
 -- numbers that compare as equal are equal
 nat_cmp-equal : (x y : ℕ) → nat_cmp x y ≡ Equal → x ≡ y

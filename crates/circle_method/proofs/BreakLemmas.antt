@@ -15,7 +15,7 @@ use Rattle.league.proofs.RangeLemmas.{one_if, sum_by-range_more}
 use Rattle.circle_method.specs.Breaks.{HasFewBreaks}
 use Rattle.circle_method.specs.Circle.{double_games}
 use Rattle.circle_method.proofs.CircleLemmas.{is_at_home, is_at_home-last, is_at_home-centre, is_at_home-before, is_at_home-after, odd-other}
-use Rattle.circle_method.proofs.OneTermLemmas.{sum_by-range_none, sum_by-range_one, sum_by-range_same, sum_by-range_equal, sum_by-range_late}
+use Rattle.league.proofs.OneTermLemmas.{sum_by-range_none, sum_by-range_one, sum_by-range_same, sum_by-range_equal, sum_by-range_late}
 use Rattle.circle_method.proofs.VenueLemmas.{home_games-first, away_games-first, home_games-second, away_games-second}
 
 -- whether a team is at the same venue twice

@@ -9,7 +9,7 @@ use Rattle.league.specs.declared.game.Game.{Game}
 use Rattle.league.proofs.RangeLemmas.{range_with_len-more}
 use Rattle.circle_method.specs.Circle.{game_of, last_team_game, circle_game, slot_games, single_games, return_game, double_games, steps_on, steps_back}
 use Rattle.circle_method.proofs.CircleLemmas.{AreReached, are_reached, on_isnt_back}
-use Rattle.circle_method.proofs.OneTermLemmas.{All-range, All-flat_map}
+use Rattle.league.proofs.OneTermLemmas.{All-range, All-flat_map}
 
 -- a slot's games with one more
 pub slot_games-more : (n s k : ℕ) (start before after : List Game) (game : Game) → 1 ≤ k → before ≡ start ++ last_team_game n s ∷ map (circle_game n s) (range_with_len 1 (k - 1)) → game ≡ circle_game n s k → after ≡ before ++ game ∷ [] → after ≡ start ++ last_team_game n s ∷ map (circle_game n s) (range_with_len 1 (k + 1 - 1))

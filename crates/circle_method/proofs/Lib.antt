@@ -1,5 +1,4 @@
 -- Lemmas on the definitions:
-pub mod OneTermLemmas
 pub mod CircleLemmas
 pub mod GameLemmas
 pub mod VenueLemmas

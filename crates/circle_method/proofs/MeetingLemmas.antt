@@ -1,5 +1,5 @@
 -- Any two teams meet once in the single round robin.
-use Rattle.std.proofs.Common.{◌≡◌, ◌≢◌, ℕ, ◌+◌, ◌-◌, ◌/◌, ◌%◌, ◌<◌, ◌≤◌, ◌&&◌, ◌==◌, nat_lt, inl, inr, Bool, true, false, List, [], ◌∷◌, refl, arith, ap, ◌∙◌, sym}
+use Rattle.std.proofs.Common.{◌≡◌, ◌≢◌, ℕ, ◌+◌, ◌-◌, ◌/◌, ◌%◌, ◌<◌, ◌&&◌, ◌==◌, nat_lt, inl, inr, Bool, true, false, List, [], ◌∷◌, refl, arith, ap, ◌∙◌, sym}
 use Rattle.std.proofs.lemmas.Bool.{and_from, and_left, and_right, cases_eq, cases_lt, eq-eqb, ne_eqb}
 use Rattle.std.proofs.lemmas.Bool.Decides.{nat_tests}
 use Rattle.std.specs.List.{range_with_len, sum_by}
@@ -9,10 +9,11 @@ use Rattle.league.specs.Meetings.{games_of}
 use Rattle.league.specs.declared.game.Game.{Game}
 use Rattle.league.proofs.RangeLemmas.{one_if}
 use Rattle.league.proofs.SumLemmas.{sum_by-add, sum_by-flat_map, sum_by-same}
+use Rattle.league.proofs.CountLemmas.{and_below, and_not_below}
 use Rattle.circle_method.specs.Circle.{game_of, last_team_game, circle_game, slot_games, single_games, return_game, double_games, steps_on, steps_back}
 use Rattle.circle_method.proofs.CircleLemmas.{AreReached, are_reached, AreMet, meeting, AreMet-slot, AreMet-step}
 use Rattle.circle_method.proofs.GameLemmas.{IsEarly, IsEarly-single_games, IsGame-double_games}
-use Rattle.circle_method.proofs.OneTermLemmas.{sum_by-all_none, sum_by-all_same, sum_by-range_none, sum_by-range_one, sum_by-swap}
+use Rattle.league.proofs.OneTermLemmas.{sum_by-all_none, sum_by-all_same, sum_by-range_none, sum_by-range_one, sum_by-swap}
 use Rattle.circle_method.proofs.VenueLemmas.{circle_none, circle_one, sum_by-double_games, sum_by-slot_games}
 
 -- how often a game is one of team i at home to team j, in any slot
@@ -134,12 +135,6 @@ between-single_games n i j size first second differ =
       | inr later ↦ sum_by-same (is_between i j) (is_between j i) (between-swap i j) (single_games n) ∙ between-earlier n j i size (omega arith) first
     ]
 
-and_below : (b : Bool) (x k : ℕ) → x < k → one_if (b && nat_lt x k) ≡ one_if b
-and_below b x k low = grind (arith, nat_tests)
-
-and_above : (b : Bool) (x k : ℕ) → k ≤ x → one_if (b && nat_lt x k) ≡ 0
-and_above b x k high = grind (arith, nat_tests)
-
 here_slot : (b : Bool) (x : ℕ) → one_if (b && (x == x)) ≡ one_if b
 here_slot b x = grind (arith, nat_tests)
 
@@ -153,7 +148,7 @@ in_slots b x k =
       | inl low ↦
           sum_by-range_one (λ s. one_if (b && (x == s))) 0 k x (omega arith) (omega arith) (λ s l h other. other_slot b x s other) ∙ here_slot b x ∙ sym (and_below b x k low)
       | inr high ↦
-          sum_by-range_none (λ s. one_if (b && (x == s))) 0 k (λ s l h. other_slot b x s (λ e. omega arith)) ∙ sym (and_above b x k high)
+          sum_by-range_none (λ s. one_if (b && (x == s))) 0 k (λ s l h. other_slot b x s (λ e. omega arith)) ∙ sym (and_not_below b x k high)
     ]
 
 -- games of a meeting in the first k slots, game by game
@@ -190,7 +185,7 @@ half n i j size =
     let early : sum_by f (single_games n) ≡ sum_by (is_meeting i j) (single_games n) =
     sum_by-all_same (IsEarly n) f (is_meeting i j) (λ g is. and_below ((g.home.0 == i) && (g.away.0 == j)) g.slot.0 (n - 1) is.slot) (single_games n) (IsEarly-single_games n size) in
     let late : sum_by (λ g. f (return_game n g)) (single_games n) ≡ 0 =
-    sum_by-all_none (λ g. Unit {0}) (λ g. f (return_game n g)) (λ g _. and_above ((g.away.0 == i) && (g.home.0 == j)) (g.slot.0 + (n - 1)) (n - 1) (omega arith)) (single_games n) (λ k d _. tt) in
+    sum_by-all_none (λ g. Unit {0}) (λ g. f (return_game n g)) (λ g _. and_not_below ((g.away.0 == i) && (g.home.0 == j)) (g.slot.0 + (n - 1)) (n - 1) (omega arith)) (single_games n) (λ k d _. tt) in
     omega (arith, games_of-counts_of i j (n - 1) (double_games n), sum_by-double_games f n, early, late)
 
 -- any two teams meet once in the first half

@@ -1,6 +1,6 @@
 -- The double circle schedule is a double round robin in two phases.
-use Rattle.std.proofs.Common.{◌≡◌, ◌≢◌, ℕ, ◌+◌, ◌-◌, ◌*◌, ◌/◌, ◌%◌, ◌<◌, ◌≤◌, ◌&&◌, ◌==◌, zero, suc, inl, inr, Bool, true, false, not, cond, List, [], ◌∷◌, length, map, refl, arith, ap, ◌∙◌, subst, sym, length-append}
-use Rattle.std.proofs.lemmas.Bool.{and_left, cases_eq, cases_lt, eq-eqb}
+use Rattle.std.proofs.Common.{◌≡◌, ℕ, ◌+◌, ◌-◌, ◌*◌, ◌/◌, ◌%◌, ◌<◌, ◌≤◌, ◌&&◌, ◌==◌, zero, suc, inl, inr, Bool, true, false, not, cond, List, [], ◌∷◌, length, map, refl, arith, ap, ◌∙◌, subst, sym, length-append}
+use Rattle.std.proofs.lemmas.Bool.{cases_lt}
 use Rattle.std.proofs.lemmas.List.{length-map}
 use Rattle.std.proofs.lemmas.List.Concat.{length-flat_map}
 use Rattle.std.proofs.lemmas.List.FromFn.{length-map-range_with_len}
@@ -16,11 +16,12 @@ use Rattle.league.specs.declared.game.Game.{Game}
 use Rattle.league.proofs.MeetingLemmas.{count_by-meetings_of}
 use Rattle.league.proofs.RangeLemmas.{one_if}
 use Rattle.league.proofs.SumLemmas.{sum_by-map}
+use Rattle.league.proofs.RoundRobinLemmas.{right_where_different}
 use Rattle.circle_method.specs.Circle.{circle_game, slot_games, single_games, return_game, double_games}
 use Rattle.circle_method.proofs.CircleLemmas.{is_at_home}
 use Rattle.circle_method.proofs.GameLemmas.{IsGame-double_games}
 use Rattle.circle_method.proofs.MeetingLemmas.{meeting-once, half-once}
-use Rattle.circle_method.proofs.OneTermLemmas.{sum_by-range_none, sum_by-range_equal}
+use Rattle.league.proofs.OneTermLemmas.{sum_by-range_none, sum_by-range_equal}
 use Rattle.circle_method.proofs.VenueLemmas.{home_games-first, away_games-first, home_games-second, away_games-second}
 
 -- a count of pairs in a range none of which passes
@@ -36,24 +37,12 @@ count_by-pairs_none p a (suc k) none =
 isnt_one-no : (x : ℕ) → x ≡ 1 → isnt_one x ≡ false
 isnt_one-no x is = ap isnt_one is
 
-and_no : (b : Bool) → one_if (b && false) ≡ 0
-and_no true = refl
-and_no false = refl
-
--- a pair of one team isn't counted, and one of two teams is where a test passes
-pair_counted : (i j x : ℕ) → (i ≢ j → x ≡ 1) → one_if (not (j == i) && isnt_one x) ≡ 0
-pair_counted i j x once =
-    elim (cases_eq j i) as (λ _. one_if (not (j == i) && isnt_one x) ≡ 0) [
-      | inl same ↦ ap one_if (and_left (not (j == i)) (isnt_one x) (ap not (eq-eqb j i same)))
-      | inr other ↦ ap (λ (b : Bool). one_if (not (j == i) && b)) (isnt_one-no x (once (λ e. other (sym e)))) ∙ and_no (not (j == i))
-    ]
-
 pairs : (n : ℕ) → IsTeamCount n → pairs_wrong n (counts_of (double_games n)) ≡ 0
 pairs n size =
     let x : ℕ → ℕ → ℕ = λ i j. games_of (counts_of (double_games n)) ((i, j) ∷ []) (slots_of n) in
     count_by-meetings_of (λ p. isnt_one (games_of (counts_of (double_games n)) (p ∷ []) (slots_of n))) n
     ∙ sum_by-range_none (λ i. count_by (λ j. not (j == i) && isnt_one (x i j)) (teams_of n)) 0 n (λ i low high.
-    sum_by-range_none (λ j. cond (not (j == i) && isnt_one (x i j)) 1 0) 0 n (λ j low_too high_too. pair_counted i j (x i j) (λ differ. meeting-once n i j size (omega arith) (omega arith) differ)))
+    sum_by-range_none (λ j. cond (not (j == i) && isnt_one (x i j)) 1 0) 0 n (λ j low_too high_too. right_where_different i j (x i j) (λ differ. meeting-once n i j size (omega arith) (omega arith) differ)))
 
 one_venue : (b : Bool) → one_if b + one_if (not b) ≡ 1
 one_venue true = refl

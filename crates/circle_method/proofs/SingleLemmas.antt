@@ -17,7 +17,7 @@ use Rattle.circle_method.specs.SingleRoundRobin.{IsSingleGame, IsSingleRoundRobi
 use Rattle.circle_method.proofs.BreakLemmas.{HasFewBreaks-double_games}
 use Rattle.circle_method.proofs.GameLemmas.{IsEarly, IsEarly-single_games}
 use Rattle.circle_method.proofs.MeetingLemmas.{half-once}
-use Rattle.circle_method.proofs.OneTermLemmas.{sum_by-all_none, sum_by-range_same}
+use Rattle.league.proofs.OneTermLemmas.{sum_by-all_none, sum_by-range_same}
 use Rattle.circle_method.proofs.RoundRobinLemmas.{cell, length-single_games}
 use Rattle.circle_method.proofs.VenueLemmas.{not_in_slot, sum_by-double_games}
 

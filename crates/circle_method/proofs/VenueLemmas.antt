@@ -14,7 +14,7 @@ use Rattle.league.proofs.SumLemmas.{sum_by-flat_map, sum_by-map, sum_by-same}
 use Rattle.circle_method.specs.Circle.{game_of, last_team_game, circle_game, slot_games, single_games, return_game, double_games, steps_on, steps_back}
 use Rattle.circle_method.proofs.CircleLemmas.{AreReached, are_reached, on_isnt_back, on_isnt_centre, back_isnt_centre, is_at_home, is_at_home-last, is_at_home-centre, IsPlace, place}
 use Rattle.circle_method.proofs.GameLemmas.{IsEarly, IsEarly-single_games, IsGame-double_games}
-use Rattle.circle_method.proofs.OneTermLemmas.{All-range, sum_by-all_none, sum_by-all_same, sum_by-range_none, sum_by-range_one, sum_by-swap}
+use Rattle.league.proofs.OneTermLemmas.{All-range, sum_by-all_none, sum_by-all_same, sum_by-range_none, sum_by-range_one, sum_by-swap}
 
 -- of a game's two teams, the home team or the away team
 abbrev pub team_at : Bool → Game → ℕ

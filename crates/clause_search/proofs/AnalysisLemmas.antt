@@ -15,6 +15,7 @@ use Rattle.rows.specs.Rows.{Row}
 use Rattle.rows.specs.Partials.{opposite_of, reach, value_of}
 use Rattle.rows.specs.declared.partial.Value.{Value}
 use Rattle.rows.specs.declared.partial.Value.TheVariants.{True, False, Free}
+use Rattle.row_sums.proofs.LiteralLemmas.{negate-twice}
 use Rattle.refutation.specs.Steps.Step.{Clause}
 use Rattle.refutation.specs.Following.{after_row, all_free, clause_row, denied, has_opposites, is_in_conflict, judged}
 use Rattle.refutation.specs.Following.{replay, row_numbered, row_unless}
@@ -62,9 +63,6 @@ cases_Value Free = inr (inr refl)
 
 not_less : (a b : ℕ) → nat_lt a b ≡ false → b ≤ a
 not_less a b test = grind (arith, nat_tests)
-
-less : (a b : ℕ) → a < b → nat_lt a b ≡ true
-less a b is = grind (arith, nat_tests)
 
 -- a literal that is resolved is true behind its reason's row, unless that is in conflict
 resolved_true : (rows : List Row) (n : ℕ) (lit : ℕ → Literal) (reason : ℕ → ℕ) (role : ℕ → Role) (k : ℕ)
@@ -179,13 +177,6 @@ analysis_replay rows n lit reason role before number is values kept =
 
 -- ---- the clause made false
 
-not_not : (b : Bool) → not (not b) ≡ b
-not_not true = refl
-not_not false = refl
-
-negate_twice : (l : Literal) → negate (negate l) ≡ l
-negate_twice l = ap (λ (b : Bool). let m : Literal = record { var = l.var; positive = b } in m) (not_not l.positive)
-
 -- the values at which the clause of the first n places is false
 abbrev denied_below : (ℕ → Literal) → (ℕ → Role) → ℕ → ℕ → Value
 denied_below lit role k = denied (clause_below lit role k)
@@ -215,7 +206,7 @@ one_kept : (values : ℕ → Value) (l : Literal) (r : Role) → r ≡ Kept → 
 one_kept values l Apart is free = cc
 one_kept values l Used is free = cc
 one_kept values l Kept is free =
-    ap (λ (m : Literal). value_of (set_true values m) l) (negate_twice l) ∙ value_of-same values l free
+    ap (λ (m : Literal). value_of (set_true values m) l) (negate-twice l) ∙ value_of-same values l free
 
 -- the literals have different variables
 abbrev pub AreFresh : ℕ → (ℕ → Literal) → Type 0

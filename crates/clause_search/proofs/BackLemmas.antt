@@ -19,6 +19,7 @@ use Rattle.propagate.specs.Trails.{AreLawful, EachEntry, IsBackTo, IsNew, IsQuie
 use Rattle.propagate.specs.Trails.{level_of, values_of}
 use Rattle.propagate.specs.declared.entry.Entry.{Entry}
 use Rattle.propagate.proofs.EntryLemmas.{each-take, level_of-push, level_of-take_le}
+use Rattle.propagate.proofs.LookLemmas.{news}
 use Rattle.clause_search.specs.Analysis.{clause_below}
 use Rattle.clause_search.specs.Marks.{IsBackLevel, role_at}
 use Rattle.clause_search.specs.Trails.{before, entry_at, lit_at, no_entry}
@@ -27,7 +28,7 @@ use Rattle.clause_search.specs.declared.role.Role.{Role}
 use Rattle.clause_search.specs.declared.role.Role.TheVariants.{Kept}
 use Rattle.clause_search.proofs.CountLemmas.{part}
 use Rattle.clause_search.proofs.EmpoweringLemmas.{clause_held, negate_free}
-use Rattle.clause_search.proofs.TrailLaws.{lawful-new, trail_free, trail_fresh}
+use Rattle.clause_search.proofs.TrailLaws.{trail_free, trail_fresh}
 
 -- ---- two literals that are free
 
@@ -193,7 +194,7 @@ learnable_at t clause hints back level lawful (inr root) is =
       is_news = is.is_news;
       tidy = is.tidy;
       within = omega arith;
-      calm = calm_root t.vars t.entries (at_least 1 clause) (lawful-new t.rows t.vars t.entries lawful);
+      calm = calm_root t.vars t.entries (at_least 1 clause) (news t.rows t.vars t.entries lawful);
     })
 
 -- where the search went back, the clause is quiet before each decision that is left

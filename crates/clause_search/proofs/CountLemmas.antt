@@ -22,29 +22,13 @@ use Rattle.rows.specs.declared.lit.Term.{Term}
 use Rattle.rows.specs.declared.partial.Value.{Value}
 use Rattle.rows.specs.declared.partial.Value.TheVariants.{True, False, Free}
 use Rattle.row_sums.specs.Sums.{is_same}
+use Rattle.row_sums.proofs.LiteralLemmas.{same_literal}
 use Rattle.refutation.specs.Following.{clause_row, distinct, has, has_opposites}
 use Rattle.refutation.specs.Steps.{Step, clause_of}
 use Rattle.clause_search.specs.News.{AreNews, IsNews, IsTidy, row_of}
 use Rattle.clause_search.proofs.ReplayLemmas.{Differ, differ_tail}
 
 -- ---- the same literal
-
-same_var : (v w : ℕ) (same : Bool) → (v == w && same) ≡ true → v ≡ w
-same_var v w same is = grind (arith, nat_tests)
-
-same_sign : (one : Bool) (s t : Bool) → (one && beq s t) ≡ true → s ≡ t
-same_sign true true true is = refl
-same_sign true true false is = sym is
-same_sign true false true is = is
-same_sign true false false is = refl
-same_sign false s t is = absurd (cc)
-
-same_literal : (l m : Literal) → is_same l m ≡ true → l ≡ m
-same_literal l m is =
-    ap (λ (v : ℕ). let one : Literal = record { var = v; positive = l.positive } in one)
-    (same_var l.var m.var (beq l.positive m.positive) is)
-    ∙ ap (λ (s : Bool). let one : Literal = record { var = m.var; positive = s } in one)
-    (same_sign (l.var == m.var) l.positive m.positive is)
 
 same_refl_by : (here : Bool) (s : Bool) → here ≡ true → (here && beq s s) ≡ true
 same_refl_by true true is = refl
@@ -397,7 +381,7 @@ all_above rows vars (s ∷ ss) news tidy =
 same_number : (q n : ℕ) → eqb q n ≡ true → q ≡ n
 same_number q n is = grind (arith, nat_tests)
 
-any_below : (bound : ℕ) (xs : List ℕ) → All (λ x. x < bound) xs → (q : ℕ) → list_any (eqb q) xs ≡ true → q < bound
+pub any_below : (bound : ℕ) (xs : List ℕ) → All (λ x. x < bound) xs → (q : ℕ) → list_any (eqb q) xs ≡ true → q < bound
 any_below bound [] below q is = absurd (false≢true is)
 any_below bound (x ∷ xs) below q is =
     elim (or_cases (eqb q x) (list_any (eqb q) xs) is) [

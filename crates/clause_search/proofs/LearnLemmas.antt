@@ -12,6 +12,7 @@ use Rattle.propagate.specs.declared.entry.Entry.{Entry}
 use Rattle.refutation.specs.Steps.{Step}
 use Rattle.refutation.specs.Steps.Step.{Clause}
 use Rattle.refutation.specs.Following.{clause_row, judged}
+use Rattle.propagate.proofs.LookLemmas.{news}
 use Rattle.clause_search.specs.Analysis.{IsAnalysis, clause_below, hint_of, hints_below, literal_of}
 use Rattle.clause_search.specs.Marks.{AreResolved, IsAnalyzed, IsBackLevel, IsLastDecision, IsTraced, IsWalked, role_at}
 use Rattle.clause_search.specs.News.{IsNews, IsTidy}
@@ -24,7 +25,7 @@ use Rattle.clause_search.proofs.BackLemmas.{back_within, kept_calm}
 use Rattle.clause_search.proofs.EmpoweringLemmas.{analysis_empowers}
 use Rattle.clause_search.proofs.MarkLemmas.{kept_not_apart}
 use Rattle.clause_search.proofs.TidyLemmas.{tidy_of}
-use Rattle.clause_search.proofs.TrailLaws.{lawful-new, trail_free, trail_fresh, trail_true}
+use Rattle.clause_search.proofs.TrailLaws.{trail_free, trail_fresh, trail_true}
 
 -- what is resolved down to the trail's front is an analysis
 resolved_analysis : (t : SeenTrail) (conflict : ℕ) (roles : List Role) → AreResolved t conflict roles 0
@@ -47,7 +48,7 @@ resolved_follows : (t : SeenTrail) (conflict : ℕ) (roles : List Role) → AreL
 resolved_follows t conflict roles lawful is =
     analysis_follows t.rows t.vars (length t.entries) (lit_at t.entries) (reason_at t.entries) (role_at roles)
     (before t.entries) conflict
-    (resolved_analysis t conflict roles is) (trail_fresh t.vars t.entries (lawful-new t.rows t.vars t.entries lawful))
+    (resolved_analysis t conflict roles is) (trail_fresh t.vars t.entries (news t.rows t.vars t.entries lawful))
     (λ j inside. (lawful j no_entry inside).new.known)
 
 -- and tidy
@@ -58,7 +59,7 @@ resolved_tidy : (t : SeenTrail) (conflict : ℕ) (roles : List Role) → AreLawf
 resolved_tidy t conflict roles lawful few is =
     tidy_of t.rows t.vars (length t.entries) (lit_at t.entries) (reason_at t.entries) (role_at roles)
     (before t.entries) conflict
-    (resolved_analysis t conflict roles is) (trail_fresh t.vars t.entries (lawful-new t.rows t.vars t.entries lawful))
+    (resolved_analysis t conflict roles is) (trail_fresh t.vars t.entries (news t.rows t.vars t.entries lawful))
     (λ j inside. (lawful j no_entry inside).new.from_one) (λ j inside. (lawful j no_entry inside).new.known) few
 
 -- the lowest place is the only one that is kept from the last decision on
@@ -81,9 +82,9 @@ pub walked_empowers : (t : SeenTrail) (conflict start : ℕ) (roles : List Role)
 walked_empowers t conflict start roles lowest lawful is walked =
     analysis_empowers t.rows (length t.entries) (lit_at t.entries) (role_at roles) (before t.entries start) start
     lowest is.quiet
-    (λ j early inside. trail_true t.vars t.entries j start (lawful-new t.rows t.vars t.entries lawful) early
+    (λ j early inside. trail_true t.vars t.entries j start (news t.rows t.vars t.entries lawful) early
     (omega (arith, is.inside)))
-    (trail_free t.vars t.entries lowest start (lawful-new t.rows t.vars t.entries lawful) walked.above_start
+    (trail_free t.vars t.entries lowest start (news t.rows t.vars t.entries lawful) walked.above_start
     walked.inside)
     walked.above_start walked.inside walked.kept (alone_from t conflict start roles lowest walked)
 
@@ -166,7 +167,7 @@ pub walked_learnable : (t : SeenTrail) (conflict start level : ℕ) (roles : Lis
     → hints ≡ hints_below (reason_at t.entries) (role_at roles) (length t.entries) ++ conflict ∷ []
     → IsLearnable t clause hints level
 walked_learnable t conflict start level roles clause hints lawful few is analyzed back clause_is hints_are =
-    let each : EachEntry (IsNew t.vars) t.entries = lawful-new t.rows t.vars t.entries lawful in
+    let each : EachEntry (IsNew t.vars) t.entries = news t.rows t.vars t.entries lawful in
     record {
       is_news = walked_news t conflict start roles clause hints lawful is analyzed clause_is hints_are;
       tidy = walked_tidy t conflict start roles clause hints lawful few analyzed clause_is hints_are;

@@ -9,10 +9,12 @@ use Rattle.rows.specs.Literals.{Literal, negate}
 use Rattle.rows.specs.Partials.{opposite_of, value_of}
 use Rattle.rows.specs.declared.lit.Term.{Term}
 use Rattle.rows.specs.declared.partial.Value.{Value}
-use Rattle.rows.specs.declared.partial.Value.TheVariants.{True, False, Free}
+use Rattle.rows.specs.declared.partial.Value.TheVariants.{False, Free}
+use Rattle.row_sums.proofs.LiteralLemmas.{negate-twice}
 use Rattle.propagate.specs.Trails.{EachEntry, IsNew, values_of}
 use Rattle.propagate.specs.declared.entry.Entry.{Entry}
 use Rattle.propagate.proofs.ValueLemmas.{value_of-other, value_of-same}
+use Rattle.propagate.proofs.ClauseLemmas.{free_not_false, true_not_false}
 use Rattle.clause_search.specs.Analysis.{IsMarked}
 use Rattle.clause_search.specs.Marks.{Marks, role_at}
 use Rattle.clause_search.specs.Trails.{before, lit_at}
@@ -37,12 +39,6 @@ same_lit : (l m : Literal) → l.var ≡ m.var → l.positive ≡ m.positive →
 same_lit l m var sign =
     ap (λ (v : ℕ). let x : Literal = record { var = v; positive = l.positive } in x) var
     ∙ ap (λ (s : Bool). let x : Literal = record { var = m.var; positive = s } in x) sign
-
-true_not_false : True ≡ False → ⊥
-true_not_false same = cc
-
-free_not_false : Free ≡ False → ⊥
-free_not_false same = cc
 
 -- of the literal that was made true last
 false_last : (values : ℕ → Value) (m l : Literal) → value_of values m
@@ -79,18 +75,11 @@ false_stands vars es (suc k) l each within is =
           (earlier.0, omega (arith, earlier.1), earlier.2)
     ]
 
-negate_back : (l : Literal) → negate (negate l) ≡ l
-negate_back l = ap (λ (s : Bool). let x : Literal = record { var = l.var; positive = s } in x) (twice l.positive)
-  where
-    twice : (s : Bool) → not (not s) ≡ s
-    twice true = refl
-    twice false = refl
-
 -- where the negation stands the literal is false behind it
 pub stands_false : (vars : ℕ) (es : List Entry) (k : ℕ) (l : Literal) → EachEntry (IsNew vars) es → k ≤ length es
     → StandsBefore es k l → value_of (before es k) l ≡ False
 stands_false vars es k l each within stands =
-    subst (λ (x : Literal). value_of (before es k) x ≡ False) (ap negate stands.2 ∙ negate_back l)
+    subst (λ (x : Literal). value_of (before es k) x ≡ False) (ap negate stands.2 ∙ negate-twice l)
     (negate_false (before es k) (lit_at es stands.0) (trail_true vars es stands.0 k each stands.1 within))
 
 -- and no other place has its variable

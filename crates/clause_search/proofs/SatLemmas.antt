@@ -15,13 +15,16 @@ use Rattle.rows.specs.Partials.{IsQuiet, IsQuietRow, as_value, is_false, opposit
 use Rattle.rows.specs.declared.lit.Term.{Term}
 use Rattle.rows.specs.declared.partial.Value.{Value}
 use Rattle.rows.specs.declared.partial.Value.TheVariants.{Free}
+use Rattle.rows.proofs.TrailLemmas.{set_true-other}
 use Rattle.propagate.specs.Trails.{AreLawful, EachEntry, IsNew, KnowsVariables, SeenTrail, values_of}
 use Rattle.propagate.specs.declared.entry.Entry.{Entry}
-use Rattle.propagate.proofs.ValueLemmas.{set_true-other, sum_by-agree}
+use Rattle.propagate.proofs.ValueLemmas.{sum_by-agree}
+use Rattle.propagate.proofs.LookLemmas.{news}
+use Rattle.propagate.proofs.ReachLemmas.{tail_apart}
 use Rattle.clause_search.specs.Trails.{before, lit_at, no_entry}
 use Rattle.clause_search.specs.Turns.{IsFilled}
 use Rattle.clause_search.proofs.ReplayLemmas.{AreApart}
-use Rattle.clause_search.proofs.TrailLaws.{before-more, lawful-new}
+use Rattle.clause_search.proofs.TrailLaws.{before-more}
 
 counts_by : (coef : ℕ) (positive b : Bool) → cond (is_false (cond positive (as_value b) (opposite_of (as_value b)))) 0
     coef ≡ cond (cond positive b (not b)) coef 0
@@ -81,9 +84,6 @@ coef_most : (b : Bool) (coef : ℕ) → cond b 0 coef ≤ coef
 coef_most true coef = omega arith
 coef_most false coef = omega arith
 
-apart_tail : (t : Term) (ts : List Term) → AreApart (t ∷ ts) → AreApart ts
-apart_tail t ts apart = λ i j d before inside. apart (suc i) (suc j) d (omega (arith, before)) (omega (arith, inside))
-
 -- a first term that has a variable
 reach_more : (values : ℕ → Value) (assigned : ℕ → Bool) (x : Term) (terms : List Term) → open_coef values x
     ≡ true_coef assigned x
@@ -131,7 +131,7 @@ reach_one values assigned vars (x ∷ terms) none agree apart known =
           reach_more values assigned x terms
           (counts values assigned x
           (agree x.lit.var (omega (arith, some)) (All-head (λ (t : Term). t.lit.var ≤ vars) x terms known)))
-          (reach_one values assigned vars terms none agree (apart_tail x terms apart)
+          (reach_one values assigned vars terms none agree (tail_apart x terms apart)
           (All-tail (λ (t : Term). t.lit.var ≤ vars) x terms known))
       | inr past ↦
           inr (reach_none values assigned vars x terms none agree apart
@@ -174,7 +174,7 @@ pub filled_satisfies : (t : SeenTrail) (filled : List Bool) → All IsRow t.rows
 filled_satisfies t filled proper known lawful quiet total is =
     let none : values_of t.entries 0 ≡ Free =
     ap (λ (es : List Entry). values_of es 0) (sym (take_all (length t.entries) t.entries (omega arith)))
-    ∙ none_zero t.vars t.entries (lawful-new t.rows t.vars t.entries lawful) (length t.entries) (omega arith) in (
+    ∙ none_zero t.vars t.entries (news t.rows t.vars t.entries lawful) (length t.entries) (omega arith) in (
       is.length_is,
       λ k d within.
           satisfies-full (values_of t.entries) (assigned filled) t.vars (get_or t.rows k d) none

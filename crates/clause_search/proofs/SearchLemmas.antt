@@ -73,7 +73,7 @@ first_fault-none rows vars n (x ∷ steps) hints news last =
     (ap (λ (rs : List Row). judged rs vars (Clause [] hints)) (append_assoc rows (row_of x ∷ []) (map row_of steps))
     ∙ last)
 
-ends_empty-push : (steps : List Step) (hints : List ℕ) → ends_empty (steps ++ Clause [] hints ∷ []) ≡ true
+pub ends_empty-push : (steps : List Step) (hints : List ℕ) → ends_empty (steps ++ Clause [] hints ∷ []) ≡ true
 ends_empty-push [] hints = refl
 ends_empty-push (x ∷ []) hints = refl
 ends_empty-push (x ∷ y ∷ steps) hints = ends_empty-push (y ∷ steps) hints

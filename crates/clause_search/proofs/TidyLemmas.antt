@@ -11,6 +11,7 @@ use Rattle.rows.specs.Rows.{Row}
 use Rattle.rows.specs.declared.partial.Value.{Value}
 use Rattle.refutation.specs.Following.{row_numbered}
 use Rattle.refutation.specs.Steps.Step.{Clause}
+use Rattle.refutation.specs.Steps.{Step}
 use Rattle.clause_search.specs.Analysis.{IsAnalysis, IsResolved, clause_below, hint_of, hints_below, literal_of}
 use Rattle.clause_search.specs.News.{IsTidy}
 use Rattle.clause_search.specs.declared.role.Role.{Role}
@@ -105,4 +106,14 @@ tidy_of rows vars n lit reason role before number is fresh from_ones known few =
       let resolved : IsResolved rows lit reason role j (before j) = is.used j below used in
       from_one rows (reason j) resolved.row resolved.resolves.named))
       (from_one rows number is.row is.resolves.named);
+}
+
+-- what is tidy among some variables is so among more
+pub IsTidy-wider : (vars more : ℕ) (step : Step) → vars ≤ more → IsTidy vars step → IsTidy more step
+IsTidy-wider vars more step most tidy = record {
+  variables = tidy.variables;
+  from_one = tidy.from_one;
+  known = λ k d within. omega (arith, tidy.known k d within, most);
+  few = omega (arith, tidy.few, most);
+  named = tidy.named;
 }

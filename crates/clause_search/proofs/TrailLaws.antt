@@ -12,10 +12,11 @@ use Rattle.rows.specs.Partials.{is_free, value_of}
 use Rattle.rows.specs.declared.partial.Value.{Value}
 use Rattle.rows.specs.declared.partial.Value.TheVariants.{True, Free}
 use Rattle.rows.proofs.TrailLemmas.{is_free-value_of}
-use Rattle.propagate.specs.Trails.{AreLawful, EachEntry, IsNew, IsLawful, values_of}
+use Rattle.propagate.specs.Trails.{AreLawful, EachEntry, IsNew, values_of}
 use Rattle.propagate.specs.declared.entry.Entry.{Entry}
-use Rattle.propagate.proofs.EntryLemmas.{each-weaker, values_of-push}
+use Rattle.propagate.proofs.EntryLemmas.{values_of-push}
 use Rattle.propagate.proofs.ValueLemmas.{value_of-same, was_free}
+use Rattle.propagate.proofs.LookLemmas.{news}
 use Rattle.clause_search.proofs.ReplayLemmas.{stays_true}
 use Rattle.clause_search.proofs.AnalysisLemmas.{AreFresh}
 use Rattle.clause_search.specs.Trails.{before, entry_at, lit_at, no_entry}
@@ -76,10 +77,6 @@ trail_fresh vars es each = λ j k earlier within same.
     (ap is_free (sym set) ∙ is_free-value_of (before es k) (lit_at es j)
     ∙ ap (λ (v : ℕ). is_free (before es k v)) same
     ∙ sym (is_free-value_of (before es k) (lit_at es k)) ∙ ap is_free free))
-
--- the entries of a lawful trail are new
-pub lawful-new : (rows : List Row) (vars : ℕ) (es : List Entry) → AreLawful rows vars es → EachEntry (IsNew vars) es
-lawful-new rows vars es lawful = each-weaker (IsLawful rows vars) (IsNew vars) es (λ front e is. is.new) lawful
 
 -- an entry with a reason is no decision
 pub some_by : (o : Option ℕ) → is_some o ≡ true → is_none o ≡ false

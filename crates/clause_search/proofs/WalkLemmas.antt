@@ -16,6 +16,7 @@ use Rattle.rows.specs.declared.partial.Value.TheVariants.{False}
 use Rattle.propagate.specs.Trails.{AreLawful, IsForcedBy, IsNumbered, KnowsVariables, SeenTrail, is_decision, values_of}
 use Rattle.propagate.specs.declared.entry.Entry.{Entry}
 use Rattle.refutation.specs.Following.{row_numbered}
+use Rattle.propagate.proofs.LookLemmas.{news}
 use Rattle.clause_search.specs.Analysis.{IsMarked, IsResolved, Resolves}
 use Rattle.clause_search.specs.Marks.{AreResolved, IsLastDecision, IsTraced, IsWalked, Marks, role_at}
 use Rattle.clause_search.specs.Trails.{before, entry_at, lit_at, no_entry, number_of, reason_at}
@@ -23,7 +24,6 @@ use Rattle.clause_search.specs.declared.role.Role.{Role}
 use Rattle.clause_search.specs.declared.role.Role.TheVariants.{Apart, Kept, Used}
 use Rattle.clause_search.proofs.MarkLemmas.{kept_not_apart, role_other, role_set, stands_false, used_not_kept}
 use Rattle.clause_search.proofs.ReplayLemmas.{Falls, reach-falls}
-use Rattle.clause_search.proofs.TrailLaws.{lawful-new}
 
 -- ---- rows by number
 
@@ -307,7 +307,7 @@ conflict_needs t start roles n row lawful is numbered resolves conflict apart =
     let mark : IsMarked (lit_at t.entries) (role_at roles) (length t.entries) u.lit = resolves.marked u there was in
     elim (cases_lt mark.0 start) [
       | inl early ↦
-          stands_false t.vars t.entries start u.lit (lawful-new t.rows t.vars t.entries lawful)
+          stands_false t.vars t.entries start u.lit (news t.rows t.vars t.entries lawful)
           (omega (arith, is.inside)) (mark.0, early, mark.3)
       | inr late ↦ absurd (mark.2 (apart mark.0 late mark.1))
     ] in

@@ -119,7 +119,7 @@ away_break_value n m values i s mirrors team later slot =
     ∙ ap (λ (b : Bool). nat_lt 0 (away_games n m i (s - 1)) && b) (away_value n m values i s mirrors team slot)
     ∙ later_slot s (nat_lt 0 (away_games n m i (s - 1))) (nat_lt 0 (away_games n m i s)) later
 
-after_first_passes : (s : ℕ) (b : Bool) → 0 < s → (not (nat_lt 0 s) || b) ≡ true → b ≡ true
+pub after_first_passes : (s : ℕ) (b : Bool) → 0 < s → (not (nat_lt 0 s) || b) ≡ true → b ≡ true
 after_first_passes s b later pass = grind (arith, nat_tests)
 
 -- where group 7 is satisfied, hb and ab are the breaks

@@ -37,17 +37,17 @@ use Rattle.decoding.proofs.SeparationLaw.{satisfied-se1}
 use Rattle.decoding.proofs.ShortfallLemmas.{satisfied-needs}
 
 -- the sets of a class that fits
-teams_fit : (n : ℕ) (teams : List ℕ) → are_teams n teams ≡ true → all_below n teams ≡ true
+pub teams_fit : (n : ℕ) (teams : List ℕ) → are_teams n teams ≡ true → all_below n teams ≡ true
 teams_fit n teams fits = first_true (all_below n teams) (ascends nat_cmp teams) fits
 
-slots_fit : (n : ℕ) (slots : List ℕ) → are_slots n slots ≡ true → all_below (slot_count n) slots ≡ true
+pub slots_fit : (n : ℕ) (slots : List ℕ) → are_slots n slots ≡ true → all_below (slot_count n) slots ≡ true
 slots_fit n slots fits = first_true (all_below (slot_count n) slots) (ascends nat_cmp slots) fits
 
-meetings_fit : (n : ℕ) (meetings : List (ℕ × ℕ)) → are_meetings n meetings ≡ true
+pub meetings_fit : (n : ℕ) (meetings : List (ℕ × ℕ)) → are_meetings n meetings ≡ true
     → list_all (is_meeting n) meetings ≡ true
 meetings_fit n meetings fits = first_true (list_all (is_meeting n) meetings) (ascends pair_cmp meetings) fits
 
-spans-fit : (n : ℕ) (span : Span) (slots : List ℕ) → all_below (slot_count n) slots ≡ true
+pub spans-fit : (n : ℕ) (span : Span) (slots : List ℕ) → all_below (slot_count n) slots ≡ true
     → list_all (all_below (slot_count n)) (spans span slots) ≡ true
 spans-fit n Global slots fit = and_from _ _ fit refl
 spans-fit n Every slots fit =

@@ -11,11 +11,12 @@ use Rattle.league.specs.Meetings.{meetings_of, others}
 use Rattle.league.specs.Order.{IsInOrder}
 use Rattle.league.specs.declared.game.Game.{Game}
 use Rattle.league.proofs.RangeLemmas.{range_with_len-more}
+use Rattle.league.proofs.ListLemmas.{flat_map-same}
 use Rattle.rows.specs.Rows.{SatisfiesAll}
 use Rattle.encoding_base.specs.Encoding.{rows_of}
 use Rattle.encoding_base.specs.Shadow.{decoded, game_of}
 use Rattle.encoding_base.specs.Variables.{x_var}
-use Rattle.encoding_base.proofs.KeyRowLemmas.{filter-flat_map, flat_map-same}
+use Rattle.encoding_base.proofs.KeyRowLemmas.{filter-flat_map}
 use Rattle.decoding.specs.TrueGames.{true_games_in, true_home_games}
 use Rattle.decoding.proofs.Faithful.{accepted-from_rows}
 use Rattle.decoding.proofs.OrderOfGames.{IsInOrder-decoded}

@@ -1,17 +1,17 @@
 -- Groups 5 and 6 follow from the others: in a double round robin half of the teams play at home in each slot, and
 -- each team plays at home in half of its games.
-use Rattle.std.proofs.Common.{◌≡◌, ◌≢◌, ℕ, ◌+◌, ◌-◌, ◌/◌, ◌<◌, Bool, true, not, ◌==◌, nat_lt, List, []}
-use Rattle.std.proofs.Common.{◌∷◌, map, cond}
-use Rattle.std.proofs.Common.{refl, arith, ap, ◌∙◌, sym}
+use Rattle.std.proofs.Common.{◌≡◌, ◌≢◌, ℕ, ◌+◌, ◌-◌, ◌/◌, ◌<◌, Bool, true, not, ◌==◌, nat_lt, List}
+use Rattle.std.proofs.Common.{map, cond}
+use Rattle.std.proofs.Common.{arith, ap, ◌∙◌}
 use Rattle.std.proofs.lemmas.Bool.{eq-eqb, ltb-true}
 use Rattle.std.proofs.lemmas.Bool.Decides.{nat_tests}
-use Rattle.std.proofs.lemmas.List.Sums.{sum_by-cons}
 use Rattle.std.specs.List.{sum_by}
 use Rattle.league.specs.Counts.{Counts, slot_count, slots_of, teams_of}
 use Rattle.league.specs.Structure.{IsPlayedOnce}
 use Rattle.league.specs.Venues.{away_games, home_games}
 use Rattle.league.proofs.RangeLemmas.{one_if}
-use Rattle.league.proofs.SumLemmas.{sum_by-add, sum_by-map, sum_by-same}
+use Rattle.league.proofs.SumLemmas.{sum_by-add, sum_by-map}
+use Rattle.league.proofs.OneTermLemmas.{sum_by-swap}
 use Rattle.rows.specs.Cardinality.{exactly}
 use Rattle.rows.specs.Literals.{Literal, yes}
 use Rattle.rows.specs.Rows.{is_true}
@@ -25,25 +25,6 @@ use Rattle.decoding.specs.Mirrors.{Mirrors}
 use Rattle.decoding.proofs.MeetingLists.{teams_of-fit}
 use Rattle.decoding.proofs.SeasonLaws.{PlaysOthers, slots_of-fit}
 use Rattle.decoding.proofs.VenueLaws.{sum_by-ones, sum_by-others_of}
-
--- no terms but zeros
-sum_by-zeros : {X : Type 0} (xs : List X) → sum_by (λ x. 0) xs ≡ 0
-sum_by-zeros [] = refl
-sum_by-zeros {X} (x ∷ xs) = let zero_of : X → ℕ = λ y. 0 in omega (arith, sum_by-cons zero_of x xs, sum_by-zeros xs)
-
--- a sum over rows and columns, rows first or columns first
-pub sum_by-swap : {X Y : Type 0} (f : X → Y → ℕ) (xs : List X) (ys : List Y) →
-    sum_by (λ x. sum_by (f x) ys) xs ≡ sum_by (λ y. sum_by (λ x. f x y) xs) ys
-sum_by-swap f [] ys = sym (sum_by-zeros ys)
-sum_by-swap {X} {Y} f (x ∷ xs) ys =
-    let rest : Y → ℕ = λ y. sum_by (λ x. f x y) xs in
-    omega (
-      arith,
-      sum_by-cons (λ x. sum_by (f x) ys) x xs,
-      sum_by-swap f xs ys,
-      sum_by-add (f x) rest ys,
-      sum_by-same (λ y. sum_by (λ z. f z y) (x ∷ xs)) (λ y. f x y + rest y) (λ y. sum_by-cons (λ z. f z y) x xs) ys,
-    )
 
 -- the teams at home in a slot
 home_teams : (n : ℕ) (m : Counts) (values : ℕ → Bool) (s : ℕ) → Mirrors n m values → s < slot_count n →

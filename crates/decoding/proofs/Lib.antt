@@ -23,6 +23,8 @@ pub mod HomeCounts
 pub mod SeasonRows
 -- The encoding is faithful both ways:
 pub mod Faithful
+-- Games that are decoded from accepted values fit, and are few; games that change places:
+pub mod GameLemmas
 -- Decoding as a walk through the slots, the home teams and the away teams, in order:
 pub mod OrderOfGames
 pub mod DecodeLemmas

@@ -1,7 +1,7 @@
 -- The games that can take place are listed in order, and so is each part of them.
 use Rattle.std.proofs.Common.{◌≡◌, ℕ, zero, suc, ◌+◌, ◌-◌, ◌*◌, ◌<◌, Bool, true, not, ◌&&◌, ◌==◌, List, [], ◌∷◌, ◌++◌}
 use Rattle.std.proofs.Common.{map, cond, refl, arith, ap, ◌∙◌}
-use Rattle.std.proofs.lemmas.Bool.{and_from, and_parts, eq-eqb, eqb-true, le-ltb, lt-ltb}
+use Rattle.std.proofs.lemmas.Bool.{and_from, and_parts, eq-eqb, eqb-true, le-ltb}
 use Rattle.std.proofs.lemmas.List.Folds.{list_all-append, list_all-map}
 use Rattle.std.proofs.lemmas.List.Kept.{AllPairs-filter}
 use Rattle.std.specs.List.{filter, flat_map, list_all, range_with_len}
@@ -14,6 +14,7 @@ use Rattle.league.specs.Order.{IsInOrder, game_cmp}
 use Rattle.league.specs.Sets.{ascends}
 use Rattle.league.specs.declared.game.Game.{Game}
 use Rattle.league.proofs.AscendingLemmas.{IsAscending-ascends, ascends-true}
+use Rattle.league.proofs.NumberSets.{nat_cmp-less}
 use Rattle.rows.proofs.ListLemmas.{list_all-flat_map, list_all-range, list_all-weaker}
 use Rattle.encoding_base.specs.Shadow.{all_games, decoded, game_of}
 use Rattle.encoding_base.specs.Variables.{x_var}
@@ -69,9 +70,6 @@ ascends-range cmp before a zero = refl
 ascends-range cmp before a (suc k) =
     and_from _ _ (list_all-range (λ j. is_lt (cmp a j)) (a + 1) k (λ j from within. before a j (omega arith)))
     (ascends-range cmp before (a + 1) k)
-
-nat_cmp-less : (a b : ℕ) → a < b → nat_cmp a b ≡ Less
-nat_cmp-less a b before = ap (λ (t : Bool). cond t Less (cond (a == b) Equal Greater)) (lt-ltb a b before)
 
 nat_cmp-same : (a : ℕ) → nat_cmp a a ≡ Equal
 nat_cmp-same a =

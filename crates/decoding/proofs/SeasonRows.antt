@@ -12,7 +12,7 @@ use Rattle.league.specs.Counts.{Counts, counts_of, slot_count, teams_of}
 use Rattle.league.specs.Structure.{IsPlayedOnce, IsRoundRobin, cells_wrong, pairs_wrong, phases_wrong}
 use Rattle.league.specs.Venues.{away_games, home_games}
 use Rattle.league.proofs.RangeLemmas.{one_if}
-use Rattle.league.proofs.RoundRobinLemmas.{none_wrong, plays_once}
+use Rattle.league.proofs.RoundRobinLemmas.{IsPlayedOnce-of, plays_once}
 use Rattle.rows.specs.Rows.{Row}
 use Rattle.rows.specs.Tests.{all_satisfied, satisfied}
 use Rattle.encoding_base.specs.Season.{break_rows, cell_rows, half_rows, meeting_rows, slot_rows, team_rows, venue_rows}
@@ -157,12 +157,6 @@ season-from_rows n phased breaks values season break_pass =
       break_values = breaks-from_rows n breaks m values mirrors break_pass;
     }
 
--- a round robin is played once
-played_once : (n : ℕ) (phased : Bool) (m : Counts) → IsRoundRobin n phased m → IsPlayedOnce n phased m
-played_once n phased m is =
-    (none_wrong n phased m (pairs_wrong n m) (cells_wrong n m) (phases_wrong n phased m) refl refl refl).0
-    (is.pairs, is.cells, is.phases)
-
 -- the shadow of a round robin mirrors it
 pub mirrored-from_shadow : (n : ℕ) (phased breaks : Bool) (m : Counts) (values : ℕ → Bool) →
     IsShadow n breaks m values → IsRoundRobin n phased m → IsMirroredSeason n phased breaks m values
@@ -181,7 +175,7 @@ season_rows-met n phased breaks m values is round_robin =
     let mirrored = mirrored-from_shadow n phased breaks m values is round_robin in
     let games : MirrorsGames n m values = mirrored.mirrors.games in
     let others : PlaysOthers n m = PlaysOthers-from_cells n m round_robin.cells in
-    let once : IsPlayedOnce n phased m = played_once n phased m round_robin in
+    let once : IsPlayedOnce n phased m = IsPlayedOnce-of n phased m round_robin in
     let one = meeting_rows-law n m values games ∙ eq-eqb (pairs_wrong n m) 0 round_robin.pairs in
     let two = satisfied_both values (meeting_rows n) (cell_rows n) one
     (cell_rows-law n m values games others ∙ eq-eqb (cells_wrong n m) 0 round_robin.cells) in

@@ -1,13 +1,9 @@
 -- Counts after an edit, and after it was taken back.
 use Rattle.std.proofs.Common.{◌≡◌, ℕ, ◌+◌, ◌≤◌, List, arith}
-use Rattle.std.proofs.Math.Path.{fun_ext}
 use Rattle.league.specs.Counts.{Counts, counts_of}
 use Rattle.league.specs.declared.game.Game.{Game}
 use Rattle.moves.specs.Round.{Edits, IsEdit, edited}
-
--- functions that give equal counts are one
-pub same_counts : (m k : Counts) → ((i j s : ℕ) → m i j s ≡ k i j s) → m ≡ k
-same_counts m k same = fun_ext (λ i. fun_ext (λ j. fun_ext (λ s. same i j s)))
+use Rattle.cells.proofs.TableLemmas.{same_counts}
 
 -- counts to which an edit led
 abbrev pub AreExchanged : Counts → Counts → List Game → List Game → Type 0

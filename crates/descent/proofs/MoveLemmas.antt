@@ -1,47 +1,19 @@
 -- The list of all moves: each move of the league in its own range stands in it, and it has no move of another league.
-use Rattle.std.proofs.Common.{◌≡◌, ℕ, zero, suc, ◌+◌, ◌-◌, ◌<◌, ◌≤◌, List, [], ◌∷◌, ◌++◌, map, ◌⊎◌, inl, inr, arith, ap, sym, subst, ◌∙◌}
+use Rattle.std.proofs.Common.{ℕ, zero, suc, ◌+◌, ◌-◌, ◌<◌, ◌≤◌, List, ◌++◌, map, inl, inr, arith, subst, ◌∙◌}
 use Rattle.std.specs.List.{All, Contains, flat_map, range_with_len}
 use Rattle.std.proofs.lemmas.Bool.{cases_eq}
-use Rattle.std.proofs.lemmas.List.{get_or-map, length-map}
-use Rattle.std.proofs.lemmas.List.Concat.{flat_map-cons}
-use Rattle.std.proofs.lemmas.List.Elements.{All-append, All-cons, All-map, All-nil, All-tail, Contains-append_left, Contains-append_right, Contains-append_cases, Contains-push, Contains-push_cases}
+use Rattle.std.proofs.lemmas.List.Elements.{All-append, All-map, All-nil, Contains-append_left, Contains-append_right}
 use Rattle.std.proofs.lemmas.List.FromFn.{get_or-range_with_len, length-range_with_len}
 use Rattle.league.specs.Counts.{Counts, slot_count, slots_of, teams_of}
 use Rattle.league.specs.Meetings.{pairs_of}
+use Rattle.league.proofs.OneTermLemmas.{All-flat_map, All-range}
+use Rattle.league.proofs.ListLemmas.{Contains-flat_map, Contains-map}
 use Rattle.moves.specs.Moves.{IsInOwnRange, IsOfLeague}
 use Rattle.moves.specs.Neighbours.{all_moves, home_swap, part_round_swap, part_team_swap, round_swap, team_swap}
 use Rattle.moves.specs.declared.swap.Swap.{Swap}
 use Rattle.moves.specs.declared.swap.Swap.TheVariants.{HomeSwap, RoundSwap, TeamSwap, PartRoundSwap, PartTeamSwap}
 
 -- ---- what stands in lists
-
-contains-map : {X Y : Type 0} (f : X → Y) (xs : List X) (x : X) → Contains xs x → Contains (map f xs) (f x)
-contains-map {X} {Y} f xs x there =
-    (there.0, omega (arith, there.1, length-map xs f), get_or-map f xs there.0 x (f x) there.1 ∙ ap f there.2)
-
-contains-head : {X : Type 0} (x : X) (xs : List X) → Contains (x ∷ xs) x
-contains-head {X} x xs = Contains-append_left (x ∷ []) xs x (Contains-push [] x)
-
-contains-cons_cases : {X : Type 0} (y x : X) (xs : List X) → Contains (y ∷ xs) x → (y ≡ x) ⊎ Contains xs x
-contains-cons_cases {X} y x xs there =
-    elim (Contains-append_cases (y ∷ []) xs x there) as (λ _. (y ≡ x) ⊎ Contains xs x) [
-      | inl first ↦
-          elim (Contains-push_cases [] y x first) as (λ _. (y ≡ x) ⊎ Contains xs x) [
-            | inl none ↦ absurd (omega (arith, none.1))
-            | inr same ↦ inl same
-          ]
-      | inr later ↦ inr later
-    ]
-
-contains-flat_map : {X Y : Type 0} (f : X → List Y) (xs : List X) (x : X) (y : Y) → Contains xs x → Contains (f x) y
-    → Contains (flat_map f xs) y
-contains-flat_map {X} {Y} f [] x y there within = absurd (omega (arith, there.1))
-contains-flat_map {X} {Y} f (z ∷ xs) x y there within =
-    subst (λ (ys : List Y). Contains ys y) (sym (flat_map-cons f z xs))
-    (elim (contains-cons_cases z x xs there) as (λ _. Contains (f z ++ flat_map f xs) y) [
-      | inl same ↦ Contains-append_left (f z) (flat_map f xs) y (subst (λ (w : X). Contains (f w) y) (sym same) within)
-      | inr later ↦ Contains-append_right (f z) (flat_map f xs) y (contains-flat_map f xs x y later within)
-    ])
 
 contains-range : (a k x : ℕ) → a ≤ x → x < a + k → Contains (range_with_len a k) x
 contains-range a k x from below =
@@ -57,7 +29,7 @@ contains-pairs (suc k) a i j from order below =
       | inl same ↦
           Contains-append_left firsts (pairs_of later) (i, j)
           (subst (λ (b : ℕ). Contains {X = ℕ × ℕ} firsts (b, j)) same
-          (contains-map pair later j (contains-range (a + 1) k j (omega arith) (omega arith))))
+          (Contains-map pair later j (contains-range (a + 1) k j (omega arith) (omega arith))))
       | inr differ ↦
           Contains-append_right firsts (pairs_of later) (i, j)
           (contains-pairs k (a + 1) i j (omega arith) order (omega arith))
@@ -80,7 +52,7 @@ all_moves-lists n m (HomeSwap i j) of own =
     let teams : List Swap = map team_swap (pairs_of (teams_of n)) in
     let part_rounds : List Swap = flat_map (λ i. map (part_round_swap i) (pairs_of (slots_of n))) (teams_of n) in
     let part_teams : List Swap = flat_map (λ p. map (part_team_swap p) (slots_of n)) (pairs_of (teams_of n)) in
-    let there : Contains homes (HomeSwap i j) = contains-map home_swap (pairs_of (teams_of n)) (i.0, j.0) (pairs-listed n i.0 j.0 own of.1) in
+    let there : Contains homes (HomeSwap i j) = Contains-map home_swap (pairs_of (teams_of n)) (i.0, j.0) (pairs-listed n i.0 j.0 own of.1) in
     Contains-append_left (homes ++ rounds ++ teams ++ part_rounds) part_teams (HomeSwap i j)
     (Contains-append_left (homes ++ rounds ++ teams) part_rounds (HomeSwap i j)
     (Contains-append_left (homes ++ rounds) teams (HomeSwap i j)
@@ -91,7 +63,7 @@ all_moves-lists n m (RoundSwap s t) of own =
     let teams : List Swap = map team_swap (pairs_of (teams_of n)) in
     let part_rounds : List Swap = flat_map (λ i. map (part_round_swap i) (pairs_of (slots_of n))) (teams_of n) in
     let part_teams : List Swap = flat_map (λ p. map (part_team_swap p) (slots_of n)) (pairs_of (teams_of n)) in
-    let there : Contains rounds (RoundSwap s t) = contains-map round_swap (pairs_of (slots_of n)) (s.0, t.0) (pairs-listed (slot_count n) s.0 t.0 own of.1) in
+    let there : Contains rounds (RoundSwap s t) = Contains-map round_swap (pairs_of (slots_of n)) (s.0, t.0) (pairs-listed (slot_count n) s.0 t.0 own of.1) in
     Contains-append_left (homes ++ rounds ++ teams ++ part_rounds) part_teams (RoundSwap s t)
     (Contains-append_left (homes ++ rounds ++ teams) part_rounds (RoundSwap s t)
     (Contains-append_left (homes ++ rounds) teams (RoundSwap s t)
@@ -102,7 +74,7 @@ all_moves-lists n m (TeamSwap i j) of own =
     let teams : List Swap = map team_swap (pairs_of (teams_of n)) in
     let part_rounds : List Swap = flat_map (λ i. map (part_round_swap i) (pairs_of (slots_of n))) (teams_of n) in
     let part_teams : List Swap = flat_map (λ p. map (part_team_swap p) (slots_of n)) (pairs_of (teams_of n)) in
-    let there : Contains teams (TeamSwap i j) = contains-map team_swap (pairs_of (teams_of n)) (i.0, j.0) (pairs-listed n i.0 j.0 own of.1) in
+    let there : Contains teams (TeamSwap i j) = Contains-map team_swap (pairs_of (teams_of n)) (i.0, j.0) (pairs-listed n i.0 j.0 own of.1) in
     Contains-append_left (homes ++ rounds ++ teams ++ part_rounds) part_teams (TeamSwap i j)
     (Contains-append_left (homes ++ rounds ++ teams) part_rounds (TeamSwap i j)
     (Contains-append_right (homes ++ rounds) teams (TeamSwap i j) there))
@@ -114,8 +86,8 @@ all_moves-lists n m (PartRoundSwap i s t) of own =
     let part_rounds : List Swap = flat_map of_team (teams_of n) in
     let part_teams : List Swap = flat_map (λ p. map (part_team_swap p) (slots_of n)) (pairs_of (teams_of n)) in
     let there : Contains part_rounds (PartRoundSwap i s t) =
-    contains-flat_map of_team (teams_of n) i.0 (PartRoundSwap i s t) (number-listed n i.0 of.0)
-    (contains-map (part_round_swap i.0) (pairs_of (slots_of n)) (s.0, t.0) (pairs-listed (slot_count n) s.0 t.0 own of.2)) in
+    Contains-flat_map of_team (teams_of n) i.0 (PartRoundSwap i s t) (number-listed n i.0 of.0)
+    (Contains-map (part_round_swap i.0) (pairs_of (slots_of n)) (s.0, t.0) (pairs-listed (slot_count n) s.0 t.0 own of.2)) in
     Contains-append_left (homes ++ rounds ++ teams ++ part_rounds) part_teams (PartRoundSwap i s t)
     (Contains-append_right (homes ++ rounds ++ teams) part_rounds (PartRoundSwap i s t) there)
 all_moves-lists n m (PartTeamSwap i j s) of own =
@@ -126,24 +98,11 @@ all_moves-lists n m (PartTeamSwap i j s) of own =
     let of_pair : ℕ × ℕ → List Swap = λ p. map (part_team_swap p) (slots_of n) in
     let part_teams : List Swap = flat_map of_pair (pairs_of (teams_of n)) in
     let there : Contains part_teams (PartTeamSwap i j s) =
-    contains-flat_map of_pair (pairs_of (teams_of n)) (i.0, j.0) (PartTeamSwap i j s) (pairs-listed n i.0 j.0 own.0 of.1)
-    (contains-map (part_team_swap (i.0, j.0)) (slots_of n) s.0 (number-listed (slot_count n) s.0 of.2)) in
+    Contains-flat_map of_pair (pairs_of (teams_of n)) (i.0, j.0) (PartTeamSwap i j s) (pairs-listed n i.0 j.0 own.0 of.1)
+    (Contains-map (part_team_swap (i.0, j.0)) (slots_of n) s.0 (number-listed (slot_count n) s.0 of.2)) in
     Contains-append_right (homes ++ rounds ++ teams ++ part_rounds) part_teams (PartTeamSwap i j s) there
 
 -- ---- and no move of another league
-
-each_in_range : (P : ℕ → Type 0) (a k : ℕ) → ((x : ℕ) → a ≤ x → x < a + k → P x) → All P (range_with_len a k)
-each_in_range P a zero each = All-nil P
-each_in_range P a (suc k) each =
-    All-cons P a (range_with_len (a + 1) k) (each a (omega arith) (omega arith))
-    (each_in_range P (a + 1) k (λ x from below. each x (omega arith) (omega arith)))
-
-each_in_flat_map : {X Y : Type 0} (P : Y → Type 0) (f : X → List Y) (xs : List X) → All (λ x. All P (f x)) xs
-    → All P (flat_map f xs)
-each_in_flat_map {X} {Y} P f [] each = All-nil P
-each_in_flat_map {X} {Y} P f (x ∷ xs) each =
-    subst (λ (ys : List Y). All P ys) (sym (flat_map-cons f x xs))
-    (All-append P (f x) (flat_map f xs) (each 0 x (omega arith)) (each_in_flat_map P f xs (All-tail (λ x. All P (f x)) x xs each)))
 
 each_pair : (P : ℕ × ℕ → Type 0) (k a top : ℕ) → a + k ≤ top → ((i j : ℕ) → i < top → j < top → P (i, j))
     → All P (pairs_of (range_with_len a k))
@@ -152,7 +111,7 @@ each_pair P (suc k) a top within each =
     let later : List ℕ = range_with_len (a + 1) k in
     let pair : ℕ → ℕ × ℕ = λ j. (a, j) in
     All-append P (map pair later) (pairs_of later)
-    (All-map P pair later (each_in_range (λ j. P (pair j)) (a + 1) k (λ j from below. each a j (omega arith) (omega arith))))
+    (All-map P pair later (All-range (λ j. P (pair j)) (a + 1) k (λ j from below. each a j (omega arith) (omega arith))))
     (each_pair P k (a + 1) top (omega arith) each)
 
 pub all_moves-of_league : (n : ℕ) → All (IsOfLeague n) (all_moves n)
@@ -174,9 +133,9 @@ all_moves-of_league n =
     (All-map P home_swap (pairs_of (teams_of n)) (each_pair (λ p. P (home_swap p)) n 0 n few (λ i j first second. (first, second))))
     (All-map P round_swap (pairs_of (slots_of n)) (each_pair (λ p. P (round_swap p)) (slot_count n) 0 (slot_count n) few_slots (λ s t first second. (first, second)))))
     (All-map P team_swap (pairs_of (teams_of n)) (each_pair (λ p. P (team_swap p)) n 0 n few (λ i j first second. (first, second)))))
-    (each_in_flat_map P of_team (teams_of n) (each_in_range (λ i. All P (of_team i)) 0 n (λ i from below.
+    (All-flat_map P of_team (teams_of n) (All-range (λ i. All P (of_team i)) 0 n (λ i from below.
     All-map P (part_round_swap i) (pairs_of (slots_of n)) (each_pair (λ p. P (part_round_swap i p)) (slot_count n) 0 (slot_count n) few_slots
     (λ s t first second. (omega arith, first, second)))))))
-    (each_in_flat_map P of_pair (pairs_of (teams_of n)) (each_pair (λ p. All P (of_pair p)) n 0 n few (λ i j first second.
-    All-map P (part_team_swap (i, j)) (slots_of n) (each_in_range (λ s. P (part_team_swap (i, j) s)) 0 (slot_count n)
+    (All-flat_map P of_pair (pairs_of (teams_of n)) (each_pair (λ p. All P (of_pair p)) n 0 n few (λ i j first second.
+    All-map P (part_team_swap (i, j)) (slots_of n) (All-range (λ s. P (part_team_swap (i, j) s)) 0 (slot_count n)
     (λ s from below. (first, second, omega arith))))))

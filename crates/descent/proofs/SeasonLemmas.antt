@@ -3,24 +3,18 @@ use Rattle.std.proofs.Common.{◌≡◌, ℕ, ◌+◌, ◌*◌, ◌≤◌, Bool,
 use Rattle.std.specs.List.Sorted.{IsPermutation}
 use Rattle.std.proofs.lemmas.Bool.{cases_lt}
 use Rattle.std.proofs.lemmas.Bool.Decides.{nat_tests}
-use Rattle.std.proofs.lemmas.List.Sorted.{sum_by-IsPermutation}
-use Rattle.std.proofs.lemmas.List.Sums.{sum_by_push}
 use Rattle.league.specs.Counts.{Counts, counts_of, is_game, slot_count}
 use Rattle.league.specs.Grid.{number}
 use Rattle.league.specs.Structure.{IsRoundRobin}
 use Rattle.league.specs.declared.game.Game.{Game}
 use Rattle.league.proofs.RangeLemmas.{one_if}
 use Rattle.league.proofs.TableLemmas.{number-outside}
+use Rattle.league.proofs.CountLemmas.{counts_of-permutation, counts_of-push}
 use Rattle.cells.specs.Table.{Table, table_counts}
 use Rattle.moves.proofs.PlayLemmas.{met-itself, met-le-one, played}
 use Rattle.moves.proofs.RoundLemmas.{IsWithin}
+use Rattle.cells.proofs.TableLemmas.{same_counts}
 use Rattle.descent.specs.Walks.{AreSingle}
-use Rattle.descent.proofs.EditLemmas.{same_counts}
-
--- the counts don't depend on the order
-pub counts-permutation : (games more : List Game) → IsPermutation games more → counts_of more ≡ counts_of games
-counts-permutation games more is =
-    same_counts (counts_of more) (counts_of games) (λ i j s. sum_by-IsPermutation (λ g. one_if (is_game i j s g)) games more is)
 
 -- ---- a table has no counts outside of its league
 
@@ -80,10 +74,6 @@ AreSingle-of t phased no_home is = record {
 
 -- ---- the games so far, with one more
 
-counts-push : (games : List Game) (g : Game) (i j s : ℕ)
-    → counts_of (games ++ g ∷ []) i j s ≡ counts_of games i j s + one_if (is_game i j s g)
-counts-push games g i j s = sum_by_push (λ x. one_if (is_game i j s x)) games g
-
 one_slot_more : (h w t i j s x : ℕ) → (i ≡ h → j ≡ w → s ≡ t → x ≡ 1)
     → (if (i == h) && (j == w) && nat_lt s t then x else 0) + one_if ((h == i) && (w == j) && (t == s))
     ≡ (if (i == h) && (j == w) && nat_lt s (t + 1) then x else 0)
@@ -101,17 +91,17 @@ one_away_more : (h w i j x : ℕ) → (if (i == h) && nat_lt j w then x else 0) 
     ≡ (if (i == h) && nat_lt j (w + 1) then x else 0)
 one_away_more h w i j x = grind (arith, nat_tests)
 
-no_away_more : (h w i j x : ℕ) → (i ≡ h → j ≡ w → x ≡ 0)
+pub no_away_more : (h w i j x : ℕ) → (i ≡ h → j ≡ w → x ≡ 0)
     → (if (i == h) && nat_lt j w then x else 0) ≡ (if (i == h) && nat_lt j (w + 1) then x else 0)
 no_away_more h w i j x none = grind (arith, nat_tests)
 
-all_aways : (h w i j x : ℕ) → (w ≤ j → x ≡ 0) → (if (i == h) && nat_lt j w then x else 0) ≡ (if i == h then x else 0)
+pub all_aways : (h w i j x : ℕ) → (w ≤ j → x ≡ 0) → (if (i == h) && nat_lt j w then x else 0) ≡ (if i == h then x else 0)
 all_aways h w i j x past = grind (arith, nat_tests)
 
 one_home_more : (h i x : ℕ) → (if nat_lt i h then x else 0) + (if i == h then x else 0) ≡ (if nat_lt i (h + 1) then x else 0)
 one_home_more h i x = grind (arith, nat_tests)
 
-all_homes : (h i x : ℕ) → (h ≤ i → x ≡ 0) → (if nat_lt i h then x else 0) ≡ x
+pub all_homes : (h i x : ℕ) → (h ≤ i → x ≡ 0) → (if nat_lt i h then x else 0) ≡ x
 all_homes h i x past = grind (arith, nat_tests)
 
 -- a count at equal numbers
@@ -141,7 +131,7 @@ slots-taken start m home away slot games g at_home of_away in_slot one so_far i 
     ∙ ap (λ (t : ℕ). one_if ((home == i) && (away == j) && (t == s))) in_slot in
     omega (
       arith,
-      counts-push games g i j s,
+      counts_of-push games g i j s,
       here,
       so_far i j s,
       one_slot_more home away slot i j s (m i j s) (same_at m i j s home away slot 1 one),
@@ -225,6 +215,6 @@ pub below-all : (t : Table) (teams : ℕ) (games more : List Game) → teams ≡
     → ((i j s : ℕ) → t.n ≤ i → table_counts t i j s ≡ 0) → IsBelow (table_counts t) teams games
     → IsPermutation games more → counts_of more ≡ table_counts t
 below-all t teams games more are no_home so_far is =
-    counts-permutation games more is
+    counts_of-permutation games more is
     ∙ same_counts (counts_of games) (table_counts t)
     (λ i j s. so_far i j s ∙ all_homes teams i (table_counts t i j s) (λ past. no_home i j s (omega (arith, past, are))))

@@ -22,6 +22,7 @@ use Rattle.league.specs.declared.class.Side.TheVariants.{H, A, Both}
 use Rattle.league.specs.declared.class.Span.{Span}
 use Rattle.league.specs.declared.class.Span.TheVariants.{Global, Every}
 use Rattle.league.proofs.AscendingLemmas.{first_true, second_true}
+use Rattle.league.proofs.OneTermLemmas.{All-flat_map}
 use Rattle.rows.specs.Cardinality.{at_least, at_most, between, exactly, unit}
 use Rattle.rows.specs.Literals.{Literal, negate, no, yes}
 use Rattle.rows.specs.Rows.{Row}
@@ -38,7 +39,7 @@ use Rattle.encoding_base.specs.Season.{half_rows, home_games_in, home_needs_game
 use Rattle.encoding_base.specs.Season.{team_rows, venue_rows}
 use Rattle.encoding_base.specs.Variables.{ab_var, bounds_breaks, h_count, h_var, has_breaks, hb_count, hb_var, var_count}
 use Rattle.encoding_base.specs.Variables.{x_count}
-use Rattle.encoding_base.proofs.AscendLemmas.{All-flat_map, AscendsBy-above, AscendsBy-below, AscendsBy-high}
+use Rattle.encoding_base.proofs.AscendLemmas.{AscendsBy-above, AscendsBy-below, AscendsBy-high}
 use Rattle.encoding_base.proofs.AscendLemmas.{AscendsBy-low, AscendsBy-map, AscendsBy-range}
 use Rattle.encoding_rows.proofs.LiteralOrder.{all_breaks_ascend, away_ascend, away_break_base, breaks_ascend, games_ascend}
 use Rattle.encoding_rows.proofs.LiteralOrder.{home_ascend, home_base, home_break_base, lead_ascend, lead_back_ascend}

@@ -4,12 +4,13 @@ use Rattle.std.proofs.Common.{nat_lt, cond, List, [], ◌∷◌, ◌++◌}
 use Rattle.std.proofs.Common.{length, get_or, map, arith, inl, inr}
 use Rattle.std.proofs.Math.Nat.{mul-le-mul_right}
 use Rattle.std.proofs.lemmas.Bool.{cases_lt, le-ltb, lt-ltb}
-use Rattle.std.proofs.lemmas.List.Elements.{All-append, All-cons, All-head, All-nil, All-tail, All-weaker}
+use Rattle.std.proofs.lemmas.List.Elements.{All-cons, All-head, All-nil, All-tail, All-weaker}
 use Rattle.std.proofs.lemmas.List.Kept.{AllPairs-cons}
 use Rattle.std.specs.List.{All, AllPairs, filter, flat_map, range_with_len}
 use Rattle.std.specs.declared.cmp.Ordering.{Ordering}
 use Rattle.std.specs.declared.cmp.Ordering.TheVariants.{Less}
 use Rattle.league.specs.Sets.{IsAscending}
+use Rattle.league.proofs.OneTermLemmas.{All-flat_map}
 use Rattle.encoding_base.specs.Ascending.{AscendsBy}
 
 module _ {X : Type 0} (key : X → ℕ) where
@@ -132,14 +133,6 @@ AscendsBy-flat_map key inner f base size low (x ∷ xs) high each ascends =
     (All-head (λ x. AscendsBy inner (base + key x * size) (f x) (base + (key x + 1) * size)) x xs each))
     (AscendsBy-flat_map key inner f base size (key x + 1) xs high
     (All-tail (λ x. AscendsBy inner (base + key x * size) (f x) (base + (key x + 1) * size)) x xs each) ascends.1)
-
--- what is true of each element of each list
-pub All-flat_map : {X Y : Type 0} (P : Y → Type 0) (f : X → List Y) (xs : List X) → All (λ x. All P (f x)) xs
-    → All P (flat_map f xs)
-All-flat_map P f [] each = All-nil P
-All-flat_map P f (x ∷ xs) each =
-    All-append P (f x) (flat_map f xs) (All-head (λ x. All P (f x)) x xs each)
-    (All-flat_map P f xs (All-tail (λ x. All P (f x)) x xs each))
 
 -- a range of numbers
 pub AscendsBy-range : (a k high : ℕ) → a + k ≤ high → AscendsBy (λ s. s) a (range_with_len a k) high

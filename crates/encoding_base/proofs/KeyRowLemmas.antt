@@ -4,6 +4,7 @@ use Rattle.std.proofs.lemmas.List.{append-nil}
 use Rattle.std.proofs.lemmas.List.Elements.{filter-append}
 use Rattle.std.proofs.lemmas.List.Folds.{flat_map-map}
 use Rattle.std.specs.List.{filter, flat_map}
+use Rattle.league.proofs.ListLemmas.{flat_map-same}
 use Rattle.rows.specs.Rows.{Row}
 use Rattle.encoding_base.specs.Encoding.{demands}
 
@@ -12,12 +13,6 @@ pub filter-flat_map : {X Y : Type 0} (p : Y → Bool) (f : X → List Y) (xs : L
 filter-flat_map p f [] = refl
 filter-flat_map p f (x ∷ xs) =
     filter-append p (f x) (flat_map f xs) ∙ ap (λ ys. filter p (f x) ++ ys) (filter-flat_map p f xs)
-
--- joined lists of equal lists
-pub flat_map-same : {X Y : Type 0} (f g : X → List Y) → ((x : X) → f x ≡ g x) → (xs : List X) → flat_map f xs ≡ flat_map g xs
-flat_map-same f g same [] = refl
-flat_map-same f g same (x ∷ xs) =
-    ap (λ ys. ys ++ flat_map f xs) (same x) ∙ ap (λ ys. g x ++ ys) (flat_map-same f g same xs)
 
 -- the rows of many keys that demand something
 pub key_rows : {K : Type 0} (f : K → List Row) (keys : List K) → filter demands (flat_map (λ rows. rows) (map f keys)) ≡ flat_map (λ k. filter demands (f k)) keys

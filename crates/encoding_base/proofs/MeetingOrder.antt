@@ -20,6 +20,7 @@ use Rattle.league.specs.declared.class.Side.{Side}
 use Rattle.league.specs.declared.class.Side.TheVariants.{H, A, Both}
 use Rattle.league.proofs.AscendingLemmas.{IsAscending-ascends, first_true, second_true}
 use Rattle.league.proofs.FitLemmas.{are_slots-ascending, are_slots-below, are_teams-ascending, are_teams-below}
+use Rattle.league.proofs.SetLemmas.{less_than}
 use Rattle.encoding_base.specs.Ascending.{AreMeetings, AreSlots, AreTeams, AscendsBy, IsMeeting, place_of}
 use Rattle.encoding_base.specs.Lists.{meetings_in_order}
 use Rattle.encoding_base.specs.Variables.{place_beside}
@@ -28,14 +29,9 @@ use Rattle.encoding_base.proofs.AscendLemmas.{AscendsBy-below, AscendsBy-blocks,
 use Rattle.encoding_base.proofs.AscendLemmas.{AscendsBy-from_ascending, AscendsBy-high, AscendsBy-low}
 use Rattle.encoding_base.proofs.AscendLemmas.{AscendsBy-map, AscendsBy-range, AscendsBy-same, AscendsBy-shift}
 use Rattle.encoding_base.proofs.AscendLemmas.{All-flat_map}
+use Rattle.encoding_base.proofs.Places.{place_beside-below}
 
 -- ---- numbers
-
-before-less : (a b : ℕ) → nat_cmp a b ≡ Less → a < b
-before-less a b h = grind (arith, nat_tests)
-
-pub place_beside-below : (n i j : ℕ) → i < n → j < n → i ≢ j → place_beside i j < n - 1
-place_beside-below n i j home away differ = grind (arith, nat_tests)
 
 place_beside-rises : (i j k : ℕ) → i ≢ j → i ≢ k → j < k → place_beside i j < place_beside i k
 place_beside-rises i j k first second before = grind (arith, nat_tests)
@@ -73,14 +69,14 @@ place_of-rises n p q first second before = elim (in_order p q before) [
 
 pub AreSlots-from_test : (n : ℕ) (slots : List ℕ) → are_slots n slots ≡ true → AreSlots n slots
 AreSlots-from_test n slots fits =
-    AscendsBy-from_ascending nat_cmp (λ s. s) (λ s. s < slot_count n) (λ a b first second less. before-less a b less)
+    AscendsBy-from_ascending nat_cmp (λ s. s) (λ s. s < slot_count n) (λ a b first second less. less_than a b less)
     0 slots (slot_count n) (omega arith)
     (are_slots-ascending n slots fits) (are_slots-below n slots fits) (λ k d within. omega arith)
     (are_slots-below n slots fits)
 
 pub AreTeams-from_test : (n : ℕ) (teams : List ℕ) → are_teams n teams ≡ true → AreTeams n teams
 AreTeams-from_test n teams fits =
-    AscendsBy-from_ascending nat_cmp (λ s. s) (λ s. s < n) (λ a b first second less. before-less a b less) 0 teams n
+    AscendsBy-from_ascending nat_cmp (λ s. s) (λ s. s < n) (λ a b first second less. less_than a b less) 0 teams n
     (omega arith)
     (are_teams-ascending n teams fits) (are_teams-below n teams fits) (λ k d within. omega arith)
     (are_teams-below n teams fits)

@@ -13,6 +13,7 @@ use Rattle.league.specs.declared.class.Class.TheVariants.{Ca1, Ca2, Ca3, Ca4, Ga
 use Rattle.league.specs.declared.class.Side.{Side}
 use Rattle.league.specs.declared.class.Side.TheVariants.{Both}
 use Rattle.league.specs.declared.class.Span.TheVariants.{Global, Every}
+use Rattle.league.proofs.ListLemmas.{flat_map-same}
 use Rattle.rows.specs.Cardinality.{at_least, at_most, between}
 use Rattle.rows.specs.Literals.{Literal}
 use Rattle.rows.specs.Rows.{Row}
@@ -20,7 +21,7 @@ use Rattle.encoding_base.specs.Demands.{br1_rows, br2_rows, ca1_rows, ca2_rows, 
 use Rattle.encoding_base.specs.Encoding.{class_rows, demands}
 use Rattle.encoding_base.specs.Lists.{at_home_in, away_breaks_at, away_in, games_in, home_breaks_at}
 use Rattle.encoding_base.specs.Pairs.{IsPair, both_meetings}
-use Rattle.encoding_base.proofs.KeyRowLemmas.{filter-flat_map, flat_map-same, key_rows, one_key_rows}
+use Rattle.encoding_base.proofs.KeyRowLemmas.{filter-flat_map, key_rows, one_key_rows}
 use Rattle.encoding_base.proofs.MeetingOrder.{meetings_with-both}
 
 -- ---- one row, and two

@@ -7,7 +7,6 @@ use Rattle.std.proofs.lemmas.List.FromFn.{length-range_with_len}
 use Rattle.std.proofs.lemmas.List.Sums.{sum_by-cons}
 use Rattle.std.specs.List.{All, filter, flat_map, range_with_len, sum_by}
 use Rattle.std.specs.Ordering.{nat_cmp}
-use Rattle.std.specs.declared.cmp.Ordering.TheVariants.{Less}
 use Rattle.league.specs.Capacity.{is_between, meetings_with, windows_of}
 use Rattle.league.specs.Counts.{slot_count}
 use Rattle.league.specs.Instance.{is_one_side}
@@ -19,6 +18,7 @@ use Rattle.league.specs.declared.class.Side.TheVariants.{Both}
 use Rattle.league.specs.declared.class.Span.{Span}
 use Rattle.league.specs.declared.class.Span.TheVariants.{Global, Every}
 use Rattle.league.proofs.SumLemmas.{sum_by-flat_map, sum_by-map, sum_by-same}
+use Rattle.league.proofs.SetLemmas.{less_than}
 use Rattle.rows.specs.Cardinality.{at_least, at_most}
 use Rattle.rows.specs.Literals.{Literal}
 use Rattle.rows.specs.Rows.{Row, size_of}
@@ -173,9 +173,6 @@ size_of-fa2 n teams intp slots =
     ∙ sum_by-constant (sum_by (fa2_terms intp) slots) (pairs_of teams)
 
 -- ---- separation
-
-less_than : (a b : ℕ) → nat_cmp a b ≡ Less → a < b
-less_than a b h = grind (arith, nat_tests)
 
 -- the earlier team of each pair is the smaller one
 pub pairs_of-ascend : (teams : List ℕ) → IsAscending nat_cmp teams → All (λ p. p.0 < p.1) (pairs_of teams)

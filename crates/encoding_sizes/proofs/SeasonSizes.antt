@@ -76,7 +76,7 @@ length-teams n = length-range_with_len 0 n
 length-slots : (n : ℕ) → length (slots_of n) ≡ slot_count n
 length-slots n = length-range_with_len 0 (slot_count n)
 
-length-meetings_of : (n : ℕ) → length (meetings_of n) ≡ n * (n - 1)
+pub length-meetings_of : (n : ℕ) → length (meetings_of n) ≡ n * (n - 1)
 length-meetings_of n =
     let of_team : ℕ → List (ℕ × ℕ) = λ i. map (λ j. (i, j)) (others i (teams_of n)) in
     length-flat_map of_team (teams_of n)

@@ -1,17 +1,16 @@
 //! How many terms the rows of a class have. They are counted and not written, which takes no memory.
-ghost use Rattle.std.specs.Prelude.{◌≡◌, ◌+◌, ◌-◌, ◌*◌, ◌/◌, ◌<◌, ◌≤◌, ◌&&◌, ◌==◌, not, if◌then◌else◌, length};
-ghost use Rattle.std.specs.Prelude.{IsTrue};
-ghost use Rattle.std.specs.List.{All, count_by, filter, sum_by};
-ghost use Rattle.league.specs.Capacity as capacity;
-ghost use Rattle.league.specs.Counts.{teams_of};
-ghost use Rattle.league.specs.Instance.{IsTeamCount, are_meetings, are_slots, are_teams, class_fits};
-ghost use Rattle.league.specs.Meetings.{meetings_of, others, pairs_of};
+ghost use Rattle.std.specs.Prelude.{◌≡◌, ◌+◌, ◌-◌, ◌*◌, ◌/◌, ◌<◌, ◌≤◌, length, IsTrue};
+ghost use Rattle.std.specs.List.{All, sum_by};
+ghost use Rattle.league.specs.Instance.{IsTeamCount, are_slots, are_teams, class_fits};
+ghost use Rattle.league.specs.Meetings.{others, pairs_of};
 ghost use Rattle.rows.specs.Rows.{size_of};
 ghost use Rattle.encoding_base.specs.Encoding.{class_rows};
-ghost use Rattle.encoding_base.specs.Lists.{after_first};
 ghost use Rattle.encoding_sizes.specs.Terms as terms;
 
-use encoding_base::{is_between, meeting_numbers, slot_numbers, team_numbers};
+use crate::literals::{
+    between_total, later_total, meeting_total, other_total, side_total, slot_total, team_total,
+};
+use encoding_base::{slot_numbers, team_numbers};
 use league::{Class, PairSet, Side, SlotSet, Span, TeamSet, slot_count};
 
 /// How many terms the rows of a class have that fits a league of n teams. It takes no memory, and no longer where there
@@ -157,15 +156,6 @@ fn terms_against(teams1: &[u16], teams2: &[u16], min: u32, max: u32, games: u64)
     total
 }
 
-/// How many of some teams are other than one.
-fn other_total(team: u16, teams: &[u16]) -> u64
-    requires { length teams.now ≤ 40 }
-    ensures count { result ≡ length (others team teams.now) }
-    ensures few { result ≤ 40 }
-{
-    teams.iter().filter(|other| **other != team).count() as u64
-}
-
 /// Those of a CA4.
 fn ca4_terms(
     n: u16,
@@ -196,47 +186,6 @@ fn span_terms(span: Span, min: u32, max: u32, meetings: u64, slots: u64) -> u64
     match span {
         Span::Global => between_terms(min, max, meetings * slots),
         Span::Every => slots * between_terms(min, max, meetings),
-    }
-}
-
-/// How many meetings are some of some teams with others, on a side.
-fn between_total(n: u16, side: Side, teams1: &TeamSet, teams2: &TeamSet) -> u64
-    requires { n ≤ 40 }
-    ensures count { result
-        ≡ length (filter (capacity.is_between side teams1.now teams2.now) (meetings_of n)) }
-    ensures few { result ≤ 1600 }
-{
-    let mut total = 0;
-    for home in 0..n {
-        total += between_total_at(n, side, teams1, teams2, home);
-    }
-    total
-}
-
-/// How many of these are a team's home games.
-fn between_total_at(n: u16, side: Side, teams1: &TeamSet, teams2: &TeamSet, home: u16) -> u64
-    requires { n ≤ 40 }
-    ensures count { result ≡ count_by
-        (λ away. not (away == home) && capacity.is_between side teams1.now teams2.now (home, away)) (teams_of n) }
-    ensures few { result ≤ n }
-{
-    let mut total = 0;
-    for away in 0..n {
-        total += one_between(side, teams1, teams2, home, away);
-    }
-    total
-}
-
-/// 1 where two teams differ and their meeting is one of these, else 0.
-fn one_between(side: Side, teams1: &TeamSet, teams2: &TeamSet, home: u16, away: u16) -> u64
-    ensures one { result ≡ (if not (away == home)
-        && capacity.is_between side teams1.now teams2.now (home, away) then 1 else 0) }
-    ensures most { result ≤ 1 }
-{
-    if away != home && is_between(side, teams1, teams2, home, away) {
-        1
-    } else {
-        0
     }
 }
 
@@ -353,65 +302,6 @@ fn between_terms(low: u32, high: u32, count: u64) -> u64
     ensures most { result ≤ 2 * count }
 {
     least_terms(low, count) + most_terms(high, count)
-}
-
-/// On how many sides games are counted.
-fn side_total(side: Side) -> u64
-    ensures sides { result ≡ terms.side_count side }
-    ensures most { result ≤ 2 }
-{
-    match side {
-        Side::H | Side::A => 1,
-        Side::Both => 2,
-    }
-}
-
-/// How many teams a set has.
-fn team_total(n: u16, teams: &TeamSet) -> u64
-    requires n { n ≤ 40 }
-    requires teams { IsTrue (are_teams n teams.now) }
-    ensures count { result ≡ length teams.now }
-    ensures few { result ≤ 40 }
-{
-    team_numbers(n, teams).len() as u64
-}
-
-/// How many slots a set has.
-fn slot_total(n: u16, slots: &SlotSet) -> u64
-    requires n { n ≤ 40 }
-    requires slots { IsTrue (are_slots n slots.now) }
-    ensures count { result ≡ length slots.now }
-    ensures few { result ≤ 78 }
-{
-    slot_numbers(n, slots).len() as u64
-}
-
-/// How many of them have a slot before them.
-fn later_total(n: u16, slots: &SlotSet) -> u64
-    requires n { n ≤ 40 }
-    requires slots { IsTrue (are_slots n slots.now) }
-    ensures count { result ≡ length (after_first slots.now) }
-    ensures few { result ≤ 78 }
-{
-    later_count(slot_numbers(n, slots))
-}
-
-/// The same of their numbers.
-fn later_count(slots: &[u16]) -> u64
-    ensures count { result ≡ length (after_first slots.now) }
-    ensures few { result ≤ length slots.now }
-{
-    slots.iter().filter(|slot| **slot > 0).count() as u64
-}
-
-/// How many meetings a set has.
-fn meeting_total(n: u16, meetings: &PairSet) -> u64
-    requires n { n ≤ 40 }
-    requires meetings { IsTrue (are_meetings n meetings.now) }
-    ensures count { result ≡ length meetings.now }
-    ensures few { result ≤ 1560 }
-{
-    meeting_numbers(n, meetings).len() as u64
 }
 
 /// How many pairs some teams have.

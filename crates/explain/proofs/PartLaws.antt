@@ -11,9 +11,9 @@ use Rattle.league.specs.Accepted.{IsAccepted, hard_of}
 use Rattle.league.specs.Counts.{Counts, counts_of}
 use Rattle.league.specs.Deviation.{vector_of}
 use Rattle.league.specs.Instance.{Instance, IsTeamCount}
-use Rattle.league.specs.Structure.{IsRoundRobin}
 use Rattle.league.specs.declared.class.Constraint.{Constraint}
 use Rattle.league.proofs.SumLemmas.{sum_by-flat_map}
+use Rattle.league.proofs.RoundRobinLemmas.{any_phases}
 use Rattle.rows.specs.Rows.{Row, size_of}
 use Rattle.circle_method.specs.Circle.{double_games}
 use Rattle.circle_method.proofs.RoundRobinLemmas.{IsRoundRobin-double_games}
@@ -267,15 +267,11 @@ whole_accepts league m accepted =
 
 -- ---- the part of no constraint
 
-unphased : (n : ℕ) (phased : Bool) (m : Counts) → IsRoundRobin n true m → IsRoundRobin n phased m
-unphased n true m is = is
-unphased n false m is = record { pairs = is.pairs; cells = is.cells; phases = refl }
-
 -- it accepts the schedule of the circle method
 pub none_accepts : (league : Instance) → IsTeamCount league.n
     → IsAccepted (part_of league []) (counts_of (double_games league.n))
 none_accepts league teams = record {
-  round_robin = unphased league.n league.phased (counts_of (double_games league.n))
+  round_robin = any_phases league.n league.phased (counts_of (double_games league.n))
       (IsRoundRobin-double_games league.n teams);
   hard = All-nil (λ (c : Constraint).
       All (λ entry. entry ≡ 0) (vector_of league.n (counts_of (double_games league.n)) c.class));

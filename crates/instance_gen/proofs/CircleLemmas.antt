@@ -19,7 +19,7 @@ use Rattle.league.proofs.SumLemmas.{sum_by-add, sum_by-same}
 use Rattle.circle_method.specs.Circle.{single_games, return_game, double_games}
 use Rattle.circle_method.proofs.GameLemmas.{IsEarly, IsEarly-single_games, IsGame-double_games}
 use Rattle.circle_method.proofs.MeetingLemmas.{half-once, meeting-once}
-use Rattle.circle_method.proofs.OneTermLemmas.{All-range, sum_by-all_none}
+use Rattle.league.proofs.OneTermLemmas.{All-range, sum_by-all_none}
 use Rattle.circle_method.proofs.VenueLemmas.{not_in_slot, sum_by-double_games}
 use Rattle.instance_gen.specs.Draws.{set_of}
 use Rattle.instance_gen.specs.Made.{circle}

@@ -1,63 +1,18 @@
 -- Sets that are put together of numbers, and ranges as sets.
-use Rattle.std.proofs.Common.{◌≡◌, ◌≢◌, ℕ, zero, suc, ◌+◌, ◌<◌, ◌≤◌, Bool, true, false, ◌&&◌, cond, nat_lt}
-use Rattle.std.proofs.Common.{List, [], ◌∷◌, ◌++◌, length, get_or, take, inl, inr, refl, sym, ap, ◌∙◌, arith}
+use Rattle.std.proofs.Common.{◌≡◌, ◌≢◌, ℕ, ◌+◌, ◌<◌, ◌≤◌, Bool, true, false, ◌&&◌, cond, nat_lt}
+use Rattle.std.proofs.Common.{List, [], ◌∷◌, ◌++◌, length, get_or, take, inl, inr, sym, ap, ◌∙◌, arith}
 use Rattle.std.proofs.lemmas.Bool.{and_from, cases_lt, lt-ltb}
-use Rattle.std.proofs.lemmas.Bool.Decides.{nat_tests}
 use Rattle.std.proofs.lemmas.Cmp.{nat_cmp_total}
 use Rattle.std.proofs.lemmas.List.Elements.{All-append, All-cons, All-filter, All-head, All-nil, All-tail}
-use Rattle.std.proofs.lemmas.List.Kept.{AllPairs-cons}
 use Rattle.std.proofs.lemmas.List.Sums.{fold_more, list_all-from_AllPass}
 use Rattle.std.specs.List.{All, filter, fold, list_all, range_with_len, sum_by}
 use Rattle.std.specs.Ordering.{is_lt, nat_cmp}
-use Rattle.std.specs.declared.cmp.Ordering.TheVariants.{Less}
 use Rattle.league.specs.Sets.{IsAscending, ascends, with_item}
 use Rattle.league.proofs.AscendingLemmas.{ascends-true}
-use Rattle.league.proofs.RangeLemmas.{range_with_len-more}
 use Rattle.league.proofs.SetLemmas.{IsAscending-with_item}
-use Rattle.circle_method.proofs.OneTermLemmas.{All-range}
+use Rattle.league.proofs.OneTermLemmas.{All-range}
+use Rattle.league.proofs.NumberSets.{is_before, isnt_before, nat_cmp-less, range-ascending, range-next}
 use Rattle.instance_gen.specs.Draws.{set_of}
-
--- the test of two numbers by their order
-before-yes : (a b : ℕ) → a < b → is_lt (nat_cmp a b) ≡ true
-before-yes a b h = grind (arith, nat_tests)
-
-before-no : (a b : ℕ) → b ≤ a → is_lt (nat_cmp a b) ≡ false
-before-no a b h = grind (arith, nat_tests)
-
-less : (a b : ℕ) → a < b → nat_cmp a b ≡ Less
-less a b h = grind (arith, nat_tests)
-
--- of a range below x all numbers come before x, and none after it
-filter-before : (x a k : ℕ) → a + k ≤ x → filter (λ y. is_lt (nat_cmp y x)) (range_with_len a k) ≡ range_with_len a k
-filter-before x a zero h = refl
-filter-before x a (suc k) h =
-    let rest : List ℕ = filter (λ y. is_lt (nat_cmp y x)) (range_with_len (a + 1) k) in
-    let here : is_lt (nat_cmp a x) ≡ true = before-yes a x (omega arith) in
-    ap (λ (b : Bool). cond b (a ∷ rest) rest) here
-    ∙ ap (λ (l : List ℕ). a ∷ l) (filter-before x (a + 1) k (omega arith))
-
-filter-after : (x a k : ℕ) → a + k ≤ x → filter (λ y. is_lt (nat_cmp x y)) (range_with_len a k) ≡ []
-filter-after x a zero h = refl
-filter-after x a (suc k) h =
-    let rest : List ℕ = filter (λ y. is_lt (nat_cmp x y)) (range_with_len (a + 1) k) in
-    let here : is_lt (nat_cmp x a) ≡ false = before-no x a (omega arith) in
-    ap (λ (b : Bool). cond b (a ∷ rest) rest) here ∙ filter-after x (a + 1) k (omega arith)
-
--- a range with its next number put in
-pub with_item-next : (a k x : ℕ) → x ≡ a + k
-    → with_item nat_cmp x (range_with_len a k) ≡ range_with_len a (k + 1)
-with_item-next a k x is =
-    let range : List ℕ = range_with_len a k in
-    ap (λ (l : List ℕ). l ++ x ∷ filter (λ y. is_lt (nat_cmp x y)) range) (filter-before x a k (omega arith))
-    ∙ ap (λ (l : List ℕ). range ++ x ∷ l) (filter-after x a k (omega arith))
-    ∙ ap (λ (y : ℕ). range ++ y ∷ []) is
-    ∙ sym (range_with_len-more a k)
-
--- a range that has come so far, with its next number
-pub range_with_len-next : (a k x : ℕ) (set next : List ℕ) → x ≡ a + k → set ≡ range_with_len a k
-    → next ≡ with_item nat_cmp x set → next ≡ range_with_len a (k + 1)
-range_with_len-next a k x set next is so_far put =
-    put ∙ ap (with_item nat_cmp x) so_far ∙ with_item-next a k x is
 
 -- the set of the first numbers of a list, with the next one
 pub set_of-next : (numbers : List ℕ) (i : ℕ) (set next : List ℕ) → i < length numbers → set ≡ set_of (take i numbers)
@@ -80,8 +35,8 @@ sum_by-set_of_one f a b same =
     omega (
       arith,
       by_order f a b (is_lt (nat_cmp a b)) (is_lt (nat_cmp b a)),
-      ap (λ (t : Bool). cond t (f a) 0) (before-no a b (omega arith)),
-      ap (λ (t : Bool). cond t (f a) 0) (before-no b a (omega arith)),
+      ap (λ (t : Bool). cond t (f a) 0) (isnt_before a b (omega arith)),
+      ap (λ (t : Bool). cond t (f a) 0) (isnt_before b a (omega arith)),
       ap f same,
     )
 
@@ -92,16 +47,16 @@ sum_by-set_of_two f a b differ =
           omega (
             arith,
             by_order f a b (is_lt (nat_cmp a b)) (is_lt (nat_cmp b a)),
-            ap (λ (t : Bool). cond t (f a) 0) (before-yes a b before),
-            ap (λ (t : Bool). cond t (f a) 0) (before-no b a (omega arith)),
+            ap (λ (t : Bool). cond t (f a) 0) (is_before a b before),
+            ap (λ (t : Bool). cond t (f a) 0) (isnt_before b a (omega arith)),
           )
       | inr not_before ↦
           let later : b < a = omega arith in
           omega (
             arith,
             by_order f a b (is_lt (nat_cmp a b)) (is_lt (nat_cmp b a)),
-            ap (λ (t : Bool). cond t (f a) 0) (before-no a b not_before),
-            ap (λ (t : Bool). cond t (f a) 0) (before-yes b a later),
+            ap (λ (t : Bool). cond t (f a) 0) (isnt_before a b not_before),
+            ap (λ (t : Bool). cond t (f a) 0) (is_before b a later),
           )
     ]
 
@@ -151,13 +106,6 @@ pub are_below-set_of : (bound : ℕ) (numbers : List ℕ) → All (λ y. y < bou
     → are_below bound (set_of numbers) ≡ true
 are_below-set_of bound numbers below =
     are_below-true bound (set_of numbers) (set_of-below bound numbers below) (set_of-ascending numbers)
-
-range-ascending : (a k : ℕ) → IsAscending nat_cmp (range_with_len a k)
-range-ascending a zero = λ i j d before within. absurd (omega arith)
-range-ascending a (suc k) =
-    AllPairs-cons (λ x y. nat_cmp x y ≡ Less) a (range_with_len (a + 1) k)
-    (All-range (λ y. nat_cmp a y ≡ Less) (a + 1) k (λ y low high. less a y (omega arith)))
-    (range-ascending (a + 1) k)
 
 pub are_below-range : (bound a k : ℕ) → a + k ≤ bound → are_below bound (range_with_len a k) ≡ true
 are_below-range bound a k within =

@@ -1,5 +1,5 @@
 -- The pairs of teams: how many there are, and the keys of those with a team, or with two.
-use Rattle.std.proofs.Common.{◌≡◌, ◌≢◌, ℕ, ◌+◌, ◌-◌, ◌*◌, ◌/◌, ◌<◌, ◌≤◌, zero, suc, Bool, true, false, ◌&&◌, List, [], ◌∷◌, ◌++◌, length, get_or, min, max, map, drop, refl, arith, ap, sym, ◌∙◌, subst, ◌⊎◌, inl, inr, zero-add}
+use Rattle.std.proofs.Common.{◌≡◌, ◌≢◌, ℕ, ◌+◌, ◌-◌, ◌*◌, ◌/◌, ◌<◌, ◌≤◌, zero, suc, Bool, true, false, ◌&&◌, List, [], ◌∷◌, ◌++◌, length, get_or, min, max, map, drop, arith, ap, sym, ◌∙◌, subst, ◌⊎◌, inl, inr, zero-add}
 use Rattle.std.proofs.Math.Nat.{mul-le-mul}
 use Rattle.std.proofs.lemmas.Bool.{cases_eq, cases_lt}
 use Rattle.std.proofs.lemmas.Bool.Decides.{nat_tests}
@@ -14,17 +14,13 @@ use Rattle.league.specs.Counts.{slot_count}
 use Rattle.league.specs.Meetings.{pairs_of}
 use Rattle.league.specs.Sets.{IsAscending}
 use Rattle.league.proofs.SetLemmas.{length-ascending}
+use Rattle.league.proofs.MeetingLemmas.{half, pair_count}
 use Rattle.keys.specs.KeptPairs.{ArePairs, first_key, key_at}
 use Rattle.keys.specs.Keys.{places_from}
 use Rattle.keys.specs.Pairs.{has_team, key_between, keys_with}
 use Rattle.keys.proofs.KeyLemmas.{ascending-drop, ascending-tail, later_differ, one_passes, places_from-all, places_from-append, places_from-map, places_from-none}
 
 -- ---- how many pairs there are
-
--- twice as many pairs as a square without its diagonal
-pub pair_count : (teams : List ℕ) → length (pairs_of teams) * 2 + length teams ≡ length teams * length teams
-pair_count [] = refl
-pair_count (t ∷ teams) = omega (arith, length-append (map (λ (j : ℕ). (t, j)) teams) (pairs_of teams), length-map {B = ℕ × ℕ} teams (λ (j : ℕ). (t, j)), pair_count teams)
 
 -- a league of at most 40 teams has at most 40 of them in a set, fewer than 1,600 pairs of them, and at most 78 slots
 pub teams-few : (n : ℕ) (teams : List ℕ) → n ≤ 40 → IsAscending nat_cmp teams → All (λ t. t < n) teams → length teams ≤ 40
@@ -43,15 +39,6 @@ pub first_key-rest : (teams : List ℕ) (i : ℕ) → i ≤ length teams → fir
 first_key-rest teams zero h = zero-add (length (pairs_of teams))
 first_key-rest [] (suc i) h = absurd (omega arith)
 first_key-rest (t ∷ teams) (suc i) h = omega (arith, length-append (map (λ (j : ℕ). (t, j)) teams) (pairs_of teams), length-map {B = ℕ × ℕ} teams (λ (j : ℕ). (t, j)), first_key-rest teams i (omega arith))
-
--- half of a square without its diagonal
-half : (pairs x : ℕ) → pairs * 2 + x ≡ x * x → x * (x - 1) / 2 ≡ pairs
-half pairs zero h = omega arith
-half pairs (suc y) h =
-    let less : suc y - 1 ≡ y = omega arith in
-    let square : suc y * suc y ≡ suc y * y + suc y = grind arith in
-    let twice : pairs * 2 ≡ suc y * y = omega arith in
-    ap (λ (x : ℕ). suc y * x / 2) less ∙ omega arith
 
 -- how many pairs the teams from a place on have
 pub rest_count : (teams : List ℕ) (i last : ℕ) → last ≡ length teams - i → last * (last - 1) / 2 ≡ length (pairs_of (drop i teams))

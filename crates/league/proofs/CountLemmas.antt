@@ -3,6 +3,9 @@ use Rattle.std.proofs.Common.{◌≡◌, ℕ, ◌+◌, ◌<◌, ◌≤◌, Bool,
 use Rattle.std.proofs.lemmas.Bool.Decides.{nat_tests}
 use Rattle.std.proofs.lemmas.List.Sums.{sum_by_push, sum_by-le}
 use Rattle.std.specs.List.{range_with_len, sum_by}
+use Rattle.std.specs.List.Sorted.{IsPermutation}
+use Rattle.std.proofs.lemmas.List.Sorted.{sum_by-IsPermutation}
+use Rattle.std.proofs.Math.Path.{fun_ext}
 use Rattle.league.specs.Counts.{Counts, counts_of, is_game, one_more, teams_of}
 use Rattle.league.specs.Instance.{IsGame}
 use Rattle.league.specs.Meetings.{games_of}
@@ -32,7 +35,7 @@ sum_by-one_game count p b x k same =
     omega (arith, sum_by-add count (λ i. one_if (p i)) (range_with_len 0 k), sum_by-same (λ i. one_if (p i)) (λ i. one_if (b && (x == i))) (λ i. ap one_if (same i)) (range_with_len 0 k), one_in_range b x k)
 
 -- how often a game stands in a list with one game more
-counts_of-push : (games : List Game) (g : Game) (i j s : ℕ) → counts_of (games ++ g ∷ []) i j s ≡ counts_of games i j s + one_if (is_game i j s g)
+pub counts_of-push : (games : List Game) (g : Game) (i j s : ℕ) → counts_of (games ++ g ∷ []) i j s ≡ counts_of games i j s + one_if (is_game i j s g)
 counts_of-push games g i j s = sum_by_push (λ x. one_if (is_game i j s x)) games g
 
 -- games of a meeting in the first k slots
@@ -53,11 +56,11 @@ home_last : (a b c : Bool) → (a && b && c) ≡ (b && c && a)
 home_last a b c = grind arith
 
 -- a number under a test, and below k
-and_below : (b : Bool) (x k : ℕ) → x < k → one_if (b && nat_lt x k) ≡ one_if b
+pub and_below : (b : Bool) (x k : ℕ) → x < k → one_if (b && nat_lt x k) ≡ one_if b
 and_below b x k h = grind (arith, nat_tests)
 
 -- a number that isn't below k
-and_not_below : (b : Bool) (x k : ℕ) → k ≤ x → one_if (b && nat_lt x k) ≡ 0
+pub and_not_below : (b : Bool) (x k : ℕ) → k ≤ x → one_if (b && nat_lt x k) ≡ 0
 and_not_below b x k h = grind (arith, nat_tests)
 
 -- games of a meeting in the first k slots, where the game is in one of them
@@ -116,3 +119,8 @@ away_games-none n i s = omega (arith, sum_by-zeros (teams_of n))
 
 pub games_on-none : (n i s : ℕ) → games_on n (counts_of []) Both i s ≡ 0
 games_on-none n i s = omega (arith, sum_by-zeros (teams_of n))
+
+-- the counts don't depend on the order
+pub counts_of-permutation : (games more : List Game) → IsPermutation games more → counts_of more ≡ counts_of games
+counts_of-permutation games more is =
+    fun_ext (λ i. fun_ext (λ j. fun_ext (λ s. sum_by-IsPermutation (λ g. one_if (is_game i j s g)) games more is)))

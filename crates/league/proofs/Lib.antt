@@ -5,6 +5,7 @@ pub mod FitLemmas
 pub mod ListLemmas
 pub mod SumLemmas
 pub mod RangeLemmas
+pub mod OneTermLemmas
 pub mod MeetingLemmas
 pub mod CountLemmas
 pub mod MemberLemmas
@@ -23,4 +24,5 @@ pub mod InstanceFacts
 pub mod NameFacts
 pub mod SetFacts
 pub mod SetLemmas
+pub mod NumberSets
 pub mod OrderLemmas

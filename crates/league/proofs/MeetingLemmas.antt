@@ -1,8 +1,9 @@
 -- All meetings of a league as a loop over home teams and away teams, and all pairs as a loop over teams and later
--- teams.
-use Rattle.std.proofs.Common.{◌≡◌, ℕ, ◌+◌, ◌-◌, ◌<◌, Bool, true, false, not, ◌&&◌, ◌==◌, List, ◌∷◌, map, suc, cond, if◌then◌else◌, refl, arith, ap, ◌∙◌}
+-- teams; how many pairs there are.
+use Rattle.std.proofs.Common.{◌≡◌, ℕ, zero, suc, ◌+◌, ◌-◌, ◌*◌, ◌/◌, ◌<◌, Bool, true, false, not, ◌&&◌, ◌==◌, List, [], ◌∷◌, length, map, cond, if◌then◌else◌, refl, arith, ap, ◌∙◌}
 use Rattle.std.proofs.lemmas.List.Sums.{sum_by-append}
 use Rattle.std.specs.List.{count_by, range_with_len, sum_by}
+use Rattle.std.proofs.lemmas.List.{length-append, length-map}
 use Rattle.league.specs.Counts.{teams_of}
 use Rattle.league.specs.Meetings.{meetings_of, others, pairs_of}
 use Rattle.league.proofs.SumLemmas.{sum_by-filter, sum_by-flat_map, sum_by-map, sum_by-same}
@@ -41,3 +42,17 @@ count_by-pairs_from p i n h =
     let whole : ℕ → ℕ = λ k. count_by p (pairs_of (range_with_len i k)) in
     let first : whole (n - i) ≡ whole (suc (n - (i + 1))) = ap whole length_is in
     omega (arith, first, count_by-pairs_of p i (range_with_len (i + 1) (n - (i + 1))))
+
+-- twice as many pairs as a square without its diagonal has
+pub pair_count : (teams : List ℕ) → length (pairs_of teams) * 2 + length teams ≡ length teams * length teams
+pair_count [] = refl
+pair_count (t ∷ teams) = omega (arith, length-append (map (λ (j : ℕ). (t, j)) teams) (pairs_of teams), length-map {B = ℕ × ℕ} teams (λ (j : ℕ). (t, j)), pair_count teams)
+
+-- half of a square without its diagonal
+pub half : (pairs x : ℕ) → pairs * 2 + x ≡ x * x → x * (x - 1) / 2 ≡ pairs
+half pairs zero h = omega arith
+half pairs (suc y) h =
+    let less : suc y - 1 ≡ y = omega arith in
+    let square : suc y * suc y ≡ suc y * y + suc y = grind arith in
+    let twice : pairs * 2 ≡ suc y * y = omega arith in
+    ap (λ (x : ℕ). suc y * x / 2) less ∙ omega arith

@@ -12,7 +12,7 @@ use denote.Ref.{Bor}
 use Rattle.league.specs.Order.{IsInOrder, game_cmp}
 use Rattle.league.specs.declared.game.Game.{Game}
 
-game_cmp-total : IsTotalOrder game_cmp
+pub game_cmp-total : IsTotalOrder game_cmp
 game_cmp-total =
     then_total (then_total (on_total (λ (g : Game). g.slot.0) nat_cmp_total) (on_total (λ (g : Game). g.home.0) nat_cmp_total)) (on_total (λ (g : Game). g.away.0) nat_cmp_total)
 

@@ -6,7 +6,7 @@ use Rattle.std.proofs.lemmas.List.FromFn.{get_or-range_with_len, length-range_wi
 use Rattle.std.specs.List.{count_by, range_with_len, sum_by}
 use Rattle.league.specs.Counts.{Counts, slot_count, slots_of, teams_of}
 use Rattle.league.specs.Meetings.{games_of, pairs_of}
-use Rattle.league.specs.Structure.{IsPlayedOnce, cells_wrong, first_half, isnt_one, pairs_wrong, phases_wrong}
+use Rattle.league.specs.Structure.{IsPlayedOnce, IsRoundRobin, cells_wrong, first_half, isnt_one, pairs_wrong, phases_wrong}
 use Rattle.league.specs.Venues.{games_on}
 use Rattle.league.specs.declared.class.Side.TheVariants.{Both}
 use Rattle.league.proofs.AcceptedLemmas.{All-from_sum_zero, sum_zero-from_All}
@@ -40,7 +40,7 @@ right_where_one x h = grind (arith, nat_tests)
 one_where_different : (i j x : ℕ) → i ≢ j → one_if (not (j == i) && isnt_one x) ≡ 0 → x ≡ 1
 one_where_different i j x differ h = grind (arith, nat_tests)
 
-right_where_different : (i j x : ℕ) → (i ≢ j → x ≡ 1) → one_if (not (j == i) && isnt_one x) ≡ 0
+pub right_where_different : (i j x : ℕ) → (i ≢ j → x ≡ 1) → one_if (not (j == i) && isnt_one x) ≡ 0
 right_where_different i j x h = grind (arith, nat_tests)
 
 -- each meeting takes place once
@@ -128,3 +128,13 @@ none_wrong n phased m pairs cells phases pairs_are cells_are phases_are = (
   },
   λ once. (pairs_are ∙ pairs_right n m once.meetings, cells_are ∙ cells_right n m once.cells, phases_are ∙ phases_right-of n phased m once.halves),
 )
+
+-- a double round robin in two phases is one of any league of its teams
+pub any_phases : (n : ℕ) (phased : Bool) (m : Counts) → IsRoundRobin n true m → IsRoundRobin n phased m
+any_phases n true m is = is
+any_phases n false m is = record { pairs = is.pairs; cells = is.cells; phases = refl }
+
+pub IsPlayedOnce-of : (n : ℕ) (phased : Bool) (m : Counts) → IsRoundRobin n phased m → IsPlayedOnce n phased m
+IsPlayedOnce-of n phased m is =
+    (none_wrong n phased m (pairs_wrong n m) (cells_wrong n m) (phases_wrong n phased m) refl refl refl).0
+    (is.pairs, is.cells, is.phases)

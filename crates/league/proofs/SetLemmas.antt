@@ -16,21 +16,21 @@ use Rattle.std.proofs.lemmas.Bool.Decides.{nat_tests}
 use Rattle.league.specs.Sets.{IsAscending, with_item}
 
 -- a test that every element passes keeps the list
-filter-all : {X : Type 0} (p : X → Bool) (xs : List X) → All (λ y. p y ≡ true) xs → filter p xs ≡ xs
+pub filter-all : {X : Type 0} (p : X → Bool) (xs : List X) → All (λ y. p y ≡ true) xs → filter p xs ≡ xs
 filter-all p [] pass = refl
 filter-all p (x ∷ xs) pass =
     let here : p x ≡ true = pass 0 x (omega arith) in
     rw here (ap (λ ys. x ∷ ys) (filter-all p xs (All-tail (λ y. p y ≡ true) x xs pass)))
 
 -- a test that no element passes leaves nothing
-filter-none : {X : Type 0} (p : X → Bool) (xs : List X) → All (λ y. p y ≡ false) xs → filter p xs ≡ []
+pub filter-none : {X : Type 0} (p : X → Bool) (xs : List X) → All (λ y. p y ≡ false) xs → filter p xs ≡ []
 filter-none p [] fail = refl
 filter-none p (x ∷ xs) fail =
     let here : p x ≡ false = fail 0 x (omega arith) in
     rw here (filter-none p xs (All-tail (λ y. p y ≡ false) x xs fail))
 
 -- two lists in order, of which the first comes before the second
-AllPairs-append : {X : Type 0} (R : X → X → Type 0) (xs ys : List X) → AllPairs R xs → AllPairs R ys → All (λ x. All (R x) ys) xs → AllPairs R (xs ++ ys)
+pub AllPairs-append : {X : Type 0} (R : X → X → Type 0) (xs ys : List X) → AllPairs R xs → AllPairs R ys → All (λ x. All (R x) ys) xs → AllPairs R (xs ++ ys)
 AllPairs-append R [] ys first second across = second
 AllPairs-append R (x ∷ xs) ys first second across =
     AllPairs-cons R x (xs ++ ys)

@@ -1,13 +1,13 @@
 -- How long the line of a tidy clause step is.
-use Rattle.std.proofs.Common.{◌≡◌, ◌≢◌, ℕ, ◌+◌, ◌*◌, ◌<◌, ◌≤◌, ◌^◌, Bool, true, false, List, [], ◌∷◌, ◌++◌, ◌||◌}
-use Rattle.std.proofs.Common.{length, get_or, map, refl, arith, decimal, eqb, length-append, inl, inr}
-use Rattle.std.specs.Prelude.{codes, ◌⊎◌}
-use Rattle.std.specs.List.{All, AllPairs, flat_map, list_any, sum_by}
-use Rattle.std.proofs.lemmas.Bool.Decides.{Decides-eqb, nat_tests}
+use Rattle.std.proofs.Common.{◌≡◌, ◌≢◌, ℕ, ◌+◌, ◌*◌, ◌<◌, ◌≤◌, ◌^◌, Bool, true, false, List, ◌++◌}
+use Rattle.std.proofs.Common.{length, get_or, map, arith, decimal, length-append}
+use Rattle.std.specs.Prelude.{codes}
+use Rattle.std.specs.List.{All, AllPairs, flat_map, sum_by}
+use Rattle.std.proofs.lemmas.Bool.Decides.{Decides-eqb}
 use Rattle.std.proofs.lemmas.Fmt.{length-decimal-le}
 use Rattle.std.proofs.lemmas.List.{length-map}
 use Rattle.std.proofs.lemmas.List.Concat.{length-flat_map}
-use Rattle.std.proofs.lemmas.List.Elements.{All-head, All-map, All-tail}
+use Rattle.std.proofs.lemmas.List.Elements.{All-map}
 use Rattle.std.proofs.lemmas.List.Sums.{sum_by-le}
 use Rattle.std.proofs.lemmas.Map.Made.{IsDistinct-from_AllPairs}
 use Rattle.std.proofs.lemmas.Map.Steps.{length-le_from_distinct_below}
@@ -22,6 +22,7 @@ use Rattle.refutation.specs.Writable.{HasShortLines}
 use Rattle.refutation.specs.declared.version.Version.{Version}
 use Rattle.refutation.specs.declared.version.Version.TheVariants.{One, Two}
 use Rattle.clause_search.specs.News.{IsTidy}
+use Rattle.clause_search.proofs.CountLemmas.{any_below}
 
 -- ---- tokens
 
@@ -52,21 +53,6 @@ number_short n small =
 abbrev vars_of : List Literal → List ℕ
 vars_of clause = map (λ l. l.var) clause
 
-or_cases : (a b : Bool) → (a || b) ≡ true → (a ≡ true) ⊎ (b ≡ true)
-or_cases true b is = inl refl
-or_cases false b is = inr is
-
-same_number : (q n : ℕ) → eqb q n ≡ true → q ≡ n
-same_number q n is = grind (arith, nat_tests)
-
-member_below : (bound : ℕ) (xs : List ℕ) → All (λ x. x < bound) xs → (q : ℕ) → list_any (eqb q) xs ≡ true → q < bound
-member_below bound [] below q is = cc
-member_below bound (x ∷ xs) below q is =
-    elim (or_cases (eqb q x) (list_any (eqb q) xs) is) [
-      | inl same ↦ omega (arith, same_number q x same, All-head (λ y. y < bound) x xs below)
-      | inr later ↦ member_below bound xs (All-tail (λ y. y < bound) x xs below) q later
-    ]
-
 -- literals of different variables are no more than there are variables, and 0
 clause_short : (vars : ℕ) (clause : List Literal) → AllPairs (λ l m. l.var ≢ m.var) clause
     → All (λ l. l.var ≤ vars) clause → length clause ≤ vars + 1
@@ -79,7 +65,7 @@ clause_short vars clause differ known =
       length-le_from_distinct_below (vars_of clause) (vars + 1)
           (IsDistinct-from_AllPairs Decides-eqb (vars_of clause)
           (AllPairs-map (λ (x y : ℕ). x ≢ y) (λ (l : Literal). l.var) clause differ))
-          (member_below (vars + 1) (vars_of clause) below),
+          (any_below (vars + 1) (vars_of clause) below),
       length-map clause (λ (l : Literal). l.var),
     )
 

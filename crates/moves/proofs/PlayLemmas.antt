@@ -6,15 +6,12 @@ use Rattle.league.specs.Meetings.{games_of}
 use Rattle.league.specs.Structure.{IsPlayedOnce, IsRoundRobin, cells_wrong, first_half, pairs_wrong, phases_wrong}
 use Rattle.league.specs.Venues.{games_on}
 use Rattle.league.specs.declared.class.Side.TheVariants.{Both}
-use Rattle.league.proofs.RoundRobinLemmas.{none_wrong}
+use Rattle.league.proofs.RoundRobinLemmas.{IsPlayedOnce-of, none_wrong}
 use Rattle.moves.proofs.SumLemmas.{OneIsOne, one-of_total, term-le-total, total, total-add}
 
 -- a round robin, with and without counting
 counts_are : (n : ℕ) (phased : Bool) (m : Counts) → ((pairs_wrong n m ≡ 0) × (cells_wrong n m ≡ 0) × (phases_wrong n phased m ≡ 0)) ↔ IsPlayedOnce n phased m
 counts_are n phased m = none_wrong n phased m (pairs_wrong n m) (cells_wrong n m) (phases_wrong n phased m) refl refl refl
-
-pub IsPlayedOnce-of : (n : ℕ) (phased : Bool) (m : Counts) → IsRoundRobin n phased m → IsPlayedOnce n phased m
-IsPlayedOnce-of n phased m is = (counts_are n phased m).0 (is.pairs, is.cells, is.phases)
 
 pub IsRoundRobin-of : (n : ℕ) (phased : Bool) (m : Counts) → IsPlayedOnce n phased m → IsRoundRobin n phased m
 IsRoundRobin-of n phased m once =

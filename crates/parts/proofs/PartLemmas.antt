@@ -2,7 +2,6 @@
 use Rattle.std.proofs.Common.{◌≡◌, ℕ, zero, suc, ◌+◌, ◌<◌, ◌≤◌, Bool, true, false, cond, not, List, [], ◌∷◌, ◌++◌}
 use Rattle.std.proofs.Common.{length, get_or, Option, Some, None, refl, sym, ap, subst, ◌∙◌, arith, append_assoc}
 use Rattle.std.proofs.Common.{append-nil, length-append}
-use Rattle.std.proofs.lemmas.Bool.Decides.{nat_tests}
 use Rattle.std.proofs.lemmas.List.Concat.{length-flat_map}
 use Rattle.std.proofs.lemmas.List.Elements.{All-append, All-cons, All-nil, filter-append, filter_passes}
 use Rattle.std.proofs.lemmas.List.Kept.{AllPairs-cons, AllPairs-filter, AllPairs-from_increasing}
@@ -18,6 +17,7 @@ use Rattle.league.specs.Sets.{IsAscending}
 use Rattle.league.specs.declared.class.Constraint.{Constraint}
 use Rattle.league.proofs.RangeLemmas.{range_with_len-more}
 use Rattle.league.proofs.SetLemmas.{length-ascending}
+use Rattle.league.proofs.NumberSets.{nat_cmp-less, range-ascending}
 use Rattle.parts.specs.Parts.{constraint_numbered, first_other, hard_numbers, is_hard, is_hard_number, listed, numbered}
 
 -- ---- what holds of each constraint
@@ -73,15 +73,12 @@ pub hard-at_most : (constraints : List Constraint) (k : ℕ) → is_hard_number 
 hard-at_most constraints zero is = absurd (cc)
 hard-at_most constraints (suc k) is = omega (arith, inside constraints k is)
 
-less : (a b : ℕ) → a < b → nat_cmp a b ≡ Less
-less a b h = grind (arith, nat_tests)
-
 members-few : (constraints : List Constraint) (members : List ℕ) → IsAscending nat_cmp members
     → All (λ k. is_hard_number constraints k ≡ true) members → length members ≤ length constraints
 members-few constraints members ascending hard =
     let from_zero : IsAscending nat_cmp (0 ∷ members) =
     AllPairs-cons (λ a b. nat_cmp a b ≡ Less) 0 members
-    (λ i d within. less 0 (get_or members i d) (omega (
+    (λ i d within. nat_cmp-less 0 (get_or members i d) (omega (
       arith,
       hard-at_least constraints (get_or members i d)
           (hard i d within),
@@ -173,18 +170,6 @@ pub hard_numbers-hard : (constraints : List Constraint)
     → All (λ k. is_hard_number constraints k ≡ true) (hard_numbers constraints)
 hard_numbers-hard constraints = filter_passes (is_hard_number constraints) (range_with_len 1 (length constraints))
 
-range-later : (a b k : ℕ) → a < b → All (λ y. nat_cmp a y ≡ Less) (range_with_len b k)
-range-later a b zero before = All-nil (λ y. nat_cmp a y ≡ Less)
-range-later a b (suc k) before =
-    All-cons (λ y. nat_cmp a y ≡ Less) b (range_with_len (b + 1) k) (less a b before)
-    (range-later a (b + 1) k (omega (arith, before)))
-
-range-ascending : (a k : ℕ) → IsAscending nat_cmp (range_with_len a k)
-range-ascending a zero = λ i j d before within. absurd (omega (arith, within))
-range-ascending a (suc k) =
-    AllPairs-cons (λ x y. nat_cmp x y ≡ Less) a (range_with_len (a + 1) k) (range-later a (a + 1) k (omega arith))
-    (range-ascending (a + 1) k)
-
 pub hard_numbers-ascending : (constraints : List Constraint) → IsAscending nat_cmp (hard_numbers constraints)
 hard_numbers-ascending constraints =
     AllPairs-filter (λ x y. nat_cmp x y ≡ Less) (is_hard_number constraints) (range_with_len 1 (length constraints))
@@ -219,7 +204,7 @@ hard_more-no constraints k is =
 -- numbers that rise step by step ascend
 pub ascending_steps : (members : List ℕ) → IsStrictlyIncreasing members → IsAscending nat_cmp members
 ascending_steps members rises = λ i j d before within.
-    less (get_or members i d) (get_or members j d) (AllPairs-from_increasing members rises i j d before within)
+    nat_cmp-less (get_or members i d) (get_or members j d) (AllPairs-from_increasing members rises i j d before within)
 
 -- what is said of the numbers so far, where these are a league's constraints
 pub hard_among : (constraints found : List Constraint) (k : ℕ) (numbers : List ℕ) → found ≡ constraints

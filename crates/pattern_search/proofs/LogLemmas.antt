@@ -23,6 +23,7 @@ use Rattle.refutation.specs.declared.verdict.Cause.{Cause}
 use Rattle.refutation.specs.declared.verdict.Verdict.TheVariants.{Accepted}
 use Rattle.clause_search.specs.Answers.{IsSpentAt, Refutes}
 use Rattle.clause_search.specs.News.{AreNews, IsTidy, row_of}
+use Rattle.clause_search.proofs.SearchLemmas.{ends_empty-push}
 use Rattle.season_check.proofs.SeasonLemmas.{accepted_logs_exclude}
 use Rattle.pattern_search.specs.PatternLogs.{ArePatternNews, IsPatternSpent, RefutesPatterns}
 use Rattle.pattern_search.specs.PatternLogs.{TellOfPatterns}
@@ -87,11 +88,6 @@ fault-none games vars rows patterns n (step ∷ steps) hints news last =
     (ap (λ (rs : List Row). judged rs vars (Clause [] hints)) (append_assoc rows (row_of step ∷ []) (map row_of steps))
     ∙ last)
 
-ends-empty : (steps : List Step) (hints : List ℕ) → ends_empty (steps ++ Clause [] hints ∷ []) ≡ true
-ends-empty [] hints = refl
-ends-empty (step ∷ []) hints = refl
-ends-empty (step ∷ next ∷ steps) hints = ends-empty (next ∷ steps) hints
-
 accepted_by : (games vars : ℕ) (rows patterns : List Row) (steps : List Step) (hints : List ℕ)
     → ArePatternNews games vars rows patterns steps
     → judged (rows ++ map row_of steps) vars (Clause [] hints) ≡ Ok (clause_row [])
@@ -99,7 +95,7 @@ accepted_by : (games vars : ℕ) (rows patterns : List Row) (steps : List Step) 
 accepted_by games vars rows patterns steps hints news last =
     ap (λ (fault : Option (ℕ × Cause)). verdict_by fault (ends_empty (steps ++ Clause [] hints ∷ []))
     (length (steps ++ Clause [] hints ∷ []))) (fault-none games vars rows patterns 0 steps hints news last)
-    ∙ ap (λ (ends : Bool). verdict_by None ends (length (steps ++ Clause [] hints ∷ []))) (ends-empty steps hints)
+    ∙ ap (λ (ends : Bool). verdict_by None ends (length (steps ++ Clause [] hints ∷ []))) (ends_empty-push steps hints)
 
 -- ---- the numbering of a league's pattern rows
 

@@ -13,6 +13,7 @@ use Rattle.league.specs.Counts.{slot_count, slots_of, teams_of}
 use Rattle.league.specs.Instance.{Instance, IsInstance, is_one_side}
 use Rattle.league.specs.declared.class.Side.{Side}
 use Rattle.league.specs.declared.class.Side.TheVariants.{Both}
+use Rattle.league.proofs.OneTermLemmas.{All-flat_map}
 use Rattle.patterns.specs.Pattern.{IsPattern}
 use Rattle.rows.specs.Rows.{Row, Satisfies, SatisfiesAll}
 use Rattle.rows.specs.Values.{assigned}
@@ -21,8 +22,7 @@ use Rattle.encoding_base.specs.Encoding.{constraint_rows, rows_of, season_rows}
 use Rattle.encoding_base.specs.Lists.{after_first}
 use Rattle.encoding_base.specs.Season.{both_needed, break_rows, break_rows_at, neither_needed}
 use Rattle.encoding_base.specs.Variables.{ab_var, h_count, h_var, has_breaks, hb_count, hb_var, x_count}
-use Rattle.encoding_base.proofs.AscendLemmas.{All-flat_map}
-use Rattle.decoding.proofs.BreakRows.{break_rows-law, breaks_agree}
+use Rattle.decoding.proofs.BreakRows.{after_first_passes, break_rows-law, breaks_agree}
 use Rattle.decoding.proofs.VenueLaws.{agree-true, each_cell}
 use Rattle.pattern_search.specs.Letters.{letters_of, lowered, patterns_by, side_of}
 use Rattle.pattern_search.specs.PatternRows.{is_pattern_row, pattern_rows}
@@ -138,9 +138,6 @@ break_rows-met league values breaks met =
     λ k d within. there k d within (break_rows-pass league.n k d within)
 
 -- ---- breaks are what venues say
-
-after_first_passes : (s : ℕ) (b : Bool) → 0 < s → (not (nat_lt 0 s) || b) ≡ true → b ≡ true
-after_first_passes s b later pass = grind (arith, nat_tests)
 
 breaks_at : (n : ℕ) (values : ℕ → Bool) → SatisfiesAll values (break_rows n true) → (i s : ℕ) → i < n → 0 < s
     → s < slot_count n → breaks_agree n values i s ≡ true

@@ -15,7 +15,7 @@ use Rattle.league.proofs.RangeLemmas.{one_if}
 use Rattle.league.proofs.SumLemmas.{sum_by-map}
 use Rattle.circle_method.specs.Circle.{single_games}
 use Rattle.circle_method.specs.SingleRoundRobin.{IsSingleRoundRobin}
-use Rattle.circle_method.proofs.OneTermLemmas.{sum_by-range_same}
+use Rattle.league.proofs.OneTermLemmas.{sum_by-range_same}
 use Rattle.patterns.specs.Pattern.{breaks_in, has_break, is_repeat}
 use Rattle.patterns.specs.PatternSet.{canonical_patterns, letter_of, pattern_in, side_with, team_breaks}
 

@@ -1,15 +1,14 @@
 -- What follows from an answer of `patterns`.
-use Rattle.std.proofs.Common.{◌≡◌, ℕ, ◌≤◌, List, length, Option, Some, Ok, codes, ap, inl, inr, sym, subst, ◌∙◌}
-use Rattle.std.specs.Prelude.{IfSome}
+use Rattle.std.proofs.Common.{◌≡◌, ℕ, ◌≤◌, List, length, Option, Some, Ok, codes, ap, inl, inr, sym, ◌∙◌}
 use Rattle.league.specs.Instance.{Instance}
 use Rattle.robinx_tags.specs.Pieces.{pieces}
 use Rattle.robinx_form.specs.InstanceFile.{instance_of}
 use Rattle.robinx_read.specs.declared.instance.TheConstants.{INSTANCE_LIMIT}
 use Rattle.answers.specs.Reply.{Answer}
-use Rattle.answers.specs.Stages.{Outcome, reads, says}
-use Rattle.answers.specs.declared.status.Status.TheVariants.{Yes, File, Refuted, Spent, ReadFault}
+use Rattle.answers.specs.Stages.{Outcome, says}
+use Rattle.answers.specs.declared.status.Status.TheVariants.{Yes, File, Refuted, Spent}
 use Rattle.season_check.specs.Excluded.{NoneAccepted}
-use Rattle.answers.proofs.StageLemmas.{reads-known, says-known}
+use Rattle.answers.proofs.StageLemmas.{reads-known, reads-refuted, says-known}
 use Rattle.encoding_base.specs.Encoding.{encoding_size, rows_of}
 use Rattle.check_answer.specs.Check.{encodes, most_terms}
 use Rattle.check_answer.proofs.AnswerLemmas.{encodes-small}
@@ -50,17 +49,6 @@ encoded-refuted league conflicts answer ended (inl h) = found-refuted league con
 encoded-refuted league conflicts answer ended (inr h) =
     let same : File ≡ Refuted = sym (ap (λ (a : Answer). a.status) h.1) ∙ ended in absurd (cc)
 
-read-refuted : (which : List ℕ) (known : Option (List ℕ)) (limit : ℕ) (long failed : Type 0) (next : List ℕ → Outcome)
-    (answer : Answer) (bytes : List ℕ) → known ≡ Some bytes → answer.status ≡ Refuted
-    → reads which known limit long failed next answer → next bytes answer
-read-refuted which known limit long failed next answer bytes is ended (inl read) =
-    let same : read.0 ≡ bytes = subst (λ (k : Option (List ℕ)). IfSome k (λ file. read.0 ≡ file)) is read.1.same in
-    subst (λ (b : List ℕ). next b answer) same read.2
-read-refuted which known limit long failed next answer bytes is ended (inr (inl h)) =
-    let same : File ≡ Refuted = sym (ap (λ (a : Answer). a.status) h.2) ∙ ended in absurd (cc)
-read-refuted which known limit long failed next answer bytes is ended (inr (inr h)) =
-    let same : ReadFault ≡ Refuted = sym (ap (λ (a : Answer). a.status) h.1) ∙ ended in absurd (cc)
-
 -- where the answer is a refutation, the league of the instance file accepts no list of games
 pub patterned-refuted : (contents : List ℕ → Option (List ℕ)) (took_more : ℕ → Type 0) (failed : List ℕ → Type 0)
     (instance bytes : List ℕ) (conflicts : Option ℕ) (league : Instance) (answer : Answer)
@@ -69,5 +57,5 @@ pub patterned-refuted : (contents : List ℕ → Option (List ℕ)) (took_more :
 patterned-refuted contents took_more failed instance bytes conflicts league answer known says_league ended given =
     encoded-refuted league conflicts answer ended
     (says-known (codes "instance") (instance_of (pieces bytes)) league (found_of conflicts) answer says_league
-    (read-refuted (codes "instance") (contents instance) INSTANCE_LIMIT (took_more INSTANCE_LIMIT) (failed instance)
+    (reads-refuted (codes "instance") (contents instance) INSTANCE_LIMIT (took_more INSTANCE_LIMIT) (failed instance)
     (said_of conflicts) answer bytes known ended given))

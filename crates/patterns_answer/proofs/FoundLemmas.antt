@@ -1,6 +1,6 @@
 -- What is found of a league's patterns, answered.
 use Rattle.std.proofs.Common.{◌≡◌, ℕ, ◌≤◌, false, List, [], ◌∷◌, ◌++◌, get_or, Option, Result, Ok, Err}
-use Rattle.std.proofs.Common.{arith, inl, inr, refl, subst, sym}
+use Rattle.std.proofs.Common.{inl, inr, refl, subst, sym}
 use Rattle.std.specs.Prelude.{IfOk}
 use Rattle.std.specs.List.{All}
 use Rattle.std.proofs.lemmas.List.Elements.{All-push, All-weaker}
@@ -8,6 +8,7 @@ use Rattle.league.specs.Instance.{Instance}
 use Rattle.league.specs.declared.class.Side.{Side}
 use Rattle.encoding_base.specs.Encoding.{rows_of}
 use Rattle.encoding_base.specs.Variables.{var_count, x_count}
+use Rattle.clause_search.proofs.TidyLemmas.{IsTidy-wider}
 use Rattle.answers.specs.Reply.{Answer}
 use Rattle.answers.specs.SeenReply.{answer_of}
 use Rattle.answers.specs.declared.reply.Reply.{Reply}
@@ -25,21 +26,12 @@ use Rattle.patterns_answer.specs.Patterns.{AreFound, patterns_text}
 
 -- ---- logs can be written
 
-wider : (vars more : ℕ) (step : Step) → vars ≤ more → IsTidy vars step → IsTidy more step
-wider vars more step most tidy = record {
-  variables = tidy.variables;
-  from_one = tidy.from_one;
-  known = λ k d within. omega (arith, tidy.known k d within, most);
-  few = omega (arith, tidy.few, most);
-  named = tidy.named;
-}
-
 pub all_tidy : (league : Instance) (vars : ℕ) (steps : List Step) → vars ≡ var_count league → vars ≤ 130960
     → All (IsTidy (var_count league)) steps → All (IsTidy 130960) steps
 all_tidy league vars steps is most tidy =
     let few : var_count league ≤ 130960 = subst (λ (v : ℕ). v ≤ 130960) is most in
     All-weaker (IsTidy (var_count league)) (IsTidy 130960)
-    (λ step is_tidy. wider (var_count league) 130960 step few is_tidy) steps tidy
+    (λ step is_tidy. IsTidy-wider (var_count league) 130960 step few is_tidy) steps tidy
 
 pub refuted-clauses : (league : Instance) (limit : Option ℕ) (steps : List Step) → RefutesPatterns league limit steps
     → All (λ step. is_linear step ≡ false) steps

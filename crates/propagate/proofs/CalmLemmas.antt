@@ -8,14 +8,12 @@ use Rattle.rows.specs.Literals.{Literal}
 use Rattle.rows.specs.Partials.{is_free, opposite_of, value_of}
 use Rattle.rows.specs.declared.partial.Value.{Value}
 use Rattle.rows.specs.declared.partial.Value.TheVariants.{True, False, Free}
+use Rattle.rows.proofs.TrailLemmas.{set_true-other}
 use Rattle.propagate.specs.Trails.{EachEntry, IsNew, level_of, values_of}
 use Rattle.propagate.specs.Watches.{WasOpen}
 use Rattle.propagate.specs.declared.entry.Entry.{Entry}
 use Rattle.propagate.proofs.EntryLemmas.{level_of-more, level_of-take_le, no_entry, values_of-push}
-use Rattle.propagate.proofs.ValueLemmas.{is_free_var, set_true-other}
-
-free_is_free : (v : Value) → v ≡ Free → is_free v ≡ true
-free_is_free v is = ap is_free is
+use Rattle.propagate.proofs.ValueLemmas.{is_free_var}
 
 -- a variable keeps its value while entries come
 pub value_kept : (vars : ℕ) (es : List Entry) (v m n : ℕ) → EachEntry (IsNew vars) es → m + n ≤ length es → values_of (take m es) v ≢ Free

@@ -17,7 +17,7 @@ use Rattle.rows.specs.Values.{valued}
 use Rattle.rows.specs.declared.lit.Term.{Term}
 use Rattle.rows.specs.declared.partial.Value.{Value}
 use Rattle.rows.specs.declared.partial.Value.TheVariants.{True, False, Free}
-use Rattle.rows.proofs.TrailLemmas.{valued-set, valued-set_other, valued-set_same}
+use Rattle.rows.proofs.TrailLemmas.{set_true-other, set_true-same, valued-set, valued-set_other, valued-set_same}
 use Rattle.propagate.specs.Numbered.{row_at}
 use Rattle.propagate.specs.Links.{AreLinked, IsEmptyLink, IsLastBelow, Lacks, LeadsBelow}
 use Rattle.propagate.specs.Counters.{SeenCounters}
@@ -27,7 +27,7 @@ use Rattle.propagate.specs.declared.link.Link.{Link}
 use Rattle.propagate.specs.declared.table.Table.{Table}
 use Rattle.propagate.proofs.LinkLemmas.{AreLinked-none, AreLinked-rows, row_at-front}
 use Rattle.propagate.proofs.ReachLemmas.{code_of-below, reach-has, reach-lacks, reach-le_free}
-use Rattle.propagate.proofs.ValueLemmas.{AreApart, set_true-other, set_true-same}
+use Rattle.propagate.proofs.ValueLemmas.{AreApart}
 
 -- ---- building
 

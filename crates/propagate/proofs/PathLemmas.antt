@@ -13,13 +13,13 @@ use Rattle.rows.specs.Partials.{as_value, is_free, value_of}
 use Rattle.rows.specs.Values.{valued}
 use Rattle.rows.specs.declared.partial.Value.{Value}
 use Rattle.rows.specs.declared.partial.Value.TheVariants.{True, False, Free}
-use Rattle.rows.proofs.TrailLemmas.{valued-at, valued-none, valued-set, valued-set_other, valued-set_same}
+use Rattle.rows.proofs.TrailLemmas.{set_true-other, set_true-same, valued-at, valued-none, valued-set, valued-set_other, valued-set_same}
 use Rattle.propagate.specs.Trails.{EachEntry, IsNew, level_of, values_of}
 use Rattle.propagate.specs.Counters.{SeenCounters}
 use Rattle.propagate.specs.Paths.{AreKept, AreStanding, IsPath, IsPlaceOf, SeenPath, one_if_set, set_count, with_entries}
 use Rattle.propagate.specs.declared.entry.Entry.{Entry}
 use Rattle.propagate.proofs.EntryLemmas.{each-nil, each-push, each-take, values_of-push}
-use Rattle.propagate.proofs.ValueLemmas.{free_is, is_free_var, set_true-other, set_true-same, value_of-same}
+use Rattle.propagate.proofs.ValueLemmas.{free_is, is_free_var, value_of-same}
 
 -- ---- how many have a value
 

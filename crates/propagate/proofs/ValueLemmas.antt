@@ -1,8 +1,8 @@
 -- One literal more is true, and what that does to other literals and to rows.
-use Rattle.std.proofs.Common.{◌≡◌, ◌≢◌, ℕ, suc, ◌<◌, Bool, true, false, ◌&&◌, cond, List, [], ◌∷◌, length, get_or}
+use Rattle.std.proofs.Common.{◌≡◌, ◌≢◌, ℕ, suc, ◌<◌, Bool, true, false, cond, List, [], ◌∷◌, length, get_or}
 use Rattle.std.proofs.Common.{refl, inl, inr, arith, ap, sym, subst, ◌∙◌}
 use Rattle.std.specs.List.{AllPairs, sum_by}
-use Rattle.std.proofs.lemmas.Bool.{cases_eq, cases_lt, eq-eqb, false≢true, ne_eqb}
+use Rattle.std.proofs.lemmas.Bool.{cases_eq, cases_lt, false≢true}
 use Rattle.std.proofs.lemmas.List.{get_or_default}
 use Rattle.std.proofs.lemmas.List.Sums.{sum_by-cons}
 use Rattle.rows.specs.Forcing.{set_true}
@@ -11,7 +11,7 @@ use Rattle.rows.specs.Partials.{as_value, is_false, is_free, opposite_of, reach,
 use Rattle.rows.specs.declared.lit.Term.{Term}
 use Rattle.rows.specs.declared.partial.Value.{Value}
 use Rattle.rows.specs.declared.partial.Value.TheVariants.{True, False, Free}
-use Rattle.rows.proofs.TrailLemmas.{is_free-value_of}
+use Rattle.rows.proofs.TrailLemmas.{is_free-value_of, set_true-other, set_true-same}
 
 pub free_is : (v : Value) → is_free v ≡ true → v ≡ Free
 free_is True free = absurd (false≢true free)
@@ -20,15 +20,6 @@ free_is Free free = refl
 
 pub is_free_var : (values : ℕ → Value) (l : Literal) → value_of values l ≡ Free → is_free (values l.var) ≡ true
 is_free_var values l free = sym (is_free-value_of values l) ∙ ap is_free free
-
-pub set_true-other : (values : ℕ → Value) (l : Literal) (v : ℕ) → v ≢ l.var → set_true values l v ≡ values v
-set_true-other values l v other =
-    ap (λ (b : Bool). cond (b && is_free (values v)) (as_value l.positive) (values v)) (ne_eqb v l.var other)
-
-pub set_true-same : (values : ℕ → Value) (l : Literal) → is_free (values l.var) ≡ true → set_true values l l.var ≡ as_value l.positive
-set_true-same values l free =
-    ap (λ (b : Bool). cond (b && is_free (values l.var)) (as_value l.positive) (values l.var)) (eq-eqb l.var l.var refl)
-    ∙ ap (λ (f : Bool). cond f (as_value l.positive) (values l.var)) free
 
 pub value_of-other : (values : ℕ → Value) (l m : Literal) → m.var ≢ l.var → value_of (set_true values l) m ≡ value_of values m
 value_of-other values l m other = ap (λ (v : Value). cond m.positive v (opposite_of v)) (set_true-other values l m.var other)

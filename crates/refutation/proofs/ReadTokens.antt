@@ -26,15 +26,9 @@ use Rattle.refutation.specs.declared.version.Version.{Version}
 use Rattle.refutation.specs.declared.version.Version.TheVariants.{One, Two}
 use Rattle.refutation.proofs.StepLemmas.{both}
 use Rattle.refutation.proofs.StepTexts.{flat_map-part_text, numbers_of}
+use Rattle.refutation.proofs.TokenLemmas.{not_false, zero-is}
 
 -- ---- one token
-
-zero-is : (token : List ℕ) → is_zero token ≡ true → token ≡ codes "0"
-zero-is token is = (bytes_eq-Decides token (codes "0")).0 is
-
-not_true : (b : Bool) → not b ≡ true → b ≡ false
-not_true true is = cc
-not_true false is = refl
 
 -- what doesn't begin with `0` has another first byte
 first-apart : (ds : List ℕ) → starts_with nat_eq ds (codes "0") ≡ false → get_or ds 0 0 ≡ 48 → length ds ≡ 1
@@ -56,7 +50,7 @@ number-text token is small =
     let parts = both (is_number token) (not (starts_with nat_eq token (codes "0"))) is in
     let digits = both (nat_lt 0 (length token)) (list_all is_ascii_digit token) parts.0 in
     decimal-digits_value ascii_digits token digits.1 (ltb-true 0 (length token) digits.0)
-    (first-apart token (not_true (starts_with nat_eq token (codes "0")) parts.1))
+    (first-apart token (not_false (starts_with nat_eq token (codes "0")) parts.1))
     (small-lt (number token) (leb-true (number token) 18446744073709551615 small))
 
 variable-fits : (ds : List ℕ) → nat_le (number ds) 2147483647 ≡ true → is_small_number ds ≡ true

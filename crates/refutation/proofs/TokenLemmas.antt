@@ -47,7 +47,7 @@ pub and_false : (a : Bool) → (a && false) ≡ false
 and_false true = refl
 and_false false = refl
 
-not_false : (b : Bool) → not b ≡ true → b ≡ false
+pub not_false : (b : Bool) → not b ≡ true → b ≡ false
 not_false true h = absurd (false≢true h)
 not_false false h = refl
 
@@ -117,7 +117,7 @@ digits-lack (d ∷ ds) h =
     All-cons (λ b. is_space b ≡ false) d ds (digit-space d parts.0) (digits-lack ds parts.1)
 
 -- a token that isn't digits is wrong
-zero-is : (token : List ℕ) → is_zero token ≡ true → token ≡ codes "0"
+pub zero-is : (token : List ℕ) → is_zero token ≡ true → token ≡ codes "0"
 zero-is token h = (bytes_eq-Decides token (codes "0")).0 h
 
 pub other-wrong : (token : List ℕ) → list_all is_ascii_digit token ≡ false → IsWrong is_count token

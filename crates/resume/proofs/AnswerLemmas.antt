@@ -11,6 +11,7 @@ use Rattle.league.specs.Counts.{Counts, counts_of, slot_count}
 use Rattle.league.specs.Instance.{Instance, IsGame, IsInstance}
 use Rattle.league.specs.Order.{IsInOrder}
 use Rattle.league.specs.declared.game.Game.{Game}
+use Rattle.league.proofs.CountLemmas.{counts_of-permutation}
 use Rattle.rows.specs.Rows.{Row}
 use Rattle.rows.specs.Values.{assigned}
 use Rattle.rows.proofs.TestLemmas.{SatisfiesAll-from_true, all_satisfied-true}
@@ -27,7 +28,7 @@ use Rattle.clause_search.specs.declared.found.Found.TheVariants as found
 use Rattle.resume_rows.specs.Kept.{kept_rows, resume_rows}
 use Rattle.resume_rows.specs.Resumable.{IsResumption}
 use Rattle.resume_rows.proofs.Faithful.{accepted_logs_exclude, resumption-from_rows}
-use Rattle.resume.proofs.GameLemmas.{decoded_fit, same_counts}
+use Rattle.decoding.proofs.GameLemmas.{decoded_fit}
 use Rattle.resume.specs.Answers.{IsResumed, IsResumedSeason}
 use Rattle.resume.specs.Found.{MeetsLeague, Tells}
 use Rattle.resume.specs.declared.resumed.Resumed.{Resumed}
@@ -39,7 +40,7 @@ pub plan_resumes : (league : Instance) (played games : List Game) (cost : ℕ) �
     → All (IsGame league.n) played → IsPermutation played games → IsInOrder games
     → cost ≡ costs.objective league (counts_of played) → (k : ℕ) → IsResumedSeason league played k games cost
 plan_resumes league played games cost accepted fit same order is k =
-    let counts : counts_of games ≡ counts_of played = same_counts played games same in
+    let counts : counts_of games ≡ counts_of played = counts_of-permutation played games same in
     record {
       resumes = record {
         accepted = subst (λ (m : Counts). IsAccepted league m) (sym counts) accepted;

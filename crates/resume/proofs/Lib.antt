@@ -1,5 +1,3 @@
--- Games that are decoded from values of an accepted schedule: they fit, and there are few:
-pub mod GameLemmas
 -- What the old plan, and what a search finds, say of a league whose first slots are played:
 pub mod AnswerLemmas
 -- The games whose variables are true, gone through by slot and meeting:

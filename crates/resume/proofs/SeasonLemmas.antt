@@ -4,9 +4,10 @@ use Rattle.std.specs.List.{filter, flat_map}
 use Rattle.league.specs.Counts.{slots_of}
 use Rattle.league.specs.Meetings.{meetings_of}
 use Rattle.league.specs.declared.game.Game.{Game}
+use Rattle.league.proofs.ListLemmas.{flat_map-same}
 use Rattle.encoding_base.specs.Shadow.{decoded, game_of}
 use Rattle.encoding_base.specs.Variables.{x_var}
-use Rattle.encoding_base.proofs.KeyRowLemmas.{filter-flat_map, flat_map-same}
+use Rattle.encoding_base.proofs.KeyRowLemmas.{filter-flat_map}
 use Rattle.resume.specs.Found.{game_if_true}
 
 -- what passes a test after it is changed

@@ -1,15 +1,16 @@
 -- What is found of a league whose first slots are played, answered.
-use Rattle.std.proofs.Common.{◌≡◌, ℕ, ◌+◌, ◌-◌, ◌*◌, ◌≤◌, Bool, true, false, if◌then◌else◌, List, []}
-use Rattle.std.proofs.Common.{Option, Some, Result, Ok, Err, arith, ap, inl, inr, refl, subst, sym, ◌∙◌}
+use Rattle.std.proofs.Common.{◌≡◌, ℕ, ◌+◌, ◌-◌, ◌*◌, ◌≤◌, Bool, true, false, if◌then◌else◌, List}
+use Rattle.std.proofs.Common.{Option, Some, Result, Ok, Err, arith, ap, inl, inr, refl, ◌∙◌}
 use Rattle.std.proofs.Math.Nat.{mul-le-mul}
 use Rattle.std.specs.Prelude.{IfOk}
 use Rattle.std.specs.List.{All}
-use Rattle.std.proofs.lemmas.List.Elements.{All-push, All-weaker}
+use Rattle.std.proofs.lemmas.List.Elements.{All-weaker}
 use Rattle.league.specs.Accepted.{IsAccepted}
 use Rattle.league.specs.Accepted as costs
 use Rattle.league.specs.Counts.{counts_of, slot_count}
 use Rattle.league.specs.Instance.{Instance, IsInstance}
 use Rattle.league.specs.declared.game.Game.{Game}
+use Rattle.clause_search.proofs.TidyLemmas.{IsTidy-wider}
 use Rattle.robinx_form.specs.Texts.{solution_text}
 use Rattle.rows.specs.Rows.{Row}
 use Rattle.encoding_base.specs.Variables.{h_count, has_breaks, hb_count, var_count, x_count}
@@ -19,11 +20,11 @@ use Rattle.answers.specs.declared.reply.Reply.{Reply}
 use Rattle.answers.specs.declared.status.Status.TheVariants.{Yes, Refuted, Spent}
 use Rattle.refutation.specs.Logs.{log_of}
 use Rattle.refutation.specs.Steps.{Step, is_linear}
-use Rattle.refutation.specs.Steps.Step.{Clause}
 use Rattle.refutation.specs.Texts.{log_text}
-use Rattle.clause_search.specs.Answers.{IsSpentAt, Refutes}
+use Rattle.clause_search.specs.Answers.{IsSpentAt}
 use Rattle.clause_search.specs.News.{IsTidy}
 use Rattle.pattern_search.proofs.NewsLemmas.{news-clauses}
+use Rattle.pattern_search.proofs.LogLemmas.{refuted-clauses}
 use Rattle.resume_rows.specs.Kept.{resume_rows}
 use Rattle.resume.specs.Answers.{IsResumedSeason, RefutesResuming}
 use Rattle.resume_answer.specs.Resumed.{IsFound}
@@ -47,27 +48,11 @@ few_variables league instance =
 
 -- ---- logs can be written
 
-wider : (vars more : ℕ) (step : Step) → vars ≤ more → IsTidy vars step → IsTidy more step
-wider vars more step most tidy = record {
-  variables = tidy.variables;
-  from_one = tidy.from_one;
-  known = λ k d within. omega (arith, tidy.known k d within, most);
-  few = omega (arith, tidy.few, most);
-  named = tidy.named;
-}
-
 pub all_tidy : (league : Instance) (steps : List Step) → IsInstance league → All (IsTidy (var_count league)) steps
     → All (IsTidy 130960) steps
 all_tidy league steps instance tidy =
     All-weaker (IsTidy (var_count league)) (IsTidy 130960)
-    (λ step is_tidy. wider (var_count league) 130960 step (few_variables league instance) is_tidy) steps tidy
-
-pub refuted-clauses : (rows : List Row) (vars : ℕ) (limit : Option ℕ) (steps : List Step)
-    → Refutes rows vars limit steps → All (λ step. is_linear step ≡ false) steps
-refuted-clauses rows vars limit steps is =
-    subst (λ (ss : List Step). All (λ step. is_linear step ≡ false) ss) (sym is.last)
-    (All-push (λ step. is_linear step ≡ false) is.before (Clause [] is.hints)
-    (news-clauses rows vars is.before is.news) refl)
+    (λ step is_tidy. IsTidy-wider (var_count league) 130960 step (few_variables league instance) is_tidy) steps tidy
 
 pub spent-clauses : (rows : List Row) (vars : ℕ) (limit : Option ℕ) (steps : List Step)
     → IsSpentAt rows vars limit steps → All (λ step. is_linear step ≡ false) steps

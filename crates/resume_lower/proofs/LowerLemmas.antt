@@ -7,9 +7,9 @@ use Rattle.league.specs.Counts.{Counts, counts_of}
 use Rattle.league.specs.Instance.{Instance, IsGame}
 use Rattle.league.specs.Structure.{IsRoundRobin}
 use Rattle.league.specs.declared.game.Game.{Game}
+use Rattle.league.proofs.CountLemmas.{counts_of-permutation}
 use Rattle.resume_rows.specs.Kept.{Keeps}
 use Rattle.resume.specs.Answers.{IsResumedSeason}
-use Rattle.resume.proofs.GameLemmas.{same_counts}
 use Rattle.resume_lower.specs.Merged.{merged_games}
 use Rattle.resume_lower.proofs.MergeLemmas.{merged-fit, merged-same}
 
@@ -36,7 +36,7 @@ ordered-fit n k start end merged same fit more =
 pub ordered-keeps : (k : ℕ) (start end merged : List Game) → IsPermutation (merged_games k start end) merged
     → Keeps (counts_of start) k (counts_of merged)
 ordered-keeps k start end merged same = λ i j s slot.
-    ap (λ (m : Counts). nat_lt 0 (m i j s)) (same_counts (merged_games k start end) merged same)
+    ap (λ (m : Counts). nat_lt 0 (m i j s)) (counts_of-permutation (merged_games k start end) merged same)
     ∙ ap (λ (c : ℕ). nat_lt 0 c) (merged-same k start end i j s slot)
 
 -- ---- one season behind another

@@ -6,12 +6,13 @@ use Rattle.std.specs.List.{range_with_len}
 use Rattle.league.specs.Counts.{Counts, slot_count}
 use Rattle.league.specs.Instance.{Instance, IsInstance, is_meeting}
 use Rattle.league.specs.Meetings.{meetings_of}
+use Rattle.league.proofs.OneTermLemmas.{All-flat_map}
 use Rattle.rows.specs.Cardinality.{unit}
 use Rattle.rows.specs.declared.lit.Term.{Term}
 use Rattle.encoding_base.specs.Encoding.{rows_of}
 use Rattle.encoding_base.specs.Known.{AreKnown, IsKnown}
 use Rattle.encoding_base.specs.Variables.{var_count, x_count, x_var}
-use Rattle.encoding_base.proofs.AscendLemmas.{All-flat_map, AscendsBy-below, AscendsBy-range}
+use Rattle.encoding_base.proofs.AscendLemmas.{AscendsBy-below, AscendsBy-range}
 use Rattle.encoding_base.proofs.Places.{x_place-below, x_var-place}
 use Rattle.encoding.proofs.KnownLemmas.{rows_of-known}
 use Rattle.decoding.proofs.MeetingLists.{meeting_parts, meetings_of-fit}

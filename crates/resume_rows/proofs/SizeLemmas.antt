@@ -1,41 +1,24 @@
 -- How many terms resume rows have.
-use Rattle.std.proofs.Common.{◌≡◌, ℕ, ◌+◌, ◌-◌, ◌*◌, List, length, map, get_or, arith, ap, ◌∙◌}
-use Rattle.std.proofs.lemmas.List.{length-map}
-use Rattle.std.proofs.lemmas.List.Concat.{length-flat_map}
+use Rattle.std.proofs.Common.{◌≡◌, ℕ, ◌+◌, ◌-◌, ◌*◌, length, arith, ap, ◌∙◌}
 use Rattle.std.proofs.lemmas.List.FromFn.{length-range_with_len}
 use Rattle.std.proofs.lemmas.List.Sums.{sum_by-append}
 use Rattle.std.specs.List.{range_with_len, sum_by}
-use Rattle.league.specs.Counts.{Counts, counts_of, teams_of}
-use Rattle.league.specs.Meetings.{meetings_of, others}
+use Rattle.league.specs.Counts.{Counts, counts_of}
+use Rattle.league.specs.Meetings.{meetings_of}
 use Rattle.league.proofs.SumLemmas.{sum_by-flat_map, sum_by-map, sum_by-same}
 use Rattle.rows.specs.Rows.{Row, size_of}
 use Rattle.encoding_base.specs.Encoding.{rows_of}
-use Rattle.encoding_base.proofs.AscendLemmas.{AscendsBy-below}
-use Rattle.encoding_base.proofs.MeetingOrder.{AreTeams-all}
-use Rattle.encoding_sizes.proofs.SeasonSizes.{length-others}
-use Rattle.encoding_sizes.proofs.SizeLemmas.{sum_by-constant, sum_by-same_at}
+use Rattle.encoding_sizes.proofs.SizeLemmas.{sum_by-constant}
+use Rattle.encoding_sizes.proofs.SeasonSizes.{length-meetings_of}
 use Rattle.resume_rows.specs.Kept.{kept_row, kept_rows, kept_rows_in}
 use Rattle.resume_rows.specs.Resumable.{HaveSize}
-
-pub meeting_count : (n : ℕ) → length (meetings_of n) ≡ n * (n - 1)
-meeting_count n =
-    let of_team : ℕ → List (ℕ × ℕ) = λ i. map (λ j. (i, j)) (others i (teams_of n)) in
-    length-flat_map of_team (teams_of n)
-    ∙ sum_by-same_at (λ i. length (of_team i)) (λ i. n - 1) (teams_of n)
-    (λ k d within.
-    let i : ℕ = get_or (teams_of n) k d in
-    let pair : ℕ → ℕ × ℕ = λ j. (i, j) in
-    length-map (others i (teams_of n)) pair
-    ∙ length-others n i (AscendsBy-below (λ t. t) 0 (teams_of n) n (AreTeams-all n) k d within))
-    ∙ sum_by-constant (n - 1) (teams_of n)
-    ∙ ap (λ (k : ℕ). k * (n - 1)) (length-range_with_len 0 n)
 
 in_slot : (n : ℕ) (played : Counts) (s : ℕ) → size_of (kept_rows_in n played s) ≡ n * (n - 1)
 in_slot n played s =
     let terms : Row → ℕ = λ r. length r.terms in
     let counted : size_of (kept_rows_in n played s) ≡ sum_by (λ p. 1) (meetings_of n) =
     sum_by-map terms (kept_row n played s) (meetings_of n) in
-    omega (arith, counted, sum_by-constant 1 (meetings_of n), meeting_count n)
+    omega (arith, counted, sum_by-constant 1 (meetings_of n), length-meetings_of n)
 
 kept_size : (n : ℕ) (played : Counts) (k : ℕ) → size_of (kept_rows n played k) ≡ k * (n * (n - 1))
 kept_size n played k =

@@ -2,7 +2,7 @@
 use Rattle.std.proofs.Common.{◌≡◌, ℕ, ◌≤◌, Bool, true, false, if◌then◌else◌, List, [], ◌∷◌, ◌++◌, length, get_or}
 use Rattle.std.proofs.Common.{Option, Some, Ok, codes, ap, arith, inl, inr, refl, sym, subst, ◌∙◌}
 use Rattle.std.specs.Io.KnownBytes.{Appends}
-use Rattle.std.specs.Prelude.{◌&&◌, IfSome}
+use Rattle.std.specs.Prelude.{◌&&◌}
 use Rattle.std.specs.List.{list_all}
 use Rattle.std.proofs.lemmas.List.Elements.{All-cons, All-nil}
 use Rattle.robinx_tags.specs.Pieces.{pieces}
@@ -12,10 +12,10 @@ use Rattle.league.specs.Instance.{Instance}
 use Rattle.command_line.specs.Words.{Command}
 use Rattle.command_line.specs.Words.Command.{Explain, Part}
 use Rattle.answers.specs.Reply.{Answer}
-use Rattle.answers.specs.Stages.{IsWritten, Outcome, reads, says}
+use Rattle.answers.specs.Stages.{IsWritten, Outcome, says}
 use Rattle.answers.specs.declared.status.Status.{Status}
-use Rattle.answers.specs.declared.status.Status.TheVariants.{Yes, File, Refuted, Spent, ReadFault, WriteFault}
-use Rattle.answers.proofs.StageLemmas.{reads-known, says-known}
+use Rattle.answers.specs.declared.status.Status.TheVariants.{Yes, File, Refuted, Spent, WriteFault}
+use Rattle.answers.proofs.StageLemmas.{reads-known, reads-refuted, says-known}
 use Rattle.check_answer.specs.Check.{encodes}
 use Rattle.check_answer.proofs.AnswerLemmas.{encodes-small}
 use Rattle.explain.specs.Cases.{is_decided}
@@ -60,17 +60,6 @@ part-well_formed contents took_more failed instance members bytes league answer 
 
 -- ---- a refutation
 
-read-refuted : (which : List ℕ) (known : Option (List ℕ)) (limit : ℕ) (long failed : Type 0) (next : List ℕ → Outcome)
-    (answer : Answer) (bytes : List ℕ) → known ≡ Some bytes → answer.status ≡ Refuted
-    → reads which known limit long failed next answer → next bytes answer
-read-refuted which known limit long failed next answer bytes is ended (inl read) =
-    let same : read.0 ≡ bytes = subst (λ (k : Option (List ℕ)). IfSome k (λ file. read.0 ≡ file)) is read.1.same in
-    subst (λ (b : List ℕ). next b answer) same read.2
-read-refuted which known limit long failed next answer bytes is ended (inr (inl h)) =
-    let same : File ≡ Refuted = sym (ap (λ (a : Answer). a.status) h.2) ∙ ended in absurd (cc)
-read-refuted which known limit long failed next answer bytes is ended (inr (inr h)) =
-    let same : ReadFault ≡ Refuted = sym (ap (λ (a : Answer). a.status) h.1) ∙ ended in absurd (cc)
-
 found-refuted : (league : Instance) (conflicts : Option ℕ) (answer : Answer) → answer.status ≡ Refuted
     → IsFound league conflicts answer → IsNamed league conflicts answer
 found-refuted league conflicts answer ended found =
@@ -94,7 +83,7 @@ explained-named : (contents : List ℕ → Option (List ℕ)) (took_more : ℕ �
 explained-named contents took_more failed instance bytes conflicts league answer known says_league ended given =
     encoded-refuted league conflicts answer ended
     (says-known (codes "instance") (instance_of (pieces bytes)) league (found_of conflicts) answer says_league
-    (read-refuted (codes "instance") (contents instance) INSTANCE_LIMIT (took_more INSTANCE_LIMIT) (failed instance)
+    (reads-refuted (codes "instance") (contents instance) INSTANCE_LIMIT (took_more INSTANCE_LIMIT) (failed instance)
     (said_of conflicts) answer bytes known ended given))
 
 -- ---- `minimal yes`

@@ -1,5 +1,5 @@
 -- What follows from a run of `patterns`.
-use Rattle.std.proofs.Common.{◌≡◌, ℕ, List, Option, Some, Ok, inl, inr, sym, subst, ◌∙◌}
+use Rattle.std.proofs.Common.{◌≡◌, ℕ, List, Option, Some, Ok, inl, inr, subst}
 use Rattle.robinx_tags.specs.Pieces.{pieces}
 use Rattle.robinx_form.specs.InstanceFile.{instance_of}
 use Rattle.league.specs.Instance.{Instance}
@@ -8,8 +8,9 @@ use Rattle.command_line.specs.Words.Command.{Patterns}
 use Rattle.answers.specs.Reply.{Answer}
 use Rattle.answers.specs.Stages.{IsWritten}
 use Rattle.answers.specs.declared.status.Status.{Status}
-use Rattle.answers.specs.declared.status.Status.TheVariants.{Refuted, WriteFault}
+use Rattle.answers.specs.declared.status.Status.TheVariants.{Refuted}
 use Rattle.season_check.specs.Excluded.{NoneAccepted}
+use Rattle.robin_run.proofs.SolveLemmas.{status-refuted}
 use Rattle.patterns_answer.specs.Patterns.{AreFound, IsPatterned, patterned}
 use Rattle.patterns_answer.proofs.AnswerLemmas.{patterned-refuted, patterned-well_formed}
 use Rattle.solve_answer.specs.Solve.{IsWellFormedInstance}
@@ -36,12 +37,6 @@ run-patterned words contents took_more failed instance conflicts league answer e
     written-whole league conflicts answer ended old new sink_failed
     (patterned-well_formed contents took_more failed instance good.bytes conflicts league answer good.known good.within
     good.says_league good.small good.works given) works written
-
-status-refuted : (answer : Answer) (ended : Status) (old new : Option (List ℕ)) (sink_failed : Type 0)
-    → ended ≡ Refuted → IsWritten answer ended old new sink_failed → answer.status ≡ Refuted
-status-refuted answer ended old new sink_failed refuted (inl h) = sym h.0 ∙ refuted
-status-refuted answer ended old new sink_failed refuted (inr h) =
-    let same : WriteFault ≡ Refuted = sym h.0 ∙ refuted in cc
 
 -- a run that ends with a refutation: the league of the instance accepts nothing
 pub run-patternless : (words : Option Command) (contents : List ℕ → Option (List ℕ)) (took_more : ℕ → Type 0)

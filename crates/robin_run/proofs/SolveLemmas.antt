@@ -27,7 +27,7 @@ run-solved words contents took_more failed instance budgets league answer ended 
     let given : solved contents took_more failed instance budgets answer = subst (λ (w : Option Command). IsAnswer w contents took_more failed answer) is answered in
     written-whole league budgets answer ended old new sink_failed (solved-well_formed contents took_more failed instance budgets league answer good given) works written
 
-status-refuted : (answer : Answer) (ended : Status) (old new : Option (List ℕ)) (sink_failed : Type 0) → ended ≡ Refuted → IsWritten answer ended old new sink_failed → answer.status ≡ Refuted
+pub status-refuted : (answer : Answer) (ended : Status) (old new : Option (List ℕ)) (sink_failed : Type 0) → ended ≡ Refuted → IsWritten answer ended old new sink_failed → answer.status ≡ Refuted
 status-refuted answer ended old new sink_failed refuted (inl h) = sym h.0 ∙ refuted
 status-refuted answer ended old new sink_failed refuted (inr h) = let same : WriteFault ≡ Refuted = sym h.0 ∙ refuted in cc
 

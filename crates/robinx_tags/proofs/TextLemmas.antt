@@ -39,7 +39,7 @@ behind text bytes r = option_map (λ at. drop (at + length text) bytes) r
 after_text-here : (text : List ℕ) (b : ℕ) (bytes : List ℕ) → begins text (b ∷ bytes) ≡ true → after_text text (b ∷ bytes) ≡ Some (drop (length text) (b ∷ bytes))
 after_text-here text b bytes here = rw (here, after_text) refl
 
-after_text-later : (text : List ℕ) (b : ℕ) (bytes : List ℕ) → begins text (b ∷ bytes) ≡ false → after_text text (b ∷ bytes) ≡ after_text text bytes
+pub after_text-later : (text : List ℕ) (b : ℕ) (bytes : List ℕ) → begins text (b ∷ bytes) ≡ false → after_text text (b ∷ bytes) ≡ after_text text bytes
 after_text-later text b bytes not_here = rw (not_here, after_text) refl
 
 never_here : (text : List ℕ) (b : ℕ) (bytes : List ℕ) → (OccursAt (b ∷ bytes) text 0 → ⊥) → begins text (b ∷ bytes) ≡ false

@@ -8,6 +8,7 @@ use Rattle.std.proofs.lemmas.Bool.Decides.{nat_tests}
 use Rattle.std.proofs.lemmas.List.Folds.{list_all-append}
 use Rattle.robinx_tags.specs.Pieces.{Found, after_text, begins, piece_at}
 use Rattle.robinx_tags.specs.declared.fault.FormKind.TheVariants.{Truncated}
+use Rattle.robinx_tags.proofs.TextLemmas.{after_text-later}
 use Rattle.robinx_form.specs.Walk.{Meaning, Position}
 use Rattle.robinx_write.proofs.TagLemmas.{and_parts}
 use Rattle.robinx_write.proofs.NumberTexts.{decimal-all}
@@ -26,16 +27,13 @@ comment_line body = codes "<!--" ++ (body ++ codes "-->\n")
 not_here : (b : ℕ) (bytes : List ℕ) → (45 == b) ≡ false → begins (codes "-->") (b ∷ bytes) ≡ false
 not_here b bytes other = rw other refl
 
-later : (text : List ℕ) (b : ℕ) (bytes : List ℕ) → begins text (b ∷ bytes) ≡ false → after_text text (b ∷ bytes) ≡ after_text text bytes
-later text b bytes is = rw (is, after_text) refl
-
 after_text-comment : (body rest : List ℕ) → is_plain_comment body ≡ true
     → after_text (codes "-->") (body ++ (45 ∷ 45 ∷ 62 ∷ rest)) ≡ Some rest
 after_text-comment [] rest plain = refl
 after_text-comment (b ∷ body) rest plain =
     let parts = and_parts (not (45 == b)) (is_plain_comment body) plain in
     let others : List ℕ = body ++ (45 ∷ 45 ∷ 62 ∷ rest) in
-    later (codes "-->") b others (not_here b others (not-true (45 == b) parts.0)) ∙ after_text-comment body rest parts.1
+    after_text-later (codes "-->") b others (not_here b others (not-true (45 == b) parts.0)) ∙ after_text-comment body rest parts.1
 
 abbrev passed : Option (List ℕ) → Found
 passed after = elim after [ None ↦ Err Truncated | Some rest ↦ Ok (None, rest) ]

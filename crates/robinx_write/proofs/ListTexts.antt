@@ -19,6 +19,7 @@ use Rattle.league.specs.Instance.{are_teams, are_slots, is_meeting, are_meetings
 use Rattle.league.proofs.AscendingLemmas.{IsAscending-ascends, first_true, second_true}
 use Rattle.league.proofs.FitLemmas.{are_teams-below, are_teams-ascending, are_slots-below, are_slots-ascending}
 use Rattle.robinx_tags.specs.declared.fault.FormKind.TheVariants.{UnknownTeam, UnknownSlot}
+use Rattle.league.proofs.SetLemmas.{filter-all, filter-none}
 use Rattle.robinx_form.specs.Gathered.{with_items, gathered}
 use Rattle.robinx_form.specs.Values.{Reading, items_of, onto_item, each, team, slot, teams, slots, meeting, meetings}
 use Rattle.robinx_form.proofs.KnownLemmas.{gathered_teams, gathered_slots, gathered_meetings}
@@ -27,14 +28,6 @@ use Rattle.robinx_write.proofs.TagLemmas.{is_plain_value, and_parts, position-st
 use Rattle.robinx_write.proofs.NumberTexts.{decimal-all, decimal-plain, id-decimal}
 
 -- ---- sets that are read in order
-
-filter-all : {X : Type 0} (p : X → Bool) (xs : List X) → All (λ y. p y ≡ true) xs → filter p xs ≡ xs
-filter-all p [] pass = refl
-filter-all p (x ∷ xs) pass = rw (All-head (λ y. p y ≡ true) x xs pass) (ap (λ ys. x ∷ ys) (filter-all p xs (All-tail (λ y. p y ≡ true) x xs pass)))
-
-filter-none : {X : Type 0} (p : X → Bool) (xs : List X) → All (λ y. p y ≡ false) xs → filter p xs ≡ []
-filter-none p [] fail = refl
-filter-none p (x ∷ xs) fail = rw (All-head (λ y. p y ≡ false) x xs fail) (filter-none p xs (All-tail (λ y. p y ≡ false) x xs fail))
 
 -- the first comes before each later one, and these are in order
 first_below : {X : Type 0} (R : X → X → Type 0) (x : X) (xs : List X) → AllPairs R (x ∷ xs) → All (R x) xs

@@ -1,6 +1,8 @@
 -- What terms count, variable by variable:
 pub mod CountLemmas
 pub mod WideLemmas
+-- Literals that are the same:
+pub mod LiteralLemmas
 -- How a table keeps what literals count:
 pub mod TableLemmas
 -- The row of a sum, variable by variable:

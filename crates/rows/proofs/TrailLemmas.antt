@@ -60,10 +60,10 @@ set_true-taken : (values : ℕ → Value) (l : Literal) (v : ℕ) → is_free (v
 set_true-taken values l v taken = cond-and_false (v == l.var) (is_free (values v)) (as_value l.positive) (values v) taken
 
 -- another variable keeps its value
-set_true-other : (values : ℕ → Value) (l : Literal) (v : ℕ) → v ≢ l.var → set_true values l v ≡ values v
+pub set_true-other : (values : ℕ → Value) (l : Literal) (v : ℕ) → v ≢ l.var → set_true values l v ≡ values v
 set_true-other values l v other = ap (λ (b : Bool). cond (b && is_free (values v)) (as_value l.positive) (values v)) (ne_eqb v l.var other)
 
-set_true-same : (values : ℕ → Value) (l : Literal) → is_free (values l.var) ≡ true → set_true values l l.var ≡ as_value l.positive
+pub set_true-same : (values : ℕ → Value) (l : Literal) → is_free (values l.var) ≡ true → set_true values l l.var ≡ as_value l.positive
 set_true-same values l free =
     ap (λ (b : Bool). cond (b && is_free (values l.var)) (as_value l.positive) (values l.var)) (eq-eqb l.var l.var refl)
     ∙ ap (λ (f : Bool). cond f (as_value l.positive) (values l.var)) free

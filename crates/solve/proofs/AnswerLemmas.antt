@@ -1,49 +1,33 @@
 -- What the search's answers say of a league.
-use Rattle.std.proofs.Common.{◌≡◌, ℕ, ◌<◌, ◌≤◌, ◌^◌, Bool, true, false, not, List, [], ◌∷◌, ◌++◌, get_or}
+use Rattle.std.proofs.Common.{◌≡◌, ℕ, ◌<◌, ◌≤◌, ◌^◌, Bool, true, false, not, List, [], ◌∷◌, get_or}
 use Rattle.std.proofs.Common.{zero, suc, Option, Some, refl, arith, ap, sym, subst, ◌∙◌}
 use Rattle.std.specs.Prelude.{IsTrue, slice_get}
 use Rattle.std.specs.List.{All}
 use Rattle.std.specs.List.Sorted.{IsPermutation}
-use Rattle.std.proofs.lemmas.List.Elements.{All-cons, All-head, All-nil, All-push, All-tail}
+use Rattle.std.proofs.lemmas.List.Elements.{All-head, All-push, All-tail}
 use Rattle.league.specs.Accepted.{IsAccepted}
 use Rattle.league.specs.Counts.{Counts, counts_of}
 use Rattle.league.specs.Instance.{Instance, IsInstance}
 use Rattle.league.specs.declared.game.Game.{Game}
-use Rattle.rows.specs.Rows.{Row}
-use Rattle.rows.specs.Partials.{IsEmpowering}
+use Rattle.league.proofs.CountLemmas.{counts_of-permutation}
 use Rattle.circle_method.specs.Circle.{double_games}
 use Rattle.encoding_base.specs.Encoding.{rows_of}
 use Rattle.encoding_base.specs.Variables.{var_count, x_count}
 use Rattle.refutation.specs.Steps.{Step, hints_of, is_linear}
-use Rattle.refutation.specs.Steps.Step.{Clause, Linear}
+use Rattle.refutation.specs.Steps.Step.{Clause}
 use Rattle.refutation.specs.Texts.{version_of}
 use Rattle.season_check.proofs.SeasonLemmas.{accepted_logs_exclude}
 use Rattle.clause_search.specs.Answers.{IsSpentAt, Refutes}
-use Rattle.clause_search.specs.News.{AreNews, IsNews, IsTidy, row_of}
+use Rattle.clause_search.specs.News.{IsTidy}
 use Rattle.log_lines.proofs.LineLemmas.{step_named, step_short}
 use Rattle.pattern_search.specs.Answers.{IsPatternAnswer}
 use Rattle.pattern_search.specs.PatternLogs.{RefutesPatterns}
 use Rattle.pattern_search.specs.PatternRows.{pattern_rows}
 use Rattle.pattern_search.specs.declared.found.PatternFound.{PatternFound}
-use Rattle.pattern_search.proofs.NewsLemmas.{pattern_news-clauses}
+use Rattle.pattern_search.proofs.NewsLemmas.{news-clauses, pattern_news-clauses}
 use Rattle.solve.specs.Solutions.{IsSpentOn, IsWritable, RefutesLeague}
-use Rattle.solve.proofs.GameLemmas.{same_counts}
 
 -- ---- steps that are news are no sums
-
-none_of_nothing : (rows : List Row) → IsEmpowering rows [] → ⊥
-none_of_nothing rows (values, l, quiet, among, free, others) = omega (arith, among.1)
-
-not_linear : (rows : List Row) (vars : ℕ) (step : Step) → IsNews rows vars step → is_linear step ≡ false
-not_linear rows vars (Clause clause hints) news = refl
-not_linear rows vars (Linear parts divisor) news = absurd (none_of_nothing rows news.empowering)
-
-none_linear : (rows : List Row) (vars : ℕ) (steps : List Step) → AreNews rows vars steps
-    → All (λ step. is_linear step ≡ false) steps
-none_linear rows vars [] news = All-nil (λ step. is_linear step ≡ false)
-none_linear rows vars (step ∷ steps) news =
-    All-cons (λ step. is_linear step ≡ false) step steps (not_linear rows vars step news.0)
-    (none_linear (rows ++ row_of step ∷ []) vars steps news.1)
 
 -- ---- logs
 
@@ -64,7 +48,7 @@ refuted league limit steps instance most is small =
     let clauses : All (λ step. is_linear step ≡ false) steps =
     subst (λ (ss : List Step). All (λ step. is_linear step ≡ false) ss) (sym is.last)
     (All-push (λ step. is_linear step ≡ false) is.before (Clause [] is.hints)
-    (none_linear (rows_of league) (var_count league) is.before is.news) refl) in
+    (news-clauses (rows_of league) (var_count league) is.before is.news) refl) in
     record {
       accepted = is.accepted;
       none = accepted_logs_exclude league steps instance is.accepted;
@@ -80,7 +64,7 @@ spent league limit steps most is small = record {
   few = is.few;
   tidy = is.tidy;
   writable = writable (var_count league) steps most is.tidy
-      (none_linear (rows_of league) (var_count league) steps is.spent.news) small;
+      (news-clauses (rows_of league) (var_count league) steps is.spent.news) small;
 }
 
 -- a log that refutes the pattern rows
@@ -119,7 +103,7 @@ All-found {X} P (y ∷ xs) (suc k) x all is = All-found P xs k x (All-tail P y x
 pub same_acceptance : (league : Instance) (games more : List Game) → IsPermutation games more
     → IsAccepted league (counts_of games) → IsAccepted league (counts_of more)
 same_acceptance league games more is accepted =
-    subst (λ (m : Counts). IsAccepted league m) (sym (same_counts games more is)) accepted
+    subst (λ (m : Counts). IsAccepted league m) (sym (counts_of-permutation games more is)) accepted
 
 -- ---- the schedule of the circle method
 

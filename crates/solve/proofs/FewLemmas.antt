@@ -15,7 +15,7 @@ use Rattle.league.proofs.CountLemmas.{home_games-none, home_games-one_more, sum_
 use Rattle.league.proofs.RangeLemmas.{one_if}
 use Rattle.league.proofs.RoundRobinLemmas.{plays_once}
 use Rattle.league.proofs.SumLemmas.{sum_by-same}
-use Rattle.circle_method.proofs.OneTermLemmas.{All-range}
+use Rattle.league.proofs.OneTermLemmas.{All-range}
 
 -- the home games of all teams in all slots
 abbrev team_games : ℕ → Counts → ℕ → ℕ

@@ -1,5 +1,5 @@
--- Games that are decoded from accepted values, and games that change places:
-pub mod GameLemmas
+-- The games of the circle method are few:
+mod CircleLemmas
 -- How many games a double round robin has:
 pub mod FewLemmas
 -- What a descent makes of an accepted schedule:

@@ -2,9 +2,8 @@
 use Rattle.std.proofs.Common.{◌≡◌, ◌↔◌, ℕ, ◌≤◌, Bool, true, false, List, [], ◌∷◌, length, reverse, inl, inr, arith, ap, refl, sym, subst, ◌∙◌}
 use Rattle.std.specs.Prelude.{IsTrue}
 use Rattle.std.specs.List.{All}
-use Rattle.std.proofs.Math.Path.{fun_ext}
 use Rattle.std.proofs.lemmas.Bool.{cases_Bool}
-use Rattle.league.specs.Accepted.{IsAccepted, MeetsHard, objective}
+use Rattle.league.specs.Accepted.{IsAccepted, objective}
 use Rattle.league.specs.Counts.{Counts, counts_of}
 use Rattle.league.specs.Instance.{Instance, IsGame}
 use Rattle.league.specs.Order.{IsInOrder}
@@ -13,12 +12,12 @@ use Rattle.league.specs.declared.game.Game.{Game}
 use Rattle.moves.specs.Moves.{moved}
 use Rattle.moves.specs.declared.swap.Swap.{Swap}
 use Rattle.rule_core.specs.declared.rule.Entries.{Ghosts}
-use Rattle.tally.specs.League.{AreRulesOf, hard_sum}
+use Rattle.tally.specs.League.{AreRulesOf}
 use Rattle.tally.specs.Tallies.{objective_on}
 use Rattle.tally.specs.declared.weighted.Weighted.{Weighted}
-use Rattle.tally.proofs.LeagueLemmas.{hard_sum-met, infeasibility-league, objective-league}
+use Rattle.tally.proofs.LeagueLemmas.{objective-league}
 use Rattle.descent.specs.Descended.{Descended}
-use Rattle.descent.specs.Score.{is_lower, score_on}
+use Rattle.descent.specs.Score.{is_lower}
 use Rattle.descent.specs.Settled.{IsSettled}
 use Rattle.descent.specs.Trail.{IsClimb, IsTrail}
 use Rattle.descent.specs.declared.score.Score.{Score}
@@ -26,6 +25,7 @@ use Rattle.descent.proofs.BackLaw.{trails-climb_back}
 use Rattle.descent.proofs.ScoreLemmas.{lower-objective}
 use Rattle.descent.proofs.TrailLemmas.{trails-stay_feasible}
 use Rattle.solve.specs.Solutions.{IsDescent, IsSchedule, league_score}
+use Rattle.walk.proofs.WalkLemmas.{met, scores-are}
 
 -- what a descent says of its counts at the start and at the end
 pub record Descends (n : ℕ) (phased : Bool) (score : Counts → Score) (start end : Counts) (moves : ℕ)
@@ -52,22 +52,11 @@ Descends-same n k phased said score other start begin end moves descent same_n s
 abbrev score_from : ℕ → ℕ → Score
 score_from a b = record { infeasibility = a; objective = b }
 
--- the score by the weighted rules of a league is that of the league
-pub scores-are : {R : Type 0} (E : Ghosts R) (league : Instance) (weights : List (Weighted R))
-    → AreRulesOf E 1 league weights → score_on E weights ≡ league_score league
-scores-are {R} E league weights are =
-    fun_ext (λ m.
-    ap (λ (a : ℕ). score_from a (objective_on E m weights)) (infeasibility-league E 1 league weights m are)
-    ∙ ap (λ (b : ℕ). score_from (hard_sum 1 league m) b) (objective-league E 1 league weights m are))
-
 -- and so is the objective
 pub cost-is : {R : Type 0} (E : Ghosts R) (league : Instance) (weights now : List (Weighted R)) (m : Counts)
     → AreRulesOf E 1 league weights → now ≡ weights → objective_on E m now ≡ objective league m
 cost-is {R} E league weights now m are same =
     ap (λ (w : List (Weighted R)). objective_on E m w) same ∙ objective-league E 1 league weights m are
-
-met : (league : Instance) (m : Counts) → (hard_sum 1 league m ≡ 0) ↔ MeetsHard league m
-met league m = hard_sum-met 1 league m (omega arith)
 
 -- the end of a descent from accepted counts is accepted
 end-accepted : (league : Instance) (start end : Counts) (moves : ℕ) (descent : Descended)

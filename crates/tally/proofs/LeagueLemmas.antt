@@ -3,7 +3,6 @@ use Rattle.std.proofs.Common.{◌≡◌, ◌↔◌, ℕ, ◌*◌, ◌<◌, ◌�
 use Rattle.std.proofs.lemmas.List.Elements.{All-cons, All-nil}
 use Rattle.std.proofs.lemmas.List.Sums.{sum_by-cons}
 use Rattle.std.proofs.Math.Nat.{mul-le-mul}
-use Rattle.std.proofs.Math.Path.{fun_ext}
 use Rattle.std.specs.List.{All, AllZip, filter, sum, sum_by}
 use Rattle.league.specs.Accepted.{MeetsHard, hard_of, infeasibility, objective}
 use Rattle.league.specs.Counts.{Counts}
@@ -12,6 +11,7 @@ use Rattle.league.specs.Instance.{Instance}
 use Rattle.league.specs.declared.class.Class.{Class}
 use Rattle.league.specs.declared.class.Constraint.{Constraint}
 use Rattle.league.proofs.AcceptedLemmas.{All-from_sum_zero, MeetsHard-from_sum, sum-from_MeetsHard, sum_zero-from_All}
+use Rattle.league.proofs.SumLemmas.{sum_by-same}
 use Rattle.rule_core.specs.Rule.{IsRuleOf}
 use Rattle.rule_core.specs.declared.rule.Entries.{Ghosts}
 use Rattle.deviation.proofs.EntryLemmas.{vector-by_entries}
@@ -80,9 +80,6 @@ soft_zip {R} E n least m (c ∷ constraints) (w ∷ weights) all =
 -- and so for the soft ones
 pub objective-league : {R : Type 0} (E : Ghosts R) (least : ℕ) (league : Instance) (weights : List (Weighted R)) (m : Counts) → AreRulesOf E least league weights → objective_on E m weights ≡ objective league m
 objective-league E least league weights m are = soft_zip E league.n least m league.constraints weights are
-
-sum_by-same : {X : Type 0} (f g : X → ℕ) → ((x : X) → f x ≡ g x) → (xs : List X) → sum_by f xs ≡ sum_by g xs
-sum_by-same {X} f g same xs = ap (λ (h : X → ℕ). sum_by h xs) (fun_ext same)
 
 max_none : (x : ℕ) → max x 0 ≡ x
 max_none x = omega arith

@@ -1,15 +1,16 @@
 -- Why a count refutes: where the teams need more than there is, the sum of its rows is in conflict.
-use Rattle.std.proofs.Common.{◌≡◌, ℕ, ◌+◌, ◌*◌, ◌<◌, ◌≤◌, Bool, true, false, not, ◌&&◌, ◌==◌, nat_lt, cond, List, []}
-use Rattle.std.proofs.Common.{◌∷◌, ◌++◌}
-use Rattle.std.proofs.Common.{length, map, refl, arith, ap, sym, ◌∙◌}
+use Rattle.std.proofs.Common.{◌≡◌, ℕ, ◌+◌, ◌*◌, ◌<◌, ◌≤◌, Bool, true, false, not, ◌&&◌, ◌==◌, nat_lt, cond, List}
+use Rattle.std.proofs.Common.{◌++◌}
+use Rattle.std.proofs.Common.{length, map, refl, arith, ap, ◌∙◌}
 use Rattle.std.specs.Bool.{beq}
 use Rattle.std.specs.List.{filter, sum_by}
 use Rattle.std.proofs.Math.Nat.{mul-le-mul}
 use Rattle.std.proofs.lemmas.Bool.{ltb-false}
 use Rattle.std.proofs.lemmas.List.{length-map}
 use Rattle.std.proofs.lemmas.List.Concat.{flat_map-append}
-use Rattle.std.proofs.lemmas.List.Sums.{count_by-le-length, length-filter, sum_by-append, sum_by-cons, sum_by-le-sum_by}
-use Rattle.league.proofs.SumLemmas.{sum_by-add, sum_by-filter, sum_by-flat_map, sum_by-map, sum_by-same}
+use Rattle.std.proofs.lemmas.List.Sums.{count_by-le-length, length-filter, sum_by-append, sum_by-le-sum_by}
+use Rattle.league.proofs.SumLemmas.{sum_by-filter, sum_by-flat_map, sum_by-map, sum_by-same}
+use Rattle.league.proofs.OneTermLemmas.{sum_by-swap}
 use Rattle.rows.specs.Cardinality.{at_least, unit}
 use Rattle.rows.specs.Literals.{Literal, negate}
 use Rattle.rows.specs.Rows.{Row}
@@ -21,25 +22,6 @@ use Rattle.venue_counts.proofs.AddedLemmas.{added-count, added-degree, all_added
 use Rattle.venue_counts.proofs.CancelLaws.{Outnumber, larger-covered, outcounted}
 
 -- ---- sums of sums
-
--- in either order
-sum_by-exchanged : {X Y : Type 0} (f : X → Y → ℕ) (xs : List X) (ys : List Y)
-    → sum_by (λ x. sum_by (f x) ys) xs ≡ sum_by (λ y. sum_by (λ x. f x y) xs) ys
-sum_by-exchanged f [] ys = sym (none ys) where
-  none : {Y : Type 0} (ys : List Y) → sum_by (λ y. 0) ys ≡ 0
-  none [] = refl
-  none (y ∷ ys) = omega (arith, sum_by-cons (λ z. 0) y ys, none ys)
-sum_by-exchanged f (x ∷ xs) ys =
-    let split : sum_by (λ y. sum_by (λ z. f z y) (x ∷ xs)) ys ≡ sum_by (λ y. f x y + sum_by (λ z. f z y) xs) ys =
-    sum_by-same (λ y. sum_by (λ z. f z y) (x ∷ xs)) (λ y. f x y + sum_by (λ z. f z y) xs)
-    (λ y. sum_by-cons (λ z. f z y) x xs) ys in
-    omega (
-      arith,
-      split,
-      sum_by-cons (λ z. sum_by (f z) ys) x xs,
-      sum_by-add (f x) (λ y. sum_by (λ z. f z y) xs) ys,
-      sum_by-exchanged f xs ys,
-    )
 
 part-le : (b : Bool) (k : ℕ) → cond b k 0 ≤ k
 part-le true k = omega arith
@@ -148,7 +130,7 @@ module _ (lit : ℕ → ℕ → Literal) (half : ℕ) (need : ℕ → ℕ) (team
         count-teams l,
         count-slots (negate l),
         filtered-le (λ i. sum_by (λ s. at (negate l) i s) slots) (λ i. nat_lt 0 (need i)) teams,
-        sum_by-exchanged (λ i s. at (negate l) i s) teams slots,
+        sum_by-swap (λ i s. at (negate l) i s) teams slots,
       )
 
   weight-slots : weight_of (terms_of slots_rows) ≡ length slots * length teams

@@ -1,28 +1,12 @@
 -- What is in a list that is mapped, joined or filtered.
-use Rattle.std.proofs.Common.{◌≡◌, ℕ, zero, suc, Bool, true, ◌==◌, List, [], ◌∷◌, get_or, map}
+use Rattle.std.proofs.Common.{◌≡◌, ℕ, zero, suc, Bool, true, ◌==◌, List, [], ◌∷◌, get_or}
 use Rattle.std.proofs.Common.{inl, inr, arith, ap, sym, subst, ◌∙◌}
 use Rattle.std.specs.Prelude.{Contains}
-use Rattle.std.specs.List.{filter, flat_map, list_any}
+use Rattle.std.specs.List.{filter, list_any}
 use Rattle.std.proofs.lemmas.Bool.{cond-true, cond_both, eqb-true, or_cases, or_left, or_right}
-use Rattle.std.proofs.lemmas.List.Elements.{Contains-append_left, Contains-append_right}
 use Rattle.std.proofs.lemmas.List.Folds.{Any-from_list_any}
 use Rattle.league.specs.Sets.{is_in}
-
-pub Contains-flat_map : {X Y : Type 0} (f : X → List Y) (xs : List X) (x : X) (y : Y) → Contains xs x
-    → Contains (f x) y → Contains (flat_map f xs) y
-Contains-flat_map f [] x y (k, within, is) there = absurd (omega (arith, within))
-Contains-flat_map {X} {Y} f (first ∷ xs) x y (zero, within, is) there =
-    Contains-append_left (f first) (flat_map f xs) y (subst (λ (z : X). Contains (f z) y) (sym is) there)
-Contains-flat_map f (first ∷ xs) x y (suc k, within, is) there =
-    Contains-append_right (f first) (flat_map f xs) y
-    (Contains-flat_map f xs x y (k, omega (arith, within), is) there)
-
-pub Contains-map : {X Y : Type 0} (f : X → Y) (xs : List X) (x : X) → Contains xs x → Contains (map f xs) (f x)
-Contains-map f [] x (k, within, is) = absurd (omega (arith, within))
-Contains-map f (first ∷ xs) x (zero, within, is) = (zero, omega arith, ap f is)
-Contains-map f (first ∷ xs) x (suc k, within, is) =
-    let rest = Contains-map f xs x (k, omega (arith, within), is) in
-    (suc rest.0, omega (arith, rest.1), rest.2)
+use Rattle.league.proofs.ListLemmas.{Contains-flat_map, Contains-map}
 
 pub Contains-filter : {X : Type 0} (p : X → Bool) (xs : List X) (x : X) → Contains xs x → p x ≡ true
     → Contains (filter p xs) x

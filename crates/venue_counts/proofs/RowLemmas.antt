@@ -17,6 +17,7 @@ use Rattle.league.specs.declared.class.Class.TheVariants.{Ca1, Ca2, Ca3, Ca4, Ga
 use Rattle.league.specs.declared.class.Constraint.{Constraint}
 use Rattle.league.specs.declared.class.Side.{Side}
 use Rattle.league.specs.declared.class.Side.TheVariants.{H, A, Both}
+use Rattle.league.proofs.ListLemmas.{Contains-flat_map, Contains-map}
 use Rattle.rows.specs.Cardinality.{at_least, at_most, exactly, unit}
 use Rattle.rows.specs.Literals.{Literal, negate, no, yes}
 use Rattle.rows.specs.Rows.{Row}
@@ -30,7 +31,7 @@ use Rattle.venue_counts.specs.CountLogs.{slot_row, team_row, venue_row}
 use Rattle.venue_counts.specs.Needs.{bounds_at, counts_home, need_by, need_of, own_need}
 use Rattle.venue_counts.specs.declared.limit.Limit.{Limit}
 use Rattle.venue_counts.specs.declared.limit.Limit.TheVariants.{Most, Least}
-use Rattle.venue_counts.proofs.MemberLemmas.{Contains-filter, Contains-flat_map, Contains-from_is_in, Contains-map}
+use Rattle.venue_counts.proofs.MemberLemmas.{Contains-filter, Contains-from_is_in}
 use Rattle.venue_counts.proofs.NeedLemmas.{folded-attained, need_by-others, need_by-own, need_of-folded, those-same}
 
 abbrev row : List Literal → ℕ → Row

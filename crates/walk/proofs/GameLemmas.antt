@@ -10,8 +10,8 @@ use Rattle.league.proofs.RangeLemmas.{one_if}
 use Rattle.moves.specs.Places.{IsRound}
 use Rattle.moves.specs.Round.{Round, entry, round_counts}
 use Rattle.moves.proofs.RoundLemmas.{IsWithin, IsWithin-of}
-use Rattle.descent.proofs.EditLemmas.{same_counts}
-use Rattle.descent.proofs.SeasonLemmas.{IsBelow, IsWithAways, IsWithMeeting, IsWithTeam}
+use Rattle.cells.proofs.TableLemmas.{same_counts}
+use Rattle.descent.proofs.SeasonLemmas.{IsBelow, IsWithAways, IsWithMeeting, IsWithTeam, all_aways, all_homes, no_away_more}
 
 -- ---- a board has no games outside of its league, and none of a team against itself
 
@@ -46,10 +46,6 @@ game-more m games g at i j s =
     (one g.home.0 g.away.0 i j s g.slot.0 (m i j s)
     (λ home away. ap (λ (a : ℕ). m a j s) home ∙ ap (λ (b : ℕ). m g.home.0 b s) away ∙ at s))
 
-no_away_more : (h w i j x : ℕ) → (i ≡ h → j ≡ w → x ≡ 0)
-    → (if (i == h) && nat_lt j w then x else 0) ≡ (if (i == h) && nat_lt j (w + 1) then x else 0)
-no_away_more h w i j x none = grind (arith, nat_tests)
-
 pub aways-itself : (start m : Counts) (home away : ℕ) (games : List Game) → away ≡ home
     → ((i s : ℕ) → m i i s ≡ 0) → IsWithAways start m home away games → IsWithAways start m home (away + 1) games
 aways-itself start m home away games same none so_far i j s =
@@ -60,9 +56,6 @@ aways-itself start m home away games same none so_far i j s =
           (λ is_home is_away. ap (λ (k : ℕ). m k j s) (is_home ∙ sym same ∙ sym is_away) ∙ none j s),
     )
 
-all_aways : (h w i j x : ℕ) → (w ≤ j → x ≡ 0) → (if (i == h) && nat_lt j w then x else 0) ≡ (if i == h then x else 0)
-all_aways h w i j x past = grind (arith, nat_tests)
-
 pub aways-done : (start m : Counts) (n home away : ℕ) (games : List Game) → IsWithin n m → n ≤ away
     → IsWithAways start m home away games → IsWithTeam start m home games
 aways-done start m n home away games inside past so_far i j s =
@@ -71,9 +64,6 @@ aways-done start m n home away games inside past so_far i j s =
       so_far i j s,
       all_aways home away i j (m i j s) (λ more. inside.away i j s (omega (arith, past, more))),
     )
-
-all_homes : (h i x : ℕ) → (h ≤ i → x ≡ 0) → (if nat_lt i h then x else 0) ≡ x
-all_homes h i x past = grind (arith, nat_tests)
 
 pub below-done : (m : Counts) (n home : ℕ) (games : List Game) → IsWithin n m → n ≤ home → IsBelow m home games
     → counts_of games ≡ m

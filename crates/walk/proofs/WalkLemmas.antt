@@ -1,13 +1,14 @@
 -- What a walk knows, said at equal numbers, rules and counts; and scores compared.
-use Rattle.std.proofs.Common.{◌≡◌, ◌↔◌, ℕ, Bool, true, false, ◌&&◌, ◌||◌, ◌==◌, nat_lt, Option, Some, List, refl, arith, ap, sym, subst, ◌∙◌}
+use Rattle.std.proofs.Common.{◌≡◌, ◌↔◌, ℕ, Bool, false, ◌&&◌, ◌||◌, ◌==◌, nat_lt, Option, Some, List, refl, arith, ap, sym, subst, ◌∙◌}
 use Rattle.std.specs.Prelude.{IfSome}
 use Rattle.std.proofs.Math.Path.{fun_ext}
 use Rattle.std.proofs.lemmas.Bool.Decides.{nat_tests}
 use Rattle.league.specs.Accepted.{IsAccepted, MeetsHard, objective}
 use Rattle.league.specs.Counts.{Counts, counts_of}
 use Rattle.league.specs.Instance.{Instance}
-use Rattle.league.specs.Structure.{IsRoundRobin, phases_wrong}
+use Rattle.league.specs.Structure.{IsRoundRobin}
 use Rattle.league.specs.declared.game.Game.{Game}
+use Rattle.league.proofs.RoundRobinLemmas.{any_phases}
 use Rattle.rule_core.specs.declared.rule.Entries.{Ghosts}
 use Rattle.tally.specs.League.{AreRulesOf, hard_sum}
 use Rattle.tally.specs.Tallies.{objective_on}
@@ -74,7 +75,7 @@ scores-are {R} E league weights are =
 
 -- ---- accepted games
 
-met : (league : Instance) (m : Counts) → (hard_sum 1 league m ≡ 0) ↔ MeetsHard league m
+pub met : (league : Instance) (m : Counts) → (hard_sum 1 league m ≡ 0) ↔ MeetsHard league m
 met league m = hard_sum-met 1 league m (omega arith)
 
 -- nothing is infeasible exactly in an accepted schedule
@@ -100,14 +101,6 @@ accepted-stays league best m is no_worse accepted =
     (feasible-is league best is).0
     (none best.score.infeasibility best.score.objective (hard_sum 1 league m) (objective league m) no_worse
     ((met league m).1 accepted.hard))
-
--- a double round robin in two phases is one of any league of its teams
-pub any_phases : (n : ℕ) (phased : Bool) (m : Counts) → IsRoundRobin n true m → IsRoundRobin n phased m
-any_phases n phased m is = record {
-  pairs = is.pairs;
-  cells = is.cells;
-  phases = elim phased as (λ b. phases_wrong n b m ≡ 0) [ true ↦ is.phases | false ↦ refl ];
-}
 
 -- ---- a tally of the games of a board
 

@@ -1,5 +1,5 @@
 use Rattle.std.proofs.Common.{◌+◌, refl}
-use Rattle.bound_parts.proofs.SetLemmas.{range-next}
+use Rattle.league.proofs.NumberSets.{range-next}
 use Rattle.bound_parts.proofs.sets.slots_from.Goals as goal
 
 pub loop-k-preserved : goal.loop-k-preserved

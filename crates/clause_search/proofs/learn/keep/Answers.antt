@@ -2,8 +2,8 @@ use Rattle.std.proofs.Common.{ℕ, ◌≤◌, subst, sym}
 use Rattle.std.specs.List.{All}
 use Rattle.rows.specs.Cardinality.{at_least}
 use Rattle.propagate.specs.Trails.{IsQuietRowBelow}
+use Rattle.propagate.proofs.LookLemmas.{news}
 use Rattle.clause_search.proofs.BackLemmas.{calm_below}
-use Rattle.clause_search.proofs.TrailLaws.{lawful-new}
 use Rattle.clause_search.proofs.TurnLemmas.{learned}
 use Rattle.clause_search.proofs.learn.keep.Goals as goal
 
@@ -20,7 +20,7 @@ returns c =
     let calm : IsQuietRowBelow (at_least 1 c.args.clause.now) c.back_to.new.self.entries =
     calm_below c.args.trail.now.vars c.args.level (at_least 1 c.args.clause.now) c.args.trail.now.entries
     c.back_to.new.self.entries
-    (lawful-new c.args.trail.now.rows c.args.trail.now.vars c.args.trail.now.entries c.len-len.ensures.lawful)
+    (news c.args.trail.now.rows c.args.trail.now.vars c.args.trail.now.entries c.len-len.ensures.lawful)
     c.back_to.ensures.back c.requires.learnable.calm in
     learned c.args.trail.now c.back_to.new.self c.add.new.self c.args.log.now c.push.new.self c.args.clause.now
     c.args.hints.now

@@ -6,9 +6,10 @@ use Rattle.answers.specs.SeenReply.{Answers}
 use Rattle.answers.specs.Stages.{IsFile, IsUnread}
 use Rattle.answers.proofs.StageLemmas.{Answers-wider}
 use Rattle.check_answer.specs.Check.{most_terms, too_large}
+use Rattle.check_answer.proofs.StageLemmas.{rose-before, took_more-before}
 use Rattle.bound_base.specs.BoundRows.{bound_size}
 use Rattle.encoding.specs.Capped.{capped}
-use Rattle.bound_answer.proofs.StageLemmas.{rose-before, took_more-before, unread-wider}
+use Rattle.bound_answer.proofs.StageLemmas.{unread-wider}
 use Rattle.prove_answer.proofs.StageLemmas.{proved-large, proved-last, proved-unread}
 use Rattle.prove_answer.proofs.stages.prove_stages.Goals as goal
 

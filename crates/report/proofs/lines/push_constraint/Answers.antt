@@ -1,4 +1,4 @@
-use Rattle.report.proofs.TextLemmas.{three_pieces}
+use Rattle.robinx_write.proofs.TextLemmas.{three_pieces}
 use Rattle.report.proofs.lines.push_constraint.Goals as goal
 
 pub returns : goal.returns

@@ -1,5 +1,5 @@
+use Rattle.league.proofs.CountLemmas.{counts_of-permutation}
 use Rattle.resume.proofs.AnswerLemmas.{passed, plan_resumes}
-use Rattle.resume.proofs.GameLemmas.{same_counts}
 use Rattle.resume.proofs.plan.old_plan.Goals as goal
 
 pub returns-clause-resumed : goal.returns-clause-resumed
@@ -12,4 +12,4 @@ returns-clause-resumed c = λ k limit.
 
 pub returns-clause-plan : goal.returns-clause-plan
 returns-clause-plan c =
-    same_counts c.args.played.now c.in_ok-schedule.schedule c.in_ok-schedule.ensures.permutation
+    counts_of-permutation c.args.played.now c.in_ok-schedule.schedule c.in_ok-schedule.ensures.permutation

@@ -5,7 +5,7 @@ use Rattle.league.specs.declared.game.Game.{Game}
 use Rattle.rows.specs.Values.{assigned}
 use Rattle.encoding_base.specs.Shadow.{decoded}
 use Rattle.decoding.proofs.DecodeLemmas.{accepted}
-use Rattle.resume.proofs.GameLemmas.{accepted_few, decoded_fit}
+use Rattle.decoding.proofs.GameLemmas.{accepted_few, decoded_fit}
 use Rattle.resume.proofs.resumer.priced.Goals as goal
 
 pub assess-requires-clause-few : goal.assess-requires-clause-few

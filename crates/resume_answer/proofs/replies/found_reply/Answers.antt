@@ -1,7 +1,8 @@
 use Rattle.encoding_base.specs.Variables.{var_count}
 use Rattle.league.specs.Counts.{counts_of}
+use Rattle.pattern_search.proofs.LogLemmas.{refuted-clauses}
 use Rattle.resume_rows.specs.Kept.{resume_rows}
-use Rattle.resume_answer.proofs.FoundLemmas.{all_tidy, refuted-clauses, replied-excluded, replied-planned}
+use Rattle.resume_answer.proofs.FoundLemmas.{all_tidy, replied-excluded, replied-planned}
 use Rattle.resume_answer.proofs.FoundLemmas.{replied-spent, spent-clauses}
 use Rattle.resume_answer.proofs.replies.found_reply.Goals as goal
 

@@ -3,7 +3,7 @@ use Rattle.league.specs.Instance.{Instance}
 use Rattle.rows.specs.Values.{assigned}
 use Rattle.encoding_base.specs.Shadow.{decoded}
 use Rattle.decoding.proofs.DecodeLemmas.{accepted}
-use Rattle.solve.proofs.GameLemmas.{accepted_few, accepted_fit}
+use Rattle.decoding.proofs.GameLemmas.{accepted_few, accepted_fit}
 use Rattle.solve.proofs.attempt.accepted.Goals as goal
 
 pub lowered-requires-clause-accepted : goal.lowered-requires-clause-accepted

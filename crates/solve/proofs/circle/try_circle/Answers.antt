@@ -3,7 +3,7 @@ use Rattle.std.specs.List.{All}
 use Rattle.std.proofs.lemmas.List.Sorted.{All-permutation}
 use Rattle.league.specs.Instance.{IsGame}
 use Rattle.solve.proofs.AnswerLemmas.{circle_accepted, not_passed, passed}
-use Rattle.solve.proofs.GameLemmas.{double_few}
+use Rattle.solve.proofs.CircleLemmas.{double_few}
 use Rattle.solve.proofs.circle.try_circle.Goals as goal
 
 pub assess-requires-clause-few : goal.assess-requires-clause-few

@@ -3,7 +3,7 @@ use Rattle.std.specs.List.{All}
 use Rattle.league.specs.Counts.{counts_of}
 use Rattle.league.specs.Instance.{IsGame}
 use Rattle.league.specs.Structure.{IsRoundRobin}
-use Rattle.walk.proofs.WalkLemmas.{any_phases}
+use Rattle.league.proofs.RoundRobinLemmas.{any_phases}
 use Rattle.solve.proofs.from_walk.try_walk.Goals as goal
 
 pub walk-requires-clause-fit : goal.walk-requires-clause-fit

@@ -6,8 +6,9 @@ use Rattle.league.specs.Structure.{IsRoundRobin}
 use Rattle.league.specs.declared.game.Game.{Game}
 use Rattle.cells.specs.Table.{Table, table_counts}
 use Rattle.solve.specs.Solutions.{league_score}
-use Rattle.solve.proofs.LowerLemmas.{Descends-same, IsSchedule-of, cost-is, scores-are}
+use Rattle.solve.proofs.LowerLemmas.{Descends-same, IsSchedule-of, cost-is}
 use Rattle.solve.proofs.lower.lowered.Goals as goal
+use Rattle.walk.proofs.WalkLemmas.{scores-are}
 
 pub descend-requires : goal.descend-requires
 descend-requires c = record {

@@ -6,7 +6,7 @@ use Rattle.league.specs.Counts.{Counts, counts_of}
 use Rattle.league.specs.Instance.{IsGame}
 use Rattle.league.specs.Structure.{IsRoundRobin}
 use Rattle.league.specs.declared.game.Game.{Game}
-use Rattle.descent.proofs.SeasonLemmas.{counts-permutation}
+use Rattle.league.proofs.CountLemmas.{counts_of-permutation}
 use Rattle.walk.specs.Walked.{league_score}
 use Rattle.walk.proofs.best.Kept.into_best.Goals as goal
 
@@ -14,7 +14,7 @@ pub returns-clause-season : goal.returns-clause-season
 returns-clause-season c league is =
     let listed : c.in_ok-games.games ≡ c.args.self.games.items = c.in_ok-games.ensures ∙ c.deref.ensures.value in
     let counts : counts_of c.put_in_order.new.self ≡ counts_of c.args.self.games.items =
-    counts-permutation c.in_ok-games.games c.put_in_order.new.self c.put_in_order.ensures.permutation
+    counts_of-permutation c.in_ok-games.games c.put_in_order.new.self c.put_in_order.ensures.permutation
     ∙ ap (λ (games : List Game). counts_of games) listed in
     record {
       fit = All-permutation (IsGame league.n) c.in_ok-games.games c.put_in_order.new.self

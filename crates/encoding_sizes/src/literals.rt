@@ -1,4 +1,4 @@
-//! How many literals the rows of a part have.
+//! How many literals the rows of a constraint have: by its sides, teams, slots and meetings.
 ghost use Rattle.std.specs.Prelude.{◌≡◌, ◌≤◌, ◌&&◌, ◌==◌, not, if◌then◌else◌, length, IsTrue};
 ghost use Rattle.std.specs.List.{count_by, filter};
 ghost use Rattle.league.specs.Capacity as capacity;
@@ -11,8 +11,8 @@ ghost use Rattle.encoding_sizes.specs.Terms as terms;
 use encoding_base::{is_between, meeting_numbers, slot_numbers, team_numbers};
 use league::{PairSet, Side, SlotSet, TeamSet};
 
-/// On how many sides games are counted.
-pub(crate) fn side_total(side: Side) -> u64
+/// On how many sides games are counted: 1 or 2.
+pub fn side_total(side: Side) -> u64
     ensures sides { result ≡ terms.side_count side }
     ensures most { result ≤ 2 }
 {
@@ -22,8 +22,8 @@ pub(crate) fn side_total(side: Side) -> u64
     }
 }
 
-/// How many teams a set has.
-pub(crate) fn team_total(n: u16, teams: &TeamSet) -> u64
+/// How many teams a set has: at most 40.
+pub fn team_total(n: u16, teams: &TeamSet) -> u64
     requires n { n ≤ 40 }
     requires teams { IsTrue (are_teams n teams.now) }
     ensures count { result ≡ length teams.now }
@@ -32,8 +32,8 @@ pub(crate) fn team_total(n: u16, teams: &TeamSet) -> u64
     team_numbers(n, teams).len() as u64
 }
 
-/// How many slots a set has.
-pub(crate) fn slot_total(n: u16, slots: &SlotSet) -> u64
+/// How many slots a set has: at most 78.
+pub fn slot_total(n: u16, slots: &SlotSet) -> u64
     requires n { n ≤ 40 }
     requires slots { IsTrue (are_slots n slots.now) }
     ensures count { result ≡ length slots.now }
@@ -42,8 +42,8 @@ pub(crate) fn slot_total(n: u16, slots: &SlotSet) -> u64
     slot_numbers(n, slots).len() as u64
 }
 
-/// How many of them have a slot before them.
-pub(crate) fn later_total(n: u16, slots: &SlotSet) -> u64
+/// How many slots of a set have a slot before them, so that a break can stand there: all but slot 0.
+pub fn later_total(n: u16, slots: &SlotSet) -> u64
     requires n { n ≤ 40 }
     requires slots { IsTrue (are_slots n slots.now) }
     ensures count { result ≡ length (after_first slots.now) }
@@ -60,8 +60,8 @@ fn later_count(slots: &[u16]) -> u64
     slots.iter().filter(|slot| **slot > 0).count() as u64
 }
 
-/// How many meetings a set has.
-pub(crate) fn meeting_total(n: u16, meetings: &PairSet) -> u64
+/// How many meetings a set has: at most 1,560.
+pub fn meeting_total(n: u16, meetings: &PairSet) -> u64
     requires n { n ≤ 40 }
     requires meetings { IsTrue (are_meetings n meetings.now) }
     ensures count { result ≡ length meetings.now }
@@ -70,8 +70,8 @@ pub(crate) fn meeting_total(n: u16, meetings: &PairSet) -> u64
     meeting_numbers(n, meetings).len() as u64
 }
 
-/// How many of some teams are other than one.
-pub(crate) fn other_total(team: u16, teams: &[u16]) -> u64
+/// How many of some teams, which are at most 40, are other than one.
+pub fn other_total(team: u16, teams: &[u16]) -> u64
     requires { length teams.now ≤ 40 }
     ensures count { result ≡ length (others team teams.now) }
     ensures few { result ≤ 40 }
@@ -79,8 +79,8 @@ pub(crate) fn other_total(team: u16, teams: &[u16]) -> u64
     teams.iter().filter(|other| **other != team).count() as u64
 }
 
-/// How many meetings are some of some teams with others, on a side.
-pub(crate) fn between_total(n: u16, side: Side, teams1: &TeamSet, teams2: &TeamSet) -> u64
+/// How many meetings of a league are meetings of some teams with others, on a side of the first.
+pub fn between_total(n: u16, side: Side, teams1: &TeamSet, teams2: &TeamSet) -> u64
     requires { n ≤ 40 }
     ensures count { result
         ≡ length (filter (capacity.is_between side teams1.now teams2.now) (meetings_of n)) }

@@ -1,7 +1,7 @@
 use Rattle.std.proofs.Common.{ℕ, ◌+◌, ◌&&◌, ◌==◌, not, Bool, refl, arith}
 use Rattle.league.specs.Capacity.{is_between}
 use Rattle.league.proofs.RangeLemmas.{counted}
-use Rattle.bound_rows.proofs.literals.between_total_at.Goals as goal
+use Rattle.encoding_sizes.proofs.literals.between_total_at.Goals as goal
 
 pub loop-away-preserved : goal.loop-away-preserved
 loop-away-preserved c =

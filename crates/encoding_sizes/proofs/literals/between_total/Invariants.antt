@@ -2,7 +2,7 @@ use Rattle.std.proofs.Common.{◌≡◌, ◌*◌, ◌≤◌, ◌&&◌, ◌==◌,
 use Rattle.std.specs.List.{count_by, range_with_len, sum_by}
 use Rattle.league.specs.Capacity.{is_between}
 use Rattle.league.specs.Counts.{teams_of}
-use Rattle.bound_rows.proofs.literals.between_total.Given as goal
+use Rattle.encoding_sizes.proofs.literals.between_total.Given as goal
 
 abbrev pub invariant-loop-home : goal.invariant-loop-home
 invariant-loop-home l = record {

@@ -1,16 +1,13 @@
 -- Games that are decoded from values of an accepted schedule: they fit, and there are few. Games that change places.
 use Rattle.std.proofs.Common.{◌≡◌, ◌≢◌, ℕ, ◌+◌, ◌*◌, ◌<◌, ◌≤◌, Bool, not, ◌==◌, List, [], ◌∷◌, length, map}
 use Rattle.std.proofs.Common.{if◌then◌else◌, refl, arith, ap, sym, subst, ◌∙◌, inl, inr, true}
-use Rattle.std.proofs.Math.Path.{fun_ext}
 use Rattle.std.specs.List.{All, sum_by}
-use Rattle.std.specs.List.Sorted.{IsPermutation}
 use Rattle.std.proofs.lemmas.Bool.{cases_eq}
 use Rattle.std.proofs.lemmas.Bool.Decides.{nat_tests}
 use Rattle.std.proofs.lemmas.List.Elements.{All-filter, All-map, All-weaker}
 use Rattle.std.proofs.lemmas.List.FromFn.{length-range_with_len}
-use Rattle.std.proofs.lemmas.List.Sorted.{sum_by-IsPermutation}
 use Rattle.std.proofs.lemmas.List.Sums.{AllPass-from_list_all, sum_by-cons, sum_by-le}
-use Rattle.league.specs.Counts.{counts_of, is_game, slot_count, slots_of, teams_of}
+use Rattle.league.specs.Counts.{counts_of, slot_count, slots_of, teams_of}
 use Rattle.league.specs.Instance.{IsGame, is_meeting}
 use Rattle.league.specs.Meetings.{games_of, meetings_of}
 use Rattle.league.specs.Structure.{pairs_wrong}
@@ -19,18 +16,14 @@ use Rattle.league.proofs.MeetingLemmas.{sum_by-meetings_of}
 use Rattle.league.proofs.RangeLemmas.{one_if}
 use Rattle.league.proofs.RoundRobinLemmas.{meets_once}
 use Rattle.league.proofs.SumLemmas.{sum_by-filter, sum_by-flat_map, sum_by-map, sum_by-same}
-use Rattle.circle_method.proofs.OneTermLemmas.{All-flat_map, All-range, sum_by-range_same, sum_by-swap}
+use Rattle.league.proofs.OneTermLemmas.{All-flat_map, All-range, sum_by-range_same, sum_by-swap}
+use Rattle.league.proofs.CountLemmas.{counts_of-permutation}
 use Rattle.encoding_base.specs.Shadow.{all_games, decoded, game_of}
 use Rattle.encoding_base.specs.Variables.{x_var}
 use Rattle.decoding.proofs.DecodedCounts.{counts_of-decoded_game}
 use Rattle.decoding.proofs.MeetingLists.{meeting_parts, meetings_of-fit}
 
--- the counts don't depend on the order
-pub same_counts : (games more : List Game) → IsPermutation games more → counts_of more ≡ counts_of games
-same_counts games more is =
-    fun_ext (λ i. fun_ext (λ j. fun_ext (λ s. sum_by-IsPermutation (λ g. one_if (is_game i j s g)) games more is)))
-
-ones : {X : Type 0} (xs : List X) → sum_by (λ x. 1) xs ≡ length xs
+pub ones : {X : Type 0} (xs : List X) → sum_by (λ x. 1) xs ≡ length xs
 ones {X} [] = refl
 ones {X} (x ∷ xs) = omega (arith, ones xs, sum_by-cons (λ (y : X). 1) x xs)
 
@@ -120,3 +113,6 @@ accepted_few n values games is most right =
     let decoded_right : pairs_wrong n (counts_of (decoded n values)) ≡ 0 =
     subst (λ (gs : List Game). pairs_wrong n (counts_of gs) ≡ 0) is right in
     omega (arith, ap (λ (gs : List Game). length gs) is, few_games n values most decoded_right)
+
+pub accepted_fit : (n : ℕ) (values : ℕ → Bool) (games : List Game) → games ≡ decoded n values → All (IsGame n) games
+accepted_fit n values games is = subst (λ (gs : List Game). All (IsGame n) gs) (sym is) (decoded_fit n values)

@@ -6,13 +6,16 @@ use Rattle.league.specs.Counts.{teams_of}
 use Rattle.league.specs.Meetings.{meetings_of}
 use Rattle.league.proofs.MeetingLemmas.{count_by-meetings_of}
 use Rattle.league.proofs.RangeLemmas.{summed}
-use Rattle.encoding_sizes.proofs.sizes.between_total.Goals as goal
+use Rattle.encoding_sizes.proofs.literals.between_total.Goals as goal
 
 pub loop-home-preserved : goal.loop-home-preserved
-loop-home-preserved c = record {
-  so_far = summed (λ i. count_by (λ j. not (j == i) && is_between c.args.side c.args.teams1.now c.args.teams2.now (i, j)) (teams_of c.args.n)) c.loop-home.home c.loop-home.total _ c.loop-home.invariant.so_far (omega arith);
-  most = omega arith;
-}
+loop-home-preserved c =
+    let meets : ℕ × ℕ → Bool = is_between c.args.side c.args.teams1.now c.args.teams2.now in
+    let at_home : ℕ → ℕ = λ i. count_by (λ j. not (j == i) && meets (i, j)) (teams_of c.args.n) in
+    record {
+      so_far = summed at_home c.loop-home.home c.loop-home.total _ c.loop-home.invariant.so_far (omega arith);
+      most = omega arith;
+    }
 
 pub returns-clause-count : goal.returns-clause-count
 returns-clause-count c =
