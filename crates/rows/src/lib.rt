@@ -15,6 +15,3 @@ pub use forcing::{force, forced, make_true, make_true_if, reach, slack};
 pub use lit::{Lit, Term};
 pub use partial::{Partial, Value};
 pub use row_store::RowStore;
-
-#[cfg(test)]
-mod tests;

@@ -1,20 +1,23 @@
-//! Searches over a few clauses that were worked out by hand, and their transcript, which is compared with the file
-//! `stdout`.
+//! Rows that are kept and what they force, and searches over a few clauses, worked out by hand; their transcript is
+//! compared with the file `stdout`.
 #![tactic(auto)]
 
+mod kept;
 mod worked;
 
 ghost use Rattle.std.specs.Prelude.{◌≡◌, length};
 
 use clause_search::{Found, search};
+use kept::show_rows;
 use refutation::{Log, log_text};
 use robin_io::{HostSink, put_all};
 use rows::{Assignment, Lit};
 use std::io;
 use worked::{VARS, worked_clauses};
 
-/// Searches over all six clauses, without a limit and with two, and over the first five.
+/// What rows force, and searches over all six clauses, without a limit and with two, and over the first five.
 fn main(rt: HostRuntime) -> io::Result<()> {
+    show_rows(&rt)?;
     show(&rt, true, None)?;
     show(&rt, true, Some(1))?;
     show(&rt, true, Some(0))?;
