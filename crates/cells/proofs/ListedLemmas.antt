@@ -8,6 +8,7 @@ use Rattle.std.proofs.lemmas.List.FromFn.{get_or-map-range_with_len, length-rang
 use Rattle.std.proofs.lemmas.List.Sums.{sum-map}
 use Rattle.std.proofs.lemmas.Nat.{div-add-mod', div-mul-add, mod-mul-add, mul-add-lt, mul-le}
 use Rattle.std.specs.List.{range_with_len, sum}
+use Rattle.std.proofs.Math.Path.{fun_ext}
 use Rattle.league.specs.Counts.{Counts, is_game, one_more, slot_count}
 use Rattle.league.specs.Grid.{number}
 use Rattle.league.specs.Instance.{IsGame}
@@ -16,7 +17,10 @@ use Rattle.league.proofs.CountLemmas.{sum_by-one_game}
 use Rattle.league.proofs.RangeLemmas.{one_if}
 use Rattle.cells.specs.Table.{Table, table_counts}
 use Rattle.cells.specs.Tables.{listed}
-use Rattle.cells.proofs.TableLemmas.{same_counts}
+
+-- functions that give equal counts are one
+pub same_counts : (m k : Counts) → ((i j s : ℕ) → m i j s ≡ k i j s) → m ≡ k
+same_counts m k same = fun_ext (λ i. fun_ext (λ j. fun_ext (λ s. same i j s)))
 
 -- counts of no game beyond the league
 pub record IsWithin (n : ℕ) (m : Counts) : Type 0 where

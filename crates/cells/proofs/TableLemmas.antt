@@ -17,8 +17,7 @@ use Rattle.league.proofs.RangeLemmas.{one_if}
 use Rattle.league.proofs.SumLemmas.{sum_by-same}
 use Rattle.league.proofs.TableLemmas.{number-replicate}
 use Rattle.league.specs.Grid.{number}
-use Rattle.cells.proofs.ListedLemmas as listed_lemmas
-use Rattle.cells.proofs.ListedLemmas.{IsWithin, counts-listed, sum-one_more, table_of}
+use Rattle.cells.proofs.ListedLemmas.{IsWithin, counts-listed, same_counts, sum-one_more, table_of}
 use Rattle.cells.proofs.OpponentLemmas.{sum_of_none}
 use Rattle.cells.proofs.PlaceLemmas.{place_at-outside}
 use Rattle.cells.specs.Opponents.{place_at}
@@ -29,10 +28,6 @@ use Rattle.cells.specs.Tables.{AreKept, AreOpponents, HasRows, IsOneMore, kept_c
 use Rattle.cells.specs.declared.counters.Counters.{Counters}
 use Rattle.cells.specs.declared.place.Place.{Place}
 use Rattle.cells.specs.declared.place.Place.TheVariants.{Free}
-
--- functions that give equal counts are one
-pub same_counts : (m k : Counts) → ((i j s : ℕ) → m i j s ≡ k i j s) → m ≡ k
-same_counts m k same = listed_lemmas.same_counts m k same
 
 -- a test that never passes counts nothing
 fails : (b : Bool) → (b ≡ true → ⊥) → one_if b ≡ 0

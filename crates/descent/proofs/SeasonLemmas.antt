@@ -13,7 +13,7 @@ use Rattle.league.proofs.CountLemmas.{counts_of-permutation, counts_of-push}
 use Rattle.cells.specs.Table.{Table, table_counts}
 use Rattle.moves.proofs.PlayLemmas.{met-itself, met-le-one, played}
 use Rattle.moves.proofs.RoundLemmas.{IsWithin}
-use Rattle.cells.proofs.TableLemmas.{same_counts}
+use Rattle.cells.proofs.ListedLemmas.{same_counts}
 use Rattle.descent.specs.Walks.{AreSingle}
 
 -- ---- a table has no counts outside of its league

@@ -8,9 +8,9 @@ use Rattle.league.specs.Counts.{Counts, counts_of, one_more, is_game}
 use Rattle.league.specs.Deviation.{entry_of, vector_of}
 use Rattle.league.proofs.ListLemmas.{map-same}
 use Rattle.league.proofs.RangeLemmas.{one_if}
-use Rattle.cells.proofs.TableLemmas.{same_counts}
 use Rattle.league.specs.declared.class.Class.{Class}
 use Rattle.league.specs.declared.game.Game.{Game}
+use Rattle.cells.proofs.ListedLemmas.{same_counts}
 
 -- a sum with one number more
 pub sum-push : (xs : List ℕ) (x : ℕ) → sum (xs ++ x ∷ []) ≡ sum xs + x

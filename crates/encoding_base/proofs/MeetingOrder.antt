@@ -21,6 +21,7 @@ use Rattle.league.specs.declared.class.Side.TheVariants.{H, A, Both}
 use Rattle.league.proofs.AscendingLemmas.{IsAscending-ascends, first_true, second_true}
 use Rattle.league.proofs.FitLemmas.{are_slots-ascending, are_slots-below, are_teams-ascending, are_teams-below}
 use Rattle.league.proofs.SetLemmas.{less_than}
+use Rattle.league.proofs.OneTermLemmas.{All-flat_map}
 use Rattle.encoding_base.specs.Ascending.{AreMeetings, AreSlots, AreTeams, AscendsBy, IsMeeting, place_of}
 use Rattle.encoding_base.specs.Lists.{meetings_in_order}
 use Rattle.encoding_base.specs.Variables.{place_beside}
@@ -28,7 +29,6 @@ use Rattle.encoding_base.proofs.AscendLemmas.{AscendsBy-above, AscendsBy-after, 
 use Rattle.encoding_base.proofs.AscendLemmas.{AscendsBy-below, AscendsBy-blocks, AscendsBy-filter, AscendsBy-flat_map}
 use Rattle.encoding_base.proofs.AscendLemmas.{AscendsBy-from_ascending, AscendsBy-high, AscendsBy-low}
 use Rattle.encoding_base.proofs.AscendLemmas.{AscendsBy-map, AscendsBy-range, AscendsBy-same, AscendsBy-shift}
-use Rattle.encoding_base.proofs.AscendLemmas.{All-flat_map}
 use Rattle.encoding_base.proofs.Places.{place_beside-below}
 
 -- ---- numbers

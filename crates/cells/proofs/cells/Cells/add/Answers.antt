@@ -7,8 +7,9 @@ use Rattle.cells.specs.Tables.{kept_counts}
 use Rattle.cells.proofs.SeenLemmas.{seen}
 use Rattle.cells.proofs.TableLemmas.{AreKept-more, kept-away-le, kept-counts, kept-home-le, kept-le}
 use Rattle.cells.proofs.TableLemmas.{place_in_rows}
-use Rattle.cells.proofs.TableLemmas.{same_counts, sum_more}
+use Rattle.cells.proofs.TableLemmas.{sum_more}
 use Rattle.cells.proofs.cells.Cells.add.Goals as goal
+use Rattle.cells.proofs.ListedLemmas.{same_counts}
 
 pub add-requires-clause-place : goal.add-requires-clause-place
 add-requires-clause-place c =

@@ -6,8 +6,9 @@ use Rattle.cells.specs.Table.{Table}
 use Rattle.cells.specs.Tables.{kept_counts}
 use Rattle.cells.proofs.SeenLemmas.{seen}
 use Rattle.cells.proofs.TableLemmas.{AreKept-less, away_games-ge, home_games-ge, kept-counts, place_in_rows}
-use Rattle.cells.proofs.TableLemmas.{same_counts, sum_more}
+use Rattle.cells.proofs.TableLemmas.{sum_more}
 use Rattle.cells.proofs.cells.Cells.remove.Goals as goal
+use Rattle.cells.proofs.ListedLemmas.{same_counts}
 
 pub take-requires-clause-place : goal.take-requires-clause-place
 take-requires-clause-place c =

@@ -3,7 +3,7 @@ use Rattle.std.proofs.lemmas.List.{take_at}
 use Rattle.std.specs.List.{All}
 use Rattle.league.specs.Counts.{Counts, counts_of}
 use Rattle.cells.specs.Table.{table_counts}
-use Rattle.cells.proofs.TableLemmas.{same_counts}
+use Rattle.cells.proofs.ListedLemmas.{same_counts}
 use Rattle.tally.specs.ByTeam.{GameRoom}
 use Rattle.tally.specs.Ready.{IsExact, IsTallied}
 use Rattle.tally.specs.Tallies.{Tallied}
