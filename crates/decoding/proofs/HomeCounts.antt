@@ -1,10 +1,11 @@
 -- Groups 5 and 6 follow from the others: in a double round robin half of the teams play at home in each slot, and
 -- each team plays at home in half of its games.
-use Rattle.std.proofs.Common.{◌≡◌, ◌≢◌, ℕ, ◌+◌, ◌-◌, ◌/◌, ◌<◌, Bool, true, not, ◌==◌, nat_lt, List}
-use Rattle.std.proofs.Common.{map, cond}
-use Rattle.std.proofs.Common.{arith, ap, ◌∙◌}
+use Rattle.std.proofs.Common.{◌≡◌, ◌≢◌, ℕ, ◌+◌, ◌-◌, ◌/◌, ◌<◌, Bool, true, not, ◌==◌, nat_lt, List, []}
+use Rattle.std.proofs.Common.{◌∷◌, map, cond}
+use Rattle.std.proofs.Common.{refl, arith, ap, ◌∙◌}
 use Rattle.std.proofs.lemmas.Bool.{eq-eqb, ltb-true}
 use Rattle.std.proofs.lemmas.Bool.Decides.{nat_tests}
+use Rattle.std.proofs.lemmas.List.Sums.{sum_by-cons}
 use Rattle.std.specs.List.{sum_by}
 use Rattle.league.specs.Counts.{Counts, slot_count, slots_of, teams_of}
 use Rattle.league.specs.Structure.{IsPlayedOnce}
@@ -25,6 +26,11 @@ use Rattle.decoding.specs.Mirrors.{Mirrors}
 use Rattle.decoding.proofs.MeetingLists.{teams_of-fit}
 use Rattle.decoding.proofs.SeasonLaws.{PlaysOthers, slots_of-fit}
 use Rattle.decoding.proofs.VenueLaws.{sum_by-ones, sum_by-others_of}
+
+-- no terms but zeros
+sum_by-zeros : {X : Type 0} (xs : List X) → sum_by (λ x. 0) xs ≡ 0
+sum_by-zeros [] = refl
+sum_by-zeros {X} (x ∷ xs) = let zero_of : X → ℕ = λ y. 0 in omega (arith, sum_by-cons zero_of x xs, sum_by-zeros xs)
 
 -- the teams at home in a slot
 home_teams : (n : ℕ) (m : Counts) (values : ℕ → Bool) (s : ℕ) → Mirrors n m values → s < slot_count n →
