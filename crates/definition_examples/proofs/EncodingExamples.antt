@@ -252,6 +252,15 @@ pub shadow-no_breaks : IsShadow 2 true twice
     → ⊥
 shadow-no_breaks shadow = false_true (shadow.home_breaks refl 0 1 (lit< tt) (lit< tt) (lit< tt))
 
+-- and so has 12; and a game that takes place has its variable true
+pub shadow-others : (IsShadow 2 true twice
+    (assigned (true ∷ true ∷ false ∷ false ∷ true ∷ true ∷ false ∷ false ∷ true ∷ [])) → ⊥)
+    × (IsShadow 2 false turns (assigned (false ∷ false ∷ true ∷ false ∷ false ∷ true ∷ true ∷ [])) → ⊥)
+shadow-others = (
+  λ shadow. false_true (shadow.away_breaks refl 1 1 (lit< tt) (lit< tt) (lit< tt)),
+  λ shadow. false_true (shadow.games 0 1 1 (lit< tt) (lit< tt) (λ is. omega (arith, is)) (lit< tt)),
+)
+
 -- ---- known variables: from 1 to the number of them
 
 abbrev known_row : Row

@@ -1,7 +1,7 @@
 -- Two teams of which neither may have had more home games than the other behind slot 0: h(0,s) is 5 + s, h(1,s) 7 + s,
 -- so that 5 and 7 would have to be equal, and one of them alone is true.
 use Rattle.std.proofs.Common.{◌≡◌, ◌≢◌, ℕ, zero, suc, ◌+◌, ◌<◌, ◌≤◌, Bool, true, false, List, [], ◌∷◌, get_or, length}
-use Rattle.std.proofs.Common.{◌-◌, ◌&&◌, ◌++◌, IsTrue, Some, drop, refl, ap, arith, length-append, lit<, lit≤, sym}
+use Rattle.std.proofs.Common.{◌-◌, ◌&&◌, ◌++◌, IsTrue, Some, drop, map, refl, ap, subst, arith, length-append, lit<, lit≤, sym}
 use Rattle.std.specs.Prelude.{Contains, IsSomeAnd}
 use Rattle.std.specs.List.{All}
 use Rattle.std.proofs.lemmas.List.Elements.{All-from_recursion}
@@ -20,11 +20,13 @@ use Rattle.rows.specs.declared.partial.Value.TheVariants.{False, Free}
 use Rattle.encoding_base.specs.Encoding.{rows_of}
 use Rattle.encoding_base.specs.Variables.{ab_var, h_var, hb_var}
 use Rattle.refutation.specs.Following.{all_free, row_numbered}
-use Rattle.refutation.specs.Steps.{Step}
+use Rattle.refutation.specs.Steps.{Step, hints_at}
 use Rattle.refutation.specs.Steps.Step.{Clause}
-use Rattle.clause_search.specs.News.{IsTidy}
+use Rattle.refutation.specs.Verdict.{verdict_of}
+use Rattle.refutation.specs.declared.verdict.Verdict.TheVariants.{Accepted}
+use Rattle.clause_search.specs.News.{IsTidy, row_of}
 use Rattle.season_check.proofs.SeasonLemmas.{accepted_logs_exclude}
-use Rattle.pattern_search.specs.PatternLogs.{IsPatternNews, RefutesPatterns}
+use Rattle.pattern_search.specs.PatternLogs.{IsPatternNews, NamesPatternRows, RefutesPatterns}
 use Rattle.pattern_search.specs.PatternRows.{is_pattern_row, pattern_rows}
 use Rattle.pattern_search.specs.PatternSets.{SayPatterns, is_away, is_home, letter_at}
 
@@ -151,6 +153,30 @@ refutes-league = record {
     ),
   );
 }
+
+-- the last step may name no row of games, behind the conflict neither
+last_hints : (before : List Step) (hints : List ℕ)
+    → at_home ∷ Clause [] (31 ∷ 22 ∷ 29 ∷ 4 ∷ []) ∷ [] ≡ before ++ Clause [] hints ∷ []
+    → 31 ∷ 22 ∷ 29 ∷ 4 ∷ [] ≡ hints
+last_hints [] hints is = absurd (omega (arith, ap length is))
+last_hints (a ∷ []) hints is = ap (λ (steps : List Step). hints_at steps 1) is
+last_hints (a ∷ b ∷ before) hints is =
+    absurd (omega (arith, ap length is, length-append before (Clause [] hints ∷ [])))
+
+named_none : (before : List Step) (hints : List ℕ)
+    → at_home ∷ Clause [] (31 ∷ 22 ∷ 29 ∷ 4 ∷ []) ∷ [] ≡ before ++ Clause [] hints ∷ []
+    → NamesPatternRows 4 (rows_of league ++ map row_of before) (Clause [] hints) → ⊥
+named_none [] hints is named = omega (arith, ap length is)
+named_none (a ∷ []) hints is named =
+    false_true
+    (subst (λ (hints : List ℕ). NamesPatternRows 4 (rows_of league ++ row_of a ∷ []) (Clause [] hints))
+    (sym (last_hints (a ∷ []) hints is)) named 3 0 (lit< tt))
+named_none (a ∷ b ∷ before) hints is named =
+    omega (arith, ap length is, length-append before (Clause [] hints ∷ []))
+
+pub refutes-named : (verdict_of (rows_of league) 8 (at_home ∷ Clause [] (31 ∷ 22 ∷ 29 ∷ 4 ∷ []) ∷ []) ≡ Accepted)
+    × (RefutesPatterns league (Some 1) (at_home ∷ Clause [] (31 ∷ 22 ∷ 29 ∷ 4 ∷ []) ∷ []) → ⊥)
+refutes-named = (refl, λ refutes. named_none refutes.before refutes.hints refutes.last refutes.named)
 
 -- one step too many where none may come before the last
 pub refutes-none_before : RefutesPatterns league (Some 0) log → ⊥

@@ -78,6 +78,10 @@ true_false is = cc
 pub others_played : IsResumption free (counts_of played) 1 (game 0 1 0 ∷ game 1 0 1 ∷ []) → ⊥
 others_played resumption = true_false (resumption.keeps 0 1 0 (lit< tt))
 
+-- what was played alone keeps, and is no season: 0 isn't at home to 1
+pub unfinished : IsResumption free (counts_of played) 1 played → ⊥
+unfinished resumption = omega (arith, resumption.accepted.round_robin.pairs)
+
 -- where no slot is played they may
 pub none_played : IsResumption free (counts_of played) 0 (game 0 1 0 ∷ game 1 0 1 ∷ [])
 none_played = record {

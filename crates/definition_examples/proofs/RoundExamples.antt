@@ -57,17 +57,19 @@ zero_two-least other start closed (suc (suc (suc a))) is = absurd (false_true is
 pub least_closed : IsLeastClosed leads 3 0 zero_two
 least_closed = record { start = refl; closed = zero_two-closed; least = zero_two-least }
 
--- 0 alone isn't closed, and all numbers aren't the least set; with the bound 2 the step to 2 doesn't count
+-- 0 alone isn't closed, and all numbers aren't the least set; with the bound 2 the step to 2 doesn't count; and 1 isn't
+-- in the set
 abbrev zero_alone : ℕ → Bool
 zero_alone zero = true
 zero_alone (suc a) = false
 
 pub not_least_closed : (IsLeastClosed leads 3 0 zero_alone → ⊥) × (IsLeastClosed leads 3 0 all_numbers → ⊥)
-    × (IsLeastClosed leads 2 0 zero_two → ⊥)
+    × (IsLeastClosed leads 2 0 zero_two → ⊥) × (IsLeastClosed leads 3 1 zero_two → ⊥)
 not_least_closed = (
   λ is. false_true (is.closed 0 2 (lit< tt) refl refl),
   λ is. false_true (is.least zero_two refl zero_two-closed 1 refl),
   λ is. false_true (is.least zero_alone refl alone_below 2 refl),
+  λ is. false_true is.start,
 ) where
   alone_below : (a b : ℕ) → b < 2 → zero_alone a ≡ true → leads a b ≡ true → zero_alone b ≡ true
   alone_below zero zero below is next = refl
@@ -139,9 +141,14 @@ games_of = (
   record { fits = fits_there; of = refl; there = lit≤ tt },
 )
 
--- it isn't one of slot 1, and one that isn't played is none
+-- it isn't one of slot 1; one that isn't played is none; nor is one of a slot that there isn't, though it were played
 pub no_games_of : (IsGameOf 2 home_away 0 1 (game 0 1 0) → ⊥) × (IsGameOf 2 home_away 0 0 (game 1 0 0) → ⊥)
-no_games_of = (λ is. false_true is.of, λ is. let less : 1 ≤ 0 = is.there in omega (arith, less))
+    × (IsGameOf 2 (counts_of (game 0 1 2 ∷ [])) 0 2 (game 0 1 2) → ⊥)
+no_games_of = (
+  λ is. false_true is.of,
+  λ is. let less : 1 ≤ 0 = is.there in omega (arith, less),
+  λ is. omega (arith, is.fits.slot),
+)
 
 -- ---- the table: 78 places for each of 40 teams, of which those of two teams and two slots say something
 
@@ -180,6 +187,11 @@ is_round = record {
   round_robin = record { pairs = refl; cells = refl; phases = refl };
 }
 
+-- of no teams there is no round; and where slot 1 holds the game of slot 0 it isn't one
+pub no_round : (IsRound (record { n = 0; phased = false; games = table }) → ⊥)
+    × (IsRound (record { n = 2; phased = false; games = replicate 3120 (game 0 1 0) }) → ⊥)
+no_round = (λ is. omega (arith, is.teams.at_least), λ is. false_true (is.table.at 0 1 (lit< tt) (lit< tt)).of)
+
 -- a table that is too short, and one with the games of team 1 in each other's places
 pub no_table : (IsTable 2 home_away before → ⊥)
     × (IsTable 2 home_away
@@ -213,6 +225,13 @@ slots_there (suc (suc i)) j home away differ = absurd (omega (arith, home))
 pub is_slot_table : IsSlotTable 2 home_away slots
 is_slot_table = record { long = refl; below = slots_below; there = slots_there }
 
--- the game of 0 at home to 1 isn't in slot 1
-pub no_slot_table : IsSlotTable 2 home_away (9 ∷ 1 ∷ (replicate 38 9 ++ 1 ∷ replicate 1559 9)) → ⊥
-no_slot_table is = let less : 1 ≤ 0 = is.there 0 1 (lit< tt) (lit< tt) zero_one in omega (arith, less)
+-- the game of 0 at home to 1 isn't in slot 1; there is no slot 2, though the game were played there; and the table is
+-- as long whatever the league
+pub no_slot_table : (IsSlotTable 2 home_away (9 ∷ 1 ∷ (replicate 38 9 ++ 1 ∷ replicate 1559 9)) → ⊥)
+    × (IsSlotTable 2 (counts_of (game 0 1 2 ∷ game 1 0 1 ∷ [])) (9 ∷ 2 ∷ (replicate 38 9 ++ 1 ∷ replicate 1559 9)) → ⊥)
+    × (IsSlotTable 2 home_away (9 ∷ 0 ∷ (replicate 38 9 ++ 1 ∷ [])) → ⊥)
+no_slot_table = (
+  λ is. let less : 1 ≤ 0 = is.there 0 1 (lit< tt) (lit< tt) zero_one in omega (arith, less),
+  λ is. let less : 2 < 2 = is.below 0 1 (lit< tt) (lit< tt) zero_one in omega (arith, less),
+  λ is. omega (arith, is.long),
+)

@@ -1,6 +1,6 @@
 -- One row of four variables, 4 of 1, 3 of not 2, 2 of 3 and 1 of 4, at least 6; and two rows added up.
 use Rattle.std.proofs.Common.{◌≡◌, ◌≢◌, ℕ, zero, suc, ◌+◌, ◌<◌, ◌≤◌, true, false, List, [], ◌∷◌, get_or, map, refl}
-use Rattle.std.proofs.Common.{arith, lit<, lit≤, sym}
+use Rattle.std.proofs.Common.{ap, arith, lit<, lit≤, sym}
 use Rattle.std.specs.Prelude.{Contains}
 use Rattle.std.proofs.lemmas.List.Elements.{All-from_recursion}
 use Rattle.rows.specs.Cardinality.{at_least, between, exactly}
@@ -146,6 +146,17 @@ forces-none = (
   false_free : False ≡ Free → ⊥
   false_free is = cc
 
+not_there : (l : Literal) → l.var ≡ 5 → Contains row.terms (term 4 l) → ⊥
+not_there l five (zero, within, is) = omega (arith, five, ap (λ (t : Term). t.lit.var) is)
+not_there l five (suc zero, within, is) = omega (arith, five, ap (λ (t : Term). t.lit.var) is)
+not_there l five (suc (suc zero), within, is) = omega (arith, five, ap (λ (t : Term). t.lit.var) is)
+not_there l five (suc (suc (suc zero)), within, is) = omega (arith, five, ap (λ (t : Term). t.lit.var) is)
+not_there l five (suc (suc (suc (suc k))), within, is) = omega (arith, within)
+
+-- nor does a row force what isn't in it
+pub forces-other : Forces two_true row (term 4 (yes 5)) → ⊥
+forces-other forces = not_there (yes 5) refl forces.there
+
 -- ---- a clause that says more than propagation over a row of three finds: 2 is false, 1 and 3 are free
 
 abbrev three : Row
@@ -231,13 +242,16 @@ is_wide = record {
   degree = lit≤ tt;
 }
 
--- the greatest total is 2^127 - 1, of the degree or of all coefficients; and 2 doesn't stand behind 7
+-- the greatest total is 2^127 - 1, of the degree or of all coefficients; 2 doesn't stand behind 7, nor 7 twice; and a
+-- coefficient is at least 1
 pub not_wide : (IsWide (record { terms = []; degree = widest + 1 }) → ⊥)
     × (IsWide (record { terms = term 1 (yes 1) ∷ term widest (yes 2) ∷ []; degree = 0 }) → ⊥)
     × (IsWide (at_least 1 (yes 7 ∷ no 2 ∷ [])) → ⊥) × (IsWide (at_least 1 (yes 7 ∷ no 7 ∷ [])) → ⊥)
+    × (IsWide (record { terms = term 0 (yes 1) ∷ []; degree = 0 }) → ⊥)
 not_wide = (
   λ is. omega (arith, is.degree),
   λ is. omega (arith, is.weight),
   λ is. omega (arith, is.ascending 0 1 (term 1 (yes 1)) (lit< tt) (lit< tt)),
   λ is. omega (arith, is.ascending 0 1 (term 1 (yes 1)) (lit< tt) (lit< tt)),
+  λ is. omega (arith, is.coefs 0 (term 1 (yes 1)) (lit< tt)),
 )

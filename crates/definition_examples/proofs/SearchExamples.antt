@@ -1,7 +1,7 @@
 -- Two clauses of two variables, 1 or 2, and 1 or not 2: what a log of one step makes of them; and the trail of four
 -- rows of which each forces something.
 use Rattle.std.proofs.Common.{◌≡◌, ◌≢◌, ℕ, zero, suc, ◌+◌, ◌<◌, ◌≤◌, List, [], ◌∷◌, get_or, map, Some}
-use Rattle.std.proofs.Common.{Option, None, true, false, length, length-append, refl, ap, arith, lit<, lit≤, subst, sym}
+use Rattle.std.proofs.Common.{◌++◌, None, Ok, Err, true, false, length, length-append, refl, ap, arith, lit<, lit≤, subst, sym}
 use Rattle.std.specs.Prelude.{Contains}
 use Rattle.std.proofs.lemmas.List.Elements.{All-from_recursion}
 use Rattle.rows.specs.Cardinality.{at_least}
@@ -15,6 +15,9 @@ use Rattle.rows.specs.declared.partial.Value.TheVariants.{True, False, Free}
 use Rattle.refutation.specs.Steps.{Step}
 use Rattle.refutation.specs.Steps.Step.{Clause}
 use Rattle.refutation.specs.Following.{all_free, clause_row}
+use Rattle.refutation.specs.declared.verdict.Cause.{Cause}
+use Rattle.refutation.specs.declared.verdict.Cause.TheVariants.{NoConflict}
+use Rattle.refutation.specs.declared.verdict.Verdict.TheVariants.{Accepted, Rejected}
 use Rattle.propagate.specs.Trails.{IsForcedBy, IsLawful, NamesConflict, level_of, values_of}
 use Rattle.propagate.specs.declared.entry.Entry.{Entry}
 use Rattle.clause_search.specs.Answers.{IsAnswer, IsSpentAt, Refutes}
@@ -152,6 +155,13 @@ again values l quiet (zero, within, is) free =
     one_free values quiet one_is (rw one_is refl)
 again values l quiet (suc k, within, is) free = absurd (omega (arith, within))
 
+-- in a log too; and 2 doesn't follow from both rows: without it row 1 asks for 1, and row 2 is met
+err_ok : {r : Row} → Err NoConflict ≡ Ok r → ⊥
+err_ok is = cc
+
+pub news-none : IsNews two 2 (Clause (yes 2 ∷ []) (1 ∷ 2 ∷ [])) → ⊥
+news-none news = err_ok news.follows
+
 pub news-twice : AreNews two 2 (one ∷ one ∷ []) → ⊥
 news-twice (first_is, (empowering, others)) =
     let (values, l, quiet, there, free, alone) = empowering.empowering in
@@ -232,6 +242,14 @@ pub unspent : (IsSpentAt two 2 None (one ∷ []) → ⊥)
     × ((rows : List Row) (step : Step) → IsSpentAt rows 0 (Some 1) (step ∷ []) → ⊥)
 unspent = (λ is. none_some is.limited, λ rows step is. omega (arith, is.few))
 
+-- nor is one where a row is in conflict at once, nor one with a step that isn't tidy
+pub unspent-steps : (IsSpentAt (at_least 1 [] ∷ []) 2 (Some 0) [] → ⊥)
+    × (IsSpentAt two 2 (Some 1) (Clause (yes 1 ∷ yes 1 ∷ []) (1 ∷ 2 ∷ []) ∷ []) → ⊥)
+unspent-steps = (
+  λ is. omega (arith, (is.spent.quiet.1 0 (clause_row []) (lit< tt)).no_conflict),
+  λ is. (is.tidy 0 one (lit< tt)).variables 0 1 (yes 1) (lit< tt) (lit< tt) refl,
+)
+
 -- where 1 is true both clauses are met
 pub answer-values : IsAnswer two 2 None (Sat (true ∷ false ∷ []))
 answer-values = (
@@ -276,6 +294,33 @@ refutes-closed = record {
     ),
   );
 }
+
+rejected : {cause : Cause} → Rejected 1 cause ≡ Accepted → ⊥
+rejected is = cc
+
+-- without the last step, or with two hints too many in it, behind the conflict, it doesn't
+pub refutes-none : (Refutes closed 3 (Some 1) (one ∷ []) → ⊥)
+    × (Refutes closed 3 (Some 1) (one ∷ Clause [] (5 ∷ 3 ∷ 4 ∷ 4 ∷ 4 ∷ []) ∷ []) → ⊥)
+refutes-none = (λ refutes. rejected refutes.accepted, λ refutes. omega (arith, (refutes.tidy 1 one (lit< tt)).few))
+
+-- nor where the first step stands twice: the second time it is no news
+twice_before : (before : List Step) (hints : List ℕ) → one ∷ one ∷ falsum ∷ [] ≡ before ++ Clause [] hints ∷ []
+    → AreNews closed 3 before → ⊥
+twice_before [] hints is news = omega (arith, ap length is)
+twice_before (a ∷ []) hints is news = omega (arith, ap length is)
+twice_before (a ∷ b ∷ []) hints is news =
+    let first_is : one ≡ a = cc in
+    let second_is : one ≡ b = cc in
+    let both : AreNews closed 3 (one ∷ one ∷ []) =
+    subst (λ (s : Step). AreNews closed 3 (one ∷ s ∷ [])) (sym second_is)
+    (subst (λ (s : Step). AreNews closed 3 (s ∷ b ∷ [])) (sym first_is) news) in
+    let (values, l, quiet, there, free, alone) = both.1.0.empowering in
+    again values l (quiet 4 (clause_row []) (lit< tt)) there free
+twice_before (a ∷ b ∷ c ∷ before) hints is news =
+    omega (arith, ap length is, length-append before (Clause [] hints ∷ []))
+
+pub refutes-twice : Refutes closed 3 None (one ∷ one ∷ falsum ∷ []) → ⊥
+refutes-twice refutes = twice_before refutes.before refutes.hints refutes.last refutes.news
 
 -- where no step may come before the last, it is no answer
 pub refutes-none_before : Refutes closed 3 (Some 0) (one ∷ falsum ∷ []) → ⊥

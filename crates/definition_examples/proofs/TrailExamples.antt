@@ -58,10 +58,15 @@ new = (
 false_free : False ≡ Free → ⊥
 false_free is = cc
 
--- a decision with the level of those before it; 2 once more; a variable above the last
+-- a decision with the level of those before it; 2 once more; a variable above the last, and one of the number 0
 pub not_new : (IsNew 3 decided (entry (yes 3) 1 None) → ⊥) × (IsNew 3 decided (entry (yes 2) 1 (Some 1)) → ⊥)
-    × (IsNew 2 decided (entry (yes 3) 1 (Some 2)) → ⊥)
-not_new = (λ is. omega (arith, is.level), λ is. false_free is.free, λ is. omega (arith, is.known))
+    × (IsNew 2 decided (entry (yes 3) 1 (Some 2)) → ⊥) × (IsNew 3 decided (entry (yes 0) 2 None) → ⊥)
+not_new = (
+  λ is. omega (arith, is.level),
+  λ is. false_free is.free,
+  λ is. omega (arith, is.known),
+  λ is. omega (arith, is.from_one),
+)
 
 -- row 1 has 1 left, which it forces: 2 is false
 pub lawful : IsLawful rows 3 decided (entry (yes 1) 1 (Some 1))
@@ -93,9 +98,18 @@ grown = (
 true_false : true ≡ false → ⊥
 true_false is = cc
 
--- a decision wasn't; nor may entries go
+-- the number of a list's first variable
+abbrev first_var : List Entry → ℕ
+first_var entries = (get_or entries 0 (entry (no 9) 0 None)).lit.var
+
+-- a decision wasn't; nor may entries go, or change
 pub not_grown : (IsGrown [] decided → ⊥) × (IsGrown forced decided → ⊥)
-not_grown = (λ is. true_false (is.forced 0 (entry (no 2) 1 None) (lit≤ tt) (lit< tt)), λ is. omega (arith, is.longer))
+    × (IsGrown decided (entry (yes 3) 1 None ∷ entry (yes 1) 1 (Some 1) ∷ []) → ⊥)
+not_grown = (
+  λ is. true_false (is.forced 0 (entry (no 2) 1 None) (lit≤ tt) (lit< tt)),
+  λ is. omega (arith, is.longer),
+  λ is. let same : ◌≡◌ {A = ℕ} 3 2 = ap first_var is.kept in omega (arith, same),
+)
 
 -- ---- back to a level: before the decision of level 1 nothing stands
 
@@ -108,11 +122,14 @@ back = (
 false_true : false ≡ true → ⊥
 false_true is = cc
 
--- not only the decision stays at level 1, but what it forced
+-- not only the decision stays at level 1, but what it forced; other entries don't; and nothing is added
 pub not_back : (IsBackTo 1 forced decided → ⊥) × (IsBackTo 0 forced forced → ⊥)
+    × (IsBackTo 1 decided (entry (yes 3) 1 None ∷ []) → ⊥) × (IsBackTo 1 decided forced → ⊥)
 not_back = (
   λ is. false_true (is.next (entry (no 2) 1 None) (lit< tt)),
   λ is. omega (arith, is.level_is),
+  λ is. let same : ◌≡◌ {A = ℕ} 3 2 = ap first_var is.front in omega (arith, same),
+  λ is. omega (arith, is.shorter),
 )
 
 -- ---- quiet before each decision
