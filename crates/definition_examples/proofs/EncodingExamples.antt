@@ -1,10 +1,10 @@
 -- Leagues of six teams: x(i,j,s) is 1 + 10 (5 i + j') + s, h(i,s) is 301 + 10 i + s, hb(i,s) is 361 + 9 i + s - 1, and
 -- ab(i,s) is 54 more. Of four: x(i,j,s) is 1 + 6 (3 i + j') + s, and h(i,s) is 73 + 6 i + s.
-use Rattle.std.proofs.Common.{◌≡◌, ◌≢◌, ℕ, zero, suc, ◌+◌, ◌-◌, ◌<◌, ◌≤◌, Bool, true, false, List, [], ◌∷◌, map, length}
+use Rattle.std.proofs.Common.{◌≡◌, ◌≢◌, ℕ, zero, suc, ◌+◌, ◌<◌, ◌≤◌, Bool, true, false, List, [], ◌∷◌, map, length}
 use Rattle.std.proofs.Common.{nat_lt, refl, arith, lit<}
 use Rattle.std.proofs.lemmas.List.Elements.{All-from_recursion}
 use Rattle.league.specs.Breaks.{is_away_break, is_home_break}
-use Rattle.league.specs.Counts.{Counts, counts_of, slot_count}
+use Rattle.league.specs.Counts.{Counts, counts_of}
 use Rattle.league.specs.Instance.{Instance}
 use Rattle.league.specs.Venues.{home_games}
 use Rattle.league.specs.declared.class.Class.TheVariants.{Ca1, Ca2, Ca3, Ca4, Ga1, Br1, Br2, Fa2, Se1}

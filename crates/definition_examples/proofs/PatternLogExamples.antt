@@ -74,9 +74,28 @@ both : (v w : ℕ) → IsQuietRow all_free (at_least 1 (yes v ∷ yes w ∷ []))
 both v w = (quiet_two (yes v) (yes w) refl, quiet_two (no v) (no w) refl)
 
 quiet : IsQuiet all_free (pattern_rows league)
-quiet = All-from_recursion (IsQuietRow all_free) (pattern_rows league)
-    ((both 5 7).0, ((both 5 7).1, ((both 6 8).0, ((both 6 8).1, ((both 5 6).0, ((both 5 6).1, ((both 7 8).0,
-    ((both 7 8).1, (quiet_two (no 5) (yes 7) refl, (quiet_two (yes 5) (no 7) refl, tt))))))))))
+quiet = All-from_recursion (IsQuietRow all_free) (pattern_rows league) (
+  (both 5 7).0,
+  (
+    (both 5 7).1,
+    (
+      (both 6 8).0,
+      (
+        (both 6 8).1,
+        (
+          (both 5 6).0,
+          (
+            (both 5 6).1,
+            (
+              (both 7 8).0,
+              ((both 7 8).1, (quiet_two (no 5) (yes 7) refl, (quiet_two (yes 5) (no 7) refl, tt))),
+            ),
+          ),
+        ),
+      ),
+    ),
+  ),
+)
 
 alone : (other : Literal) → Contains (yes 5 ∷ []) other → other ≢ yes 5 → value_of all_free other ≡ False
 alone other (zero, within, is) differs = absurd (differs (sym is))

@@ -3,7 +3,7 @@
 use Rattle.std.proofs.Common.{◌≡◌, ℕ, zero, suc, ◌<◌, Bool, true, false, ◌&&◌, ◌==◌, List, [], ◌∷◌, IsTrue}
 use Rattle.std.proofs.Common.{drop, refl, arith, lit<, lit≤}
 use Rattle.std.specs.List.{All}
-use Rattle.league.specs.Counts.{Counts, counts_of}
+use Rattle.league.specs.Counts.{counts_of}
 use Rattle.league.specs.Instance.{Instance, IsInstance, class_fits}
 use Rattle.league.specs.declared.class.Class.TheVariants.{Ga1}
 use Rattle.league.specs.declared.class.Constraint.{Constraint}

@@ -6,7 +6,7 @@ use Rattle.std.proofs.lemmas.List.Elements.{All-from_recursion}
 use Rattle.rows.specs.Cardinality.{at_least, between, exactly}
 use Rattle.rows.specs.Forcing.{forced_by, set_true, with_forced}
 use Rattle.rows.specs.Literals.{Literal, yes, no}
-use Rattle.rows.specs.Partials.{Forces, IsEmpowering, IsQuiet, IsQuietRow, reach, value_of}
+use Rattle.rows.specs.Partials.{Forces, IsEmpowering, IsQuietRow, reach, value_of}
 use Rattle.rows.specs.Rows.{IsRow, Row, weight}
 use Rattle.rows.specs.Tests.{all_satisfied, satisfied, true_count}
 use Rattle.rows.specs.Trails.{IsListed}

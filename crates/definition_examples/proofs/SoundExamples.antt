@@ -4,14 +4,13 @@ use Rattle.std.proofs.Common.{lit<}
 use Rattle.std.specs.List.{fold}
 use Rattle.std.proofs.lemmas.List.Elements.{All-from_recursion}
 use Rattle.rows.specs.Cardinality.{at_least}
-use Rattle.rows.specs.Literals.{Literal, yes, no}
+use Rattle.rows.specs.Literals.{yes, no}
 use Rattle.rows.specs.Rows.{Row, Satisfies}
 use Rattle.rows.specs.Values.{assigned}
 use Rattle.rows.specs.declared.lit.Term.{Term}
 use Rattle.refutation.specs.Steps.{Step}
 use Rattle.refutation.specs.Steps.Step.{Clause, Linear}
 use Rattle.refutation.specs.Verdict.{verdict_of}
-use Rattle.refutation.specs.declared.step.Part.{Part}
 use Rattle.refutation.specs.declared.step.StepKind.TheVariants as kinds
 use Rattle.refutation.specs.declared.verdict.Cause.TheVariants.{NoConflict}
 use Rattle.refutation.specs.declared.verdict.Verdict.TheVariants.{Accepted, Rejected}

@@ -1,7 +1,7 @@
 -- The text of a log of one step: its lines are short, it is one of the two texts of the log, it is read in pieces, and
 -- what a reader answers of it.
-use Rattle.std.proofs.Common.{◌≡◌, ℕ, ◌+◌, ◌≤◌, true, false, List, [], ◌∷◌, ◌++◌, length, Option, Some, None, Ok, Err}
-use Rattle.std.proofs.Common.{refl, ap, arith, lit<, lit≤}
+use Rattle.std.proofs.Common.{◌≡◌, ℕ, ◌≤◌, true, false, List, [], ◌∷◌, ◌++◌, length, Option, Some, None, Ok, Err}
+use Rattle.std.proofs.Common.{refl, ap, arith, lit≤}
 use Rattle.std.specs.Prelude.{codes}
 use Rattle.std.specs.Fmt.{digits}
 use Rattle.std.proofs.lemmas.List.Elements.{All-from_recursion, All-nil}
@@ -9,9 +9,9 @@ use Rattle.rows.specs.Literals.{no}
 use Rattle.refutation.specs.Answers.{Finishes, SaysLog}
 use Rattle.refutation.specs.Feeding.{FeedsAll, ReadsOn}
 use Rattle.refutation.specs.Logs.{Fault, Reading, lines_from, log_of, most_bytes, no_steps_but, nothing_more}
-use Rattle.refutation.specs.Places.{Place, log_from, start}
+use Rattle.refutation.specs.Places.{Place}
 use Rattle.refutation.specs.Steps.{Step}
-use Rattle.refutation.specs.Steps.Step.{Clause, Linear}
+use Rattle.refutation.specs.Steps.Step.{Clause}
 use Rattle.refutation.specs.Texts.{step_text, text_in, version_of}
 use Rattle.refutation.specs.Writable.{HasShortLines, IsLogText}
 use Rattle.refutation.specs.declared.fault.LogFault.TheVariants.{Form, Mem}
@@ -86,9 +86,7 @@ reads-other_line reads =
     omega (arith, lines)
 
 is_line : IsLine (codes "-6 0 14 2 0")
-is_line = All-from_recursion (λ (b : ℕ). 32 ≤ b) (codes "-6 0 14 2 0")
-    (lit≤ tt, (lit≤ tt, (lit≤ tt, (lit≤ tt, (lit≤ tt, (lit≤ tt, (lit≤ tt, (lit≤ tt, (lit≤ tt, (lit≤ tt, (lit≤ tt,
-    tt)))))))))))
+is_line = All-from_recursion (λ (b : ℕ). 32 ≤ b) (codes "-6 0 14 2 0") (omega arith)
 
 -- with the rest of the line and its LF the step comes, behind what was read before
 pub reads-step : (before : List Step) → ReadsOn within_line before (codes " 14 2 0\n") behind_step (before ++ log)
@@ -99,7 +97,7 @@ reads-step before = record {
 }
 
 is_end : IsLine (codes "end")
-is_end = All-from_recursion (λ (b : ℕ). 32 ≤ b) (codes "end") (lit≤ tt, (lit≤ tt, (lit≤ tt, tt)))
+is_end = All-from_recursion (λ (b : ℕ). 32 ≤ b) (codes "end") (omega arith)
 
 pub reads-end : ReadsOn behind_step log (codes "end\n") behind_end log
 reads-end = record {

@@ -1,11 +1,10 @@
 -- Trails over two rows, 1 or 2, and not 1 or 3: 2 is decided to be false, and then row 1 forces 1, and row 2 forces 3.
-use Rattle.std.proofs.Common.{◌≡◌, ℕ, zero, suc, ◌+◌, ◌<◌, ◌≤◌, true, false, List, [], ◌∷◌, get_or, length, map, take}
-use Rattle.std.proofs.Common.{Option, Some, None, refl, ap, arith, length-take-le, lit<, lit≤}
-use Rattle.std.specs.Prelude.{Contains, slice_get}
+use Rattle.std.proofs.Common.{◌≡◌, ℕ, zero, suc, ◌+◌, ◌<◌, ◌≤◌, true, false, List, [], ◌∷◌, get_or, take}
+use Rattle.std.proofs.Common.{Option, Some, None, refl, ap, arith, lit<, lit≤}
 use Rattle.std.proofs.lemmas.List.Elements.{All-from_recursion}
 use Rattle.rows.specs.Cardinality.{at_least}
 use Rattle.rows.specs.Literals.{Literal, yes, no}
-use Rattle.rows.specs.Partials.{IsInConflict, IsQuiet, IsQuietRow, reach, value_of}
+use Rattle.rows.specs.Partials.{IsQuiet, IsQuietRow, reach, value_of}
 use Rattle.rows.specs.Rows.{Row}
 use Rattle.rows.specs.declared.lit.Term.{Term}
 use Rattle.rows.specs.declared.partial.Value.{Value}
