@@ -57,12 +57,27 @@ zero_two-least other start closed (suc (suc (suc a))) is = absurd (false_true is
 pub least_closed : IsLeastClosed leads 3 0 zero_two
 least_closed = record { start = refl; closed = zero_two-closed; least = zero_two-least }
 
--- 0 alone isn't closed, and all numbers aren't the least set; with the bound 2 the step to 2 doesn't count; and 1 isn't
--- in the set
+-- with the bound 2 the step to 2 doesn't count, and 0 is alone
 abbrev zero_alone : ℕ → Bool
 zero_alone zero = true
 zero_alone (suc a) = false
 
+alone_below : (a b : ℕ) → b < 2 → zero_alone a ≡ true → leads a b ≡ true → zero_alone b ≡ true
+alone_below zero zero below is next = refl
+alone_below zero (suc zero) below is next = absurd (false_true next)
+alone_below zero (suc (suc b)) below is next = absurd (omega (arith, below))
+alone_below (suc a) b below is next = absurd (false_true is)
+
+alone_least : (other : ℕ → Bool) → other 0 ≡ true
+    → ((a b : ℕ) → b < 2 → other a ≡ true → leads a b ≡ true → other b ≡ true)
+    → (a : ℕ) → zero_alone a ≡ true → other a ≡ true
+alone_least other start closed zero is = start
+alone_least other start closed (suc a) is = absurd (false_true is)
+
+pub least_closed-two : IsLeastClosed leads 2 0 zero_alone
+least_closed-two = record { start = refl; closed = alone_below; least = alone_least }
+
+-- below 3 it isn't closed, and all numbers aren't the least set; below 2 the set with 2 isn't; and 1 isn't in the set
 pub not_least_closed : (IsLeastClosed leads 3 0 zero_alone → ⊥) × (IsLeastClosed leads 3 0 all_numbers → ⊥)
     × (IsLeastClosed leads 2 0 zero_two → ⊥) × (IsLeastClosed leads 3 1 zero_two → ⊥)
 not_least_closed = (
@@ -70,12 +85,7 @@ not_least_closed = (
   λ is. false_true (is.least zero_two refl zero_two-closed 1 refl),
   λ is. false_true (is.least zero_alone refl alone_below 2 refl),
   λ is. false_true is.start,
-) where
-  alone_below : (a b : ℕ) → b < 2 → zero_alone a ≡ true → leads a b ≡ true → zero_alone b ≡ true
-  alone_below zero zero below is next = refl
-  alone_below zero (suc zero) below is next = absurd (false_true next)
-  alone_below zero (suc (suc b)) below is next = absurd (omega (arith, below))
-  alone_below (suc a) b below is next = absurd (false_true is)
+)
 
 -- ---- an edit: the game of slot 0 is turned, and the other stays
 
