@@ -1,8 +1,12 @@
 -- Leagues of six teams: x(i,j,s) is 1 + 10 (5 i + j') + s, h(i,s) is 301 + 10 i + s, hb(i,s) is 361 + 9 i + s - 1, and
 -- ab(i,s) is 54 more. Of four: x(i,j,s) is 1 + 6 (3 i + j') + s, and h(i,s) is 73 + 6 i + s.
-use Rattle.std.proofs.Common.{◌≡◌, ℕ, ◌+◌, Bool, true, false, List, [], ◌∷◌, map, length, refl}
-use Rattle.league.specs.Counts.{counts_of}
+use Rattle.std.proofs.Common.{◌≡◌, ◌≢◌, ℕ, zero, suc, ◌+◌, ◌<◌, ◌≤◌, Bool, true, false, List, [], ◌∷◌, map, length}
+use Rattle.std.proofs.Common.{nat_lt, refl, arith, lit<}
+use Rattle.std.proofs.lemmas.List.Elements.{All-from_recursion}
+use Rattle.league.specs.Breaks.{is_away_break, is_home_break}
+use Rattle.league.specs.Counts.{Counts, counts_of}
 use Rattle.league.specs.Instance.{Instance}
+use Rattle.league.specs.Venues.{home_games}
 use Rattle.league.specs.declared.class.Class.TheVariants.{Ca1, Ca2, Ca3, Ca4, Ga1, Br1, Br2, Fa2, Se1}
 use Rattle.league.specs.declared.class.Constraint.{Constraint}
 use Rattle.league.specs.declared.class.Side.TheVariants.{H, A, Both}
@@ -10,11 +14,15 @@ use Rattle.league.specs.declared.class.Span.TheVariants.{Every}
 use Rattle.league.proofs.DoubleFour.{game}
 use Rattle.rows.specs.Cardinality.{at_least}
 use Rattle.rows.specs.Literals.{yes, no}
+use Rattle.rows.specs.Rows.{Row}
 use Rattle.rows.specs.Tests.{all_satisfied}
 use Rattle.rows.specs.Values.{assigned}
+use Rattle.rows.specs.declared.lit.Term.{Term}
+use Rattle.encoding.specs.Capped.{capped}
 use Rattle.encoding_base.specs.Encoding.{class_rows, encoding_size, rows_of}
+use Rattle.encoding_base.specs.Known.{AreKnown, IsKnown}
 use Rattle.encoding_base.specs.Season.{half_rows}
-use Rattle.encoding_base.specs.Shadow.{decoded}
+use Rattle.encoding_base.specs.Shadow.{IsShadow, decoded}
 use Rattle.encoding_base.specs.Variables.{ab_var, h_var, hb_var, place_beside, var_count, x_var}
 use Rattle.decoding.specs.Shortfalls.{meets_hard, shortfall, units_needed}
 
@@ -138,3 +146,146 @@ nowhere hard = record { hard = hard; penalty = 0; class = Ca1 (0 ∷ []) 0 0 H (
 pub meets_free : map (λ hard. meets_hard 2 (counts_of (game 1 0 0 ∷ game 0 1 1 ∷ [])) (nowhere hard ∷ []))
     (true ∷ false ∷ []) ≡ false ∷ true ∷ []
 meets_free = refl
+
+-- ---- shadows
+
+-- where nothing is said of breaks, these values are the shadow of the games that they decode to
+abbrev turns : Counts
+turns = counts_of (game 1 0 0 ∷ game 0 1 1 ∷ [])
+
+turns-games : (i j s : ℕ) → i < 2 → j < 2 → i ≢ j → s < 2 → played (x_var 2 i j s) ≡ nat_lt 0 (turns i j s)
+turns-games zero zero s home away differ slot = absurd (differ refl)
+turns-games zero (suc zero) zero home away differ slot = refl
+turns-games zero (suc zero) (suc zero) home away differ slot = refl
+turns-games zero (suc zero) (suc (suc s)) home away differ slot = absurd (omega (arith, slot))
+turns-games zero (suc (suc j)) s home away differ slot = absurd (omega (arith, away))
+turns-games (suc zero) zero zero home away differ slot = refl
+turns-games (suc zero) zero (suc zero) home away differ slot = refl
+turns-games (suc zero) zero (suc (suc s)) home away differ slot = absurd (omega (arith, slot))
+turns-games (suc zero) (suc zero) s home away differ slot = absurd (differ refl)
+turns-games (suc zero) (suc (suc j)) s home away differ slot = absurd (omega (arith, away))
+turns-games (suc (suc i)) j s home away differ slot = absurd (omega (arith, home))
+
+turns-venues : (i s : ℕ) → i < 2 → s < 2 → played (h_var 2 i s) ≡ nat_lt 0 (home_games 2 turns i s)
+turns-venues zero zero team slot = refl
+turns-venues zero (suc zero) team slot = refl
+turns-venues (suc zero) zero team slot = refl
+turns-venues (suc zero) (suc zero) team slot = refl
+turns-venues zero (suc (suc s)) team slot = absurd (omega (arith, slot))
+turns-venues (suc zero) (suc (suc s)) team slot = absurd (omega (arith, slot))
+turns-venues (suc (suc i)) s team slot = absurd (omega (arith, team))
+
+false_true : false ≡ true → ⊥
+false_true is = cc
+
+true_false : true ≡ false → ⊥
+true_false is = cc
+
+pub shadow-turns : IsShadow 2 false turns played
+shadow-turns = record {
+  games = turns-games;
+  venues = turns-venues;
+  home_breaks = λ breaks. absurd (false_true breaks);
+  away_breaks = λ breaks. absurd (false_true breaks);
+}
+
+-- with team 0 at home in slot 0 too they aren't
+pub shadow-misplaced : IsShadow 2 false turns misplaced → ⊥
+shadow-misplaced shadow = true_false (shadow.venues 0 0 (lit< tt) (lit< tt))
+
+-- where breaks have variables, 9 and 10 are those of home breaks at slot 1, 11 and 12 those of away breaks: 0 is at
+-- home to 1 in both slots, in slot 1 twice, so that 0 has a home break and 1 an away break
+abbrev twice : Counts
+twice = counts_of (game 0 1 0 ∷ game 0 1 1 ∷ game 0 1 1 ∷ [])
+
+abbrev stays : ℕ → Bool
+stays = assigned
+    (true ∷ true ∷ false ∷ false ∷ true ∷ true ∷ false ∷ false ∷ true ∷ false ∷ false ∷ true ∷ [])
+
+stays-games : (i j s : ℕ) → i < 2 → j < 2 → i ≢ j → s < 2 → stays (x_var 2 i j s) ≡ nat_lt 0 (twice i j s)
+stays-games zero zero s home away differ slot = absurd (differ refl)
+stays-games zero (suc zero) zero home away differ slot = refl
+stays-games zero (suc zero) (suc zero) home away differ slot = refl
+stays-games zero (suc zero) (suc (suc s)) home away differ slot = absurd (omega (arith, slot))
+stays-games zero (suc (suc j)) s home away differ slot = absurd (omega (arith, away))
+stays-games (suc zero) zero zero home away differ slot = refl
+stays-games (suc zero) zero (suc zero) home away differ slot = refl
+stays-games (suc zero) zero (suc (suc s)) home away differ slot = absurd (omega (arith, slot))
+stays-games (suc zero) (suc zero) s home away differ slot = absurd (differ refl)
+stays-games (suc zero) (suc (suc j)) s home away differ slot = absurd (omega (arith, away))
+stays-games (suc (suc i)) j s home away differ slot = absurd (omega (arith, home))
+
+stays-venues : (i s : ℕ) → i < 2 → s < 2 → stays (h_var 2 i s) ≡ nat_lt 0 (home_games 2 twice i s)
+stays-venues zero zero team slot = refl
+stays-venues zero (suc zero) team slot = refl
+stays-venues (suc zero) zero team slot = refl
+stays-venues (suc zero) (suc zero) team slot = refl
+stays-venues zero (suc (suc s)) team slot = absurd (omega (arith, slot))
+stays-venues (suc zero) (suc (suc s)) team slot = absurd (omega (arith, slot))
+stays-venues (suc (suc i)) s team slot = absurd (omega (arith, team))
+
+stays-home : (i s : ℕ) → i < 2 → 0 < s → s < 2 → stays (hb_var 2 i s) ≡ is_home_break 2 twice i s
+stays-home i zero team some slot = absurd (omega (arith, some))
+stays-home zero (suc zero) team some slot = refl
+stays-home (suc zero) (suc zero) team some slot = refl
+stays-home (suc (suc i)) (suc zero) team some slot = absurd (omega (arith, team))
+stays-home i (suc (suc s)) team some slot = absurd (omega (arith, slot))
+
+stays-away : (i s : ℕ) → i < 2 → 0 < s → s < 2 → stays (ab_var 2 i s) ≡ is_away_break 2 twice i s
+stays-away i zero team some slot = absurd (omega (arith, some))
+stays-away zero (suc zero) team some slot = refl
+stays-away (suc zero) (suc zero) team some slot = refl
+stays-away (suc (suc i)) (suc zero) team some slot = absurd (omega (arith, team))
+stays-away i (suc (suc s)) team some slot = absurd (omega (arith, slot))
+
+pub shadow-breaks : IsShadow 2 true twice stays
+shadow-breaks = record {
+  games = stays-games;
+  venues = stays-venues;
+  home_breaks = λ breaks. stays-home;
+  away_breaks = λ breaks. stays-away;
+}
+
+-- what says nothing of breaks is no shadow there: 9 has to be true
+pub shadow-no_breaks : IsShadow 2 true twice
+    (assigned (true ∷ true ∷ false ∷ false ∷ true ∷ true ∷ false ∷ false ∷ []))
+    → ⊥
+shadow-no_breaks shadow = false_true (shadow.home_breaks refl 0 1 (lit< tt) (lit< tt) (lit< tt))
+
+-- and so has 12; and a game that takes place has its variable true
+pub shadow-others : (IsShadow 2 true twice
+    (assigned (true ∷ true ∷ false ∷ false ∷ true ∷ true ∷ false ∷ false ∷ true ∷ [])) → ⊥)
+    × (IsShadow 2 false turns (assigned (false ∷ false ∷ true ∷ false ∷ false ∷ true ∷ true ∷ [])) → ⊥)
+shadow-others = (
+  λ shadow. false_true (shadow.away_breaks refl 1 1 (lit< tt) (lit< tt) (lit< tt)),
+  λ shadow. false_true (shadow.games 0 1 1 (lit< tt) (lit< tt) (λ is. omega (arith, is)) (lit< tt)),
+)
+
+-- ---- known variables: from 1 to the number of them
+
+abbrev known_row : Row
+known_row = at_least 1 (yes 1 ∷ no 3 ∷ [])
+
+pub known : IsKnown 3 known_row × (IsKnown 2 known_row → ⊥) × (IsKnown 3 (at_least 1 (yes 0 ∷ [])) → ⊥)
+known = (
+  All-from_recursion (λ (t : Term). (1 ≤ t.lit.var) × (t.lit.var ≤ 3)) known_row.terms
+      ((omega arith, omega arith), ((omega arith, omega arith), tt)),
+  λ is. omega (arith, (is 1 (record { coef = 1; lit = yes 1 }) (lit< tt)).1),
+  λ is. omega (arith, (is 0 (record { coef = 1; lit = yes 1 }) (lit< tt)).0),
+)
+
+-- each row, and a row without terms speaks of no variable
+pub known_rows : AreKnown 3 (known_row ∷ at_least 1 [] ∷ []) × AreKnown 0 (at_least 1 [] ∷ [])
+    × (AreKnown 3 (known_row ∷ at_least 1 (yes 4 ∷ []) ∷ []) → ⊥)
+known_rows = (
+  All-from_recursion (IsKnown 3) (known_row ∷ at_least 1 [] ∷ [])
+      (known.0, ((λ k d within. absurd (omega (arith, within))), tt)),
+  All-from_recursion (IsKnown 0) (at_least 1 [] ∷ []) ((λ k d within. absurd (omega (arith, within))), tt),
+  λ are. omega (arith, (are 1 known_row (lit< tt) 0 (record { coef = 1; lit = yes 1 }) (lit< tt)).1),
+)
+
+-- ---- a number of terms that doesn't fit in 64 bits is told as the greatest that does
+
+pub capped-some : map capped (0 ∷ 2760 ∷ 18446744073709551614 ∷ 18446744073709551615 ∷ 18446744073709551616 ∷ [])
+    ≡ 0 ∷ 2760 ∷ 18446744073709551614 ∷ 18446744073709551615 ∷ 18446744073709551615 ∷ []
+capped-some = refl

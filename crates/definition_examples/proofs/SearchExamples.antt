@@ -1,23 +1,28 @@
 -- Two clauses of two variables, 1 or 2, and 1 or not 2: what a log of one step makes of them; and the trail of four
 -- rows of which each forces something.
 use Rattle.std.proofs.Common.{◌≡◌, ◌≢◌, ℕ, zero, suc, ◌+◌, ◌<◌, ◌≤◌, List, [], ◌∷◌, get_or, map, Some}
-use Rattle.std.proofs.Common.{refl, arith, lit<, sym}
+use Rattle.std.proofs.Common.{◌++◌, None, Ok, Err, true, false, length, length-append, refl, ap, arith, lit<, lit≤, subst, sym}
 use Rattle.std.specs.Prelude.{Contains}
 use Rattle.std.proofs.lemmas.List.Elements.{All-from_recursion}
 use Rattle.rows.specs.Cardinality.{at_least}
 use Rattle.rows.specs.Literals.{Literal, yes, no}
-use Rattle.rows.specs.Rows.{Row}
+use Rattle.rows.specs.Rows.{Row, Satisfies}
 use Rattle.rows.specs.Partials.{IsQuiet, IsQuietRow, reach, value_of}
-use Rattle.rows.specs.Values.{valued}
+use Rattle.rows.specs.Values.{assigned, valued}
 use Rattle.rows.specs.declared.lit.Term.{Term}
 use Rattle.rows.specs.declared.partial.Value.{Value}
 use Rattle.rows.specs.declared.partial.Value.TheVariants.{True, False, Free}
 use Rattle.refutation.specs.Steps.{Step}
 use Rattle.refutation.specs.Steps.Step.{Clause}
 use Rattle.refutation.specs.Following.{all_free, clause_row}
+use Rattle.refutation.specs.declared.verdict.Cause.{Cause}
+use Rattle.refutation.specs.declared.verdict.Cause.TheVariants.{NoConflict}
+use Rattle.refutation.specs.declared.verdict.Verdict.TheVariants.{Accepted, Rejected}
 use Rattle.propagate.specs.Trails.{IsForcedBy, IsLawful, NamesConflict, level_of, values_of}
 use Rattle.propagate.specs.declared.entry.Entry.{Entry}
-use Rattle.clause_search.specs.News.{IsNews, IsSpent}
+use Rattle.clause_search.specs.Answers.{IsAnswer, IsSpentAt, Refutes}
+use Rattle.clause_search.specs.News.{AreNews, IsNews, IsSpent, IsTidy}
+use Rattle.clause_search.specs.declared.found.Found.TheVariants.{Sat}
 
 -- ---- a clause of two literals is quiet where 2 are within reach, one of one literal where it is true
 
@@ -140,3 +145,184 @@ conflict = record {
   numbered = record { from_one = omega arith; there = refl };
   conflict_is = omega arith;
 }
+
+-- ---- news of a log: in the quiet values that the second step would need 1 would be free, and the first step forces it
+
+again : (values : ℕ → Value) (l : Literal) → IsQuietRow values (clause_row (yes 1 ∷ [])) → Contains (yes 1 ∷ []) l
+    → value_of values l ≡ Free → ⊥
+again values l quiet (zero, within, is) free =
+    let one_is : values 1 ≡ Free = subst (λ (m : Literal). value_of values m ≡ Free) (sym is) free in
+    one_free values quiet one_is (rw one_is refl)
+again values l quiet (suc k, within, is) free = absurd (omega (arith, within))
+
+-- in a log too; and 2 doesn't follow from both rows: without it row 1 asks for 1, and row 2 is met
+err_ok : {r : Row} → Err NoConflict ≡ Ok r → ⊥
+err_ok is = cc
+
+pub news-none : IsNews two 2 (Clause (yes 2 ∷ []) (1 ∷ 2 ∷ [])) → ⊥
+news-none news = err_ok news.follows
+
+pub news-twice : AreNews two 2 (one ∷ one ∷ []) → ⊥
+news-twice (first_is, (empowering, others)) =
+    let (values, l, quiet, there, free, alone) = empowering.empowering in
+    again values l (quiet 2 (clause_row []) (lit< tt)) there free
+
+-- ---- tidy steps: each variable once, each a known one, and at most one more hint than there are variables
+
+no_variables : (vars : ℕ) (hints : List ℕ) → length hints ≤ vars + 1
+    → ((k d : ℕ) → k < length hints → 1 ≤ get_or hints k d) → IsTidy vars (Clause [] hints)
+no_variables vars hints few named = record {
+  variables = λ i j d before within. absurd (omega (arith, within));
+  from_one = λ k d within. absurd (omega (arith, within));
+  known = λ k d within. absurd (omega (arith, within));
+  few = few;
+  named = named;
+}
+
+tidy_one : (vars : ℕ) → 1 ≤ vars → IsTidy vars one
+tidy_one vars some = record {
+  variables = λ i j d before within. absurd (omega (arith, before, within));
+  from_one = All-from_recursion (λ (l : Literal). 1 ≤ l.var) (yes 1 ∷ []) (omega arith, tt);
+  known = All-from_recursion (λ (l : Literal). l.var ≤ vars) (yes 1 ∷ []) (omega arith, tt);
+  few = omega arith;
+  named = All-from_recursion (λ (hint : ℕ). 1 ≤ hint) (1 ∷ 2 ∷ []) (omega arith, (omega arith, tt));
+}
+
+-- one variable, and two hints, which are the most that one may have
+pub tidy-one : IsTidy 1 one
+tidy-one = tidy_one 1 (lit≤ tt)
+
+apart : (i j : ℕ) (d : Literal) → i < j → j < 2
+    → (get_or (no 2 ∷ yes 1 ∷ []) i d).var ≡ (get_or (no 2 ∷ yes 1 ∷ []) j d).var → ⊥
+apart zero (suc zero) d before within is = omega (arith, is)
+apart zero zero d before within is = omega (arith, before)
+apart zero (suc (suc j)) d before within is = omega (arith, within)
+apart (suc i) zero d before within is = omega (arith, before)
+apart (suc i) (suc zero) d before within is = omega (arith, before)
+apart (suc i) (suc (suc j)) d before within is = omega (arith, within)
+
+-- both variables, in any order, and a hint that stands twice
+pub tidy-both : IsTidy 2 (Clause (no 2 ∷ yes 1 ∷ []) (2 ∷ 1 ∷ 2 ∷ []))
+tidy-both = record {
+  variables = apart;
+  from_one = All-from_recursion (λ (l : Literal). 1 ≤ l.var) (no 2 ∷ yes 1 ∷ []) (omega arith, (omega arith, tt));
+  known = All-from_recursion (λ (l : Literal). l.var ≤ 2) (no 2 ∷ yes 1 ∷ []) (omega arith, (omega arith, tt));
+  few = omega arith;
+  named = All-from_recursion (λ (hint : ℕ). 1 ≤ hint) (2 ∷ 1 ∷ 2 ∷ []) (omega arith, (omega arith, (omega arith, tt)));
+}
+
+-- a variable that stands twice, though once negated; one above the last; one with the number 0; a hint of the number 0;
+-- one hint too many
+pub untidy : (IsTidy 2 (Clause (yes 1 ∷ no 1 ∷ []) []) → ⊥) × (IsTidy 2 (Clause (yes 3 ∷ []) []) → ⊥)
+    × (IsTidy 2 (Clause (yes 0 ∷ []) []) → ⊥) × (IsTidy 2 (Clause [] (0 ∷ [])) → ⊥)
+    × (IsTidy 2 (Clause [] (1 ∷ 1 ∷ 1 ∷ 1 ∷ [])) → ⊥)
+untidy = (
+  λ tidy. tidy.variables 0 1 (yes 1) (lit< tt) (lit< tt) refl,
+  λ tidy. omega (arith, tidy.known 0 (yes 1) (lit< tt)),
+  λ tidy. omega (arith, tidy.from_one 0 (yes 1) (lit< tt)),
+  λ tidy. omega (arith, tidy.named 0 1 (lit< tt)),
+  λ tidy. omega (arith, tidy.few),
+)
+
+-- ---- what is answered: a log that is spent at 1, where there are 9 clauses of two variables
+
+pub spent-within_one : IsSpentAt two 2 (Some 1) (one ∷ [])
+spent-within_one = record {
+  limited = refl;
+  spent = spent-at_one;
+  few = lit< tt;
+  tidy = All-from_recursion (IsTidy 2) (one ∷ []) (tidy_one 2 (lit≤ tt), tt);
+}
+
+none_some : {n : ℕ} → None ≡ Some n → ⊥
+none_some is = cc
+
+-- without a limit none is spent, and none of so many steps as there are clauses: of no variable there is one
+pub unspent : (IsSpentAt two 2 None (one ∷ []) → ⊥)
+    × ((rows : List Row) (step : Step) → IsSpentAt rows 0 (Some 1) (step ∷ []) → ⊥)
+unspent = (λ is. none_some is.limited, λ rows step is. omega (arith, is.few))
+
+-- nor is one where a row is in conflict at once, nor one with a step that isn't tidy
+pub unspent-steps : (IsSpentAt (at_least 1 [] ∷ []) 2 (Some 0) [] → ⊥)
+    × (IsSpentAt two 2 (Some 1) (Clause (yes 1 ∷ yes 1 ∷ []) (1 ∷ 2 ∷ []) ∷ []) → ⊥)
+unspent-steps = (
+  λ is. omega (arith, (is.spent.quiet.1 0 (clause_row []) (lit< tt)).no_conflict),
+  λ is. (is.tidy 0 one (lit< tt)).variables 0 1 (yes 1) (lit< tt) (lit< tt) refl,
+)
+
+-- where 1 is true both clauses are met
+pub answer-values : IsAnswer two 2 None (Sat (true ∷ false ∷ []))
+answer-values = (
+  refl,
+  All-from_recursion (Satisfies (assigned (true ∷ false ∷ []))) two (omega arith, (omega arith, tt)),
+)
+
+-- ---- a log that refutes: two clauses more, 1 needs 3, and 1 needs not 3. The step comes behind them as row 5.
+
+abbrev closed : List Row
+closed = at_least 1 (yes 1 ∷ yes 2 ∷ []) ∷ at_least 1 (yes 1 ∷ no 2 ∷ []) ∷ at_least 1 (no 1 ∷ yes 3 ∷ [])
+    ∷ at_least 1 (no 1 ∷ no 3 ∷ []) ∷ []
+
+abbrev falsum : Step
+falsum = Clause [] (5 ∷ 3 ∷ 4 ∷ [])
+
+closed_quiet : IsQuiet all_free closed
+closed_quiet = All-from_recursion (IsQuietRow all_free) closed (
+  quiet_two all_free (yes 1) (yes 2) refl,
+  (
+    quiet_two all_free (yes 1) (no 2) refl,
+    (quiet_two all_free (no 1) (yes 3) refl, (quiet_two all_free (no 1) (no 3) refl, tt)),
+  ),
+)
+
+-- 1 is true by row 5, so 3 is by row 3, which row 4 forbids; one step comes before the last, and one is allowed
+pub refutes-closed : Refutes closed 3 (Some 1) (one ∷ falsum ∷ [])
+refutes-closed = record {
+  accepted = refl;
+  before = one ∷ [];
+  hints = 5 ∷ 3 ∷ 4 ∷ [];
+  last = refl;
+  news = (record { follows = refl; empowering = (all_free, yes 1, closed_quiet, (0, lit< tt, refl), refl, alone) }, tt);
+  within = lit≤ tt;
+  tidy = All-from_recursion (IsTidy 3) (one ∷ falsum ∷ []) (
+    tidy_one 3 (lit≤ tt),
+    (
+      no_variables 3 (5 ∷ 3 ∷ 4 ∷ []) (lit≤ tt)
+          (All-from_recursion (λ (hint : ℕ). 1 ≤ hint) (5 ∷ 3 ∷ 4 ∷ [])
+          (omega arith, (omega arith, (omega arith, tt)))),
+      tt,
+    ),
+  );
+}
+
+rejected : {cause : Cause} → Rejected 1 cause ≡ Accepted → ⊥
+rejected is = cc
+
+-- without the last step, or with two hints too many in it, behind the conflict, it doesn't
+pub refutes-none : (Refutes closed 3 (Some 1) (one ∷ []) → ⊥)
+    × (Refutes closed 3 (Some 1) (one ∷ Clause [] (5 ∷ 3 ∷ 4 ∷ 4 ∷ 4 ∷ []) ∷ []) → ⊥)
+refutes-none = (λ refutes. rejected refutes.accepted, λ refutes. omega (arith, (refutes.tidy 1 one (lit< tt)).few))
+
+-- nor where the first step stands twice: the second time it is no news
+twice_before : (before : List Step) (hints : List ℕ) → one ∷ one ∷ falsum ∷ [] ≡ before ++ Clause [] hints ∷ []
+    → AreNews closed 3 before → ⊥
+twice_before [] hints is news = omega (arith, ap length is)
+twice_before (a ∷ []) hints is news = omega (arith, ap length is)
+twice_before (a ∷ b ∷ []) hints is news =
+    let first_is : one ≡ a = cc in
+    let second_is : one ≡ b = cc in
+    let both : AreNews closed 3 (one ∷ one ∷ []) =
+    subst (λ (s : Step). AreNews closed 3 (one ∷ s ∷ [])) (sym second_is)
+    (subst (λ (s : Step). AreNews closed 3 (s ∷ b ∷ [])) (sym first_is) news) in
+    let (values, l, quiet, there, free, alone) = both.1.0.empowering in
+    again values l (quiet 4 (clause_row []) (lit< tt)) there free
+twice_before (a ∷ b ∷ c ∷ before) hints is news =
+    omega (arith, ap length is, length-append before (Clause [] hints ∷ []))
+
+pub refutes-twice : Refutes closed 3 None (one ∷ one ∷ falsum ∷ []) → ⊥
+refutes-twice refutes = twice_before refutes.before refutes.hints refutes.last refutes.news
+
+-- where no step may come before the last, it is no answer
+pub refutes-none_before : Refutes closed 3 (Some 0) (one ∷ falsum ∷ []) → ⊥
+refutes-none_before refutes =
+    omega (arith, ap length refutes.last, length-append refutes.before (Clause [] refutes.hints ∷ []), refutes.within)
