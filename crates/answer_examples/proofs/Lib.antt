@@ -1,0 +1,8 @@
+-- What is solved, refuted or left open of a league of two teams, with what can be written of it:
+mod SolveExamples
+-- Conflicts of two demands and of one, and what is explained of a league:
+mod ConflictExamples
+-- A season of two slots of which the first is played:
+mod ResumeExamples
+-- What a walk gives, bounds on sums, rules with their prices, climbs, and what is said of a log:
+mod WalkExamples

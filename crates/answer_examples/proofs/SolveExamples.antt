@@ -1,0 +1,628 @@
+-- Two teams in no phases. x(0,1,s) is 1 + s, x(1,0,s) 3 + s, h(0,s) 5 + s, and h(1,s) 7 + s. They have two seasons: in
+-- `home` team 1 is at home in slot 0 and team 0 in slot 1, and in `out` it is the other way round.
+use Prim.Native.String.{String}
+use Rattle.std.proofs.Common.{◌≡◌, ℕ, zero, suc, ◌+◌, ◌<◌, ◌≤◌, ◌==◌, Bool, true, false, ◌&&◌, ◌||◌, nat_lt, cond}
+use Rattle.std.proofs.Common.{if◌then◌else◌, List, [], ◌∷◌, ◌++◌, map, drop, length, get_or, Option, Some, None, IfSome}
+use Rattle.std.proofs.Common.{codes, refl, sym, arith, ap, ap₂, lit<, lit≤, IsTrue}
+use Rattle.std.proofs.Math.Path.{fun_ext}
+use Rattle.std.proofs.lemmas.Bool.Decides.{nat_tests}
+use Rattle.std.proofs.lemmas.List.Elements.{All-cons, All-from_recursion, All-nil}
+use Rattle.std.proofs.lemmas.List.Kept.{AllPairs-cons}
+use Rattle.std.specs.Fmt.{digits}
+use Rattle.std.specs.List.{All, AllPairs}
+use Rattle.std.specs.Ordering.{is_le}
+use Rattle.league.specs.Accepted.{IsAccepted}
+use Rattle.league.specs.Counts.{Counts, counts_of}
+use Rattle.league.specs.Instance.{Instance, IsGame, IsInstance, class_fits, is_one_side}
+use Rattle.league.specs.Order.{IsInOrder, game_cmp}
+use Rattle.league.specs.declared.class.Class.{Class}
+use Rattle.league.specs.declared.class.Class.TheVariants.{Ca1, Ga1}
+use Rattle.league.specs.declared.class.Constraint.{Constraint}
+use Rattle.league.specs.declared.class.Side.{Side}
+use Rattle.league.specs.declared.class.Side.TheVariants.{A, H}
+use Rattle.league.specs.declared.game.Game.{Game}
+use Rattle.league.proofs.AcceptedLemmas.{MeetsHard-from_sum}
+use Rattle.league.proofs.DoubleFour.{game}
+use Rattle.rows.specs.Cardinality.{at_least}
+use Rattle.rows.specs.Literals.{Literal, yes, no}
+use Rattle.rows.specs.Partials.{IsQuiet, IsQuietRow, is_false, opposite_of, reach, value_of}
+use Rattle.rows.specs.Rows.{Row, Satisfies}
+use Rattle.rows.specs.Values.{assigned}
+use Rattle.rows.specs.declared.lit.Term.{Term}
+use Rattle.rows.specs.declared.partial.Value.{Value}
+use Rattle.rows.specs.declared.partial.Value.TheVariants.{True, False, Free}
+use Rattle.encoding_base.specs.Encoding.{rows_of}
+use Rattle.encoding_base.specs.Variables.{h_var}
+use Rattle.patterns.specs.Pattern.{IsPattern}
+use Rattle.moves.specs.Moves.{is_between, moved, times, turned}
+use Rattle.moves.specs.Neighbours.{home_swap}
+use Rattle.moves.specs.declared.swap.Swap.{Swap}
+use Rattle.refutation.specs.Following.{all_free}
+use Rattle.refutation.specs.Steps.{NamesRows, Step}
+use Rattle.refutation.specs.Steps.Step.{Clause, Linear}
+use Rattle.refutation.specs.Texts.{step_text, version_of}
+use Rattle.refutation.specs.declared.step.Part.{Part}
+use Rattle.refutation.specs.declared.verdict.Cause.TheVariants.{NoConflict, NoEmptyClause}
+use Rattle.refutation.specs.declared.verdict.Verdict.TheVariants.{Accepted, Rejected}
+use Rattle.refutation.specs.declared.version.Version.TheVariants.{One, Two}
+use Rattle.clause_search.specs.News.{IsTidy}
+use Rattle.pattern_search.specs.PatternRows.{pattern_rows}
+use Rattle.pattern_search.specs.PatternSets.{SayPatterns, is_home, letter_at}
+use Rattle.pattern_search.specs.declared.found.PatternFound.TheVariants as patterns
+use Rattle.season_check.proofs.SeasonLemmas.{accepted_logs_exclude}
+use Rattle.descent.specs.Descended.{Descended}
+use Rattle.descent.specs.Settled.{IsLowering, IsSettled}
+use Rattle.budgets.specs.declared.budgets.Budgets.{Budgets}
+use Rattle.solve.specs.Solutions.{IsDescent, IsSchedule, IsSolution, IsSpentOn, IsWritable, LeavesOpen, RefutesLeague}
+use Rattle.solve.specs.Solutions.{league_score}
+use Rattle.solve.specs.Earliest.{IsBestOf, IsBestOfTries, IsEarliestLeast}
+use Rattle.solve.specs.Tried.{IsSeason}
+use Rattle.solve.specs.declared.lower.Season.{Season}
+use Rattle.solve.specs.declared.solved.Solved.TheVariants as solved
+
+-- lines, each with its end
+abbrev pub text : List String → List ℕ
+text [] = []
+text (line ∷ lines) = codes line ++ (codes "\n" ++ text lines)
+
+abbrev pub hard : Class → Constraint
+hard class = record { hard = true; penalty = 1; class = class }
+
+abbrev pub soft : ℕ → Class → Constraint
+soft penalty class = record { hard = false; penalty = penalty; class = class }
+
+abbrev pub two_with : List Constraint → Instance
+two_with constraints = record { n = 2; phased = false; constraints = constraints }
+
+abbrev pub home : List Game
+home = game 1 0 0 ∷ game 0 1 1 ∷ []
+
+abbrev pub out : List Game
+out = game 0 1 0 ∷ game 1 0 1 ∷ []
+
+pub fits_home : All (IsGame 2) home
+fits_home = All-from_recursion (IsGame 2) home (
+  record { home = omega arith; away = omega arith; differ = λ e. omega arith; slot = omega arith },
+  (record { home = omega arith; away = omega arith; differ = λ e. omega arith; slot = omega arith }, tt),
+)
+
+pub fits_out : All (IsGame 2) out
+fits_out = All-from_recursion (IsGame 2) out (
+  record { home = omega arith; away = omega arith; differ = λ e. omega arith; slot = omega arith },
+  (record { home = omega arith; away = omega arith; differ = λ e. omega arith; slot = omega arith }, tt),
+)
+
+abbrev comes_before : Game → Game → Type 0
+comes_before g h = IsTrue (is_le (game_cmp g h))
+
+none_before : AllPairs comes_before []
+none_before i j d before inside = absurd (omega (arith, inside))
+
+in_order_two : (g h : Game) → IsTrue (is_le (game_cmp g h)) → IsInOrder (g ∷ h ∷ [])
+in_order_two g h before =
+    AllPairs-cons comes_before g (h ∷ []) (All-cons (comes_before g) h [] before (All-nil (comes_before g)))
+    (AllPairs-cons comes_before h [] (All-nil (comes_before h)) none_before)
+
+pub ordered_home : IsInOrder home
+ordered_home = in_order_two (game 1 0 0) (game 0 1 1) refl
+
+pub ordered_out : IsInOrder out
+ordered_out = in_order_two (game 0 1 0) (game 1 0 1) refl
+
+pub false_true : false ≡ true → ⊥
+false_true is = cc
+
+-- team 0 had better not be away in slot 0, at 5: both seasons are accepted
+abbrev pub wish : Constraint
+wish = soft 5 (Ca1 (0 ∷ []) 0 0 A (0 ∷ []))
+
+abbrev pub wishful : Instance
+wishful = two_with (wish ∷ [])
+
+pub accepted_home : IsAccepted wishful (counts_of home)
+accepted_home = record {
+  round_robin = record { pairs = refl; cells = refl; phases = refl };
+  hard = MeetsHard-from_sum wishful (counts_of home) refl;
+}
+
+pub accepted_out : IsAccepted wishful (counts_of out)
+accepted_out = record {
+  round_robin = record { pairs = refl; cells = refl; phases = refl };
+  hard = MeetsHard-from_sum wishful (counts_of out) refl;
+}
+
+-- ---- refuted: team 0 is to be at home in both slots
+
+-- its row is row 29, and row 26 says that team 0 is at home in one slot at most
+abbrev homes : Instance
+homes = two_with (hard (Ca1 (0 ∷ []) 2 2 H (0 ∷ 1 ∷ [])) ∷ [])
+
+pub rows-homes : drop 25 (rows_of homes)
+    ≡ at_least 1 (no 5 ∷ no 6 ∷ []) ∷ at_least 1 (yes 7 ∷ yes 8 ∷ []) ∷ at_least 1 (no 7 ∷ no 8 ∷ [])
+    ∷ at_least 2 (yes 5 ∷ yes 6 ∷ [])
+    ∷ []
+rows-homes = refl
+
+homes_instance : IsInstance homes
+homes_instance = record {
+  teams = record { even = refl; at_least = omega arith; at_most = omega arith };
+  few = omega arith;
+  fit = All-from_recursion (λ (c : Constraint). IsTrue (class_fits 2 c.class)) homes.constraints (refl, tt);
+}
+
+-- row 29 forces both, and then row 26 is in conflict
+abbrev log : List Step
+log = Clause [] (29 ∷ 26 ∷ []) ∷ []
+
+-- `0 29 26 0` has 9 bytes
+short_log : length (step_text One (Clause [] (29 ∷ 26 ∷ []))) ≤ 16777216
+unfolding digits
+short_log = lit≤ tt
+
+pub writable-log : IsWritable log
+writable-log = record {
+  named = All-from_recursion NamesRows log (
+    All-from_recursion (λ (hint : ℕ). 1 ≤ hint) (29 ∷ 26 ∷ []) (omega arith, (omega arith, tt)),
+    tt,
+  );
+  short = All-from_recursion (λ (step : Step). length (step_text (version_of log) step) ≤ 16777216) log (short_log, tt);
+}
+
+pub refutes-homes : RefutesLeague homes log
+refutes-homes = record {
+  accepted = refl;
+  none = accepted_logs_exclude homes log homes_instance refl;
+  writable = writable-log;
+}
+
+accepted_or : (steps : ℕ) → Rejected steps NoConflict ≡ Accepted → ⊥
+accepted_or steps is = cc
+
+accepted_empty : Rejected 0 NoEmptyClause ≡ Accepted → ⊥
+accepted_empty is = cc
+
+-- at home in one of them, as each team is: the row forces nothing
+pub refutes-once : RefutesLeague (two_with (hard (Ca1 (0 ∷ []) 1 1 H (0 ∷ 1 ∷ [])) ∷ [])) log → ⊥
+refutes-once is = accepted_or 1 is.accepted
+
+-- a log of no steps refutes nothing
+pub refutes-no_steps : (league : Instance) → RefutesLeague league [] → ⊥
+refutes-no_steps league is = accepted_empty is.accepted
+
+-- a league that accepts a season is refuted by none
+pub refutes-wishful : (steps : List Step) → RefutesLeague wishful steps → ⊥
+refutes-wishful steps is = is.none home accepted_home
+
+-- ---- a sum can be written, in version 2, as `l 2 29 1 26 0 2`, unless it names no row
+
+abbrev twice : Part
+twice = record { factor = 2; row = 29 }
+
+abbrev once : ℕ → Part
+once number = record { factor = 1; row = number }
+
+abbrev sum : Step
+sum = Linear (twice ∷ once 26 ∷ []) 2
+
+short_sum : length (step_text Two sum) ≤ 16777216
+unfolding digits
+short_sum = lit≤ tt
+
+pub writable-sum : IsWritable (sum ∷ [])
+writable-sum = record {
+  named = All-from_recursion NamesRows (sum ∷ []) (
+    All-from_recursion (λ (part : Part). 1 ≤ part.row) (twice ∷ once 26 ∷ []) (omega arith, (omega arith, tt)),
+    tt,
+  );
+  short = All-from_recursion (λ (step : Step). length (step_text (version_of (sum ∷ [])) step) ≤ 16777216) (sum ∷ [])
+      (short_sum, tt);
+}
+
+none_named : 1 ≤ 0 → ⊥
+none_named is = omega (arith, is)
+
+pub writable-no_row : IsWritable (Linear (twice ∷ once 0 ∷ []) 2 ∷ []) → ⊥
+writable-no_row is = none_named (is.named 0 sum (lit< tt) 1 twice (lit< tt))
+
+-- ---- spent: rows of two literals force nothing where nothing is known
+
+quiet_two : (l m : Literal) → reach all_free (at_least 1 (l ∷ m ∷ [])).terms ≡ 2
+    → IsQuietRow all_free (at_least 1 (l ∷ m ∷ []))
+quiet_two l m two = record { no_conflict = omega (arith, two); none_forced = λ k d within. slack k d within two } where
+  slack : (k : ℕ) (d : Term) → k < 2 → reach all_free (at_least 1 (l ∷ m ∷ [])).terms ≡ 2
+      → value_of all_free (get_or (at_least 1 (l ∷ m ∷ [])).terms k d).lit ≡ Free
+      → 1 + (get_or (at_least 1 (l ∷ m ∷ [])).terms k d).coef ≤ reach all_free (at_least 1 (l ∷ m ∷ [])).terms
+  slack zero d within two free = omega (arith, two)
+  slack (suc zero) d within two free = omega (arith, two)
+  slack (suc (suc k)) d within two free = absurd (omega arith)
+
+quiet_signed : (v w : ℕ) (a b : Bool)
+    → IsQuietRow all_free (at_least 1 (record { var = v; positive = a } ∷ record { var = w; positive = b } ∷ []))
+quiet_signed v w true true = quiet_two (yes v) (yes w) refl
+quiet_signed v w true false = quiet_two (yes v) (no w) refl
+quiet_signed v w false true = quiet_two (no v) (yes w) refl
+quiet_signed v w false false = quiet_two (no v) (no w) refl
+
+abbrev pub pair_row : Literal × Literal → Row
+pair_row p = at_least 1 (p.0 ∷ p.1 ∷ [])
+
+pub quiet_pairs : (pairs : List (Literal × Literal)) → IsQuiet all_free (map pair_row pairs)
+quiet_pairs [] = All-nil (IsQuietRow all_free)
+quiet_pairs (p ∷ pairs) =
+    All-cons (IsQuietRow all_free) (pair_row p) (map pair_row pairs)
+    (quiet_signed p.0.var p.1.var p.0.positive p.1.positive) (quiet_pairs pairs)
+
+-- exactly one of two variables is true, or both say the same
+abbrev pub one_of : ℕ → ℕ → List (Literal × Literal)
+one_of v w = (yes v, yes w) ∷ (no v, no w) ∷ []
+
+abbrev pub same : ℕ → ℕ → List (Literal × Literal)
+same v w = (yes v, no w) ∷ (no v, yes w) ∷ []
+
+-- the patterns: in each slot one team is at home, and each team once
+abbrev pub pattern_pairs : List (Literal × Literal)
+pattern_pairs = one_of 5 7 ++ (one_of 6 8 ++ (one_of 5 6 ++ one_of 7 8))
+
+-- each meeting takes place in one of two slots; each team has in each slot a game at home or away; and the venues
+abbrev pub season_pairs : List (Literal × Literal)
+season_pairs =
+    one_of 1 2 ++ (one_of 3 4
+    ++ (one_of 1 3 ++ (one_of 2 4 ++ (one_of 1 3 ++ (one_of 2 4
+    ++ (same 1 5 ++ (same 2 6 ++ (same 3 7 ++ (same 4 8 ++ pattern_pairs)))))))))
+
+pub rows-season : rows_of (two_with []) ≡ map pair_row season_pairs
+rows-season = refl
+
+-- one of their two games is in slot 1, which always is so
+abbrev one_there : Instance
+one_there = two_with (hard (Ga1 ((0, 1) ∷ (1, 0) ∷ []) 1 1 (1 ∷ [])) ∷ [])
+
+pub rows-one_there : (rows_of one_there ≡ map pair_row (season_pairs ++ one_of 2 4))
+    × (pattern_rows one_there ≡ map pair_row pattern_pairs)
+rows-one_there = (refl, refl)
+
+-- a log of no steps can be written
+pub writable-none : IsWritable []
+writable-none = record {
+  named = All-nil NamesRows;
+  short = All-nil (λ (step : Step). length (step_text (version_of []) step) ≤ 16777216);
+}
+
+-- at the limit 0 the log without steps is spent, and 0 is below 3 to the 8
+pub spent-one_there : IsSpentOn one_there (Some 0) []
+spent-one_there = record {
+  limited = refl;
+  spent = record { count = refl; news = tt; quiet = (all_free, quiet_pairs (season_pairs ++ one_of 2 4)) };
+  few = lit< tt;
+  tidy = All-nil (IsTidy 8);
+  writable = writable-none;
+}
+
+-- where propagation alone refutes the rows, no log without steps is spent: no values are quiet on rows 29 and 26
+abbrev counts_for : Value → ℕ
+counts_for value = if is_false value then 0 else 1
+
+never_both : (a b : Value) → 2 ≤ 0 + counts_for a + counts_for b
+    → (a ≡ Free → 3 ≤ 0 + counts_for a + counts_for b) → (b ≡ Free → 3 ≤ 0 + counts_for a + counts_for b)
+    → 1 ≤ 0 + counts_for (opposite_of a) + counts_for (opposite_of b) → ⊥
+never_both True True two first second one = omega (arith, one)
+never_both True False two first second one = omega (arith, two)
+never_both True Free two first second one = omega (arith, second refl)
+never_both False True two first second one = omega (arith, two)
+never_both False False two first second one = omega (arith, two)
+never_both False Free two first second one = omega (arith, two)
+never_both Free True two first second one = omega (arith, first refl)
+never_both Free False two first second one = omega (arith, first refl)
+never_both Free Free two first second one = omega (arith, first refl)
+
+never_quiet : (values : ℕ → Value) → IsQuietRow values (at_least 2 (yes 5 ∷ yes 6 ∷ []))
+    → IsQuietRow values (at_least 1 (no 5 ∷ no 6 ∷ [])) → ⊥
+never_quiet values homes once =
+    let some : Term = record { coef = 1; lit = yes 5 } in
+    never_both (values 5) (values 6) homes.no_conflict (homes.none_forced 0 some (lit< tt))
+    (homes.none_forced 1 some (lit< tt)) once.no_conflict
+
+pub spent-homes : (limit : Option ℕ) → IsSpentOn homes limit [] → ⊥
+spent-homes limit is =
+    let quiet : IsQuiet is.spent.quiet.0 (rows_of homes) = is.spent.quiet.1 in
+    never_quiet is.spent.quiet.0 (quiet 28 (at_least 0 []) (lit< tt)) (quiet 25 (at_least 0 []) (lit< tt))
+
+-- nor is one spent at another limit, or one of as many steps as 3 to the 8
+some_one : ◌≡◌ {A = Option ℕ} (Some 1) (Some 0) → ⊥
+some_one is = let same : ◌≡◌ {A = ℕ} 1 0 = cc in omega (arith, same)
+
+pub spent-one : IsSpentOn one_there (Some 1) [] → ⊥
+spent-one is = some_one is.limited
+
+too_many : (steps : ℕ) → 6561 ≤ steps → steps < 6561 → ⊥
+too_many steps many few = omega (arith, many, few)
+
+pub spent-many : (limit : Option ℕ) (steps : List Step) → 6561 ≤ length steps → IsSpentOn one_there limit steps → ⊥
+spent-many limit steps many is = too_many (length steps) many is.few
+
+-- nor one that speaks of a ninth variable
+nine_eight : 9 ≤ 8 → ⊥
+nine_eight is = omega (arith, is)
+
+pub spent-ninth : (limit : Option ℕ) (hints : List ℕ) → IsSpentOn one_there limit (Clause (yes 9 ∷ []) hints ∷ []) → ⊥
+spent-ninth limit hints is = nine_eight ((is.tidy 0 (Clause [] []) (lit< tt)).known 0 (yes 9) (lit< tt))
+
+-- ---- descents: in `home` team 0 is away in slot 0, which it had better not be; the home swap of the two mends that
+
+pub lowers-home : IsLowering 2 false (league_score wishful) (counts_of home) (home_swap (0, 1))
+lowers-home = record {
+  of_league = (lit< tt, lit< tt);
+  legal = record { own = lit< tt; round_robin = record { pairs = refl; cells = refl; phases = refl } };
+  lower = refl;
+}
+
+-- a descent that may make no move stops there, and isn't settled
+abbrev stopped : Descended
+stopped = record { first = home; trail = []; settled = false }
+
+pub descent-stopped : IsDescent wishful 0 home stopped
+descent-stopped = record {
+  first = accepted_home;
+  fit = fits_home;
+  in_order = ordered_home;
+  trail = refl;
+  few = omega arith;
+  settled = (
+    λ yes. absurd (false_true yes),
+    λ settled. absurd (settled (home_swap (0, 1)) lowers-home),
+  );
+  spent = λ no. refl;
+}
+
+-- nor may it say that it is
+pub descent-unsettled : IsDescent wishful 0 home (record { first = home; trail = []; settled = true }) → ⊥
+descent-unsettled is = is.settled.0 refl (home_swap (0, 1)) lowers-home
+
+-- where no move was made, the games are the first ones, which the league accepts
+none_one : ◌≡◌ {A = ℕ} 0 1 → ⊥
+none_one is = omega (arith, is)
+
+pub descent-elsewhere : (moves : ℕ) (settled : Bool)
+    → IsDescent wishful moves out (record { first = home; trail = []; settled = settled }) → ⊥
+descent-elsewhere moves settled is = none_one (ap (λ (m : Counts). m 1 0 0) is.trail)
+
+two_wrong : ◌≡◌ {A = ℕ} 2 0 → ⊥
+two_wrong is = omega (arith, is)
+
+pub descent-from_nothing : (moves : ℕ) (trail : List Swap) (settled : Bool)
+    → IsDescent wishful moves out (record { first = []; trail = trail; settled = settled }) → ⊥
+descent-from_nothing moves trail settled is = two_wrong is.first.round_robin.pairs
+
+pub schedule-stopped : IsSchedule wishful 0 home 5 stopped
+schedule-stopped = record {
+  accepted = accepted_home;
+  fit = fits_home;
+  in_order = ordered_home;
+  cost = refl;
+  descends = descent-stopped;
+}
+
+-- a descent of one move leads from `home` to `out`: as games of the two teams, where the venues are exchanged
+exchanged : (a b c : Bool) → (a && b && c) ≡ (b && a && c)
+exchanged true true c = refl
+exchanged true false c = refl
+exchanged false true c = refl
+exchanged false false c = refl
+
+turned_counts : (i j s : ℕ) → counts_of out i j s ≡ counts_of home j i s
+turned_counts i j s =
+    ap₂ (λ (x y : Bool). 0 + cond x 1 0 + cond y 1 0) (exchanged (0 == i) (1 == j) (0 == s))
+    (exchanged (1 == i) (0 == j) (1 == s))
+
+-- and there are no others
+other_counts : (i j s : ℕ) → is_between 0 1 (game i j s) ≡ false → counts_of out i j s ≡ counts_of home i j s
+other_counts i j s other = grind (arith, nat_tests)
+
+swapped_by : (b : Bool) (i j s : ℕ) → is_between 0 1 (game i j s) ≡ b
+    → counts_of out i j s ≡ times (counts_of home) (if b then turned (game i j s) else game i j s)
+swapped_by true i j s is = turned_counts i j s
+swapped_by false i j s is = other_counts i j s is
+
+pub swapped_home : counts_of out ≡ moved 2 (counts_of home) (home_swap (0, 1))
+swapped_home = fun_ext (λ i. fun_ext (λ j. fun_ext (λ s. swapped_by (is_between 0 1 (game i j s)) i j s refl)))
+
+-- and back
+swapped_back : (b : Bool) (i j s : ℕ) → is_between 0 1 (game i j s) ≡ b
+    → counts_of home i j s ≡ times (counts_of out) (if b then turned (game i j s) else game i j s)
+swapped_back true i j s is = sym (turned_counts j i s)
+swapped_back false i j s is = sym (other_counts i j s is)
+
+pub swapped_out : counts_of home ≡ moved 2 (counts_of out) (home_swap (0, 1))
+swapped_out = fun_ext (λ i. fun_ext (λ j. fun_ext (λ s. swapped_back (is_between 0 1 (game i j s)) i j s refl)))
+
+-- where nothing costs anything, no move lowers the score
+nothing_lower : (a b : ℕ) → (nat_lt a 0 || ((a == 0) && nat_lt b 0)) ≡ true → ⊥
+nothing_lower a b lower =
+    let none : (nat_lt a 0 || ((a == 0) && nat_lt b 0)) ≡ false = grind (arith, nat_tests) in
+    cc
+
+settled_out : IsSettled 2 false (league_score wishful) (counts_of out)
+settled_out step lowers =
+    nothing_lower (league_score wishful (moved 2 (counts_of out) step)).infeasibility
+    (league_score wishful (moved 2 (counts_of out) step)).objective lowers.lower
+
+abbrev lowered : Descended
+lowered = record { first = home; trail = home_swap (0, 1) ∷ []; settled = true }
+
+true_false : true ≡ false → ⊥
+true_false is = cc
+
+pub descent-lowered : IsDescent wishful 1 out lowered
+descent-lowered = record {
+  first = accepted_home;
+  fit = fits_home;
+  in_order = ordered_home;
+  trail = (lowers-home, swapped_home);
+  few = omega arith;
+  settled = (λ yes. settled_out, λ settled. refl);
+  spent = λ no. absurd (true_false no);
+}
+
+pub schedule-lowered : IsSchedule wishful 1 out 0 lowered
+schedule-lowered = record {
+  accepted = accepted_out;
+  fit = fits_out;
+  in_order = ordered_out;
+  cost = refl;
+  descends = descent-lowered;
+}
+
+no_move : 1 ≤ 0 → ⊥
+no_move few = omega (arith, few)
+
+-- it is none where no move may be made
+pub descent-no_move : IsDescent wishful 0 out lowered → ⊥
+descent-no_move is = no_move is.few
+
+-- ---- what is left open: team 0 is away and then at home, team 1 the other way round
+
+abbrev turns : List (List Side)
+turns = (A ∷ H ∷ []) ∷ (H ∷ A ∷ []) ∷ []
+
+-- 6 and 7 are true
+abbrev values : ℕ → Bool
+values = assigned (false ∷ false ∷ false ∷ false ∷ false ∷ true ∷ true ∷ false ∷ [])
+
+at_home : (i s : ℕ) → i < 2 → s < 2 → values (h_var 2 i s) ≡ is_home (letter_at turns i s)
+at_home zero zero team slot = refl
+at_home zero (suc zero) team slot = refl
+at_home (suc zero) zero team slot = refl
+at_home (suc zero) (suc zero) team slot = refl
+at_home zero (suc (suc s)) team slot = absurd (omega (arith, slot))
+at_home (suc zero) (suc (suc s)) team slot = absurd (omega (arith, slot))
+at_home (suc (suc i)) s team slot = absurd (omega (arith, team))
+
+say : SayPatterns 2 false turns values
+say = record {
+  venues = at_home;
+  home_breaks = λ breaks. absurd (false_true breaks);
+  away_breaks = λ breaks. absurd (false_true breaks);
+}
+
+letters_fit : (a b : Side) → IsTrue (is_one_side a) → IsTrue (is_one_side b) → IsPattern (a ∷ b ∷ [])
+letters_fit a b first second = record {
+  at_most = omega arith;
+  letters = All-from_recursion (λ side. IsTrue (is_one_side side)) (a ∷ b ∷ []) (first, (second, tt));
+}
+
+pub leaves-patterns : LeavesOpen one_there 0 (patterns.Patterns turns)
+leaves-patterns = record {
+  teams = refl;
+  slots = All-from_recursion (λ (pattern : List Side). length pattern ≡ 2) turns (refl, (refl, tt));
+  letters = All-from_recursion IsPattern turns (letters_fit A H refl refl, (letters_fit H A refl refl, tt));
+  values = values;
+  say = say;
+  met = All-from_recursion (Satisfies values) (pattern_rows one_there) (
+    omega arith,
+    (
+      omega arith,
+      (
+        omega arith,
+        (
+          omega arith,
+          (omega arith, (omega arith, (omega arith, (omega arith, tt)))),
+        ),
+      ),
+    ),
+  );
+}
+
+-- or, at the budget 0, nothing is known of them
+pub leaves-spent : LeavesOpen one_there 0 (patterns.Spent [])
+leaves-spent = record {
+  limited = refl;
+  news = tt;
+  quiet = (all_free, quiet_pairs pattern_pairs);
+  few = lit< tt;
+  tidy = All-nil (IsTidy 8);
+}
+
+-- ---- answers, each to its league
+
+abbrev budgets : Budgets
+budgets = record { conflicts = Some 0; moves = 1; tries = 1; patterns = 0; seed = 3 }
+
+pub solution-schedule : IsSolution wishful budgets (solved.Schedule out 0 lowered)
+solution-schedule = schedule-lowered
+
+pub solution-refuted : IsSolution homes budgets (solved.Refuted log)
+solution-refuted = refutes-homes
+
+pub solution-spent : IsSolution one_there budgets (solved.Spent [] (patterns.Patterns turns))
+    × IsSolution one_there budgets (solved.Spent [] (patterns.Spent []))
+solution-spent = ((spent-one_there, leaves-patterns), (spent-one_there, leaves-spent))
+
+-- `home` is no answer for what `out` costs
+dear_home : ◌≡◌ {A = ℕ} 0 5 → ⊥
+dear_home is = omega (arith, is)
+
+pub solution-cheap : IsSolution wishful budgets (solved.Schedule home 0 stopped) → ⊥
+solution-cheap is = dear_home is.cost
+
+-- ---- the best of two tries, neither of which may move: the first stops at `home`, the second finds `out`
+
+abbrev resting : Descended
+resting = record { first = out; trail = []; settled = true }
+
+season_out : IsSchedule wishful 0 out 0 resting
+season_out = record {
+  accepted = accepted_out;
+  fit = fits_out;
+  in_order = ordered_out;
+  cost = refl;
+  descends = record {
+    first = accepted_out;
+    fit = fits_out;
+    in_order = ordered_out;
+    trail = refl;
+    few = omega arith;
+    settled = (λ yes. settled_out, λ settled. refl);
+    spent = λ no. absurd (true_false no);
+  };
+}
+
+abbrev dear : Season
+dear = record { schedule = home; objective = 5; descent = stopped }
+
+abbrev cheap : Season
+cheap = record { schedule = out; objective = 0; descent = resting }
+
+-- a try that finds none between them, and one behind them that is no better
+pub best-second : IsEarliestLeast (Some dear ∷ None ∷ Some cheap ∷ Some cheap ∷ []) cheap
+best-second = record {
+  before = Some dear ∷ None ∷ [];
+  after = Some cheap ∷ [];
+  place = refl;
+  earlier = All-from_recursion (λ (o : Option Season). IfSome o (λ s. 0 < s.objective)) (Some dear ∷ None ∷ [])
+      (lit< tt, (tt, tt));
+  later = All-from_recursion (λ (o : Option Season). IfSome o (λ s. 0 ≤ s.objective)) (Some cheap ∷ []) (lit≤ tt, tt);
+}
+
+-- where a try finds one, there is a best
+pub best-none : IsBestOf (None ∷ Some dear ∷ []) None → ⊥
+best-none is = true_false (is 1 None (lit< tt))
+
+abbrev two_tries : Budgets
+two_tries = record { conflicts = None; moves = 0; tries = 2; patterns = 0; seed = 3 }
+
+pub best-tries : IsBestOfTries wishful two_tries (solved.Schedule out 0 resting)
+best-tries = record {
+  found = Some dear ∷ Some cheap ∷ [];
+  each = All-from_recursion (λ (o : Option Season). IfSome o (IsSeason wishful 0)) (Some dear ∷ Some cheap ∷ [])
+      (schedule-stopped, (season_out, tt));
+  few = λ some. lit≤ tt;
+  all = λ no. lit≤ tt;
+  best = record {
+    before = Some dear ∷ [];
+    after = [];
+    place = refl;
+    earlier = All-from_recursion (λ (o : Option Season). IfSome o (λ s. 0 < s.objective)) (Some dear ∷ [])
+        (lit< tt, tt);
+    later = All-nil (λ (o : Option Season). IfSome o (λ s. 0 ≤ s.objective));
+  };
+}
