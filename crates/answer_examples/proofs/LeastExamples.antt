@@ -1,0 +1,388 @@
+-- Two teams, in no phases. x(0,1,s) is 1 + s, x(1,0,s) 3 + s, h(0,s) 5 + s and h(1,s) 7 + s. Behind slot 0 one of them has
+-- had a home game more, so that to be even there costs 4 in each season: a log of two steps proves it, and one of none
+-- is spent. The league that wants team 0 away in slot 0, at 3, has a season at 3 and one at nothing.
+use Rattle.std.proofs.Common.{◌≡◌, ℕ, zero, suc, ◌+◌, ◌<◌, ◌≤◌, ◌&&◌, ◌⊎◌, inl, inr, Bool, true, false, not, nat_le}
+use Rattle.std.proofs.Common.{nat_lt, List, [], ◌∷◌, drop, get_or, length, length-append, All, Contains, Option, Some}
+use Rattle.std.proofs.Common.{None, IsTrue, ap, arith, lit<, refl, sym}
+use Rattle.std.specs.List.{list_all}
+use Rattle.std.specs.Ordering.{is_le}
+use Rattle.std.proofs.lemmas.Bool.{and_parts, leb-true, ltb-false, ltb-true, not-true}
+use Rattle.std.proofs.lemmas.List.Elements.{All-nil, All-from_recursion}
+use Rattle.std.proofs.lemmas.List.Sums.{AllPass-from_list_all}
+use Rattle.league.specs.Accepted.{IsAccepted, objective}
+use Rattle.league.specs.Counts.{Counts, counts_of}
+use Rattle.league.specs.Instance.{Instance, IsGame, IsInstance, class_fits}
+use Rattle.league.specs.Order.{IsInOrder, game_cmp}
+use Rattle.league.specs.Structure.{IsRoundRobin}
+use Rattle.league.specs.declared.class.Class.{Class}
+use Rattle.league.specs.declared.class.Class.TheVariants.{Ca1, Fa2}
+use Rattle.league.specs.declared.class.Constraint.{Constraint}
+use Rattle.league.specs.declared.class.Side.TheVariants.{H}
+use Rattle.league.specs.declared.game.Game.{Game}
+use Rattle.league.proofs.AcceptedLemmas.{MeetsHard-from_sum}
+use Rattle.league.proofs.DoubleFour.{game}
+use Rattle.rows.specs.Cardinality.{at_least}
+use Rattle.rows.specs.Literals.{Literal, no, yes}
+use Rattle.rows.specs.Partials.{IsQuiet, IsQuietRow, is_forced, is_free, reach, value_of}
+use Rattle.rows.specs.Rows.{Row}
+use Rattle.rows.specs.Values.{valued}
+use Rattle.rows.specs.declared.lit.Term.{Term}
+use Rattle.rows.specs.declared.partial.Value.{Value}
+use Rattle.rows.specs.declared.partial.Value.TheVariants.{True, False, Free}
+use Rattle.refutation.specs.Steps.{NamesRows, Step}
+use Rattle.refutation.specs.Steps.Step.{Clause}
+use Rattle.refutation.specs.Verdict.{verdict_of}
+use Rattle.refutation.specs.declared.verdict.Verdict.TheVariants.{Accepted}
+use Rattle.refutation_check.proofs.SoundLemmas.{accepted_logs_refute}
+use Rattle.clause_search.specs.Answers.{IsSpentAt, Refutes}
+use Rattle.clause_search.specs.News.{IsNews, IsTidy}
+use Rattle.moves.specs.Moves.{moved}
+use Rattle.moves.specs.Neighbours.{home_swap}
+use Rattle.descent.specs.Settled.{IsLowering, IsSettled}
+use Rattle.solve.specs.Solutions.{league_score}
+use Rattle.bound_base.specs.BoundRows.{bound_rows, bound_vars}
+use Rattle.bound_laws.specs.Faithful.{IsLowerBound}
+use Rattle.bound_laws.proofs.Faithful.{bounds-from_refuted}
+use Rattle.bounds.specs.Proofs.{IsBetter, IsLeast, IsSpentBelow}
+
+abbrev soft : ℕ → Class → Constraint
+soft penalty class = record { hard = false; penalty = penalty; class = class }
+
+abbrev with : Constraint → Instance
+with constraint = record { n = 2; phased = false; constraints = constraint ∷ [] }
+
+abbrev pub even_soon : Instance
+even_soon = with (soft 4 (Fa2 (0 ∷ 1 ∷ []) 0 (0 ∷ [])))
+
+abbrev pub away_first : Instance
+away_first = with (soft 3 (Ca1 (0 ∷ []) 0 0 H (0 ∷ [])))
+
+-- team 0 is at home first, and team 1 is
+abbrev pub zero_first : List Game
+zero_first = game 0 1 0 ∷ game 1 0 1 ∷ []
+
+abbrev pub one_first : List Game
+one_first = game 1 0 0 ∷ game 0 1 1 ∷ []
+
+pub costs : (objective even_soon (counts_of zero_first) ≡ 4) × (objective even_soon (counts_of one_first) ≡ 4)
+    × (objective away_first (counts_of zero_first) ≡ 3) × (objective away_first (counts_of one_first) ≡ 0)
+costs = (refl, refl, refl, refl)
+
+-- ---- seasons are accepted, fit, and come in order
+
+pub even-accepted : IsAccepted even_soon (counts_of zero_first)
+even-accepted = record {
+  round_robin = record { pairs = refl; cells = refl; phases = refl };
+  hard = MeetsHard-from_sum even_soon (counts_of zero_first) refl;
+}
+
+pub away-zero : IsAccepted away_first (counts_of zero_first)
+away-zero = record {
+  round_robin = record { pairs = refl; cells = refl; phases = refl };
+  hard = MeetsHard-from_sum away_first (counts_of zero_first) refl;
+}
+
+pub away-one : IsAccepted away_first (counts_of one_first)
+away-one = record {
+  round_robin = record { pairs = refl; cells = refl; phases = refl };
+  hard = MeetsHard-from_sum away_first (counts_of one_first) refl;
+}
+
+fits : (i j s : ℕ) → i < 2 → j < 2 → (i ≡ j → ⊥) → s < 2 → IsGame 2 (game i j s)
+fits i j s home away differ slot = record { home = home; away = away; differ = differ; slot = slot }
+
+pub one-fit : All (IsGame 2) one_first
+one-fit =
+    All-from_recursion (IsGame 2) one_first (
+      fits 1 0 0 (lit< tt) (lit< tt) (λ same. omega (arith, same)) (lit< tt),
+      (fits 0 1 1 (lit< tt) (lit< tt) (λ same. omega (arith, same)) (lit< tt), tt),
+    )
+
+pub zero-fit : All (IsGame 2) zero_first
+zero-fit =
+    All-from_recursion (IsGame 2) zero_first (
+      fits 0 1 0 (lit< tt) (lit< tt) (λ same. omega (arith, same)) (lit< tt),
+      (fits 1 0 1 (lit< tt) (lit< tt) (λ same. omega (arith, same)) (lit< tt), tt),
+    )
+
+pub one-in_order : IsInOrder one_first
+one-in_order zero (suc zero) d before inside = refl
+one-in_order zero zero d before inside = absurd (omega (arith, before))
+one-in_order zero (suc (suc j)) d before inside = absurd (omega (arith, inside))
+one-in_order (suc i) zero d before inside = absurd (omega (arith, before))
+one-in_order (suc i) (suc zero) d before inside = absurd (omega (arith, before))
+one-in_order (suc i) (suc (suc j)) d before inside = absurd (omega (arith, inside))
+
+pub zero-in_order : IsInOrder zero_first
+zero-in_order zero (suc zero) d before inside = refl
+zero-in_order zero zero d before inside = absurd (omega (arith, before))
+zero-in_order zero (suc (suc j)) d before inside = absurd (omega (arith, inside))
+zero-in_order (suc i) zero d before inside = absurd (omega (arith, before))
+zero-in_order (suc i) (suc zero) d before inside = absurd (omega (arith, before))
+zero-in_order (suc i) (suc (suc j)) d before inside = absurd (omega (arith, inside))
+
+-- ---- a row is quiet where a test says so
+
+abbrev pub is_quiet_row : (ℕ → Value) → Row → Bool
+is_quiet_row values row =
+    nat_le row.degree (reach values row.terms)
+    && list_all (λ t. not (is_forced values row.terms row.degree t)) row.terms
+
+slack_left : (value : Value) (most needed : ℕ) → not (is_free value && nat_lt most needed) ≡ true → value ≡ Free
+    → needed ≤ most
+slack_left True most needed test free = absurd (cc)
+slack_left False most needed test free = absurd (cc)
+slack_left Free most needed test free = ltb-false most needed (not-true (nat_lt most needed) test)
+
+quiet_row : (values : ℕ → Value) (row : Row) → is_quiet_row values row ≡ true → IsQuietRow values row
+quiet_row values row test =
+    let held : Term → Bool = λ t. not (is_forced values row.terms row.degree t) in
+    let parts = and_parts (nat_le row.degree (reach values row.terms)) (list_all held row.terms) test in
+    let slack = AllPass-from_list_all held row.terms parts.1 in
+    record {
+      no_conflict = leb-true row.degree (reach values row.terms) parts.0;
+      none_forced = λ k d within free.
+          slack_left (value_of values (get_or row.terms k d).lit) (reach values row.terms)
+          (row.degree + (get_or row.terms k d).coef) (slack k d within) free;
+    }
+
+pub quiet_rows : (values : ℕ → Value) (rows : List Row) → list_all (is_quiet_row values) rows ≡ true → IsQuiet values rows
+quiet_rows values rows test = λ k d within.
+    quiet_row values (get_or rows k d) (AllPass-from_list_all (is_quiet_row values) rows test k d within)
+
+-- ---- at most 3: rows 29 and 30 want them even behind slot 0, or the unit 9, which row 31 rules out
+
+pub tail : (drop 28 (bound_rows even_soon 3)
+    ≡ at_least 1 (no 5 ∷ yes 7 ∷ yes 9 ∷ [])
+    ∷ at_least 1 (yes 5 ∷ no 7 ∷ yes 9 ∷ [])
+    ∷ record { terms = record { coef = 4; lit = no 9 } ∷ []; degree = 1 }
+    ∷ [])
+    × (bound_vars even_soon ≡ 9)
+tail = (refl, refl)
+
+-- Were 5 true, so would be 7, and row 22 allows one of them. So 5 is false, and with it 7, and row 21 wants one.
+abbrev first_step : Step
+first_step = Clause (no 5 ∷ []) (31 ∷ 29 ∷ 22 ∷ [])
+
+abbrev last_step : Step
+last_step = Clause [] (32 ∷ 31 ∷ 30 ∷ 21 ∷ [])
+
+abbrev pub log : List Step
+log = first_step ∷ last_step ∷ []
+
+pub refuted : verdict_of (bound_rows even_soon 3) 9 log ≡ Accepted
+refuted = refl
+
+even_fit : All (λ (c : Constraint). IsTrue (class_fits 2 c.class)) even_soon.constraints
+even_fit zero d h = refl
+even_fit (suc k) d h = absurd (omega (arith, h))
+
+pub even_instance : IsInstance even_soon
+even_instance =
+    record { teams = record { even = refl; at_least = omega arith; at_most = omega arith }; few = omega arith; fit = even_fit }
+
+-- so each season costs 4 at least
+pub lower_bound : IsLowerBound even_soon 4
+lower_bound =
+    bounds-from_refuted even_soon 4 even_instance (accepted_logs_refute (bound_rows even_soon 3) 9 log refuted)
+
+-- with the unit false and nothing else known, no row forces anything: the first step says more than propagation finds
+abbrev unit_false : ℕ → Value
+unit_false = valued (Free ∷ Free ∷ Free ∷ Free ∷ Free ∷ Free ∷ Free ∷ Free ∷ False ∷ [])
+
+unit_quiet : IsQuiet unit_false (bound_rows even_soon 3)
+unit_quiet = quiet_rows unit_false (bound_rows even_soon 3) refl
+
+alone : (other : Literal) → Contains (no 5 ∷ []) other → (other ≡ no 5 → ⊥) → value_of unit_false other ≡ False
+alone other (zero, within, is) differs = absurd (differs (sym is))
+alone other (suc k, within, is) differs = absurd (omega (arith, within))
+
+pub first-news : IsNews (bound_rows even_soon 3) 9 first_step
+first-news =
+    record { follows = refl; empowering = (unit_false, no 5, unit_quiet, (0, lit< tt, refl), refl, alone) }
+
+first-tidy : IsTidy 9 first_step
+first-tidy = record {
+  variables = λ i j d before inside. absurd (omega (arith, before, inside));
+  from_one = All-from_recursion (λ (l : Literal). 1 ≤ l.var) (no 5 ∷ []) (omega arith, tt);
+  known = All-from_recursion (λ (l : Literal). l.var ≤ 9) (no 5 ∷ []) (omega arith, tt);
+  few = omega arith;
+  named = All-from_recursion (λ (hint : ℕ). 1 ≤ hint) (31 ∷ 29 ∷ 22 ∷ []) (omega arith, (omega arith, (omega arith, tt)));
+}
+
+last-tidy : IsTidy 9 last_step
+last-tidy = record {
+  variables = λ i j d before inside. absurd (omega (arith, inside));
+  from_one = All-nil (λ (l : Literal). 1 ≤ l.var);
+  known = All-nil (λ (l : Literal). l.var ≤ 9);
+  few = omega arith;
+  named = All-from_recursion (λ (hint : ℕ). 1 ≤ hint) (32 ∷ 31 ∷ 30 ∷ 21 ∷ [])
+      (omega arith, (omega arith, (omega arith, (omega arith, tt))));
+}
+
+pub log-named : All NamesRows log
+log-named = All-from_recursion NamesRows log (first-tidy.named, (last-tidy.named, tt))
+
+-- one step comes before the last
+pub log-refutes : Refutes (bound_rows even_soon 3) 9 (Some 1) log
+log-refutes = record {
+  accepted = refuted;
+  before = first_step ∷ [];
+  hints = 32 ∷ 31 ∷ 30 ∷ 21 ∷ [];
+  last = refl;
+  news = (first-news, tt);
+  within = omega arith;
+  tidy = All-from_recursion (IsTidy 9) log (first-tidy, (last-tidy, tt));
+}
+
+pub least-four : IsLeast even_soon (counts_of zero_first) (Some 1) 4 log
+least-four = record {
+  cost = refl;
+  least = lower_bound;
+  nothing = λ none. absurd (omega (arith, none));
+  refutes = λ some. log-refutes;
+  named = log-named;
+}
+
+-- it isn't where no step may come before the last
+pub least-within : IsLeast even_soon (counts_of zero_first) (Some 0) 4 log → ⊥
+least-within is =
+    let refutes = is.refutes (omega arith) in
+    let within : length refutes.before ≤ 0 = refutes.within in
+    omega (
+      arith,
+      within,
+      ap (λ (steps : List Step). length steps) refutes.last,
+      length-append refutes.before (Clause [] refutes.hints ∷ []),
+    )
+
+-- nor is another objective than the season has
+not_four : (n : ℕ) → n ≡ 4 → (n ≡ 3) ⊎ (n ≡ 5) → ⊥
+not_four n four (inl three) = omega (arith, four, three)
+not_four n four (inr five) = omega (arith, four, five)
+
+pub least-three : (limit : Option ℕ) (steps : List Step) → IsLeast even_soon (counts_of zero_first) limit 3 steps → ⊥
+least-three limit steps is = not_four 3 is.cost (inl refl)
+
+pub least-five : (limit : Option ℕ) (steps : List Step) → IsLeast even_soon (counts_of zero_first) limit 5 steps → ⊥
+least-five limit steps is = not_four 5 is.cost (inr refl)
+
+-- ---- that nothing costs less than nothing needs no log, and has none
+
+pub least-nothing : (limit : Option ℕ) → IsLeast away_first (counts_of one_first) limit 0 []
+least-nothing limit = record {
+  cost = refl;
+  least = λ m accepted. omega arith;
+  nothing = λ none. refl;
+  refutes = λ some. absurd (omega (arith, some));
+  named = All-nil NamesRows;
+}
+
+no_step : (step : Step) (steps : List Step) → step ∷ steps ≡ [] → ⊥
+no_step step steps is = cc
+
+pub least-no_log : (limit : Option ℕ) (step : Step) (steps : List Step)
+    → IsLeast away_first (counts_of one_first) limit 0 (step ∷ steps) → ⊥
+least-no_log limit step steps is = no_step step steps (is.nothing refl)
+
+-- ---- team 0 at home first costs 3, and isn't least, whatever is said
+
+below_none : (n : ℕ) → n ≡ 3 → n ≤ 0 → ⊥
+below_none n three none = omega (arith, three, none)
+
+pub least-dear : (limit : Option ℕ) (n : ℕ) (steps : List Step) → IsLeast away_first (counts_of zero_first) limit n steps
+    → ⊥
+least-dear limit n steps is = below_none n is.cost (is.least (counts_of one_first) away-one)
+
+-- the other season betters it, and nothing betters that
+pub better-one : IsBetter away_first (counts_of zero_first) one_first 0
+better-one = record {
+  accepted = away-one;
+  fit = one-fit;
+  in_order = one-in_order;
+  cost = refl;
+  lower = let less : 0 < 3 = lit< tt in less;
+}
+
+nothing_below : (n : ℕ) → n < 0 → ⊥
+nothing_below n less = omega (arith, less)
+
+pub better-none : (games : List Game) (n : ℕ) → IsBetter away_first (counts_of one_first) games n → ⊥
+better-none games n is = nothing_below n is.lower
+
+-- it doesn't better itself, nor does it cost 1
+not_less : (n : ℕ) → n < n → ⊥
+not_less n less = omega (arith, less)
+
+pub better-itself : IsBetter away_first (counts_of zero_first) zero_first 3 → ⊥
+better-itself is = not_less 3 is.lower
+
+not_one : (n : ℕ) → n ≡ 1 → n ≡ 0 → ⊥
+not_one n one none = omega (arith, one, none)
+
+pub better-one_cost : IsBetter away_first (counts_of zero_first) one_first 1 → ⊥
+better-one_cost is = not_one 1 refl is.cost
+
+-- the later game first is no answer
+late_first : IsTrue (is_le (game_cmp (game 0 1 1) (game 1 0 0))) → ⊥
+late_first is = cc
+
+pub better-order : (n : ℕ) → IsBetter away_first (counts_of zero_first) (game 0 1 1 ∷ game 1 0 0 ∷ []) n → ⊥
+better-order n is = late_first (is.in_order 0 1 (game 0 1 1) (lit< tt) (lit< tt))
+
+-- ---- where each season costs 4, no move lowers it; at a budget of 0 the log is spent
+
+any_hard : (m : Counts) → IsRoundRobin 2 false m → IsAccepted even_soon m
+any_hard m round = record { round_robin = round; hard = MeetsHard-from_sum even_soon m refl }
+
+not_lower : (cost : ℕ) → 4 ≤ cost → nat_lt cost 4 ≡ true → ⊥
+not_lower cost enough lower = omega (arith, enough, ltb-true cost 4 lower)
+
+pub settled-four : IsSettled 2 false (league_score even_soon) (counts_of zero_first)
+settled-four step lowers =
+    not_lower (objective even_soon (moved 2 (counts_of zero_first) step))
+    (lower_bound (moved 2 (counts_of zero_first) step)
+    (any_hard (moved 2 (counts_of zero_first) step) lowers.legal.round_robin))
+    lowers.lower
+
+pub spent-at_zero : IsSpentAt (bound_rows even_soon 3) 9 (Some 0) []
+spent-at_zero = record {
+  limited = refl;
+  spent = record { count = refl; news = tt; quiet = (unit_false, unit_quiet) };
+  few = lit< tt;
+  tidy = All-nil (IsTidy 9);
+}
+
+pub spent-four : IsSpentBelow even_soon (counts_of zero_first) (Some 0) []
+spent-four = record { some = omega arith; settled = settled-four; spent = spent-at_zero; named = All-nil NamesRows }
+
+-- the budget is as many steps as there are, and without one nothing is spent
+no_budget : (steps : List Step) → ◌≡◌ {A = Option ℕ} None (Some (length steps)) → ⊥
+no_budget steps is = cc
+
+pub spent-never : (league : Instance) (m : Counts) (steps : List Step) → IsSpentBelow league m None steps → ⊥
+spent-never league m steps is = no_budget steps is.spent.limited
+
+other_budget : (most : ℕ) → 1 ≤ most → ◌≡◌ {A = Option ℕ} (Some most) (Some 0) → ⊥
+other_budget most some is = let same : most ≡ 0 = cc in omega (arith, some, same)
+
+pub spent-short : (m : Counts) → IsSpentBelow even_soon m (Some 1) [] → ⊥
+spent-short m is = other_budget 1 (omega arith) is.spent.limited
+
+-- nothing is spent on a season that costs nothing, nor on one that a move betters: their home swap costs nothing
+none_one : (n : ℕ) → n ≡ 0 → 1 ≤ n → ⊥
+none_one n none some = omega (arith, none, some)
+
+pub spent-nothing : (limit : Option ℕ) (steps : List Step) → IsSpentBelow away_first (counts_of one_first) limit steps → ⊥
+spent-nothing limit steps is = none_one 0 refl is.some
+
+pub swap-lowers : IsLowering 2 false (league_score away_first) (counts_of zero_first) (home_swap (0, 1))
+swap-lowers = record {
+  of_league = (lit< tt, lit< tt);
+  legal = record { own = lit< tt; round_robin = record { pairs = refl; cells = refl; phases = refl } };
+  lower = refl;
+}
+
+pub spent-unsettled : (limit : Option ℕ) (steps : List Step)
+    → IsSpentBelow away_first (counts_of zero_first) limit steps → ⊥
+spent-unsettled limit steps is = is.settled (home_swap (0, 1)) swap-lowers
