@@ -1,22 +1,17 @@
 -- What `bound` says of certificates over the league that wants two teams even behind slot 0, and what runs of `prove` and
 -- of `bound` say.
-use Rattle.std.proofs.Common.{◌≡◌, ℕ, ◌+◌, ◌<◌, ◌≤◌, true, false, if◌then◌else◌, List, [], ◌∷◌, ◌++◌, get_or, length, Option}
-use Rattle.std.proofs.Common.{Some, None, Ok, codes, bytes_eq, decimal, ap, arith, lit<, refl, sym, ◌∙◌}
+use Rattle.std.proofs.Common.{◌≡◌, ℕ, ◌+◌, ◌<◌, ◌≤◌, if◌then◌else◌, List, [], ◌∷◌, ◌++◌, get_or, Option}
+use Rattle.std.proofs.Common.{drop, zero, suc, Some, None, Result, Ok, codes, bytes_eq, decimal, ap, arith, le_of_eq}
+use Rattle.std.proofs.Common.{lit<, refl, sym, ◌∙◌}
 use Rattle.std.specs.Fmt.{digits}
 use Rattle.league.specs.Accepted.{objective}
 use Rattle.league.specs.Counts.{counts_of}
 use Rattle.league.specs.Instance.{Instance}
-use Rattle.league.specs.declared.game.Game.{Game}
-use Rattle.robinx_form.specs.Texts.{solution_text}
 use Rattle.answers.specs.Reply.{Answer}
-use Rattle.answers.specs.declared.status.Status.{Status}
 use Rattle.answers.specs.declared.status.Status.TheVariants.{Yes, No}
-use Rattle.check_answer.specs.Check.{most_terms}
-use Rattle.refutation.specs.Logs.{lines_from}
-use Rattle.refutation.specs.Steps.{Step}
+use Rattle.refutation.specs.Logs.{Fault}
 use Rattle.refutation.specs.declared.verdict.Cause.TheVariants.{NoConflict}
 use Rattle.refutation.specs.declared.verdict.Verdict.TheVariants.{Accepted, Rejected}
-use Rattle.bound_laws.specs.Faithful.{IsLowerBound}
 use Rattle.certificates.specs.Certificates.{certificate_of, certificate_text}
 use Rattle.certificates.specs.declared.certificate.Certificate.{Certificate}
 use Rattle.bound_answer.specs.Bound.{IsBoundVerdict, IsBounded, IsWellFormedCertificate, bound_answer, bound_verdict}
@@ -75,6 +70,11 @@ not_five n four enough = omega (arith, four, enough)
 pub verdict-not_five : (text : List ℕ) → IsBoundVerdict even_soon five (record { status = Yes; text = text }) → ⊥
 verdict-not_five text is = not_five 4 refl (is.holds refl (counts_of zero_first) even-accepted)
 
+-- nor is it refused as what proves 4
+pub verdict-refused : IsBoundVerdict even_soon certificate rejected → ⊥
+verdict-refused is =
+    no_yes (ap (λ (answer : Answer). answer.status) (is.verdict ∙ ap (bound_answer 4 2) certificate-proves))
+
 -- 0 needs no step
 abbrev nothing : Certificate
 nothing = record { bound = 0; log = [] }
@@ -130,6 +130,22 @@ pub certificate-failed : (league : Instance) (other : Certificate)
     → IsWellFormedCertificate contents (λ name. Unit {0}) (codes "even") (codes "four") league other → ⊥
 certificate-failed league other is = is.second_works tt
 
+-- the file states 4
+known : (bytes : List ℕ) → Some certificate_file ≡ Some bytes → bytes ≡ certificate_file
+known bytes is = cc
+
+stated : (one other : Certificate) → ◌≡◌ {A = Result Certificate Fault} (Ok one) (Ok other) → one.bound ≡ other.bound
+stated one other is = let same : one ≡ other = cc in ap (λ (c : Certificate). c.bound) same
+
+pub certificate-five : (league : Instance)
+    → IsWellFormedCertificate contents never (codes "even") (codes "four") league five → ⊥
+certificate-five league is =
+    not_five 4 refl (
+      let said : certificate_of certificate_file ≡ Ok five =
+          ap certificate_of (sym (known is.second is.second_known)) ∙ is.says_certificate in
+      le_of_eq (sym (stated certificate five (sym certificate-read ∙ said)))
+    )
+
 -- ---- runs of `bound`
 
 pub bounded-four : IsBounded even_soon certificate Yes (Some (codes "> ")) (Some (codes "> accepted bound 4 steps 2\n"))
@@ -151,6 +167,25 @@ accepted-line = refl
 pub certified-four : IsCertified even_soon (Some []) (Some accepted_line)
 certified-four = record { bound = 4; steps = 2; least = lower_bound; written = accepted-line }
 
+-- and no other bound than one that holds: that stands at place 15, and is at most 4
+digit : (n : ℕ) (rest : List ℕ) → n ≤ 4 → get_or (codes "accepted bound " ++ (decimal n ++ rest)) 15 0 ≡ 48 + n
+unfolding digits
+digit zero rest low = refl
+digit (suc zero) rest low = refl
+digit (suc (suc zero)) rest low = refl
+digit (suc (suc (suc zero))) rest low = refl
+digit (suc (suc (suc (suc zero)))) rest low = refl
+digit (suc (suc (suc (suc (suc n))))) rest low = absurd (omega (arith, low))
+
+five_at : (n at : ℕ) → at ≡ 53 → at ≡ 48 + n → n ≤ 4 → ⊥
+five_at n at five is low = omega (arith, five, is, low)
+
+pub certified-five : IsCertified even_soon (Some []) (Some (codes "accepted bound 5 steps 2\n")) → ⊥
+certified-five is =
+    let rest : List ℕ = codes " steps " ++ (decimal is.steps ++ codes "\n") in
+    let low : is.bound ≤ 4 = is.least (counts_of zero_first) even-accepted in
+    five_at is.bound 53 refl (ap (λ (text : List ℕ). get_or text 15 0) is.written ∙ digit is.bound rest low) low
+
 -- a line is written
 no_line : (b : ℕ) (rest : List ℕ) → [] ≡ b ∷ rest → ⊥
 no_line b rest same = cc
@@ -169,6 +204,9 @@ unbettered-four = record {
   certified = certificate-proves;
   written = certificate-written;
 }
+
+pub unbettered-nothing : IsUnbettered even_soon zero_first (Some []) (Some []) → ⊥
+unbettered-nothing is = no_line 98 (drop 1 (certificate_text 4 is.steps)) is.written
 
 -- team 0 at home first costs 3, where nothing need be paid
 none_below : (n : ℕ) → n ≡ 3 → n ≤ 0 → ⊥

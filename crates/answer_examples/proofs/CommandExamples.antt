@@ -2,10 +2,11 @@
 -- single round robins. h(0,s) is 5 + s, and h(1,s) 7 + s.
 use Rattle.std.proofs.Common.{◌≡◌, ℕ, zero, suc, ◌-◌, ◌^◌, ◌<◌, ◌≤◌, Bool, true, false, if◌then◌else◌, List, []}
 use Rattle.std.proofs.Common.{◌∷◌, ◌++◌, length, Option, Some, None, Ok, Err, IsSome, IsSomeAnd, IsTrue, codes, bytes_eq}
-use Rattle.std.proofs.Common.{option_map, get_or, ◌==◌, All, ap, arith, inl, inr, lit<, refl, subst, sym, ◌∙◌}
+use Rattle.std.proofs.Common.{option_map, drop, get_or, nat_lt, ◌==◌, All, ap, arith, inl, inr, lit<, refl, subst, sym, ◌∙◌}
 use Rattle.std.specs.Option.{option_map_or}
 use Rattle.std.specs.Fmt.{digits}
-use Rattle.std.proofs.lemmas.Bool.{ne_eqb}
+use Rattle.std.proofs.Math.Path.{fun_ext}
+use Rattle.std.proofs.lemmas.Bool.{ltb-true, ne_eqb}
 use Rattle.std.proofs.lemmas.Bool.Decides.{nat_tests}
 use Rattle.std.proofs.lemmas.List.Elements.{All-nil, All-from_recursion}
 use Rattle.std.proofs.lemmas.Slice.Eq.{bytes_eq-Decides}
@@ -23,7 +24,7 @@ use Rattle.robinx_form.specs.Texts.{instance_text, solution_text}
 use Rattle.robinx_form.specs.Walk.{walk}
 use Rattle.league.specs.Accepted.{IsAccepted, objective}
 use Rattle.league.specs.Breaks.{all_breaks}
-use Rattle.league.specs.Counts.{counts_of}
+use Rattle.league.specs.Counts.{Counts, counts_of}
 use Rattle.league.specs.Instance.{Instance, IsInstance, class_fits, is_one_side}
 use Rattle.league.specs.Meetings.{games_of}
 use Rattle.league.specs.Structure.{IsPlayedOnce, first_half}
@@ -69,6 +70,7 @@ use Rattle.pattern_search.specs.declared.found.PatternFound.TheVariants.{Pattern
 use Rattle.budgets.specs.declared.budgets.Budgets.{Budgets}
 use Rattle.descent.specs.Descended.{Descended}
 use Rattle.descent.specs.Settled.{IsLowering, IsSettled}
+use Rattle.descent.specs.Trail.{IsClimb, IsTrail}
 use Rattle.descent.proofs.SettledLemmas.{IsSettled-of_all}
 use Rattle.moves.specs.Moves.{moved}
 use Rattle.moves.specs.Neighbours.{all_moves, home_swap}
@@ -81,8 +83,9 @@ use Rattle.instance_gen.specs.Draws.{next, seeded, word}
 use Rattle.instance_gen.specs.Made.{made_league}
 use Rattle.make_answer.specs.MadeInstance.{IsMade, IsWrittenLeague}
 use Rattle.trial_answer.specs.Trial.{IsTrial, IsTried, summary}
-use Rattle.answer_examples.proofs.LeastExamples.{even-accepted, even_soon, one-fit, one-in_order, one_first, quiet_rows}
-use Rattle.answer_examples.proofs.LeastExamples.{settled-four, zero-fit, zero-in_order, zero_first}
+use Rattle.answer_examples.proofs.LeastExamples.{away-one, away-zero, away_first, even-accepted, even_soon, one-fit}
+use Rattle.answer_examples.proofs.LeastExamples.{one-in_order, one_first, quiet_rows, settled-four, swap-lowers, zero-fit}
+use Rattle.answer_examples.proofs.LeastExamples.{zero-in_order, zero_first}
 
 false_true : false ≡ true → ⊥
 false_true is = cc
@@ -179,6 +182,119 @@ found-zero = record {
 pub solved-zero : IsSolved even_soon budgets Yes (Some []) (Some found.text)
 solved-zero = record { answer = found; found = found-zero; status = refl; written = refl }
 
+-- ---- one move: team 0 is to be away in slot 0, and to exchange the venues of the two games saves 3
+
+one-moved : (i j s : ℕ) → counts_of one_first i j s ≡ moved 2 (counts_of zero_first) (home_swap (0, 1)) i j s
+one-moved zero zero s = refl
+one-moved zero (suc zero) s = refl
+one-moved zero (suc (suc j)) s =
+    let behind : (suc (suc j) == 1) ≡ false = ne_eqb (suc (suc j)) 1 (λ e. omega (arith, e)) in
+    let ahead : (1 == suc (suc j)) ≡ false = ne_eqb 1 (suc (suc j)) (λ e. omega (arith, e)) in
+    rw (behind, ahead) refl
+one-moved (suc zero) zero s = refl
+one-moved (suc zero) (suc zero) s = refl
+one-moved (suc zero) (suc (suc j)) s =
+    let behind : (suc (suc j) == 0) ≡ false = ne_eqb (suc (suc j)) 0 (λ e. omega (arith, e)) in
+    let ahead : (0 == suc (suc j)) ≡ false = ne_eqb 0 (suc (suc j)) (λ e. omega (arith, e)) in
+    rw (behind, ahead) refl
+one-moved (suc (suc i)) j s = grind (arith, nat_tests)
+
+zero-moved : (i j s : ℕ) → counts_of zero_first i j s ≡ moved 2 (counts_of one_first) (home_swap (0, 1)) i j s
+zero-moved zero zero s = refl
+zero-moved zero (suc zero) s = refl
+zero-moved zero (suc (suc j)) s =
+    let behind : (suc (suc j) == 1) ≡ false = ne_eqb (suc (suc j)) 1 (λ e. omega (arith, e)) in
+    let ahead : (1 == suc (suc j)) ≡ false = ne_eqb 1 (suc (suc j)) (λ e. omega (arith, e)) in
+    rw (behind, ahead) refl
+zero-moved (suc zero) zero s = refl
+zero-moved (suc zero) (suc zero) s = refl
+zero-moved (suc zero) (suc (suc j)) s =
+    let behind : (suc (suc j) == 0) ≡ false = ne_eqb (suc (suc j)) 0 (λ e. omega (arith, e)) in
+    let ahead : (0 == suc (suc j)) ≡ false = ne_eqb 0 (suc (suc j)) (λ e. omega (arith, e)) in
+    rw (behind, ahead) refl
+zero-moved (suc (suc i)) j s = grind (arith, nat_tests)
+
+same_counts : (m k : Counts) → ((i j s : ℕ) → m i j s ≡ k i j s) → m ≡ k
+same_counts m k same = fun_ext (λ i. fun_ext (λ j. fun_ext (λ s. same i j s)))
+
+abbrev swap : Swap
+swap = home_swap (0, 1)
+
+abbrev one_move : Descended
+one_move = record { first = zero_first; trail = swap ∷ []; settled = true }
+
+pub swap-trail : IsTrail 2 false (league_score away_first) (counts_of zero_first) (swap ∷ []) (counts_of one_first)
+swap-trail = (swap-lowers, same_counts (counts_of one_first) (moved 2 (counts_of zero_first) swap) one-moved)
+
+-- back it raises the score
+pub swap-climb : IsClimb 2 false (league_score away_first) (counts_of one_first) (swap ∷ []) (counts_of zero_first)
+swap-climb = (
+  record { own = lit< tt; round_robin = record { pairs = refl; cells = refl; phases = refl } },
+  refl,
+  same_counts (counts_of zero_first) (moved 2 (counts_of one_first) swap) zero-moved,
+)
+
+-- and nothing is lower than nothing
+nothing_lower : (cost : ℕ) → nat_lt cost 0 ≡ true → ⊥
+nothing_lower cost lower = omega (arith, ltb-true cost 0 lower)
+
+away-settled : IsSettled 2 false (league_score away_first) (counts_of one_first)
+away-settled step lowers = nothing_lower (objective away_first (moved 2 (counts_of one_first) step)) lowers.lower
+
+pub descent-one : IsDescent away_first 1 one_first one_move
+descent-one = record {
+  first = away-zero;
+  fit = zero-fit;
+  in_order = zero-in_order;
+  trail = swap-trail;
+  few = omega arith;
+  settled = (λ yes. away-settled, λ settled. refl);
+  spent = λ no. absurd (no_true no);
+}
+
+-- no move may be made
+one_none : (n : ℕ) → n ≡ 1 → n ≤ 0 → ⊥
+one_none n one none = omega (arith, one, none)
+
+pub descent-none : IsDescent away_first 0 one_first one_move → ⊥
+descent-none is = one_none 1 refl is.few
+
+-- a settled end isn't called unsettled, nor the season before the move settled
+pub descent-unsettled : IsDescent away_first 1 one_first (record one_move { settled = false }) → ⊥
+descent-unsettled is = false_true (is.settled.1 away-settled)
+
+pub descent-unmoved : (moves : ℕ) → IsDescent away_first moves zero_first still → ⊥
+descent-unmoved moves is = is.settled.0 refl swap swap-lowers
+
+abbrev moved_file : Answer
+moved_file = record {
+  status = Yes;
+  text = codes "<?xml version=\"1.0\" encoding=\"UTF-8\"?>\n<Solution>\n<MetaData>\n<ObjectiveValue infeasibility=\"0\" objective=\"0\"/>\n</MetaData>\n<Games>\n<ScheduledMatch home=\"1\" away=\"0\" slot=\"0\"/>\n<ScheduledMatch home=\"0\" away=\"1\" slot=\"1\"/>\n</Games>\n</Solution>\n<!-- descent first=3 moves=1 settled=yes -->\n<!-- move HomeSwap 0 1 -->\n";
+}
+
+moved-text : moved_file.text ≡ solution_text one_first (Some (0, 0)) ++ descent_text 3 one_move
+unfolding digits
+moved-text = refl
+
+moved-read : solution_of 2 (pieces moved_file.text) ≡ Ok one_first
+unfolding attributes_at pieces_from walk
+moved-read = refl
+
+pub schedule-one : IsSchedule away_first 1 moved_file
+schedule-one = record {
+  games = one_first;
+  descent = one_move;
+  accepted = away-one;
+  fit = one-fit;
+  in_order = one-in_order;
+  descends = descent-one;
+  climbs = swap-climb;
+  settles = λ enough. refl;
+  status = refl;
+  text = moved-text;
+  reads_back = moved-read;
+}
+
 -- ---- no team may be away in slot 1: row 24 wants one, and rows 29 and 30 neither
 
 abbrev home_last : Instance
@@ -226,7 +342,10 @@ refuted-home = record {
   reads_back = refutation-read;
 }
 
--- what accepts a season isn't refuted
+-- no season is its answer, and what accepts a season isn't refuted
+pub schedule-home : (moves : ℕ) (answer : Answer) → IsSchedule home_last moves answer → ⊥
+schedule-home moves answer is = none is.games is.accepted
+
 pub refuted-even : (answer : Answer) → IsRefuted even_soon (rows_of even_soon) answer → ⊥
 refuted-even answer is = is.none zero_first even-accepted
 
@@ -389,6 +508,27 @@ circle-accepted = record {
 
 pub found-spent : IsFound even_soon budgets (rows_of even_soon) spent → ⊥
 found-spent is = spent_yes (is.circle circle-accepted)
+
+refuted_spent : Spent ≡ Refuted → ⊥
+refuted_spent is = cc
+
+pub found-short : IsFound home_last budgets (rows_of home_last) spent → ⊥
+found-short is = refuted_spent (is.short refl)
+
+-- both are to be at home in slot 0, which is more than one can be
+abbrev crowd : Instance
+crowd = record {
+  n = 2;
+  phased = false;
+  constraints = record { hard = true; penalty = 1; class = Ca1 (0 ∷ 1 ∷ []) 1 2 H (0 ∷ []) } ∷ [];
+}
+
+pub found-crowded : IsFound crowd budgets (rows_of crowd) spent → ⊥
+found-crowded is = refuted_spent (is.crowded refl)
+
+-- what accepts a season has no refuted patterns
+pub patterns-even : (conflicts : Option ℕ) (answer : Answer) → patterned.IsRefuted even_soon conflicts answer → ⊥
+patterns-even conflicts answer is = is.refutes.none zero_first even-accepted
 
 pub patterned-each : IsPatterned even_soon None Yes (Some []) (Some (codes "0 AH\n1 HA\n"))
     × IsPatterned home_last (Some 0) Refuted (Some []) (Some (codes "refutation 1\n0 29 30 24 0\nend\n"))
@@ -568,6 +708,18 @@ tried-three = record {
   written = refl;
 }
 
+-- a league without a season has none
+pub trial-home : (n seed moves : ℕ) (answer : Answer) → IsTrial n seed home_last moves answer → ⊥
+trial-home n seed moves answer is = none is.schedule.games is.schedule.accepted
+
+-- the lines stand in front: the first byte is that of `trial`
+first_byte : (b : ℕ) (rest : List ℕ) → [] ≡ b ∷ rest → ⊥
+first_byte b rest is = cc
+
+pub trial-nothing : (n seed moves : ℕ) (league : Instance) → IsTrial n seed league moves (record { status = Yes; text = [] }) → ⊥
+trial-nothing n seed moves league is =
+    first_byte 116 (drop 1 (summary n seed league is.schedule.games is.schedule.descent ++ is.solved.text)) is.text
+
 pub tried-refuted : (n seed : ℕ) (old new : Option (List ℕ)) → IsTried n seed budgets Refuted old new → ⊥
 tried-refuted n seed old new is = other_status is.status
   where
@@ -608,6 +760,9 @@ cause-fallen is = falls_back 3 refl (is.later (codes "log"))
 -- a count at its last value has risen
 pub cause-last : HasOneCause {T = ℕ} {E = ℕ} (2 ^ 64 - 1) (2 ^ 64 - 1) (Err 8)
 cause-last = record { later = omega arith; fault = omega arith }
+
+pub cause-one_fallen : HasOneCause {T = ℕ} {E = ℕ} 4 3 (Ok 8) → ⊥
+cause-one_fallen is = falls_back 3 refl is.later
 
 pub cause-one : HasOneCause {T = ℕ} {E = ℕ} 3 4 (Err 8) × (HasOneCause {T = ℕ} {E = ℕ} 3 3 (Err 8) → ⊥)
 cause-one = (record { later = omega arith; fault = omega arith }, λ is. stays 3 refl is.fault)
@@ -666,6 +821,21 @@ three_four n four three = omega (arith, four, three)
 pub counts-twice : CountsFault (codes "ab") (shelf 2 9) (shelf 4 9) → ⊥
 counts-twice is = three_four 4 refl is.risen
 
+-- a second file, whose count is none of it
+abbrev two_files : ℕ → ℕ → ShelfView
+two_files faults other = record (shelf faults 9) {
+  files = file faults ∷ record { name = codes "b"; bytes = []; faults = other } ∷ [];
+}
+
+b_ab : codes "b" ≡ codes "ab" → ⊥
+b_ab is = omega (arith, ap (λ (name : List ℕ). length name) is)
+
+one_zero : (n : ℕ) → n ≡ 1 → n ≡ 0 → ⊥
+one_zero n one none = omega (arith, one, none)
+
+pub counts-others : CountsFault (codes "ab") (two_files 2 0) (two_files 3 1) → ⊥
+counts-others is = one_zero 1 refl (is.other_files (codes "b") b_ab refl)
+
 -- ---- a write that was cut short: nothing or all of it may have been written, and no other bytes
 
 pub prefix-ends : AppendsPrefix (Some (codes "> ")) (Some (codes "> ")) (codes "yes\n")
@@ -688,6 +858,12 @@ one_below n one below = omega (arith, one, below)
 -- there is one slot, and a team doesn't play itself
 pub single-late : (IsSingleGame 2 (game 0 1 1) → ⊥) × (IsSingleGame 2 (game 0 0 0) → ⊥)
 single-late = (λ is. one_below 1 refl is.slot, λ is. is.differ refl)
+
+two_below : (n : ℕ) → n ≡ 2 → n < 2 → ⊥
+two_below n two below = omega (arith, two, below)
+
+pub single-third : (IsSingleGame 2 (game 2 0 0) → ⊥) × (IsSingleGame 2 (game 0 2 0) → ⊥)
+single-third = (λ is. two_below 2 refl is.home, λ is. two_below 2 refl is.away)
 
 meets-once : (i j : ℕ) → i < j → j < 2 → games_of (counts_of (game 0 1 0 ∷ [])) ((i, j) ∷ (j, i) ∷ []) (first_half 2) ≡ 1
 meets-once zero (suc zero) before team = refl
@@ -720,6 +896,10 @@ two_one n two one = omega (arith, two, one)
 pub single-twice : IsSingleRoundRobin 2 (game 0 1 0 ∷ game 1 0 0 ∷ []) → ⊥
 single-twice is = two_one 2 refl (is.pairs 0 1 (lit< tt) (lit< tt))
 
+-- a game in a slot behind the last counts nowhere, and doesn't fit
+pub single-behind : IsSingleRoundRobin 2 (game 0 1 0 ∷ game 1 0 1 ∷ []) → ⊥
+single-behind is = one_below 1 refl (is.fit 1 (game 0 1 0) (lit< tt)).slot
+
 -- its patterns are H and A, which differ, with no break
 home_away : H ∷ [] ≡ A ∷ [] → ⊥
 home_away is = cc
@@ -745,7 +925,14 @@ four_two n four two = omega (arith, four, two)
 pub few-four : HasFewBreaks 4 (counts_of many) → ⊥
 few-four is = four_two 4 refl is.first
 
--- ---- a double round robin of two teams, and one that has a game twice
+-- the same three slots later
+abbrev later : List Game
+later = game 3 0 3 ∷ game 1 2 3 ∷ game 3 1 4 ∷ game 2 0 4 ∷ game 3 2 5 ∷ game 0 1 5 ∷ []
+
+pub few-later : HasFewBreaks 4 (counts_of later) → ⊥
+few-later is = four_two 4 refl is.second
+
+-- ---- a double round robin of two teams, and others
 
 meetings-two : (i j : ℕ) → i < 2 → j < 2 → (i ≡ j → ⊥) → games_of (counts_of zero_first) ((i, j) ∷ []) (0 ∷ 1 ∷ []) ≡ 1
 meetings-two zero zero here there differ = absurd (differ refl)
@@ -777,17 +964,13 @@ played-once = record { meetings = meetings-two; cells = cells-two; halves = λ p
 pub played-twice : (phased : Bool) → IsPlayedOnce 2 phased (counts_of (game 0 1 0 ∷ game 0 1 1 ∷ [])) → ⊥
 played-twice phased is = two_one 2 refl (is.meetings 0 1 (lit< tt) (lit< tt) (λ same. omega (arith, same)))
 
-same-moved : (i j s : ℕ) → counts_of one_first i j s ≡ moved 2 (counts_of zero_first) (home_swap (0, 1)) i j s
-same-moved zero zero s = refl
-same-moved zero (suc zero) s = refl
-same-moved zero (suc (suc j)) s =
-    let behind : (suc (suc j) == 1) ≡ false = ne_eqb (suc (suc j)) 1 (λ e. omega (arith, e)) in
-    let ahead : (1 == suc (suc j)) ≡ false = ne_eqb 1 (suc (suc j)) (λ e. omega (arith, e)) in
-    rw (behind, ahead) refl
-same-moved (suc zero) zero s = refl
-same-moved (suc zero) (suc zero) s = refl
-same-moved (suc zero) (suc (suc j)) s =
-    let behind : (suc (suc j) == 0) ≡ false = ne_eqb (suc (suc j)) 0 (λ e. omega (arith, e)) in
-    let ahead : (0 == suc (suc j)) ≡ false = ne_eqb 0 (suc (suc j)) (λ e. omega (arith, e)) in
-    rw (behind, ahead) refl
-same-moved (suc (suc i)) j s = grind (arith, nat_tests)
+-- both games in slot 0, and both in slot 1
+none_one : (n : ℕ) → n ≡ 0 → n ≡ 1 → ⊥
+none_one n none one = omega (arith, none, one)
+
+pub played-together : (IsPlayedOnce 2 false (counts_of (game 0 1 0 ∷ game 1 0 0 ∷ [])) → ⊥)
+    × (IsPlayedOnce 2 true (counts_of (game 0 1 1 ∷ game 1 0 1 ∷ [])) → ⊥)
+played-together = (
+  λ is. two_one 2 refl (is.cells 0 0 (lit< tt) (lit< tt)),
+  λ is. none_one 0 refl (is.halves refl 0 1 (lit< tt) (lit< tt)),
+)

@@ -330,6 +330,20 @@ late_first is = cc
 pub better-order : (n : ℕ) → IsBetter away_first (counts_of zero_first) (game 0 1 1 ∷ game 1 0 0 ∷ []) n → ⊥
 better-order n is = late_first (is.in_order 0 1 (game 0 1 1) (lit< tt) (lit< tt))
 
+-- nor are two games of one meeting, or one more in a slot that there isn't, which counts nowhere
+pub better-twice : (m : Counts) (n : ℕ) → IsBetter away_first m (game 1 0 0 ∷ game 1 0 1 ∷ []) n → ⊥
+better-twice m n is = two_none 2 refl is.accepted.round_robin.pairs
+  where
+    two_none : (k : ℕ) → k ≡ 2 → k ≡ 0 → ⊥
+    two_none k two none = omega (arith, two, none)
+
+pub better-outside : (n : ℕ)
+    → IsBetter away_first (counts_of zero_first) (game 1 0 0 ∷ game 0 1 1 ∷ game 0 1 5 ∷ []) n → ⊥
+better-outside n is = five_below 5 refl (is.fit 2 (game 1 0 0) (lit< tt)).slot
+  where
+    five_below : (k : ℕ) → k ≡ 5 → k < 2 → ⊥
+    five_below k five below = omega (arith, five, below)
+
 -- ---- where each season costs 4, no move lowers it; at a budget of 0 the log is spent
 
 any_hard : (m : Counts) → IsRoundRobin 2 false m → IsAccepted even_soon m

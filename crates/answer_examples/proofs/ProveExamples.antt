@@ -1,8 +1,7 @@
 -- What `prove` answers of seasons of two teams, over the leagues of LeastExamples: a report, a certificate, a better
 -- season, and a log that is spent, each with its text.
 use Rattle.std.proofs.Common.{◌≡◌, ℕ, ◌+◌, ◌<◌, ◌≤◌, Bool, true, false, if◌then◌else◌, List, [], ◌∷◌, ◌++◌, get_or, length, Option}
-use Rattle.std.proofs.Common.{Some, None, Ok, codes, bytes_eq, ap, arith, inl, inr, lit<, refl, sym, ◌∙◌}
-use Rattle.std.proofs.lemmas.List.Elements.{All-nil}
+use Rattle.std.proofs.Common.{drop, Some, None, Ok, codes, bytes_eq, ap, arith, inl, inr, lit<, refl, sym, ◌∙◌}
 use Rattle.std.specs.Fmt.{digits}
 use Rattle.league.specs.Accepted.{IsAccepted, objective}
 use Rattle.league.specs.Counts.{counts_of}
@@ -19,20 +18,19 @@ use Rattle.answers.specs.Reply.{Answer}
 use Rattle.answers.specs.declared.status.Status.{Status}
 use Rattle.answers.specs.declared.status.Status.TheVariants.{Yes, No, Spent, Better}
 use Rattle.report.specs.Report.{report_text}
-use Rattle.validate_answer.specs.Validate.{IsJudgement, IsWellFormedPair}
+use Rattle.validate_answer.specs.Validate.{IsWellFormedPair}
 use Rattle.check_answer.specs.Check.{most_terms}
 use Rattle.refutation.specs.Logs.{lines_from, log_of}
-use Rattle.refutation.specs.Steps.{NamesRows, Step}
-use Rattle.refutation.specs.Texts.{log_text}
+use Rattle.refutation.specs.Steps.{Step}
 use Rattle.refutation.specs.declared.verdict.Verdict.TheVariants.{Accepted}
-use Rattle.clause_search.specs.News.{IsSpent}
-use Rattle.bound_base.specs.BoundRows.{bound_rows, bound_size}
+use Rattle.bound_base.specs.BoundRows.{bound_size}
 use Rattle.certificates.specs.Certificates.{certificate_of, certificate_text}
 use Rattle.certificates.specs.declared.certificate.Certificate.{Certificate}
 use Rattle.bound_answer.specs.Bound.{bound_verdict}
 use Rattle.bounds.specs.Proofs as bounds
 use Rattle.bounds.specs.declared.proved.Proved.TheVariants as proofs
-use Rattle.prove_answer.specs.Prove.{IsBettered, IsLeast, IsProved, IsRejected, IsShown, IsSpentBelow, IsWellFormedCase}
+use Rattle.prove_answer.proofs.AnswerLemmas.{shown-refused}
+use Rattle.prove_answer.specs.Prove.{IsBettered, IsLeast, IsProved, IsRejected, IsSpentBelow, IsWellFormedCase}
 use Rattle.answer_examples.proofs.LeastExamples.{away-one, away-zero, away_first, even-accepted, even_soon, least-four}
 use Rattle.answer_examples.proofs.LeastExamples.{better-one, log, lower_bound, one-fit, one-in_order, one_first}
 use Rattle.answer_examples.proofs.LeastExamples.{settled-four, spent-at_zero, spent-four, zero_first}
@@ -139,6 +137,17 @@ pub least-misstated : (conflicts : Option ℕ) → IsLeast even_soon conflicts z
 least-misstated conflicts is =
     five_four 53 refl (ap (λ (text : List ℕ). get_or text 6 0) is.text ∙ stated-four is.steps)
 
+-- nor is one of another status, or of a schedule that isn't accepted
+spent_yes : Spent ≡ Yes → ⊥
+spent_yes is = cc
+
+pub least-status : (conflicts : Option ℕ) (text : List ℕ)
+    → IsLeast even_soon conflicts zero_first (record { status = Spent; text = text }) → ⊥
+least-status conflicts text is = spent_yes is.status
+
+pub least-twice : (conflicts : Option ℕ) (answer : Answer) → IsLeast even_soon conflicts twice answer → ⊥
+least-twice conflicts answer is = refused is.accepted
+
 -- nor is a season that isn't least
 none_below : (n : ℕ) → n ≡ 3 → n ≤ 0 → ⊥
 none_below n three none = omega (arith, three, none)
@@ -180,6 +189,14 @@ nothing_below n less = omega (arith, less)
 
 pub bettered-none : (answer : Answer) → IsBettered away_first one_first answer → ⊥
 bettered-none answer is = nothing_below (objective away_first (counts_of is.better)) is.lower
+
+-- a file is written
+no_byte : (b : ℕ) (rest : List ℕ) → [] ≡ b ∷ rest → ⊥
+no_byte b rest is = cc
+
+pub bettered-nothing : IsBettered away_first zero_first (record { status = Better; text = [] }) → ⊥
+bettered-nothing is =
+    no_byte 60 (drop 1 (solution_text is.better (Some (0, objective away_first (counts_of is.better))))) is.text
 
 -- ---- a log that is spent: at a budget of 0 it has no step
 
@@ -282,6 +299,14 @@ proved-better = record { answer = bettered; shown = inr (inr (inl bettered-zero)
 
 pub proved-spent : IsProved even_soon (Some 0) zero_first Spent (Some []) (Some (codes "refutation 1\nend\n"))
 proved-spent = record { answer = spent; shown = inr (inr (inr spent-none)); status = refl; written = refl }
+
+-- a schedule that isn't accepted is told so
+pub proved-twice : (conflicts : Option ℕ) (old new : Option (List ℕ)) → IsProved even_soon conflicts twice Yes old new → ⊥
+proved-twice conflicts old new is =
+    no_yes (sym (is.status ∙ shown-refused even_soon conflicts twice is.answer refused is.shown))
+  where
+    no_yes : No ≡ Yes → ⊥
+    no_yes same = cc
 
 -- known bytes stay known
 pub proved-unknown : (league : Instance) (conflicts : Option ℕ) (games : List Game) (ended : Status) (old : List ℕ)
