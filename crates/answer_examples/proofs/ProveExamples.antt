@@ -32,7 +32,7 @@ use Rattle.bounds.specs.declared.proved.Proved.TheVariants as proofs
 use Rattle.prove_answer.proofs.AnswerLemmas.{shown-refused}
 use Rattle.prove_answer.specs.Prove.{IsBettered, IsLeast, IsProved, IsRejected, IsSpentBelow, IsWellFormedCase}
 use Rattle.answer_examples.proofs.LeastExamples.{away-one, away-zero, away_first, even-accepted, even_soon, least-four}
-use Rattle.answer_examples.proofs.LeastExamples.{better-one, log, lower_bound, one-fit, one-in_order, one_first}
+use Rattle.answer_examples.proofs.LeastExamples.{better-one, log, lower_bound, one-fit, one-in_order, one_first, one_step}
 use Rattle.answer_examples.proofs.LeastExamples.{settled-four, spent-at_zero, spent-four, zero_first}
 
 -- ---- the three answers of the search that is behind `prove`
@@ -121,6 +121,10 @@ least-one = record {
   text = certificate-written;
   reads_back = λ short. certificate-read;
 }
+
+-- at a budget of 0 there is no certificate at all: no log of one step proves it
+pub least-budget : (answer : Answer) → IsLeast even_soon (Some 0) zero_first answer → ⊥
+least-budget answer is = one_step is.steps (is.within (omega arith)) is.proves
 
 -- another bound is no answer: its digit stands at place 6
 abbrev misstated : Answer
