@@ -5,7 +5,11 @@ use std::mem::size_of;
 
 /// Tells how much a literal and a term take, and then all of that.
 pub(crate) fn show_rows(rt: &(impl AllocGlobal + Print)) -> io::Result<()> {
-    println!(rt; "literal {} bytes, term {} bytes", size_of::<Lit>(), size_of::<Term>())?;
+    println!(rt;
+        "literal {} bytes, term {} bytes",
+        size_of::<Lit>(),
+        size_of::<Term>()
+    )?;
     show_forced(rt)?;
     show_force(rt)?;
     show_store(rt)?;
@@ -31,12 +35,23 @@ fn show_forced(rt: &(impl AllocGlobal + Print)) -> io::Result<()> {
     ];
     let mut partial = Partial::new(rt.alloc(), 3)?;
     partial.set(Lit::new(2, true));
-    println!(rt; "slack {} and {}", slack(&terms, 2, &partial), slack(&terms, 5, &partial))?;
+    println!(rt;
+        "slack {} and {}",
+        slack(&terms, 2, &partial),
+        slack(&terms, 5, &partial)
+    )?;
     let first = forced(&terms, 2, &partial, 0);
     let next = forced(&terms, 2, &partial, 1);
-    println!(rt; "forced first {}, next {}", first == Some(0), next.is_some())?;
+    println!(rt;
+        "forced first {}, next {}",
+        first == Some(0),
+        next.is_some()
+    )?;
     partial.unset(2);
-    println!(rt; "free again {}", partial.value(Lit::new(2, false)) == Value::Free)
+    println!(rt;
+        "free again {}",
+        partial.value(Lit::new(2, false)) == Value::Free
+    )
 }
 
 /// "1 of 1, 3 of not 2, at least 2" makes not 2 true, and lists 2.
@@ -58,7 +73,10 @@ fn show_force(rt: &(impl AllocGlobal + Print)) -> io::Result<()> {
     for var in &trail {
         println!(rt; "made true {}", *var)?;
     }
-    println!(rt; "not 2 true {}", partial.value(Lit::new(2, false)) == Value::True)
+    println!(rt;
+        "not 2 true {}",
+        partial.value(Lit::new(2, false)) == Value::True
+    )
 }
 
 /// A row without terms and one of 7 of not 5 are kept.
@@ -73,7 +91,11 @@ fn show_store(rt: &(impl AllocGlobal + Print)) -> io::Result<()> {
         4,
     )?;
     for place in 0..store.len() {
-        println!(rt; "row of {} terms and degree {}", store.terms(place).len(), store.degree(place))?;
+        println!(rt;
+            "row of {} terms and degree {}",
+            store.terms(place).len(),
+            store.degree(place)
+        )?;
     }
     Ok(())
 }
