@@ -1,6 +1,7 @@
 -- Two teams, of which neither may be at home in slot 0, or of which each has to be: h(0,0) is 5, h(1,0) is 7. Their
 -- logs add up the row of the slot and those of the teams.
-use Rattle.std.proofs.Common.{◌≡◌, ℕ, ◌+◌, ◌*◌, ◌≤◌, true, false, List, [], ◌∷◌, length, map, get_or, refl, ap, arith, lit<, lit≤}
+use Rattle.std.proofs.Common.{◌≡◌, ℕ, ◌+◌, ◌*◌, ◌≤◌, true, false, List, [], ◌∷◌, length, map, get_or, refl, ap, arith}
+use Rattle.std.proofs.Common.{lit<, lit≤}
 use Rattle.std.specs.List.{All}
 use Rattle.std.specs.Fmt.{digits}
 use Rattle.std.proofs.lemmas.Bool.{ltb-true}
