@@ -1,6 +1,7 @@
 -- Two teams, of which neither may be at home in slot 0, or of which each has to be: h(0,0) is 5, h(1,0) is 7. Their
 -- logs add up the row of the slot and those of the teams.
-use Rattle.std.proofs.Common.{◌≡◌, ℕ, ◌+◌, ◌*◌, ◌≤◌, true, false, List, [], ◌∷◌, length, map, get_or, refl, ap, arith, lit<, lit≤}
+use Rattle.std.proofs.Common.{◌≡◌, ℕ, ◌+◌, ◌*◌, ◌≤◌, true, false, List, [], ◌∷◌, length, map, get_or, refl, ap, arith}
+use Rattle.std.proofs.Common.{lit<, lit≤}
 use Rattle.std.specs.List.{All}
 use Rattle.std.specs.Fmt.{digits}
 use Rattle.std.proofs.lemmas.Bool.{ltb-true}
@@ -56,7 +57,11 @@ named = record {
       (refl, (refl, (refl, tt)));
 }
 
--- a row that is taken twice, by its factor, isn't
+-- each row has to be named
+pub named-fewer : AreNamed (rows_of short) (map once (23 ∷ 31 ∷ [])) short_rows → ⊥
+named-fewer is = omega (arith, ap length is.numbers)
+
+-- and none is taken twice, by a factor
 pub twice : AreNamed (rows_of short) (record { factor = 2; row = 23 } ∷ []) (at_least 1 (yes 5 ∷ yes 7 ∷ []) ∷ []) → ⊥
 twice is = omega (arith, is.once 0 (once 1) (lit< tt))
 
@@ -135,6 +140,15 @@ short_lines =
 
 pub refuting-short : IsRefuting short (log_of (23 ∷ 31 ∷ 32 ∷ []))
 refuting-short = record { accepted = refl; named = names_rows 23 (lit≤ tt); short_lines = short_lines }
+
+crowded_lines : HasShortLines (log_of (24 ∷ 31 ∷ 32 ∷ []))
+unfolding digits
+crowded_lines =
+    All-from_recursion (λ (step : Step). length (step_text (version_of (log_of (24 ∷ 31 ∷ 32 ∷ []))) step) ≤ most_bytes)
+    (log_of (24 ∷ 31 ∷ 32 ∷ [])) (lit≤ tt, (lit≤ tt, tt))
+
+pub refuting-crowded : IsRefuting crowded (log_of (24 ∷ 31 ∷ 32 ∷ []))
+refuting-crowded = record { accepted = refl; named = names_rows 24 (lit≤ tt); short_lines = crowded_lines }
 
 -- a hint behind the conflict isn't looked at: with the number 0 there the log is accepted, and can't be written
 abbrev wild : List Step

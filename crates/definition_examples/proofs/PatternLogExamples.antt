@@ -1,7 +1,8 @@
 -- Two teams of which neither may have had more home games than the other behind slot 0: h(0,s) is 5 + s, h(1,s) 7 + s,
 -- so that 5 and 7 would have to be equal, and one of them alone is true.
 use Rattle.std.proofs.Common.{◌≡◌, ◌≢◌, ℕ, zero, suc, ◌+◌, ◌<◌, ◌≤◌, Bool, true, false, List, [], ◌∷◌, get_or, length}
-use Rattle.std.proofs.Common.{◌-◌, ◌&&◌, ◌++◌, IsTrue, Some, drop, map, refl, ap, subst, arith, length-append, lit<, lit≤, sym}
+use Rattle.std.proofs.Common.{◌-◌, ◌&&◌, ◌++◌, IsTrue, Some, drop, map, refl, ap, subst, arith, length-append, lit<}
+use Rattle.std.proofs.Common.{lit≤, sym}
 use Rattle.std.specs.Prelude.{Contains, IsSomeAnd}
 use Rattle.std.specs.List.{All}
 use Rattle.std.proofs.lemmas.List.Elements.{All-from_recursion}
@@ -112,10 +113,10 @@ news-at_home = record {
   empowering = (all_free, yes 5, quiet, (0, lit< tt, refl), refl, alone);
 }
 
--- one hint more, of row 4, which speaks of games: 3 and 4 are not both true
 false_true : false ≡ true → ⊥
 false_true is = cc
 
+-- one hint more, of row 4, which speaks of games: 3 and 4 are not both true
 pub no_news : IsPatternNews 4 8 (rows_of league) (pattern_rows league) (Clause (yes 5 ∷ []) (21 ∷ 30 ∷ 4 ∷ [])) → ⊥
 no_news news = false_true (news.named 2 0 (lit< tt))
 

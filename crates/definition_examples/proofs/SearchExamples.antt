@@ -1,7 +1,8 @@
 -- Two clauses of two variables, 1 or 2, and 1 or not 2: what a log of one step makes of them; and the trail of four
 -- rows of which each forces something.
 use Rattle.std.proofs.Common.{◌≡◌, ◌≢◌, ℕ, zero, suc, ◌+◌, ◌<◌, ◌≤◌, List, [], ◌∷◌, get_or, map, Some}
-use Rattle.std.proofs.Common.{◌++◌, None, Ok, Err, true, false, length, length-append, refl, ap, arith, lit<, lit≤, subst, sym}
+use Rattle.std.proofs.Common.{◌++◌, None, Ok, Err, true, false, length, length-append, refl, ap, arith, lit<, lit≤}
+use Rattle.std.proofs.Common.{subst, sym}
 use Rattle.std.specs.Prelude.{Contains}
 use Rattle.std.proofs.lemmas.List.Elements.{All-from_recursion}
 use Rattle.rows.specs.Cardinality.{at_least}
@@ -155,17 +156,17 @@ again values l quiet (zero, within, is) free =
     one_free values quiet one_is (rw one_is refl)
 again values l quiet (suc k, within, is) free = absurd (omega (arith, within))
 
--- in a log too; and 2 doesn't follow from both rows: without it row 1 asks for 1, and row 2 is met
+pub news-twice : AreNews two 2 (one ∷ one ∷ []) → ⊥
+news-twice (first_is, (empowering, others)) =
+    let (values, l, quiet, there, free, alone) = empowering.empowering in
+    again values l (quiet 2 (clause_row []) (lit< tt)) there free
+
+-- nor is what doesn't follow: where 2 is false, row 1 asks for 1, and row 2 is met
 err_ok : {r : Row} → Err NoConflict ≡ Ok r → ⊥
 err_ok is = cc
 
 pub news-none : IsNews two 2 (Clause (yes 2 ∷ []) (1 ∷ 2 ∷ [])) → ⊥
 news-none news = err_ok news.follows
-
-pub news-twice : AreNews two 2 (one ∷ one ∷ []) → ⊥
-news-twice (first_is, (empowering, others)) =
-    let (values, l, quiet, there, free, alone) = empowering.empowering in
-    again values l (quiet 2 (clause_row []) (lit< tt)) there free
 
 -- ---- tidy steps: each variable once, each a known one, and at most one more hint than there are variables
 
@@ -298,7 +299,7 @@ refutes-closed = record {
 rejected : {cause : Cause} → Rejected 1 cause ≡ Accepted → ⊥
 rejected is = cc
 
--- without the last step, or with two hints too many in it, behind the conflict, it doesn't
+-- without the last step, or with a hint too many in it, behind the conflict, it doesn't: 3 variables allow 4 hints
 pub refutes-none : (Refutes closed 3 (Some 1) (one ∷ []) → ⊥)
     × (Refutes closed 3 (Some 1) (one ∷ Clause [] (5 ∷ 3 ∷ 4 ∷ 4 ∷ 4 ∷ []) ∷ []) → ⊥)
 refutes-none = (λ refutes. rejected refutes.accepted, λ refutes. omega (arith, (refutes.tidy 1 one (lit< tt)).few))

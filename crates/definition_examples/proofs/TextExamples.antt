@@ -108,8 +108,10 @@ reads-end = record {
 
 -- all three in turn
 pub feeds : FeedsAll behind_heading [] (codes "-6 0" ∷ codes " 14 2 0\n" ∷ codes "end\n" ∷ []) behind_end log
-feeds =
-    (within_line, ([], (reads-within, (behind_step, (log, (reads-step [], (behind_end, (log, (reads-end, (refl, refl))))))))))
+feeds = (
+  within_line,
+  ([], (reads-within, (behind_step, (log, (reads-step [], (behind_end, (log, (reads-end, (refl, refl))))))))),
+)
 
 -- ---- answers: at the end of the text nothing more may be read
 
