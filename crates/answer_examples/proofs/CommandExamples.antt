@@ -3,13 +3,14 @@
 use Rattle.std.proofs.Common.{◌≡◌, ℕ, zero, suc, ◌-◌, ◌^◌, ◌<◌, ◌≤◌, Bool, true, false, if◌then◌else◌, List, []}
 use Rattle.std.proofs.Common.{◌∷◌, ◌++◌, ◌==◌, length, Option, Some, None, Ok, Err, IsSome, IsSomeAnd, IsTrue, codes}
 use Rattle.std.proofs.Common.{bytes_eq, option_map, drop, get_or, nat_lt, All, ap, arith, inl, inr, lit<, refl, subst}
-use Rattle.std.proofs.Common.{sym, ◌∙◌}
+use Rattle.std.proofs.Common.{not, sym, ◌∙◌}
 use Rattle.std.specs.Option.{option_map_or}
 use Rattle.std.specs.Fmt.{digits}
 use Rattle.std.proofs.Math.Path.{fun_ext}
-use Rattle.std.proofs.lemmas.Bool.{ltb-true, ne_eqb}
+use Rattle.std.proofs.lemmas.Bool.{ltb-true, ne_eqb, not-true}
 use Rattle.std.proofs.lemmas.Bool.Decides.{nat_tests}
 use Rattle.std.proofs.lemmas.List.Elements.{All-nil, All-from_recursion}
+use Rattle.std.proofs.lemmas.List.Sums.{AllPass-from_list_all}
 use Rattle.std.proofs.lemmas.Slice.Eq.{bytes_eq-Decides}
 use Rattle.rand_core.specs.Pcg32Seed.{pcg32_seed}
 use Rattle.rand_core.specs.Steps.{u32_at, word_bytes}
@@ -73,7 +74,8 @@ use Rattle.pattern_search.specs.declared.found.PatternFound.TheVariants as patte
 use Rattle.pattern_search.specs.declared.found.PatternFound.TheVariants.{Patterns}
 use Rattle.budgets.specs.declared.budgets.Budgets.{Budgets}
 use Rattle.descent.specs.Descended.{Descended}
-use Rattle.descent.specs.Settled.{IsLowering, IsSettled}
+use Rattle.descent.specs.Score.{is_lower}
+use Rattle.descent.specs.Settled.{IsSettled}
 use Rattle.descent.specs.Trail.{IsClimb, IsTrail}
 use Rattle.descent.proofs.SettledLemmas.{IsSettled-of_all}
 use Rattle.moves.specs.Moves.{moved}
@@ -621,7 +623,7 @@ soft penalty class = record { hard = false; penalty = penalty; class = class }
 abbrev both : List ℕ
 both = 0 ∷ 1 ∷ []
 
--- nobody has a game or a break too many, and the two games are in slots next to each other
+-- the circle's season meets all but the last: its two games are in slots next to each other
 abbrev made : Instance
 made = record {
   n = 2;
@@ -692,19 +694,20 @@ written-no n seed old new is = no_yes is.status
 abbrev first_still : Descended
 first_still = record { first = one_first; trail = []; settled = true }
 
-abbrev lowers : Swap → Type 0
-lowers step = IsLowering 2 true (league_score made) (counts_of one_first) step
+abbrev is_lowered : Swap → Bool
+is_lowered step =
+    is_lower (league_score made (moved 2 (counts_of one_first) step)) (league_score made (counts_of one_first))
 
 -- none of the seven moves lowers anything
+none_lowers : All (λ step. not (is_lowered step) ≡ true) (all_moves 2)
+none_lowers = AllPass-from_list_all (λ step. not (is_lowered step)) (all_moves 2) refl
+
 made-settled : IsSettled 2 true (league_score made) (counts_of one_first)
 made-settled =
     IsSettled-of_all 2 true (league_score made) (counts_of one_first) (all_moves 2) refl
-    (All-from_recursion (λ step. lowers step → ⊥) (all_moves 2)
-    (λ h. same h.lower, (λ h. same h.lower, (λ h. same h.lower, (λ h. same h.lower, (λ h. same h.lower, (λ h. same
-    h.lower, (λ h. same h.lower, tt))))))))
-  where
-    same : false ≡ true → ⊥
-    same = false_true
+    (λ k d within lowers.
+        let step : Swap = get_or (all_moves 2) k d in
+        false_true (sym (not-true (is_lowered step) (none_lowers k d within)) ∙ lowers.lower))
 
 made-descent : IsDescent made 0 one_first first_still
 made-descent = record {
