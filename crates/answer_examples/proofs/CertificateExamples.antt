@@ -1,5 +1,5 @@
--- What `bound` says of certificates over the league that wants two teams even behind slot 0, and what runs of `prove` and
--- of `bound` say.
+-- What `bound` says of certificates over the league that wants two teams even behind slot 0, and what runs of `prove`
+-- and of `bound` say.
 use Rattle.std.proofs.Common.{◌≡◌, ℕ, ◌+◌, ◌<◌, ◌≤◌, if◌then◌else◌, List, [], ◌∷◌, ◌++◌, get_or, Option}
 use Rattle.std.proofs.Common.{drop, zero, suc, Some, None, Result, Ok, codes, bytes_eq, decimal, ap, arith, le_of_eq}
 use Rattle.std.proofs.Common.{lit<, refl, sym, ◌∙◌}
@@ -192,7 +192,8 @@ no_line b rest same = cc
 
 pub certified-nothing : IsCertified even_soon (Some []) (Some []) → ⊥
 certified-nothing is =
-    no_line 97 (codes "ccepted bound " ++ (decimal is.bound ++ (codes " steps " ++ (decimal is.steps ++ codes "\n")))) is.written
+    no_line 97
+    (codes "ccepted bound " ++ (decimal is.bound ++ (codes " steps " ++ (decimal is.steps ++ codes "\n")))) is.written
 
 -- ---- runs of `prove`
 

@@ -1,14 +1,16 @@
--- What `validate`, `solve`, `patterns`, `make` and `trial` answer of leagues of two teams, what devices count and write, and
--- single round robins. h(0,s) is 5 + s, and h(1,s) 7 + s.
+-- What `validate`, `solve`, `patterns`, `make` and `trial` answer of leagues of two teams, what devices count and
+-- write, and round robins. x(0,1,s) is 1 + s, x(1,0,s) 3 + s, h(0,s) 5 + s, and h(1,s) 7 + s.
 use Rattle.std.proofs.Common.{◌≡◌, ℕ, zero, suc, ◌-◌, ◌^◌, ◌<◌, ◌≤◌, Bool, true, false, if◌then◌else◌, List, []}
-use Rattle.std.proofs.Common.{◌∷◌, ◌++◌, length, Option, Some, None, Ok, Err, IsSome, IsSomeAnd, IsTrue, codes, bytes_eq}
-use Rattle.std.proofs.Common.{option_map, drop, get_or, nat_lt, ◌==◌, All, ap, arith, inl, inr, lit<, refl, subst, sym, ◌∙◌}
+use Rattle.std.proofs.Common.{◌∷◌, ◌++◌, ◌==◌, length, Option, Some, None, Ok, Err, IsSome, IsSomeAnd, IsTrue, codes}
+use Rattle.std.proofs.Common.{bytes_eq, option_map, drop, get_or, nat_lt, All, ap, arith, inl, inr, lit<, refl, subst}
+use Rattle.std.proofs.Common.{not, sym, ◌∙◌}
 use Rattle.std.specs.Option.{option_map_or}
 use Rattle.std.specs.Fmt.{digits}
 use Rattle.std.proofs.Math.Path.{fun_ext}
-use Rattle.std.proofs.lemmas.Bool.{ltb-true, ne_eqb}
+use Rattle.std.proofs.lemmas.Bool.{ltb-true, ne_eqb, not-true}
 use Rattle.std.proofs.lemmas.Bool.Decides.{nat_tests}
 use Rattle.std.proofs.lemmas.List.Elements.{All-nil, All-from_recursion}
+use Rattle.std.proofs.lemmas.List.Sums.{AllPass-from_list_all}
 use Rattle.std.proofs.lemmas.Slice.Eq.{bytes_eq-Decides}
 use Rattle.rand_core.specs.Pcg32Seed.{pcg32_seed}
 use Rattle.rand_core.specs.Steps.{u32_at, word_bytes}
@@ -36,7 +38,7 @@ use Rattle.league.specs.declared.class.Side.{Side}
 use Rattle.league.specs.declared.class.Side.TheVariants.{H, A, Both}
 use Rattle.league.specs.declared.class.Span.TheVariants.{Global}
 use Rattle.league.specs.declared.game.Game.{Game}
-use Rattle.league.proofs.AcceptedLemmas.{MeetsHard-from_sum}
+use Rattle.league.proofs.AcceptedLemmas.{MeetsHard-from_sum, sum-from_MeetsHard}
 use Rattle.league.proofs.DoubleFour.{game}
 use Rattle.circle_method.specs.Breaks.{HasFewBreaks}
 use Rattle.circle_method.specs.Circle.{double_games}
@@ -48,7 +50,9 @@ use Rattle.answers.specs.declared.status.Status.TheVariants.{Yes, No, Refuted, S
 use Rattle.report.specs.Report.{report_text}
 use Rattle.validate_answer.specs.Validate.{IsJudged, IsJudgement}
 use Rattle.rows.specs.Literals.{Literal}
-use Rattle.rows.specs.Values.{assigned}
+use Rattle.rows.specs.Values.{assigned, valued}
+use Rattle.rows.specs.declared.partial.Value.{Value}
+use Rattle.rows.specs.declared.partial.Value.TheVariants.{True, False}
 use Rattle.rows.proofs.TestLemmas.{SatisfiesAll-from_true}
 use Rattle.encoding_base.specs.Encoding.{rows_of}
 use Rattle.encoding_base.specs.Variables.{h_var, var_count}
@@ -66,10 +70,12 @@ use Rattle.clause_search.specs.News.{IsTidy}
 use Rattle.pattern_search.specs.PatternLogs.{IsPatternSpent, RefutesPatterns}
 use Rattle.pattern_search.specs.PatternRows.{is_pattern_row, pattern_rows}
 use Rattle.pattern_search.specs.PatternSets.{IsPatternSet, is_home, letter_at}
+use Rattle.pattern_search.specs.declared.found.PatternFound.TheVariants as pattern_answers
 use Rattle.pattern_search.specs.declared.found.PatternFound.TheVariants.{Patterns}
 use Rattle.budgets.specs.declared.budgets.Budgets.{Budgets}
 use Rattle.descent.specs.Descended.{Descended}
-use Rattle.descent.specs.Settled.{IsLowering, IsSettled}
+use Rattle.descent.specs.Score.{is_lower}
+use Rattle.descent.specs.Settled.{IsSettled}
 use Rattle.descent.specs.Trail.{IsClimb, IsTrail}
 use Rattle.descent.proofs.SettledLemmas.{IsSettled-of_all}
 use Rattle.moves.specs.Moves.{moved}
@@ -84,8 +90,8 @@ use Rattle.instance_gen.specs.Made.{made_league}
 use Rattle.make_answer.specs.MadeInstance.{IsMade, IsWrittenLeague}
 use Rattle.trial_answer.specs.Trial.{IsTrial, IsTried, summary}
 use Rattle.answer_examples.proofs.LeastExamples.{away-one, away-zero, away_first, even-accepted, even_soon, one-fit}
-use Rattle.answer_examples.proofs.LeastExamples.{one-in_order, one_first, quiet_rows, settled-four, swap-lowers, zero-fit}
-use Rattle.answer_examples.proofs.LeastExamples.{zero-in_order, zero_first}
+use Rattle.answer_examples.proofs.LeastExamples.{one-in_order, one_first, quiet_rows, settled-four, swap-lowers}
+use Rattle.answer_examples.proofs.LeastExamples.{zero-fit, zero-in_order, zero_first}
 
 false_true : false ≡ true → ⊥
 false_true is = cc
@@ -95,7 +101,8 @@ false_true is = cc
 abbrev judged : Answer
 judged = record {
   status = Yes;
-  text = codes "teams 2\nslots 2\nmode NULL\ngames 2\nstructure pairs 0 cells 0 phases 0\nconstraint 1 FA2 SOFT penalty 4 sum 1 entries 1\ninfeasibility 0\nobjective 4\nfeasible yes\n";
+  text = codes "teams 2\nslots 2\nmode NULL\ngames 2\nstructure pairs 0 cells 0 phases 0\n"
+      ++ codes "constraint 1 FA2 SOFT penalty 4 sum 1 entries 1\ninfeasibility 0\nobjective 4\nfeasible yes\n";
 }
 
 judged-text : judged.text ≡ report_text even_soon zero_first true
@@ -142,7 +149,11 @@ descent-still = record {
 abbrev found : Answer
 found = record {
   status = Yes;
-  text = codes "<?xml version=\"1.0\" encoding=\"UTF-8\"?>\n<Solution>\n<MetaData>\n<ObjectiveValue infeasibility=\"0\" objective=\"4\"/>\n</MetaData>\n<Games>\n<ScheduledMatch home=\"0\" away=\"1\" slot=\"0\"/>\n<ScheduledMatch home=\"1\" away=\"0\" slot=\"1\"/>\n</Games>\n</Solution>\n<!-- descent first=4 moves=0 settled=yes -->\n";
+  text = codes "<?xml version=\"1.0\" encoding=\"UTF-8\"?>\n<Solution>\n<MetaData>\n"
+      ++ codes "<ObjectiveValue infeasibility=\"0\" objective=\"4\"/>\n</MetaData>\n<Games>\n"
+      ++ codes "<ScheduledMatch home=\"0\" away=\"1\" slot=\"0\"/>\n"
+      ++ codes "<ScheduledMatch home=\"1\" away=\"0\" slot=\"1\"/>\n</Games>\n</Solution>\n"
+      ++ codes "<!-- descent first=4 moves=0 settled=yes -->\n";
 }
 
 found-text : found.text ≡ solution_text zero_first (Some (0, 4)) ++ descent_text 4 still
@@ -269,7 +280,11 @@ descent-unmoved moves is = is.settled.0 refl swap swap-lowers
 abbrev moved_file : Answer
 moved_file = record {
   status = Yes;
-  text = codes "<?xml version=\"1.0\" encoding=\"UTF-8\"?>\n<Solution>\n<MetaData>\n<ObjectiveValue infeasibility=\"0\" objective=\"0\"/>\n</MetaData>\n<Games>\n<ScheduledMatch home=\"1\" away=\"0\" slot=\"0\"/>\n<ScheduledMatch home=\"0\" away=\"1\" slot=\"1\"/>\n</Games>\n</Solution>\n<!-- descent first=3 moves=1 settled=yes -->\n<!-- move HomeSwap 0 1 -->\n";
+  text = codes "<?xml version=\"1.0\" encoding=\"UTF-8\"?>\n<Solution>\n<MetaData>\n"
+      ++ codes "<ObjectiveValue infeasibility=\"0\" objective=\"0\"/>\n</MetaData>\n<Games>\n"
+      ++ codes "<ScheduledMatch home=\"1\" away=\"0\" slot=\"0\"/>\n"
+      ++ codes "<ScheduledMatch home=\"0\" away=\"1\" slot=\"1\"/>\n</Games>\n</Solution>\n"
+      ++ codes "<!-- descent first=3 moves=1 settled=yes -->\n<!-- move HomeSwap 0 1 -->\n";
 }
 
 moved-text : moved_file.text ≡ solution_text one_first (Some (0, 0)) ++ descent_text 3 one_move
@@ -315,8 +330,11 @@ home_fit zero d h = refl
 home_fit (suc k) d h = absurd (omega (arith, h))
 
 home_instance : IsInstance home_last
-home_instance =
-    record { teams = record { even = refl; at_least = omega arith; at_most = omega arith }; few = omega arith; fit = home_fit }
+home_instance = record {
+  teams = record { even = refl; at_least = omega arith; at_most = omega arith };
+  few = omega arith;
+  fit = home_fit;
+}
 
 pub none : NoneAccepted home_last
 none = accepted_logs_exclude home_last no_season home_instance no_season-accepted
@@ -419,7 +437,8 @@ no_patterns = refl
 
 pub patterns-none : (answer : Answer) → ArePatterns home_last answer → ⊥
 patterns-none answer is =
-    accepted_logs_refute (pattern_rows home_last) 8 (Clause [] (9 ∷ 10 ∷ 4 ∷ []) ∷ []) no_patterns is.set.values is.set.met
+    accepted_logs_refute (pattern_rows home_last) 8 (Clause [] (9 ∷ 10 ∷ 4 ∷ []) ∷ []) no_patterns is.set.values
+    is.set.met
 
 -- the rows of the log speak of no game, so that it refutes the patterns too
 no_season-tidy : IsTidy 8 (Clause [] (29 ∷ 30 ∷ 24 ∷ []))
@@ -428,7 +447,8 @@ no_season-tidy = record {
   from_one = All-nil (λ (l : Literal). 1 ≤ l.var);
   known = All-nil (λ (l : Literal). l.var ≤ 8);
   few = omega arith;
-  named = All-from_recursion (λ (hint : ℕ). 1 ≤ hint) (29 ∷ 30 ∷ 24 ∷ []) (omega arith, (omega arith, (omega arith, tt)));
+  named = All-from_recursion (λ (hint : ℕ). 1 ≤ hint) (29 ∷ 30 ∷ 24 ∷ [])
+      (omega arith, (omega arith, (omega arith, tt)));
 }
 
 pub refutes-patterns : RefutesPatterns home_last (Some 0) no_season
@@ -439,7 +459,9 @@ refutes-patterns = record {
   hints = 29 ∷ 30 ∷ 24 ∷ [];
   last = refl;
   news = tt;
-  named = All-from_recursion (λ hint. IsSomeAnd (row_numbered (rows_of home_last) hint) (λ row. is_pattern_row 4 row ≡ true))
+  named =
+      All-from_recursion
+      (λ hint. IsSomeAnd (row_numbered (rows_of home_last) hint) (λ row. is_pattern_row 4 row ≡ true))
       (29 ∷ 30 ∷ 24 ∷ []) (refl, (refl, (refl, tt)));
   within = omega arith;
   tidy = All-from_recursion (IsTidy 8) no_season (no_season-tidy, tt);
@@ -509,6 +531,57 @@ circle-accepted = record {
 pub found-spent : IsFound even_soon budgets (rows_of even_soon) spent → ⊥
 found-spent is = spent_yes (is.circle circle-accepted)
 
+-- where the game of team 0 at home is to be in slot 0, the circle's season isn't accepted, and the budget may be spent:
+-- where 1, 4, 5 and 8 are true, which is the other season, no row is in conflict, and none has a literal to force
+abbrev wanted : Instance
+wanted = record {
+  n = 2;
+  phased = false;
+  constraints = record { hard = true; penalty = 2; class = Ga1 ((0, 1) ∷ []) 1 1 (0 ∷ []) } ∷ [];
+}
+
+abbrev season_values : ℕ → Value
+season_values = valued (True ∷ False ∷ False ∷ True ∷ True ∷ False ∷ False ∷ True ∷ [])
+
+spent-wanted : IsPatternSpent wanted (Some 0) []
+spent-wanted = record {
+  limited = refl;
+  news = tt;
+  quiet = (all_free, quiet_rows all_free (pattern_rows wanted) refl);
+  few = lit< tt;
+  tidy = All-nil (IsTidy 8);
+}
+
+pub solve-wanted : IsBudgetSpent wanted (rows_of wanted) budgets spent
+solve-wanted = record {
+  steps = [];
+  patterns = pattern_answers.Spent [];
+  budget = refl;
+  spent = record { count = refl; news = tt; quiet = (season_values, quiet_rows season_values (rows_of wanted) refl) };
+  few = lit< tt;
+  pattern_rows = spent-wanted;
+  status = refl;
+  text = refl;
+  reads_back = spent-read;
+}
+
+one_above : (n : ℕ) → n ≡ 1 → n ≡ 0 → ⊥
+one_above n one none = omega (arith, one, none)
+
+circle-unwanted : IsAccepted wanted (counts_of (double_games 2)) → ⊥
+circle-unwanted accepted = one_above 1 refl (sum-from_MeetsHard wanted (counts_of (double_games 2)) accepted.hard)
+
+pub found-wanted : IsFound wanted budgets (rows_of wanted) spent
+found-wanted = record {
+  found = inr (inr solve-wanted);
+  circle = λ accepted. absurd (circle-unwanted accepted);
+  short = λ short. absurd (false_true short);
+  crowded = λ crowded. absurd (false_true crowded);
+}
+
+pub solved-wanted : IsSolved wanted budgets Spent (Some []) (Some (codes "refutation 1\nend\n"))
+solved-wanted = record { answer = spent; found = found-wanted; status = refl; written = refl }
+
 refuted_spent : Spent ≡ Refuted → ⊥
 refuted_spent is = cc
 
@@ -550,7 +623,7 @@ soft penalty class = record { hard = false; penalty = penalty; class = class }
 abbrev both : List ℕ
 both = 0 ∷ 1 ∷ []
 
--- nobody has a game or a break too many, and the two games are in slots next to each other
+-- the circle's season meets all but the last: its two games are in slots next to each other
 abbrev made : Instance
 made = record {
   n = 2;
@@ -597,7 +670,8 @@ made-accepts = record {
 
 pub made-three : IsMade 2 3 written_league
 made-three = record {
-  made = ap (λ (league : Instance). let a : Answer = record { status = Yes; text = instance_text league } in a) (sym made-is);
+  made = ap (λ (league : Instance). let a : Answer = record { status = Yes; text = instance_text league } in a)
+      (sym made-is);
   reads_back = made-read ∙ ap (λ (league : Instance). Ok league) (sym made-is);
   count = ap (λ (league : Instance). length league.constraints) made-is;
   accepts = subst (λ (league : Instance). IsAccepted league (counts_of (double_games 2))) (sym made-is) made-accepts;
@@ -620,23 +694,20 @@ written-no n seed old new is = no_yes is.status
 abbrev first_still : Descended
 first_still = record { first = one_first; trail = []; settled = true }
 
-abbrev lowers : Swap → Type 0
-lowers step = IsLowering 2 true (league_score made) (counts_of one_first) step
+abbrev is_lowered : Swap → Bool
+is_lowered step =
+    is_lower (league_score made (moved 2 (counts_of one_first) step)) (league_score made (counts_of one_first))
 
 -- none of the seven moves lowers anything
+none_lowers : All (λ step. not (is_lowered step) ≡ true) (all_moves 2)
+none_lowers = AllPass-from_list_all (λ step. not (is_lowered step)) (all_moves 2) refl
+
 made-settled : IsSettled 2 true (league_score made) (counts_of one_first)
 made-settled =
     IsSettled-of_all 2 true (league_score made) (counts_of one_first) (all_moves 2) refl
-    (All-from_recursion (λ step. lowers step → ⊥) (all_moves 2) (
-      λ h. false_true h.lower,
-      (
-        λ h. false_true h.lower,
-        (
-          λ h. false_true h.lower,
-          (λ h. false_true h.lower, (λ h. false_true h.lower, (λ h. false_true h.lower, (λ h. false_true h.lower, tt)))),
-        ),
-      ),
-    ))
+    (λ k d within lowers.
+        let step : Swap = get_or (all_moves 2) k d in
+        false_true (sym (not-true (is_lowered step) (none_lowers k d within)) ∙ lowers.lower))
 
 made-descent : IsDescent made 0 one_first first_still
 made-descent = record {
@@ -652,7 +723,11 @@ made-descent = record {
 abbrev made_found : Answer
 made_found = record {
   status = Yes;
-  text = codes "<?xml version=\"1.0\" encoding=\"UTF-8\"?>\n<Solution>\n<MetaData>\n<ObjectiveValue infeasibility=\"0\" objective=\"2\"/>\n</MetaData>\n<Games>\n<ScheduledMatch home=\"1\" away=\"0\" slot=\"0\"/>\n<ScheduledMatch home=\"0\" away=\"1\" slot=\"1\"/>\n</Games>\n</Solution>\n<!-- descent first=2 moves=0 settled=yes -->\n";
+  text = codes "<?xml version=\"1.0\" encoding=\"UTF-8\"?>\n<Solution>\n<MetaData>\n"
+      ++ codes "<ObjectiveValue infeasibility=\"0\" objective=\"2\"/>\n</MetaData>\n<Games>\n"
+      ++ codes "<ScheduledMatch home=\"1\" away=\"0\" slot=\"0\"/>\n"
+      ++ codes "<ScheduledMatch home=\"0\" away=\"1\" slot=\"1\"/>\n</Games>\n</Solution>\n"
+      ++ codes "<!-- descent first=2 moves=0 settled=yes -->\n";
 }
 
 made_found-text : made_found.text ≡ solution_text one_first (Some (0, 2)) ++ descent_text 2 first_still
@@ -716,7 +791,8 @@ trial-home n seed moves answer is = none is.schedule.games is.schedule.accepted
 first_byte : (b : ℕ) (rest : List ℕ) → [] ≡ b ∷ rest → ⊥
 first_byte b rest is = cc
 
-pub trial-nothing : (n seed moves : ℕ) (league : Instance) → IsTrial n seed league moves (record { status = Yes; text = [] }) → ⊥
+pub trial-nothing : (n seed moves : ℕ) (league : Instance)
+    → IsTrial n seed league moves (record { status = Yes; text = [] }) → ⊥
 trial-nothing n seed moves league is =
     first_byte 116 (drop 1 (summary n seed league is.schedule.games is.schedule.descent ++ is.solved.text)) is.text
 
@@ -865,7 +941,8 @@ two_below n two below = omega (arith, two, below)
 pub single-third : (IsSingleGame 2 (game 2 0 0) → ⊥) × (IsSingleGame 2 (game 0 2 0) → ⊥)
 single-third = (λ is. two_below 2 refl is.home, λ is. two_below 2 refl is.away)
 
-meets-once : (i j : ℕ) → i < j → j < 2 → games_of (counts_of (game 0 1 0 ∷ [])) ((i, j) ∷ (j, i) ∷ []) (first_half 2) ≡ 1
+meets-once : (i j : ℕ) → i < j → j < 2
+    → games_of (counts_of (game 0 1 0 ∷ [])) ((i, j) ∷ (j, i) ∷ []) (first_half 2) ≡ 1
 meets-once zero (suc zero) before team = refl
 meets-once zero zero before team = absurd (omega (arith, before))
 meets-once zero (suc (suc j)) before team = absurd (omega (arith, team))

@@ -1,9 +1,10 @@
--- Two teams, in no phases. x(0,1,s) is 1 + s, x(1,0,s) 3 + s, h(0,s) 5 + s and h(1,s) 7 + s. Behind slot 0 one of them has
--- had a home game more, so that to be even there costs 4 in each season: a log of two steps proves it, and one of none
--- is spent. The league that wants team 0 away in slot 0, at 3, has a season at 3 and one at nothing.
+-- Two teams, in no phases. x(0,1,s) is 1 + s, x(1,0,s) 3 + s, h(0,s) 5 + s and h(1,s) 7 + s. Behind slot 0 one of them
+-- has had a home game more, so that where they are to be even there, each season costs 4: a log of two steps proves it,
+-- and one of none is spent. The league that wants team 0 away in slot 0, at 3, has a season at 3 and one at nothing.
 use Rattle.std.proofs.Common.{◌≡◌, ℕ, zero, suc, ◌+◌, ◌<◌, ◌≤◌, ◌&&◌, ◌⊎◌, inl, inr, Bool, true, false, not, nat_le}
 use Rattle.std.proofs.Common.{nat_lt, List, [], ◌∷◌, drop, get_or, length, length-append, All, Contains, Option, Some}
-use Rattle.std.proofs.Common.{None, IfSome, IsTrue, ◌-◌, ◌==◌, ◌∙◌, ◌++◌, if◌then◌else◌, map, cond, ap, arith, lit<, refl, subst, sym}
+use Rattle.std.proofs.Common.{None, IfSome, IsTrue, ◌-◌, ◌==◌, ◌++◌, if◌then◌else◌, map, cond, ap, arith, lit<, refl}
+use Rattle.std.proofs.Common.{subst, sym, ◌∙◌}
 use Rattle.std.specs.List.{list_all}
 use Rattle.std.specs.Ordering.{is_le}
 use Rattle.std.proofs.lemmas.Bool.{and_parts, eqb-true, leb-true, ltb-false, ltb-true, not-true}
@@ -33,7 +34,8 @@ use Rattle.rows.specs.declared.partial.Value.{Value}
 use Rattle.rows.specs.declared.partial.Value.TheVariants.{True, False, Free}
 use Rattle.refutation.specs.Steps.{NamesRows, Step}
 use Rattle.refutation.specs.Steps.Step.{Clause, Linear}
-use Rattle.refutation.specs.Following.{after_row, all_free, clause_row, is_in_conflict, replay, row_numbered, row_unless}
+use Rattle.refutation.specs.Following.{after_row, all_free, clause_row, is_in_conflict, replay, row_numbered}
+use Rattle.refutation.specs.Following.{row_unless}
 use Rattle.refutation.specs.Verdict.{fault_or, first_fault, verdict_by, verdict_of}
 use Rattle.refutation.specs.declared.verdict.Cause.{Cause}
 use Rattle.refutation.specs.declared.verdict.Verdict.TheVariants.{Accepted}
@@ -151,7 +153,8 @@ quiet_row values row test =
           (row.degree + (get_or row.terms k d).coef) (slack k d within) free;
     }
 
-pub quiet_rows : (values : ℕ → Value) (rows : List Row) → list_all (is_quiet_row values) rows ≡ true → IsQuiet values rows
+pub quiet_rows : (values : ℕ → Value) (rows : List Row) → list_all (is_quiet_row values) rows ≡ true
+    → IsQuiet values rows
 quiet_rows values rows test = λ k d within.
     quiet_row values (get_or rows k d) (AllPass-from_list_all (is_quiet_row values) rows test k d within)
 
@@ -183,8 +186,11 @@ even_fit zero d h = refl
 even_fit (suc k) d h = absurd (omega (arith, h))
 
 pub even_instance : IsInstance even_soon
-even_instance =
-    record { teams = record { even = refl; at_least = omega arith; at_most = omega arith }; few = omega arith; fit = even_fit }
+even_instance = record {
+  teams = record { even = refl; at_least = omega arith; at_most = omega arith };
+  few = omega arith;
+  fit = even_fit;
+}
 
 -- so each season costs 4 at least
 pub lower_bound : IsLowerBound even_soon 4
@@ -212,7 +218,8 @@ first-tidy = record {
   from_one = All-from_recursion (λ (l : Literal). 1 ≤ l.var) (no 5 ∷ []) (omega arith, tt);
   known = All-from_recursion (λ (l : Literal). l.var ≤ 9) (no 5 ∷ []) (omega arith, tt);
   few = omega arith;
-  named = All-from_recursion (λ (hint : ℕ). 1 ≤ hint) (31 ∷ 29 ∷ 22 ∷ []) (omega arith, (omega arith, (omega arith, tt)));
+  named = All-from_recursion (λ (hint : ℕ). 1 ≤ hint) (31 ∷ 29 ∷ 22 ∷ [])
+      (omega arith, (omega arith, (omega arith, tt)));
 }
 
 last-tidy : IsTidy 9 last_step
@@ -361,8 +368,8 @@ pub one_step : (steps : List Step) → length steps ≤ 1 → verdict_of (bound_
 one_step [] few accepted = false_true (accepted_parts None false 0 accepted).1
 one_step (Clause [] hints ∷ []) few accepted =
     let fault : Option Cause = replay rows hints all_free in
-    replay-free hints (no_fault fault (accepted_parts (fault_or 1 (row_unless fault (clause_row [])) (λ row. None)) true 1
-    accepted).0)
+    let first : Option (ℕ × Cause) = fault_or 1 (row_unless fault (clause_row [])) (λ row. None) in
+    replay-free hints (no_fault fault (accepted_parts first true 1 accepted).0)
 one_step (Clause (l ∷ clause) hints ∷ []) few accepted =
     false_true (accepted_parts (first_fault rows 9 0 (Clause (l ∷ clause) hints ∷ [])) false 1 accepted).1
 one_step (Linear parts divisor ∷ []) few accepted =
@@ -404,8 +411,8 @@ least-no_log limit step steps is = no_step step steps (is.nothing refl)
 below_none : (n : ℕ) → n ≡ 3 → n ≤ 0 → ⊥
 below_none n three none = omega (arith, three, none)
 
-pub least-dear : (limit : Option ℕ) (n : ℕ) (steps : List Step) → IsLeast away_first (counts_of zero_first) limit n steps
-    → ⊥
+pub least-dear : (limit : Option ℕ) (n : ℕ) (steps : List Step)
+    → IsLeast away_first (counts_of zero_first) limit n steps → ⊥
 least-dear limit n steps is = below_none n is.cost (is.least (counts_of one_first) away-one)
 
 -- the other season betters it, and nothing betters that
@@ -501,7 +508,8 @@ spent-short m is = other_budget 1 (omega arith) is.spent.limited
 none_one : (n : ℕ) → n ≡ 0 → 1 ≤ n → ⊥
 none_one n none some = omega (arith, none, some)
 
-pub spent-nothing : (limit : Option ℕ) (steps : List Step) → IsSpentBelow away_first (counts_of one_first) limit steps → ⊥
+pub spent-nothing : (limit : Option ℕ) (steps : List Step)
+    → IsSpentBelow away_first (counts_of one_first) limit steps → ⊥
 spent-nothing limit steps is = none_one 0 refl is.some
 
 pub swap-lowers : IsLowering 2 false (league_score away_first) (counts_of zero_first) (home_swap (0, 1))
@@ -554,7 +562,8 @@ at_once-tidy = record {
   from_one = All-nil (λ (l : Literal). 1 ≤ l.var);
   known = All-nil (λ (l : Literal). l.var ≤ 10);
   few = omega arith;
-  named = All-from_recursion (λ (hint : ℕ). 1 ≤ hint) (30 ∷ 29 ∷ 28 ∷ []) (omega arith, (omega arith, (omega arith, tt)));
+  named = All-from_recursion (λ (hint : ℕ). 1 ≤ hint) (30 ∷ 29 ∷ 28 ∷ [])
+      (omega arith, (omega arith, (omega arith, tt)));
 }
 
 pub least-at_once : IsLeast never_away (counts_of zero_first) (Some 0) 7 at_once

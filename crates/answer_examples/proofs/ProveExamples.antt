@@ -1,6 +1,7 @@
 -- What `prove` answers of seasons of two teams, over the leagues of LeastExamples: a report, a certificate, a better
 -- season, and a log that is spent, each with its text.
-use Rattle.std.proofs.Common.{◌≡◌, ℕ, ◌+◌, ◌<◌, ◌≤◌, Bool, true, false, if◌then◌else◌, List, [], ◌∷◌, ◌++◌, get_or, length, Option}
+use Rattle.std.proofs.Common.{◌≡◌, ℕ, ◌+◌, ◌<◌, ◌≤◌, Bool, true, false, if◌then◌else◌, List, [], ◌∷◌, ◌++◌, get_or}
+use Rattle.std.proofs.Common.{length, Option}
 use Rattle.std.proofs.Common.{drop, Some, None, Ok, codes, bytes_eq, ap, arith, inl, inr, lit<, refl, sym, ◌∙◌}
 use Rattle.std.specs.Fmt.{digits}
 use Rattle.league.specs.Accepted.{IsAccepted, objective}
@@ -32,7 +33,8 @@ use Rattle.bounds.specs.declared.proved.Proved.TheVariants as proofs
 use Rattle.prove_answer.proofs.AnswerLemmas.{shown-refused}
 use Rattle.prove_answer.specs.Prove.{IsBettered, IsLeast, IsProved, IsRejected, IsSpentBelow, IsWellFormedCase}
 use Rattle.answer_examples.proofs.LeastExamples.{away-one, away-zero, away_first, even-accepted, even_soon, least-four}
-use Rattle.answer_examples.proofs.LeastExamples.{better-one, log, lower_bound, one-fit, one-in_order, one_first, one_step}
+use Rattle.answer_examples.proofs.LeastExamples.{better-one, log, lower_bound, one-fit, one-in_order, one_first}
+use Rattle.answer_examples.proofs.LeastExamples.{one_step}
 use Rattle.answer_examples.proofs.LeastExamples.{settled-four, spent-at_zero, spent-four, zero_first}
 
 -- ---- the three answers of the search that is behind `prove`
@@ -60,7 +62,8 @@ false_true is = cc
 abbrev pub report : Answer
 report = record {
   status = No;
-  text = codes "teams 2\nslots 2\nmode NULL\ngames 2\nstructure pairs 2 cells 0 phases 0\nconstraint 1 FA2 SOFT penalty 4 sum 1 entries 1\ninfeasibility 0\nobjective 4\nfeasible no\n";
+  text = codes "teams 2\nslots 2\nmode NULL\ngames 2\nstructure pairs 2 cells 0 phases 0\n"
+      ++ codes "constraint 1 FA2 SOFT penalty 4 sum 1 entries 1\ninfeasibility 0\nobjective 4\nfeasible no\n";
 }
 
 report-twice : report.text ≡ report_text even_soon twice false
@@ -162,7 +165,10 @@ least-dear conflicts answer is = none_below 3 refl (is.least (counts_of one_firs
 -- ---- a better season, with what it costs
 
 abbrev pub better_file : List ℕ
-better_file = codes "<?xml version=\"1.0\" encoding=\"UTF-8\"?>\n<Solution>\n<MetaData>\n<ObjectiveValue infeasibility=\"0\" objective=\"0\"/>\n</MetaData>\n<Games>\n<ScheduledMatch home=\"1\" away=\"0\" slot=\"0\"/>\n<ScheduledMatch home=\"0\" away=\"1\" slot=\"1\"/>\n</Games>\n</Solution>\n"
+better_file = codes "<?xml version=\"1.0\" encoding=\"UTF-8\"?>\n<Solution>\n<MetaData>\n"
+    ++ codes "<ObjectiveValue infeasibility=\"0\" objective=\"0\"/>\n</MetaData>\n<Games>\n"
+    ++ codes "<ScheduledMatch home=\"1\" away=\"0\" slot=\"0\"/>\n"
+    ++ codes "<ScheduledMatch home=\"0\" away=\"1\" slot=\"1\"/>\n</Games>\n</Solution>\n"
 
 pub better-written : better_file ≡ solution_text one_first (Some (0, 0))
 unfolding digits
@@ -234,10 +240,16 @@ spent-never league games answer is = no_budget is.steps is.budget
 -- ---- a run over two files, which writes the certificate behind what was there
 
 abbrev pub league_file : List ℕ
-league_file = codes "<Instance><Structure><Format><numberRoundRobin>2</numberRoundRobin><compactness>C</compactness><gameMode>NULL</gameMode></Format></Structure><Resources><Teams><team id=\"0\"/><team id=\"1\"/></Teams><Slots><slot id=\"0\"/><slot id=\"1\"/></Slots></Resources><Constraints><FairnessConstraints><FA2 teams=\"0;1\" intp=\"0\" mode=\"H\" slots=\"0\" type=\"SOFT\" penalty=\"4\"/></FairnessConstraints></Constraints></Instance>"
+league_file = codes "<Instance><Structure><Format><numberRoundRobin>2</numberRoundRobin><compactness>C</compactness>"
+    ++ codes "<gameMode>NULL</gameMode></Format></Structure><Resources><Teams><team id=\"0\"/><team id=\"1\"/>"
+    ++ codes "</Teams><Slots><slot id=\"0\"/><slot id=\"1\"/></Slots></Resources><Constraints>"
+    ++ codes "<FairnessConstraints>"
+    ++ codes "<FA2 teams=\"0;1\" intp=\"0\" mode=\"H\" slots=\"0\" type=\"SOFT\" penalty=\"4\"/>"
+    ++ codes "</FairnessConstraints></Constraints></Instance>"
 
 abbrev pub season_file : List ℕ
-season_file = codes "<Solution><Games><ScheduledMatch home=\"0\" away=\"1\" slot=\"0\"/><ScheduledMatch home=\"1\" away=\"0\" slot=\"1\"/></Games></Solution>"
+season_file = codes "<Solution><Games><ScheduledMatch home=\"0\" away=\"1\" slot=\"0\"/>"
+    ++ codes "<ScheduledMatch home=\"1\" away=\"0\" slot=\"1\"/></Games></Solution>"
 
 abbrev contents : List ℕ → Option (List ℕ)
 contents name =
@@ -305,7 +317,8 @@ pub proved-spent : IsProved even_soon (Some 0) zero_first Spent (Some []) (Some 
 proved-spent = record { answer = spent; shown = inr (inr (inr spent-none)); status = refl; written = refl }
 
 -- a schedule that isn't accepted is told so
-pub proved-twice : (conflicts : Option ℕ) (old new : Option (List ℕ)) → IsProved even_soon conflicts twice Yes old new → ⊥
+pub proved-twice : (conflicts : Option ℕ) (old new : Option (List ℕ))
+    → IsProved even_soon conflicts twice Yes old new → ⊥
 proved-twice conflicts old new is =
     no_yes (sym (is.status ∙ shown-refused even_soon conflicts twice is.answer refused is.shown))
   where
