@@ -17,3 +17,5 @@ mod PartExamples
 mod BoundExamples
 -- Made leagues of six teams:
 mod MadeExamples
+-- States that parts of the program keep or come to:
+mod StateExamples
