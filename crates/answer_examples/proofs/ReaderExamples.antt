@@ -341,9 +341,9 @@ pub no_system : (IsSystem league 3 (bound_rows league 4) 9 → ⊥) × (IsSystem
     × ((rows : List Row) (vars : ℕ) → IsSystem (record { n = 3; phased = false; constraints = [] }) 3 rows vars → ⊥)
 no_system = (
   λ is. let degrees : ◌≡◌ {A = ℕ} 0 1 = ap (λ (rows : List Row). (get_or rows 29 (at_least 9 [])).degree) is.rows_are in
-    omega (arith, degrees),
+      omega (arith, degrees),
   λ is. let lengths : ◌≡◌ {A = ℕ} 28 30 = ap (λ (rows : List Row). length rows) is.rows_are in
-    omega (arith, lengths),
+      omega (arith, lengths),
   λ is. let vars : ◌≡◌ {A = ℕ} 8 9 = is.vars_are in omega (arith, vars),
   λ rows vars is. let odd : ◌≡◌ {A = ℕ} 1 0 = is.instance.teams.even in omega (arith, odd),
 )
@@ -375,7 +375,7 @@ pub resumed-none : (resumed.IsSystem (season 1) (rows_of (season 1).league) 8 �
     × ((rows : List Row) (vars : ℕ) → resumed.IsSystem (season 3) rows vars → ⊥)
 resumed-none = (
   λ is. let lengths : ◌≡◌ {A = ℕ} 28 30 = ap (λ (rows : List Row). length rows) is.rows_are in
-    omega (arith, lengths),
+      omega (arith, lengths),
   λ is. let vars : ◌≡◌ {A = ℕ} 9 8 = is.vars_are in omega (arith, vars),
   λ rows vars is. omega (arith, is.within),
 )

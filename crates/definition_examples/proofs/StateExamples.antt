@@ -199,7 +199,7 @@ quiet_below = quiet_each
 pub not_quiet_below : IsQuietRowBelow either (entry_of (no 2) 1 None ∷ entry_of (yes 3) 2 None ∷ []) → ⊥
 not_quiet_below quiet =
     let slack : 2 ≤ 1 = (quiet 1 (entry_of (no 2) 1 None) (lit< tt) refl).none_forced 0
-        (record { coef = 1; lit = yes 1 }) (lit< tt) refl in
+    (record { coef = 1; lit = yes 1 }) (lit< tt) refl in
     omega (arith, slack)
 
 quiet_forced : (k : ℕ) (d : Entry) → k < 2
