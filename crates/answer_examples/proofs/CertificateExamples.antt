@@ -141,9 +141,9 @@ pub certificate-five : (league : Instance)
     → IsWellFormedCertificate contents never (codes "even") (codes "four") league five → ⊥
 certificate-five league is =
     not_five 4 refl (
-      let said : certificate_of certificate_file ≡ Ok five =
-          ap certificate_of (sym (known is.second is.second_known)) ∙ is.says_certificate in
-      le_of_eq (sym (stated certificate five (sym certificate-read ∙ said)))
+    let said : certificate_of certificate_file ≡ Ok five =
+    ap certificate_of (sym (known is.second is.second_known)) ∙ is.says_certificate in
+    le_of_eq (sym (stated certificate five (sym certificate-read ∙ said)))
     )
 
 -- ---- runs of `bound`

@@ -706,8 +706,8 @@ made-settled : IsSettled 2 true (league_score made) (counts_of one_first)
 made-settled =
     IsSettled-of_all 2 true (league_score made) (counts_of one_first) (all_moves 2) refl
     (λ k d within lowers.
-        let step : Swap = get_or (all_moves 2) k d in
-        false_true (sym (not-true (is_lowered step) (none_lowers k d within)) ∙ lowers.lower))
+    let step : Swap = get_or (all_moves 2) k d in
+    false_true (sym (not-true (is_lowered step) (none_lowers k d within)) ∙ lowers.lower))
 
 made-descent : IsDescent made 0 one_first first_still
 made-descent = record {

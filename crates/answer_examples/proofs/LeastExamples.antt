@@ -292,8 +292,8 @@ nothing_or_unit (l ∷ []) test =
     let nine : l.var ≡ 9 = eqb-true l.var 9 parts.0 in
     let negated : l.positive ≡ false = not-true l.positive parts.1 in
     inr (
-      ap (λ (v : ℕ). let m : Literal = record { var = v; positive = l.positive } in m ∷ []) nine
-      ∙ ap (λ (sign : Bool). let m : Literal = record { var = 9; positive = sign } in m ∷ []) negated
+    ap (λ (v : ℕ). let m : Literal = record { var = v; positive = l.positive } in m ∷ []) nine
+    ∙ ap (λ (sign : Bool). let m : Literal = record { var = 9; positive = sign } in m ∷ []) negated
     )
 nothing_or_unit (l ∷ m ∷ literals) test = absurd (cc)
 
@@ -613,7 +613,7 @@ nine values quiet True is = absurd (omega (arith, quiet.no_conflict, ap unpaid i
 nine values quiet False is = refl
 nine values quiet Free is =
     let most : 15 ≤ reach values to_pay.terms =
-        quiet.none_forced 0 (record { coef = 7; lit = no 9 }) (lit< tt) (ap opposite_of is) in
+    quiet.none_forced 0 (record { coef = 7; lit = no 9 }) (lit< tt) (ap opposite_of is) in
     absurd (omega (arith, most, unpaid-le (values 9), unpaid-le (values 10)))
 
 ten : (values : ℕ → Value) → IsQuietRow values to_pay → (v : Value) → values 10 ≡ v → v ≡ False
@@ -621,7 +621,7 @@ ten values quiet True is = absurd (omega (arith, quiet.no_conflict, ap unpaid is
 ten values quiet False is = refl
 ten values quiet Free is =
     let most : 15 ≤ reach values to_pay.terms =
-        quiet.none_forced 1 (record { coef = 7; lit = no 10 }) (lit< tt) (ap opposite_of is) in
+    quiet.none_forced 1 (record { coef = 7; lit = no 10 }) (lit< tt) (ap opposite_of is) in
     absurd (omega (arith, most, unpaid-le (values 9), unpaid-le (values 10)))
 
 seven : (values : ℕ → Value) → values 9 ≡ False → values 10 ≡ False → IsQuietRow values at_home → (v : Value)
@@ -631,7 +631,7 @@ seven values none_nine none_ten quiet False is =
     absurd (omega (arith, quiet.no_conflict, ap once is, ap once none_nine, ap once none_ten, once-le (values 8)))
 seven values none_nine none_ten quiet Free is =
     let most : 3 ≤ reach values at_home.terms =
-        quiet.none_forced 0 (record { coef = 1; lit = yes 7 }) (lit< tt) is in
+    quiet.none_forced 0 (record { coef = 1; lit = yes 7 }) (lit< tt) is in
     absurd (omega (arith, most, ap once none_nine, ap once none_ten, once-le (values 7), once-le (values 8)))
 
 eight : (values : ℕ → Value) → values 9 ≡ False → values 10 ≡ False → IsQuietRow values at_home → (v : Value)
@@ -641,7 +641,7 @@ eight values none_nine none_ten quiet False is =
     absurd (omega (arith, quiet.no_conflict, ap once is, ap once none_nine, ap once none_ten, once-le (values 7)))
 eight values none_nine none_ten quiet Free is =
     let most : 3 ≤ reach values at_home.terms =
-        quiet.none_forced 1 (record { coef = 1; lit = yes 8 }) (lit< tt) is in
+    quiet.none_forced 1 (record { coef = 1; lit = yes 8 }) (lit< tt) is in
     absurd (omega (arith, most, ap once none_nine, ap once none_ten, once-le (values 7), once-le (values 8)))
 
 abbrev not_at_home : Value → ℕ
@@ -660,7 +660,7 @@ pub spent-nowhere : (m : Counts) (limit : Option ℕ) (steps : List Step)
     → objective never_away m ≡ 7 → IsSpentBelow never_away m limit steps → ⊥
 spent-nowhere m limit steps costs is =
     let quiet : IsQuiet is.spent.spent.quiet.0 (bound_rows never_away 6 ++ map row_of steps) =
-        subst (λ (n : ℕ). IsQuiet is.spent.spent.quiet.0 (bound_rows never_away (n - 1) ++ map row_of steps)) costs
-        is.spent.spent.quiet.1 in
+    subst (λ (n : ℕ). IsQuiet is.spent.spent.quiet.0 (bound_rows never_away (n - 1) ++ map row_of steps)) costs
+    is.spent.spent.quiet.1 in
     never_quiet is.spent.spent.quiet.0 (quiet 29 to_pay (omega arith)) (quiet 28 to_pay (omega arith))
     (quiet 27 to_pay (omega arith))

@@ -14,3 +14,5 @@ mod ProveExamples
 mod CertificateExamples
 -- What the other commands answer, devices, and single round robins of two teams:
 mod CommandExamples
+-- What is said of words, pieces of files, what readers answer, and kept rows:
+mod ReaderExamples

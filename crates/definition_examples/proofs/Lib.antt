@@ -25,3 +25,5 @@ mod LowerBoundExamples
 mod ResumeExamples
 -- Made leagues of six teams:
 mod MadeExamples
+-- States that parts of the program keep or come to:
+mod StateExamples
