@@ -1,5 +1,5 @@
 -- Worked answers, so that a wrong definition of what `bound` may answer does not check.
-use Rattle.std.proofs.Common.{◌≡◌, ℕ, true, false, List, [], ◌∷◌, codes, refl}
+use Rattle.std.proofs.Common.{◌≡◌, true, false, List, [], ◌∷◌, codes, refl}
 use Rattle.std.specs.Fmt.{digits}
 use Rattle.league.specs.Instance.{Instance}
 use Rattle.league.specs.declared.class.Class.TheVariants.{Ca1}

@@ -12,15 +12,12 @@ use Rattle.answers.specs.Stages.{IsFile, IsUnread, reads}
 use Rattle.answers.specs.declared.reply.Reply.{Reply}
 use Rattle.answers.specs.declared.reply.NoValue.{NoValue}
 use Rattle.answers.specs.declared.reply.NoValue.TheVariants.{Memory, Refused}
-use Rattle.answers.specs.declared.status.Status.TheVariants.{Yes, No}
+use Rattle.answers.specs.declared.status.Status.TheVariants.{Yes}
 use Rattle.answers.proofs.StageLemmas.{says-value}
 use Rattle.refutation.specs.Logs.{Fault}
-use Rattle.refutation.specs.Steps.{Step}
-use Rattle.refutation.specs.declared.verdict.Cause.{Cause}
 use Rattle.refutation.specs.declared.verdict.Verdict.{Verdict}
 use Rattle.refutation.specs.declared.verdict.Verdict.TheVariants.{Accepted, Rejected}
 use Rattle.check_answer.specs.Check.{most_log_bytes, most_terms, too_large}
-use Rattle.check_answer.proofs.StageLemmas.{rose-before, took_more-before}
 use Rattle.bound_base.specs.BoundRows.{bound_size}
 use Rattle.bound_laws.specs.Faithful.{IsLowerBound}
 use Rattle.encoding.specs.Capped.{capped}

@@ -1,13 +1,12 @@
 -- What an accepted certificate shows.
-use Rattle.std.proofs.Common.{◌≡◌, ℕ, ◌-◌, List, subst, sym, ap}
+use Rattle.std.proofs.Common.{◌≡◌, ℕ, ◌-◌, List, subst}
 use Rattle.std.proofs.lemmas.List.Elements.{All-weaker}
-use Rattle.std.specs.List.{All}
 use Rattle.league.specs.Instance.{Instance, IsInstance}
 use Rattle.rows.specs.Rows.{Row}
 use Rattle.encoding_base.specs.Known.{AreKnown, IsKnown}
 use Rattle.refutation_check.specs.Soundness.{HaveNoSolution}
 use Rattle.refutation_check.specs.Within.{AreWithin, IsWithin}
-use Rattle.bound_base.specs.BoundRows.{bound_rows, bound_vars}
+use Rattle.bound_base.specs.BoundRows.{bound_rows}
 use Rattle.bound_laws.specs.Faithful.{IsLowerBound}
 use Rattle.bound_laws.proofs.Faithful.{bounds-from_refuted}
 

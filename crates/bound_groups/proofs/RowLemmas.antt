@@ -1,7 +1,6 @@
 -- Softened rows, and the objective row, are rows: their variables differ.
-use Rattle.std.proofs.Common.{◌≡◌, ◌≢◌, ℕ, ◌+◌, ◌<◌, ◌≤◌, List, [], ◌∷◌, length, map, get_or, sym, subst}
-use Rattle.std.proofs.Common.{false, arith, ap, ◌∙◌, append_assoc}
-use Rattle.std.proofs.lemmas.List.{length-append, map-append, take_more}
+use Rattle.std.proofs.Common.{◌≢◌, ℕ, ◌+◌, ◌<◌, ◌≤◌, List, [], ◌∷◌, map}
+use Rattle.std.proofs.Common.{false, arith}
 use Rattle.std.proofs.lemmas.List.Elements.{All-append, All-head, All-map, All-nil, All-tail, All-weaker}
 use Rattle.std.proofs.lemmas.List.Sums.{sum_by-cons}
 use Rattle.std.specs.List.{All, range_with_len, sum_by}
@@ -10,11 +9,10 @@ use Rattle.rows.specs.Cardinality.{unit}
 use Rattle.rows.specs.Literals.{Literal, yes}
 use Rattle.rows.specs.Rows.{IsRow, Row}
 use Rattle.rows.specs.declared.lit.Term.{Term}
-use Rattle.rows.proofs.UnitLemmas.{AllPairs-map}
 use Rattle.encoding_base.specs.Ascending.{AscendsBy}
 use Rattle.encoding_base.proofs.AscendLemmas.{AllPairs-ascending, AscendsBy-above, AscendsBy-append, AscendsBy-high}
 use Rattle.encoding_base.proofs.AscendLemmas.{AscendsBy-map, AscendsBy-range}
-use Rattle.bound_base.specs.Softening.{Group, costs, costs_from, objective_row, soften, total_cost, units_from}
+use Rattle.bound_base.specs.Softening.{Group, costs, costs_from, soften, units_from}
 use Rattle.bound_groups.specs.Bare.{bare, bare_groups}
 use Rattle.bound_groups.specs.declared.units.Units.{Units}
 

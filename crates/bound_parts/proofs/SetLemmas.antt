@@ -1,14 +1,13 @@
 -- Sets that are put together of numbers in ascending order.
-use Rattle.std.proofs.Common.{◌≡◌, ℕ, zero, suc, ◌+◌, ◌<◌, List, [], ◌∷◌, length}
+use Rattle.std.proofs.Common.{◌≡◌, ℕ, ◌+◌, ◌<◌, List, [], ◌∷◌, length}
 use Rattle.std.proofs.Common.{get_or, take, refl, sym, ap, ◌∙◌, arith}
 use Rattle.std.proofs.lemmas.List.{get_or-take, get_or_default, length-take-le, take_more}
 use Rattle.std.proofs.lemmas.List.Elements.{All-cons, All-nil}
 use Rattle.std.specs.List.{All}
 use Rattle.std.specs.Ordering.{nat_cmp}
-use Rattle.std.specs.declared.cmp.Ordering.TheVariants.{Less}
 use Rattle.league.specs.Sets.{IsAscending, with_item}
 use Rattle.league.proofs.SetLemmas.{less_than}
-use Rattle.league.proofs.NumberSets.{range-next, with_item-last}
+use Rattle.league.proofs.NumberSets.{with_item-last}
 
 -- of numbers that ascend those before a place are below the one there
 first_below : (numbers : List ℕ) (i : ℕ) → IsAscending nat_cmp numbers → i < length numbers

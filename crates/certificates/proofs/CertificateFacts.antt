@@ -1,5 +1,5 @@
 -- Certificates, worked out by hand, so that a wrong definition does not check.
-use Rattle.std.proofs.Common.{◌≡◌, ℕ, List, [], ◌∷◌, Ok, Err, codes, refl}
+use Rattle.std.proofs.Common.{◌≡◌, List, [], ◌∷◌, Ok, Err, codes, refl}
 use Rattle.std.specs.Fmt.{digits}
 use Rattle.refutation.specs.Logs.{lines_from}
 use Rattle.refutation.specs.Steps.{Step}

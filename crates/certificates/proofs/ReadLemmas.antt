@@ -1,27 +1,21 @@
 -- What the text of a certificate is read as.
-use Rattle.std.proofs.Common.{◌≡◌, ℕ, ◌+◌, ◌<◌, ◌==◌, Bool, true, false, List, [], ◌∷◌, ◌++◌, take, drop, Option, Some}
-use Rattle.std.proofs.Common.{◌≤◌, length, None, Result, Ok, Err, codes, refl, sym, ap, ◌∙◌, arith}
-use Rattle.std.specs.Prelude.{bytes_eq}
+use Rattle.std.proofs.Common.{◌≡◌, ℕ, ◌+◌, ◌<◌, ◌==◌, Bool, true, false, List, [], ◌∷◌, take, drop, Option, Some}
+use Rattle.std.proofs.Common.{◌≤◌, length, None, Ok, Err, refl, sym, ap, ◌∙◌, arith}
 use Rattle.std.proofs.lemmas.Bool.Decides.{nat_tests}
-use Rattle.std.proofs.lemmas.List.{append-nil}
 use Rattle.std.proofs.lemmas.List.Splits.{slice_split-cons_no, slice_split-cons_yes}
 use Rattle.memchr.specs.Find.{IsFirstByte, is_byte}
 use Rattle.refutation.specs.Answers.{SaysLog}
-use Rattle.refutation.specs.Feeding.{ReadsOn}
-use Rattle.refutation.specs.Logs.{Fault, end_from, lines_of, no_steps_but, nothing_more, whole}
-use Rattle.refutation.specs.Places.{Place, log_from, start_at}
+use Rattle.refutation.specs.Logs.{end_from, lines_of, no_steps_but, whole}
 use Rattle.refutation.specs.SeenPlace.{is_line_feed}
 use Rattle.refutation.specs.Steps.{Step}
 use Rattle.refutation.specs.declared.fault.LogFault.{LogFault}
 use Rattle.refutation.specs.declared.fault.LogFault.TheVariants.{Form, Mem}
-use Rattle.refutation.specs.declared.fault.LogKind.{LogKind}
 use Rattle.refutation.specs.declared.fault.LogKind.TheVariants.{BadLine, NoEnd}
 use Rattle.refutation.proofs.FoundLemmas.{found-none, found-some}
 use Rattle.refutation.proofs.SplitLemmas.{AreParts, split-last, split-part, split-parts}
 use Rattle.certificates.specs.Answers.{SaysCertificate}
 use Rattle.certificates.specs.Certificates.{bound_of, certificate_in, certificate_of, later_log, log_behind}
-use Rattle.certificates.specs.Certificates.{nothing_behind, number_in, stated_by, with_log}
-use Rattle.certificates.specs.declared.certificate.Certificate.{Certificate}
+use Rattle.certificates.specs.Certificates.{nothing_behind, stated_by, with_log}
 
 -- ---- lines
 

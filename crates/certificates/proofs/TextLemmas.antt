@@ -1,5 +1,5 @@
 -- The text of a certificate reads back as it.
-use Rattle.std.proofs.Common.{◌≡◌, ℕ, zero, suc, ◌+◌, ◌^◌, ◌<◌, ◌≤◌, ◌==◌, Bool, true, false, List, [], ◌∷◌, ◌++◌}
+use Rattle.std.proofs.Common.{◌≡◌, ℕ, zero, suc, ◌+◌, ◌^◌, ◌<◌, ◌≤◌, ◌==◌, true, false, List, [], ◌∷◌, ◌++◌}
 use Rattle.std.proofs.Common.{append_assoc, get_or, Option, Some, None, Result, Ok, Err, codes, decimal, refl, sym, ap}
 use Rattle.std.proofs.Common.{◌∙◌, arith, subst}
 use Rattle.std.specs.Prelude.{nat_le, nat_lt}
@@ -17,14 +17,13 @@ use Rattle.refutation.specs.Logs.{whole}
 use Rattle.refutation.specs.Logs.Line.{End, Heading, Says}
 use Rattle.refutation.specs.SeenPlace.{is_line_feed}
 use Rattle.refutation.specs.Steps.{Step}
-use Rattle.refutation.specs.Texts.{log_text}
 use Rattle.refutation.specs.declared.fault.LogKind.{LogKind}
 use Rattle.refutation.specs.declared.version.Version.{Version}
 use Rattle.refutation.proofs.LogTexts.{line_feed-apart}
 use Rattle.refutation.proofs.NumberTexts.{decimal-token, number-decimal}
 use Rattle.refutation.proofs.SplitLemmas.{split-part, split-parts}
 use Rattle.refutation.proofs.StepLemmas.{both}
-use Rattle.certificates.specs.Certificates.{bound_line, bound_of, certificate_in, certificate_of, certificate_text}
+use Rattle.certificates.specs.Certificates.{bound_line, bound_of, certificate_in, certificate_of}
 use Rattle.certificates.specs.Certificates.{is_shortest, later_log, log_behind, number_in, stated_by, with_log}
 use Rattle.certificates.specs.declared.certificate.Certificate.{Certificate}
 use Rattle.certificates.proofs.ReadLemmas.{log_behind-some, stated-first}

@@ -16,7 +16,6 @@ use Rattle.propagate.specs.Trails.{AreLawful, EachEntry, IsNew, values_of}
 use Rattle.propagate.specs.declared.entry.Entry.{Entry}
 use Rattle.propagate.proofs.EntryLemmas.{values_of-push}
 use Rattle.propagate.proofs.ValueLemmas.{value_of-same, was_free}
-use Rattle.propagate.proofs.LookLemmas.{news}
 use Rattle.clause_search.proofs.ReplayLemmas.{stays_true}
 use Rattle.clause_search.proofs.AnalysisLemmas.{AreFresh}
 use Rattle.clause_search.specs.Trails.{before, entry_at, lit_at, no_entry}

@@ -13,7 +13,7 @@ pub record IsNews (rows : List Row) (vars : ℕ) (step : Step) : Type 0 where
   pub empowering : IsEmpowering rows (clause_of step)
 
 -- a step whose clause has each of these variables once at most, with at most one more hint than there are variables,
--- each the number of a row
+-- each from 1 on, as rows are numbered
 pub record IsTidy (vars : ℕ) (step : Step) : Type 0 where
   pub variables : AllPairs (λ l m. l.var ≢ m.var) (clause_of step)
   pub from_one : All (λ l. 1 ≤ l.var) (clause_of step)

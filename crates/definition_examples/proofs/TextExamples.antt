@@ -1,7 +1,7 @@
 -- The text of a log of one step: its lines are short, it is one of the two texts of the log, it is read in pieces, and
 -- what a reader answers of it.
 use Rattle.std.proofs.Common.{◌≡◌, ℕ, ◌≤◌, true, false, List, [], ◌∷◌, ◌++◌, length, Option, Some, None, Ok, Err}
-use Rattle.std.proofs.Common.{refl, ap, arith, lit≤}
+use Rattle.std.proofs.Common.{get_or, refl, ap, arith, lit<, lit≤}
 use Rattle.std.specs.Prelude.{codes}
 use Rattle.std.specs.Fmt.{digits}
 use Rattle.std.proofs.lemmas.List.Elements.{All-from_recursion, All-nil}
@@ -11,9 +11,9 @@ use Rattle.refutation.specs.Feeding.{FeedsAll, ReadsOn}
 use Rattle.refutation.specs.Logs.{Fault, Reading, lines_from, log_of, most_bytes, no_steps_but, nothing_more}
 use Rattle.refutation.specs.Places.{Place}
 use Rattle.refutation.specs.Steps.{Step}
-use Rattle.refutation.specs.Steps.Step.{Clause}
+use Rattle.refutation.specs.Steps.Step.{Clause, Linear}
 use Rattle.refutation.specs.Texts.{step_text, text_in, version_of}
-use Rattle.refutation.specs.Writable.{HasShortLines, IsLogText}
+use Rattle.refutation.specs.Writable.{CanSay, HasShortLines, IsLogText}
 use Rattle.refutation.specs.declared.fault.LogFault.TheVariants.{Form, Mem}
 use Rattle.refutation.specs.declared.fault.LogKind.TheVariants.{BadLine, NoEnd}
 use Rattle.refutation.specs.declared.version.Version.{Version}
@@ -46,7 +46,27 @@ short_lines-none = All-nil (λ (step : Step). length (step_text One step) ≤ mo
 pub is_text : IsLogText (codes "refutation 1\n-6 0 14 2 0\nend\n") log
     × IsLogText (codes "refutation 2\nc -6 0 14 2 0\nend\n") log
 unfolding digits
-is_text = ((One, refl), (Two, refl))
+is_text = (
+  (One, All-from_recursion (CanSay One) log (λ one. refl, tt), refl),
+  (Two, All-from_recursion (CanSay Two) log (λ one. refl, tt), refl),
+)
+
+-- a sum has a text in version 2 alone
+abbrev sum : List Step
+sum = Linear (record { factor = 1; row = 2 } ∷ []) 1 ∷ []
+
+pub sum_text : IsLogText (codes "refutation 2\nl 1 2 0 1\nend\n") sum
+unfolding digits
+sum_text = (Two, All-from_recursion (CanSay Two) sum (λ one. cc, tt), refl)
+
+-- byte 11 says which version it is
+no_heading : codes "refutation 1\nl 1 2 0 1\nend\n" ≡ text_in Two sum → ⊥
+unfolding digits
+no_heading is = omega (arith, ap (λ (xs : List ℕ). get_or xs 11 0) is)
+
+pub no_sum_text : IsLogText (codes "refutation 1\nl 1 2 0 1\nend\n") sum → ⊥
+no_sum_text (One, says, is) = let none : true ≡ false = says 0 (Linear [] 1) (lit< tt) refl in cc
+no_sum_text (Two, says, is) = no_heading is
 
 -- without its end it is none, whichever the version: it has 4 bytes less
 no_end : (version : Version) → codes "refutation 1\n" ≡ text_in version [] → ⊥
@@ -54,7 +74,7 @@ no_end One is = omega (arith, ap length is)
 no_end Two is = omega (arith, ap length is)
 
 pub no_text : IsLogText (codes "refutation 1\n") [] → ⊥
-no_text (version, is) = no_end version is
+no_text (version, says, is) = no_end version is
 
 -- ---- pieces: the first line was read, and of the second `-6 0`
 

@@ -10,7 +10,6 @@ use Rattle.std.specs.List.{All, AllPairs, filter, flat_map, range_with_len}
 use Rattle.std.specs.declared.cmp.Ordering.{Ordering}
 use Rattle.std.specs.declared.cmp.Ordering.TheVariants.{Less}
 use Rattle.league.specs.Sets.{IsAscending}
-use Rattle.league.proofs.OneTermLemmas.{All-flat_map}
 use Rattle.encoding_base.specs.Ascending.{AscendsBy}
 
 module _ {X : Type 0} (key : X → ℕ) where

@@ -4,7 +4,6 @@ use Rattle.std.proofs.lemmas.List.{append-nil}
 use Rattle.std.proofs.lemmas.List.Elements.{filter-append}
 use Rattle.std.proofs.lemmas.List.Folds.{flat_map-map}
 use Rattle.std.specs.List.{filter, flat_map}
-use Rattle.league.proofs.ListLemmas.{flat_map-same}
 use Rattle.rows.specs.Rows.{Row}
 use Rattle.encoding_base.specs.Encoding.{demands}
 

@@ -11,7 +11,7 @@ use Rattle.league.specs.Sets.{IsAscending, ascends, with_item}
 use Rattle.league.proofs.AscendingLemmas.{ascends-true}
 use Rattle.league.proofs.SetLemmas.{IsAscending-with_item}
 use Rattle.league.proofs.OneTermLemmas.{All-range}
-use Rattle.league.proofs.NumberSets.{is_before, isnt_before, nat_cmp-less, range-ascending, range-next}
+use Rattle.league.proofs.NumberSets.{is_before, isnt_before, range-ascending}
 use Rattle.instance_gen.specs.Draws.{set_of}
 
 -- the set of the first numbers of a list, with the next one

@@ -9,7 +9,7 @@ use Rattle.answers.specs.Stages.{Outcome, says}
 use Rattle.answers.specs.declared.status.Status.TheVariants.{Yes, File, Refuted, Spent}
 use Rattle.season_check.specs.Excluded.{NoneAccepted}
 use Rattle.answers.proofs.StageLemmas.{reads-known, reads-refuted, says-known}
-use Rattle.encoding_base.specs.Encoding.{encoding_size, rows_of}
+use Rattle.encoding_base.specs.Encoding.{encoding_size}
 use Rattle.check_answer.specs.Check.{encodes, most_terms}
 use Rattle.check_answer.proofs.AnswerLemmas.{encodes-small}
 use Rattle.patterns_answer.specs.Patterns.{AreFound, patterned}

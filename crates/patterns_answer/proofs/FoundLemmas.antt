@@ -1,5 +1,5 @@
 -- What is found of a league's patterns, answered.
-use Rattle.std.proofs.Common.{◌≡◌, ℕ, ◌≤◌, false, List, [], ◌∷◌, ◌++◌, get_or, Option, Result, Ok, Err}
+use Rattle.std.proofs.Common.{◌≡◌, ℕ, ◌≤◌, false, List, [], Option, Result, Ok, Err}
 use Rattle.std.proofs.Common.{inl, inr, refl, subst, sym}
 use Rattle.std.specs.Prelude.{IfOk}
 use Rattle.std.specs.List.{All}
@@ -9,7 +9,6 @@ use Rattle.league.specs.declared.class.Side.{Side}
 use Rattle.encoding_base.specs.Encoding.{rows_of}
 use Rattle.encoding_base.specs.Variables.{var_count, x_count}
 use Rattle.clause_search.proofs.TidyLemmas.{IsTidy-wider}
-use Rattle.answers.specs.Reply.{Answer}
 use Rattle.answers.specs.SeenReply.{answer_of}
 use Rattle.answers.specs.declared.reply.Reply.{Reply}
 use Rattle.answers.specs.declared.status.Status.TheVariants.{Yes, Refuted, Spent}

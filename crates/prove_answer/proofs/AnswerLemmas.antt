@@ -11,12 +11,12 @@ use Rattle.robinx_form.specs.InstanceFile.{instance_of}
 use Rattle.robinx_form.specs.SolutionFile.{solution_of}
 use Rattle.robinx_read.specs.declared.instance.TheConstants.{INSTANCE_LIMIT, SOLUTION_LIMIT}
 use Rattle.answers.specs.Reply.{Answer}
-use Rattle.answers.specs.Stages.{IsFile, Outcome, reads, says}
+use Rattle.answers.specs.Stages.{Outcome, reads, says}
 use Rattle.answers.specs.declared.status.Status.{Status}
 use Rattle.answers.specs.declared.status.Status.TheVariants.{Yes, No, File, Spent, ReadFault, Better}
 use Rattle.answers.proofs.StageLemmas.{reads-known, says-known}
 use Rattle.bound_answer.proofs.AnswerLemmas.{few-small, few-yes}
-use Rattle.prove_answer.specs.Prove.{IsBettered, IsLeast, IsRejected, IsShown, IsSpentBelow, IsWellFormedCase, proved}
+use Rattle.prove_answer.specs.Prove.{IsBettered, IsLeast, IsShown, IsWellFormedCase, proved}
 use Rattle.prove_answer.proofs.StageLemmas.{solution_stages}
 
 -- ---- what is shown

@@ -13,12 +13,13 @@ use Rattle.std.proofs.lemmas.Slice.Eq.{bytes_eq-Decides}
 use Rattle.robin_io.proofs.NumberLemmas.{ascii_digits}
 use Rattle.robin_io.specs.Numbers.{is_number}
 use Rattle.rows.specs.Literals.{Literal}
-use Rattle.refutation.specs.Steps.{Step}
+use Rattle.refutation.specs.Steps.{Step, is_linear}
 use Rattle.refutation.specs.Steps.Step.{Clause, Linear}
 use Rattle.refutation.specs.Lines.{◌>>=◌, are_pairs, check, clause_step, groups_of, is_count, is_literal}
 use Rattle.refutation.specs.Lines.{is_negated, is_small_number, is_small_variable, is_zero, linear_step, literal}
 use Rattle.refutation.specs.Lines.{marked_step, number, paired, step_line, step_of, tokens_of, without_sign}
 use Rattle.refutation.specs.Texts.{clause_text, linear_text, literal_text, literal_token, number_text, step_text}
+use Rattle.refutation.specs.Writable.{CanSay}
 use Rattle.refutation.specs.declared.fault.LogKind.{LogKind}
 use Rattle.refutation.specs.declared.fault.LogKind.TheVariants.{BadLine, BadNumber}
 use Rattle.refutation.specs.declared.step.Part.{Part}
@@ -329,3 +330,9 @@ pub step_line-text : (version : Version) (text : List ℕ) (step : Step) → ste
     → text ≡ step_text version step
 step_line-text version text step is = sym (join_with_byte-slice_split 32 text)
     ∙ step-tokens version (tokens_of text) step is
+
+-- and a text of its version can say it
+pub step_line-says : (version : Version) (text : List ℕ) (step : Step) → step_line version text ≡ Ok step
+    → CanSay version step
+step_line-says One text step is = λ one. ap is_linear (clause-tokens (tokens_of text) step is).2
+step_line-says Two text step is = λ one. cc

@@ -24,7 +24,6 @@ use Rattle.refutation.specs.Texts.{log_text}
 use Rattle.clause_search.specs.Answers.{IsSpentAt}
 use Rattle.clause_search.specs.News.{IsTidy}
 use Rattle.pattern_search.proofs.NewsLemmas.{news-clauses}
-use Rattle.pattern_search.proofs.LogLemmas.{refuted-clauses}
 use Rattle.resume_rows.specs.Kept.{resume_rows}
 use Rattle.resume.specs.Answers.{IsResumedSeason, RefutesResuming}
 use Rattle.resume_answer.specs.Resumed.{IsFound}

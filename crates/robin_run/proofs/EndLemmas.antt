@@ -1,6 +1,6 @@
 -- How the answers to each command end a run: none does so as want of memory does.
 use Rattle.std.proofs.Common.{◌≡◌, ℕ, ◌+◌, Bool, true, false, if◌then◌else◌, List, length, Option, Some, None, Result}
-use Rattle.std.proofs.Common.{Ok, Err, codes, ap, inl, inr, refl, sym, subst, ◌∙◌}
+use Rattle.std.proofs.Common.{Ok, Err, codes, inl, inr, refl, sym, subst, ◌∙◌}
 use Rattle.rows.specs.Rows.{Row}
 use Rattle.league.specs.Instance.{Instance}
 use Rattle.league.specs.declared.game.Game.{Game}
@@ -16,7 +16,7 @@ use Rattle.command_line.specs.Words.Command.{Solve, Trial, Validate}
 use Rattle.answers.specs.Reply.{Answer}
 use Rattle.answers.specs.Stages.{IsWritten, Outcome, reads, says}
 use Rattle.answers.specs.declared.status.Status.{Status}
-use Rattle.answers.specs.declared.status.Status.TheVariants.{Yes, No, Words, File, Refuted, Spent, ReadFault}
+use Rattle.answers.specs.declared.status.Status.TheVariants.{Yes, No, File, Refuted, Spent, ReadFault}
 use Rattle.answers.specs.declared.status.Status.TheVariants.{WriteFault}
 use Rattle.answers.specs.declared.status.Status.TheVariants.{Memory, Better}
 use Rattle.encoding.specs.Encoding.{rows_of}

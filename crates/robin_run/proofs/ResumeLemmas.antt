@@ -9,7 +9,7 @@ use Rattle.command_line.specs.Words.Command.{Audit, Resume}
 use Rattle.answers.specs.Reply.{Answer}
 use Rattle.answers.specs.Stages.{IsWritten}
 use Rattle.answers.specs.declared.status.Status.{Status}
-use Rattle.answers.specs.declared.status.Status.TheVariants.{Yes, Refuted, WriteFault}
+use Rattle.answers.specs.declared.status.Status.TheVariants.{Yes, Refuted}
 use Rattle.refutation.specs.Steps.{Step}
 use Rattle.resume_rows.specs.Resumable.{NoneResumes}
 use Rattle.resume_answer.specs.Audited.{IsAudited, IsVerdict, IsWellFormedAudit, audited}

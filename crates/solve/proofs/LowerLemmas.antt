@@ -25,7 +25,7 @@ use Rattle.descent.proofs.BackLaw.{trails-climb_back}
 use Rattle.descent.proofs.ScoreLemmas.{lower-objective}
 use Rattle.descent.proofs.TrailLemmas.{trails-stay_feasible}
 use Rattle.solve.specs.Solutions.{IsDescent, IsSchedule, league_score}
-use Rattle.walk.proofs.WalkLemmas.{met, scores-are}
+use Rattle.walk.proofs.WalkLemmas.{met}
 
 -- what a descent says of its counts at the start and at the end
 pub record Descends (n : ℕ) (phased : Bool) (score : Counts → Score) (start end : Counts) (moves : ℕ)

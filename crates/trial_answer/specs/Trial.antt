@@ -40,8 +40,8 @@ summary n seed league games descent =
     ++ found_lines (objective league (counts_of games)) (objective league (counts_of descent.first))
     (length descent.trail) descent.settled
 
--- A schedule of the league of n teams and a seed is found: its summary is written, and behind it what `solve` writes,
--- which reads back as the schedule's games.
+-- A schedule of the league is found, which its summary calls that of n teams and a seed: the summary is written, and
+-- behind it what `solve` writes, which reads back as the schedule's games.
 pub record IsTrial (n seed : ℕ) (league : Instance) (moves : ℕ) (answer : Answer) : Type 0 where
   pub solved : Answer
   pub schedule : IsSchedule league moves solved

@@ -8,7 +8,6 @@ use Rattle.league.specs.Counts.{Counts, counts_of}
 use Rattle.league.specs.Instance.{Instance}
 use Rattle.league.specs.Structure.{IsRoundRobin}
 use Rattle.league.specs.declared.game.Game.{Game}
-use Rattle.league.proofs.RoundRobinLemmas.{any_phases}
 use Rattle.rule_core.specs.declared.rule.Entries.{Ghosts}
 use Rattle.tally.specs.League.{AreRulesOf, hard_sum}
 use Rattle.tally.specs.Tallies.{objective_on}

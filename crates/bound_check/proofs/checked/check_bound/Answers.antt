@@ -1,6 +1,5 @@
 use Rattle.std.proofs.Common.{◌≡◌, ℕ, List, ◌-◌, Ok, subst, sym, ap, ◌∙◌}
 use Rattle.rows.specs.Rows.{Row}
-use Rattle.encoding_base.specs.Known.{AreKnown}
 use Rattle.refutation.specs.declared.verdict.Verdict.TheVariants.{Accepted}
 use Rattle.refutation_check.specs.Within.{AreWithin}
 use Rattle.bound_base.specs.BoundRows.{bound_rows, bound_vars}

@@ -1,4 +1,4 @@
-use Rattle.std.proofs.Common.{◌≡◌, ◌<◌, ℕ, length, get_or, sym, subst, arith}
+use Rattle.std.proofs.Common.{◌<◌, length, sym, subst, arith}
 use Rattle.std.specs.List.{All}
 use Rattle.rows.specs.Rows.{IsRow, Row}
 use Rattle.bound_base.specs.Softening.{soften, units_from}

@@ -1,4 +1,4 @@
-use Rattle.std.proofs.Common.{◌≡◌, ℕ, length, arith}
+use Rattle.std.proofs.Common.{arith}
 use Rattle.std.proofs.lemmas.Bool.Decides.{nat_tests}
 use Rattle.certificates.proofs.ReadLemmas.{log_behind-empty}
 use Rattle.certificates.proofs.reading.log_behind.Goals as goal

@@ -1,4 +1,4 @@
-use Rattle.std.proofs.Common.{◌≡◌, ℕ, ◌+◌, List, None, Err, ap, drop, refl, subst, sym, take, ◌∙◌}
+use Rattle.std.proofs.Common.{ℕ, ◌+◌, List, None, Err, ap, drop, refl, subst, sym, take, ◌∙◌}
 use Rattle.std.proofs.lemmas.List.{take_rest}
 use Rattle.std.proofs.lemmas.Result.{err_from_is_err_and}
 use Rattle.refutation.specs.Answers.{SaysLog}

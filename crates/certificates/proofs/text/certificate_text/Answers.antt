@@ -1,4 +1,4 @@
-use Rattle.std.proofs.Common.{◌≡◌, ℕ, ◌^◌, ◌<◌, List, arith, ap, ◌∙◌}
+use Rattle.std.proofs.Common.{◌≡◌, ◌^◌, ◌<◌, arith, ap, ◌∙◌}
 use Rattle.std.specs.Prelude.{vec_items}
 use Rattle.certificates.proofs.TextLemmas.{reads_back-none, reads_back-some, text-line, text-pieces}
 use Rattle.certificates.proofs.text.certificate_text.Goals as goal
