@@ -33,12 +33,14 @@ limited() {
     return 0
 }
 
-# rows [--objective]: the league's rows, in the forms that the installed solvers read.
+# rows [--objective]: the league's rows, in the forms that the installed solvers read. Of 40 teams that wants 11 GB of
+# memory. Where they can't be written the peers aren't asked.
 rows() {
     local write="python3 $here/../second/opb.py league.xml $1"
-    installed | grep -qE 'clasp|sat4j' && $write >rows.opb
-    installed | grep -qE 'minisat|z3|toulbar2' && $write --form plain >plain.opb
-    installed | grep -qE 'cbc|glpsol' && $write --form lp >rows.lp
+    rm -f rows.opb plain.opb rows.lp
+    ! installed | grep -qE 'clasp|sat4j' || $write >rows.opb || return 1
+    ! installed | grep -qE 'minisat|z3|toulbar2' || $write --form plain >plain.opb || return 1
+    ! installed | grep -qE 'cbc|glpsol' || $write --form lp >rows.lp
 }
 
 # ask SOLVER LIMIT: asks it about the rows; `verdict` is found, best, none, spent or gave up, and `least` the objective that it says last.
@@ -113,7 +115,7 @@ decide() {
     local name=$1 solver
     shift
     by_robin "$name" "$@"
-    rows
+    rows || { echo "$name rows not written" && return; }
     for solver in $(installed); do
         ask "$solver" "$seconds"
         if [ "$verdict" = found ] || [ "$verdict" = best ]; then
@@ -181,13 +183,13 @@ find_seasons() {
 }
 
 objectives() {
-    local teams limit solver
+    local teams limit solver peers
     for teams in ${TEAMS:-16 20 40}; do
         "$program" make "$teams" "${SEED:-1}" >league.xml
-        rows --objective
+        peers=$(rows --objective && installed) || echo "make $teams ${SEED:-1} rows not written"
         for limit in $([ "$seconds" -gt 10 ] && echo 10) "$seconds"; do
             descend "make $teams ${SEED:-1}, $limit s," "$limit"
-            for solver in $(installed); do
+            for solver in $peers; do
                 ask "$solver" "$limit"
                 say "make $teams ${SEED:-1}, $limit s, $solver" "$verdict, objective ${least:-none}"
             done
