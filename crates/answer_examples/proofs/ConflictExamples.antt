@@ -1,5 +1,5 @@
 -- A phased league of two teams with a wish (number 1) and three demands: team 0 isn't away in slot 0 (2); each team is
--- at home once, as it always is (3); and team 1 is at home to team 0 in slot 0 (4). The demands 2 and 4 contradict each
+-- at home once, as it always is (3); and team 1 is at home to team 0 in slot 0 (4). Constraints 2 and 4 contradict each
 -- other. x(0,1,s) is 1 + s, x(1,0,s) 3 + s, h(0,s) 5 + s, and h(1,s) 7 + s.
 use Rattle.std.proofs.Common.{◌≡◌, ℕ, zero, suc, ◌<◌, ◌≤◌, ◌∙◌, ◌⊎◌, true, List, [], ◌∷◌, ◌++◌, drop, length}
 use Rattle.std.proofs.Common.{◌+◌, get_or, map, Option, Some, None, Ok, codes, bytes_eq, if◌then◌else◌, IsTrue}
@@ -199,7 +199,7 @@ conflict-wish limit steps others known is = false_true (is.hard 0 0 is.some)
 pub conflict-no_steps : (limit : Option ℕ) (known : List Case) → IsConflict league limit members [] known → ⊥
 conflict-no_steps limit known is = refutes-no_steps (part_of league members) is.refuted
 
--- with demand 3 no season meets them either, but it isn't needed
+-- with constraint 3 no season meets them either, but it isn't needed
 more_instance : IsInstance (part_of league (2 ∷ 3 ∷ 4 ∷ []))
 more_instance = record {
   teams = record { even = refl; at_least = omega arith; at_most = omega arith };
@@ -208,7 +208,7 @@ more_instance = record {
       (refl, (refl, (refl, tt)));
 }
 
--- the rows of demand 3 are 32 to 35
+-- the rows of constraint 3 are 32 to 35
 none-more : NoneAccepted (part_of league (2 ∷ 3 ∷ 4 ∷ []))
 none-more =
     accepted_logs_exclude (part_of league (2 ∷ 3 ∷ 4 ∷ [])) (Clause [] (31 ∷ 36 ∷ 20 ∷ 24 ∷ []) ∷ []) more_instance refl
@@ -399,7 +399,7 @@ contradiction-both = record {
   minimal = λ more is. irreducible-both;
 }
 
--- with demand 3 too, of which nothing is said but that not all are known to be needed: behind text that stood there
+-- with constraint 3 too, of which nothing is said but that not all are known to be needed: behind text that stood there
 line-more : codes "..conflict 2 3 4\nminimal no\n"
     ≡ codes ".." ++ (members_line (2 ∷ 3 ∷ 4 ∷ []) ++ codes "minimal no\n")
 unfolding digits
@@ -446,7 +446,7 @@ no_demand (suc (suc k)) is = false_true is
 pub contradiction-wishes : (old new : Option (List ℕ)) → IsContradiction (phased (wish ∷ [])) old new → ⊥
 contradiction-wishes old new is = no_demand (get_or is.members 0 0) (is.hard 0 0 is.some)
 
--- nor in one of demand 2 alone, which accepts `out`
+-- nor in one of constraint 2 alone, which accepts `out`
 abbrev staying : Instance
 staying = phased (stays ∷ [])
 
@@ -817,7 +817,7 @@ pub parted-stages : parted contents never nowhere (codes "league") members (yes_
 unfolding attributes_at pieces_from walk
 parted-stages = inl (league_file, whole_file, part-both)
 
--- 60 terms of the season in phases, 2 of the demands 2 and 4, and 8 of 3
+-- 60 terms of the season in phases, 2 of constraints 2 and 4, and 8 of 3
 sizes : encoding_size league ≡ 70
 sizes = refl
 

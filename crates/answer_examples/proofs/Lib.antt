@@ -12,7 +12,11 @@ mod LeastExamples
 mod ProveExamples
 -- What `bound` answers, and what a run of either says:
 mod CertificateExamples
--- What the other commands answer, devices, and single round robins of two teams:
+-- What the other commands answer:
 mod CommandExamples
+mod MadeLeagueExamples
+-- Devices, and round robins of two teams:
+mod DeviceExamples
+mod RoundRobinExamples
 -- What is said of words, pieces of files, what readers answer, and kept rows:
 mod ReaderExamples
