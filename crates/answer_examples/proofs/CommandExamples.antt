@@ -63,7 +63,8 @@ use Rattle.solve_answer.specs.Solve.{IsBudgetSpent, IsFound, IsRefuted, IsSchedu
 use Rattle.patterns_answer.specs.Patterns as patterned
 use Rattle.patterns_answer.specs.Patterns.{ArePatterns, IsPatterned, patterns_text}
 use Rattle.answer_examples.proofs.LeastExamples.{away-one, away-zero, away_first, even-accepted, even_soon, one-fit}
-use Rattle.answer_examples.proofs.LeastExamples.{one-in_order, one_first, quiet_rows, settled-four, swap-lowers}
+use Rattle.answer_examples.proofs.LeastExamples.{one-in_order, one_first, quiet_rows}
+use Rattle.answer_examples.proofs.BetterExamples.{settled-four, swap-lowers}
 use Rattle.answer_examples.proofs.LeastExamples.{zero-fit, zero-in_order, zero_first}
 
 pub false_true : false ≡ true → ⊥

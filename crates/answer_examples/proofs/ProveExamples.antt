@@ -33,9 +33,11 @@ use Rattle.bounds.specs.declared.proved.Proved.TheVariants as proofs
 use Rattle.prove_answer.proofs.AnswerLemmas.{shown-refused}
 use Rattle.prove_answer.specs.Prove.{IsBettered, IsLeast, IsProved, IsRejected, IsSpentBelow, IsWellFormedCase}
 use Rattle.answer_examples.proofs.LeastExamples.{away-one, away-zero, away_first, even-accepted, even_soon, least-four}
-use Rattle.answer_examples.proofs.LeastExamples.{better-one, log, lower_bound, one-fit, one-in_order, one_first}
+use Rattle.answer_examples.proofs.LeastExamples.{log, lower_bound, one-fit, one-in_order, one_first}
+use Rattle.answer_examples.proofs.BetterExamples.{better-one}
 use Rattle.answer_examples.proofs.LeastExamples.{one_step}
-use Rattle.answer_examples.proofs.LeastExamples.{settled-four, spent-at_zero, spent-four, zero_first}
+use Rattle.answer_examples.proofs.LeastExamples.{zero_first}
+use Rattle.answer_examples.proofs.BetterExamples.{settled-four, spent-at_zero, spent-four}
 
 -- ---- the three answers of the search that is behind `prove`
 

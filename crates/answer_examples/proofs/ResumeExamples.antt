@@ -2,11 +2,10 @@
 -- season of two slots. x(0,1,s) is 1 + s, and x(1,0,s) 3 + s. `home` begins with team 1 at home, and `out` with team 0.
 use Rattle.std.proofs.Common.{◌≡◌, ℕ, ◌+◌, ◌<◌, ◌≤◌, ◌==◌, ◌∙◌, Bool, true, false, ◌&&◌, nat_lt, cond, if◌then◌else◌}
 use Rattle.std.proofs.Common.{List, [], ◌∷◌, ◌++◌, length, drop, Option, Some, None, Result, Ok, codes, bytes_eq}
-use Rattle.std.proofs.Common.{length-append, ap, sym, refl, arith, lit<, lit≤, inl, inr, IsTrue}
+use Rattle.std.proofs.Common.{length-append, ap, sym, refl, arith, lit<, lit≤, IsTrue}
 use Rattle.std.proofs.Math.Path.{fun_ext}
 use Rattle.std.proofs.lemmas.Bool.Decides.{nat_tests}
 use Rattle.std.proofs.lemmas.List.Elements.{All-from_recursion, All-nil}
-use Rattle.std.specs.Fmt.{digits}
 use Rattle.std.specs.List.{AllPairs}
 use Rattle.std.specs.Prelude.{◌≢◌}
 use Rattle.league.specs.Accepted.{IsAccepted}
@@ -24,39 +23,26 @@ use Rattle.robinx_tags.specs.Pieces.{pieces, pieces_from}
 use Rattle.robinx_tags.specs.Tags.{attributes_at}
 use Rattle.robinx_form.specs.InstanceFile.{instance_of}
 use Rattle.robinx_form.specs.SolutionFile.{solution_of}
-use Rattle.robinx_form.specs.Texts.{solution_text}
 use Rattle.robinx_form.specs.Walk.{Fault, walk}
-use Rattle.robinx_read.specs.declared.instance.TheConstants.{INSTANCE_LIMIT, SOLUTION_LIMIT}
-use Rattle.answers.specs.Reply.{Answer}
-use Rattle.answers.specs.Stages.{IsFile}
-use Rattle.answers.specs.declared.status.Status.{Status}
-use Rattle.answers.specs.declared.status.Status.TheVariants.{Yes, No, Refuted, Spent}
-use Rattle.refutation.specs.Following.{all_free}
-use Rattle.refutation.specs.Logs.{lines_from, log_of}
 use Rattle.refutation.specs.Steps.{Step}
 use Rattle.refutation.specs.Steps.Step.{Clause}
-use Rattle.refutation.specs.Texts.{log_text}
-use Rattle.refutation.specs.declared.verdict.Cause.TheVariants.{NoConflict, UnknownRow}
+use Rattle.refutation.specs.declared.verdict.Cause.TheVariants.{UnknownRow}
 use Rattle.refutation.specs.declared.verdict.Verdict.TheVariants.{Accepted, Rejected}
-use Rattle.clause_search.specs.Answers.{IsSpentAt}
 use Rattle.clause_search.specs.News.{IsTidy}
-use Rattle.check_answer.specs.Check.{most_log_bytes, most_terms, verdict_answer}
-use Rattle.resume_rows.specs.Kept.{Keeps, is_played, resume_rows, resume_size}
+use Rattle.check_answer.specs.Check.{most_terms}
+use Rattle.resume_rows.specs.Kept.{Keeps, resume_rows, resume_size}
 use Rattle.resume_rows.specs.Resumable.{NoneResumes}
 use Rattle.resume_rows.proofs.Faithful.{accepted_logs_exclude}
-use Rattle.resume.specs.Answers.{IsPlan, IsResumed, IsResumedSeason, RefutesResuming}
+use Rattle.resume.specs.Answers.{IsPlan, IsResumedSeason, RefutesResuming}
 use Rattle.resume.specs.declared.resumed.Resumed.TheVariants as resumed
-use Rattle.resume_answer.specs.Audited.{IsAudited, IsVerdict, IsWellFormedAudit, audited}
-use Rattle.resume_answer.specs.Resumed.{IsBudgetSpent, IsExcluded, IsFound, IsKeptSeason, IsOldPlan, IsPlanned}
-use Rattle.resume_answer.specs.Resumed.{IsResumed as IsRun, resumed as resumes}
 use Rattle.resume_answer.specs.Seasons.{IsWellFormedSeason, SaySeason}
 use Rattle.answer_examples.proofs.SolveExamples.{fits_home, fits_out, home, ordered_home, ordered_out, out, soft}
-use Rattle.answer_examples.proofs.SolveExamples.{quiet_pairs, season_pairs, text, two_with}
+use Rattle.answer_examples.proofs.SolveExamples.{text, two_with}
 
-abbrev league : Instance
+abbrev pub league : Instance
 league = two_with (soft 4 (Ca1 (1 ∷ []) 0 0 H (0 ∷ [])) ∷ [])
 
-accepted_home : IsAccepted league (counts_of home)
+pub accepted_home : IsAccepted league (counts_of home)
 accepted_home = record {
   round_robin = record { pairs = refl; cells = refl; phases = refl };
   hard = MeetsHard-from_sum league (counts_of home) refl;
@@ -70,7 +56,7 @@ accepted_out = record {
 
 -- ---- slot 0 was played, with team 1 at home: `home` keeps that, at 4
 
-abbrev first : List Game
+abbrev pub first : List Game
 first = game 1 0 0 ∷ []
 
 -- its other game isn't in slot 0
@@ -120,14 +106,14 @@ season-free = record {
 
 -- ---- both games were played in slot 0: rows 29 and 30 ask for them, and row 6 allows team 0 one
 
-abbrev crowded : List Game
+abbrev pub crowded : List Game
 crowded = game 0 1 0 ∷ game 1 0 0 ∷ []
 
 pub rows-crowded : drop 28 (resume_rows league (counts_of crowded) 1)
     ≡ at_least 1 (yes 1 ∷ []) ∷ at_least 1 (yes 3 ∷ []) ∷ []
 rows-crowded = refl
 
-abbrev log : List Step
+abbrev pub log : List Step
 log = Clause [] (29 ∷ 30 ∷ 6 ∷ []) ∷ []
 
 league_instance : IsInstance league
@@ -137,7 +123,7 @@ league_instance = record {
   fit = All-from_recursion (λ (c : Constraint). IsTrue (class_fits 2 c.class)) league.constraints (refl, tt);
 }
 
-none_crowded : NoneResumes league (counts_of crowded) 1
+pub none_crowded : NoneResumes league (counts_of crowded) 1
 none_crowded = accepted_logs_exclude league crowded 1 log league_instance (lit≤ tt) refl
 
 no_pairs : AllPairs (λ (l m : Literal). l.var ≢ m.var) []
@@ -187,7 +173,7 @@ refutes-later played k one other is =
 
 -- ---- an old plan of both slots, in whatever order it is listed
 
-abbrev whole : List Game
+abbrev pub whole : List Game
 whole = game 0 1 1 ∷ game 1 0 0 ∷ []
 
 either_order : (x y : Bool) → 0 + cond x 1 0 + cond y 1 0 ≡ 0 + cond y 1 0 + cond x 1 0
@@ -196,7 +182,7 @@ either_order true false = refl
 either_order false true = refl
 either_order false false = refl
 
-same_whole : counts_of home ≡ counts_of whole
+pub same_whole : counts_of home ≡ counts_of whole
 same_whole =
     fun_ext (λ i. fun_ext (λ j. fun_ext (λ s.
     either_order ((1 == i) && (0 == j) && (0 == s)) ((0 == i) && (1 == j) && (1 == s)))))
@@ -204,7 +190,7 @@ same_whole =
 pub plan-home : IsPlan whole (resumed.Schedule home 4)
 plan-home = same_whole
 
-none_one : ◌≡◌ {A = ℕ} 0 1 → ⊥
+pub none_one : ◌≡◌ {A = ℕ} 0 1 → ⊥
 none_one is = omega (arith, is)
 
 pub plan-out : IsPlan whole (resumed.Schedule out 0) → ⊥
@@ -216,7 +202,7 @@ plan-log is = is
 
 -- ---- the files of the league, of its first game, and of two games in slot 0 and the log
 
-abbrev league_file : List ℕ
+abbrev pub league_file : List ℕ
 league_file = text (
     "<Instance>"
     ∷ "<Structure>"
@@ -235,7 +221,7 @@ league_file = text (
     ∷ []
     )
 
-abbrev played_file : List ℕ
+abbrev pub played_file : List ℕ
 played_file = text (
     "<Solution>"
     ∷ "<Games>"
@@ -245,7 +231,7 @@ played_file = text (
     ∷ []
     )
 
-abbrev crowded_file : List ℕ
+abbrev pub crowded_file : List ℕ
 crowded_file = text (
     "<Solution>"
     ∷ "<Games>"
@@ -256,18 +242,18 @@ crowded_file = text (
     ∷ []
     )
 
-abbrev log_file : List ℕ
+abbrev pub log_file : List ℕ
 log_file = codes "refutation 1\n0 29 30 6 0\nend\n"
 
-says_league : instance_of (pieces league_file) ≡ Ok league
+pub says_league : instance_of (pieces league_file) ≡ Ok league
 unfolding attributes_at pieces_from walk
 says_league = refl
 
-says_played : solution_of 2 (pieces played_file) ≡ Ok first
+pub says_played : solution_of 2 (pieces played_file) ≡ Ok first
 unfolding attributes_at pieces_from walk
 says_played = refl
 
-abbrev contents : List ℕ → Option (List ℕ)
+abbrev pub contents : List ℕ → Option (List ℕ)
 contents name =
     if bytes_eq name (codes "league") then Some league_file
     else if bytes_eq name (codes "played") then Some played_file
@@ -275,7 +261,7 @@ contents name =
     else if bytes_eq name (codes "log") then Some log_file
     else None
 
-abbrev nowhere : List ℕ → Type 0
+abbrev pub nowhere : List ℕ → Type 0
 nowhere name = ⊥
 
 pub say-first : SaySeason contents (codes "league") (codes "played") league first
@@ -311,7 +297,7 @@ say-nothing is =
 sizes : resume_size league 1 ≡ 58
 sizes = refl
 
-small : resume_size league 1 ≤ most_terms
+pub small : resume_size league 1 ≤ most_terms
 small = omega (arith, sizes)
 
 pub formed-first : IsWellFormedSeason contents nowhere (codes "league") (codes "played") 1 league first
@@ -345,269 +331,3 @@ at_played name = name ≡ codes "played"
 
 pub formed-failed : (k : ℕ) → IsWellFormedSeason contents at_played (codes "league") (codes "played") k league first → ⊥
 formed-failed k is = is.second_works refl
-
--- ---- what `resume` answers
-
-abbrev planned_reply : Answer
-planned_reply = record {
-  status = Yes;
-  text = text (
-      "<?xml version=\"1.0\" encoding=\"UTF-8\"?>"
-      ∷ "<Solution>"
-      ∷ "<MetaData>"
-      ∷ "<ObjectiveValue infeasibility=\"0\" objective=\"4\"/>"
-      ∷ "</MetaData>"
-      ∷ "<Games>"
-      ∷ "<ScheduledMatch home=\"1\" away=\"0\" slot=\"0\"/>"
-      ∷ "<ScheduledMatch home=\"0\" away=\"1\" slot=\"1\"/>"
-      ∷ "</Games>"
-      ∷ "</Solution>"
-      ∷ []
-      );
-}
-
-planned_text : planned_reply.text ≡ solution_text home (Some (0, 4))
-unfolding digits
-planned_text = refl
-
-pub planned-first : IsPlanned league first 1 planned_reply
-planned-first = record { games = home; season = season-home; status = refl; text = planned_text }
-
--- what no season keeps isn't planned
-pub planned-crowded : (answer : Answer) → IsPlanned league crowded 1 answer → ⊥
-planned-crowded answer is = none_crowded is.games is.season.resumes
-
-abbrev excluded_reply : Answer
-excluded_reply = record { status = Refuted; text = codes "refutation 1\n0 29 30 6 0\nend\n" }
-
-excluded_text : excluded_reply.text ≡ log_text log
-unfolding digits
-excluded_text = refl
-
-reads_back : log_of excluded_reply.text ≡ Ok log
-unfolding lines_from
-reads_back = refl
-
-pub excluded-crowded : IsExcluded league crowded 1 (Some 0) excluded_reply
-excluded-crowded = record {
-  steps = log;
-  refutes = refutes-crowded;
-  status = refl;
-  text = excluded_text;
-  reads_back = reads_back;
-}
-
--- nor is excluded what a season keeps
-pub excluded-first : (conflicts : Option ℕ) (answer : Answer) → IsExcluded league first 1 conflicts answer → ⊥
-excluded-first conflicts answer is = is.refutes.none home season-home.resumes
-
--- whether its games are listed late first or not, the old plan is written in order
-pub old_plan-whole : IsOldPlan league whole planned_reply
-old_plan-whole = record {
-  games = home;
-  same = same_whole;
-  in_order = ordered_home;
-  status = refl;
-  text = planned_text;
-}
-
--- the other season is no old plan
-pub old_plan-out : (answer : Answer) (is : IsOldPlan league whole answer) → is.games ≡ out → ⊥
-old_plan-out answer is games = none_one (ap (λ (m : Counts). m 1 0 0) (sym (ap counts_of games) ∙ is.same))
-
--- one game isn't a season: team 0 is never at home to team 1
-one_left : ◌≡◌ {A = ℕ} 1 0 → ⊥
-one_left is = omega (arith, is)
-
-refuses_first : IsAccepted league (counts_of first) → ⊥
-refuses_first accepted = one_left accepted.round_robin.pairs
-
-pub found-first : (conflicts : Option ℕ) → IsFound league first 1 conflicts planned_reply
-found-first conflicts = record { found = inl planned-first; plan = λ accepted. absurd (refuses_first accepted) }
-
--- two games in slot 0, for two teams, and none in slot 1: four cells are wrong
-four_left : ◌≡◌ {A = ℕ} 4 0 → ⊥
-four_left is = omega (arith, is)
-
-refuses_crowded : IsAccepted league (counts_of crowded) → ⊥
-refuses_crowded accepted = four_left accepted.round_robin.cells
-
-pub found-crowded : IsFound league crowded 1 (Some 0) excluded_reply
-found-crowded = record { found = inr (inl excluded-crowded); plan = λ accepted. absurd (refuses_crowded accepted) }
-
-accepted_whole : IsAccepted league (counts_of whole)
-accepted_whole = record {
-  round_robin = record { pairs = refl; cells = refl; phases = refl };
-  hard = MeetsHard-from_sum league (counts_of whole) refl;
-}
-
-planned_whole : IsPlanned league whole 1 planned_reply
-planned_whole = record {
-  games = home;
-  season = record {
-    resumes = record {
-      accepted = accepted_home;
-      keeps = λ i j s within. ap (λ (m : Counts). is_played m i j s) same_whole;
-    };
-    fit = fits_home;
-    in_order = ordered_home;
-    cost = refl;
-  };
-  status = refl;
-  text = planned_text;
-}
-
-pub found-whole : (conflicts : Option ℕ) → IsFound league whole 1 conflicts planned_reply
-found-whole conflicts = record { found = inl planned_whole; plan = λ accepted. old_plan-whole }
-
--- a plan that is accepted isn't refuted
-refuted_yes : Refuted ≡ Yes → ⊥
-refuted_yes is = cc
-
-pub found-refuted : (k : ℕ) (conflicts : Option ℕ) → IsFound league whole k conflicts excluded_reply → ⊥
-found-refuted k conflicts is = refuted_yes (is.plan accepted_whole).status
-
-pub kept_season-first : IsKeptSeason league first 1 (Some []) (Some planned_reply.text)
-kept_season-first = record { games = home; season = season-home; written = planned_text }
-
-pub kept_season-crowded : (old new : Option (List ℕ)) → IsKeptSeason league crowded 1 old new → ⊥
-kept_season-crowded old new is = none_crowded is.games is.season.resumes
-
--- ---- where no slot was played, and nothing may be learnt, propagation stands still before it begins
-
-spent_first : IsSpentAt (resume_rows league (counts_of first) 0) 8 (Some 0) []
-spent_first = record {
-  limited = refl;
-  spent = record { count = refl; news = tt; quiet = (all_free, quiet_pairs season_pairs) };
-  few = lit< tt;
-  tidy = All-nil (IsTidy 8);
-}
-
-abbrev open_log : Answer
-open_log = record { status = Spent; text = codes "refutation 1\nend\n" }
-
-open_log_read : log_of open_log.text ≡ Ok []
-unfolding lines_from
-open_log_read = refl
-
-pub spent-first : IsBudgetSpent league first 0 (Some 0) open_log
-spent-first = record { steps = []; spent = spent_first; status = refl; text = refl; reads_back = open_log_read }
-
-pub found-open : IsFound league first 0 (Some 0) open_log
-found-open = record { found = inr (inr spent-first); plan = λ accepted. absurd (refuses_first accepted) }
-
--- three answers, each to its season
-pub resumed-each : IsResumed league first 1 None (resumed.Schedule home 4)
-    × IsResumed league crowded 1 (Some 0) (resumed.Refuted log) × IsResumed league first 0 (Some 0) (resumed.Spent [])
-resumed-each = (season-home, refutes-crowded, spent_first)
-
-pub resumed-first : IsRun league first 1 None Yes (Some (codes "..")) (Some (codes ".." ++ planned_reply.text))
-resumed-first = record { answer = planned_reply; found = found-first None; status = refl; written = refl }
-
-pub resumed-lost : (ended : Status) → IsRun league first 1 None ended (Some []) None → ⊥
-resumed-lost ended is = is.written
-
--- ---- what `audit` answers of the log, and of one that leaves row 30 out
-
-abbrev accepted_reply : Answer
-accepted_reply = record { status = Yes; text = codes "accepted steps 1\n" }
-
-accepted_is : accepted_reply ≡ verdict_answer 1 Accepted
-unfolding digits
-accepted_is = refl
-
-pub verdict-crowded : IsVerdict league crowded 1 log accepted_reply
-verdict-crowded = record { verdict = accepted_is; none = λ yes. none_crowded }
-
-abbrev rejected_reply : Answer
-rejected_reply = record { status = No; text = codes "rejected step 1 cause NoConflict\n" }
-
-rejected_is : rejected_reply ≡ verdict_answer 1 (Rejected 1 NoConflict)
-unfolding digits
-rejected_is = refl
-
-no_yes : No ≡ Yes → ⊥
-no_yes is = cc
-
-pub verdict-shorter : IsVerdict league crowded 1 (Clause [] (29 ∷ 6 ∷ []) ∷ []) rejected_reply
-verdict-shorter = record { verdict = rejected_is; none = λ yes. absurd (no_yes yes) }
-
--- of games that a season keeps no log is accepted
-pub verdict-first : (steps : List Step) (answer : Answer) → answer.status ≡ Yes
-    → IsVerdict league first 1 steps answer → ⊥
-verdict-first steps answer ended is = is.none ended home season-home.resumes
-
-pub audited-crowded : IsAudited league crowded 1 log Yes (Some (codes "..")) (Some (codes "..accepted steps 1\n"))
-audited-crowded = record { answer = accepted_reply; verdict = verdict-crowded; status = refl; written = refl }
-
--- whatever ends with yes, a season that is there isn't excluded
-pub audited-first : (steps : List Step) (old new : Option (List ℕ)) → IsAudited league first 1 steps Yes old new → ⊥
-audited-first steps old new is = verdict-first steps is.answer (sym is.status) is.verdict
-
--- ---- the stages of `resume` and `audit`, and the files of a run
-
-says_crowded : solution_of 2 (pieces crowded_file) ≡ Ok crowded
-unfolding attributes_at pieces_from walk
-says_crowded = refl
-
-says_log : log_of log_file ≡ Ok log
-unfolding lines_from
-says_log = refl
-
-pub formed-crowded : IsWellFormedAudit contents nowhere (codes "league") (codes "crowded") 1 (codes "log") league crowded
-    log
-formed-crowded = record {
-  season = record {
-    say = record {
-      first = league_file;
-      second = crowded_file;
-      first_known = refl;
-      second_known = refl;
-      says_league = says_league;
-      says_played = says_crowded;
-    };
-    first_within = omega arith;
-    second_within = omega arith;
-    slots = lit≤ tt;
-    small = small;
-    first_works = λ failed. failed;
-    second_works = λ failed. failed;
-  };
-  third = log_file;
-  known = refl;
-  within = omega arith;
-  says_steps = says_log;
-  works = λ failed. failed;
-}
-
-abbrev never : ℕ → Type 0
-never n = ⊥
-
-file_league : IsFile (contents (codes "league")) INSTANCE_LIMIT league_file
-file_league = record { same = refl; within = omega arith }
-
-file_played : IsFile (contents (codes "played")) SOLUTION_LIMIT played_file
-file_played = record { same = refl; within = omega arith }
-
-file_crowded : IsFile (contents (codes "crowded")) SOLUTION_LIMIT crowded_file
-file_crowded = record { same = refl; within = omega arith }
-
-file_log : IsFile (contents (codes "log")) most_log_bytes log_file
-file_log = record { same = refl; within = omega arith }
-
-pub resumed-stages : (conflicts : Option ℕ)
-    → resumes contents never nowhere (codes "league") (codes "played") 1 conflicts planned_reply
-unfolding attributes_at pieces_from walk
-resumed-stages conflicts = inl (
-  league_file,
-  file_league,
-  inl (lit≤ tt, inl (small, inl (played_file, file_played, found-first conflicts))),
-)
-
-pub audited-stages : audited contents never nowhere (codes "league") (codes "crowded") 1 (codes "log") accepted_reply
-unfolding attributes_at pieces_from walk lines_from
-audited-stages = inl (
-  league_file,
-  file_league,
-  inl (lit≤ tt, inl (small, inl (crowded_file, file_crowded, inl (log_file, file_log, verdict-crowded)))),
-)

@@ -27,3 +27,4 @@ mod ResumeExamples
 mod MadeExamples
 -- States that parts of the program keep or come to:
 mod StateExamples
+mod PatternAnswerExamples
