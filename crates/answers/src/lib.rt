@@ -8,6 +8,6 @@ mod reply;
 mod stages;
 mod status;
 
-pub use reply::{NoValue, Reply, malformed, past_limit, unreadable, words_refused};
+pub use reply::{NoValue, Reply, malformed, past_limit, rows_refused, unreadable, words_refused};
 pub use stages::{file, league_in, schedule_in, write_answer};
 pub use status::{Status, code};

@@ -7,20 +7,6 @@ use answers::{Reply, Status};
 use refutation::{Cause, LogKind, Verdict};
 use std::alloc::{AllocError, Global};
 
-/// The rows of the league have so many terms, which are too many.
-///
-/// # Errors
-/// Only where memory runs out.
-pub fn rows_refused(alloc: Global, terms: u64) -> Result<Reply, AllocError>
-    ensures { IfOk result (λ reply. answer_of reply ≡ texts.too_large terms) }
-{
-    let text = format!(in alloc; "refused rows TooLarge terms {terms}\n")?;
-    Ok(Reply {
-        status: Status::File,
-        text: text.into_bytes(),
-    })
-}
-
 /// The name of a fault of a log's form.
 fn kind_word(kind: LogKind) -> &'static str
     ensures { result.now ≡ texts.kind_word kind }

@@ -1,8 +1,8 @@
 //! The stages of `part`.
 ghost use Rattle.std.specs.Prelude.{◌≡◌, ℕ, List, IfOk, Ok};
 ghost use Rattle.std.specs.Ordering.{nat_cmp};
+ghost use Rattle.robin_io.specs.Outside.{store_between};
 ghost use Rattle.league.specs.Sets.{IsAscending};
-ghost use Rattle.robin_io.specs.Counts.{Rose, TookMore};
 ghost use Rattle.robinx_form.specs.InstanceFile.{instance_of};
 ghost use Rattle.robinx_form.specs.Texts as forms;
 ghost use Rattle.robinx_tags.specs.Pieces.{pieces};
@@ -56,46 +56,23 @@ fn part_reply(alloc: Global, league: &League, members: &[u32]) -> Result<Reply, 
     }
 }
 
-/// The stages of `part`.
-fn part_stages<S: Shelf>(
+/// Makes the league of some hard constraints of the league of a file, by their numbers, and its text; or names the
+/// first number that no hard constraint has.
+///
+/// # Errors
+/// Where a file is refused, with the reply that says why, and where memory runs out.
+pub fn part_file<S: Shelf>(
     alloc: Global,
     shelf: &mut S,
     instance: &str,
     members: &[u32],
 ) -> Result<Reply, NoValue>
     requires ascending { IsAscending nat_cmp members.now }
-    ensures answer { Answers (parted (S.contents shelf.old)
-        (λ limit. TookMore limit (S.taken shelf.old) (S.taken shelf.new))
-        (λ name. Rose (S.faults shelf.old name) (S.faults shelf.new name))
+    ensures answer { Answers (parted (store_between S.Shelf shelf.old shelf.new)
         instance.now members.now) result }
     ensures contents { (n : List ℕ) → S.contents shelf.new n ≡ S.contents shelf.old n }
 {
     let bytes = file(alloc, shelf, "instance", instance, INSTANCE_LIMIT)?;
     let league = league_in(alloc, &bytes)?;
     part_reply(alloc, &league, members)
-}
-
-/// Makes the league of some hard constraints of the league of a file, by their numbers, and its text; or names the
-/// first number that no hard constraint has.
-///
-/// # Errors
-/// Only where memory runs out: a refused file has a reply of its own.
-pub fn part_file<S: Shelf>(
-    alloc: Global,
-    shelf: &mut S,
-    instance: &str,
-    members: &[u32],
-) -> Result<Reply, AllocError>
-    requires ascending { IsAscending nat_cmp members.now }
-    ensures answer { IfOk result (λ reply. parted (S.contents shelf.old)
-        (λ limit. TookMore limit (S.taken shelf.old) (S.taken shelf.new))
-        (λ name. Rose (S.faults shelf.old name) (S.faults shelf.new name))
-        instance.now members.now (answer_of reply)) }
-    ensures contents { (n : List ℕ) → S.contents shelf.new n ≡ S.contents shelf.old n }
-{
-    match part_stages(alloc, shelf, instance, members) {
-        Ok(reply) => Ok(reply),
-        Err(NoValue::Refused(reply)) => Ok(reply),
-        Err(NoValue::Memory) => Err(AllocError),
-    }
 }

@@ -1,19 +1,18 @@
 //! What the first two files say: a league and the games that were played.
 ghost use Rattle.std.specs.Prelude.{◌≡◌, ◌<◌, ◌≤◌, ◌+◌, ℕ, List, IfOk, length};
 ghost use Rattle.std.specs.List.{All};
-ghost use Rattle.robin_io.specs.Counts.{raised, Rose, TookMore};
+ghost use Rattle.robin_io.specs.Outside.{store_between};
+ghost use Rattle.robin_io.specs.Counts.{raised};
 ghost use Rattle.league.specs.Counts as counts;
 ghost use Rattle.league.specs.Instance.{IsGame};
 ghost use Rattle.answers.specs.SeenReply.{answer_of, MatchStage};
-ghost use Rattle.check_answer.specs.Check.{most_terms, too_large};
+ghost use Rattle.check_answer.specs.Check.{most_terms};
 ghost use Rattle.resume_rows.specs.Kept as kept;
-ghost use Rattle.encoding.specs.Capped.{capped};
 ghost use Rattle.resume_answer.specs.Seasons as seasons;
 ghost use Rattle.resume_answer.specs.Seasons.{has_size, has_slots, plays};
 ghost use Rattle.resume_answer.specs.SeenSeason.{IsSaid};
 
-use answers::{NoValue, Reply, Status, file, league_in, schedule_in};
-use check_answer::rows_refused;
+use answers::{NoValue, Reply, Status, file, league_in, rows_refused, schedule_in};
 use league::{League, Schedule, slot_count};
 use resume::resume_size;
 use resume_rows::MOST_TERMS;
@@ -77,10 +76,8 @@ pub(crate) fn season_in<S: Shelf>(
     k: u64,
 ) -> Result<Season, NoValue>
     ensures season { MatchStage result
-        (IsSaid (S.contents shelf.old) instance.now solution.now k)
-        (plays (S.contents shelf.old)
-        (λ limit. TookMore limit (S.taken shelf.old) (S.taken shelf.new))
-        (λ name. Rose (S.faults shelf.old name) (S.faults shelf.new name))
+        (IsSaid (store_between S.Shelf shelf.old shelf.new) instance.now solution.now k)
+        (plays (store_between S.Shelf shelf.old shelf.new)
         instance.now solution.now k (λ season answer. ⊥)) }
     ensures few { IfOk result (λ season. length season.played ≤ 10000) }
     ensures fit { IfOk result (λ season. All (IsGame season.league.n) season.played) }
