@@ -1,5 +1,6 @@
 -- What a reader of a claim must believe:
 pub mod Words
+pub mod Topics
 -- Kept inside (laws, and how fields are seen):
 pub mod SeenWords
 pub mod Standing

@@ -5,7 +5,9 @@
 
 mod arguments;
 mod list;
+mod topic;
 mod words;
 
 pub use list::members;
+pub use topic::{Topic, topic_of};
 pub use words::{Words, read_words};

@@ -5,8 +5,8 @@ ghost use Rattle.std.specs.Prelude.{option_map, IfSome};
 ghost use Rattle.std.specs.List.{list_any};
 ghost use Rattle.std.specs.Option.{option_copied};
 ghost use Rattle.command_line.specs.Words as options;
-ghost use Rattle.command_line.specs.Words.{arguments_of, auditing, budget_in, budgets_in, conflicts_in, explaining};
-ghost use Rattle.command_line.specs.Words.{has_options, is_file_name, making, parting};
+ghost use Rattle.command_line.specs.Words.{arguments_of, asking, auditing, budget_in, budgets_in, conflicts_in, explaining};
+ghost use Rattle.command_line.specs.Words.{following, has_options, helping, is_file_name, making, parting};
 ghost use Rattle.command_line.specs.Words.{HasTeams, number_in, patterning, plain, proving, reading, resuming, said};
 ghost use Rattle.command_line.specs.Words.{search_options, solve_options, solving, team_count_in, tries_in, trying};
 ghost use Rattle.command_line.specs.Words.{values_of};
@@ -17,6 +17,7 @@ ghost use Rattle.command_line.specs.SeenStanding.{seen};
 
 use crate::arguments::{files_and_number, two_files};
 use crate::list::is_list;
+use crate::topic::{Topic, topic_of};
 use budgets::Budgets;
 use league::is_team_count;
 use robin_io::decimal;
@@ -102,6 +103,12 @@ pub enum Words<'a> {
         seed: u64,
         budgets: Budgets,
     },
+    /// Say what the program does, or what one command does.
+    Help {
+        topic: Option<Topic>,
+    },
+    /// Say which version of the program this is.
+    Version,
 }
 
 /// How many clauses a search may learn where the words don't say it.
@@ -119,6 +126,64 @@ pub fn read_words(words: &[String]) -> Option<Words<'_>>
     ensures reading { option_map command_of result ≡ reading (map string_bytes words.now) }
     ensures teams { IfSome result (λ command. HasTeams (command_of command)) }
 {
+    match asked(words) {
+        Some(question) => Some(question),
+        None => command(words),
+    }
+}
+
+/// Help or the version, where the words ask for it.
+fn asked(words: &[String]) -> Option<Words<'_>>
+    ensures reading { option_map command_of result ≡ asking (map string_bytes words.now) }
+    ensures teams { IfSome result (λ command. HasTeams (command_of command)) }
+{
+    match words {
+        [word] => asked_alone(word.as_str()),
+        [first, second] => help_with(first.as_str(), second.as_str()),
+        _ => None,
+    }
+}
+
+/// Help or the version, where this one word asks for it.
+fn asked_alone<'a>(word: &str) -> Option<Words<'a>>
+    ensures reading { option_map command_of result ≡ asking (word.now ∷ []) }
+    ensures teams { IfSome result (λ command. HasTeams (command_of command)) }
+{
+    match word {
+        "--help" => Some(Words::Help { topic: None }),
+        "--version" => Some(Words::Version),
+        _ => None,
+    }
+}
+
+/// Help on a command, where one of two words is `--help` and the other one the command's name.
+fn help_with<'a>(first: &str, second: &str) -> Option<Words<'a>>
+    ensures reading { option_map command_of result ≡ asking (first.now ∷ second.now ∷ []) }
+    ensures teams { IfSome result (λ command. HasTeams (command_of command)) }
+{
+    if second == "--help" {
+        help_on(first)
+    } else if first == "--help" {
+        help_on(second)
+    } else {
+        None
+    }
+}
+
+/// Help on the command of a name.
+fn help_on<'a>(name: &str) -> Option<Words<'a>>
+    ensures reading { option_map command_of result ≡ helping name.now }
+    ensures teams { IfSome result (λ command. HasTeams (command_of command)) }
+{
+    let topic = topic_of(name)?;
+    Some(Words::Help { topic: Some(topic) })
+}
+
+/// The command that the first word names, with the words behind it.
+fn command(words: &[String]) -> Option<Words<'_>>
+    ensures reading { option_map command_of result ≡ following (map string_bytes words.now) }
+    ensures teams { IfSome result (λ command. HasTeams (command_of command)) }
+{
     match words {
         [] => None,
         [command, rest @ ..] => follow(command.as_str(), rest),
@@ -127,7 +192,7 @@ pub fn read_words(words: &[String]) -> Option<Words<'_>>
 
 /// The command of this name with its words.
 fn follow<'a>(command: &str, words: &'a [String]) -> Option<Words<'a>>
-    ensures reading { option_map command_of result ≡ reading (command.now ∷ map string_bytes words.now) }
+    ensures reading { option_map command_of result ≡ following (command.now ∷ map string_bytes words.now) }
     ensures teams { IfSome result (λ command. HasTeams (command_of command)) }
 {
     if command == "solve" {
