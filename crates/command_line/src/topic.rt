@@ -1,5 +1,5 @@
 //! Commands by their names.
-ghost use Rattle.std.specs.Prelude.{◌≡◌};
+ghost use Rattle.std.specs.Prelude.{◌≡◌, Some};
 ghost use Rattle.command_line.specs.Topics as topics;
 
 /// A command, by its name alone.
@@ -39,5 +39,26 @@ pub fn topic_of(name: &str) -> Option<Topic>
         "make" => Some(Topic::Make),
         "trial" => Some(Topic::Trial),
         _ => None,
+    }
+}
+
+/// The name of a command.
+pub fn name_of(topic: Topic) -> &'static str
+    ensures { topics.topic_of result.now ≡ Some topic }
+{
+    match topic {
+        Topic::Validate => "validate",
+        Topic::Solve => "solve",
+        Topic::Patterns => "patterns",
+        Topic::Explain => "explain",
+        Topic::Part => "part",
+        Topic::Check => "check",
+        Topic::Prove => "prove",
+        Topic::Bound => "bound",
+        Topic::Resume => "resume",
+        Topic::Audit => "audit",
+        Topic::Circle => "circle",
+        Topic::Make => "make",
+        Topic::Trial => "trial",
     }
 }

@@ -523,14 +523,14 @@ fn number_said(words: &[String], name: &str, usual: u64) -> Option<u64>
 }
 
 /// How often an option stands, and its value where that is once.
-enum Standing<'a> {
+pub(crate) enum Standing<'a> {
     Never,
     Once(&'a str),
     Often,
 }
 
 /// How often the option of a name stands among the words.
-fn value_of<'a>(words: &'a [String], name: &str) -> Standing<'a>
+pub(crate) fn value_of<'a>(words: &'a [String], name: &str) -> Standing<'a>
     ensures { seen result ≡ standing (values_of name.now (map string_bytes words.now)) }
 {
     match words {
@@ -635,7 +635,7 @@ pub(crate) fn is_option(word: &str) -> bool
 }
 
 /// The budget that a word writes: a number of conflicts, or `all`, which is none.
-fn budget(word: &str) -> Option<Option<u64>>
+pub(crate) fn budget(word: &str) -> Option<Option<u64>>
     ensures { result ≡ budget_in word.now }
 {
     if word == "all" {
@@ -653,7 +653,7 @@ pub(crate) fn is_name(word: &str) -> bool
 }
 
 /// The number that a word writes.
-fn number(word: &str) -> Option<u64>
+pub(crate) fn number(word: &str) -> Option<u64>
     ensures { result ≡ number_in word.now }
 {
     number_of(word.as_bytes())
@@ -670,7 +670,7 @@ pub(crate) fn number_of(bytes: &[u8]) -> Option<u64>
 }
 
 /// The number of tries that a word writes: from 1 to 100.
-fn tries(word: &str) -> Option<u64>
+pub(crate) fn tries(word: &str) -> Option<u64>
     ensures { result ≡ tries_in word.now }
 {
     let n = number(word)?;
@@ -678,7 +678,7 @@ fn tries(word: &str) -> Option<u64>
 }
 
 /// The number of teams that a word writes: an even number from 2 to 40.
-fn team_count(word: &str) -> Option<u16>
+pub(crate) fn team_count(word: &str) -> Option<u16>
     ensures value { result ≡ team_count_in word.now }
     ensures teams { IfSome result (λ n. HasTeams (Circle n)) }
 {
