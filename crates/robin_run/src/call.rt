@@ -14,6 +14,7 @@ ghost use Rattle.robin_run.specs.Circle.{WritesCircle};
 ghost use Rattle.robin_run.specs.Ends.{EndsByWords};
 ghost use Rattle.robin_run.specs.Explain.{Explains};
 ghost use Rattle.robin_run.specs.Folded.{IsFolded};
+ghost use Rattle.robin_run.specs.Help.{Helps, TellsVersion};
 ghost use Rattle.robin_run.specs.Make.{Makes};
 ghost use Rattle.robin_run.specs.Part.{Parts};
 ghost use Rattle.robin_run.specs.Patterns.{FindsPatterns};
@@ -30,6 +31,7 @@ use check_answer::check;
 use circle_answer::circle;
 use command_line::{Words, members, read_words};
 use explain_answer::{explain_file, part_file};
+use help_answer::{help, version};
 use make_answer::make_league;
 use patterns_answer::patterns_file;
 use prove_answer::prove_file;
@@ -97,6 +99,8 @@ fn follow<S: Shelf>(alloc: Global, command: Words, shelf: &mut S) -> Result<Repl
         Words::Circle { n } => Ok(circle(alloc, n)?),
         Words::Make { n, seed } => Ok(make_league(alloc, n, seed)?),
         Words::Trial { n, seed, budgets } => Ok(trial(alloc, n, seed, budgets)?),
+        Words::Help { topic } => Ok(help(alloc, topic)?),
+        Words::Version => Ok(version(alloc)?),
     }
 }
 
@@ -152,6 +156,8 @@ pub fn run<S: Shelf, K: Sink>(alloc: Global, words: &[String], shelf: &mut S, ou
     ensures circle { WritesCircle (run_of S.Shelf K.Sink words.now shelf.old shelf.new out.old out.new result) }
     ensures make { Makes (run_of S.Shelf K.Sink words.now shelf.old shelf.new out.old out.new result) }
     ensures trial { Tries (run_of S.Shelf K.Sink words.now shelf.old shelf.new out.old out.new result) }
+    ensures help { Helps (run_of S.Shelf K.Sink words.now shelf.old shelf.new out.old out.new result) }
+    ensures version { TellsVersion (run_of S.Shelf K.Sink words.now shelf.old shelf.new out.old out.new result) }
     ensures contents { (n : List ℕ) → S.contents shelf.new n ≡ S.contents shelf.old n }
     ensures untouched { NeedsNoFile (reading (map string_bytes words.now)) → shelf.new ≡ shelf.old }
     ensures memory { result ≡ Status.Memory → Keeps (K.written out.old) (K.written out.new) }
