@@ -19,6 +19,5 @@ pub mod Circle
 pub mod Make
 pub mod Trial
 pub mod Help
-
 -- Kept inside (laws, and how fields are seen):
 pub mod Folded
