@@ -5,7 +5,7 @@ ghost use Rattle.answers.specs.SeenReply.{answer_of};
 ghost use Rattle.answers.specs.SeenRefusal.{refused_with};
 
 use crate::hints;
-use crate::reply::{Reply, malformed_reply, past_limit_reply, unreadable_reply};
+use crate::reply::{Reply, malformed_reply, past_limit_reply, rows_reply, unreadable_reply};
 use advice::Advice;
 use robinx_read::FormKind;
 use std::alloc::{AllocError, Global};
@@ -84,4 +84,16 @@ pub fn malformed(
         reply,
         hints::on_form(alloc, which, bytes, kind, line),
     ))
+}
+
+/// The rows of a league have so many terms, which are too many.
+///
+/// # Errors
+/// Only where memory runs out.
+pub fn rows_refused(alloc: Global, terms: u64) -> Result<Refusal, AllocError>
+    ensures { IfOk result (refused_with (refusals.too_large terms)) }
+{
+    let reply = rows_reply(alloc, terms)?;
+    let advice = hints::on_rows(alloc, terms);
+    Ok(Refusal::new(alloc, reply, advice))
 }

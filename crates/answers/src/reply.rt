@@ -122,3 +122,17 @@ pub(crate) fn malformed_reply(
         text: text.into_bytes(),
     })
 }
+
+/// The rows of a league have so many terms, which are too many.
+///
+/// # Errors
+/// Only where memory runs out.
+pub(crate) fn rows_reply(alloc: Global, terms: u64) -> Result<Reply, AllocError>
+    ensures { IfOk result (λ reply. answer_of reply ≡ refusals.too_large terms) }
+{
+    let text = format!(in alloc; "refused rows TooLarge terms {terms}\n")?;
+    Ok(Reply {
+        status: Status::File,
+        text: text.into_bytes(),
+    })
+}

@@ -1,4 +1,5 @@
 -- Lemmas on runs of each command, and on how they end:
+mod RunLemmas
 mod ValidateLemmas
 mod CheckLemmas
 mod SolveLemmas

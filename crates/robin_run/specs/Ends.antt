@@ -1,5 +1,5 @@
 -- How a run may end, where its text is written whole.
-use Rattle.std.specs.Prelude.{Bool, ◌==◌, List, [], ◌∷◌, Option, None, Some}
+use Rattle.std.specs.Prelude.{◌≢◌, ◌≡◌, Bool, ◌==◌, List, [], ◌∷◌, Option, None, Some}
 use Rattle.std.specs.List.{list_any}
 use Rattle.answers.specs.Status.{status_code}
 use Rattle.answers.specs.declared.status.Status.{Status}
@@ -28,3 +28,7 @@ ends_of (Some (Trial n seed budgets)) = Yes ∷ File ∷ []
 -- whether a run with these words may end so
 abbrev pub may_end : Option Command → Status → Bool
 may_end words status = list_any (λ one. status_code one == status_code status) (ends_of words)
+
+-- a run ends as its words may, unless memory runs out or the text can't be written
+abbrev pub EndsByWords : Run → Type 0
+EndsByWords run = run.ended ≢ Memory → run.ended ≢ WriteFault → may_end run.command run.ended ≡ true

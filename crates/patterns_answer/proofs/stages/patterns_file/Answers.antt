@@ -1,20 +1,18 @@
 use Rattle.std.proofs.Common.{ℕ, List, Option, sym, subst}
-use Rattle.robin_io.specs.Counts.{Rose, TookMore}
+use Rattle.robin_io.specs.Outside.{store_between}
 use Rattle.robinx_read.specs.declared.instance.TheConstants.{INSTANCE_LIMIT}
 use Rattle.answers.specs.Stages.{IsFile}
 use Rattle.answers.proofs.StageLemmas.{Answers-wider}
 use Rattle.patterns_answer.proofs.StageLemmas.{patterned-league}
-use Rattle.patterns_answer.proofs.stages.patterns_stages.Goals as goal
+use Rattle.patterns_answer.proofs.stages.patterns_file.Goals as goal
 
 pub returns-clause-answer : goal.returns-clause-answer
 returns-clause-answer g c =
     let contents : List ℕ → Option (List ℕ) = g.S.Shelf.contents c.args.shelf.now in
-    let is_file : IsFile (contents c.args.instance.now) INSTANCE_LIMIT c.deref.result.now =
-    subst (λ (bytes : List ℕ). IsFile (contents c.args.instance.now) INSTANCE_LIMIT bytes) (sym c.deref.ensures.value)
+    let is_file : IsFile (store.contents c.args.instance.now) INSTANCE_LIMIT c.deref.result.now =
+    subst (λ (bytes : List ℕ). IsFile (store.contents c.args.instance.now) INSTANCE_LIMIT bytes) (sym c.deref.ensures.value)
     c.in_ok-bytes.ensures.stage in
     Answers-wider _ _
-    (patterned-league (g.S.Shelf.contents c.args.shelf.now)
-    (λ limit. TookMore limit (g.S.Shelf.taken c.args.shelf.now) (g.S.Shelf.taken c.file.new.shelf))
-    (λ name. Rose (g.S.Shelf.faults c.args.shelf.now name) (g.S.Shelf.faults c.file.new.shelf name))
+    (patterned-league (store_between g.S.Shelf c.args.shelf.now c.file.new.shelf)
     c.args.instance.now c.deref.result.now c.args.conflicts c.in_ok-league.league is_file c.in_ok-league.ensures)
     c.found_of.result c.found_of.ensures
