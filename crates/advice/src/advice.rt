@@ -58,12 +58,13 @@ impl Advice {
         put_printable(&mut self.text, piece)
     }
 
-    /// Puts an item behind the text: as it is, or its byte in hexadecimal digits behind `\x`.
+    /// Puts an item behind the text: as it is, or its byte in hexadecimal digits behind `\x`; the end of a line as `\n`.
     fn put(&mut self, item: Item) -> Result<(), AllocError>
         requires { IsItem item }
     {
         match item {
             Item::Plain(byte) => self.append(&[byte]),
+            Item::LineEnd => self.append(b"\\n"),
             Item::Letter(lead, tail) => self.append(&[lead, tail]),
             Item::Other(byte) => {
                 self.append(&[b'\\', b'x', hex_digit(byte / 16), hex_digit(byte % 16)])
@@ -71,11 +72,14 @@ impl Advice {
         }
     }
 
-    /// Puts words of the program behind the text.
+    /// Puts words of the program behind the text, with ends of lines.
     pub fn say(&mut self, words: &str) -> Result<(), AllocError> {
         let mut rest = words.as_bytes();
         'items: while let Some((item, later)) = first_item(rest) {
-            self.put(item)?;
+            match item {
+                Item::LineEnd => self.end_line()?,
+                other => self.put(other)?,
+            }
             rest = later;
         }
         Ok(())

@@ -7,6 +7,8 @@ ghost use Rattle.advice.specs.Items.{IsItem};
 pub(crate) enum Item {
     /// A printable ASCII character.
     Plain(u8),
+    /// The end of a line.
+    LineEnd,
     /// A letter of two bytes.
     Letter(u8, u8),
     /// A byte that isn't told as it is.
@@ -20,6 +22,7 @@ pub(crate) fn first_item(bytes: &[u8]) -> Option<(Item, &[u8])>
 {
     match bytes {
         [] => None,
+        [b'\n', rest @ ..] => Some((Item::LineEnd, rest)),
         [byte @ 32..=126, rest @ ..] => Some((Item::Plain(*byte), rest)),
         [lead @ 195..=212, tail @ 128..=191, rest @ ..] => Some((Item::Letter(*lead, *tail), rest)),
         [byte, rest @ ..] => Some((Item::Other(*byte), rest)),

@@ -8,6 +8,7 @@ use Rattle.answers.specs.Reply.{Answer}
 use Rattle.answers.specs.SeenReply.{Answers, answer_of}
 use Rattle.answers.specs.Stages.{IsFile, IsUnread, NoneFails, Outcome, says, takes}
 use Rattle.answers.specs.declared.status.Status.TheVariants.{File, ReadFault, Refuted, Yes}
+use Rattle.answers.specs.declared.refusal.Refusal.{Refusal}
 use Rattle.answers.specs.declared.reply.Reply.{Reply}
 use Rattle.answers.specs.declared.reply.NoValue.{NoValue}
 use Rattle.answers.specs.declared.reply.NoValue.TheVariants.{Refused, Memory}
@@ -15,7 +16,7 @@ use Rattle.answers.specs.declared.reply.NoValue.TheVariants.{Refused, Memory}
 -- answers of one kind are of another, where this follows for each
 pub Answers-wider : (narrow wide : Outcome) → ((answer : Answer) → narrow answer → wide answer) → (result : Result Reply NoValue) → Answers narrow result → Answers wide result
 Answers-wider narrow wide wider (Ok reply) given = wider _ given
-Answers-wider narrow wide wider (Err (Refused reply)) given = wider _ given
+Answers-wider narrow wide wider (Err (Refused refusal)) given = wider _ given
 Answers-wider narrow wide wider (Err Memory) given = tt
 
 -- what a file says is taken
@@ -41,10 +42,10 @@ module _ (before : ℕ) (whole rest : Store) (is_rest : IsRest before whole rest
       (is_rest.took_more limit) (is_rest.failed name) unread
 
   pub unread-end : (end : NoValue)
-      → ((reply : Reply) → end ≡ Refused reply
-      → IsUnread which (rest.contents name) limit (rest.took_more limit) (rest.failed name) (answer_of reply))
+      → ((refusal : Refusal) → end ≡ Refused refusal
+      → IsUnread which (rest.contents name) limit (rest.took_more limit) (rest.failed name) (answer_of refusal.reply))
       → Answers (IsUnread which (whole.contents name) limit (whole.took_more (before + limit)) (whole.failed name)) (Err end)
-  unread-end (Refused reply) given = unread-rest (answer_of reply) (given reply refl)
+  unread-end (Refused refusal) given = unread-rest (answer_of refusal.reply) (given refusal refl)
   unread-end Memory given = tt
 
   -- what is answered to a file by the rest of a run is what the whole answers

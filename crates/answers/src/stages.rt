@@ -10,7 +10,8 @@ ghost use Rattle.robinx_form.specs.SolutionFile.{solution_of};
 ghost use Rattle.answers.specs.SeenReply.{answer_of, IsMalformed, MatchStage};
 ghost use Rattle.answers.specs.Stages.{IsFile, IsUnread, IsWritten};
 
-use crate::reply::{NoValue, Reply, malformed, past_limit, unreadable};
+use crate::refusal::{malformed, past_limit, unreadable};
+use crate::reply::{NoValue, Reply};
 use crate::status::Status;
 use league::{League, Schedule};
 use robin_io::{Shelf, Sink, TakeFault, put_all, read_all};
@@ -40,8 +41,15 @@ pub fn file<S: Shelf>(
 {
     match read_all(alloc, shelf, name, limit) {
         Ok(bytes) => Ok(bytes),
-        Err(TakeFault::Failed) => Err(NoValue::Refused(unreadable(alloc, which)?)),
-        Err(TakeFault::TooLong { .. }) => Err(NoValue::Refused(past_limit(alloc, which, limit)?)),
+        Err(TakeFault::Failed) => Err(NoValue::Refused(unreadable(
+            alloc,
+            which,
+            name,
+            shelf.reason(),
+        )?)),
+        Err(TakeFault::TooLong { .. }) => Err(NoValue::Refused(past_limit(
+            alloc, which, name, limit,
+        )?)),
         Err(TakeFault::Mem) => Err(NoValue::Memory),
     }
 }
@@ -59,7 +67,7 @@ pub fn league_in(alloc: Global, bytes: &[u8]) -> Result<League, NoValue>
     match read_instance(alloc, bytes) {
         Ok(league) => Ok(league),
         Err(ReadFault::Form(fault)) => Err(NoValue::Refused(malformed(
-            alloc, "instance", fault.kind, fault.line,
+            alloc, "instance", bytes, fault.kind, fault.line,
         )?)),
         Err(ReadFault::Mem) => Err(NoValue::Memory),
     }
@@ -80,7 +88,7 @@ pub fn schedule_in(alloc: Global, bytes: &[u8], league: &League) -> Result<Sched
     match read_solution(alloc, bytes, league) {
         Ok(schedule) => Ok(schedule),
         Err(ReadFault::Form(fault)) => Err(NoValue::Refused(malformed(
-            alloc, "solution", fault.kind, fault.line,
+            alloc, "solution", bytes, fault.kind, fault.line,
         )?)),
         Err(ReadFault::Mem) => Err(NoValue::Memory),
     }

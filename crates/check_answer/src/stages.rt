@@ -66,9 +66,14 @@ fn log_in<S: Shelf>(
     let mut room = room_of(alloc, PIECE)?;
     match check_file(alloc, shelf, name, &mut room, feed, checker) {
         Ok(steps) => Ok(steps),
-        Err(TakeFault::Failed) => Err(NoValue::Refused(unreadable(alloc, "log")?)),
+        Err(TakeFault::Failed) => Err(NoValue::Refused(unreadable(
+            alloc,
+            "log",
+            name,
+            shelf.reason(),
+        )?)),
         Err(TakeFault::TooLong { .. }) => {
-            Err(NoValue::Refused(past_limit(alloc, "log", LOG_LIMIT)?))
+            Err(NoValue::Refused(past_limit(alloc, "log", name, LOG_LIMIT)?))
         }
         Err(TakeFault::Mem) => Err(NoValue::Memory),
     }

@@ -244,7 +244,7 @@ pub stage-wider : {X : Type 0} (goes : X → Type 0) (narrow wide : Outcome)
     → ((answer : Answer) → narrow answer → wide answer) → (result : Result X NoValue)
     → MatchStage result goes narrow → MatchStage result goes wide
 stage-wider goes narrow wide wider (Ok x) given = given
-stage-wider goes narrow wide wider (Err (Refused reply)) given = wider _ given
+stage-wider goes narrow wide wider (Err (Refused refusal)) given = wider _ given
 stage-wider goes narrow wide wider (Err Memory) given = tt
 
 -- two files were read, one after the other

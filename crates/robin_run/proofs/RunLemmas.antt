@@ -22,7 +22,7 @@ use Rattle.robin_run.proofs.EndLemmas.{written-memory}
 pub answered-by : (run : Run) (given : Result Reply NoValue) → Answers (IsAnswer run.command run.store) given
     → IsFolded given run.ended run.output → Answered run
 answered-by run (Ok reply) answer written memory = (answer_of reply, answer, written)
-answered-by run (Err (without.Refused reply)) answer written memory = (answer_of reply, answer, written)
+answered-by run (Err (without.Refused refusal)) answer written memory = (answer_of refusal.reply, answer, written)
 answered-by run (Err without.Memory) answer ended memory = absurd (memory ended.0)
 
 -- where the run ends with want of memory, nothing is written
@@ -30,8 +30,8 @@ pub kept-by : (run : Run) (given : Result Reply NoValue) → Answers (IsAnswer r
     → IsFolded given run.ended run.output → run.ended ≡ Memory → Keeps run.output.before run.output.after
 kept-by run (Ok reply) answer written memory =
     absurd (written-memory run.command run.store (answer_of reply) run.ended run.output answer written memory)
-kept-by run (Err (without.Refused reply)) answer written memory =
-    absurd (written-memory run.command run.store (answer_of reply) run.ended run.output answer written memory)
+kept-by run (Err (without.Refused refusal)) answer written memory =
+    absurd (written-memory run.command run.store (answer_of refusal.reply) run.ended run.output answer written memory)
 kept-by run (Err without.Memory) answer ended memory = ended.1
 
 -- ---- what is written

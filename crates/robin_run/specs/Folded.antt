@@ -12,5 +12,5 @@ use Rattle.answers.specs.declared.status.Status.TheVariants.{Memory}
 
 abbrev pub IsFolded : Result Reply NoValue → Status → Output → Type 0
 IsFolded (Ok reply) ended output = IsWritten (answer_of reply) ended output
-IsFolded (Err (without.Refused reply)) ended output = IsWritten (answer_of reply) ended output
+IsFolded (Err (without.Refused refusal)) ended output = IsWritten (answer_of refusal.reply) ended output
 IsFolded (Err without.Memory) ended output = (ended ≡ Memory) × Keeps output.before output.after

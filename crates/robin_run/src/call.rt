@@ -123,7 +123,7 @@ fn write_given<K: Sink>(out: &mut K, given: Result<Reply, NoValue>) -> Status
 {
     match given {
         Ok(reply) => write_answer(out, &reply),
-        Err(NoValue::Refused(reply)) => write_answer(out, &reply),
+        Err(NoValue::Refused(refusal)) => write_answer(out, &refusal.reply),
         Err(NoValue::Memory) => Status::Memory,
     }
 }
