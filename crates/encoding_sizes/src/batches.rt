@@ -4,6 +4,7 @@ ghost use Rattle.std.specs.List.{count_by, sum_by};
 ghost use Rattle.league.specs.Deviation.{spans};
 ghost use Rattle.league.specs.Instance.{IsTeamCount, are_teams, class_fits};
 ghost use Rattle.league.specs.Meetings.{others};
+ghost use Rattle.league.specs.Names.{name_of};
 ghost use Rattle.league.specs.Shapes.{has_bounds};
 ghost use Rattle.encoding_sizes.specs.Batches.{in_all, lengths_of};
 
@@ -11,7 +12,7 @@ use crate::literals::{
     between_total, later_total, meeting_total, other_total, side_total, slot_total, team_total,
 };
 use encoding_base::{slot_numbers, team_numbers};
-use league::{Class, Span, TeamSet, slot_count};
+use league::{Class, ClassName, Span, TeamSet, slot_count};
 
 /// Lists of literals that are as long: how many they are, and how many literals each of them has.
 #[derive(Clone, Copy)]
@@ -62,44 +63,9 @@ pub fn batches_of(n: u16, class: &Class) -> Batches
         Class::Ca1 { teams, slots, .. } => {
             Batches::alike(team_total(n, teams), slot_total(n, slots))
         }
-        Class::Ca2 {
-            teams1,
-            teams2,
-            side,
-            slots,
-            ..
-        } => {
-            let games = side_total(*side) * slot_total(n, slots);
-            against(n, teams1, teams2, 1, games)
-        }
-        Class::Ca3 {
-            teams1,
-            teams2,
-            intp,
-            side,
-            ..
-        } => {
-            let beyond = u64::from(slot_count(n)) + 1;
-            let window = u64::from(*intp).min(beyond);
-            against(
-                n,
-                teams1,
-                teams2,
-                beyond - window,
-                side_total(*side) * window,
-            )
-        }
-        Class::Ca4 {
-            teams1,
-            teams2,
-            side,
-            span,
-            slots,
-            ..
-        } => {
-            let meetings = between_total(n, *side, teams1, teams2);
-            spanned(*span, meetings, slot_numbers(n, slots))
-        }
+        Class::Ca2 { .. } => ca2_batches(n, class),
+        Class::Ca3 { .. } => ca3_batches(n, class),
+        Class::Ca4 { .. } => ca4_batches(n, class),
         Class::Ga1 {
             meetings,
             slots,
@@ -121,6 +87,81 @@ pub fn batches_of(n: u16, class: &Class) -> Batches
         }
         Class::Fa2 { .. } | Class::Se1 { .. } => unreachable!(),
     }
+}
+
+/// Those of a CA2: a list for each of its teams.
+fn ca2_batches(n: u16, class: &Class) -> Batches
+    requires n { n ≤ 40 }
+    requires class { name_of class.now ≡ ClassName.Ca2 }
+    requires fits { IsTrue (class_fits n class.now) }
+    ensures all { (measure : ℕ → ℕ) → sum_by measure (lengths_of n class.now) ≡ in_all measure result }
+    ensures few { in_all (λ literals. literals) result ≤ 20000000 }
+    ensures first { result.first.literals ≤ 124800 }
+    ensures second { result.second.literals ≤ 124800 }
+{
+    let Class::Ca2 {
+        teams1,
+        teams2,
+        side,
+        slots,
+        ..
+    } = class
+    else {
+        unreachable!()
+    };
+    let games = side_total(*side) * slot_total(n, slots);
+    against(n, teams1, teams2, 1, games)
+}
+
+/// Those of a CA3: a list for each of its teams and each window.
+fn ca3_batches(n: u16, class: &Class) -> Batches
+    requires n { n ≤ 40 }
+    requires class { name_of class.now ≡ ClassName.Ca3 }
+    requires fits { IsTrue (class_fits n class.now) }
+    ensures all { (measure : ℕ → ℕ) → sum_by measure (lengths_of n class.now) ≡ in_all measure result }
+    ensures few { in_all (λ literals. literals) result ≤ 20000000 }
+    ensures first { result.first.literals ≤ 124800 }
+    ensures second { result.second.literals ≤ 124800 }
+{
+    let Class::Ca3 {
+        teams1,
+        teams2,
+        intp,
+        side,
+        ..
+    } = class
+    else {
+        unreachable!()
+    };
+    let beyond = u64::from(slot_count(n)) + 1;
+    let window = u64::from(*intp).min(beyond);
+    let games = side_total(*side) * window;
+    against(n, teams1, teams2, beyond - window, games)
+}
+
+/// Those of a CA4: a list for all its slots, or for each.
+fn ca4_batches(n: u16, class: &Class) -> Batches
+    requires n { n ≤ 40 }
+    requires class { name_of class.now ≡ ClassName.Ca4 }
+    requires fits { IsTrue (class_fits n class.now) }
+    ensures all { (measure : ℕ → ℕ) → sum_by measure (lengths_of n class.now) ≡ in_all measure result }
+    ensures few { in_all (λ literals. literals) result ≤ 20000000 }
+    ensures first { result.first.literals ≤ 124800 }
+    ensures second { result.second.literals ≤ 124800 }
+{
+    let Class::Ca4 {
+        teams1,
+        teams2,
+        side,
+        span,
+        slots,
+        ..
+    } = class
+    else {
+        unreachable!()
+    };
+    let meetings = between_total(n, *side, teams1, teams2);
+    spanned(*span, meetings, slot_numbers(n, slots))
 }
 
 /// The lists of the games of each of some teams with others, each of whom it meets so often in a window, in so many
