@@ -1,6 +1,6 @@
 use Rattle.std.proofs.Common.{ℕ, ◌-◌, ◌*◌, ◌/◌, ap}
 use Rattle.encoding_base.proofs.PairLemmas.{length-pairs_of}
-use Rattle.encoding_sizes.proofs.sizes.pair_total.Goals as goal
+use Rattle.encoding_sizes.proofs.literals.pair_total.Goals as goal
 
 pub returns-clause-count : goal.returns-clause-count
 returns-clause-count c =
