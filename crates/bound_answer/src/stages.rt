@@ -31,7 +31,7 @@ pub fn has_few_terms(alloc: Global, league: &League) -> Result<(), NoValue>
         (λ answer. (most_terms < bound_size league.now)
         × (answer ≡ too_large (capped (bound_size league.now)))) }
 {
-    let terms = bound_terms(alloc, league)?;
+    let terms = bound_terms(league);
     if terms > MOST_TERMS {
         return Err(NoValue::Refused(rows_refused(alloc, terms)?));
     }

@@ -190,7 +190,7 @@ of_known : (store : Store) (instance solution : List ℕ) (k : ℕ) (next : Seas
     (league : Instance) (played : List Game) (answer : Answer) → SaySeason store instance solution league played
     → IsOfSeason store instance solution k next answer
     → (bytes : ℕ) × next (record { league = league; played = played; slots = k; bytes = bytes }) answer
-of_known store.contents instance solution k next league played answer say of =
+of_known store instance solution k next league played answer say of =
     let first : of.first ≡ say.first =
     same_bytes (store.contents instance) INSTANCE_LIMIT of.first say.first of.first_file say.first_known in
     let second : of.second ≡ say.second =
@@ -243,7 +243,7 @@ resumed-planned store instance solution k conflicts league played answer say end
     let next : Season → Outcome = λ season. IsFound season.league season.played k conflicts in
     let answered : IsAnswered answer = answered-as answer Yes ended (λ same. cc) (λ same. cc) in
     found-planned league played k conflicts answer ended
-    (of_known store.contents instance solution k next league played answer say
+    (of_known store instance solution k next league played answer say
     (plays-answered store instance solution k next answer answered given)).1
 
 -- where it is a refutation, no accepted schedule keeps them
@@ -256,7 +256,7 @@ resumed-excluded store instance solution k conflicts league played answer say en
     let next : Season → Outcome = λ season. IsFound season.league season.played k conflicts in
     let answered : IsAnswered answer = answered-as answer Refuted ended (λ same. cc) (λ same. cc) in
     found-excluded league played k conflicts answer ended
-    (of_known store.contents instance solution k next league played answer say
+    (of_known store instance solution k next league played answer say
     (plays-answered store instance solution k next answer answered given)).1
 
 -- and where the verdict on a log says yes
@@ -267,7 +267,7 @@ pub audited-excluded : (store : Store)
 audited-excluded store instance solution k log league played answer say ended given =
     let next : Season → Outcome = at_log store log k in
     let answered : IsAnswered answer = answered-as answer Yes ended (λ same. cc) (λ same. cc) in
-    let at = of_known store.contents instance solution k next league played answer say
+    let at = of_known store instance solution k next league played answer say
     (plays-answered store instance solution k next answer answered given) in
     let read = reads-answered (codes "log") (store.contents log) most_log_bytes (store.took_more (at.0 + most_log_bytes))
     (store.failed log) (λ bytes. says_log (log_of bytes) (IsVerdict league played k)) answer answered at.1 in

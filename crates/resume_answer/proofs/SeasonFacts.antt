@@ -90,8 +90,8 @@ nowhere name = ⊥
 abbrev store : Store
 store = record { contents = contents; took_more = never; failed = nowhere }
 
-nothing_fails : {names : List (List ℕ)} → NoneFails store names
-nothing_fails = λ place name within fails. fails
+nothing_fails : (names : List (List ℕ)) → NoneFails store names
+nothing_fails names = λ place name within fails. fails
 
 -- ---- more slots than the season has: that is the answer, whatever the solution file is
 
@@ -156,7 +156,7 @@ pub audited-one : (answer : Answer)
 audited-one answer given =
     let verdict : IsVerdict league [] 1 steps answer =
     audited-well_formed store (codes "league") (codes "played") 1 (codes "log") league [] steps answer
-    (formed 1 (omega arith) small-one) nothing_fails given in
+    (formed 1 (omega arith) small-one) (nothing_fails (codes "league" ∷ codes "played" ∷ codes "log" ∷ [])) given in
     let is : answer ≡ record { status = Yes; text = codes "accepted steps 1\n" } =
     verdict.verdict ∙ ap (verdict_answer 1) verdict-one ∙ accepted-one in
     (is, verdict.none (ap (λ (a : Answer). a.status) is))
@@ -183,5 +183,5 @@ pub audited-none : (answer : Answer)
 audited-none answer given =
     let verdict : IsVerdict league [] 0 steps answer =
     audited-well_formed store (codes "league") (codes "played") 0 (codes "log") league [] steps answer
-    (formed 0 (omega arith) small-none) nothing_fails given in
+    (formed 0 (omega arith) small-none) (nothing_fails (codes "league" ∷ codes "played" ∷ codes "log" ∷ [])) given in
     verdict.verdict ∙ ap (verdict_answer 1) verdict-none ∙ rejected-one

@@ -171,7 +171,7 @@ module _ (store : Store)
       ))
 
   -- both files say a season: what is answered to it is the answer
-  pub plays-season : (season : Season) → IsSaid store instance solution k season → (answer : Answer)
+  pub plays-season : (season : Season) → IsSaid store.contents instance solution k season → (answer : Answer)
       → next season answer → plays store instance solution k next answer
   plays-season season said answer rest =
       let numbered : next (record {
@@ -291,7 +291,7 @@ at_log store log k season =
     (λ bytes. says_log (log_of bytes) (IsVerdict season.league season.played k))
 
 pub audited-within : (whole rest : Store) (instance solution : List ℕ) (k : ℕ) (log : List ℕ) (season : Season)
-    → IsSaid whole instance solution k season → IsRest season.bytes whole rest → (answer : Answer)
+    → IsSaid whole.contents instance solution k season → IsRest season.bytes whole rest → (answer : Answer)
     → reads rest (codes "log") log most_log_bytes 0
     (λ bytes. says_log (log_of bytes) (IsVerdict season.league season.played season.slots)) answer
     → audited whole instance solution k log answer

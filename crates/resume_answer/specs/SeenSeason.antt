@@ -1,6 +1,5 @@
 -- What the first two files said.
-use Rattle.std.specs.Prelude.{◌≡◌, ℕ, ◌+◌, ◌≤◌, List, length, Ok}
-use Rattle.robin_io.specs.Outside.{Store}
+use Rattle.std.specs.Prelude.{◌≡◌, ℕ, ◌+◌, ◌≤◌, List, length, Option, Ok}
 use Rattle.league.specs.Counts.{slot_count}
 use Rattle.robinx_tags.specs.Pieces.{pieces}
 use Rattle.robinx_form.specs.InstanceFile.{instance_of}
@@ -13,15 +12,15 @@ use Rattle.resume_answer.specs.declared.season.Season.{Season}
 
 -- both files were read, and said this season, which has k slots and not too many resume rows
 pub record IsSaid
-    (store : Store)
+    (contents : List ℕ → Option (List ℕ))
     (instance solution : List ℕ)
     (k : ℕ)
     (season : Season)
     : Type 0 where
   pub first : List ℕ
   pub second : List ℕ
-  pub first_file : IsFile (store.contents instance) INSTANCE_LIMIT first
-  pub second_file : IsFile (store.contents solution) SOLUTION_LIMIT second
+  pub first_file : IsFile (contents instance) INSTANCE_LIMIT first
+  pub second_file : IsFile (contents solution) SOLUTION_LIMIT second
   pub says_league : instance_of (pieces first) ≡ Ok season.league
   pub says_played : solution_of season.league.n (pieces second) ≡ Ok season.played
   pub slots : k ≤ slot_count season.league.n

@@ -90,7 +90,7 @@ pub(crate) fn season_in<S: Shelf>(
     k: u64,
 ) -> Result<Season, NoValue>
     ensures season { MatchStage result
-        (IsSaid (store_between S.Shelf shelf.old shelf.new) instance.now solution.now k)
+        (IsSaid (S.contents shelf.old) instance.now solution.now k)
         (plays (store_between S.Shelf shelf.old shelf.new)
         instance.now solution.now k (λ season answer. ⊥)) }
     ensures few { IfOk result (λ season. length season.played ≤ 10000) }

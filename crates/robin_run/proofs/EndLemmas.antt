@@ -13,7 +13,7 @@ use Rattle.robinx_read.specs.declared.instance.TheConstants.{INSTANCE_LIMIT, SOL
 use Rattle.budgets.specs.declared.budgets.Budgets.{Budgets}
 use Rattle.command_line.specs.Words.{Command}
 use Rattle.command_line.specs.Words.Command.{Audit, Bound, Check, Circle, Explain, Make, Part, Patterns, Prove, Resume}
-use Rattle.command_line.specs.Words.Command.{Solve, Trial, Validate}
+use Rattle.command_line.specs.Words.Command.{Help, Solve, Trial, Validate, Version}
 use Rattle.answers.specs.Reply.{Answer}
 use Rattle.answers.specs.Stages.{IsWritten, Outcome, says, takes}
 use Rattle.answers.specs.declared.status.Status.{Status}
@@ -448,6 +448,8 @@ answer-ends (Some (Make n seed)) store answer given =
     ends-as (EndsBy (Some (Make n seed))) answer _ given.made refl
 answer-ends (Some (Trial n seed budgets)) store answer given =
     tried-ends (EndsBy (Some (Trial n seed budgets))) refl refl n seed budgets answer given
+answer-ends (Some (Help topic)) store answer given = ends-as (EndsBy (Some (Help topic))) answer _ given refl
+answer-ends (Some Version) store answer given = ends-as (EndsBy (Some Version)) answer _ given refl
 
 written-ends : (words : Option Command) (store : Store) (answer : Answer) (ended : Status) (output : Output)
     → IsAnswer words store answer → IsWritten answer ended output → (ended ≡ WriteFault → ⊥) → may_end words ended ≡ true
@@ -476,6 +478,8 @@ no_memory (Some (Audit instance solution k log)) = refl
 no_memory (Some (Circle n)) = refl
 no_memory (Some (Make n seed)) = refl
 no_memory (Some (Trial n seed budgets)) = refl
+no_memory (Some (Help topic)) = refl
+no_memory (Some Version) = refl
 
 -- where an answer is written, the run doesn't end as want of memory does
 pub written-memory : (words : Option Command) (store : Store) (answer : Answer) (ended : Status) (output : Output)

@@ -1,16 +1,18 @@
--- What `circle`, `make` and `trial` promise is kept.
+-- What `circle`, `make`, `trial`, `--help` and `--version` promise is kept.
 use Rattle.std.proofs.Common.{◌≡◌, ◌≢◌, ℕ, [], inl, inr, ap, sym, ◌∙◌}
 use Rattle.budgets.specs.declared.budgets.Budgets.{Budgets}
-use Rattle.command_line.specs.Words.Command.{Circle, Make, Trial}
+use Rattle.command_line.specs.Words.Command.{Circle, Help, Make, Trial, Version}
 use Rattle.answers.specs.Reply.{Answer}
 use Rattle.answers.specs.declared.status.Status.TheVariants.{Yes, File, Refuted, Spent}
 use Rattle.check_answer.proofs.AnswerLemmas.{encodes-small}
 use Rattle.circle_answer.specs.Circle.{circle_season}
+use Rattle.help_answer.specs.Help.{help_answer, version_answer}
 use Rattle.instance_gen.specs.Draws.{seeded}
 use Rattle.instance_gen.specs.Made.{made_league}
 use Rattle.make_answer.specs.MadeInstance.{IsMade}
 use Rattle.trial_answer.specs.Trial.{IsTrial, tried}
 use Rattle.robin_run.specs.Circle.{WritesCircle}
+use Rattle.robin_run.specs.Help.{Helps, TellsVersion}
 use Rattle.robin_run.specs.Make.{Makes}
 use Rattle.robin_run.specs.Run.{Answered, Run}
 use Rattle.robin_run.specs.Trial.{Tries}
@@ -55,3 +57,13 @@ tries run answered n seed budgets is = record {
         (tried-status n seed budgets whole.answer whole.given).1 whole.status_is,
   );
 }
+
+pub helps : (run : Run) → Answered run → Helps run
+helps run answered topic is = record {
+  helped = λ works.
+      writes run [] (Help topic) (λ answer. answer ≡ help_answer topic) answered is works (λ answer given. given);
+}
+
+pub tells-version : (run : Run) → Answered run → TellsVersion run
+tells-version run answered is works =
+    writes run [] Version (λ answer. answer ≡ version_answer) answered is works (λ answer given. given)

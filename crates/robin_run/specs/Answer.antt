@@ -8,9 +8,10 @@ use Rattle.check_answer.specs.Check.{checked}
 use Rattle.circle_answer.specs.Circle.{circle_season}
 use Rattle.command_line.specs.Words.{Command}
 use Rattle.command_line.specs.Words.Command.{Validate, Check, Solve, Patterns, Explain, Part, Prove, Bound, Resume}
-use Rattle.command_line.specs.Words.Command.{Audit, Circle, Make, Trial}
+use Rattle.command_line.specs.Words.Command.{Audit, Circle, Make, Trial, Help, Version}
 use Rattle.explain_answer.specs.Explained.{explained}
 use Rattle.explain_answer.specs.Parted.{parted}
+use Rattle.help_answer.specs.Help.{help_answer, version_answer}
 use Rattle.make_answer.specs.MadeInstance.{IsMade}
 use Rattle.patterns_answer.specs.Patterns.{patterned}
 use Rattle.prove_answer.specs.Prove.{proved}
@@ -36,3 +37,5 @@ IsAnswer (Some (Audit instance solution k log)) store answer = audited store ins
 IsAnswer (Some (Circle n)) store answer = answer ≡ circle_season n
 IsAnswer (Some (Make n seed)) store answer = IsMade n seed answer
 IsAnswer (Some (Trial n seed budgets)) store answer = tried n seed budgets answer
+IsAnswer (Some (Help topic)) store answer = answer ≡ help_answer topic
+IsAnswer (Some Version) store answer = answer ≡ version_answer

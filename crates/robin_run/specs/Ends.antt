@@ -6,7 +6,7 @@ use Rattle.answers.specs.declared.status.Status.{Status}
 use Rattle.answers.specs.declared.status.Status.TheVariants.{Yes, No, Words, File, Refuted, Spent, ReadFault, Better}
 use Rattle.command_line.specs.Words.{Command}
 use Rattle.command_line.specs.Words.Command.{Validate, Check, Solve, Patterns, Explain, Part, Prove, Bound, Resume}
-use Rattle.command_line.specs.Words.Command.{Audit, Circle, Make, Trial}
+use Rattle.command_line.specs.Words.Command.{Audit, Circle, Make, Trial, Help, Version}
 
 -- the ends that these words have
 abbrev pub ends_of : Option Command → List Status
@@ -24,6 +24,8 @@ ends_of (Some (Audit instance solution k log)) = Yes ∷ No ∷ File ∷ ReadFau
 ends_of (Some (Circle n)) = Yes ∷ []
 ends_of (Some (Make n seed)) = Yes ∷ []
 ends_of (Some (Trial n seed budgets)) = Yes ∷ File ∷ []
+ends_of (Some (Help topic)) = Yes ∷ []
+ends_of (Some Version) = Yes ∷ []
 
 -- whether a run with these words may end so
 abbrev pub may_end : Option Command → Status → Bool

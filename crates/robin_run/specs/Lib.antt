@@ -18,6 +18,6 @@ pub mod Audit
 pub mod Circle
 pub mod Make
 pub mod Trial
-
+pub mod Help
 -- Kept inside (laws, and how fields are seen):
 pub mod Folded

@@ -36,30 +36,25 @@ pub record IsBettered (league : Instance) (games : List Game) (output : Output) 
   pub better_accepted : IsAccepted league (counts_of better)
   pub fit : All (IsGame league.n) better
   pub lower : objective league (counts_of better) < objective league (counts_of games)
-  pub written : Appends output.before output.after
-      (solution_text better (Some (0, objective league (counts_of better))))
+  pub written : Appends output.before output.after (solution_text better (Some (0, objective league (counts_of better))))
 
 pub record Promise (run : Run) (instance solution : List ℕ) (conflicts : Option ℕ) : Type 0 where
   -- What is shown of the season of a well-formed case is written, where nothing fails: the report of `validate` where
   -- the season isn't accepted, a certificate, a better season, or a log that is spent at the budget.
   pub proved : (league : Instance) (games : List Game)
-      → IsWellFormedCase run.store instance solution league games
-      → NothingFails run (instance ∷ solution ∷ [])
+      → IsWellFormedCase run.store instance solution league games → NothingFails run (instance ∷ solution ∷ [])
       → Writes run (IsShown league conflicts games)
   -- Where the season is called least, no accepted season has a lower objective.
   pub unbettered : (league : Instance) (games : List Game)
-      → SaySeason run.store instance solution league games
-      → run.ended ≡ Yes
+      → SaySeason run.store instance solution league games → run.ended ≡ Yes
       → IsUnbettered league games run.output
   -- Where the season is bettered, the one that is written is accepted, with a lower objective.
   pub bettered : (league : Instance) (games : List Game)
-      → SaySeason run.store instance solution league games
-      → run.ended ≡ Better
+      → SaySeason run.store instance solution league games → run.ended ≡ Better
       → IsBettered league games run.output
 
 -- each run of `prove` keeps it
 abbrev pub Proves : Run → Type 0
 Proves run =
-    (instance solution : List ℕ) (conflicts : Option ℕ)
-    → run.command ≡ Some (command.Prove instance solution conflicts)
+    (instance solution : List ℕ) (conflicts : Option ℕ) → run.command ≡ Some (command.Prove instance solution conflicts)
     → Promise run instance solution conflicts

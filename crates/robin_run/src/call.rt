@@ -4,7 +4,8 @@ ghost use Rattle.std.specs.Io.KnownBytes.{Keeps};
 ghost use Rattle.robin_io.specs.Outside.{output_between, store_between};
 ghost use Rattle.command_line.specs.SeenWords.{command_of};
 ghost use Rattle.command_line.specs.Words.{members_of, reading, HasTeams, NeedsNoFile};
-ghost use Rattle.answers.specs.SeenReply.{Answers};
+ghost use Rattle.answers.specs.SeenReply.{answer_of, Answers};
+ghost use Rattle.answers.specs.Stages.{IsWritten};
 ghost use Rattle.explain_answer.specs.Parted.{parted};
 ghost use Rattle.robin_run.specs.Answer.{IsAnswer};
 ghost use Rattle.robin_run.specs.Audit.{Audits};
@@ -14,6 +15,7 @@ ghost use Rattle.robin_run.specs.Circle.{WritesCircle};
 ghost use Rattle.robin_run.specs.Ends.{EndsByWords};
 ghost use Rattle.robin_run.specs.Explain.{Explains};
 ghost use Rattle.robin_run.specs.Folded.{IsFolded};
+ghost use Rattle.robin_run.specs.Help.{Helps, TellsVersion};
 ghost use Rattle.robin_run.specs.Make.{Makes};
 ghost use Rattle.robin_run.specs.Part.{Parts};
 ghost use Rattle.robin_run.specs.Patterns.{FindsPatterns};
@@ -24,17 +26,18 @@ ghost use Rattle.robin_run.specs.Solve.{Solves};
 ghost use Rattle.robin_run.specs.Trial.{Tries};
 ghost use Rattle.robin_run.specs.Validate.{Validates};
 
-use answers::{NoValue, Reply, Status, words_refused, write_answer};
+use answers::{NoValue, Reply, Status, write_answer};
 use bound_answer::bound_file;
 use check_answer::check;
 use circle_answer::circle;
 use command_line::{Words, members, read_words};
 use explain_answer::{explain_file, part_file};
+use help_answer::{help, refuse_words, version};
 use make_answer::make_league;
 use patterns_answer::patterns_file;
 use prove_answer::prove_file;
 use resume_answer::{audit_file, resume_file};
-use robin_io::{Shelf, Sink};
+use robin_io::{Shelf, Sink, put_all};
 use solve_answer::solve_file;
 use std::alloc::Global;
 use trial_answer::trial;
@@ -97,6 +100,8 @@ fn follow<S: Shelf>(alloc: Global, command: Words, shelf: &mut S) -> Result<Repl
         Words::Circle { n } => Ok(circle(alloc, n)?),
         Words::Make { n, seed } => Ok(make_league(alloc, n, seed)?),
         Words::Trial { n, seed, budgets } => Ok(trial(alloc, n, seed, budgets)?),
+        Words::Help { topic } => Ok(help(alloc, topic)?),
+        Words::Version => Ok(version(alloc)?),
     }
 }
 
@@ -108,26 +113,55 @@ fn answer<S: Shelf>(alloc: Global, words: &[String], shelf: &mut S) -> Result<Re
     ensures untouched { NeedsNoFile (reading (map string_bytes words.now)) → shelf.new ≡ shelf.old }
 {
     match read_words(words) {
-        None => Ok(words_refused(alloc)?),
+        None => Err(NoValue::Refused(refuse_words(alloc, words)?)),
         Some(command) => follow(alloc, command, shelf),
     }
 }
 
-/// Writes the answer that a command gave, and says how the run ends.
-fn write_given<K: Sink>(out: &mut K, given: Result<Reply, NoValue>) -> Status
+/// Tells a person. Whether that could be written changes nothing.
+fn tell<T: Sink>(told: &mut T, text: &[u8]) {
+    let _written = put_all(told, text);
+}
+
+/// Writes an answer, and tells where it couldn't be written whole.
+fn write_told<K: Sink, T: Sink>(out: &mut K, told: &mut T, reply: &Reply) -> Status
+    ensures { IsWritten (answer_of reply.now) result (output_between K.Sink out.old out.new) }
+{
+    let status = write_answer(out, reply);
+    tell(told, unwritten(status));
+    status
+}
+
+/// What is told where an answer couldn't be written whole.
+fn unwritten(status: Status) -> &'static [u8] {
+    match status {
+        Status::WriteFault => b"robin: the text could not be written whole\n",
+        _ => b"",
+    }
+}
+
+/// Writes the answer that a command gave, tells what a person is told beside it, and says how the run ends.
+fn write_given<K: Sink, T: Sink>(out: &mut K, told: &mut T, given: Result<Reply, NoValue>) -> Status
     ensures { IsFolded given result (output_between K.Sink out.old out.new) }
 {
     match given {
-        Ok(reply) => write_answer(out, &reply),
-        Err(NoValue::Refused(refusal)) => write_answer(out, &refusal.reply),
-        Err(NoValue::Memory) => Status::Memory,
+        Ok(reply) => write_told(out, told, &reply),
+        Err(NoValue::Refused(refusal)) => {
+            tell(told, refusal.advice.text());
+            write_told(out, told, &refusal.reply)
+        }
+        Err(NoValue::Memory) => {
+            tell(told, b"robin: memory ran out, and nothing was written\n");
+            Status::Memory
+        }
     }
 }
 
 /// Runs the command that the words name, over a store of files, writes its text to `out`, and says how the run ends.
 ///
 /// `words` are the words of the command line without the program's name. The whole text is made before its first byte
-/// is written.
+/// is written. What a person is told of a run that went wrong goes to `told`: no clause says anything of it, and its
+/// faults change nothing.
 ///
 /// - `answer`: whatever the store, the sink and the files do, an answer to the words is written, and each refusal has
 ///   its cause.
@@ -136,7 +170,13 @@ fn write_given<K: Sink>(out: &mut K, given: Result<Reply, NoValue>) -> Status
 ///   store that tells the bytes of the files. A store in memory tells them, that of the machine doesn't.
 /// - `contents` and `untouched`: no file's contents change, and words that need no file leave the store alone.
 /// - `memory`: memory may run out at any time, and then nothing is written. Nothing is said of which files were read.
-pub fn run<S: Shelf, K: Sink>(alloc: Global, words: &[String], shelf: &mut S, out: &mut K) -> Status
+pub fn run<S: Shelf, K: Sink, T: Sink>(
+    alloc: Global,
+    words: &[String],
+    shelf: &mut S,
+    out: &mut K,
+    told: &mut T,
+) -> Status
     ensures answer { Answered (run_of S.Shelf K.Sink words.now shelf.old shelf.new out.old out.new result) }
     ensures ends { EndsByWords (run_of S.Shelf K.Sink words.now shelf.old shelf.new out.old out.new result) }
     ensures validate { Validates (run_of S.Shelf K.Sink words.now shelf.old shelf.new out.old out.new result) }
@@ -152,10 +192,12 @@ pub fn run<S: Shelf, K: Sink>(alloc: Global, words: &[String], shelf: &mut S, ou
     ensures circle { WritesCircle (run_of S.Shelf K.Sink words.now shelf.old shelf.new out.old out.new result) }
     ensures make { Makes (run_of S.Shelf K.Sink words.now shelf.old shelf.new out.old out.new result) }
     ensures trial { Tries (run_of S.Shelf K.Sink words.now shelf.old shelf.new out.old out.new result) }
+    ensures help { Helps (run_of S.Shelf K.Sink words.now shelf.old shelf.new out.old out.new result) }
+    ensures version { TellsVersion (run_of S.Shelf K.Sink words.now shelf.old shelf.new out.old out.new result) }
     ensures contents { (n : List ℕ) → S.contents shelf.new n ≡ S.contents shelf.old n }
     ensures untouched { NeedsNoFile (reading (map string_bytes words.now)) → shelf.new ≡ shelf.old }
     ensures memory { result ≡ Status.Memory → Keeps (K.written out.old) (K.written out.new) }
 {
     let given = answer(alloc, words, shelf);
-    write_given(out, given)
+    write_given(out, told, given)
 }

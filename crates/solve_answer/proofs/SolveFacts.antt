@@ -31,7 +31,7 @@ use Rattle.season_check.specs.Excluded.{NoneAccepted}
 use Rattle.season_check.proofs.SeasonLemmas.{accepted_logs_exclude}
 use Rattle.check_answer.specs.Check.{most_terms}
 use Rattle.check_answer.proofs.CheckFacts.{good_steps, homeless, league_file, never, nowhere}
-use Rattle.moves.specs.declared.swap.Swap.TheVariants.{HomeSwap, RoundSwap, PartTeamSwap}
+use Rattle.moves.specs.declared.swap.Swap.TheVariants.{HomeSwap, RoundSwap, TeamSwap, PartRoundSwap, PartTeamSwap}
 use Rattle.descent.specs.Descended.{Descended}
 use Rattle.solve_answer.specs.Solve.{IsFound, IsWellFormedInstance, descent_text, move_line, solved}
 use Rattle.solve_answer.proofs.AnswerLemmas.{solved-well_formed}
@@ -67,8 +67,8 @@ small-homeless = omega (arith, size-homeless)
 abbrev store : Store
 store = record { contents = contents; took_more = never; failed = nowhere }
 
-nothing_fails : {names : List (List ℕ)} → NoneFails store names
-nothing_fails = λ place name within fails. fails
+nothing_fails : (names : List (List ℕ)) → NoneFails store names
+nothing_fails names = λ place name within fails. fails
 
 homeless-formed : IsWellFormedInstance store (codes "homeless") homeless
 homeless-formed = record { bytes = league_file; known = refl; within = omega arith; says_league = says-homeless; small = small-homeless }
@@ -89,7 +89,7 @@ none = accepted_logs_exclude homeless good_steps homeless-instance homeless-verd
 -- whatever the budget, no schedule is the answer to `solve homeless`
 pub solve-no_schedule : (budgets : Budgets) (answer : Answer) → solved store (codes "homeless") budgets answer → answer.status ≡ Yes → ⊥
 solve-no_schedule budgets answer given ended =
-    let told : IsFound homeless budgets (rows_of homeless) answer = solved-well_formed store (codes "homeless") budgets homeless answer homeless-formed nothing_fails given in
+    let told : IsFound homeless budgets (rows_of homeless) answer = solved-well_formed store (codes "homeless") budgets homeless answer homeless-formed (nothing_fails (codes "homeless" ∷ [])) given in
     elim told.found [
       | inl schedule ↦ none schedule.games schedule.accepted
       | inr (inl refuted) ↦ let same : Refuted ≡ Yes = sym refuted.status ∙ ended in cc
@@ -102,7 +102,7 @@ unlimited = record { conflicts = None; moves = 0; tries = 1; patterns = 0; seed 
 -- and without a budget it is refuted
 pub solve-refuted : (answer : Answer) → solved store (codes "homeless") unlimited answer → answer.status ≡ Refuted
 solve-refuted answer given =
-    let told : IsFound homeless unlimited (rows_of homeless) answer = solved-well_formed store (codes "homeless") unlimited homeless answer homeless-formed nothing_fails given in
+    let told : IsFound homeless unlimited (rows_of homeless) answer = solved-well_formed store (codes "homeless") unlimited homeless answer homeless-formed (nothing_fails (codes "homeless" ∷ [])) given in
     elim told.found [
       | inl schedule ↦ absurd (none schedule.games schedule.accepted)
       | inr (inl refuted) ↦ refuted.status
@@ -129,7 +129,7 @@ circle-accepted = record { round_robin = IsRoundRobin-double_games 2 two; hard =
 
 -- whatever the budget, a schedule is the answer to `solve plain`, since its league accepts that of the circle method
 pub solve-circle : (budgets : Budgets) (answer : Answer) → solved store (codes "plain") budgets answer → answer.status ≡ Yes
-solve-circle budgets answer given = (solved-well_formed store (codes "plain") budgets plain answer plain-formed nothing_fails given).circle circle-accepted
+solve-circle budgets answer given = (solved-well_formed store (codes "plain") budgets plain answer plain-formed (nothing_fails (codes "plain" ∷ [])) given).circle circle-accepted
 
 -- ---- texts
 

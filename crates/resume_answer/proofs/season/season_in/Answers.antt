@@ -48,7 +48,7 @@ returns-in_err-slots-clause-season g c =
     let is_first : IsFile (store.contents c.args.instance.now) INSTANCE_LIMIT c.deref.result.now =
     subst (λ (bytes : List ℕ). IsFile (store.contents c.args.instance.now) INSTANCE_LIMIT bytes) (sym c.deref.ensures.value)
     c.in_ok-first.ensures.stage in
-    stage-wider (IsSaid store c.args.instance.now c.args.solution.now c.args.k)
+    stage-wider (IsSaid store.contents c.args.instance.now c.args.solution.now c.args.k)
     (has_slots c.in_ok-league.league c.args.k
     (λ slots. has_size c.in_ok-league.league c.args.k (λ size answer. ⊥)))
     _
@@ -64,7 +64,7 @@ returns-in_err-second-clause-season g c =
     let is_first : IsFile (store.contents c.args.instance.now) INSTANCE_LIMIT c.deref.result.now =
     subst (λ (bytes : List ℕ). IsFile (store.contents c.args.instance.now) INSTANCE_LIMIT bytes) (sym c.deref.ensures.value)
     c.in_ok-first.ensures.stage in
-    stage-wider (IsSaid store c.args.instance.now c.args.solution.now c.args.k)
+    stage-wider (IsSaid store.contents c.args.instance.now c.args.solution.now c.args.k)
     (λ answer. IsUnread (codes "solution") (store.contents c.args.solution.now) SOLUTION_LIMIT
     (store.took_more (length c.deref.result.now + SOLUTION_LIMIT)) (store.failed c.args.solution.now) answer)
     _
@@ -86,7 +86,7 @@ returns-in_err-played-clause-season g c =
     (sym c.deref-2.ensures.value)
     (subst (λ (known : Option (List ℕ)). IsFile known SOLUTION_LIMIT c.in_ok-second.second.items)
     (c.in_ok-first.ensures.contents c.args.solution.now) c.in_ok-second.ensures.stage) in
-    stage-wider (IsSaid store c.args.instance.now c.args.solution.now c.args.k)
+    stage-wider (IsSaid store.contents c.args.instance.now c.args.solution.now c.args.k)
     (IsMalformed (codes "solution") (solution_of c.in_ok-league.league.n (pieces c.deref-2.result.now))) _
     (plays-second_malformed store c.args.instance.now c.args.solution.now c.args.k never
     c.deref.result.now c.deref-2.result.now c.in_ok-league.league is_first c.in_ok-league.ensures

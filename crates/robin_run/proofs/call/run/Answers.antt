@@ -3,7 +3,7 @@ use Rattle.robin_run.proofs.BoundLemmas.{bounds, proves}
 use Rattle.robin_run.proofs.CheckLemmas.{checks}
 use Rattle.robin_run.proofs.EndLemmas.{ends-by-words}
 use Rattle.robin_run.proofs.ExplainLemmas.{explains, parts}
-use Rattle.robin_run.proofs.MadeLemmas.{makes, tries, writes-circle}
+use Rattle.robin_run.proofs.MadeLemmas.{helps, makes, tells-version, tries, writes-circle}
 use Rattle.robin_run.proofs.PatternLemmas.{finds-patterns}
 use Rattle.robin_run.proofs.ResumeLemmas.{audits, resumes}
 use Rattle.robin_run.proofs.RunLemmas.{answered-by, kept-by}
@@ -79,6 +79,16 @@ returns-clause-make g c =
 pub returns-clause-trial : goal.returns-clause-trial
 returns-clause-trial g c =
     tries _ (answered-by (run_of g.S.Shelf g.K.Sink c.args.words.now c.args.shelf.now c.answer.new.shelf c.args.out.now
+    c.write_given.new.out c.write_given.result) c.answer.result c.answer.ensures.answer c.write_given.ensures)
+
+pub returns-clause-help : goal.returns-clause-help
+returns-clause-help g c =
+    helps _ (answered-by (run_of g.S.Shelf g.K.Sink c.args.words.now c.args.shelf.now c.answer.new.shelf c.args.out.now
+    c.write_given.new.out c.write_given.result) c.answer.result c.answer.ensures.answer c.write_given.ensures)
+
+pub returns-clause-version : goal.returns-clause-version
+returns-clause-version g c =
+    tells-version _ (answered-by (run_of g.S.Shelf g.K.Sink c.args.words.now c.args.shelf.now c.answer.new.shelf c.args.out.now
     c.write_given.new.out c.write_given.result) c.answer.result c.answer.ensures.answer c.write_given.ensures)
 
 pub returns-clause-answer : goal.returns-clause-answer
