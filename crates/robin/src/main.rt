@@ -14,12 +14,6 @@ const NO_ARGUMENTS: u8 = 10;
 /// What is said on standard error where the words can't be had.
 const UNREAD_WORDS: &str = "robin: the words can't be read: a word that isn't UTF-8, say\n";
 
-/// What is said there where the text couldn't be written whole.
-const UNWRITTEN: &str = "robin: the answer can't be written whole; what was written may be cut short\n";
-
-/// What is said there where memory ran out.
-const NO_MEMORY: &str = "robin: memory ran out, and nothing is written\n";
-
 /// The exit status where the words can't be had.
 fn without_words(error: &io::Error) -> u8 {
     if error.kind() == io::ErrorKind::OutOfMemory {
@@ -43,30 +37,20 @@ fn words_of(rt: &HostRuntime) -> Result<Vec<String>, u8> {
     Ok(words)
 }
 
-/// Says something on standard error. The status says it too, so it doesn't matter whether this is written.
-fn say(rt: &HostRuntime, words: &str) {
-    let _ = eprint!(rt; "{words}");
-}
-
-/// Runs the command over the machine's files, its standard output and its standard error, and says how the run ends.
+/// Runs the command over the machine's files, its standard output and its standard error, and gives the exit status.
 fn status_of(rt: &HostRuntime, words: &[String]) -> u8 {
     let mut shelf = HostShelf::new(rt);
     let mut out = HostSink::new(io::writer(rt));
     let mut told = HostSink::new(rt.stderr());
-    let status = run(rt.alloc(), words, &mut shelf, &mut out, &mut told);
-    match status {
-        Status::WriteFault => say(rt, UNWRITTEN),
-        Status::Memory => say(rt, NO_MEMORY),
-        _ => {}
-    }
-    code(status)
+    code(run(rt.alloc(), words, &mut shelf, &mut out, &mut told))
 }
 
 fn main(rt: HostRuntime) -> ExitCode {
     match words_of(&rt) {
         Ok(words) => ExitCode::from(status_of(&rt, &words)),
         Err(status) => {
-            say(&rt, UNREAD_WORDS);
+            // The status says it too, so it doesn't matter whether this is written.
+            let _ = eprint!(rt; "{UNREAD_WORDS}");
             ExitCode::from(status)
         }
     }
