@@ -67,7 +67,8 @@ fn status_on_machine(
     let words = words_of(rt.alloc(), line)?;
     let mut shelf = HostShelf::new(rt);
     let mut out = HostSink::new(io::writer(rt));
-    Ok(code(run(rt.alloc(), &words, &mut shelf, &mut out)))
+    let mut told = MemSink::new(rt.alloc(), 4096, 4096)?;
+    Ok(code(run(rt.alloc(), &words, &mut shelf, &mut out, &mut told)))
 }
 
 /// A store of an instance and a solution.
@@ -99,7 +100,9 @@ fn status_of(
     out: &mut MemSink,
 ) -> Result<u8, AllocError> {
     let words = words_of(alloc, line)?;
-    Ok(code(run(alloc, &words, shelf, out)))
+    // There is no room for what a person is told, which changes nothing.
+    let mut told = MemSink::new(alloc, 0, 1)?;
+    Ok(code(run(alloc, &words, shelf, out, &mut told)))
 }
 
 /// Runs the command of a line over an instance and a solution in memory, and gives what it wrote and how it ended.

@@ -53,7 +53,8 @@ fn run_over(
     shelf.add("instance.xml", instance)?;
     shelf.add("second", second)?;
     let mut out = MemSink::new(alloc, 1_000_000, 4096)?;
-    let status = code(run(alloc, &words, &mut shelf, &mut out));
+    let mut told = MemSink::new(alloc, 0, 1)?;
+    let status = code(run(alloc, &words, &mut shelf, &mut out, &mut told));
     let text = out.written().to_vec(alloc)?;
     Ok(Ran { text, status })
 }
