@@ -157,8 +157,9 @@ fn say_more(
     match kind {
         FormKind::MissingAttribute => match unseen_attribute(line) {
             Some(name) => {
-                advice.say(": ")?;
-                advice.say(name)
+                advice.say(": no `")?;
+                advice.say(name)?;
+                advice.say("=` is seen in this line")
             }
             None => Ok(()),
         },
@@ -167,10 +168,14 @@ fn say_more(
         }
         FormKind::WrongCounts => say_teams(advice, team_tags(bytes)),
         FormKind::BadNesting if which == "instance" && is_season(bytes) => {
-            advice.say(": `<Solution` stands in this file, and no `<Instance`; the league comes first")
+            advice.say(
+                ": `<Solution` stands in this file, and no `<Instance`; the league comes first",
+            )
         }
         FormKind::BadNesting if which == "solution" && is_league(bytes) => {
-            advice.say(": `<Instance` stands in this file, and no `<Solution`; the season comes second")
+            advice.say(
+                ": `<Instance` stands in this file, and no `<Solution`; the season comes second",
+            )
         }
         _ => Ok(()),
     }
@@ -179,7 +184,9 @@ fn say_more(
 /// Says how often the tag of a team begins, and how many teams there may be.
 fn say_teams(advice: &mut Advice, tags: usize) -> Result<(), AllocError> {
     if tags % 2 == 0 {
-        return advice.say(": with n teams, their ids are 0 to n - 1, and those of slots 0 to 2n - 3");
+        return advice.say(
+            ": with n teams, their ids are 0 to n - 1, and those of slots 0 to 2n - 3",
+        );
     }
     advice.say(": `<team ` stands ")?;
     advice.count(tags as u64)?;
