@@ -1,11 +1,12 @@
 -- Two teams, whose slot 0 is played: 1 was at home to 0. The game of 0 at home to 1 is wanted in slot 1 by one league,
 -- in slot 0 by another. x(0,1,s) is 1 + s, x(1,0,s) 3 + s, h(0,s) 5 + s, h(1,s) 7 + s.
-use Rattle.std.proofs.Common.{◌≡◌, ℕ, zero, suc, ◌<◌, Bool, true, false, ◌&&◌, ◌==◌, List, [], ◌∷◌, IsTrue}
+use Rattle.std.proofs.Common.{◌≡◌, ℕ, zero, suc, ◌<◌, Bool, true, false, ◌&&◌, ◌==◌, List, [], ◌∷◌, map, IsTrue}
 use Rattle.std.proofs.Common.{drop, refl, arith, lit<, lit≤}
 use Rattle.std.specs.List.{All}
 use Rattle.league.specs.Counts.{counts_of}
 use Rattle.league.specs.Instance.{Instance, IsInstance, class_fits}
-use Rattle.league.specs.declared.class.Class.TheVariants.{Ga1}
+use Rattle.league.specs.declared.class.Class.TheVariants.{Ca1, Ga1}
+use Rattle.league.specs.declared.class.Side.TheVariants.{A}
 use Rattle.league.specs.declared.class.Constraint.{Constraint}
 use Rattle.league.specs.declared.game.Game.{Game}
 use Rattle.league.proofs.AcceptedLemmas.{MeetsHard-from_sum}
@@ -20,7 +21,7 @@ use Rattle.refutation.specs.Steps.Step.{Clause}
 use Rattle.refutation.specs.Verdict.{verdict_of}
 use Rattle.refutation.specs.declared.verdict.Verdict.TheVariants.{Accepted}
 use Rattle.refutation_check.proofs.SoundLemmas.{accepted_logs_refute}
-use Rattle.resume_rows.specs.Kept.{is_played, resume_rows}
+use Rattle.resume_rows.specs.Kept.{is_played, resume_rows, resume_size}
 use Rattle.resume_rows.specs.Resumable.{IsResumption, IsSatisfiable, NoneResumes}
 use Rattle.resume_rows.proofs.Faithful.{accepted_logs_exclude}
 
@@ -122,3 +123,15 @@ none_resumes = accepted_logs_exclude (wants 0) played 1 log wants_instance (lit�
 pub unsatisfiable : IsSatisfiable (resume_rows (wants 0) (counts_of played) 1) → ⊥
 unsatisfiable found =
     accepted_logs_refute (resume_rows (wants 0) (counts_of played) 1) (var_count (wants 0)) log refuted found.0 found.1
+
+-- ---- sizes: four teams, the first of which has no away game in slots 3 to 5; each played slot adds twelve terms
+
+abbrev home_games_last : Instance
+home_games_last = record {
+  n = 4;
+  phased = true;
+  constraints = record { hard = true; penalty = 1; class = Ca1 (0 ∷ []) 0 0 A (3 ∷ 4 ∷ 5 ∷ []) } ∷ [];
+}
+
+pub sizes : map (resume_size home_games_last) (0 ∷ 3 ∷ 6 ∷ []) ≡ 795 ∷ 831 ∷ 867 ∷ []
+sizes = refl
