@@ -1,4 +1,5 @@
 //! From a season down to the least objective of its league.
+use crate::session::replied;
 use answers::{Reply, Status};
 use bound_answer::bound_file;
 use memchr::memchr;
@@ -21,7 +22,7 @@ fn store(alloc: Global, instance: &[u8], second: &[u8]) -> Result<MemShelf, Allo
 /// What `prove` answers to a season, with no limit of conflicts.
 fn proved(alloc: Global, instance: &[u8], season: &[u8]) -> Result<Reply, AllocError> {
     let mut shelf = store(alloc, instance, season)?;
-    prove_file(alloc, &mut shelf, "instance", "second", None)
+    replied(prove_file(alloc, &mut shelf, "instance", "second", None))
 }
 
 /// What `prove` answers in the end, when each better season is given to it.
@@ -38,7 +39,7 @@ fn last_answer(alloc: Global, instance: &[u8], season: &[u8]) -> Result<Reply, A
 /// Whether `bound` accepts a certificate.
 fn is_accepted(alloc: Global, instance: &[u8], certificate: &[u8]) -> Result<bool, AllocError> {
     let mut shelf = store(alloc, instance, certificate)?;
-    let reply = bound_file(alloc, &mut shelf, "instance", "second")?;
+    let reply = replied(bound_file(alloc, &mut shelf, "instance", "second"))?;
     Ok(reply.status == Status::Yes)
 }
 

@@ -1,10 +1,20 @@
 //! Commands over the files of the machine.
-use answers::{Reply, code};
+use answers::{NoValue, Reply, code};
 use bound_answer::bound_file;
 use prove_answer::prove_file;
 use robin_io::{HostShelf, HostSink, put_all};
+use std::alloc::AllocError;
 use std::io;
 use std::rt::Files;
+
+/// The reply of a command, also where it refuses.
+pub fn replied(given: Result<Reply, NoValue>) -> Result<Reply, AllocError> {
+    match given {
+        Ok(reply) => Ok(reply),
+        Err(NoValue::Refused(refusal)) => Ok(refusal.reply),
+        Err(NoValue::Memory) => Err(AllocError),
+    }
+}
 
 /// Runs the command of a line, or writes a title.
 pub fn run_line(rt: &(impl AllocGlobal + Files + Print), line: &str) -> io::Result<()> {
@@ -14,12 +24,12 @@ pub fn run_line(rt: &(impl AllocGlobal + Files + Print), line: &str) -> io::Resu
         (Some("prove"), Some(instance), Some(solution), Some(conflicts)) => {
             let mut shelf = HostShelf::new(rt);
             let budget = conflicts.parse::<u64>().ok();
-            let reply = prove_file(rt.alloc(), &mut shelf, instance, solution, budget)?;
+            let reply = replied(prove_file(rt.alloc(), &mut shelf, instance, solution, budget))?;
             tell(rt, &reply)
         }
         (Some("bound"), Some(instance), Some(log), None) => {
             let mut shelf = HostShelf::new(rt);
-            let reply = bound_file(rt.alloc(), &mut shelf, instance, log)?;
+            let reply = replied(bound_file(rt.alloc(), &mut shelf, instance, log))?;
             tell(rt, &reply)
         }
         _ => Ok(()),

@@ -1,5 +1,5 @@
 //! What the commands write.
-use answers::{Reply, code};
+use answers::{NoValue, Reply, code};
 use anyhow::{Result, anyhow, ensure};
 use explain_answer::{explain_file, part_file};
 use parts::is_ascending;
@@ -7,11 +7,20 @@ use robin_io::{HostSink, MemShelf, put_all};
 use std::alloc::{AllocError, Global};
 use std::io;
 
+/// The reply of a command, also where it refuses.
+fn replied(given: Result<Reply, NoValue>) -> Result<Reply, AllocError> {
+    match given {
+        Ok(reply) => Ok(reply),
+        Err(NoValue::Refused(refusal)) => Ok(refusal.reply),
+        Err(NoValue::Memory) => Err(AllocError),
+    }
+}
+
 /// Shows what `part` writes over the bytes of an instance file.
 pub fn show_parted(rt: &(impl AllocGlobal + Print), bytes: &[u8], members: &[u32]) -> Result<()> {
     ensure!(is_ascending(members), "the numbers don't ascend");
     let mut shelf = shelf_of(rt.alloc(), bytes)?;
-    let reply = part_file(rt.alloc(), &mut shelf, "instance.xml", members)?;
+    let reply = replied(part_file(rt.alloc(), &mut shelf, "instance.xml", members))?;
     show_reply(rt, &reply)
 }
 
@@ -22,7 +31,7 @@ pub fn show_conflict(
     conflicts: Option<u64>,
 ) -> Result<()> {
     let mut shelf = shelf_of(rt.alloc(), bytes)?;
-    let reply = explain_file(rt.alloc(), &mut shelf, "instance.xml", conflicts)?;
+    let reply = replied(explain_file(rt.alloc(), &mut shelf, "instance.xml", conflicts))?;
     show_reply(rt, &reply)
 }
 

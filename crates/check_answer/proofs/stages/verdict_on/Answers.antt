@@ -11,5 +11,5 @@ returns-in_ok-verdict_reply-in-Ok c = λ rows vars bytes checked.
 pub returns-in_ok-log_refused-in-Err-Form : goal.returns-in_ok-log_refused-in-Err-Form
 returns-in_ok-log_refused-in-Err-Form c = λ rows vars bytes checked.
     faulty-log rows vars bytes c.args.feed c.args.checker.now c.args.steps c.in-Err-Form.kind c.in-Err-Form.line
-    (answer_of c.in_ok-log_refused-in-Err-Form.field-0) checked (rw c.in-Err-Form.field-0-is at c.in-Err-Form.ensures)
+    (answer_of c.in_ok-log_refused-in-Err-Form.field-0.reply) checked (rw c.in-Err-Form.field-0-is at c.in-Err-Form.ensures)
     c.in_ok-log_refused-in-Err-Form.ensures
