@@ -1,12 +1,9 @@
 -- The stages of a run in their order, each of which goes on or gives the answer.
-use Rattle.std.specs.Prelude.{◌≡◌, ℕ, ◌+◌, ◌<◌, ◌≤◌, ◌⊎◌, List, length, Option, Some, IfSome, Result, Ok, Err}
+use Rattle.std.specs.Prelude.{◌≡◌, ℕ, ◌+◌, ◌<◌, ◌≤◌, ◌⊎◌, List, length, Option, IfSome, Result, Ok, Err}
 use Rattle.std.specs.Io.KnownBytes.{Appends}
 use Rattle.std.specs.List.{All}
 use Rattle.robin_io.specs.Outside.{Output, Store}
 use Rattle.robin_io.specs.Written.{AppendsPrefix}
-use Rattle.league.specs.Instance.{Instance}
-use Rattle.robinx_tags.specs.Pieces.{pieces}
-use Rattle.robinx_form.specs.InstanceFile.{instance_of}
 use Rattle.robinx_form.specs.Walk.{Fault}
 use Rattle.answers.specs.Reply.{Answer, read_fault, too_long, malformed}
 use Rattle.answers.specs.declared.status.Status.{Status}
@@ -55,14 +52,6 @@ IsWritten answer status output =
     ((status ≡ answer.status) × Appends output.before output.after answer.text)
     ⊎ ((status ≡ WriteFault) × output.failed × AppendsPrefix output.before output.after answer.text)
 
--- ---- files whose bytes are known
-
 -- the store fails at none of these files
 abbrev pub NoneFails : Store → List (List ℕ) → Type 0
 NoneFails store names = All (λ name. store.failed name → ⊥) names
-
--- the bytes of this file are known, and say a league
-pub record SaysLeague (store : Store) (instance : List ℕ) (league : Instance) : Type 0 where
-  pub bytes : List ℕ
-  pub known : store.contents instance ≡ Some bytes
-  pub says_league : instance_of (pieces bytes) ≡ Ok league

@@ -4,11 +4,11 @@ use Rattle.std.specs.Io.KnownBytes.{Appends}
 use Rattle.robin_io.specs.Outside.{Output}
 use Rattle.league.specs.Instance.{Instance}
 use Rattle.command_line.specs.Words.Command as command
-use Rattle.answers.specs.Stages.{SaysLeague}
 use Rattle.answers.specs.declared.status.Status.TheVariants.{Yes}
 use Rattle.bound_laws.specs.Faithful.{IsLowerBound}
 use Rattle.bound_answer.specs.Bound.{IsBoundVerdict, IsWellFormedCertificate}
 use Rattle.certificates.specs.declared.certificate.Certificate.{Certificate}
+use Rattle.robin_run.specs.Said.{SaysLeague}
 use Rattle.robin_run.specs.Run.{NothingFails, Run, Writes}
 
 -- the line that is written states a bound, and each accepted schedule has an objective of at least this

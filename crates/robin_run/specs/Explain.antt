@@ -8,13 +8,13 @@ use Rattle.league.specs.Instance.{Instance}
 use Rattle.league.specs.Sets.{IsAscending}
 use Rattle.parts.specs.Parts.{is_hard_number, part_of}
 use Rattle.command_line.specs.Words.Command as command
-use Rattle.answers.specs.Stages.{SaysLeague}
 use Rattle.answers.specs.declared.status.Status.TheVariants.{Refuted}
 use Rattle.season_check.specs.Excluded.{NoneAccepted}
 use Rattle.solve_answer.specs.Solve.{IsWellFormedInstance}
 use Rattle.explain.specs.Conflicts.{IsIrreducible}
 use Rattle.explain_answer.specs.Explained.{IsFound}
 use Rattle.explain_answer.specs.Texts.{members_line}
+use Rattle.robin_run.specs.Said.{SaysLeague}
 use Rattle.robin_run.specs.Run.{NothingFails, Run, Writes}
 
 -- The first line that is written has the numbers of some hard constraints, and the league of these alone accepts no

@@ -4,6 +4,7 @@
 pub mod Answer
 pub mod Ends
 pub mod Run
+pub mod Said
 -- What each command promises, and what its answers mean:
 pub mod Validate
 pub mod Check

@@ -3,8 +3,8 @@ use Rattle.std.specs.Prelude.{◌≡◌, ℕ, ◌≤◌, List, [], ◌∷◌, le
 use Rattle.league.specs.Instance.{Instance}
 use Rattle.robinx_read.specs.declared.instance.TheConstants.{INSTANCE_LIMIT}
 use Rattle.command_line.specs.Words.Command as command
-use Rattle.answers.specs.Stages.{SaysLeague}
 use Rattle.explain_answer.specs.Parted.{IsPart}
+use Rattle.robin_run.specs.Said.{SaysLeague}
 use Rattle.robin_run.specs.Run.{NothingFails, Run, Writes}
 
 pub record Promise (run : Run) (instance members : List ℕ) : Type 0 where

@@ -2,11 +2,11 @@
 use Rattle.std.specs.Prelude.{◌≡◌, ℕ, List, [], ◌∷◌, Option, Some}
 use Rattle.league.specs.Instance.{Instance}
 use Rattle.command_line.specs.Words.Command as command
-use Rattle.answers.specs.Stages.{SaysLeague}
 use Rattle.answers.specs.declared.status.Status.TheVariants.{Refuted}
 use Rattle.season_check.specs.Excluded.{NoneAccepted}
 use Rattle.solve_answer.specs.Solve.{IsWellFormedInstance}
 use Rattle.patterns_answer.specs.Patterns.{AreFound}
+use Rattle.robin_run.specs.Said.{SaysLeague}
 use Rattle.robin_run.specs.Run.{NothingFails, Run, Writes}
 
 pub record Promise (run : Run) (instance : List ℕ) (conflicts : Option ℕ) : Type 0 where

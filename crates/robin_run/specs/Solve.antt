@@ -3,11 +3,11 @@ use Rattle.std.specs.Prelude.{◌≡◌, ℕ, List, [], ◌∷◌, Some}
 use Rattle.league.specs.Instance.{Instance}
 use Rattle.budgets.specs.declared.budgets.Budgets.{Budgets}
 use Rattle.command_line.specs.Words.Command as command
-use Rattle.answers.specs.Stages.{SaysLeague}
 use Rattle.answers.specs.declared.status.Status.TheVariants.{Refuted}
 use Rattle.encoding.specs.Encoding.{rows_of}
 use Rattle.season_check.specs.Excluded.{NoneAccepted}
 use Rattle.solve_answer.specs.Solve.{IsFound, IsWellFormedInstance}
+use Rattle.robin_run.specs.Said.{SaysLeague}
 use Rattle.robin_run.specs.Run.{NothingFails, Run, Writes}
 
 pub record Promise (run : Run) (instance : List ℕ) (budgets : Budgets) : Type 0 where
