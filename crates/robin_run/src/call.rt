@@ -99,7 +99,7 @@ fn follow<S: Shelf>(alloc: Global, command: Words, shelf: &mut S) -> Result<Repl
         } => audit_file(alloc, shelf, instance, solution, k, log),
         Words::Circle { n } => Ok(circle(alloc, n)?),
         Words::Make { n, seed } => Ok(make_league(alloc, n, seed)?),
-        Words::Trial { n, seed, budgets } => Ok(trial(alloc, n, seed, budgets)?),
+        Words::Trial { n, seed, budgets } => trial(alloc, n, seed, budgets),
         Words::Help { topic } => Ok(help(alloc, topic)?),
         Words::Version => Ok(version(alloc)?),
     }

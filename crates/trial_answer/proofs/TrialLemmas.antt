@@ -10,7 +10,8 @@ use Rattle.league.specs.declared.game.Game.{Game}
 use Rattle.circle_method.specs.Circle.{double_games}
 use Rattle.robinx_form.specs.Texts.{solution_text}
 use Rattle.answers.specs.Reply.{Answer}
-use Rattle.answers.specs.SeenReply.{answer_of}
+use Rattle.answers.specs.SeenReply.{Answers, answer_of}
+use Rattle.answers.specs.declared.reply.NoValue.{NoValue}
 use Rattle.answers.specs.declared.reply.Reply.{Reply}
 use Rattle.answers.specs.declared.status.Status.TheVariants.{Yes}
 use Rattle.descent.specs.Descended.{Descended}
@@ -74,11 +75,9 @@ accepts-own n seed league is accepts =
     subst (λ (k : ℕ). IsAccepted league (counts_of (double_games k))) (sym (ap (λ (l : Instance). l.n) is)) accepts
 
 -- what is found of it, said of its numbers
-pub replied-tried : {E : Type 0} (n seed : ℕ) (budgets : Budgets) (league : Instance) (result : Result Reply E)
+pub replied-tried : (n seed : ℕ) (budgets : Budgets) (league : Instance) (result : Result Reply NoValue)
     → league ≡ made_league n (seeded seed)
-    → IfOk result (λ reply. encodes league (λ rows. IsTrial league.n seed league budgets.moves) (answer_of reply))
-    → IfOk result (λ reply. tried n seed budgets (answer_of reply))
-replied-tried {E} n seed budgets league result is found =
-    subst
-    (λ (l : Instance). IfOk result (λ reply. encodes l (λ rows. IsTrial l.n seed l budgets.moves) (answer_of reply)))
-    is found
+    → Answers (encodes league (λ rows. IsTrial league.n seed league budgets.moves)) result
+    → Answers (tried n seed budgets) result
+replied-tried n seed budgets league result is found =
+    subst (λ (l : Instance). Answers (encodes l (λ rows. IsTrial l.n seed l budgets.moves)) result) is found

@@ -7,7 +7,7 @@ ghost use Rattle.league.specs.Counts.{counts_of};
 ghost use Rattle.league.specs.Instance.{IsGame, IsTeamCount};
 ghost use Rattle.circle_method.specs.Circle.{double_games};
 ghost use Rattle.robinx_form.specs.Texts as solutions;
-ghost use Rattle.answers.specs.SeenReply.{answer_of};
+ghost use Rattle.answers.specs.SeenReply.{answer_of, Answers};
 ghost use Rattle.answers.specs.declared.status.Status.TheVariants.{Yes};
 ghost use Rattle.check_answer.specs.Check.{encodes};
 ghost use Rattle.solve.specs.Solutions.{HasSchedule, IsSolution};
@@ -15,7 +15,7 @@ ghost use Rattle.solve_answer.specs.Solve.{descent_text};
 ghost use Rattle.trial_answer.specs.Trial.{IsTrial, found_lines, league_lines, tried};
 
 use crate::summary::{found_lines, league_lines};
-use answers::{Reply, Status, rows_refused};
+use answers::{NoValue, Reply, Status, rows_refused};
 use budgets::Budgets;
 use descent::Descent;
 use instance_gen::make;
@@ -28,30 +28,24 @@ use std::alloc::{AllocError, Global};
 /// lines say what came of it, and what `solve` writes comes behind them.
 ///
 /// # Errors
-/// Only where memory runs out: rows that are too many have a reply of their own.
-pub fn trial(alloc: Global, n: u16, seed: u64, budgets: Budgets) -> Result<Reply, AllocError>
+/// Where the rows of the league are too many, with the reply that says so, and where memory runs out.
+pub fn trial(alloc: Global, n: u16, seed: u64, budgets: Budgets) -> Result<Reply, NoValue>
     requires teams { IsTeamCount n }
-    ensures { IfOk result (λ reply. tried n seed budgets (answer_of reply)) }
+    ensures { Answers (tried n seed budgets) result }
 {
     let league = make(alloc, n, seed)?;
     solve_made(alloc, &league, seed, budgets)
 }
 
 /// A league that accepts the schedule of the circle method, solved.
-fn solve_made(
-    alloc: Global,
-    league: &League,
-    seed: u64,
-    budgets: Budgets,
-) -> Result<Reply, AllocError>
+fn solve_made(alloc: Global, league: &League, seed: u64, budgets: Budgets) -> Result<Reply, NoValue>
     requires circle { IsAccepted league.now (counts_of (double_games league.now.n)) }
-    ensures { IfOk result (λ reply.
-        encodes league.now (λ rows. IsTrial league.now.n seed league.now budgets.moves) (answer_of reply)) }
+    ensures { Answers (encodes league.now (λ rows. IsTrial league.now.n seed league.now budgets.moves)) result }
 {
     match solve(alloc, league, budgets) {
-        Ok(solved) => found_reply(alloc, league, seed, budgets, &solved),
-        Err(SolveFault::TooLarge { terms }) => rows_refused(alloc, terms),
-        Err(SolveFault::Mem) => Err(AllocError),
+        Ok(solved) => Ok(found_reply(alloc, league, seed, budgets, &solved)?),
+        Err(SolveFault::TooLarge { terms }) => Err(NoValue::Refused(rows_refused(alloc, terms)?)),
+        Err(SolveFault::Mem) => Err(NoValue::Memory),
     }
 }
 

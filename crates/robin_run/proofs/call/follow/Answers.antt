@@ -9,8 +9,8 @@ returns-in-Check-clause-answer g c = rw c.in-Check.is c.check.ensures.answer
 pub returns-in-Solve-clause-answer : goal.returns-in-Solve-clause-answer
 returns-in-Solve-clause-answer g c = rw c.in-Solve.is c.solve_file.ensures.answer
 
-pub returns-in-Make-clause-answer : goal.returns-in-Make-clause-answer
-returns-in-Make-clause-answer g c = rw c.in-Make.is c.make_league.ensures
+pub returns-in_ok-make_league-in-Make-clause-answer : goal.returns-in_ok-make_league-in-Make-clause-answer
+returns-in_ok-make_league-in-Make-clause-answer g c = rw c.in-Make.is c.in_ok-make_league-in-Make.ensures
 
 pub returns-in-Patterns-clause-answer : goal.returns-in-Patterns-clause-answer
 returns-in-Patterns-clause-answer g c = rw c.in-Patterns.is c.patterns_file.ensures.answer
