@@ -3,7 +3,7 @@ use Rattle.std.specs.Prelude.{◌≡◌, ℕ, List, [], ◌∷◌, Some}
 use Rattle.league.specs.Counts.{counts_of}
 use Rattle.league.specs.Instance.{Instance}
 use Rattle.league.specs.declared.game.Game.{Game}
-use Rattle.command_line.specs.Words.Command as command
+use Rattle.command_line.specs.Words.{Command}
 use Rattle.answers.specs.declared.status.Status.TheVariants.{Yes}
 use Rattle.refutation.specs.Steps.{Step}
 use Rattle.resume_rows.specs.Resumable.{NoneResumes}
@@ -27,5 +27,5 @@ pub record Promise (run : Run) (instance solution : List ℕ) (k : ℕ) (log : L
 abbrev pub Audits : Run → Type 0
 Audits run =
     (instance solution : List ℕ) (k : ℕ) (log : List ℕ)
-    → run.command ≡ Some (command.Audit instance solution k log)
+    → run.command ≡ Some (Command.Audit instance solution k log)
     → Promise run instance solution k log

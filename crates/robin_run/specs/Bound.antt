@@ -3,7 +3,7 @@ use Rattle.std.specs.Prelude.{◌≡◌, ℕ, List, [], ◌∷◌, ◌++◌, cod
 use Rattle.std.specs.Io.KnownBytes.{Appends}
 use Rattle.robin_io.specs.Outside.{Output}
 use Rattle.league.specs.Instance.{Instance}
-use Rattle.command_line.specs.Words.Command as command
+use Rattle.command_line.specs.Words.{Command}
 use Rattle.answers.specs.declared.status.Status.TheVariants.{Yes}
 use Rattle.bound_laws.specs.Faithful.{IsLowerBound}
 use Rattle.bound_answer.specs.Bound.{IsBoundVerdict, IsWellFormedCertificate}
@@ -33,4 +33,4 @@ pub record Promise (run : Run) (instance log : List ℕ) : Type 0 where
 
 -- each run of `bound` keeps it
 abbrev pub Bounds : Run → Type 0
-Bounds run = (instance log : List ℕ) → run.command ≡ Some (command.Bound instance log) → Promise run instance log
+Bounds run = (instance log : List ℕ) → run.command ≡ Some (Command.Bound instance log) → Promise run instance log

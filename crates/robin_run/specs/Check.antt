@@ -1,7 +1,7 @@
 -- What `check` promises: the log of one file gets its verdict over the rows of the league of the other.
 use Rattle.std.specs.Prelude.{◌≡◌, ℕ, List, [], ◌∷◌, Some}
 use Rattle.league.specs.Instance.{Instance}
-use Rattle.command_line.specs.Words.Command as command
+use Rattle.command_line.specs.Words.{Command}
 use Rattle.answers.specs.declared.status.Status.TheVariants.{Yes}
 use Rattle.encoding.specs.Encoding.{rows_of}
 use Rattle.refutation.specs.Steps.{Step}
@@ -24,4 +24,4 @@ pub record Promise (run : Run) (instance log : List ℕ) : Type 0 where
 
 -- each run of `check` keeps it
 abbrev pub Checks : Run → Type 0
-Checks run = (instance log : List ℕ) → run.command ≡ Some (command.Check instance log) → Promise run instance log
+Checks run = (instance log : List ℕ) → run.command ≡ Some (Command.Check instance log) → Promise run instance log

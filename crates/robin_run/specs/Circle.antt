@@ -1,6 +1,6 @@
 -- What `circle` promises: the season of the circle method.
 use Rattle.std.specs.Prelude.{◌≡◌, ℕ, [], Some}
-use Rattle.command_line.specs.Words.Command as command
+use Rattle.command_line.specs.Words.{Command}
 use Rattle.circle_answer.specs.Circle.{circle_season}
 use Rattle.robin_run.specs.Run.{NothingFails, Run, Writes}
 
@@ -10,4 +10,4 @@ pub record Promise (run : Run) (n : ℕ) : Type 0 where
 
 -- each run of `circle` keeps it
 abbrev pub WritesCircle : Run → Type 0
-WritesCircle run = (n : ℕ) → run.command ≡ Some (command.Circle n) → Promise run n
+WritesCircle run = (n : ℕ) → run.command ≡ Some (Command.Circle n) → Promise run n

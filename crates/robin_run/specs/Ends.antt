@@ -1,12 +1,14 @@
 -- How a run may end, where its text is written whole.
-use Rattle.std.specs.Prelude.{◌≢◌, ◌≡◌, Bool, ◌==◌, List, [], ◌∷◌, Option, None, Some}
+use Rattle.std.specs.Prelude.{true, ◌≢◌, ◌≡◌, Bool, ◌==◌, List, [], ◌∷◌, Option, None, Some}
 use Rattle.std.specs.List.{list_any}
 use Rattle.answers.specs.Status.{status_code}
 use Rattle.answers.specs.declared.status.Status.{Status}
 use Rattle.answers.specs.declared.status.Status.TheVariants.{Yes, No, Words, File, Refuted, Spent, ReadFault, Better}
+use Rattle.answers.specs.declared.status.Status.TheVariants.{Memory, WriteFault}
 use Rattle.command_line.specs.Words.{Command}
 use Rattle.command_line.specs.Words.Command.{Validate, Check, Solve, Patterns, Explain, Part, Prove, Bound, Resume}
 use Rattle.command_line.specs.Words.Command.{Audit, Circle, Make, Trial, Help, Version}
+use Rattle.robin_run.specs.Run.{Run}
 
 -- the ends that these words have
 abbrev pub ends_of : Option Command → List Status

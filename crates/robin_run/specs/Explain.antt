@@ -7,7 +7,7 @@ use Rattle.robin_io.specs.Outside.{Output}
 use Rattle.league.specs.Instance.{Instance}
 use Rattle.league.specs.Sets.{IsAscending}
 use Rattle.parts.specs.Parts.{is_hard_number, part_of}
-use Rattle.command_line.specs.Words.Command as command
+use Rattle.command_line.specs.Words.{Command}
 use Rattle.answers.specs.declared.status.Status.TheVariants.{Refuted}
 use Rattle.season_check.specs.Excluded.{NoneAccepted}
 use Rattle.solve_answer.specs.Solve.{IsWellFormedInstance}
@@ -45,5 +45,5 @@ pub record Promise (run : Run) (instance : List ℕ) (conflicts : Option ℕ) : 
 -- each run of `explain` keeps it
 abbrev pub Explains : Run → Type 0
 Explains run =
-    (instance : List ℕ) (conflicts : Option ℕ) → run.command ≡ Some (command.Explain instance conflicts)
+    (instance : List ℕ) (conflicts : Option ℕ) → run.command ≡ Some (Command.Explain instance conflicts)
     → Promise run instance conflicts

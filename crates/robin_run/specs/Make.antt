@@ -1,6 +1,6 @@
 -- What `make` promises: the league that a seed makes.
 use Rattle.std.specs.Prelude.{◌≡◌, ℕ, [], Some}
-use Rattle.command_line.specs.Words.Command as command
+use Rattle.command_line.specs.Words.{Command}
 use Rattle.make_answer.specs.MadeInstance.{IsMade}
 use Rattle.robin_run.specs.Run.{NothingFails, Run, Writes}
 
@@ -11,4 +11,4 @@ pub record Promise (run : Run) (n seed : ℕ) : Type 0 where
 
 -- each run of `make` keeps it
 abbrev pub Makes : Run → Type 0
-Makes run = (n seed : ℕ) → run.command ≡ Some (command.Make n seed) → Promise run n seed
+Makes run = (n seed : ℕ) → run.command ≡ Some (Command.Make n seed) → Promise run n seed

@@ -2,7 +2,7 @@
 use Rattle.std.specs.Prelude.{◌≡◌, ℕ, ◌≤◌, List, [], ◌∷◌, length, Some}
 use Rattle.league.specs.Instance.{Instance}
 use Rattle.robinx_read.specs.declared.instance.TheConstants.{INSTANCE_LIMIT}
-use Rattle.command_line.specs.Words.Command as command
+use Rattle.command_line.specs.Words.{Command}
 use Rattle.explain_answer.specs.Parted.{IsPart}
 use Rattle.robin_run.specs.Said.{SaysLeague}
 use Rattle.robin_run.specs.Run.{NothingFails, Run, Writes}
@@ -18,4 +18,4 @@ pub record Promise (run : Run) (instance members : List ℕ) : Type 0 where
 -- each run of `part` keeps it
 abbrev pub Parts : Run → Type 0
 Parts run =
-    (instance members : List ℕ) → run.command ≡ Some (command.Part instance members) → Promise run instance members
+    (instance members : List ℕ) → run.command ≡ Some (Command.Part instance members) → Promise run instance members

@@ -1,7 +1,7 @@
 -- What `patterns` promises: patterns that the pattern rows allow, a log that refutes these, or a budget that is spent.
 use Rattle.std.specs.Prelude.{◌≡◌, ℕ, List, [], ◌∷◌, Option, Some}
 use Rattle.league.specs.Instance.{Instance}
-use Rattle.command_line.specs.Words.Command as command
+use Rattle.command_line.specs.Words.{Command}
 use Rattle.answers.specs.declared.status.Status.TheVariants.{Refuted}
 use Rattle.season_check.specs.Excluded.{NoneAccepted}
 use Rattle.solve_answer.specs.Solve.{IsWellFormedInstance}
@@ -24,5 +24,5 @@ pub record Promise (run : Run) (instance : List ℕ) (conflicts : Option ℕ) : 
 -- each run of `patterns` keeps it
 abbrev pub FindsPatterns : Run → Type 0
 FindsPatterns run =
-    (instance : List ℕ) (conflicts : Option ℕ) → run.command ≡ Some (command.Patterns instance conflicts)
+    (instance : List ℕ) (conflicts : Option ℕ) → run.command ≡ Some (Command.Patterns instance conflicts)
     → Promise run instance conflicts

@@ -7,7 +7,7 @@ use Rattle.league.specs.Accepted.{IsAccepted, objective}
 use Rattle.league.specs.Counts.{counts_of}
 use Rattle.league.specs.Instance.{Instance, IsGame}
 use Rattle.league.specs.declared.game.Game.{Game}
-use Rattle.command_line.specs.Words.Command as command
+use Rattle.command_line.specs.Words.{Command}
 use Rattle.answers.specs.declared.status.Status.TheVariants.{Better, Yes}
 use Rattle.refutation.specs.Steps.{Step}
 use Rattle.refutation.specs.declared.verdict.Verdict.TheVariants.{Accepted}
@@ -56,5 +56,5 @@ pub record Promise (run : Run) (instance solution : List ℕ) (conflicts : Optio
 -- each run of `prove` keeps it
 abbrev pub Proves : Run → Type 0
 Proves run =
-    (instance solution : List ℕ) (conflicts : Option ℕ) → run.command ≡ Some (command.Prove instance solution conflicts)
+    (instance solution : List ℕ) (conflicts : Option ℕ) → run.command ≡ Some (Command.Prove instance solution conflicts)
     → Promise run instance solution conflicts

@@ -3,7 +3,7 @@ use Rattle.std.specs.Prelude.{◌≡◌, ℕ, List, [], ◌∷◌, Option, Some}
 use Rattle.league.specs.Counts.{counts_of}
 use Rattle.league.specs.Instance.{Instance}
 use Rattle.league.specs.declared.game.Game.{Game}
-use Rattle.command_line.specs.Words.Command as command
+use Rattle.command_line.specs.Words.{Command}
 use Rattle.answers.specs.declared.status.Status.TheVariants.{Refuted, Yes}
 use Rattle.resume_rows.specs.Resumable.{NoneResumes}
 use Rattle.resume_answer.specs.Resumed.{IsFound, IsKeptSeason}
@@ -31,5 +31,5 @@ pub record Promise (run : Run) (instance solution : List ℕ) (k : ℕ) (conflic
 abbrev pub Resumes : Run → Type 0
 Resumes run =
     (instance solution : List ℕ) (k : ℕ) (conflicts : Option ℕ)
-    → run.command ≡ Some (command.Resume instance solution k conflicts)
+    → run.command ≡ Some (Command.Resume instance solution k conflicts)
     → Promise run instance solution k conflicts

@@ -2,7 +2,7 @@
 use Rattle.std.specs.Prelude.{◌≡◌, ℕ, List, [], ◌∷◌, Some}
 use Rattle.league.specs.Instance.{Instance}
 use Rattle.budgets.specs.declared.budgets.Budgets.{Budgets}
-use Rattle.command_line.specs.Words.Command as command
+use Rattle.command_line.specs.Words.{Command}
 use Rattle.answers.specs.declared.status.Status.TheVariants.{Refuted}
 use Rattle.encoding.specs.Encoding.{rows_of}
 use Rattle.season_check.specs.Excluded.{NoneAccepted}
@@ -26,5 +26,5 @@ pub record Promise (run : Run) (instance : List ℕ) (budgets : Budgets) : Type 
 -- each run of `solve` keeps it
 abbrev pub Solves : Run → Type 0
 Solves run =
-    (instance : List ℕ) (budgets : Budgets) → run.command ≡ Some (command.Solve instance budgets)
+    (instance : List ℕ) (budgets : Budgets) → run.command ≡ Some (Command.Solve instance budgets)
     → Promise run instance budgets

@@ -1,7 +1,7 @@
 -- What `trial` promises: a season of a made league, with a summary.
 use Rattle.std.specs.Prelude.{◌≡◌, ◌≢◌, ℕ, ◌≤◌, [], Some}
 use Rattle.budgets.specs.declared.budgets.Budgets.{Budgets}
-use Rattle.command_line.specs.Words.Command as command
+use Rattle.command_line.specs.Words.{Command}
 use Rattle.answers.specs.declared.status.Status.TheVariants.{Refuted, Spent}
 use Rattle.encoding_base.specs.Encoding.{encoding_size}
 use Rattle.check_answer.specs.Check.{most_terms}
@@ -22,4 +22,4 @@ pub record Promise (run : Run) (n seed : ℕ) (budgets : Budgets) : Type 0 where
 -- each run of `trial` keeps it
 abbrev pub Tries : Run → Type 0
 Tries run =
-    (n seed : ℕ) (budgets : Budgets) → run.command ≡ Some (command.Trial n seed budgets) → Promise run n seed budgets
+    (n seed : ℕ) (budgets : Budgets) → run.command ≡ Some (Command.Trial n seed budgets) → Promise run n seed budgets

@@ -2,7 +2,7 @@
 use Rattle.std.specs.Prelude.{◌≡◌, ℕ, List, [], ◌∷◌, Some}
 use Rattle.league.specs.Instance.{Instance}
 use Rattle.league.specs.declared.game.Game.{Game}
-use Rattle.command_line.specs.Words.Command as command
+use Rattle.command_line.specs.Words.{Command}
 use Rattle.validate_answer.specs.Validate.{IsJudgement, IsWellFormedPair}
 use Rattle.robin_run.specs.Run.{NothingFails, Run, Writes}
 
@@ -16,5 +16,5 @@ pub record Promise (run : Run) (instance solution : List ℕ) : Type 0 where
 -- each run of `validate` keeps it
 abbrev pub Validates : Run → Type 0
 Validates run =
-    (instance solution : List ℕ) → run.command ≡ Some (command.Validate instance solution)
+    (instance solution : List ℕ) → run.command ≡ Some (Command.Validate instance solution)
     → Promise run instance solution
