@@ -9,6 +9,5 @@ mod BoundLemmas
 mod ResumeLemmas
 mod MadeLemmas
 mod EndLemmas
-mod FormerClauses
 -- Worked examples, so that a wrong definition does not check:
 mod RunFacts
