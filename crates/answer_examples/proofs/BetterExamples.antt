@@ -1,7 +1,7 @@
 -- An objective of nothing, one that is bettered, and logs that are spent, over the leagues of LeastExamples.
-use Rattle.std.proofs.Common.{◌≡◌, ℕ, zero, suc, ◌<◌, ◌≤◌, true, false}
+use Rattle.std.proofs.Common.{lit<, ◌≡◌, ℕ, zero, suc, ◌<◌, ◌≤◌, true, false}
 use Rattle.std.proofs.Common.{nat_lt, List, [], ◌∷◌, drop, length, All, Option, Some}
-use Rattle.std.proofs.Common.{None, IsTrue, ◌-◌, ◌++◌, if◌then◌else◌, map, ap, arith, lit<, refl}
+use Rattle.std.proofs.Common.{None, IsTrue, ◌-◌, ◌++◌, if◌then◌else◌, map, ap, arith, refl}
 use Rattle.std.proofs.Common.{subst}
 use Rattle.std.specs.Ordering.{is_le}
 use Rattle.std.proofs.lemmas.Bool.{ltb-true}

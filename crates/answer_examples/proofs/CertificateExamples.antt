@@ -1,9 +1,12 @@
 -- What `bound` says of certificates over the league that wants two teams even behind slot 0, and what runs of `prove`
 -- and of `bound` say.
-use Rattle.std.proofs.Common.{◌≡◌, ℕ, ◌+◌, ◌<◌, ◌≤◌, if◌then◌else◌, List, [], ◌∷◌, ◌++◌, get_or, Option}
+use Rattle.std.proofs.Common.{lit<, ◌≡◌, ℕ, ◌+◌, ◌<◌, ◌≤◌, if◌then◌else◌, List, [], ◌∷◌, ◌++◌, get_or, Option}
 use Rattle.std.proofs.Common.{drop, zero, suc, Some, None, Result, Ok, codes, bytes_eq, decimal, ap, arith, le_of_eq}
-use Rattle.std.proofs.Common.{lit<, refl, sym, ◌∙◌}
+use Rattle.std.proofs.Common.{refl, sym, ◌∙◌}
 use Rattle.std.specs.Fmt.{digits}
+use Rattle.answers.specs.Stages.{NoneFails}
+use Rattle.answer_examples.proofs.Runs.{ended_with, store_of, written_between}
+use Rattle.robin_run.specs.Run.{Writes}
 use Rattle.league.specs.Accepted.{objective}
 use Rattle.league.specs.Counts.{counts_of}
 use Rattle.league.specs.Instance.{Instance}
@@ -14,8 +17,9 @@ use Rattle.refutation.specs.declared.verdict.Cause.TheVariants.{NoConflict}
 use Rattle.refutation.specs.declared.verdict.Verdict.TheVariants.{Accepted, Rejected}
 use Rattle.certificates.specs.Certificates.{certificate_of, certificate_text}
 use Rattle.certificates.specs.declared.certificate.Certificate.{Certificate}
-use Rattle.bound_answer.specs.Bound.{IsBoundVerdict, IsBounded, IsWellFormedCertificate, bound_answer, bound_verdict}
-use Rattle.robin_run.specs.Bounds.{IsBettered, IsCertified, IsUnbettered}
+use Rattle.bound_answer.specs.Bound.{IsBoundVerdict, IsWellFormedCertificate, bound_answer, bound_verdict}
+use Rattle.robin_run.specs.Bound.{IsCertified}
+use Rattle.robin_run.specs.Prove.{IsBettered, IsUnbettered}
 use Rattle.answer_examples.proofs.LeastExamples.{away-one, away-zero, away_first, even-accepted, even_soon, log}
 use Rattle.answer_examples.proofs.LeastExamples.{lower_bound, one-fit, one_first, zero_first}
 use Rattle.answer_examples.proofs.ProveExamples.{better-written, better_file, certificate, certificate-proves}
@@ -103,7 +107,7 @@ contents name =
 abbrev never : List ℕ → Type 0
 never name = ⊥
 
-pub certificate-four : IsWellFormedCertificate contents never (codes "even") (codes "four") even_soon certificate
+pub certificate-four : IsWellFormedCertificate (store_of contents never) (codes "even") (codes "four") even_soon certificate
 certificate-four = record {
   first = league_file;
   second = certificate_file;
@@ -114,8 +118,6 @@ certificate-four = record {
   says_league = says-league;
   small = small-even;
   says_certificate = certificate-read;
-  first_works = λ failed. failed;
-  second_works = λ failed. failed;
 }
 
 -- no file of that name, and a store that failed
@@ -123,12 +125,11 @@ none_some : (bytes : List ℕ) → ◌≡◌ {A = Option (List ℕ)} None (Some 
 none_some bytes is = cc
 
 pub certificate-none : (league : Instance) (other : Certificate)
-    → IsWellFormedCertificate contents never (codes "even") (codes "five") league other → ⊥
+    → IsWellFormedCertificate (store_of contents never) (codes "even") (codes "five") league other → ⊥
 certificate-none league other is = none_some is.second is.second_known
 
-pub certificate-failed : (league : Instance) (other : Certificate)
-    → IsWellFormedCertificate contents (λ name. Unit {0}) (codes "even") (codes "four") league other → ⊥
-certificate-failed league other is = is.second_works tt
+pub certificate-failed : NoneFails (store_of contents (λ name. Unit {0})) (codes "even" ∷ codes "four" ∷ []) → ⊥
+certificate-failed works = works 1 [] (lit< tt) tt
 
 -- the file states 4
 known : (bytes : List ℕ) → Some certificate_file ≡ Some bytes → bytes ≡ certificate_file
@@ -138,7 +139,7 @@ stated : (one other : Certificate) → ◌≡◌ {A = Result Certificate Fault} 
 stated one other is = let same : one ≡ other = cc in ap (λ (c : Certificate). c.bound) same
 
 pub certificate-five : (league : Instance)
-    → IsWellFormedCertificate contents never (codes "even") (codes "four") league five → ⊥
+    → IsWellFormedCertificate (store_of contents never) (codes "even") (codes "four") league five → ⊥
 certificate-five league is =
     not_five 4 refl (
     let said : certificate_of certificate_file ≡ Ok five =
@@ -148,23 +149,23 @@ certificate-five league is =
 
 -- ---- runs of `bound`
 
-pub bounded-four : IsBounded even_soon certificate Yes (Some (codes "> ")) (Some (codes "> accepted bound 4 steps 2\n"))
-bounded-four = record { answer = accepted; verdict = verdict-four; status = refl; written = refl }
+pub bounded-four : Writes (ended_with Yes (Some (codes "> ")) (Some (codes "> accepted bound 4 steps 2\n"))) (IsBoundVerdict even_soon certificate)
+bounded-four = record { answer = accepted; of_kind = verdict-four; ended = refl; written = refl }
 
-pub bounded-five : IsBounded even_soon five No (Some []) (Some (codes "rejected step 1 cause NoConflict\n"))
-bounded-five = record { answer = rejected; verdict = verdict-five; status = refl; written = refl }
+pub bounded-five : Writes (ended_with No (Some []) (Some (codes "rejected step 1 cause NoConflict\n"))) (IsBoundVerdict even_soon five)
+bounded-five = record { answer = rejected; of_kind = verdict-five; ended = refl; written = refl }
 
 -- a run that says yes to 5 there is not, whatever it writes
-pub bounded-not_five : (old new : Option (List ℕ)) → IsBounded even_soon five Yes old new → ⊥
+pub bounded-not_five : (old new : Option (List ℕ)) → Writes (ended_with Yes old new) (IsBoundVerdict even_soon five) → ⊥
 bounded-not_five old new is =
-    not_five 4 refl (is.verdict.holds (sym is.status) (counts_of zero_first) even-accepted)
+    not_five 4 refl (is.of_kind.holds (sym is.ended) (counts_of zero_first) even-accepted)
 
 accepted-line : accepted_line
     ≡ codes "accepted bound " ++ (decimal 4 ++ (codes " steps " ++ (decimal 2 ++ codes "\n")))
 unfolding digits
 accepted-line = refl
 
-pub certified-four : IsCertified even_soon (Some []) (Some accepted_line)
+pub certified-four : IsCertified even_soon (written_between (Some []) (Some accepted_line))
 certified-four = record { bound = 4; steps = 2; least = lower_bound; written = accepted-line }
 
 -- and no other bound than one that holds: that stands at place 15, and is at most 4
@@ -180,7 +181,7 @@ digit (suc (suc (suc (suc (suc n))))) rest low = absurd (omega (arith, low))
 five_at : (n at : ℕ) → at ≡ 53 → at ≡ 48 + n → n ≤ 4 → ⊥
 five_at n at five is low = omega (arith, five, is, low)
 
-pub certified-five : IsCertified even_soon (Some []) (Some (codes "accepted bound 5 steps 2\n")) → ⊥
+pub certified-five : IsCertified even_soon (written_between (Some []) (Some (codes "accepted bound 5 steps 2\n"))) → ⊥
 certified-five is =
     let rest : List ℕ = codes " steps " ++ (decimal is.steps ++ codes "\n") in
     let low : is.bound ≤ 4 = is.least (counts_of zero_first) even-accepted in
@@ -190,14 +191,14 @@ certified-five is =
 no_line : (b : ℕ) (rest : List ℕ) → [] ≡ b ∷ rest → ⊥
 no_line b rest same = cc
 
-pub certified-nothing : IsCertified even_soon (Some []) (Some []) → ⊥
+pub certified-nothing : IsCertified even_soon (written_between (Some []) (Some [])) → ⊥
 certified-nothing is =
     no_line 97
     (codes "ccepted bound " ++ (decimal is.bound ++ (codes " steps " ++ (decimal is.steps ++ codes "\n")))) is.written
 
 -- ---- runs of `prove`
 
-pub unbettered-four : IsUnbettered even_soon zero_first (Some []) (Some certificate_file)
+pub unbettered-four : IsUnbettered even_soon zero_first (written_between (Some []) (Some certificate_file))
 unbettered-four = record {
   steps = log;
   accepted = even-accepted;
@@ -206,17 +207,17 @@ unbettered-four = record {
   written = certificate-written;
 }
 
-pub unbettered-nothing : IsUnbettered even_soon zero_first (Some []) (Some []) → ⊥
+pub unbettered-nothing : IsUnbettered even_soon zero_first (written_between (Some []) (Some [])) → ⊥
 unbettered-nothing is = no_line 98 (drop 1 (certificate_text 4 is.steps)) is.written
 
 -- team 0 at home first costs 3, where nothing need be paid
 none_below : (n : ℕ) → n ≡ 3 → n ≤ 0 → ⊥
 none_below n three none = omega (arith, three, none)
 
-pub unbettered-dear : (old new : Option (List ℕ)) → IsUnbettered away_first zero_first old new → ⊥
+pub unbettered-dear : (old new : Option (List ℕ)) → IsUnbettered away_first zero_first (written_between old new) → ⊥
 unbettered-dear old new is = none_below 3 refl (is.least (counts_of one_first) away-one)
 
-pub bettered-zero : IsBettered away_first zero_first (Some []) (Some better_file)
+pub bettered-zero : IsBettered away_first zero_first (written_between (Some []) (Some better_file))
 bettered-zero = record {
   better = one_first;
   accepted = away-zero;
@@ -229,5 +230,5 @@ bettered-zero = record {
 nothing_below : (n : ℕ) → n < 0 → ⊥
 nothing_below n less = omega (arith, less)
 
-pub bettered-none : (old new : Option (List ℕ)) → IsBettered away_first one_first old new → ⊥
+pub bettered-none : (old new : Option (List ℕ)) → IsBettered away_first one_first (written_between old new) → ⊥
 bettered-none old new is = nothing_below (objective away_first (counts_of is.better)) is.lower

@@ -1,14 +1,16 @@
 -- What `validate`, `solve` and `patterns` answer of leagues of two teams. x(0,1,s) is 1 + s, x(1,0,s) 3 + s, h(0,s) 5 + s,
 -- and h(1,s) 7 + s.
-use Rattle.std.proofs.Common.{◌≡◌, ℕ, zero, suc, ◌<◌, ◌≤◌, Bool, true, false, if◌then◌else◌, List, []}
+use Rattle.std.proofs.Common.{lit<, ◌≡◌, ℕ, zero, suc, ◌<◌, ◌≤◌, Bool, true, false, if◌then◌else◌, List, []}
 use Rattle.std.proofs.Common.{◌∷◌, ◌++◌, ◌==◌, length, Option, Some, None, Ok, IsSomeAnd, IsTrue, codes}
-use Rattle.std.proofs.Common.{nat_lt, All, arith, inl, inr, lit<, refl}
+use Rattle.std.proofs.Common.{nat_lt, All, arith, inl, inr, refl}
 use Rattle.std.proofs.Common.{sym, ◌∙◌}
 use Rattle.std.specs.Fmt.{digits}
 use Rattle.std.proofs.Math.Path.{fun_ext}
 use Rattle.std.proofs.lemmas.Bool.{ltb-true, ne_eqb}
 use Rattle.std.proofs.lemmas.Bool.Decides.{nat_tests}
 use Rattle.std.proofs.lemmas.List.Elements.{All-nil, All-from_recursion}
+use Rattle.answer_examples.proofs.Runs.{ended_with}
+use Rattle.robin_run.specs.Run.{Writes}
 use Rattle.robinx_tags.specs.Pieces.{pieces, pieces_from}
 use Rattle.robinx_tags.specs.Tags.{attributes_at}
 use Rattle.robinx_form.specs.SolutionFile.{solution_of}
@@ -27,7 +29,7 @@ use Rattle.patterns.specs.Pattern.{IsPattern}
 use Rattle.answers.specs.Reply.{Answer}
 use Rattle.answers.specs.declared.status.Status.TheVariants.{Yes, No, Refuted, Spent}
 use Rattle.report.specs.Report.{report_text}
-use Rattle.validate_answer.specs.Validate.{IsJudged, IsJudgement}
+use Rattle.validate_answer.specs.Validate.{IsJudgement}
 use Rattle.rows.specs.Literals.{Literal}
 use Rattle.rows.specs.Values.{assigned, valued}
 use Rattle.rows.specs.declared.partial.Value.{Value}
@@ -59,9 +61,9 @@ use Rattle.moves.specs.Moves.{moved}
 use Rattle.moves.specs.Neighbours.{home_swap}
 use Rattle.moves.specs.declared.swap.Swap.{Swap}
 use Rattle.solve.specs.Solutions.{IsDescent, league_score}
-use Rattle.solve_answer.specs.Solve.{IsBudgetSpent, IsFound, IsRefuted, IsSchedule, IsSolved, descent_text}
+use Rattle.solve_answer.specs.Solve.{IsBudgetSpent, IsFound, IsRefuted, IsSchedule, descent_text}
 use Rattle.patterns_answer.specs.Patterns as patterned
-use Rattle.patterns_answer.specs.Patterns.{ArePatterns, IsPatterned, patterns_text}
+use Rattle.patterns_answer.specs.Patterns.{AreFound, ArePatterns, patterns_text}
 use Rattle.answer_examples.proofs.LeastExamples.{away-one, away-zero, away_first, even-accepted, even_soon, one-fit}
 use Rattle.answer_examples.proofs.LeastExamples.{one-in_order, one_first, quiet_rows}
 use Rattle.answer_examples.proofs.BetterExamples.{settled-four, swap-lowers}
@@ -98,8 +100,8 @@ feasible_no false is status = cc
 pub judgement-no : (text : List ℕ) → IsJudgement even_soon zero_first (record { status = No; text = text }) → ⊥
 judgement-no text is = feasible_no is.feasible (is.accepted.1 even-accepted) is.status
 
-pub judged-zero : IsJudged even_soon zero_first Yes (Some (codes "> ")) (Some (codes "> " ++ judged.text))
-judged-zero = record { answer = judged; judgement = judgement-zero; status = refl; written = refl }
+pub judged-zero : Writes (ended_with Yes (Some (codes "> ")) (Some (codes "> " ++ judged.text))) (IsJudgement even_soon zero_first)
+judged-zero = record { answer = judged; of_kind = judgement-zero; ended = refl; written = refl }
 
 -- ---- `solve`: that season is settled, since every one costs as much
 
@@ -164,8 +166,8 @@ found-zero = record {
   crowded = λ crowded. absurd (false_true crowded);
 }
 
-pub solved-zero : IsSolved even_soon budgets Yes (Some []) (Some found.text)
-solved-zero = record { answer = found; found = found-zero; status = refl; written = refl }
+pub solved-zero : Writes (ended_with Yes (Some []) (Some found.text)) (IsFound even_soon budgets (rows_of even_soon))
+solved-zero = record { answer = found; of_kind = found-zero; ended = refl; written = refl }
 
 -- ---- one move: team 0 is to be away in slot 0, and to exchange the venues of the two games saves 3
 
@@ -349,11 +351,11 @@ found-home = record {
   crowded = λ crowded. refl;
 }
 
-pub solved-home : IsSolved home_last budgets Refuted (Some (codes "> ")) (Some (codes "> " ++ refutation.text))
-solved-home = record { answer = refutation; found = found-home; status = refl; written = refl }
+pub solved-home : Writes (ended_with Refuted (Some (codes "> ")) (Some (codes "> " ++ refutation.text))) (IsFound home_last budgets (rows_of home_last))
+solved-home = record { answer = refutation; of_kind = found-home; ended = refl; written = refl }
 
-pub solved-no_schedule : (old new : Option (List ℕ)) → IsSolved home_last budgets Yes old new → ⊥
-solved-no_schedule old new is = other_status (sym (is.found.short refl) ∙ sym is.status)
+pub solved-no_schedule : (old new : Option (List ℕ)) → Writes (ended_with Yes old new) (IsFound home_last budgets (rows_of home_last)) → ⊥
+solved-no_schedule old new is = other_status (sym (is.of_kind.short refl) ∙ sym is.ended)
   where
     other_status : Refuted ≡ Yes → ⊥
     other_status same = cc
@@ -553,8 +555,8 @@ found-wanted = record {
   crowded = λ crowded. absurd (false_true crowded);
 }
 
-pub solved-wanted : IsSolved wanted budgets Spent (Some []) (Some (codes "refutation 1\nend\n"))
-solved-wanted = record { answer = spent; found = found-wanted; status = refl; written = refl }
+pub solved-wanted : Writes (ended_with Spent (Some []) (Some (codes "refutation 1\nend\n"))) (IsFound wanted budgets (rows_of wanted))
+solved-wanted = record { answer = spent; of_kind = found-wanted; ended = refl; written = refl }
 
 refuted_spent : Spent ≡ Refuted → ⊥
 refuted_spent is = cc
@@ -577,11 +579,11 @@ found-crowded is = refuted_spent (is.crowded refl)
 pub patterns-even : (conflicts : Option ℕ) (answer : Answer) → patterned.IsRefuted even_soon conflicts answer → ⊥
 patterns-even conflicts answer is = is.refutes.none zero_first even-accepted
 
-pub patterned-each : IsPatterned even_soon None Yes (Some []) (Some (codes "0 AH\n1 HA\n"))
-    × IsPatterned home_last (Some 0) Refuted (Some []) (Some (codes "refutation 1\n0 29 30 24 0\nend\n"))
-    × IsPatterned even_soon (Some 0) Spent (Some (codes "> ")) (Some (codes "> refutation 1\nend\n"))
+pub patterned-each : Writes (ended_with Yes (Some []) (Some (codes "0 AH\n1 HA\n"))) (AreFound even_soon None)
+    × Writes (ended_with Refuted (Some []) (Some (codes "refutation 1\n0 29 30 24 0\nend\n"))) (AreFound home_last (Some 0))
+    × Writes (ended_with Spent (Some (codes "> ")) (Some (codes "> refutation 1\nend\n"))) (AreFound even_soon (Some 0))
 patterned-each = (
-  record { answer = lines; found = inl patterns-turns; status = refl; written = refl },
-  record { answer = refutation; found = inr (inl patterns-refuted); status = refl; written = refl },
-  record { answer = spent; found = inr (inr patterns-spent); status = refl; written = refl },
+  record { answer = lines; of_kind = inl patterns-turns; ended = refl; written = refl },
+  record { answer = refutation; of_kind = inr (inl patterns-refuted); ended = refl; written = refl },
+  record { answer = spent; of_kind = inr (inr patterns-spent); ended = refl; written = refl },
 )

@@ -1,9 +1,9 @@
 -- A phased league of two teams with a wish (number 1) and three demands: team 0 isn't away in slot 0 (2); each team is
 -- at home once, as it always is (3); and team 1 is at home to team 0 in slot 0 (4). Constraints 2 and 4 contradict each
 -- other. x(0,1,s) is 1 + s, x(1,0,s) 3 + s, h(0,s) 5 + s, and h(1,s) 7 + s.
-use Rattle.std.proofs.Common.{◌≡◌, ℕ, ◌≤◌, true, List, [], ◌∷◌, drop, length}
+use Rattle.std.proofs.Common.{lit<, lit≤, ◌≡◌, ℕ, ◌≤◌, true, List, [], ◌∷◌, drop, length}
 use Rattle.std.proofs.Common.{Option, Some, None, IsTrue}
-use Rattle.std.proofs.Common.{refl, arith, lit<, lit≤}
+use Rattle.std.proofs.Common.{refl, arith}
 use Rattle.std.proofs.lemmas.List.Elements.{All-from_recursion, All-nil}
 use Rattle.std.specs.Fmt.{digits}
 use Rattle.std.specs.Ordering.{nat_cmp}

@@ -1,12 +1,14 @@
 -- What `explain` and `part` write of the league of ConflictExamples, and what is said of that.
-use Rattle.std.proofs.Common.{◌≡◌, ℕ, zero, suc, ◌<◌, ◌≤◌, ◌∙◌, ◌⊎◌, true, List, [], ◌∷◌, ◌++◌, length}
+use Rattle.std.proofs.Common.{lit<, lit≤, ◌≡◌, ℕ, zero, suc, ◌<◌, ◌≤◌, ◌∙◌, ◌⊎◌, true, List, [], ◌∷◌, ◌++◌, length}
 use Rattle.std.proofs.Common.{◌+◌, get_or, map, Option, Some, None, Ok, codes, bytes_eq, if◌then◌else◌, IsTrue}
-use Rattle.std.proofs.Common.{ap, ap₂, subst, sym, refl, arith, lit<, lit≤, inl, inr}
+use Rattle.std.proofs.Common.{ap, ap₂, subst, sym, refl, arith, inl, inr}
 use Rattle.std.proofs.lemmas.List.Elements.{All-append, All-from_recursion, All-nil}
 use Rattle.std.specs.Fmt.{digits}
 use Rattle.std.specs.List.{All}
 use Rattle.std.specs.Ordering.{nat_cmp}
 use Rattle.std.specs.declared.cmp.Ordering.TheVariants.{Less, Equal}
+use Rattle.answer_examples.proofs.Runs.{ended_with, store_of, written_between}
+use Rattle.robin_run.specs.Run.{Writes}
 use Rattle.league.specs.Accepted.{IsAccepted}
 use Rattle.league.specs.Counts.{counts_of}
 use Rattle.league.specs.Instance.{Instance, IsInstance, class_fits}
@@ -44,10 +46,10 @@ use Rattle.parts.specs.Parts.{first_unknown, is_hard_number, part_of}
 use Rattle.solve.specs.Solutions.{IsSpentOn}
 use Rattle.explain.specs.Conflicts.{IsIrreducible}
 use Rattle.explain.specs.declared.cases.Case.TheVariants.{Without, Undecided}
-use Rattle.explain_answer.specs.Explained.{IsBudgetSpent, IsExplained, IsFound, IsMet, IsNamed, explained as explains}
-use Rattle.explain_answer.specs.Parted.{IsPart, IsParted, part_answer, parted}
+use Rattle.explain_answer.specs.Explained.{IsBudgetSpent, IsFound, IsMet, IsNamed, explained as explains}
+use Rattle.explain_answer.specs.Parted.{IsPart, part_answer, parted}
 use Rattle.explain_answer.specs.Texts.{IsWritableCase, conflict_text, members_line}
-use Rattle.robin_run.specs.Contradiction.{IsContradiction}
+use Rattle.robin_run.specs.Explain.{IsContradiction}
 use Rattle.answer_examples.proofs.SolveExamples.{false_true, hard, home}
 use Rattle.answer_examples.proofs.SolveExamples.{out, pair_row, quiet_pairs}
 use Rattle.answer_examples.proofs.SolveExamples.{season_pairs, text, writable-none}
@@ -98,7 +100,7 @@ line-both : written ≡ members_line members ++ (codes "minimal yes\n" ++ later)
 unfolding digits
 line-both = refl
 
-pub contradiction-both : IsContradiction league (Some []) (Some written)
+pub contradiction-both : IsContradiction league (written_between (Some []) (Some written))
 contradiction-both = record {
   members = members;
   rest = codes "minimal yes\n" ++ later;
@@ -122,7 +124,7 @@ letters_differ is = omega (arith, is)
 no_yes : (more : List ℕ) → codes "minimal no\n" ≡ codes "minimal yes\n" ++ more → ⊥
 no_yes more is = letters_differ (ap (λ (bytes : List ℕ). get_or bytes 8 0) is)
 
-pub contradiction-more : IsContradiction league (Some (codes "..")) (Some (codes "..conflict 2 3 4\nminimal no\n"))
+pub contradiction-more : IsContradiction league (written_between (Some (codes "..")) (Some (codes "..conflict 2 3 4\nminimal no\n")))
 contradiction-more = record {
   members = 2 ∷ 3 ∷ 4 ∷ [];
   rest = codes "minimal no\n";
@@ -136,7 +138,7 @@ contradiction-more = record {
 }
 
 -- the same may not be said with `minimal yes`
-pub contradiction-claimed : (old new : Option (List ℕ)) → (is : IsContradiction league old new)
+pub contradiction-claimed : (old new : Option (List ℕ)) → (is : IsContradiction league (written_between old new))
     → is.members ≡ 2 ∷ 3 ∷ 4 ∷ [] → is.rest ≡ codes "minimal yes\n" → ⊥
 contradiction-claimed old new is named rest =
     irreducible-more (subst (λ (ks : List ℕ). IsIrreducible league ks) named (is.minimal [] rest))
@@ -145,7 +147,7 @@ contradiction-claimed old new is named rest =
 others_first : ◌≡◌ {A = ℕ} 97 99 → ⊥
 others_first is = omega (arith, is)
 
-pub contradiction-other : IsContradiction league (Some []) (Some (codes "accepted steps 1\n")) → ⊥
+pub contradiction-other : IsContradiction league (written_between (Some []) (Some (codes "accepted steps 1\n"))) → ⊥
 contradiction-other is = others_first (ap (λ (bytes : List ℕ). get_or bytes 0 0) is.written)
 
 -- nor is there one in a league of wishes
@@ -154,7 +156,7 @@ no_demand zero is = false_true is
 no_demand (suc zero) is = false_true is
 no_demand (suc (suc k)) is = false_true is
 
-pub contradiction-wishes : (old new : Option (List ℕ)) → IsContradiction (phased (wish ∷ [])) old new → ⊥
+pub contradiction-wishes : (old new : Option (List ℕ)) → IsContradiction (phased (wish ∷ [])) (written_between old new) → ⊥
 contradiction-wishes old new is = no_demand (get_or is.members 0 0) (is.hard 0 0 is.some)
 
 -- nor in one of constraint 2 alone, which accepts `out`
@@ -185,7 +187,7 @@ none_contradicts (j ∷ k ∷ ks) some ascending hard none =
     ascends_twice j k (only_one j (hard 0 0 (omega arith))) (only_one k (hard 1 0 (omega arith)))
     (ascending 0 1 0 (omega arith) (omega arith))
 
-pub contradiction-staying : (old new : Option (List ℕ)) → IsContradiction staying old new → ⊥
+pub contradiction-staying : (old new : Option (List ℕ)) → IsContradiction staying (written_between old new) → ⊥
 contradiction-staying old new is = none_contradicts is.members is.some is.ascending is.hard is.infeasible
 
 -- ---- `part`: the league of 2 and 4 is written, and reads back as it
@@ -254,16 +256,16 @@ part-unknown = record { is = refused_is; reads_back = λ yes. absurd (file_yes y
 
 -- where each is a demand's number, none is refused
 pub part-refused : IsPart league members refused_reply → ⊥
-part-refused is = file_yes (ap (λ (a : Answer). a.status) is.is)
+part-refused is = file_yes (ap (λ (a : Answer). a.status) is.of_kind)
 
-pub parted-both : IsParted league members Yes (Some (codes "..")) (Some (codes ".." ++ part_text))
-parted-both = record { answer = yes_with part_text; part = part-both; status = refl; written = refl }
+pub parted-both : Writes (ended_with Yes (Some (codes "..")) (Some (codes ".." ++ part_text))) (IsPart league members)
+parted-both = record { answer = yes_with part_text; of_kind = part-both; ended = refl; written = refl }
 
 -- another end, or text that is lost where it was known before, isn't what is answered
-pub parted-file : IsParted league members File (Some []) (Some part_text) → ⊥
-parted-file is = file_yes (is.status ∙ ap (λ (a : Answer). a.status) is.part.is)
+pub parted-file : Writes (ended_with File (Some []) (Some part_text)) (IsPart league members) → ⊥
+parted-file is = file_yes (is.ended ∙ ap (λ (a : Answer). a.status) is.of_kind.is)
 
-pub parted-lost : (ended : Status) → IsParted league members ended (Some []) None → ⊥
+pub parted-lost : (ended : Status) → Writes (ended_with ended (Some []) None) (IsPart league members) → ⊥
 parted-lost ended is = is.written
 
 -- ---- cases that can be written
@@ -462,8 +464,8 @@ found-open = record {
 pub found-ample : (IsFound apart None open_log → ⊥) × (IsFound apart (Some 6561) open_log → ⊥)
 found-ample = (λ is. is.ample tt refl, λ is. is.ample (lit≤ tt) refl)
 
-pub explained-both : IsExplained league None Refuted (Some []) (Some written)
-explained-both = record { answer = named_reply; found = found-named None; status = refl; written = refl }
+pub explained-both : Writes (ended_with Refuted (Some []) (Some written)) (IsFound league None)
+explained-both = record { answer = named_reply; of_kind = found-named None; ended = refl; written = refl }
 
 -- of a league that accepts no season, `explain` doesn't end with yes
 whole_instance : IsInstance league
@@ -483,8 +485,8 @@ never_met conflicts answer ends (inl met) = none-whole met.games met.season.acce
 never_met conflicts answer ends (inr (inl named)) = yes_refuted (ends ∙ named.status)
 never_met conflicts answer ends (inr (inr spent)) = yes_spent (ends ∙ spent.status)
 
-pub explained-yes : (limit : Option ℕ) (old new : Option (List ℕ)) → IsExplained league limit Yes old new → ⊥
-explained-yes limit old new is = never_met limit is.answer is.status is.found.found
+pub explained-yes : (limit : Option ℕ) (old new : Option (List ℕ)) → Writes (ended_with Yes old new) (IsFound league limit) → ⊥
+explained-yes limit old new is = never_met limit is.answer is.ended is.of_kind.found
 
 -- ---- the stages of `part` and `explain`, where the league's file is known: these are answers that they may give
 
@@ -524,7 +526,7 @@ nowhere name = ⊥
 whole_file : IsFile (contents (codes "league")) INSTANCE_LIMIT league_file
 whole_file = record { same = refl; within = omega arith }
 
-pub parted-stages : parted contents never nowhere (codes "league") members (yes_with part_text)
+pub parted-stages : parted (store_of contents nowhere) (codes "league") members (yes_with part_text)
 unfolding attributes_at pieces_from walk
 parted-stages = inl (league_file, whole_file, part-both)
 
@@ -535,6 +537,6 @@ sizes = refl
 small : encoding_size league ≤ 40000000
 small = omega (arith, sizes)
 
-pub explained-stages : (conflicts : Option ℕ) → explains contents never nowhere (codes "league") conflicts named_reply
+pub explained-stages : (conflicts : Option ℕ) → explains (store_of contents nowhere) (codes "league") conflicts named_reply
 unfolding attributes_at pieces_from walk
 explained-stages conflicts = inl (league_file, whole_file, inl (small, found-named conflicts))

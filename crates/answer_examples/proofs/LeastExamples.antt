@@ -1,9 +1,9 @@
 -- Two teams, in no phases. x(0,1,s) is 1 + s, x(1,0,s) 3 + s, h(0,s) 5 + s and h(1,s) 7 + s. Behind slot 0 one of them
 -- has had a home game more, so that where they are to be even there, each season costs 4: a log of two steps proves it,
 -- and one of none is spent. The league that wants team 0 away in slot 0, at 3, has a season at 3 and one at nothing.
-use Rattle.std.proofs.Common.{◌≡◌, ℕ, zero, suc, ◌+◌, ◌<◌, ◌≤◌, ◌&&◌, ◌⊎◌, inl, inr, Bool, true, false, not, nat_le}
+use Rattle.std.proofs.Common.{lit<, ◌≡◌, ℕ, zero, suc, ◌+◌, ◌<◌, ◌≤◌, ◌&&◌, ◌⊎◌, inl, inr, Bool, true, false, not, nat_le}
 use Rattle.std.proofs.Common.{nat_lt, List, [], ◌∷◌, drop, get_or, length, length-append, All, Contains, Option, Some}
-use Rattle.std.proofs.Common.{None, IfSome, IsTrue, ◌==◌, cond, ap, arith, lit<, refl}
+use Rattle.std.proofs.Common.{None, IfSome, IsTrue, ◌==◌, cond, ap, arith, refl}
 use Rattle.std.proofs.Common.{subst, sym, ◌∙◌}
 use Rattle.std.specs.List.{list_all}
 use Rattle.std.proofs.lemmas.Bool.{and_parts, eqb-true, leb-true, ltb-false, not-true}

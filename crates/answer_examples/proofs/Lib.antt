@@ -1,3 +1,5 @@
+-- Runs of which an example knows how they ended and what they wrote:
+mod Runs
 -- What is solved, refuted or left open of a league of two teams, with what can be written of it:
 mod SolveExamples
 mod DescentExamples

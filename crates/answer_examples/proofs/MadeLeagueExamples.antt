@@ -6,6 +6,8 @@ use Rattle.std.proofs.Common.{not, sym, ◌∙◌}
 use Rattle.std.specs.Fmt.{digits}
 use Rattle.std.proofs.lemmas.Bool.{not-true}
 use Rattle.std.proofs.lemmas.List.Sums.{AllPass-from_list_all}
+use Rattle.answer_examples.proofs.Runs.{ended_with}
+use Rattle.robin_run.specs.Run.{Writes}
 use Rattle.rand_core.specs.Pcg32Seed.{pcg32_seed}
 use Rattle.rand_core.specs.Steps.{u32_at, word_bytes}
 use Rattle.robinx_tags.specs.Pieces.{pieces, pieces_from}
@@ -37,8 +39,8 @@ use Rattle.solve.specs.Solutions.{IsDescent, league_score}
 use Rattle.solve_answer.specs.Solve.{IsSchedule, descent_text}
 use Rattle.instance_gen.specs.Draws.{next, seeded, word}
 use Rattle.instance_gen.specs.Made.{made_league}
-use Rattle.make_answer.specs.MadeInstance.{IsMade, IsWrittenLeague}
-use Rattle.trial_answer.specs.Trial.{IsTrial, IsTried, summary}
+use Rattle.make_answer.specs.MadeInstance.{IsMade}
+use Rattle.trial_answer.specs.Trial.{IsTrial, summary}
 use Rattle.answer_examples.proofs.LeastExamples.{one-fit}
 use Rattle.answer_examples.proofs.LeastExamples.{one-in_order, one_first}
 use Rattle.answer_examples.proofs.CommandExamples.{budgets, false_true, home_last, no_true, none}
@@ -108,8 +110,8 @@ made-three = record {
   accepts = subst (λ (league : Instance). IsAccepted league (counts_of (double_games 2))) (sym made-is) made-accepts;
 }
 
-pub written-three : IsWrittenLeague 2 3 Yes (Some []) (Some (instance_text made))
-written-three = record { answer = written_league; made = made-three; status = refl; written = refl }
+pub written-three : Writes (ended_with Yes (Some []) (Some (instance_text made))) (IsMade 2 3)
+written-three = record { answer = written_league; of_kind = made-three; ended = refl; written = refl }
 
 no_yes : No ≡ Yes → ⊥
 no_yes is = cc
@@ -117,8 +119,8 @@ no_yes is = cc
 pub made-no : (n seed : ℕ) (text : List ℕ) → IsMade n seed (record { status = No; text = text }) → ⊥
 made-no n seed text is = no_yes (ap (λ (answer : Answer). answer.status) is.made)
 
-pub written-no : (n seed : ℕ) (old new : Option (List ℕ)) → IsWrittenLeague n seed No old new → ⊥
-written-no n seed old new is = no_yes is.status
+pub written-no : (n seed : ℕ) (old new : Option (List ℕ)) → Writes (ended_with No old new) (IsMade n seed) → ⊥
+written-no n seed old new is = no_yes is.ended
 
 -- ---- `trial`: each season of that league costs 2, for the games next to each other, or misses a hard constraint
 
@@ -206,11 +208,11 @@ trial-three = record {
   text = ap (λ (front : List ℕ). front ++ made_found.text) trial-lines;
 }
 
-pub tried-three : IsTried 2 3 budgets Yes (Some []) (Some trial_answer.text)
+pub tried-three : Writes (ended_with Yes (Some []) (Some trial_answer.text)) (IsTrial 2 3 (made_league 2 (seeded 3)) budgets.moves)
 tried-three = record {
   answer = trial_answer;
-  trial = subst (λ (league : Instance). IsTrial 2 3 league 0 trial_answer) (sym made-is) trial-three;
-  status = refl;
+  of_kind = subst (λ (league : Instance). IsTrial 2 3 league 0 trial_answer) (sym made-is) trial-three;
+  ended = refl;
   written = refl;
 }
 
@@ -227,8 +229,8 @@ pub trial-nothing : (n seed moves : ℕ) (league : Instance)
 trial-nothing n seed moves league is =
     first_byte 116 (drop 1 (summary n seed league is.schedule.games is.schedule.descent ++ is.solved.text)) is.text
 
-pub tried-refuted : (n seed : ℕ) (old new : Option (List ℕ)) → IsTried n seed budgets Refuted old new → ⊥
-tried-refuted n seed old new is = other_status is.status
+pub tried-refuted : (n seed : ℕ) (old new : Option (List ℕ)) → Writes (ended_with Refuted old new) (IsTrial n seed (made_league n (seeded seed)) budgets.moves) → ⊥
+tried-refuted n seed old new is = other_status is.ended
   where
     other_status : Refuted ≡ Yes → ⊥
     other_status same = cc

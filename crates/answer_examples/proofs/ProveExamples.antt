@@ -1,9 +1,12 @@
 -- What `prove` answers of seasons of two teams, over the leagues of LeastExamples: a report, a certificate, a better
 -- season, and a log that is spent, each with its text.
-use Rattle.std.proofs.Common.{◌≡◌, ℕ, ◌+◌, ◌<◌, ◌≤◌, Bool, true, false, if◌then◌else◌, List, [], ◌∷◌, ◌++◌, get_or}
+use Rattle.std.proofs.Common.{lit<, [], Bool, false, get_or, if◌then◌else◌, List, suc, true, zero, ℕ, ◌++◌, ◌+◌, ◌<◌, ◌∷◌, ◌≡◌, ◌≤◌}
 use Rattle.std.proofs.Common.{length, Option}
-use Rattle.std.proofs.Common.{drop, Some, None, Ok, codes, bytes_eq, ap, arith, inl, inr, lit<, refl, sym, ◌∙◌}
+use Rattle.std.proofs.Common.{drop, Some, None, Ok, codes, bytes_eq, ap, arith, inl, inr, refl, sym, ◌∙◌}
 use Rattle.std.specs.Fmt.{digits}
+use Rattle.answers.specs.Stages.{NoneFails}
+use Rattle.answer_examples.proofs.Runs.{ended_with, store_of}
+use Rattle.robin_run.specs.Run.{Writes}
 use Rattle.league.specs.Accepted.{IsAccepted, objective}
 use Rattle.league.specs.Counts.{counts_of}
 use Rattle.league.specs.Instance.{Instance}
@@ -31,7 +34,7 @@ use Rattle.bound_answer.specs.Bound.{bound_verdict}
 use Rattle.bounds.specs.Proofs as bounds
 use Rattle.bounds.specs.declared.proved.Proved.TheVariants as proofs
 use Rattle.prove_answer.proofs.AnswerLemmas.{shown-refused}
-use Rattle.prove_answer.specs.Prove.{IsBettered, IsLeast, IsProved, IsRejected, IsSpentBelow, IsWellFormedCase}
+use Rattle.prove_answer.specs.Prove.{IsShown, IsBettered, IsLeast, IsProved, IsRejected, IsSpentBelow, IsWellFormedCase}
 use Rattle.answer_examples.proofs.LeastExamples.{away-one, away-zero, away_first, even-accepted, even_soon, least-four}
 use Rattle.answer_examples.proofs.LeastExamples.{log, lower_bound, one-fit, one-in_order, one_first}
 use Rattle.answer_examples.proofs.BetterExamples.{better-one}
@@ -284,7 +287,7 @@ size-even = refl
 pub small-even : bound_size even_soon ≤ most_terms
 small-even = omega (arith, size-even)
 
-pub pair-even : IsWellFormedPair contents fails (codes "even") (codes "zero") even_soon zero_first
+pub pair-even : IsWellFormedPair (store_of contents fails) (codes "even") (codes "zero") even_soon zero_first
 pair-even = record {
   first = league_file;
   second = season_file;
@@ -294,40 +297,42 @@ pair-even = record {
   second_within = omega arith;
   says_league = says-league;
   says_games = says-season;
-  first_works = even_gone;
-  second_works = zero_gone;
 }
 
-pub case-even : IsWellFormedCase contents fails (codes "even") (codes "zero") even_soon zero_first
+pub case-even : IsWellFormedCase (store_of contents fails) (codes "even") (codes "zero") even_soon zero_first
 case-even = record { pair = pair-even; small = small-even }
 
 -- where the store failed at a file there is none
-pub case-gone : (solution : List ℕ) (league : Instance) (games : List Game)
-    → IsWellFormedCase contents fails (codes "gone") solution league games → ⊥
-case-gone solution league games is = is.pair.first_works refl
+pub works-even : NoneFails (store_of contents fails) (codes "even" ∷ codes "zero" ∷ [])
+works-even zero d within = even_gone
+works-even (suc zero) d within = zero_gone
+works-even (suc (suc k)) d within = absurd (omega arith)
 
-pub proved-even : IsProved even_soon (Some 1) zero_first Yes (Some (codes "> ")) (Some (codes "> " ++ certificate_file))
-proved-even = record { answer = certified; shown = inr (inl least-one); status = refl; written = refl }
+pub case-gone : NoneFails (store_of contents fails) (codes "gone" ∷ []) → ⊥
+case-gone works = works 0 [] (lit< tt) refl
 
-pub proved-rejected : IsProved even_soon None twice No (Some []) (Some report.text)
-proved-rejected = record { answer = report; shown = inl rejected-twice; status = refl; written = refl }
+pub proved-even : Writes (ended_with Yes (Some (codes "> ")) (Some (codes "> " ++ certificate_file))) (IsShown even_soon (Some 1) zero_first)
+proved-even = record { answer = certified; of_kind = inr (inl least-one); ended = refl; written = refl }
 
-pub proved-better : IsProved away_first None zero_first Better (Some []) (Some better_file)
-proved-better = record { answer = bettered; shown = inr (inr (inl bettered-zero)); status = refl; written = refl }
+pub proved-rejected : Writes (ended_with No (Some []) (Some report.text)) (IsShown even_soon None twice)
+proved-rejected = record { answer = report; of_kind = inl rejected-twice; ended = refl; written = refl }
 
-pub proved-spent : IsProved even_soon (Some 0) zero_first Spent (Some []) (Some (codes "refutation 1\nend\n"))
-proved-spent = record { answer = spent; shown = inr (inr (inr spent-none)); status = refl; written = refl }
+pub proved-better : Writes (ended_with Better (Some []) (Some better_file)) (IsShown away_first None zero_first)
+proved-better = record { answer = bettered; of_kind = inr (inr (inl bettered-zero)); ended = refl; written = refl }
+
+pub proved-spent : Writes (ended_with Spent (Some []) (Some (codes "refutation 1\nend\n"))) (IsShown even_soon (Some 0) zero_first)
+proved-spent = record { answer = spent; of_kind = inr (inr (inr spent-none)); ended = refl; written = refl }
 
 -- a schedule that isn't accepted is told so
 pub proved-twice : (conflicts : Option ℕ) (old new : Option (List ℕ))
-    → IsProved even_soon conflicts twice Yes old new → ⊥
+    → Writes (ended_with Yes old new) (IsShown even_soon conflicts twice) → ⊥
 proved-twice conflicts old new is =
-    no_yes (sym (is.status ∙ shown-refused even_soon conflicts twice is.answer refused is.shown))
+    no_yes (sym (is.ended ∙ shown-refused even_soon conflicts twice is.answer refused is.of_kind))
   where
     no_yes : No ≡ Yes → ⊥
     no_yes same = cc
 
 -- known bytes stay known
 pub proved-unknown : (league : Instance) (conflicts : Option ℕ) (games : List Game) (ended : Status) (old : List ℕ)
-    → IsProved league conflicts games ended (Some old) None → ⊥
+    → Writes (ended_with ended (Some old) None) (IsShown league conflicts games) → ⊥
 proved-unknown league conflicts games ended old is = is.written

@@ -1,6 +1,6 @@
 -- What readers of words and of files answer, what is found of a league, and the rows that are kept of two teams.
-use Rattle.std.proofs.Common.{◌≡◌, ℕ, ◌≤◌, false, List, [], ◌∷◌, get_or, length, replicate, drop}
-use Rattle.std.proofs.Common.{Some, None, Result, Ok, Err, IsTrue, codes, ap, refl, arith, lit<, lit≤}
+use Rattle.std.proofs.Common.{lit<, lit≤, ◌≡◌, ℕ, ◌≤◌, false, List, [], ◌∷◌, get_or, length, replicate, drop}
+use Rattle.std.proofs.Common.{Some, None, Result, Ok, Err, IsTrue, codes, ap, refl, arith}
 use Rattle.std.specs.List.{All}
 use Rattle.std.proofs.lemmas.List.Elements.{All-from_recursion}
 use Rattle.league.specs.Instance.{Instance, IsInstance, class_fits}

@@ -1,13 +1,15 @@
 -- Two teams in no phases, of which team 1 had better not be at home in slot 0, at 4; and what was played of their
 -- season of two slots. x(0,1,s) is 1 + s, and x(1,0,s) 3 + s. `home` begins with team 1 at home, and `out` with team 0.
-use Rattle.std.proofs.Common.{◌≡◌, ℕ, ◌+◌, ◌<◌, ◌≤◌, ◌==◌, ◌∙◌, Bool, true, false, ◌&&◌, nat_lt, cond, if◌then◌else◌}
+use Rattle.std.proofs.Common.{lit<, lit≤, ◌≡◌, ℕ, ◌+◌, ◌<◌, ◌≤◌, ◌==◌, ◌∙◌, Bool, true, false, ◌&&◌, nat_lt, cond, if◌then◌else◌}
 use Rattle.std.proofs.Common.{List, [], ◌∷◌, ◌++◌, length, drop, Option, Some, None, Result, Ok, codes, bytes_eq}
-use Rattle.std.proofs.Common.{length-append, ap, sym, refl, arith, lit<, lit≤, IsTrue}
+use Rattle.std.proofs.Common.{length-append, ap, sym, refl, arith, IsTrue}
 use Rattle.std.proofs.Math.Path.{fun_ext}
 use Rattle.std.proofs.lemmas.Bool.Decides.{nat_tests}
 use Rattle.std.proofs.lemmas.List.Elements.{All-from_recursion, All-nil}
 use Rattle.std.specs.List.{AllPairs}
 use Rattle.std.specs.Prelude.{◌≢◌}
+use Rattle.answers.specs.Stages.{NoneFails}
+use Rattle.answer_examples.proofs.Runs.{store_of}
 use Rattle.league.specs.Accepted.{IsAccepted}
 use Rattle.league.specs.Counts.{Counts, counts_of}
 use Rattle.league.specs.Instance.{Instance, IsInstance, class_fits}
@@ -264,7 +266,7 @@ contents name =
 abbrev pub nowhere : List ℕ → Type 0
 nowhere name = ⊥
 
-pub say-first : SaySeason contents (codes "league") (codes "played") league first
+pub say-first : SaySeason (store_of contents nowhere) (codes "league") (codes "played") league first
 say-first = record {
   first = league_file;
   second = played_file;
@@ -278,7 +280,7 @@ say-first = record {
 none_some : (bytes : List ℕ) → ◌≡◌ {A = Option (List ℕ)} None (Some bytes) → ⊥
 none_some bytes is = cc
 
-pub say-unknown : (played : List Game) → SaySeason contents (codes "league") (codes "later") league played → ⊥
+pub say-unknown : (played : List Game) → SaySeason (store_of contents nowhere) (codes "league") (codes "later") league played → ⊥
 say-unknown played is = none_some is.second is.second_known
 
 -- and the file that is known says that a game was played
@@ -288,7 +290,7 @@ some_same a b is = cc
 said_none : ◌≡◌ {A = Result (List Game) Fault} (Ok first) (Ok []) → ⊥
 said_none is = cc
 
-pub say-nothing : SaySeason contents (codes "league") (codes "played") league [] → ⊥
+pub say-nothing : SaySeason (store_of contents nowhere) (codes "league") (codes "played") league [] → ⊥
 say-nothing is =
     let read : played_file ≡ is.second = some_same played_file is.second is.second_known in
     said_none (sym says_played ∙ ap (λ (bytes : List ℕ). solution_of 2 (pieces bytes)) read ∙ is.says_played)
@@ -300,7 +302,7 @@ sizes = refl
 pub small : resume_size league 1 ≤ most_terms
 small = omega (arith, sizes)
 
-pub formed-first : IsWellFormedSeason contents nowhere (codes "league") (codes "played") 1 league first
+pub formed-first : IsWellFormedSeason (store_of contents nowhere) (codes "league") (codes "played") 1 league first
 formed-first = record {
   say = record {
     first = league_file;
@@ -314,20 +316,18 @@ formed-first = record {
   second_within = omega arith;
   slots = lit≤ tt;
   small = small;
-  first_works = λ failed. failed;
-  second_works = λ failed. failed;
 }
 
 -- the season has two slots, and not three
 three_slots : 3 ≤ 2 → ⊥
 three_slots slots = omega (arith, slots)
 
-pub formed-three : IsWellFormedSeason contents nowhere (codes "league") (codes "played") 3 league first → ⊥
+pub formed-three : IsWellFormedSeason (store_of contents nowhere) (codes "league") (codes "played") 3 league first → ⊥
 formed-three is = three_slots is.slots
 
 -- a store that fails at the second file
 abbrev at_played : List ℕ → Type 0
 at_played name = name ≡ codes "played"
 
-pub formed-failed : (k : ℕ) → IsWellFormedSeason contents at_played (codes "league") (codes "played") k league first → ⊥
-formed-failed k is = is.second_works refl
+pub played-failed : NoneFails (store_of contents at_played) (codes "league" ∷ codes "played" ∷ []) → ⊥
+played-failed works = works 1 [] (lit< tt) refl

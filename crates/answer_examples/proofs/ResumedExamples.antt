@@ -1,9 +1,11 @@
 -- What `resume` and `audit` answer of the files of ResumeExamples.
-use Rattle.std.proofs.Common.{◌≡◌, ℕ, ◌∙◌}
+use Rattle.std.proofs.Common.{lit<, lit≤, ◌≡◌, ℕ, ◌∙◌}
 use Rattle.std.proofs.Common.{List, [], ◌∷◌, ◌++◌, Option, Some, None, Ok, codes}
-use Rattle.std.proofs.Common.{ap, sym, refl, arith, lit<, lit≤, inl, inr}
+use Rattle.std.proofs.Common.{ap, sym, refl, arith, inl, inr}
 use Rattle.std.proofs.lemmas.List.Elements.{All-nil}
 use Rattle.std.specs.Fmt.{digits}
+use Rattle.answer_examples.proofs.Runs.{ended_with, store_of, written_between}
+use Rattle.robin_run.specs.Run.{Writes}
 use Rattle.league.specs.Accepted.{IsAccepted}
 use Rattle.league.specs.Counts.{Counts, counts_of}
 use Rattle.league.proofs.AcceptedLemmas.{MeetsHard-from_sum}
@@ -30,9 +32,9 @@ use Rattle.check_answer.specs.Check.{most_log_bytes, verdict_answer}
 use Rattle.resume_rows.specs.Kept.{is_played, resume_rows}
 use Rattle.resume.specs.Answers.{IsResumed}
 use Rattle.resume.specs.declared.resumed.Resumed.TheVariants as resumed
-use Rattle.resume_answer.specs.Audited.{IsAudited, IsVerdict, IsWellFormedAudit, audited}
+use Rattle.resume_answer.specs.Audited.{IsVerdict, IsWellFormedAudit, audited}
 use Rattle.resume_answer.specs.Resumed.{IsBudgetSpent, IsExcluded, IsFound, IsKeptSeason, IsOldPlan, IsPlanned}
-use Rattle.resume_answer.specs.Resumed.{IsResumed as IsRun, resumed as resumes}
+use Rattle.resume_answer.specs.Resumed.{resumed as resumes}
 use Rattle.answer_examples.proofs.SolveExamples.{fits_home, home, ordered_home, out}
 use Rattle.answer_examples.proofs.SolveExamples.{quiet_pairs, season_pairs, text}
 use Rattle.answer_examples.proofs.ResumeExamples.{accepted_home, contents, crowded, crowded_file, first, league}
@@ -161,10 +163,10 @@ refuted_yes is = cc
 pub found-refuted : (k : ℕ) (conflicts : Option ℕ) → IsFound league whole k conflicts excluded_reply → ⊥
 found-refuted k conflicts is = refuted_yes (is.plan accepted_whole).status
 
-pub kept_season-first : IsKeptSeason league first 1 (Some []) (Some planned_reply.text)
+pub kept_season-first : IsKeptSeason league first 1 (written_between (Some []) (Some planned_reply.text))
 kept_season-first = record { games = home; season = season-home; written = planned_text }
 
-pub kept_season-crowded : (old new : Option (List ℕ)) → IsKeptSeason league crowded 1 old new → ⊥
+pub kept_season-crowded : (old new : Option (List ℕ)) → IsKeptSeason league crowded 1 (written_between old new) → ⊥
 kept_season-crowded old new is = none_crowded is.games is.season.resumes
 
 -- ---- where no slot was played, and nothing may be learnt, propagation stands still before it begins
@@ -195,10 +197,10 @@ pub resumed-each : IsResumed league first 1 None (resumed.Schedule home 4)
     × IsResumed league crowded 1 (Some 0) (resumed.Refuted log) × IsResumed league first 0 (Some 0) (resumed.Spent [])
 resumed-each = (season-home, refutes-crowded, spent_first)
 
-pub resumed-first : IsRun league first 1 None Yes (Some (codes "..")) (Some (codes ".." ++ planned_reply.text))
-resumed-first = record { answer = planned_reply; found = found-first None; status = refl; written = refl }
+pub resumed-first : Writes (ended_with Yes (Some (codes "..")) (Some (codes ".." ++ planned_reply.text))) (IsFound league first 1 None)
+resumed-first = record { answer = planned_reply; of_kind = found-first None; ended = refl; written = refl }
 
-pub resumed-lost : (ended : Status) → IsRun league first 1 None ended (Some []) None → ⊥
+pub resumed-lost : (ended : Status) → Writes (ended_with ended (Some []) None) (IsFound league first 1 None) → ⊥
 resumed-lost ended is = is.written
 
 -- ---- what `audit` answers of the log, and of one that leaves row 30 out
@@ -231,12 +233,12 @@ pub verdict-first : (steps : List Step) (answer : Answer) → answer.status ≡ 
     → IsVerdict league first 1 steps answer → ⊥
 verdict-first steps answer ended is = is.none ended home season-home.resumes
 
-pub audited-crowded : IsAudited league crowded 1 log Yes (Some (codes "..")) (Some (codes "..accepted steps 1\n"))
-audited-crowded = record { answer = accepted_reply; verdict = verdict-crowded; status = refl; written = refl }
+pub audited-crowded : Writes (ended_with Yes (Some (codes "..")) (Some (codes "..accepted steps 1\n"))) (IsVerdict league crowded 1 log)
+audited-crowded = record { answer = accepted_reply; of_kind = verdict-crowded; ended = refl; written = refl }
 
 -- whatever ends with yes, a season that is there isn't excluded
-pub audited-first : (steps : List Step) (old new : Option (List ℕ)) → IsAudited league first 1 steps Yes old new → ⊥
-audited-first steps old new is = verdict-first steps is.answer (sym is.status) is.verdict
+pub audited-first : (steps : List Step) (old new : Option (List ℕ)) → Writes (ended_with Yes old new) (IsVerdict league first 1 steps) → ⊥
+audited-first steps old new is = verdict-first steps is.answer (sym is.ended) is.of_kind
 
 -- ---- the stages of `resume` and `audit`, and the files of a run
 
@@ -248,7 +250,7 @@ says_log : log_of log_file ≡ Ok log
 unfolding lines_from
 says_log = refl
 
-pub formed-crowded : IsWellFormedAudit contents nowhere (codes "league") (codes "crowded") 1 (codes "log") league crowded
+pub formed-crowded : IsWellFormedAudit (store_of contents nowhere) (codes "league") (codes "crowded") 1 (codes "log") league crowded
     log
 formed-crowded = record {
   season = record {
@@ -264,14 +266,11 @@ formed-crowded = record {
     second_within = omega arith;
     slots = lit≤ tt;
     small = small;
-    first_works = λ failed. failed;
-    second_works = λ failed. failed;
   };
   third = log_file;
   known = refl;
   within = omega arith;
   says_steps = says_log;
-  works = λ failed. failed;
 }
 
 abbrev never : ℕ → Type 0
@@ -290,7 +289,7 @@ file_log : IsFile (contents (codes "log")) most_log_bytes log_file
 file_log = record { same = refl; within = omega arith }
 
 pub resumed-stages : (conflicts : Option ℕ)
-    → resumes contents never nowhere (codes "league") (codes "played") 1 conflicts planned_reply
+    → resumes (store_of contents nowhere) (codes "league") (codes "played") 1 conflicts planned_reply
 unfolding attributes_at pieces_from walk
 resumed-stages conflicts = inl (
   league_file,
@@ -298,7 +297,7 @@ resumed-stages conflicts = inl (
   inl (lit≤ tt, inl (small, inl (played_file, file_played, found-first conflicts))),
 )
 
-pub audited-stages : audited contents never nowhere (codes "league") (codes "crowded") 1 (codes "log") accepted_reply
+pub audited-stages : audited (store_of contents nowhere) (codes "league") (codes "crowded") 1 (codes "log") accepted_reply
 unfolding attributes_at pieces_from walk lines_from
 audited-stages = inl (
   league_file,

@@ -1,9 +1,9 @@
 -- Two teams in no phases. x(0,1,s) is 1 + s, x(1,0,s) 3 + s, h(0,s) 5 + s, and h(1,s) 7 + s. They have two seasons: in
 -- `home` team 1 is at home in slot 0 and team 0 in slot 1, and in `out` it is the other way round.
 use Prim.Native.String.{String}
-use Rattle.std.proofs.Common.{◌≡◌, ℕ, zero, suc, ◌+◌, ◌<◌, ◌≤◌, Bool, true, false}
+use Rattle.std.proofs.Common.{lit<, lit≤, ◌≡◌, ℕ, zero, suc, ◌+◌, ◌<◌, ◌≤◌, Bool, true, false}
 use Rattle.std.proofs.Common.{if◌then◌else◌, List, [], ◌∷◌, ◌++◌, map, drop, length, get_or, Option, Some}
-use Rattle.std.proofs.Common.{codes, refl, arith, lit<, lit≤, IsTrue}
+use Rattle.std.proofs.Common.{codes, refl, arith, IsTrue}
 use Rattle.std.proofs.lemmas.List.Elements.{All-cons, All-from_recursion, All-nil}
 use Rattle.std.proofs.lemmas.List.Kept.{AllPairs-cons}
 use Rattle.std.specs.Fmt.{digits}

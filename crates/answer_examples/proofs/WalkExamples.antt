@@ -1,10 +1,12 @@
 -- What a walk gives of two teams, bounds on sums, rules and their prices, climbs, and what `check` answers. x(0,1,s) is
 -- 1 + s, x(1,0,s) 3 + s. `home` begins with team 1 at home, and `out` with team 0.
-use Rattle.std.proofs.Common.{◌≡◌, ℕ, ◌-◌, ◌*◌, ◌^◌, ◌≤◌, true, false, if◌then◌else◌}
+use Rattle.std.proofs.Common.{lit<, lit≤, ◌≡◌, ℕ, ◌-◌, ◌*◌, ◌^◌, ◌≤◌, true, false, if◌then◌else◌}
 use Rattle.std.proofs.Common.{List, [], ◌∷◌, Option, Some, None, Ok, codes, bytes_eq, ap, sym, refl, inl}
-use Rattle.std.proofs.Common.{arith, lit<, lit≤, IsTrue}
+use Rattle.std.proofs.Common.{arith, IsTrue}
 use Rattle.std.specs.Fmt.{digits}
 use Rattle.std.specs.Ordering.{is_le}
+use Rattle.answer_examples.proofs.Runs.{ended_with, store_of}
+use Rattle.robin_run.specs.Run.{Writes}
 use Rattle.league.specs.Order.{game_cmp}
 use Rattle.league.specs.Counts.{Counts, counts_of}
 use Rattle.league.specs.Deviation.{entry_of}
@@ -43,7 +45,7 @@ use Rattle.refutation.specs.Steps.{Step}
 use Rattle.refutation.specs.Steps.Step.{Clause}
 use Rattle.refutation.specs.declared.verdict.Cause.TheVariants.{NoConflict}
 use Rattle.refutation.specs.declared.verdict.Verdict.TheVariants.{Accepted, Rejected}
-use Rattle.check_answer.specs.Check.{IsChecked, IsVerdict, IsWellFormedLog, checked, most_log_bytes, most_terms}
+use Rattle.check_answer.specs.Check.{IsVerdict, IsWellFormedLog, checked, most_log_bytes, most_terms}
 use Rattle.check_answer.specs.Check.{verdict_answer}
 use Rattle.answer_examples.proofs.SolveExamples.{accepted_home, false_true, fits_home, home, ordered_home}
 use Rattle.answer_examples.proofs.DescentExamples.{lowers-home}
@@ -277,7 +279,7 @@ sizes = refl
 small : encoding_size apart ≤ most_terms
 small = omega (arith, sizes)
 
-pub formed-apart : IsWellFormedLog contents nowhere (codes "apart") (codes "log") apart alone
+pub formed-apart : IsWellFormedLog (store_of contents nowhere) (codes "apart") (codes "log") apart alone
 formed-apart = record {
   first = league_file;
   second = log_file;
@@ -288,8 +290,6 @@ formed-apart = record {
   says_league = says_league;
   small = small;
   says_steps = says_steps;
-  first_works = λ failed. failed;
-  second_works = λ failed. failed;
 }
 
 -- a log whose bytes aren't known isn't well-formed
@@ -297,7 +297,7 @@ none_some : (bytes : List ℕ) → ◌≡◌ {A = Option (List ℕ)} None (Some 
 none_some bytes is = cc
 
 pub formed-unknown : (steps : List Step)
-    → IsWellFormedLog contents nowhere (codes "apart") (codes "logs") apart steps → ⊥
+    → IsWellFormedLog (store_of contents nowhere) (codes "apart") (codes "logs") apart steps → ⊥
 formed-unknown steps is = none_some is.second is.second_known
 
 abbrev accepted_reply : Answer
@@ -329,12 +329,12 @@ pub verdict-wishful : (rows : List Row) (steps : List Step) (answer : Answer) �
     → IsVerdict wishful rows steps answer → ⊥
 verdict-wishful rows steps answer ended is = is.refuted ended home accepted_home
 
-pub checked-apart : IsChecked apart alone Yes (Some []) (Some (codes "accepted steps 2\n"))
-checked-apart = record { answer = accepted_reply; verdict = verdict-apart; status = refl; written = refl }
+pub checked-apart : Writes (ended_with Yes (Some []) (Some (codes "accepted steps 2\n"))) (IsVerdict apart (rows_of apart) alone)
+checked-apart = record { answer = accepted_reply; of_kind = verdict-apart; ended = refl; written = refl }
 
-pub checked-wishful : (steps : List Step) (old new : Option (List ℕ)) → IsChecked wishful steps Yes old new → ⊥
+pub checked-wishful : (steps : List Step) (old new : Option (List ℕ)) → Writes (ended_with Yes old new) (IsVerdict wishful (rows_of wishful) steps) → ⊥
 checked-wishful steps old new is =
-    verdict-wishful (rows_of wishful) steps is.answer (sym is.status) is.verdict
+    verdict-wishful (rows_of wishful) steps is.answer (sym is.ended) is.of_kind
 
 -- the stages of `check` may give that answer
 abbrev never : ℕ → Type 0
@@ -346,6 +346,6 @@ file_league = record { same = refl; within = omega arith }
 file_log : IsFile (contents (codes "log")) most_log_bytes log_file
 file_log = record { same = refl; within = omega arith }
 
-pub checked-stages : checked contents never nowhere (codes "apart") (codes "log") accepted_reply
+pub checked-stages : checked (store_of contents nowhere) (codes "apart") (codes "log") accepted_reply
 unfolding attributes_at pieces_from walk lines_from
 checked-stages = inl (league_file, file_league, inl (small, inl (log_file, file_log, verdict-apart)))

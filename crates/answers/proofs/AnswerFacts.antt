@@ -64,9 +64,9 @@ unread-failed answer (inl h) = absurd h.0
 unread-failed answer (inr h) = h.1
 
 -- an answer is written whole behind what was there, unless the sink failed: then a front of it is
-pub written-whole : (ended : Status) (new : List ℕ) → IsWritten refused_words ended (Some (codes "before ")) (Some new) ⊥ → (ended ≡ Words) × (new ≡ codes "before refused words\n")
+pub written-whole : (ended : Status) (new : List ℕ) → IsWritten refused_words ended (record { before = Some (codes "before "); after = Some new; failed = ⊥ }) → (ended ≡ Words) × (new ≡ codes "before refused words\n")
 written-whole ended new (inl h) = (h.0, h.1)
 written-whole ended new (inr h) = absurd h.1
 
-pub written-front : IsWritten refused_words WriteFault (Some (codes "before ")) (Some (codes "before refu")) (Unit {0})
+pub written-front : IsWritten refused_words WriteFault (record { before = Some (codes "before "); after = Some (codes "before refu"); failed = Unit {0} })
 written-front = inr (refl, tt, (4, omega arith, refl))

@@ -4,3 +4,4 @@ pub mod Reply
 pub mod Stages
 -- Kept inside (laws, and how fields are seen):
 pub mod SeenReply
+pub mod SeenRefusal

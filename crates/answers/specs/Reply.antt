@@ -59,3 +59,10 @@ malformed which kind line = record {
       codes "refused "
       ++ (which ++ (codes " " ++ (kind_word kind ++ (codes " line " ++ (decimal line ++ codes "\n")))));
 }
+
+-- the rows of a league have so many terms, which are too many
+abbrev pub too_large : ℕ → Answer
+too_large terms = record {
+  status = File;
+  text = codes "refused rows TooLarge terms " ++ (decimal terms ++ codes "\n");
+}

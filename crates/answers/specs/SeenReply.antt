@@ -14,7 +14,7 @@ answer_of reply = record { status = reply.status; text = reply.text.items }
 -- what holds of what a stage goes on with, and of the answer that it refuses with; nothing where memory ran out
 abbrev pub MatchStage : {X : Type 0} → Result X NoValue → (X → Type 0) → (Answer → Type 0) → Type 0
 MatchStage (Ok x) Goes Ends = Goes x
-MatchStage (Err (Refused reply)) Goes Ends = Ends (answer_of reply)
+MatchStage (Err (Refused refusal)) Goes Ends = Ends (answer_of refusal.reply)
 MatchStage (Err Memory) Goes Ends = Unit {0}
 
 -- every answer that a stage makes is one of these

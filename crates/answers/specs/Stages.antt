@@ -1,7 +1,12 @@
 -- The stages of a run in their order, each of which goes on or gives the answer.
-use Rattle.std.specs.Prelude.{◌≡◌, ℕ, ◌<◌, ◌≤◌, ◌⊎◌, List, length, Option, IfSome, Result, Ok, Err}
+use Rattle.std.specs.Prelude.{◌≡◌, ℕ, ◌+◌, ◌<◌, ◌≤◌, ◌⊎◌, List, length, Option, Some, IfSome, Result, Ok, Err}
 use Rattle.std.specs.Io.KnownBytes.{Appends}
+use Rattle.std.specs.List.{All}
+use Rattle.robin_io.specs.Outside.{Output, Store}
 use Rattle.robin_io.specs.Written.{AppendsPrefix}
+use Rattle.league.specs.Instance.{Instance}
+use Rattle.robinx_tags.specs.Pieces.{pieces}
+use Rattle.robinx_form.specs.InstanceFile.{instance_of}
 use Rattle.robinx_form.specs.Walk.{Fault}
 use Rattle.answers.specs.Reply.{Answer, read_fault, too_long, malformed}
 use Rattle.answers.specs.declared.status.Status.{Status}
@@ -27,11 +32,17 @@ infixl 10 ◌>>=◌
 abbrev pub ◌>>=◌ : {A : Type 0} → ((A → Outcome) → Outcome) → (A → Outcome) → Outcome
 stage >>= next = stage next
 
--- the stage that reads a file
-abbrev pub reads : List ℕ → Option (List ℕ) → ℕ → Type 0 → Type 0 → (List ℕ → Outcome) → Outcome
-reads which known limit long failed next answer =
+-- the stage that takes the bytes of a file, which are known or not
+abbrev pub takes : List ℕ → Option (List ℕ) → ℕ → Type 0 → Type 0 → (List ℕ → Outcome) → Outcome
+takes which known limit long failed next answer =
     ((bytes : List ℕ) × IsFile known limit bytes × next bytes answer)
     ⊎ IsUnread which known limit long failed answer
+
+-- the stage that reads the file of a name, which is called `instance`, `solution` or `log`, where so many bytes were
+-- taken before it
+abbrev pub reads : Store → List ℕ → List ℕ → ℕ → ℕ → (List ℕ → Outcome) → Outcome
+reads store which name limit before =
+    takes which (store.contents name) limit (store.took_more (before + limit)) (store.failed name)
 
 -- the stage that takes what a file says: a value, or its first fault of form
 abbrev pub says : {A : Type 0} → List ℕ → Result A Fault → (A → Outcome) → Outcome
@@ -39,7 +50,19 @@ says which (Ok x) next answer = next x answer
 says which (Err fault) next answer = answer ≡ malformed which fault.0 fault.1
 
 -- the answer is written: whole, or a fault of the sink cuts its text short
-abbrev pub IsWritten : Answer → Status → Option (List ℕ) → Option (List ℕ) → Type 0 → Type 0
-IsWritten answer status old new failed =
-    ((status ≡ answer.status) × Appends old new answer.text)
-    ⊎ ((status ≡ WriteFault) × failed × AppendsPrefix old new answer.text)
+abbrev pub IsWritten : Answer → Status → Output → Type 0
+IsWritten answer status output =
+    ((status ≡ answer.status) × Appends output.before output.after answer.text)
+    ⊎ ((status ≡ WriteFault) × output.failed × AppendsPrefix output.before output.after answer.text)
+
+-- ---- files whose bytes are known
+
+-- the store fails at none of these files
+abbrev pub NoneFails : Store → List (List ℕ) → Type 0
+NoneFails store names = All (λ name. store.failed name → ⊥) names
+
+-- the bytes of this file are known, and say a league
+pub record SaysLeague (store : Store) (instance : List ℕ) (league : Instance) : Type 0 where
+  pub bytes : List ℕ
+  pub known : store.contents instance ≡ Some bytes
+  pub says_league : instance_of (pieces bytes) ≡ Ok league

@@ -4,10 +4,13 @@
 //! A contract sees an answer as its status and its bytes. `specs/Stages.antt` says what a stage before the answer is.
 #![tactic(auto)]
 
+mod hints;
+mod refusal;
 mod reply;
 mod stages;
 mod status;
 
-pub use reply::{NoValue, Reply, malformed, past_limit, unreadable, words_refused};
+pub use refusal::{Refusal, malformed, past_limit, rows_refused, unreadable};
+pub use reply::{NoValue, Reply, words_refused};
 pub use stages::{file, league_in, schedule_in, write_answer};
 pub use status::{Status, code};

@@ -4,6 +4,7 @@ ghost use Rattle.answers.specs.Reply as refusals;
 ghost use Rattle.answers.specs.SeenReply.{answer_of};
 ghost use Rattle.answers.specs.declared.reply.NoValue.TheVariants.{Memory};
 
+use crate::refusal::Refusal;
 use crate::status::Status;
 use robinx_read::FormKind;
 use std::alloc::{AllocError, Global};
@@ -15,10 +16,10 @@ pub struct Reply {
     pub text: Vec<u8>,
 }
 
-/// Why a stage has no value, so that no later one is taken: the run is refused with this reply, or memory ran out.
+/// Why a stage has no value, so that no later one is taken: the run is refused, or memory ran out.
 #[derive(Drop)]
 pub enum NoValue {
-    Refused(Reply),
+    Refused(Refusal),
     Memory,
 }
 
@@ -48,7 +49,7 @@ pub fn words_refused(alloc: Global) -> Result<Reply, AllocError>
 ///
 /// # Errors
 /// Only where memory runs out.
-pub fn unreadable(alloc: Global, which: &str) -> Result<Reply, AllocError>
+pub(crate) fn unreadable_reply(alloc: Global, which: &str) -> Result<Reply, AllocError>
     ensures { IfOk result (λ reply. answer_of reply ≡ refusals.read_fault which.now) }
 {
     let text = format!(in alloc; "read fault {which}\n")?;
@@ -62,7 +63,11 @@ pub fn unreadable(alloc: Global, which: &str) -> Result<Reply, AllocError>
 ///
 /// # Errors
 /// Only where memory runs out.
-pub fn past_limit(alloc: Global, which: &str, limit: usize) -> Result<Reply, AllocError>
+pub(crate) fn past_limit_reply(
+    alloc: Global,
+    which: &str,
+    limit: usize,
+) -> Result<Reply, AllocError>
     ensures { IfOk result (λ reply. answer_of reply ≡ refusals.too_long which.now limit) }
 {
     let text = format!(in alloc; "refused {which} TooLong limit {limit}\n")?;
@@ -102,11 +107,30 @@ fn kind_word(kind: FormKind) -> &'static str
 ///
 /// # Errors
 /// Only where memory runs out.
-pub fn malformed(alloc: Global, which: &str, kind: FormKind, line: u32) -> Result<Reply, AllocError>
+pub(crate) fn malformed_reply(
+    alloc: Global,
+    which: &str,
+    kind: FormKind,
+    line: u32,
+) -> Result<Reply, AllocError>
     ensures { IfOk result (λ reply. answer_of reply ≡ refusals.malformed which.now kind line) }
 {
     let kind = kind_word(kind);
     let text = format!(in alloc; "refused {which} {kind} line {line}\n")?;
+    Ok(Reply {
+        status: Status::File,
+        text: text.into_bytes(),
+    })
+}
+
+/// The rows of a league have so many terms, which are too many.
+///
+/// # Errors
+/// Only where memory runs out.
+pub(crate) fn rows_reply(alloc: Global, terms: u64) -> Result<Reply, AllocError>
+    ensures { IfOk result (λ reply. answer_of reply ≡ refusals.too_large terms) }
+{
+    let text = format!(in alloc; "refused rows TooLarge terms {terms}\n")?;
     Ok(Reply {
         status: Status::File,
         text: text.into_bytes(),

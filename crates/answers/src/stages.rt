@@ -1,7 +1,8 @@
 //! The stages that commands have in common: those before the answer, and the last, which writes it.
 ghost use Rattle.std.specs.Prelude.{◌≡◌, ◌≤◌, ℕ, List, Ok, IfOk, codes, length, vec_len};
 ghost use Rattle.std.specs.List.{All};
-ghost use Rattle.robin_io.specs.Counts.{raised, Rose, TookMore};
+ghost use Rattle.robin_io.specs.Counts.{raised};
+ghost use Rattle.robin_io.specs.Outside.{output_between, store_between};
 ghost use Rattle.robinx_tags.specs.Pieces.{pieces};
 ghost use Rattle.league.specs.Instance.{IsGame};
 ghost use Rattle.robinx_form.specs.InstanceFile.{instance_of};
@@ -9,7 +10,8 @@ ghost use Rattle.robinx_form.specs.SolutionFile.{solution_of};
 ghost use Rattle.answers.specs.SeenReply.{answer_of, IsMalformed, MatchStage};
 ghost use Rattle.answers.specs.Stages.{IsFile, IsUnread, IsWritten};
 
-use crate::reply::{NoValue, Reply, malformed, past_limit, unreadable};
+use crate::refusal::{malformed, past_limit, unreadable};
+use crate::reply::{NoValue, Reply};
 use crate::status::Status;
 use league::{League, Schedule};
 use robin_io::{Shelf, Sink, TakeFault, put_all, read_all};
@@ -29,11 +31,9 @@ pub fn file<S: Shelf>(
     limit: usize,
 ) -> Result<Vec<u8>, NoValue>
     requires { limit ≤ 268435456 }
-    ensures stage { MatchStage result
-        (λ bytes. IsFile (S.contents shelf.old name.now) limit bytes.items)
-        (IsUnread which.now (S.contents shelf.old name.now) limit
-        (TookMore limit (S.taken shelf.old) (S.taken shelf.new))
-        (Rose (S.faults shelf.old name.now) (S.faults shelf.new name.now))) }
+    ensures stage { let store = store_between S.Shelf shelf.old shelf.new in MatchStage result
+        (λ bytes. IsFile (store.contents name.now) limit bytes.items)
+        (IsUnread which.now (store.contents name.now) limit (store.took_more limit) (store.failed name.now)) }
     ensures count { IfOk result (λ bytes. S.taken shelf.new ≡ raised (S.taken shelf.old) (vec_len bytes)) }
     ensures risen { S.taken shelf.old ≤ S.taken shelf.new }
     ensures contents { (n : List ℕ) → S.contents shelf.new n ≡ S.contents shelf.old n }
@@ -41,8 +41,15 @@ pub fn file<S: Shelf>(
 {
     match read_all(alloc, shelf, name, limit) {
         Ok(bytes) => Ok(bytes),
-        Err(TakeFault::Failed) => Err(NoValue::Refused(unreadable(alloc, which)?)),
-        Err(TakeFault::TooLong { .. }) => Err(NoValue::Refused(past_limit(alloc, which, limit)?)),
+        Err(TakeFault::Failed) => Err(NoValue::Refused(unreadable(
+            alloc,
+            which,
+            name,
+            shelf.reason(),
+        )?)),
+        Err(TakeFault::TooLong { .. }) => Err(NoValue::Refused(past_limit(
+            alloc, which, name, limit,
+        )?)),
         Err(TakeFault::Mem) => Err(NoValue::Memory),
     }
 }
@@ -60,7 +67,7 @@ pub fn league_in(alloc: Global, bytes: &[u8]) -> Result<League, NoValue>
     match read_instance(alloc, bytes) {
         Ok(league) => Ok(league),
         Err(ReadFault::Form(fault)) => Err(NoValue::Refused(malformed(
-            alloc, "instance", fault.kind, fault.line,
+            alloc, "instance", bytes, fault.kind, fault.line,
         )?)),
         Err(ReadFault::Mem) => Err(NoValue::Memory),
     }
@@ -81,7 +88,7 @@ pub fn schedule_in(alloc: Global, bytes: &[u8], league: &League) -> Result<Sched
     match read_solution(alloc, bytes, league) {
         Ok(schedule) => Ok(schedule),
         Err(ReadFault::Form(fault)) => Err(NoValue::Refused(malformed(
-            alloc, "solution", fault.kind, fault.line,
+            alloc, "solution", bytes, fault.kind, fault.line,
         )?)),
         Err(ReadFault::Mem) => Err(NoValue::Memory),
     }
@@ -89,8 +96,7 @@ pub fn schedule_in(alloc: Global, bytes: &[u8], league: &League) -> Result<Sched
 
 /// Writes the text of an answer, and says how the run ends.
 pub fn write_answer<K: Sink>(out: &mut K, reply: &Reply) -> Status
-    ensures { IsWritten (answer_of reply.now) result (K.written out.old) (K.written out.new)
-        (Rose (K.faults out.old) (K.faults out.new)) }
+    ensures { IsWritten (answer_of reply.now) result (output_between K.Sink out.old out.new) }
 {
     match put_all(out, &reply.text) {
         Ok(()) => reply.status,

@@ -1,15 +1,16 @@
 -- What follows from an answer of `bound`.
-use Rattle.std.proofs.Common.{◌≡◌, ℕ, ◌+◌, ◌<◌, ◌≤◌, List, length, Option, Some, Result, Ok, codes, ap, arith}
+use Rattle.std.proofs.Common.{◌∷◌, [], ◌≡◌, ℕ, ◌+◌, ◌<◌, ◌≤◌, List, length, Option, Some, Result, Ok, codes, ap, arith}
 use Rattle.std.proofs.Common.{inl, inr, sym, subst, ◌∙◌}
 use Rattle.std.specs.Prelude.{IfSome}
+use Rattle.robin_io.specs.Outside.{Store}
 use Rattle.league.specs.Instance.{Instance}
 use Rattle.robinx_tags.specs.Pieces.{pieces}
 use Rattle.robinx_form.specs.InstanceFile.{instance_of}
 use Rattle.robinx_read.specs.declared.instance.TheConstants.{INSTANCE_LIMIT}
 use Rattle.answers.specs.Reply.{Answer}
-use Rattle.answers.specs.Stages.{Outcome, reads, says}
+use Rattle.answers.specs.Stages.{NoneFails, Outcome, says, takes}
 use Rattle.answers.specs.declared.status.Status.TheVariants.{Yes, File}
-use Rattle.answers.proofs.StageLemmas.{reads-known, reads-yes, says-known}
+use Rattle.answers.proofs.StageLemmas.{first-works, says-known, second-works, takes-known, takes-yes}
 use Rattle.refutation.specs.Logs.{Fault}
 use Rattle.check_answer.specs.Check.{most_log_bytes, most_terms}
 use Rattle.bound_base.specs.BoundRows.{bound_size}
@@ -42,28 +43,28 @@ yes-no_file : (answer : Answer) → answer.status ≡ Yes → answer.status ≡ 
 yes-no_file answer accepted refused = let same : File ≡ Yes = sym refused ∙ accepted in cc
 
 -- a well-formed certificate at which nothing fails gets its verdict
-pub bounded-well_formed : (contents : List ℕ → Option (List ℕ)) (took_more : ℕ → Type 0) (failed : List ℕ → Type 0)
+pub bounded-well_formed : (store : Store)
     (instance log : List ℕ) (league : Instance) (certificate : Certificate) (answer : Answer)
-    → IsWellFormedCertificate contents failed instance log league certificate
-    → bounded contents took_more failed instance log answer → IsBoundVerdict league certificate answer
-bounded-well_formed contents took_more failed instance log league certificate answer good given =
+    → IsWellFormedCertificate store instance log league certificate → NoneFails store (instance ∷ log ∷ [])
+    → bounded store instance log answer → IsBoundVerdict league certificate answer
+bounded-well_formed store instance log league certificate answer good works given =
     let front : ℕ = length good.first in
     let next : List ℕ → Outcome = λ first. says (codes "instance") (instance_of (pieces first))
-    (log_stages contents took_more failed log (length first)) in
+    (log_stages store log (length first)) in
     let at_instance : next good.first answer =
-    reads-known (codes "instance") (contents instance) INSTANCE_LIMIT (took_more INSTANCE_LIMIT) (failed instance) next
-    answer good.first good.first_known good.first_within good.first_works given in
-    let at_league : log_stages contents took_more failed log front league answer =
+    takes-known (codes "instance") (store.contents instance) INSTANCE_LIMIT (store.took_more INSTANCE_LIMIT) (store.failed instance) next
+    answer good.first good.first_known good.first_within (first-works store instance (log ∷ []) works) given in
+    let at_league : log_stages store log front league answer =
     says-known (codes "instance") (instance_of (pieces good.first)) league
-    (log_stages contents took_more failed log front) answer good.says_league at_instance in
+    (log_stages store log front) answer good.says_league at_instance in
     let judged : List ℕ → Outcome = λ bytes. says_certificate (certificate_of bytes) (IsBoundVerdict league) in
-    let at_log : reads (codes "log") (contents log) most_log_bytes (took_more (front + most_log_bytes)) (failed log)
+    let at_log : takes (codes "log") (store.contents log) most_log_bytes (store.took_more (front + most_log_bytes)) (store.failed log)
     judged answer =
-    few-small league (λ few. reads (codes "log") (contents log) most_log_bytes (took_more (front + most_log_bytes))
-    (failed log) judged) answer good.small at_league in
+    few-small league (λ few. takes (codes "log") (store.contents log) most_log_bytes (store.took_more (front + most_log_bytes))
+    (store.failed log) judged) answer good.small at_league in
     let at_certificate : judged good.second answer =
-    reads-known (codes "log") (contents log) most_log_bytes (took_more (front + most_log_bytes)) (failed log) judged
-    answer good.second good.second_known good.second_within good.second_works at_log in
+    takes-known (codes "log") (store.contents log) most_log_bytes (store.took_more (front + most_log_bytes)) (store.failed log) judged
+    answer good.second good.second_known good.second_within (second-works store instance log [] works) at_log in
     said-known (certificate_of good.second) certificate (IsBoundVerdict league) answer good.says_certificate
     at_certificate
 
@@ -75,31 +76,31 @@ known-read known file read next answer is same given =
     subst (λ (b : List ℕ). next b answer) here given
 
 -- where the answer is yes, every schedule that the league accepts has an objective of at least the bound
-pub bounded-yes : (contents : List ℕ → Option (List ℕ)) (took_more : ℕ → Type 0) (failed : List ℕ → Type 0)
+pub bounded-yes : (store : Store)
     (instance log first second : List ℕ) (league : Instance) (certificate : Certificate) (answer : Answer)
-    → contents instance ≡ Some first → contents log ≡ Some second → instance_of (pieces first) ≡ Ok league
+    → store.contents instance ≡ Some first → store.contents log ≡ Some second → instance_of (pieces first) ≡ Ok league
     → certificate_of second ≡ Ok certificate → answer.status ≡ Yes
-    → bounded contents took_more failed instance log answer → IsLowerBound league certificate.bound
-bounded-yes contents took_more failed instance log first second league certificate answer first_known second_known
+    → bounded store instance log answer → IsLowerBound league certificate.bound
+bounded-yes store instance log first second league certificate answer first_known second_known
     says_league says_bound accepted given =
     let front : ℕ = length first in
     let next : List ℕ → Outcome = λ bytes. says (codes "instance") (instance_of (pieces bytes))
-    (log_stages contents took_more failed log (length bytes)) in
-    let read = reads-yes (codes "instance") (contents instance) INSTANCE_LIMIT (took_more INSTANCE_LIMIT)
-    (failed instance) next answer accepted given in
+    (log_stages store log (length bytes)) in
+    let read = takes-yes (codes "instance") (store.contents instance) INSTANCE_LIMIT (store.took_more INSTANCE_LIMIT)
+    (store.failed instance) next answer accepted given in
     let at_instance : next first answer =
-    known-read (contents instance) first read.0 next answer first_known read.1.same read.2 in
-    let at_league : log_stages contents took_more failed log front league answer =
+    known-read (store.contents instance) first read.0 next answer first_known read.1.same read.2 in
+    let at_league : log_stages store log front league answer =
     says-known (codes "instance") (instance_of (pieces first)) league
-    (log_stages contents took_more failed log front) answer says_league at_instance in
+    (log_stages store log front) answer says_league at_instance in
     let judged : List ℕ → Outcome = λ bytes. says_certificate (certificate_of bytes) (IsBoundVerdict league) in
-    let at_log : reads (codes "log") (contents log) most_log_bytes (took_more (front + most_log_bytes)) (failed log)
+    let at_log : takes (codes "log") (store.contents log) most_log_bytes (store.took_more (front + most_log_bytes)) (store.failed log)
     judged answer =
-    few-yes league (λ few. reads (codes "log") (contents log) most_log_bytes (took_more (front + most_log_bytes))
-    (failed log) judged) answer (yes-no_file answer accepted) at_league in
-    let last = reads-yes (codes "log") (contents log) most_log_bytes (took_more (front + most_log_bytes)) (failed log)
+    few-yes league (λ few. takes (codes "log") (store.contents log) most_log_bytes (store.took_more (front + most_log_bytes))
+    (store.failed log) judged) answer (yes-no_file answer accepted) at_league in
+    let last = takes-yes (codes "log") (store.contents log) most_log_bytes (store.took_more (front + most_log_bytes)) (store.failed log)
     judged answer accepted at_log in
     let at_certificate : judged second answer =
-    known-read (contents log) second last.0 judged answer second_known last.1.same last.2 in
+    known-read (store.contents log) second last.0 judged answer second_known last.1.same last.2 in
     (said-known (certificate_of second) certificate (IsBoundVerdict league) answer says_bound at_certificate).holds
     accepted

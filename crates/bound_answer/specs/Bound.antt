@@ -1,21 +1,20 @@
 -- What `bound` answers: its stages in their order, and the verdict on a certificate.
 use Rattle.std.specs.Prelude.{◌≡◌, ℕ, ◌+◌, ◌-◌, ◌<◌, ◌≤◌, ◌⊎◌, ◌==◌, if◌then◌else◌, List, ◌++◌, length, codes, decimal}
-use Rattle.std.specs.Prelude.{Option, Some, Result, Ok, Err}
-use Rattle.std.specs.Io.KnownBytes.{Appends}
+use Rattle.std.specs.Prelude.{Some, Result, Ok, Err}
+use Rattle.robin_io.specs.Outside.{Store}
 use Rattle.league.specs.Instance.{Instance}
 use Rattle.robinx_tags.specs.Pieces.{pieces}
 use Rattle.robinx_form.specs.InstanceFile.{instance_of}
 use Rattle.robinx_read.specs.declared.instance.TheConstants.{INSTANCE_LIMIT}
-use Rattle.answers.specs.Reply.{Answer}
+use Rattle.answers.specs.Reply.{Answer, too_large}
 use Rattle.answers.specs.Stages.{◌>>=◌, Outcome, reads, says}
-use Rattle.answers.specs.declared.status.Status.{Status}
 use Rattle.answers.specs.declared.status.Status.TheVariants.{Yes}
 use Rattle.refutation.specs.Logs.{Fault}
 use Rattle.refutation.specs.Steps.{Step}
 use Rattle.refutation.specs.Verdict.{verdict_of}
 use Rattle.refutation.specs.declared.verdict.Verdict.{Verdict}
 use Rattle.refutation.specs.declared.verdict.Verdict.TheVariants.{Accepted, Rejected}
-use Rattle.check_answer.specs.Check.{log_malformed, most_log_bytes, most_terms, too_large, verdict_answer}
+use Rattle.check_answer.specs.Check.{log_malformed, most_log_bytes, most_terms, verdict_answer}
 use Rattle.bound_base.specs.BoundRows.{bound_rows, bound_size, bound_vars}
 use Rattle.bound_laws.specs.Faithful.{IsLowerBound}
 use Rattle.encoding.specs.Capped.{capped}
@@ -59,45 +58,32 @@ abbrev pub says_certificate : Result Certificate Fault → (Certificate → Outc
 says_certificate (Ok certificate) next answer = next certificate answer
 says_certificate (Err fault) next answer = answer ≡ log_malformed fault.0 fault.1
 
--- `bound`, over the contents of the store's files where they are known, how many bytes it gave more than, and the files
--- at which it failed
-abbrev pub bounded : (List ℕ → Option (List ℕ)) → (ℕ → Type 0) → (List ℕ → Type 0) → List ℕ → List ℕ → Outcome
-bounded contents took_more failed instance log = do
-  first ← reads (codes "instance") (contents instance) INSTANCE_LIMIT (took_more INSTANCE_LIMIT) (failed instance)
+-- `bound`, over what a store shows
+abbrev pub bounded : Store → List ℕ → List ℕ → Outcome
+bounded store instance log = do
+  first ← reads store (codes "instance") instance INSTANCE_LIMIT 0
   league ← says (codes "instance") (instance_of (pieces first))
   few ← has_few_terms league
-  let long = took_more (length first + most_log_bytes)
-  second ← reads (codes "log") (contents log) most_log_bytes long (failed log)
+  second ← reads store (codes "log") log most_log_bytes (length first)
   certificate ← says_certificate (certificate_of second)
   IsBoundVerdict league certificate
 
 -- ---- a run
 
--- two files within their limits whose bytes are known and at which the store didn't fail, which say a league whose
--- bound rows aren't too many and a certificate
+-- two files within their limits whose bytes are known, which say a league whose bound rows aren't too many and a
+-- certificate
 pub record IsWellFormedCertificate
-    (contents : List ℕ → Option (List ℕ))
-    (failed : List ℕ → Type 0)
+    (store : Store)
     (instance log : List ℕ)
     (league : Instance)
     (certificate : Certificate)
     : Type 0 where
   pub first : List ℕ
   pub second : List ℕ
-  pub first_known : contents instance ≡ Some first
-  pub second_known : contents log ≡ Some second
+  pub first_known : store.contents instance ≡ Some first
+  pub second_known : store.contents log ≡ Some second
   pub first_within : length first ≤ INSTANCE_LIMIT
   pub second_within : length second ≤ most_log_bytes
   pub says_league : instance_of (pieces first) ≡ Ok league
   pub small : bound_size league ≤ most_terms
   pub says_certificate : certificate_of second ≡ Ok certificate
-  pub first_works : failed instance → ⊥
-  pub second_works : failed log → ⊥
-
--- the verdict is written whole
-pub record IsBounded (league : Instance) (certificate : Certificate) (ended : Status) (old new : Option (List ℕ))
-    : Type 0 where
-  pub answer : Answer
-  pub verdict : IsBoundVerdict league certificate answer
-  pub status : ended ≡ answer.status
-  pub written : Appends old new answer.text

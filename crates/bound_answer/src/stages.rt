@@ -1,8 +1,9 @@
 //! The stages of `bound`.
-ghost use Rattle.std.specs.Prelude.{◌≡◌, ◌<◌, ◌≤◌, ℕ, List, IfOk, Ok};
-ghost use Rattle.robin_io.specs.Counts.{Rose, TookMore};
-ghost use Rattle.answers.specs.SeenReply.{answer_of, Answers, MatchStage};
-ghost use Rattle.check_answer.specs.Check.{most_terms, too_large};
+ghost use Rattle.std.specs.Prelude.{◌≡◌, ◌<◌, ◌≤◌, ℕ, List, Ok};
+ghost use Rattle.robin_io.specs.Outside.{store_between};
+ghost use Rattle.answers.specs.Reply.{too_large};
+ghost use Rattle.answers.specs.SeenReply.{Answers, MatchStage};
+ghost use Rattle.check_answer.specs.Check.{most_terms};
 ghost use Rattle.bound_base.specs.BoundRows.{bound_size};
 ghost use Rattle.encoding.specs.Capped.{capped};
 ghost use Rattle.certificates.specs.Certificates.{certificate_of};
@@ -10,10 +11,10 @@ ghost use Rattle.bound_answer.specs.Bound.{IsBoundVerdict, bounded, says_certifi
 ghost use Rattle.bound_answer.specs.Faults.{IsMalformed};
 
 use crate::replies::judge;
-use answers::{NoValue, Reply, file, league_in};
+use answers::{NoValue, Reply, file, league_in, rows_refused};
 use bound_rows::{MOST_TERMS, bound_terms};
 use certificates::{Certificate, read_certificate};
-use check_answer::{LOG_LIMIT, log_refused, rows_refused};
+use check_answer::{LOG_LIMIT, log_refused};
 use league::League;
 use refutation::LogFault;
 use robin_io::Shelf;
@@ -30,7 +31,7 @@ pub fn has_few_terms(alloc: Global, league: &League) -> Result<(), NoValue>
         (λ answer. (most_terms < bound_size league.now)
         × (answer ≡ too_large (capped (bound_size league.now)))) }
 {
-    let terms = bound_terms(alloc, league)?;
+    let terms = bound_terms(league);
     if terms > MOST_TERMS {
         return Err(NoValue::Refused(rows_refused(alloc, terms)?));
     }
@@ -60,16 +61,17 @@ fn judge_text(alloc: Global, bytes: &[u8], league: &League) -> Result<Reply, NoV
     Ok(judge(alloc, league, &certificate)?)
 }
 
-/// The stages of `bound`.
-fn bound_stages<S: Shelf>(
+/// Checks the certificate of one file over the bound rows of the league of the other.
+///
+/// # Errors
+/// Where a file is refused, with the reply that says why, and where memory runs out.
+pub fn bound_file<S: Shelf>(
     alloc: Global,
     shelf: &mut S,
     instance: &str,
     log: &str,
 ) -> Result<Reply, NoValue>
-    ensures answer { Answers (bounded (S.contents shelf.old)
-        (λ limit. TookMore limit (S.taken shelf.old) (S.taken shelf.new))
-        (λ name. Rose (S.faults shelf.old name) (S.faults shelf.new name))
+    ensures answer { Answers (bounded (store_between S.Shelf shelf.old shelf.new)
         instance.now log.now) result }
     ensures contents { (n : List ℕ) → S.contents shelf.new n ≡ S.contents shelf.old n }
 {
@@ -78,27 +80,4 @@ fn bound_stages<S: Shelf>(
     has_few_terms(alloc, &league)?;
     let second = file(alloc, shelf, "log", log, LOG_LIMIT)?;
     judge_text(alloc, &second, &league)
-}
-
-/// Checks the certificate of one file over the bound rows of the league of the other.
-///
-/// # Errors
-/// Only where memory runs out: a refused file has a reply of its own.
-pub fn bound_file<S: Shelf>(
-    alloc: Global,
-    shelf: &mut S,
-    instance: &str,
-    log: &str,
-) -> Result<Reply, AllocError>
-    ensures answer { IfOk result (λ reply. bounded (S.contents shelf.old)
-        (λ limit. TookMore limit (S.taken shelf.old) (S.taken shelf.new))
-        (λ name. Rose (S.faults shelf.old name) (S.faults shelf.new name))
-        instance.now log.now (answer_of reply)) }
-    ensures contents { (n : List ℕ) → S.contents shelf.new n ≡ S.contents shelf.old n }
-{
-    match bound_stages(alloc, shelf, instance, log) {
-        Ok(reply) => Ok(reply),
-        Err(NoValue::Refused(reply)) => Ok(reply),
-        Err(NoValue::Memory) => Err(AllocError),
-    }
 }

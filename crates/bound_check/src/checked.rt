@@ -1,5 +1,5 @@
 //! Logs over bound rows.
-ghost use Rattle.std.specs.Prelude.{◌≡◌, ℕ, ◌-◌, ◌<◌, ◌≤◌, ◌⊎◌, IfOk, IsOk, Ok, Err};
+ghost use Rattle.std.specs.Prelude.{◌≡◌, ℕ, ◌-◌, ◌<◌, ◌≤◌, IfOk, IsOk, Ok, Err};
 ghost use Rattle.bound_base.specs.BoundRows.{bound_rows, bound_size, bound_vars};
 ghost use Rattle.bound_laws.specs.Faithful.{IsLowerBound};
 ghost use Rattle.encoding.specs.Capped.{capped};
@@ -29,8 +29,8 @@ pub fn check_bound(
         verdict ≡ verdict_of (bound_rows league.now (bound - 1)) (bound_vars league.now) log.now) }
     ensures holds { result ≡ Ok Verdict.Accepted → IsLowerBound league.now bound }
     ensures within { IsOk result → bound_size league.now ≤ 40000000 }
-    ensures too_large { 40000000 < bound_size league.now → (result ≡ Err EncodeFault.Mem)
-        ⊎ (result ≡ Err (EncodeFault.TooLarge (capped (bound_size league.now)))) }
+    ensures too_large { 40000000 < bound_size league.now
+        → result ≡ Err (EncodeFault.TooLarge (capped (bound_size league.now))) }
     ensures only { (terms : ℕ) → result ≡ Err (EncodeFault.TooLarge terms) → 40000000 < bound_size league.now }
 {
     let _n = league.n();

@@ -4,8 +4,6 @@ use Rattle.std.specs.List.{sum_by}
 use Rattle.league.specs.Bounds.{largest}
 use Rattle.league.specs.declared.class.Class.{Class}
 use Rattle.league.specs.declared.class.Constraint.{Constraint}
-use Rattle.league.specs.declared.class.Span.{Span}
-use Rattle.league.specs.declared.class.Span.TheVariants.{Global, Every}
 use Rattle.rows.specs.Rows.{Row}
 use Rattle.encoding_base.specs.Encoding.{class_rows}
 use Rattle.bound_base.specs.BoundRows.{paid_of, units_of}
@@ -42,11 +40,6 @@ two_rows_size low beyond count =
 -- a group that bounds so many literals from low to high
 abbrev pub between_size : ℕ → ℕ → ℕ → ℕ
 between_size low high count = two_rows_size low (count - high) count
-
--- of a CA4 with so many meetings and slots: of all slots together, or of each
-abbrev pub span_size : Span → ℕ → ℕ → ℕ → ℕ → ℕ
-span_size Global low high meetings slots = between_size low high (meetings * slots)
-span_size Every low high meetings slots = between_size low high meetings * slots
 
 -- of two teams of an FA2: at each slot two rows, each with two literals for each slot so far
 abbrev pub lead_units : ℕ → List ℕ → ℕ

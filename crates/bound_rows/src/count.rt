@@ -1,5 +1,5 @@
 //! How many terms the bound rows of a league have. They are counted by formulas, and no row is written.
-ghost use Rattle.std.specs.Prelude.{◌≡◌, ◌+◌, [], ◌∷◌, IfOk, IsTrue};
+ghost use Rattle.std.specs.Prelude.{◌≡◌, ◌+◌, [], ◌∷◌, IsTrue};
 ghost use Rattle.std.specs.List.{All};
 ghost use Rattle.league.specs.Instance.{IsTeamCount, class_fits};
 ghost use Rattle.rows.specs.Rows.{size_of};
@@ -13,19 +13,15 @@ use bound_base::{is_paid, needs_breaks};
 use encoding_base::has_breaks;
 use encoding_sizes::encoding_size;
 use league::{Constraint, League};
-use std::alloc::{AllocError, Global};
 
 /// How many terms the bound rows of a league have, whatever the bound; where a number of 64 bits doesn't hold that, the
-/// largest one.
-///
-/// # Errors
-/// Only where memory runs out.
-pub fn bound_terms(alloc: Global, league: &League) -> Result<u64, AllocError>
-    ensures { IfOk result (λ terms. terms ≡ capped (bounds.bound_size league.now)) }
+/// largest one. It takes no memory.
+pub fn bound_terms(league: &League) -> u64
+    ensures { result ≡ capped (bounds.bound_size league.now) }
 {
     let base = encoding_size(league).saturating_add(more_terms(league));
-    let paid = paid_terms(alloc, league.n(), league.constraints())?;
-    Ok(base.saturating_add(paid))
+    let paid = paid_terms(league.n(), league.constraints());
+    base.saturating_add(paid)
 }
 
 /// Those of breaks that have variables only since a soft constraint bounds them.
@@ -42,27 +38,27 @@ fn more_terms(league: &League) -> u64
 }
 
 /// Those of the groups of the constraints that are paid for.
-fn paid_terms(alloc: Global, n: u16, constraints: &[Constraint]) -> Result<u64, AllocError>
+fn paid_terms(n: u16, constraints: &[Constraint]) -> u64
     requires n { IsTeamCount n }
     requires fit { All (λ c. IsTrue (class_fits n c.class)) constraints.now }
-    ensures { IfOk result (λ terms. terms ≡ capped (sizes.paid_size n constraints.now)) }
+    ensures { result ≡ capped (sizes.paid_size n constraints.now) }
 {
     let mut total = 0_u64;
     for constraint in constraints {
-        total = total.saturating_add(terms_if_paid(alloc, n, constraint)?);
+        total = total.saturating_add(terms_if_paid(n, constraint));
     }
-    Ok(total)
+    total
 }
 
 /// Those of one constraint, where it is paid for.
-fn terms_if_paid(alloc: Global, n: u16, constraint: &Constraint) -> Result<u64, AllocError>
+fn terms_if_paid(n: u16, constraint: &Constraint) -> u64
     requires n { IsTeamCount n }
     requires fits { IsTrue (class_fits n constraint.now.class) }
-    ensures { IfOk result (λ terms. terms ≡ capped (sizes.paid_size n (constraint.now ∷ []))) }
+    ensures { result ≡ capped (sizes.paid_size n (constraint.now ∷ [])) }
 {
     if is_paid(constraint) {
-        class_terms(alloc, n, &constraint.class)
+        class_terms(n, &constraint.class)
     } else {
-        Ok(0)
+        0
     }
 }

@@ -1,27 +1,25 @@
 //! How many terms the groups of an SE1 have: as many for each two of its teams.
-ghost use Rattle.std.specs.Prelude.{◌≡◌, [], ◌∷◌, IfOk, IsTrue};
+ghost use Rattle.std.specs.Prelude.{◌≡◌, [], ◌∷◌, IsTrue};
 ghost use Rattle.league.specs.Instance.{IsTeamCount, class_fits};
+ghost use Rattle.league.specs.Names.{name_of};
 ghost use Rattle.bound_base.specs.Parts as parts;
 ghost use Rattle.bound_rows.specs.Sizes as sizes;
 ghost use Rattle.encoding.specs.Capped.{capped};
 
-use encoding_base::team_pairs;
-use league::{Class, TeamSet, slot_count};
-use std::alloc::{AllocError, Global};
+use encoding_sizes::pair_total;
+use league::{Class, ClassName, slot_count};
 
 /// Those of an SE1: as many for each two of its teams.
-///
-/// # Errors
-/// Only where memory runs out.
-pub(crate) fn se1_terms(alloc: Global, n: u16, teams: &TeamSet, min: u32) -> Result<u64, AllocError>
+pub(crate) fn se1_terms(n: u16, class: &Class) -> u64
     requires n { IsTeamCount n }
-    requires fits { IsTrue (class_fits n (Class.Se1 teams.now min)) }
-    ensures { IfOk result (λ terms. terms
-        ≡ capped (sizes.parts_size n (parts.parts_of n (Class.Se1 teams.now min)))) }
+    requires class { name_of class.now ≡ ClassName.Se1 }
+    requires fits { IsTrue (class_fits n class.now) }
+    ensures { result ≡ capped (sizes.parts_size n (parts.parts_of n class.now)) }
 {
-    let pairs = team_pairs(alloc, n, teams)?;
-    let terms = pair_terms(n, min).saturating_mul(pairs.len() as u64);
-    Ok(terms)
+    let Class::Se1 { teams, min } = class else {
+        unreachable!()
+    };
+    pair_terms(n, *min).saturating_mul(pair_total(n, teams))
 }
 
 /// Those of two teams. With the least numbers of slots from the season's on they are all alike.

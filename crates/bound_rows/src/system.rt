@@ -1,5 +1,5 @@
 //! The bound rows of a league and a bound.
-ghost use Rattle.std.specs.Prelude.{◌≡◌, ℕ, ◌<◌, ◌≤◌, ◌⊎◌, IfOk, IsOk, Err};
+ghost use Rattle.std.specs.Prelude.{◌≡◌, ℕ, ◌<◌, ◌≤◌, IfOk, IsOk, Err};
 ghost use Rattle.league.specs.Instance.{IsInstance};
 ghost use Rattle.encoding_base.specs.Known.{AreKnown};
 ghost use Rattle.bound_base.specs.BoundRows as bounds;
@@ -67,11 +67,11 @@ impl BoundSystem {
 pub fn bound_system(alloc: Global, league: &League, bound: u64) -> Result<BoundSystem, EncodeFault>
     ensures of { IfOk result (λ system. system ≡ record { league = league.now; bound = bound }) }
     ensures within { IsOk result → bound_size league.now ≤ 40000000 }
-    ensures too_large { 40000000 < bound_size league.now → (result ≡ Err EncodeFault.Mem)
-        ⊎ (result ≡ Err (EncodeFault.TooLarge (capped (bound_size league.now)))) }
+    ensures too_large { 40000000 < bound_size league.now
+        → result ≡ Err (EncodeFault.TooLarge (capped (bound_size league.now))) }
     ensures only { (terms : ℕ) → result ≡ Err (EncodeFault.TooLarge terms) → 40000000 < bound_size league.now }
 {
-    let terms = bound_terms(alloc, league)?;
+    let terms = bound_terms(league);
     if terms > MOST_TERMS {
         return Err(EncodeFault::TooLarge { terms });
     }

@@ -1,5 +1,5 @@
 //! Whether a schedule can be bettered.
-ghost use Rattle.std.specs.Prelude.{◌≡◌, ℕ, ◌-◌, ◌^◌, ◌<◌, ◌≤◌, ◌⊎◌, [], length, IfOk, IsOk, Err, Option};
+ghost use Rattle.std.specs.Prelude.{◌≡◌, ℕ, ◌-◌, ◌^◌, ◌<◌, ◌≤◌, [], length, IfOk, IsOk, Err, Option};
 ghost use Rattle.std.specs.List.{All};
 ghost use Rattle.league.specs.Accepted.{IsAccepted};
 ghost use Rattle.league.specs.Accepted as costs;
@@ -39,7 +39,7 @@ const MOVES: u64 = 1_000_000;
 ///
 /// # Errors
 /// `TooLarge` only where the bound rows have more than 40,000,000 terms, with their number as far as a number of 64
-/// bits holds it; where they have more, this or want of memory; else only where memory runs out.
+/// bits holds it, and always there; else only where memory runs out.
 pub fn prove(
     alloc: Global,
     league: &League,
@@ -51,11 +51,11 @@ pub fn prove(
     requires few { length schedule.now ≤ 10000 }
     ensures proved { IfOk result (IsProved league.now (counts_of schedule.now) conflicts) }
     ensures within { IsOk result → bound_size league.now ≤ 40000000 }
-    ensures too_large { 40000000 < bound_size league.now → (result ≡ Err EncodeFault.Mem)
-        ⊎ (result ≡ Err (EncodeFault.TooLarge (capped (bound_size league.now)))) }
+    ensures too_large { 40000000 < bound_size league.now
+        → result ≡ Err (EncodeFault.TooLarge (capped (bound_size league.now))) }
     ensures only { (terms : ℕ) → result ≡ Err (EncodeFault.TooLarge terms) → 40000000 < bound_size league.now }
 {
-    let terms = bound_terms(alloc, league)?;
+    let terms = bound_terms(league);
     if terms > MOST_TERMS {
         return Err(EncodeFault::TooLarge { terms });
     }

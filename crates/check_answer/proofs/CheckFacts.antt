@@ -2,6 +2,8 @@
 use Rattle.std.proofs.Common.{◌≡◌, ℕ, ◌≤◌, ◌∙◌, true, if◌then◌else◌, List, [], ◌∷◌, Option, Some, None, Result, Ok, Err, codes, ap, arith, refl, subst, length}
 use Rattle.std.specs.Prelude.{bytes_eq}
 use Rattle.std.specs.Fmt.{digits}
+use Rattle.answers.specs.Stages.{NoneFails}
+use Rattle.robin_io.specs.Outside.{Store}
 use Rattle.robinx_tags.specs.Pieces.{pieces, pieces_from}
 use Rattle.robinx_tags.specs.Tags.{attributes_at}
 use Rattle.league.specs.Instance.{Instance}
@@ -9,7 +11,7 @@ use Rattle.league.specs.declared.class.Class.TheVariants.{Ca1}
 use Rattle.league.specs.declared.class.Side.TheVariants.{H}
 use Rattle.robinx_form.specs.InstanceFile.{instance_of}
 use Rattle.robinx_form.specs.Walk.{walk}
-use Rattle.answers.specs.Reply.{Answer, read_fault, too_long}
+use Rattle.answers.specs.Reply.{Answer, read_fault, too_large, too_long}
 use Rattle.answers.specs.declared.status.Status.TheVariants.{Yes, No, File, ReadFault}
 use Rattle.encoding.specs.Encoding.{encoding_size, rows_of}
 use Rattle.encoding.specs.Variables.{var_count}
@@ -21,7 +23,7 @@ use Rattle.refutation.specs.Verdict.{verdict_of}
 use Rattle.refutation.specs.declared.fault.LogKind.TheVariants.{BadLine, BadNumber, NoEnd, TooLong}
 use Rattle.refutation.specs.declared.verdict.Cause.TheVariants.{UnknownRow, UnknownVariable, NoConflict, NoEmptyClause, TooWide}
 use Rattle.refutation.specs.declared.verdict.Verdict.TheVariants.{Accepted, Rejected}
-use Rattle.check_answer.specs.Check.{IsVerdict, IsWellFormedLog, cause_word, checked, kind_word, log_malformed, most_log_bytes, most_terms, says_log, too_large, verdict_answer}
+use Rattle.check_answer.specs.Check.{IsVerdict, IsWellFormedLog, cause_word, checked, kind_word, log_malformed, most_log_bytes, most_terms, says_log, verdict_answer}
 use Rattle.check_answer.proofs.AnswerLemmas.{checked-at_log, checked-well_formed}
 
 -- ---- texts
@@ -106,13 +108,19 @@ never n = ⊥
 abbrev pub nowhere : List ℕ → Type 0
 nowhere name = ⊥
 
+abbrev pub store : Store
+store = record { contents = contents; took_more = never; failed = nowhere }
+
+nothing_fails : NoneFails store (codes "league" ∷ codes "good" ∷ [])
+nothing_fails = λ place name within fails. fails
+
 size-is : encoding_size homeless ≡ 62
 size-is = refl
 
 small : encoding_size homeless ≤ most_terms
 small = omega (arith, size-is)
 
-good-formed : IsWellFormedLog contents nowhere (codes "league") (codes "good") homeless good_steps
+good-formed : IsWellFormedLog store (codes "league") (codes "good") homeless good_steps
 good-formed = record {
   first = league_file;
   second = good_log;
@@ -123,8 +131,6 @@ good-formed = record {
   says_league = says_league;
   small = small;
   says_steps = good-log;
-  first_works = λ h. h;
-  second_works = λ h. h;
 }
 
 accepted-one : verdict_answer 1 Accepted ≡ record { status = Yes; text = codes "accepted steps 1\n" }
@@ -132,12 +138,12 @@ unfolding digits
 accepted-one = refl
 
 -- where nothing fails, this is the one answer to `check league good`
-pub checked-good : (answer : Answer) → checked contents never nowhere (codes "league") (codes "good") answer → answer ≡ record { status = Yes; text = codes "accepted steps 1\n" }
+pub checked-good : (answer : Answer) → checked store (codes "league") (codes "good") answer → answer ≡ record { status = Yes; text = codes "accepted steps 1\n" }
 checked-good answer given =
-    (checked-well_formed contents never nowhere (codes "league") (codes "good") homeless good_steps answer good-formed given).verdict ∙ ap (verdict_answer 1) good-verdict ∙ accepted-one
+    (checked-well_formed store (codes "league") (codes "good") homeless good_steps answer good-formed nothing_fails given).verdict ∙ ap (verdict_answer 1) good-verdict ∙ accepted-one
 
 -- and to `check league bad`: the fault of form, though a step before it is rejected
-pub checked-bad : (answer : Answer) → checked contents never nowhere (codes "league") (codes "bad") answer → answer ≡ log_malformed BadLine 3
+pub checked-bad : (answer : Answer) → checked store (codes "league") (codes "bad") answer → answer ≡ log_malformed BadLine 3
 checked-bad answer given =
-    let told = checked-at_log contents never nowhere (codes "league") (codes "bad") league_file bad_log homeless answer refl refl (omega arith) (omega arith) says_league small (λ h. h) (λ h. h) given in
+    let told = checked-at_log store (codes "league") (codes "bad") league_file bad_log homeless answer refl refl (omega arith) (omega arith) says_league small (λ h. h) (λ h. h) given in
     subst (λ (said : Result (List Step) logs.Fault). says_log said (IsVerdict homeless (rows_of homeless)) answer) bad-log told

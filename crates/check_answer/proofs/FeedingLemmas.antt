@@ -8,6 +8,7 @@ use Rattle.std.specs.List.{fold}
 use Rattle.std.proofs.lemmas.List.{append-nil, take-append-le}
 use Rattle.std.proofs.lemmas.List.Splits.{length-slice_split}
 use Rattle.std.proofs.lemmas.List.Sums.{count_by-le-length, fold-append}
+use Rattle.answers.specs.Stages.{reads}
 use Rattle.refutation.specs.Steps.{Step}
 use Rattle.refutation.specs.Logs.{Line, Reading, after, end_from, go_on, line_of, lines_from, lines_of, log_of}
 use Rattle.refutation.specs.Logs.{no_steps_but, nothing_more, whole}

@@ -1,16 +1,17 @@
 -- How the stages of `check` make an answer.
 use Rattle.std.proofs.Common.{◌≡◌, ℕ, ◌+◌, ◌<◌, ◌≤◌, List, [], length, Option, Result, Ok, Err, codes, inl, inr, sym}
-use Rattle.std.proofs.Common.{ap, subst, refl, arith, ◌∙◌}
-use Rattle.robin_io.specs.Counts.{Rose, TookMore, raised}
+use Rattle.std.proofs.Common.{ap, subst, refl, ◌∙◌}
+use Rattle.robin_io.specs.Outside.{Store}
+use Rattle.robin_io.specs.Rests.{IsRest}
 use Rattle.league.specs.Instance.{Instance, IsInstance}
 use Rattle.rows.specs.Rows.{Row}
 use Rattle.robinx_tags.specs.Pieces.{pieces}
 use Rattle.robinx_form.specs.InstanceFile.{instance_of}
 use Rattle.robinx_read.specs.declared.instance.TheConstants.{INSTANCE_LIMIT}
-use Rattle.answers.specs.Reply.{Answer}
-use Rattle.answers.specs.Stages.{Outcome, IsFile, reads}
+use Rattle.answers.specs.Reply.{Answer, too_large}
+use Rattle.answers.specs.Stages.{Outcome, IsFile, reads, takes}
 use Rattle.answers.specs.declared.status.Status.TheVariants.{Yes}
-use Rattle.answers.proofs.StageLemmas.{reads-wider, says-value}
+use Rattle.answers.proofs.StageLemmas.{says-value, takes-rest}
 use Rattle.encoding.specs.Encoding.{encoding_size, rows_of}
 use Rattle.encoding.specs.Variables.{var_count}
 use Rattle.refutation.specs.Steps.{Step}
@@ -24,58 +25,49 @@ use Rattle.refutation_check.specs.Judged.{Judged, no_step_of, verdict_so_far}
 use Rattle.refutation_check.proofs.VerdictLemmas.{steps_give_verdict}
 use Rattle.season_check.proofs.SeasonLemmas.{accepted_logs_exclude}
 use Rattle.check_answer.specs.Check.{IsVerdict, IsVerdictOver, checked, encodes, log_malformed, most_log_bytes}
-use Rattle.check_answer.specs.Check.{most_terms, says_log, too_large, verdict_answer}
+use Rattle.check_answer.specs.Check.{most_terms, says_log, verdict_answer}
 use Rattle.check_answer.specs.Feeding.{ChecksOn}
 use Rattle.check_answer.proofs.FeedingLemmas.{log-ended, log-faulty}
 
 -- ---- stages
 
 -- the instance file is read and says a league: what its rows come to is the answer
-after-league : (contents : List ℕ → Option (List ℕ)) (took_more : ℕ → Type 0) (failed : List ℕ → Type 0) (instance log first : List ℕ) (league : Instance) → IsFile (contents instance) INSTANCE_LIMIT first → instance_of (pieces first) ≡ Ok league
-    → (answer : Answer) → encodes league (λ rows. reads (codes "log") (contents log) most_log_bytes (took_more (length first + most_log_bytes)) (failed log) (λ bytes. says_log (log_of bytes) (IsVerdict league rows))) answer → checked contents took_more failed instance log answer
-after-league contents took_more failed instance log first league is_first says_league answer rest =
-    inl (first, is_first, says-value (codes "instance") (instance_of (pieces first)) league (λ l. encodes l (λ rows. reads (codes "log") (contents log) most_log_bytes (took_more (length first + most_log_bytes)) (failed log) (λ bytes. says_log (log_of bytes) (IsVerdict l rows)))) answer says_league rest)
+after-league : (store : Store) (instance log first : List ℕ) (league : Instance) → IsFile (store.contents instance) INSTANCE_LIMIT first → instance_of (pieces first) ≡ Ok league
+    → (answer : Answer) → encodes league (λ rows. takes (codes "log") (store.contents log) most_log_bytes (store.took_more (length first + most_log_bytes)) (store.failed log) (λ bytes. says_log (log_of bytes) (IsVerdict league rows))) answer → checked store instance log answer
+after-league store instance log first league is_first says_league answer rest =
+    inl (first, is_first, says-value (codes "instance") (instance_of (pieces first)) league (λ l. encodes l (λ rows. takes (codes "log") (store.contents log) most_log_bytes (store.took_more (length first + most_log_bytes)) (store.failed log) (λ bytes. says_log (log_of bytes) (IsVerdict l rows)))) answer says_league rest)
 
 -- its rows are too many
-pub checked-large : (contents : List ℕ → Option (List ℕ)) (took_more : ℕ → Type 0) (failed : List ℕ → Type 0) (instance log first : List ℕ) (league : Instance) → IsFile (contents instance) INSTANCE_LIMIT first → instance_of (pieces first) ≡ Ok league
-    → (answer : Answer) → (most_terms < encoding_size league) × (answer ≡ too_large (encoding_size league)) → checked contents took_more failed instance log answer
-checked-large contents took_more failed instance log first league is_first says_league answer large = after-league contents took_more failed instance log first league is_first says_league answer (inr large)
+pub checked-large : (store : Store) (instance log first : List ℕ) (league : Instance) → IsFile (store.contents instance) INSTANCE_LIMIT first → instance_of (pieces first) ≡ Ok league
+    → (answer : Answer) → (most_terms < encoding_size league) × (answer ≡ too_large (encoding_size league)) → checked store instance log answer
+checked-large store instance log first league is_first says_league answer large = after-league store instance log first league is_first says_league answer (inr large)
 
 -- they aren't: the rest is the answer to the log
-pub checked-log : (contents : List ℕ → Option (List ℕ)) (took_more : ℕ → Type 0) (failed : List ℕ → Type 0) (instance log first : List ℕ) (league : Instance) → IsFile (contents instance) INSTANCE_LIMIT first → instance_of (pieces first) ≡ Ok league → encoding_size league ≤ most_terms
-    → (answer : Answer) → reads (codes "log") (contents log) most_log_bytes (took_more (length first + most_log_bytes)) (failed log) (λ bytes. says_log (log_of bytes) (IsVerdict league (rows_of league))) answer → checked contents took_more failed instance log answer
-checked-log contents took_more failed instance log first league is_first says_league small answer rest = after-league contents took_more failed instance log first league is_first says_league answer (inl (small, rest))
+pub checked-log : (store : Store) (instance log first : List ℕ) (league : Instance) → IsFile (store.contents instance) INSTANCE_LIMIT first → instance_of (pieces first) ≡ Ok league → encoding_size league ≤ most_terms
+    → (answer : Answer) → takes (codes "log") (store.contents log) most_log_bytes (store.took_more (length first + most_log_bytes)) (store.failed log) (λ bytes. says_log (log_of bytes) (IsVerdict league (rows_of league))) answer → checked store instance log answer
+checked-log store instance log first league is_first says_league small answer rest = after-league store instance log first league is_first says_league answer (inl (small, rest))
 
 -- the log's file is read: the answer is that to what it says
 pub log-file : (known : Option (List ℕ)) (long failed : Type 0) (next : List ℕ → Outcome) (bytes : List ℕ)
     → IsFile known most_log_bytes bytes → (answer : Answer) → next bytes answer
-    → reads (codes "log") known most_log_bytes long failed next answer
+    → takes (codes "log") known most_log_bytes long failed next answer
 log-file known long failed next bytes is_file answer given = inl (bytes, is_file, given)
 
--- ---- counts of a run, by those of a call in it
-
-pub took_more-before : (front more old between now : ℕ) → between ≡ raised old front → TookMore more between now → TookMore (front + more) old now
-took_more-before front more old between now is took =
-    let told : raised (raised old front) (more + 1) ≤ now = subst (λ (n : ℕ). TookMore more n now) is took in omega arith
-
-pub rose-before : (old between now : ℕ) → old ≤ between → Rose between now → Rose old now
-rose-before old between now later rose = let told : raised between 1 ≤ now = rose in omega arith
-
--- what is answered to the log by the counts from there on is the answer of the whole run
-pub checked-within : (contents : List ℕ → Option (List ℕ)) (first_taken mid_taken last_taken : ℕ) (first_faults mid_faults last_faults : List ℕ → ℕ) (instance log first : List ℕ) (known : Option (List ℕ)) (league encoded : Instance)
-    → IsFile (contents instance) INSTANCE_LIMIT first → instance_of (pieces first) ≡ Ok league → encoded ≡ league → encoding_size league ≤ most_terms → known ≡ contents log → mid_taken ≡ raised first_taken (length first) → first_faults log ≤ mid_faults log
-    → (answer : Answer) → reads (codes "log") known most_log_bytes (TookMore most_log_bytes mid_taken last_taken) (Rose (mid_faults log) (last_faults log)) (λ bytes. says_log (log_of bytes) (IsVerdict encoded (rows_of encoded))) answer
-    → checked contents (λ limit. TookMore limit first_taken last_taken) (λ name. Rose (first_faults name) (last_faults name)) instance log answer
-checked-within contents first_taken mid_taken last_taken first_faults mid_faults last_faults instance log first known league encoded is_first says_league same small told taken later answer given =
-    let long : Type 0 = TookMore most_log_bytes mid_taken last_taken in
-    let failing : Type 0 = Rose (mid_faults log) (last_faults log) in
-    let at_known : reads (codes "log") (contents log) most_log_bytes long failing (λ bytes. says_log (log_of bytes) (IsVerdict encoded (rows_of encoded))) answer =
-    subst (λ (k : Option (List ℕ)). reads (codes "log") k most_log_bytes long failing (λ bytes. says_log (log_of bytes) (IsVerdict encoded (rows_of encoded))) answer) told given in
-    let at_league : reads (codes "log") (contents log) most_log_bytes long failing (λ bytes. says_log (log_of bytes) (IsVerdict league (rows_of league))) answer =
-    subst (λ (l : Instance). reads (codes "log") (contents log) most_log_bytes long failing (λ bytes. says_log (log_of bytes) (IsVerdict l (rows_of l))) answer) same at_known in
-    checked-log contents (λ limit. TookMore limit first_taken last_taken) (λ name. Rose (first_faults name) (last_faults name)) instance log first league is_first says_league small answer
-    (reads-wider (codes "log") (contents log) most_log_bytes long (TookMore (length first + most_log_bytes) first_taken last_taken) failing (Rose (first_faults log) (last_faults log)) (λ bytes. says_log (log_of bytes) (IsVerdict league (rows_of league))) answer
-    (took_more-before (length first) most_log_bytes first_taken mid_taken last_taken taken) (rose-before (first_faults log) (mid_faults log) (last_faults log) later) at_league)
+-- what the rest of a run answers to the log is what the whole answers
+pub checked-within : (whole rest : Store) (instance log first : List ℕ) (league encoded : Instance)
+    → IsRest (length first) whole rest → IsFile (whole.contents instance) INSTANCE_LIMIT first
+    → instance_of (pieces first) ≡ Ok league → encoded ≡ league → encoding_size league ≤ most_terms
+    → (answer : Answer)
+    → reads rest (codes "log") log most_log_bytes 0
+    (λ bytes. says_log (log_of bytes) (IsVerdict encoded (rows_of encoded))) answer
+    → checked whole instance log answer
+checked-within whole rest instance log first league encoded is_rest is_first says_league same small answer given =
+    let verdict : Instance → List ℕ → Outcome =
+    λ l bytes. says_log (log_of bytes) (IsVerdict l (rows_of l)) in
+    let at_league : reads rest (codes "log") log most_log_bytes 0 (verdict league) answer =
+    subst (λ (l : Instance). reads rest (codes "log") log most_log_bytes 0 (verdict l) answer) same given in
+    checked-log whole instance log first league is_first says_league small answer
+    (takes-rest (length first) whole rest is_rest (codes "log") log most_log_bytes (verdict league) answer at_league)
 
 -- ---- the verdict
 
@@ -100,9 +92,9 @@ said-verdict league (Err fault) answer instance is = is
 
 pub read-verdict : (known : Option (List ℕ)) (long failed : Type 0) (league : Instance) (answer : Answer)
     → IsInstance league
-    → reads (codes "log") known most_log_bytes long failed
+    → takes (codes "log") known most_log_bytes long failed
     (λ bytes. says_log (log_of bytes) (IsVerdictOver (rows_of league) (var_count league))) answer
-    → reads (codes "log") known most_log_bytes long failed
+    → takes (codes "log") known most_log_bytes long failed
     (λ bytes. says_log (log_of bytes) (IsVerdict league (rows_of league))) answer
 read-verdict known long failed league answer instance (inl read) =
     inl (read.0, read.1, said-verdict league (log_of read.0) answer instance read.2)

@@ -1,14 +1,13 @@
 -- What `check` answers: its stages in their order, and the verdict on a log.
 use Rattle.std.specs.Prelude.{◌≡◌, ℕ, ◌+◌, ◌<◌, ◌≤◌, ◌⊎◌, List, ◌++◌, length, codes, decimal}
-use Rattle.std.specs.Prelude.{Option, Some, Result, Ok, Err}
-use Rattle.std.specs.Io.KnownBytes.{Appends}
+use Rattle.std.specs.Prelude.{Some, Result, Ok, Err}
+use Rattle.robin_io.specs.Outside.{Store}
 use Rattle.robinx_tags.specs.Pieces.{pieces}
 use Rattle.league.specs.Instance.{Instance}
 use Rattle.robinx_form.specs.InstanceFile.{instance_of}
 use Rattle.robinx_read.specs.declared.instance.TheConstants.{INSTANCE_LIMIT}
-use Rattle.answers.specs.Reply.{Answer}
+use Rattle.answers.specs.Reply.{Answer, too_large}
 use Rattle.answers.specs.Stages.{◌>>=◌, Outcome, reads, says}
-use Rattle.answers.specs.declared.status.Status.{Status}
 use Rattle.answers.specs.declared.status.Status.TheVariants.{Yes, No, File}
 use Rattle.rows.specs.Rows.{Row}
 use Rattle.encoding.specs.Encoding.{encoding_size, rows_of}
@@ -47,13 +46,6 @@ abbrev pub log_malformed : LogKind → ℕ → Answer
 log_malformed kind line = record {
   status = File;
   text = codes "refused log " ++ (kind_word kind ++ (codes " line " ++ (decimal line ++ codes "\n")));
-}
-
--- the rows of the league have so many terms, which are too many
-abbrev pub too_large : ℕ → Answer
-too_large terms = record {
-  status = File;
-  text = codes "refused rows TooLarge terms " ++ (decimal terms ++ codes "\n");
 }
 
 -- the name of a cause
@@ -96,44 +88,32 @@ pub record IsVerdict (league : Instance) (rows : List Row) (steps : List Step) (
   pub verdict : IsVerdictOver rows (var_count league) steps answer
   pub refuted : answer.status ≡ Yes → NoneAccepted league
 
--- `check`, over the contents of the store's files where they are known, how many bytes it gave more than, and the files
--- at which it failed: the whole log is read before it is judged, so a fault of form comes before any verdict
-abbrev pub checked : (List ℕ → Option (List ℕ)) → (ℕ → Type 0) → (List ℕ → Type 0) → List ℕ → List ℕ → Outcome
-checked contents took_more failed instance log = do
-  first ← reads (codes "instance") (contents instance) INSTANCE_LIMIT (took_more INSTANCE_LIMIT) (failed instance)
+-- `check`, over what a store shows: the whole log is read before it is judged, so a fault of form comes before any verdict
+abbrev pub checked : Store → List ℕ → List ℕ → Outcome
+checked store instance log = do
+  first ← reads store (codes "instance") instance INSTANCE_LIMIT 0
   league ← says (codes "instance") (instance_of (pieces first))
   rows ← encodes league
-  let long = took_more (length first + most_log_bytes)
-  second ← reads (codes "log") (contents log) most_log_bytes long (failed log)
+  second ← reads store (codes "log") log most_log_bytes (length first)
   steps ← says_log (log_of second)
   IsVerdict league rows steps
 
 -- ---- a run
 
--- two files within their limits whose bytes are known and at which the store didn't fail, which say a league whose rows
--- aren't too many and the steps of a log
+-- two files within their limits whose bytes are known, which say a league whose rows aren't too many and the steps of a
+-- log
 pub record IsWellFormedLog
-    (contents : List ℕ → Option (List ℕ))
-    (failed : List ℕ → Type 0)
+    (store : Store)
     (instance log : List ℕ)
     (league : Instance)
     (steps : List Step)
     : Type 0 where
   pub first : List ℕ
   pub second : List ℕ
-  pub first_known : contents instance ≡ Some first
-  pub second_known : contents log ≡ Some second
+  pub first_known : store.contents instance ≡ Some first
+  pub second_known : store.contents log ≡ Some second
   pub first_within : length first ≤ INSTANCE_LIMIT
   pub second_within : length second ≤ most_log_bytes
   pub says_league : instance_of (pieces first) ≡ Ok league
   pub small : encoding_size league ≤ most_terms
   pub says_steps : log_of second ≡ Ok steps
-  pub first_works : failed instance → ⊥
-  pub second_works : failed log → ⊥
-
--- the verdict is written whole
-pub record IsChecked (league : Instance) (steps : List Step) (ended : Status) (old new : Option (List ℕ)) : Type 0 where
-  pub answer : Answer
-  pub verdict : IsVerdict league (rows_of league) steps answer
-  pub status : ended ≡ answer.status
-  pub written : Appends old new answer.text

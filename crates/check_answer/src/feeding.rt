@@ -1,9 +1,7 @@
 //! A log that is checked while it is read: its text comes in pieces, and neither it nor its steps are kept.
-ghost use Rattle.std.specs.Prelude.{◌≡◌, ◌<◌, ◌≤◌, ◌+◌, ◌^◌, ℕ, List, IfOk, IfSome, IsErrOf, OnOk, length, slice_get};
-ghost use Rattle.std.specs.List.{fold};
-ghost use Rattle.robin_io.specs.Counts.{raised, Rose};
+ghost use Rattle.std.specs.Prelude.{◌≡◌, ◌<◌, ◌≤◌, ◌+◌, ◌^◌, ℕ, List, IfOk, IfSome, IsErrOf, length};
+ghost use Rattle.robin_io.specs.Outside.{store_between};
 ghost use Rattle.refutation.specs.Places.{start};
-ghost use Rattle.refutation_check.specs.Judged.{after_step};
 ghost use Rattle.check_answer.specs.Check.{most_log_bytes};
 ghost use Rattle.check_answer.specs.Feeding.{ChecksFile, ChecksOn};
 
@@ -51,9 +49,9 @@ pub(crate) fn check_file<S: Shelf>(
 
     // Each refusal's cause, as in reading a whole file.
     ensures failed { IsErrOf result TakeFault.Failed →
-        Rose (S.faults shelf.old name.now) (S.faults shelf.new name.now) }
+        (store_between S.Shelf shelf.old shelf.new).failed name.now }
     ensures too_long { (l : ℕ) → IsErrOf result (TakeFault.TooLong l) →
-        (raised (S.taken shelf.old) (most_log_bytes + 1) ≤ S.taken shelf.new)
+        (store_between S.Shelf shelf.old shelf.new).took_more most_log_bytes
         × IfSome (S.contents shelf.old name.now) (λ file. most_log_bytes < length file) }
     ensures contents { (n : List ℕ) → S.contents shelf.new n ≡ S.contents shelf.old n }
 {

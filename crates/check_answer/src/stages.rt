@@ -1,22 +1,21 @@
 //! The stages of `check`.
 ghost use Rattle.std.specs.Prelude.{◌≡◌, ◌<◌, ◌≤◌, ℕ, List, IfOk, codes, vec_len};
-ghost use Rattle.robin_io.specs.Counts.{Rose, TookMore};
-ghost use Rattle.league.specs.Instance.{IsInstance};
+ghost use Rattle.robin_io.specs.Outside.{store_between};
 ghost use Rattle.rows.specs.Rows.{Row};
 ghost use Rattle.encoding.specs.Encoding.{encoding_size, rows_of};
-ghost use Rattle.encoding.specs.Variables.{var_count};
 ghost use Rattle.refutation.specs.Logs.{log_of};
 ghost use Rattle.refutation.specs.Places.{start};
 ghost use Rattle.refutation_check.specs.Judged.{no_step_of};
-ghost use Rattle.answers.specs.SeenReply.{answer_of, Answers, MatchStage};
+ghost use Rattle.answers.specs.Reply.{too_large};
+ghost use Rattle.answers.specs.SeenReply.{Answers, MatchStage};
 ghost use Rattle.answers.specs.Stages.{IsUnread, reads};
 ghost use Rattle.check_answer.specs.Check.{IsVerdict, IsVerdictOver, checked, most_log_bytes, most_terms};
-ghost use Rattle.check_answer.specs.Check.{says_log, too_large};
+ghost use Rattle.check_answer.specs.Check.{says_log};
 ghost use Rattle.check_answer.specs.Feeding.{ChecksFile, ChecksOn};
 
 use crate::feeding::{LOG_LIMIT, check_file};
-use crate::replies::{log_refused, rows_refused, verdict_reply};
-use answers::{NoValue, Reply, file, league_in, past_limit, unreadable};
+use crate::replies::{log_refused, verdict_reply};
+use answers::{NoValue, Reply, file, league_in, past_limit, rows_refused, unreadable};
 use encoding::{EncodeFault, Encoding, encode};
 use league::League;
 use refutation::{LogFault, LogFeed};
@@ -58,19 +57,23 @@ fn log_in<S: Shelf>(
     checker: &mut Checker,
 ) -> Result<usize, NoValue>
     requires { feed.old ≡ start }
-    ensures stage { MatchStage result
-        (ChecksFile (S.contents shelf.old name.now) feed.old checker.old feed.new checker.new)
-        (IsUnread (codes "log") (S.contents shelf.old name.now) most_log_bytes
-        (TookMore most_log_bytes (S.taken shelf.old) (S.taken shelf.new))
-        (Rose (S.faults shelf.old name.now) (S.faults shelf.new name.now))) }
+    ensures stage { let store = store_between S.Shelf shelf.old shelf.new in MatchStage result
+        (ChecksFile (store.contents name.now) feed.old checker.old feed.new checker.new)
+        (IsUnread (codes "log") (store.contents name.now) most_log_bytes (store.took_more most_log_bytes)
+        (store.failed name.now)) }
     ensures contents { (n : List ℕ) → S.contents shelf.new n ≡ S.contents shelf.old n }
 {
     let mut room = room_of(alloc, PIECE)?;
     match check_file(alloc, shelf, name, &mut room, feed, checker) {
         Ok(steps) => Ok(steps),
-        Err(TakeFault::Failed) => Err(NoValue::Refused(unreadable(alloc, "log")?)),
+        Err(TakeFault::Failed) => Err(NoValue::Refused(unreadable(
+            alloc,
+            "log",
+            name,
+            shelf.reason(),
+        )?)),
         Err(TakeFault::TooLong { .. }) => {
-            Err(NoValue::Refused(past_limit(alloc, "log", LOG_LIMIT)?))
+            Err(NoValue::Refused(past_limit(alloc, "log", name, LOG_LIMIT)?))
         }
         Err(TakeFault::Mem) => Err(NoValue::Memory),
     }
@@ -108,9 +111,7 @@ pub fn judge_log<S: Shelf>(
     checker: &mut Checker,
 ) -> Result<Reply, NoValue>
     ensures answer { (rows : List Row) (vars : ℕ) → checker.old ≡ no_step_of rows vars
-        → Answers (reads (codes "log") (S.contents shelf.old name.now) most_log_bytes
-        (TookMore most_log_bytes (S.taken shelf.old) (S.taken shelf.new))
-        (Rose (S.faults shelf.old name.now) (S.faults shelf.new name.now))
+        → Answers (reads (store_between S.Shelf shelf.old shelf.new) (codes "log") name.now most_log_bytes 0
         (λ bytes. says_log (log_of bytes) (IsVerdictOver rows vars))) result }
     ensures contents { (n : List ℕ) → S.contents shelf.new n ≡ S.contents shelf.old n }
 {
@@ -126,9 +127,7 @@ fn check_log<S: Shelf>(
     name: &str,
     encoding: &Encoding,
 ) -> Result<Reply, NoValue>
-    ensures answer { Answers (reads (codes "log") (S.contents shelf.old name.now) most_log_bytes
-        (TookMore most_log_bytes (S.taken shelf.old) (S.taken shelf.new))
-        (Rose (S.faults shelf.old name.now) (S.faults shelf.new name.now))
+    ensures answer { Answers (reads (store_between S.Shelf shelf.old shelf.new) (codes "log") name.now most_log_bytes 0
         (λ bytes. says_log (log_of bytes) (IsVerdict encoding.now (rows_of encoding.now)))) result }
     ensures contents { (n : List ℕ) → S.contents shelf.new n ≡ S.contents shelf.old n }
 {
@@ -138,16 +137,19 @@ fn check_log<S: Shelf>(
     judge_log(alloc, shelf, name, &mut checker)
 }
 
-/// The stages of `check`.
-fn check_stages<S: Shelf>(
+/// Checks the log of one file over the rows of the league of the other.
+///
+/// The log is read in pieces and its steps are judged as they come; it is read to its end before the answer.
+///
+/// # Errors
+/// Where a file is refused, with the reply that says why, and where memory runs out.
+pub fn check<S: Shelf>(
     alloc: Global,
     shelf: &mut S,
     instance: &str,
     log: &str,
 ) -> Result<Reply, NoValue>
-    ensures answer { Answers (checked (S.contents shelf.old)
-        (λ limit. TookMore limit (S.taken shelf.old) (S.taken shelf.new))
-        (λ name. Rose (S.faults shelf.old name) (S.faults shelf.new name))
+    ensures answer { Answers (checked (store_between S.Shelf shelf.old shelf.new)
         instance.now log.now) result }
     ensures contents { (n : List ℕ) → S.contents shelf.new n ≡ S.contents shelf.old n }
 {
@@ -155,29 +157,4 @@ fn check_stages<S: Shelf>(
     let league = league_in(alloc, &first)?;
     let encoding = encoding_of(alloc, &league)?;
     check_log(alloc, shelf, log, &encoding)
-}
-
-/// Checks the log of one file over the rows of the league of the other.
-///
-/// The log is read in pieces and its steps are judged as they come; it is read to its end before the answer.
-///
-/// # Errors
-/// Only where memory runs out: a refused file has a reply of its own.
-pub fn check<S: Shelf>(
-    alloc: Global,
-    shelf: &mut S,
-    instance: &str,
-    log: &str,
-) -> Result<Reply, AllocError>
-    ensures answer { IfOk result (λ reply. checked (S.contents shelf.old)
-        (λ limit. TookMore limit (S.taken shelf.old) (S.taken shelf.new))
-        (λ name. Rose (S.faults shelf.old name) (S.faults shelf.new name))
-        instance.now log.now (answer_of reply)) }
-    ensures contents { (n : List ℕ) → S.contents shelf.new n ≡ S.contents shelf.old n }
-{
-    match check_stages(alloc, shelf, instance, log) {
-        Ok(reply) => Ok(reply),
-        Err(NoValue::Refused(reply)) => Ok(reply),
-        Err(NoValue::Memory) => Err(AllocError),
-    }
 }

@@ -1,12 +1,14 @@
 -- Worked readings of words, so that a wrong definition does not check.
 use Rattle.std.proofs.Common.{◌≡◌, ℕ, true, false, List, [], ◌∷◌, Some, None, codes, refl}
+use Rattle.command_line.specs.Topics.{topic_of}
+use Rattle.command_line.specs.declared.topic.Topic.TheVariants as topic
 use Rattle.budgets.specs.declared.budgets.Budgets.{Budgets}
 use Rattle.command_line.specs.Words.{arguments_of, budget_in, has_options, is_file_name, is_option, is_shortest}
 use Rattle.command_line.specs.Words.{files_and_number, members_in, members_of, number_above, number_in, one_file}
 use Rattle.command_line.specs.Words.{one_number, reading, rising, said, two_files}
 use Rattle.command_line.specs.Words.{team_count_in, teams_and_seed, tries_in, values_of, words_of, NeedsNoFile}
 use Rattle.command_line.specs.Words.Command.{Audit, Bound, Check, Circle, Explain, Make, Part, Patterns, Prove}
-use Rattle.command_line.specs.Words.Command.{Resume, Solve, Trial, Validate}
+use Rattle.command_line.specs.Words.Command.{Help, Resume, Solve, Trial, Validate, Version}
 
 -- a number: 0 itself, no leading zero, no sign, no blank, at most 2 ^ 64 - 1
 pub number_in-some : (number_in (codes "0") ≡ Some 0) × (number_in (codes "10") ≡ Some 10) × (number_in (codes "18446744073709551615") ≡ Some 18446744073709551615)
@@ -333,3 +335,43 @@ pub needs_no_file : NeedsNoFile (reading []) × NeedsNoFile (reading (codes "cir
     × (NeedsNoFile (reading (codes "audit" ∷ codes "a" ∷ codes "b" ∷ codes "1" ∷ codes "c" ∷ [])) → ⊥)
 unfolding teams_and_seed
 needs_no_file = (tt, tt, tt, tt, λ h. h, λ h. h, λ h. h, λ h. h, λ h. h, λ h. h, λ h. h, λ h. h, λ h. h, λ h. h)
+
+-- ---- help and the version
+
+pub help-some : (reading (codes "--help" ∷ []) ≡ Some (Help None))
+    × (reading (codes "--version" ∷ []) ≡ Some Version)
+    × (reading (codes "solve" ∷ codes "--help" ∷ []) ≡ Some (Help (Some topic.Solve)))
+    × (reading (codes "--help" ∷ codes "trial" ∷ []) ≡ Some (Help (Some topic.Trial)))
+help-some = (refl, refl, refl, refl)
+
+-- of nothing that is a command, of a command with its words, twice, behind a version, and other spellings
+pub help-none : (reading (codes "plan" ∷ codes "--help" ∷ []) ≡ None)
+    × (reading (codes "solve" ∷ codes "a" ∷ codes "--help" ∷ []) ≡ None)
+    × (reading (codes "--help" ∷ codes "--help" ∷ []) ≡ None)
+    × (reading (codes "--version" ∷ codes "solve" ∷ []) ≡ None)
+    × (reading (codes "help" ∷ []) ≡ None)
+    × (reading (codes "-h" ∷ []) ≡ None)
+    × (reading (codes "--Version" ∷ []) ≡ None)
+help-none = (refl, refl, refl, refl, refl, refl, refl)
+
+-- `--help` where a command takes any word: the name of a solution is none, but what stands behind an option is its value
+pub help-value : (reading (codes "validate" ∷ codes "a" ∷ codes "--help" ∷ []) ≡ None)
+    × (reading (codes "solve" ∷ codes "--moves" ∷ codes "--help" ∷ codes "a" ∷ []) ≡ None)
+help-value = (refl, refl)
+
+-- each command by its name
+pub topics : (topic_of (codes "validate") ≡ Some topic.Validate)
+    × (topic_of (codes "solve") ≡ Some topic.Solve)
+    × (topic_of (codes "patterns") ≡ Some topic.Patterns)
+    × (topic_of (codes "explain") ≡ Some topic.Explain)
+    × (topic_of (codes "part") ≡ Some topic.Part)
+    × (topic_of (codes "check") ≡ Some topic.Check)
+    × (topic_of (codes "prove") ≡ Some topic.Prove)
+    × (topic_of (codes "bound") ≡ Some topic.Bound)
+    × (topic_of (codes "resume") ≡ Some topic.Resume)
+    × (topic_of (codes "audit") ≡ Some topic.Audit)
+    × (topic_of (codes "circle") ≡ Some topic.Circle)
+    × (topic_of (codes "make") ≡ Some topic.Make)
+    × (topic_of (codes "trial") ≡ Some topic.Trial)
+    × (topic_of (codes "Trial") ≡ None)
+topics = (refl, refl, refl, refl, refl, refl, refl, refl, refl, refl, refl, refl, refl, refl)

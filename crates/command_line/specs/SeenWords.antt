@@ -1,7 +1,7 @@
 -- What a contract sees of a command.
 use Rattle.command_line.specs.Words.{Command, members_of}
 use Rattle.command_line.specs.Words.Command.{Validate, Check, Solve, Patterns, Explain, Part, Prove, Bound, Resume}
-use Rattle.command_line.specs.Words.Command.{Audit, Circle, Make, Trial}
+use Rattle.command_line.specs.Words.Command.{Audit, Circle, Make, Trial, Help, Version}
 use Rattle.command_line.specs.declared.words.Words.{Words}
 use Rattle.command_line.specs.declared.words.Words.TheVariants as words
 
@@ -20,3 +20,5 @@ command_of (words.Audit instance solution k log) = Audit instance.now solution.n
 command_of (words.Circle n) = Circle n
 command_of (words.Make n seed) = Make n seed
 command_of (words.Trial n seed budgets) = Trial n seed budgets
+command_of (words.Help topic) = Help topic
+command_of words.Version = Version

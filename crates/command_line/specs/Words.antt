@@ -2,12 +2,15 @@
 use Rattle.std.specs.Prelude.{ℕ, ◌^◌, nat_le, nat_lt, ◌==◌, List, [], ◌∷◌, codes, bytes_eq}
 use Rattle.std.specs.Prelude.{Bool, true, false, not, ◌&&◌, if◌then◌else◌, Option, Some, None, option_and_then}
 use Rattle.std.specs.Prelude.{option_map, unwrap_or}
+use Rattle.std.specs.Option.{option_or}
 use Rattle.std.specs.Str.{byte}
 use Rattle.std.specs.Str.Parse.{digits_value}
 use Rattle.std.specs.List.{list_any, slice_split}
 use Rattle.league.specs.Instance.{IsTeamCount, is_team_count}
 use Rattle.budgets.specs.declared.budgets.Budgets.{Budgets}
 use Rattle.robin_io.specs.Numbers.{is_number}
+use Rattle.command_line.specs.Topics.{topic_of}
+use Rattle.command_line.specs.declared.topic.Topic.{Topic}
 
 -- a command with its arguments
 pub data Command : Type 0 where
@@ -24,6 +27,8 @@ pub data Command : Type 0 where
   Circle : (n : ℕ) → Command
   Make : (n seed : ℕ) → Command
   Trial : (n seed : ℕ) → (budgets : Budgets) → Command
+  Help : (topic : Option Topic) → Command
+  Version : Command
 
 -- whether a word names a file: any word that doesn't begin with `-`
 abbrev pub is_file_name : List ℕ → Bool
@@ -260,10 +265,10 @@ auditing (instance ∷ solution ∷ slots ∷ log ∷ []) =
     else None
 auditing _ = None
 
--- the one reading of the words, or none
-abbrev pub reading : List (List ℕ) → Option Command
-reading [] = None
-reading (command ∷ words) =
+-- the words that follow a command, by its name
+abbrev pub following : List (List ℕ) → Option Command
+following [] = None
+following (command ∷ words) =
     if bytes_eq command (codes "solve") then solving words
     else (if bytes_eq command (codes "patterns") then patterning words
     else (if bytes_eq command (codes "explain") then explaining words
@@ -271,6 +276,26 @@ reading (command ∷ words) =
     else (if bytes_eq command (codes "resume") then resuming words
     else (if bytes_eq command (codes "audit") then auditing words
     else (if bytes_eq command (codes "trial") then trying words else plain command words))))))
+
+-- ---- help and the version
+
+-- help on the command of a name
+abbrev pub helping : List ℕ → Option Command
+helping name = option_map (λ topic. Help (Some topic)) (topic_of name)
+
+-- `--help` alone, behind the name of a command or before it, and `--version` alone
+abbrev pub asking : List (List ℕ) → Option Command
+asking (word ∷ []) =
+    if bytes_eq word (codes "--help") then Some (Help None)
+    else (if bytes_eq word (codes "--version") then Some Version else None)
+asking (first ∷ second ∷ []) =
+    if bytes_eq second (codes "--help") then helping first
+    else (if bytes_eq first (codes "--help") then helping second else None)
+asking _ = None
+
+-- the one reading of the words, or none
+abbrev pub reading : List (List ℕ) → Option Command
+reading words = option_or (asking words) (following words)
 
 -- a league may have the teams of a command, where it names a number of them
 abbrev pub HasTeams : Command → Type 0
@@ -287,13 +312,18 @@ HasTeams (Audit instance solution k log) = Unit {0}
 HasTeams (Circle n) = IsTeamCount n
 HasTeams (Make n seed) = IsTeamCount n
 HasTeams (Trial n seed budgets) = IsTeamCount n
+HasTeams (Help topic) = Unit {0}
+HasTeams Version = Unit {0}
 
--- whether the words need no file: they are refused, or ask for a schedule or a league that is made
+-- whether the words need no file: they are refused, or ask for a schedule or a league that is made, or for help or the
+-- version
 abbrev pub NeedsNoFile : Option Command → Type 0
 NeedsNoFile None = Unit {0}
 NeedsNoFile (Some (Circle n)) = Unit {0}
 NeedsNoFile (Some (Make n seed)) = Unit {0}
 NeedsNoFile (Some (Trial n seed budgets)) = Unit {0}
+NeedsNoFile (Some (Help topic)) = Unit {0}
+NeedsNoFile (Some Version) = Unit {0}
 NeedsNoFile (Some (Validate instance solution)) = ⊥
 NeedsNoFile (Some (Check instance log)) = ⊥
 NeedsNoFile (Some (Solve instance budgets)) = ⊥

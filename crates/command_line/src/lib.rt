@@ -4,8 +4,14 @@
 #![tactic(auto)]
 
 mod arguments;
+mod fault;
 mod list;
+mod role;
+mod topic;
 mod words;
 
+pub use fault::{WordFault, why_refused};
 pub use list::members;
+pub use role::Role;
+pub use topic::{Topic, name_of, topic_of};
 pub use words::{Words, read_words};

@@ -5,8 +5,8 @@ ghost use Rattle.std.specs.Prelude.{option_map, IfSome};
 ghost use Rattle.std.specs.List.{list_any};
 ghost use Rattle.std.specs.Option.{option_copied};
 ghost use Rattle.command_line.specs.Words as options;
-ghost use Rattle.command_line.specs.Words.{arguments_of, auditing, budget_in, budgets_in, conflicts_in, explaining};
-ghost use Rattle.command_line.specs.Words.{has_options, is_file_name, making, parting};
+ghost use Rattle.command_line.specs.Words.{arguments_of, asking, auditing, budget_in, budgets_in, conflicts_in, explaining};
+ghost use Rattle.command_line.specs.Words.{following, has_options, helping, is_file_name, making, parting};
 ghost use Rattle.command_line.specs.Words.{HasTeams, number_in, patterning, plain, proving, reading, resuming, said};
 ghost use Rattle.command_line.specs.Words.{search_options, solve_options, solving, team_count_in, tries_in, trying};
 ghost use Rattle.command_line.specs.Words.{values_of};
@@ -17,6 +17,7 @@ ghost use Rattle.command_line.specs.SeenStanding.{seen};
 
 use crate::arguments::{files_and_number, two_files};
 use crate::list::is_list;
+use crate::topic::{Topic, topic_of};
 use budgets::Budgets;
 use league::is_team_count;
 use robin_io::decimal;
@@ -102,6 +103,12 @@ pub enum Words<'a> {
         seed: u64,
         budgets: Budgets,
     },
+    /// Say what the program does, or what one command does.
+    Help {
+        topic: Option<Topic>,
+    },
+    /// Say which version of the program this is.
+    Version,
 }
 
 /// How many clauses a search may learn where the words don't say it.
@@ -119,6 +126,64 @@ pub fn read_words(words: &[String]) -> Option<Words<'_>>
     ensures reading { option_map command_of result ≡ reading (map string_bytes words.now) }
     ensures teams { IfSome result (λ command. HasTeams (command_of command)) }
 {
+    match asked(words) {
+        Some(question) => Some(question),
+        None => command(words),
+    }
+}
+
+/// Help or the version, where the words ask for it.
+fn asked(words: &[String]) -> Option<Words<'_>>
+    ensures reading { option_map command_of result ≡ asking (map string_bytes words.now) }
+    ensures teams { IfSome result (λ command. HasTeams (command_of command)) }
+{
+    match words {
+        [word] => asked_alone(word.as_str()),
+        [first, second] => help_with(first.as_str(), second.as_str()),
+        _ => None,
+    }
+}
+
+/// Help or the version, where this one word asks for it.
+fn asked_alone<'a>(word: &str) -> Option<Words<'a>>
+    ensures reading { option_map command_of result ≡ asking (word.now ∷ []) }
+    ensures teams { IfSome result (λ command. HasTeams (command_of command)) }
+{
+    match word {
+        "--help" => Some(Words::Help { topic: None }),
+        "--version" => Some(Words::Version),
+        _ => None,
+    }
+}
+
+/// Help on a command, where one of two words is `--help` and the other one the command's name.
+fn help_with<'a>(first: &str, second: &str) -> Option<Words<'a>>
+    ensures reading { option_map command_of result ≡ asking (first.now ∷ second.now ∷ []) }
+    ensures teams { IfSome result (λ command. HasTeams (command_of command)) }
+{
+    if second == "--help" {
+        help_on(first)
+    } else if first == "--help" {
+        help_on(second)
+    } else {
+        None
+    }
+}
+
+/// Help on the command of a name.
+fn help_on<'a>(name: &str) -> Option<Words<'a>>
+    ensures reading { option_map command_of result ≡ helping name.now }
+    ensures teams { IfSome result (λ command. HasTeams (command_of command)) }
+{
+    let topic = topic_of(name)?;
+    Some(Words::Help { topic: Some(topic) })
+}
+
+/// The command that the first word names, with the words behind it.
+fn command(words: &[String]) -> Option<Words<'_>>
+    ensures reading { option_map command_of result ≡ following (map string_bytes words.now) }
+    ensures teams { IfSome result (λ command. HasTeams (command_of command)) }
+{
     match words {
         [] => None,
         [command, rest @ ..] => follow(command.as_str(), rest),
@@ -127,7 +192,7 @@ pub fn read_words(words: &[String]) -> Option<Words<'_>>
 
 /// The command of this name with its words.
 fn follow<'a>(command: &str, words: &'a [String]) -> Option<Words<'a>>
-    ensures reading { option_map command_of result ≡ reading (command.now ∷ map string_bytes words.now) }
+    ensures reading { option_map command_of result ≡ following (command.now ∷ map string_bytes words.now) }
     ensures teams { IfSome result (λ command. HasTeams (command_of command)) }
 {
     if command == "solve" {
@@ -458,14 +523,14 @@ fn number_said(words: &[String], name: &str, usual: u64) -> Option<u64>
 }
 
 /// How often an option stands, and its value where that is once.
-enum Standing<'a> {
+pub(crate) enum Standing<'a> {
     Never,
     Once(&'a str),
     Often,
 }
 
 /// How often the option of a name stands among the words.
-fn value_of<'a>(words: &'a [String], name: &str) -> Standing<'a>
+pub(crate) fn value_of<'a>(words: &'a [String], name: &str) -> Standing<'a>
     ensures { seen result ≡ standing (values_of name.now (map string_bytes words.now)) }
 {
     match words {
@@ -570,7 +635,7 @@ pub(crate) fn is_option(word: &str) -> bool
 }
 
 /// The budget that a word writes: a number of conflicts, or `all`, which is none.
-fn budget(word: &str) -> Option<Option<u64>>
+pub(crate) fn budget(word: &str) -> Option<Option<u64>>
     ensures { result ≡ budget_in word.now }
 {
     if word == "all" {
@@ -588,7 +653,7 @@ pub(crate) fn is_name(word: &str) -> bool
 }
 
 /// The number that a word writes.
-fn number(word: &str) -> Option<u64>
+pub(crate) fn number(word: &str) -> Option<u64>
     ensures { result ≡ number_in word.now }
 {
     number_of(word.as_bytes())
@@ -605,7 +670,7 @@ pub(crate) fn number_of(bytes: &[u8]) -> Option<u64>
 }
 
 /// The number of tries that a word writes: from 1 to 100.
-fn tries(word: &str) -> Option<u64>
+pub(crate) fn tries(word: &str) -> Option<u64>
     ensures { result ≡ tries_in word.now }
 {
     let n = number(word)?;
@@ -613,7 +678,7 @@ fn tries(word: &str) -> Option<u64>
 }
 
 /// The number of teams that a word writes: an even number from 2 to 40.
-fn team_count(word: &str) -> Option<u16>
+pub(crate) fn team_count(word: &str) -> Option<u16>
     ensures value { result ≡ team_count_in word.now }
     ensures teams { IfSome result (λ n. HasTeams (Circle n)) }
 {

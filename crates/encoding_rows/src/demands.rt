@@ -14,24 +14,8 @@ mod separation;
 
 use crate::draft::Draft;
 use crate::season::Season;
-use league::Class;
+use league::{Bounds, Class};
 use std::alloc::{AllocError, Global};
-
-/// How often something may take place: from `min` to `max` times.
-#[derive(Clone, Copy)]
-pub(crate) struct Bounds {
-    pub(crate) min: u32,
-    pub(crate) max: u32,
-}
-
-impl Bounds {
-    /// From `min` to `max` times.
-    fn new(min: u32, max: u32) -> Bounds
-        ensures { result ≡ record { min = min; max = max } }
-    {
-        Bounds { min, max }
-    }
-}
 
 impl Draft {
     /// Adds "at least `degree` of the literals", where that demands anything.
@@ -136,77 +120,14 @@ pub(crate) fn add_class_rows(
 {
     let n = season.n();
     match class {
-        Class::Ca1 {
-            teams,
-            min,
-            max,
-            side,
-            slots,
-        } => draft.add_ca1_rows(n, teams, Bounds::new(*min, *max), *side, slots),
-        Class::Ca2 {
-            teams1,
-            teams2,
-            min,
-            max,
-            side,
-            slots,
-        } => draft.add_ca2_rows(
-            alloc,
-            n,
-            teams1,
-            teams2,
-            Bounds::new(*min, *max),
-            *side,
-            slots,
-        ),
-        Class::Ca3 {
-            teams1,
-            teams2,
-            min,
-            max,
-            intp,
-            side,
-        } => draft.add_ca3_rows(
-            alloc,
-            season,
-            teams1,
-            teams2,
-            Bounds::new(*min, *max),
-            *intp,
-            *side,
-        ),
-        Class::Ca4 {
-            teams1,
-            teams2,
-            min,
-            max,
-            side,
-            span,
-            slots,
-        } => draft.add_ca4_rows(
-            alloc,
-            season,
-            teams1,
-            teams2,
-            Bounds::new(*min, *max),
-            *side,
-            *span,
-            slots,
-        ),
-        Class::Ga1 {
-            meetings,
-            min,
-            max,
-            slots,
-        } => draft.add_ga1_rows(n, meetings, Bounds::new(*min, *max), slots),
-        Class::Br1 {
-            teams,
-            intp,
-            side,
-            slots,
-        } => draft.add_br1_rows(n, teams, *intp, *side, slots),
-        Class::Br2 { teams, intp, slots } => draft.add_br2_rows(n, teams, *intp, slots),
-        Class::Fa2 { teams, intp, slots } => draft.add_fa2_rows(alloc, season, teams, *intp, slots),
-        Class::Se1 { teams, min } => draft.add_se1_rows(alloc, season, teams, *min),
+        Class::Ca1 { .. } => draft.add_ca1_rows(n, class),
+        Class::Ca2 { .. } => draft.add_ca2_rows(alloc, n, class),
+        Class::Ca3 { .. } => draft.add_ca3_rows(alloc, season, class),
+        Class::Ca4 { .. } => draft.add_ca4_rows(alloc, season, class),
+        Class::Ga1 { .. } => draft.add_ga1_rows(n, class),
+        Class::Br1 { .. } => draft.add_br1_rows(n, class),
+        Class::Br2 { .. } => draft.add_br2_rows(n, class),
+        Class::Fa2 { .. } => draft.add_fa2_rows(alloc, season, class),
+        Class::Se1 { .. } => draft.add_se1_rows(alloc, season, class),
     }
 }

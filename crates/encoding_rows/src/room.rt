@@ -25,12 +25,8 @@ pub(crate) fn rows_at_most(league: &League, terms: u64) -> usize {
 /// Whether a class asks for at least some games, so that a row of it may have no terms.
 fn asks_for_games(class: &Class) -> bool {
     match class {
-        Class::Ca1 { min, .. }
-        | Class::Ca2 { min, .. }
-        | Class::Ca3 { min, .. }
-        | Class::Ca4 { min, .. }
-        | Class::Ga1 { min, .. } => *min > 0,
-        Class::Br1 { .. } | Class::Br2 { .. } | Class::Fa2 { .. } | Class::Se1 { .. } => false,
+        Class::Fa2 { .. } | Class::Se1 { .. } => false,
+        _ => class.bounds().min > 0,
     }
 }
 

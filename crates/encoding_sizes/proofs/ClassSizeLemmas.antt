@@ -1,5 +1,6 @@
 -- How many terms the rows of each class have.
-use Rattle.std.proofs.Common.{◌≡◌, ℕ, ◌+◌, ◌-◌, ◌*◌, ◌<◌, ◌≤◌, Bool, true, false, nat_lt, cond, List, [], ◌∷◌, ◌++◌, length, min as smaller, map, refl, ap, ◌∙◌, arith, get_or, suc, zero}
+use Rattle.std.proofs.Common.{◌≡◌, ℕ, ◌+◌, ◌-◌, ◌*◌, ◌<◌, ◌≤◌, Bool, true, false, nat_lt, cond, List, [], ◌∷◌, ◌++◌, length, ◌&&◌, min as smaller, map, refl, ap, sym, ◌∙◌, arith, get_or, suc, zero}
+use Rattle.std.proofs.lemmas.Bool.{and_parts}
 use Rattle.std.proofs.lemmas.Bool.Decides.{nat_tests}
 use Rattle.std.proofs.lemmas.List.{length-append}
 use Rattle.std.proofs.lemmas.List.Elements.{All-append, All-map, All-nil}
@@ -9,14 +10,16 @@ use Rattle.std.specs.List.{All, filter, flat_map, range_with_len, sum_by}
 use Rattle.std.specs.Ordering.{nat_cmp}
 use Rattle.league.specs.Capacity.{is_between, meetings_with, windows_of}
 use Rattle.league.specs.Counts.{slot_count}
-use Rattle.league.specs.Instance.{is_one_side}
+use Rattle.league.specs.Deviation.{spans}
+use Rattle.league.specs.Instance.{are_slots, are_teams, class_fits, is_one_side}
 use Rattle.league.specs.Meetings.{meetings_of, others, pairs_of}
 use Rattle.league.specs.Sets.{IsAscending}
+use Rattle.league.specs.Shapes.{bounds_of, has_bounds}
+use Rattle.league.specs.declared.class.Class.{Class}
 use Rattle.league.specs.declared.class.Class.TheVariants.{Ca1, Ca2, Ca3, Ca4, Ga1, Br1, Br2, Fa2, Se1}
 use Rattle.league.specs.declared.class.Side.{Side}
 use Rattle.league.specs.declared.class.Side.TheVariants.{Both}
 use Rattle.league.specs.declared.class.Span.{Span}
-use Rattle.league.specs.declared.class.Span.TheVariants.{Global, Every}
 use Rattle.league.proofs.SumLemmas.{sum_by-flat_map, sum_by-map, sum_by-same}
 use Rattle.league.proofs.SetLemmas.{less_than}
 use Rattle.rows.specs.Cardinality.{at_least, at_most}
@@ -25,21 +28,26 @@ use Rattle.rows.specs.Rows.{Row, size_of}
 use Rattle.encoding_base.specs.Demands.{br1_rows, br2_rows, ca1_rows, ca2_rows, ca3_rows, ca4_rows, fa2_rows, fa2_rows_at, ga1_rows, se1_rows, separation_windows}
 use Rattle.encoding_base.specs.Encoding.{class_rows, demands}
 use Rattle.encoding_base.specs.Lists.{after_first, at_home_in, away_breaks_at, away_in, breaks_in, games_in, home_breaks_at, meetings_in_order, slots_up_to, venues_in}
-use Rattle.encoding_sizes.specs.Terms.{between_terms, fa2_terms, most_terms, side_count, span_terms}
+use Rattle.encoding_sizes.specs.Batches.{lengths_of}
+use Rattle.encoding_sizes.specs.Terms.{between_terms, fa2_terms, most_terms, side_count}
 use Rattle.encoding_base.proofs.KeyRowLemmas.{filter-flat_map}
-use Rattle.encoding_sizes.proofs.SizeLemmas.{least-terms, length-all_breaks, length-at_home, length-away, length-breaks, length-games_in, length-meetings, length-venues, size_of-between, size_of-cons, size_of-key, size_of-keys, size_of-most, sum_by-constant, sum_by-same_at, sum_by-times}
-
--- the sum over one element
-sum_by-one : {X : Type 0} (f : X → ℕ) (x : X) → sum_by f (x ∷ []) ≡ f x
-sum_by-one f x = omega arith
+use Rattle.encoding_sizes.proofs.SizeLemmas.{least-terms, length-all_breaks, length-at_home, length-away, length-breaks, length-games_in, length-meetings, length-venues, size_of-between, size_of-cons, size_of-key, size_of-keys, size_of-most, sum_by-constant, sum_by-same_at}
 
 -- ---- capacity
 
-pub size_of-ca1 : (n : ℕ) (teams : List ℕ) (min max : ℕ) (side : Side) (slots : List ℕ) → is_one_side side ≡ true → size_of (class_rows n (Ca1 teams min max side slots)) ≡ length teams * between_terms min max (length slots)
+-- the sum over one element
+alone : (f : ℕ → ℕ) (k : ℕ) → f k ≡ sum_by f (k ∷ [])
+alone f k = omega arith
+
+-- what the lists of a class add up to
+abbrev counted : ℕ → Class → ℕ
+counted n class = sum_by (between_terms (bounds_of class).min (bounds_of class).max) (lengths_of n class)
+
+size_of-ca1 : (n : ℕ) (teams : List ℕ) (min max : ℕ) (side : Side) (slots : List ℕ) → is_one_side side ≡ true → size_of (class_rows n (Ca1 teams min max side slots)) ≡ counted n (Ca1 teams min max side slots)
 size_of-ca1 n teams min max side slots one =
     size_of-keys (ca1_rows n min max side slots) teams
     ∙ sum_by-same (λ i. size_of (filter demands (ca1_rows n min max side slots i))) (λ i. between_terms min max (length slots)) (λ i. size_of-between min max (venues_in side n i slots) ∙ ap (between_terms min max) (length-venues side n i slots one)) teams
-    ∙ sum_by-constant (between_terms min max (length slots)) teams
+    ∙ sym (sum_by-map (between_terms min max) (λ i. length slots) teams)
 
 -- the literals of a team against others in some slots
 opponent_literals : (n : ℕ) (side : Side) (i : ℕ) (teams slots : List ℕ) → length (games_in n (meetings_in_order side i teams) slots) ≡ length (others i teams) * (side_count side * length slots)
@@ -54,79 +62,87 @@ ca2-key : (n : ℕ) (teams2 : List ℕ) (min max : ℕ) (side : Side) (slots : L
 ca2-key n teams2 min max side slots i =
     size_of-between min max (games_in n (meetings_in_order side i teams2) slots) ∙ ap (between_terms min max) (opponent_literals n side i teams2 slots)
 
-pub size_of-ca2 : (n : ℕ) (teams1 teams2 : List ℕ) (min max : ℕ) (side : Side) (slots : List ℕ) → size_of (class_rows n (Ca2 teams1 teams2 min max side slots)) ≡ sum_by (λ i. between_terms min max (length (others i teams2) * (side_count side * length slots))) teams1
+size_of-ca2 : (n : ℕ) (teams1 teams2 : List ℕ) (min max : ℕ) (side : Side) (slots : List ℕ) → size_of (class_rows n (Ca2 teams1 teams2 min max side slots)) ≡ counted n (Ca2 teams1 teams2 min max side slots)
 size_of-ca2 n teams1 teams2 min max side slots =
+    let literals : ℕ → ℕ = λ i. length (others i teams2) * (side_count side * length slots) in
     size_of-keys (ca2_rows n teams2 min max side slots) teams1
-    ∙ sum_by-same (λ i. size_of (filter demands (ca2_rows n teams2 min max side slots i))) (λ i. between_terms min max (length (others i teams2) * (side_count side * length slots))) (ca2-key n teams2 min max side slots) teams1
+    ∙ sum_by-same (λ i. size_of (filter demands (ca2_rows n teams2 min max side slots i))) (λ i. between_terms min max (literals i)) (ca2-key n teams2 min max side slots) teams1
+    ∙ sym (sum_by-map (between_terms min max) literals teams1)
 
-ca3-key : (n : ℕ) (teams2 : List ℕ) (min max intp : ℕ) (side : Side) (i : ℕ) → size_of (filter demands (ca3_rows n teams2 min max intp side i)) ≡ (slot_count n + 1 - intp) * between_terms min max (length (others i teams2) * (side_count side * intp))
+-- the windows of a team
+ca3-key : (n : ℕ) (teams2 : List ℕ) (min max intp : ℕ) (side : Side) (i : ℕ) → size_of (filter demands (ca3_rows n teams2 min max intp side i)) ≡ sum_by (between_terms min max) (map (λ window. length (others i teams2) * (side_count side * length window)) (windows_of n intp))
 ca3-key n teams2 min max intp side i =
     let rows_in : List ℕ → List Row = λ window. ca2_rows n teams2 min max side window i in
-    let literals : ℕ → ℕ = λ slots. length (others i teams2) * (side_count side * slots) in
-    let firsts : List ℕ = range_with_len 0 (slot_count n + 1 - intp) in
+    let literals : List ℕ → ℕ = λ window. length (others i teams2) * (side_count side * length window) in
     ap size_of (filter-flat_map demands rows_in (windows_of n intp))
     ∙ sum_by-flat_map (λ (r : Row). length r.terms) (λ window. filter demands (rows_in window)) (windows_of n intp)
-    ∙ sum_by-map (λ window. size_of (filter demands (rows_in window))) (λ first. range_with_len first intp) firsts
-    ∙ sum_by-same (λ first. size_of (filter demands (rows_in (range_with_len first intp)))) (λ first. between_terms min max (literals intp)) (λ first. ca2-key n teams2 min max side (range_with_len first intp) i ∙ ap (λ (k : ℕ). between_terms min max (literals k)) (length-range_with_len first intp)) firsts
-    ∙ sum_by-constant (between_terms min max (literals intp)) firsts
-    ∙ ap (λ (k : ℕ). k * between_terms min max (literals intp)) (length-range_with_len 0 (slot_count n + 1 - intp))
+    ∙ sum_by-same (λ window. size_of (filter demands (rows_in window))) (λ window. between_terms min max (literals window)) (λ window. ca2-key n teams2 min max side window i) (windows_of n intp)
+    ∙ sym (sum_by-map (between_terms min max) literals (windows_of n intp))
 
-pub size_of-ca3 : (n : ℕ) (teams1 teams2 : List ℕ) (min max intp : ℕ) (side : Side) → size_of (class_rows n (Ca3 teams1 teams2 min max intp side)) ≡ (slot_count n + 1 - intp) * sum_by (λ i. between_terms min max (length (others i teams2) * (side_count side * intp))) teams1
+size_of-ca3 : (n : ℕ) (teams1 teams2 : List ℕ) (min max intp : ℕ) (side : Side) → size_of (class_rows n (Ca3 teams1 teams2 min max intp side)) ≡ counted n (Ca3 teams1 teams2 min max intp side)
 size_of-ca3 n teams1 teams2 min max intp side =
-    let each : ℕ → ℕ = λ i. between_terms min max (length (others i teams2) * (side_count side * intp)) in
+    let of_team : ℕ → List ℕ = λ i. map (λ window. length (others i teams2) * (side_count side * length window)) (windows_of n intp) in
     size_of-keys (ca3_rows n teams2 min max intp side) teams1
-    ∙ sum_by-same (λ i. size_of (filter demands (ca3_rows n teams2 min max intp side i))) (λ i. (slot_count n + 1 - intp) * each i) (ca3-key n teams2 min max intp side) teams1
-    ∙ sum_by-times (slot_count n + 1 - intp) each teams1
-
--- windows that are longer than the season
-pub size_of-no_window : (n : ℕ) (teams1 teams2 : List ℕ) (min max intp : ℕ) (side : Side) → slot_count n < intp → size_of (class_rows n (Ca3 teams1 teams2 min max intp side)) ≡ 0
-size_of-no_window n teams1 teams2 min max intp side longer =
-    let each : ℕ = sum_by (λ i. between_terms min max (length (others i teams2) * (side_count side * intp))) teams1 in
-    let none : slot_count n + 1 - intp ≡ 0 = omega arith in
-    omega (arith, size_of-ca3 n teams1 teams2 min max intp side, ap (λ (k : ℕ). k * each) none)
+    ∙ sum_by-same (λ i. size_of (filter demands (ca3_rows n teams2 min max intp side i))) (λ i. sum_by (between_terms min max) (of_team i)) (ca3-key n teams2 min max intp side) teams1
+    ∙ sym (sum_by-flat_map (between_terms min max) of_team teams1)
 
 ca4-key : (n : ℕ) (teams1 teams2 : List ℕ) (min max : ℕ) (side : Side) (slots : List ℕ) → size_of (filter demands (ca4_rows n teams1 teams2 min max side slots)) ≡ between_terms min max (length (filter (is_between side teams1 teams2) (meetings_of n)) * length slots)
 ca4-key n teams1 teams2 min max side slots =
     let meetings : List (ℕ × ℕ) = filter (is_between side teams1 teams2) (meetings_of n) in
     size_of-between min max (games_in n meetings slots) ∙ ap (between_terms min max) (length-games_in n meetings slots)
 
-pub size_of-ca4 : (n : ℕ) (teams1 teams2 : List ℕ) (min max : ℕ) (side : Side) (span : Span) (slots : List ℕ) → size_of (class_rows n (Ca4 teams1 teams2 min max side span slots)) ≡ span_terms span min max (length (filter (is_between side teams1 teams2) (meetings_of n))) (length slots)
-size_of-ca4 n teams1 teams2 min max side Global slots =
-    size_of-keys (ca4_rows n teams1 teams2 min max side) (slots ∷ [])
-    ∙ sum_by-one (λ span. size_of (filter demands (ca4_rows n teams1 teams2 min max side span))) slots
-    ∙ ca4-key n teams1 teams2 min max side slots
-size_of-ca4 n teams1 teams2 min max side Every slots =
-    let meetings : List (ℕ × ℕ) = filter (is_between side teams1 teams2) (meetings_of n) in
-    let size : List ℕ → ℕ = λ span. size_of (filter demands (ca4_rows n teams1 teams2 min max side span)) in
-    let each : ℕ = between_terms min max (length meetings) in
-    let one_slot : length meetings * 1 ≡ length meetings = omega arith in
-    size_of-keys (ca4_rows n teams1 teams2 min max side) (map (λ s. s ∷ []) slots)
-    ∙ sum_by-map size (λ s. s ∷ []) slots
-    ∙ sum_by-same (λ s. size (s ∷ [])) (λ s. each) (λ s. ca4-key n teams1 teams2 min max side (s ∷ []) ∙ ap (between_terms min max) one_slot) slots
-    ∙ sum_by-constant each slots
+size_of-ca4 : (n : ℕ) (teams1 teams2 : List ℕ) (min max : ℕ) (side : Side) (span : Span) (slots : List ℕ) → size_of (class_rows n (Ca4 teams1 teams2 min max side span slots)) ≡ counted n (Ca4 teams1 teams2 min max side span slots)
+size_of-ca4 n teams1 teams2 min max side span slots =
+    let literals : List ℕ → ℕ = λ part. length (filter (is_between side teams1 teams2) (meetings_of n)) * length part in
+    size_of-keys (ca4_rows n teams1 teams2 min max side) (spans span slots)
+    ∙ sum_by-same (λ part. size_of (filter demands (ca4_rows n teams1 teams2 min max side part))) (λ part. between_terms min max (literals part)) (ca4-key n teams1 teams2 min max side) (spans span slots)
+    ∙ sym (sum_by-map (between_terms min max) literals (spans span slots))
 
 -- ---- games
 
-pub size_of-ga1 : (n : ℕ) (meetings : List (ℕ × ℕ)) (min max : ℕ) (slots : List ℕ) → size_of (class_rows n (Ga1 meetings min max slots)) ≡ between_terms min max (length meetings * length slots)
+size_of-ga1 : (n : ℕ) (meetings : List (ℕ × ℕ)) (min max : ℕ) (slots : List ℕ) → size_of (class_rows n (Ga1 meetings min max slots)) ≡ counted n (Ga1 meetings min max slots)
 size_of-ga1 n meetings min max slots =
     size_of-key (ga1_rows n meetings min max slots)
     ∙ size_of-between min max (games_in n meetings slots)
     ∙ ap (between_terms min max) (length-games_in n meetings slots)
+    ∙ alone (between_terms min max) (length meetings * length slots)
 
 -- ---- breaks
 
-pub size_of-br1 : (n : ℕ) (teams : List ℕ) (intp : ℕ) (side : Side) (slots : List ℕ) → size_of (class_rows n (Br1 teams intp side slots)) ≡ length teams * most_terms intp (side_count side * length (after_first slots))
-size_of-br1 n teams intp side slots =
-    let each : ℕ = most_terms intp (side_count side * length (after_first slots)) in
-    size_of-keys (br1_rows n intp side slots) teams
-    ∙ sum_by-same (λ i. size_of (filter demands (br1_rows n intp side slots i))) (λ i. each) (λ i. size_of-most intp (breaks_in side n i slots) ∙ ap (most_terms intp) (length-breaks side n i slots)) teams
-    ∙ sum_by-constant each teams
+-- "at most" bounds from 0 on
+from_none : (high count : ℕ) → most_terms high count ≡ between_terms 0 high count
+from_none high count = omega arith
 
-pub size_of-br2 : (n : ℕ) (teams : List ℕ) (intp : ℕ) (slots : List ℕ) → size_of (class_rows n (Br2 teams intp slots)) ≡ most_terms intp (2 * (length teams * length (after_first slots)))
+size_of-br1 : (n : ℕ) (teams : List ℕ) (intp : ℕ) (side : Side) (slots : List ℕ) → size_of (class_rows n (Br1 teams intp side slots)) ≡ counted n (Br1 teams intp side slots)
+size_of-br1 n teams intp side slots =
+    let literals : ℕ = side_count side * length (after_first slots) in
+    size_of-keys (br1_rows n intp side slots) teams
+    ∙ sum_by-same (λ i. size_of (filter demands (br1_rows n intp side slots i))) (λ i. between_terms 0 intp literals) (λ i. size_of-most intp (breaks_in side n i slots) ∙ ap (most_terms intp) (length-breaks side n i slots) ∙ from_none intp literals) teams
+    ∙ sym (sum_by-map (between_terms 0 intp) (λ i. literals) teams)
+
+size_of-br2 : (n : ℕ) (teams : List ℕ) (intp : ℕ) (slots : List ℕ) → size_of (class_rows n (Br2 teams intp slots)) ≡ counted n (Br2 teams intp slots)
 size_of-br2 n teams intp slots =
+    let literals : ℕ = 2 * (length teams * length (after_first slots)) in
     size_of-key (br2_rows n teams intp slots)
     ∙ size_of-most intp (flat_map (λ i. home_breaks_at n i slots) teams ++ flat_map (λ i. away_breaks_at n i slots) teams)
     ∙ ap (most_terms intp) (length-all_breaks n teams slots)
+    ∙ from_none intp literals
+    ∙ alone (between_terms 0 intp) literals
+
+-- ---- all that count games or breaks
+
+pub size_of-counted : (n : ℕ) (class : Class) → has_bounds class ≡ true → class_fits n class ≡ true → size_of (class_rows n class) ≡ counted n class
+size_of-counted n (Ca1 teams min max side slots) bounds fits =
+    size_of-ca1 n teams min max side slots (and_parts (are_teams n teams && are_slots n slots) (is_one_side side) fits).1
+size_of-counted n (Ca2 teams1 teams2 min max side slots) bounds fits = size_of-ca2 n teams1 teams2 min max side slots
+size_of-counted n (Ca3 teams1 teams2 min max intp side) bounds fits = size_of-ca3 n teams1 teams2 min max intp side
+size_of-counted n (Ca4 teams1 teams2 min max side span slots) bounds fits =
+    size_of-ca4 n teams1 teams2 min max side span slots
+size_of-counted n (Ga1 meetings min max slots) bounds fits = size_of-ga1 n meetings min max slots
+size_of-counted n (Br1 teams intp side slots) bounds fits = size_of-br1 n teams intp side slots
+size_of-counted n (Br2 teams intp slots) bounds fits = size_of-br2 n teams intp slots
+size_of-counted n (Fa2 teams intp slots) bounds fits = absurd (cc)
+size_of-counted n (Se1 teams min) bounds fits = absurd (cc)
 
 -- ---- fairness
 

@@ -4,3 +4,5 @@ pub mod SizeFacts
 pub mod SizeLemmas
 pub mod ClassSizeLemmas
 pub mod SeasonSizes
+-- The batches of a class:
+pub mod BatchLemmas

@@ -2,8 +2,6 @@
 use Rattle.std.specs.Prelude.{ℕ, ◌+◌, ◌*◌, nat_lt, if◌then◌else◌}
 use Rattle.league.specs.declared.class.Side.{Side}
 use Rattle.league.specs.declared.class.Side.TheVariants.{H, A, Both}
-use Rattle.league.specs.declared.class.Span.{Span}
-use Rattle.league.specs.declared.class.Span.TheVariants.{Global, Every}
 
 -- of "at least low", which demands nothing where low is 0
 abbrev pub least_terms : ℕ → ℕ → ℕ
@@ -16,11 +14,6 @@ most_terms high count = if nat_lt high count then count else 0
 -- of both
 abbrev pub between_terms : ℕ → ℕ → ℕ → ℕ
 between_terms low high count = least_terms low count + most_terms high count
-
--- of a CA4 with so many meetings and slots: of all slots together, or of each
-abbrev pub span_terms : Span → ℕ → ℕ → ℕ → ℕ → ℕ
-span_terms Global low high meetings slots = between_terms low high (meetings * slots)
-span_terms Every low high meetings slots = slots * between_terms low high meetings
 
 -- of the two rows of an FA2 at slot s: each has two literals for each slot so far
 abbrev pub fa2_terms : ℕ → ℕ → ℕ

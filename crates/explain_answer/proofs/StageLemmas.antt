@@ -1,5 +1,6 @@
 -- How the stages of `part` and `explain` make an answer.
 use Rattle.std.proofs.Common.{◌≡◌, ℕ, List, Option, Ok, codes, inl}
+use Rattle.robin_io.specs.Outside.{Store}
 use Rattle.league.specs.Instance.{Instance}
 use Rattle.robinx_tags.specs.Pieces.{pieces}
 use Rattle.robinx_form.specs.InstanceFile.{instance_of}
@@ -12,11 +13,11 @@ use Rattle.explain_answer.specs.Explained.{IsFound, explained}
 use Rattle.explain_answer.specs.Parted.{IsPart, parted}
 
 -- the instance file is read and says a league: its part is the answer
-pub parted-league : (contents : List ℕ → Option (List ℕ)) (took_more : ℕ → Type 0) (failed : List ℕ → Type 0)
+pub parted-league : (store : Store)
     (instance bytes : List ℕ) (members : List ℕ) (league : Instance)
-    → IsFile (contents instance) INSTANCE_LIMIT bytes → instance_of (pieces bytes) ≡ Ok league → (answer : Answer)
-    → IsPart league members answer → parted contents took_more failed instance members answer
-parted-league contents took_more failed instance bytes members league is_file says_league answer rest =
+    → IsFile (store.contents instance) INSTANCE_LIMIT bytes → instance_of (pieces bytes) ≡ Ok league → (answer : Answer)
+    → IsPart league members answer → parted store instance members answer
+parted-league store instance bytes members league is_file says_league answer rest =
     inl (
       bytes,
       is_file,
@@ -25,12 +26,12 @@ parted-league contents took_more failed instance bytes members league is_file sa
     )
 
 -- what its rows come to is the answer
-pub explained-league : (contents : List ℕ → Option (List ℕ)) (took_more : ℕ → Type 0) (failed : List ℕ → Type 0)
+pub explained-league : (store : Store)
     (instance bytes : List ℕ) (conflicts : Option ℕ) (league : Instance)
-    → IsFile (contents instance) INSTANCE_LIMIT bytes → instance_of (pieces bytes) ≡ Ok league → (answer : Answer)
+    → IsFile (store.contents instance) INSTANCE_LIMIT bytes → instance_of (pieces bytes) ≡ Ok league → (answer : Answer)
     → encodes league (λ rows. IsFound league conflicts) answer
-    → explained contents took_more failed instance conflicts answer
-explained-league contents took_more failed instance bytes conflicts league is_file says_league answer rest =
+    → explained store instance conflicts answer
+explained-league store instance bytes conflicts league is_file says_league answer rest =
     inl (
       bytes,
       is_file,

@@ -1,6 +1,6 @@
 -- What `explain` answers: its stages in their order, and what is found of a league.
 use Rattle.std.specs.Prelude.{◌≡◌, ℕ, ◌⊎◌, true, List, codes, Option, Some, Ok}
-use Rattle.std.specs.Io.KnownBytes.{Appends}
+use Rattle.robin_io.specs.Outside.{Store}
 use Rattle.league.specs.Accepted.{IsAccepted, objective}
 use Rattle.league.specs.Counts.{counts_of}
 use Rattle.league.specs.Instance.{Instance}
@@ -12,7 +12,6 @@ use Rattle.robinx_form.specs.Texts.{solution_text}
 use Rattle.robinx_read.specs.declared.instance.TheConstants.{INSTANCE_LIMIT}
 use Rattle.answers.specs.Reply.{Answer}
 use Rattle.answers.specs.Stages.{◌>>=◌, Outcome, reads, says}
-use Rattle.answers.specs.declared.status.Status.{Status}
 use Rattle.answers.specs.declared.status.Status.TheVariants.{Yes, Refuted, Spent}
 use Rattle.encoding_base.specs.Variables.{var_count}
 use Rattle.refutation.specs.Steps.{Step}
@@ -67,21 +66,10 @@ pub record IsFound (league : Instance) (conflicts : Option ℕ) (answer : Answer
 
 -- ---- stages
 
--- `explain`, over the contents of the store's files where they are known, how many bytes it gave more than, and the
--- files at which it failed
-abbrev pub explained : (List ℕ → Option (List ℕ)) → (ℕ → Type 0) → (List ℕ → Type 0) → List ℕ → Option ℕ → Outcome
-explained contents took_more failed instance conflicts = do
-  bytes ← reads (codes "instance") (contents instance) INSTANCE_LIMIT (took_more INSTANCE_LIMIT) (failed instance)
+-- `explain`, over what a store shows
+abbrev pub explained : Store → List ℕ → Option ℕ → Outcome
+explained store instance conflicts = do
+  bytes ← reads store (codes "instance") instance INSTANCE_LIMIT 0
   league ← says (codes "instance") (instance_of (pieces bytes))
   rows ← encodes league
   IsFound league conflicts
-
--- ---- a run
-
--- what is found is written whole
-pub record IsExplained (league : Instance) (conflicts : Option ℕ) (ended : Status) (old new : Option (List ℕ))
-    : Type 0 where
-  pub answer : Answer
-  pub found : IsFound league conflicts answer
-  pub status : ended ≡ answer.status
-  pub written : Appends old new answer.text

@@ -1,6 +1,6 @@
 -- What `part` answers: its stages in their order, and the league of some hard constraints.
 use Rattle.std.specs.Prelude.{◌≡◌, ℕ, List, ◌++◌, codes, decimal, Option, None, Some, Ok}
-use Rattle.std.specs.Io.KnownBytes.{Appends}
+use Rattle.robin_io.specs.Outside.{Store}
 use Rattle.league.specs.Instance.{Instance}
 use Rattle.robinx_tags.specs.Pieces.{pieces}
 use Rattle.robinx_form.specs.InstanceFile.{instance_of}
@@ -8,7 +8,6 @@ use Rattle.robinx_form.specs.Texts.{instance_text}
 use Rattle.robinx_read.specs.declared.instance.TheConstants.{INSTANCE_LIMIT}
 use Rattle.answers.specs.Reply.{Answer}
 use Rattle.answers.specs.Stages.{◌>>=◌, Outcome, reads, says}
-use Rattle.answers.specs.declared.status.Status.{Status}
 use Rattle.answers.specs.declared.status.Status.TheVariants.{Yes, File}
 use Rattle.parts.specs.Parts.{first_unknown, part_of}
 
@@ -30,17 +29,9 @@ pub record IsPart (league : Instance) (members : List ℕ) (answer : Answer) : T
   pub is : answer ≡ part_answer league members (first_unknown league members)
   pub reads_back : answer.status ≡ Yes → instance_of (pieces answer.text) ≡ Ok (part_of league members)
 
--- `part`, over the contents of the store's files where they are known, how many bytes it gave more than, and the files
--- at which it failed
-abbrev pub parted : (List ℕ → Option (List ℕ)) → (ℕ → Type 0) → (List ℕ → Type 0) → List ℕ → List ℕ → Outcome
-parted contents took_more failed instance members = do
-  bytes ← reads (codes "instance") (contents instance) INSTANCE_LIMIT (took_more INSTANCE_LIMIT) (failed instance)
+-- `part`, over what a store shows
+abbrev pub parted : Store → List ℕ → List ℕ → Outcome
+parted store instance members = do
+  bytes ← reads store (codes "instance") instance INSTANCE_LIMIT 0
   league ← says (codes "instance") (instance_of (pieces bytes))
   IsPart league members
-
--- the answer is written whole
-pub record IsParted (league : Instance) (members : List ℕ) (ended : Status) (old new : Option (List ℕ)) : Type 0 where
-  pub answer : Answer
-  pub part : IsPart league members answer
-  pub status : ended ≡ answer.status
-  pub written : Appends old new answer.text

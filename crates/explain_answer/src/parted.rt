@@ -1,16 +1,18 @@
 //! The stages of `part`.
 ghost use Rattle.std.specs.Prelude.{◌≡◌, ℕ, List, IfOk, Ok};
 ghost use Rattle.std.specs.Ordering.{nat_cmp};
+ghost use Rattle.robin_io.specs.Outside.{store_between};
 ghost use Rattle.league.specs.Sets.{IsAscending};
-ghost use Rattle.robin_io.specs.Counts.{Rose, TookMore};
 ghost use Rattle.robinx_form.specs.InstanceFile.{instance_of};
 ghost use Rattle.robinx_form.specs.Texts as forms;
 ghost use Rattle.robinx_tags.specs.Pieces.{pieces};
+ghost use Rattle.answers.specs.SeenRefusal.{refused_with};
 ghost use Rattle.answers.specs.SeenReply.{answer_of, Answers};
 ghost use Rattle.answers.specs.declared.status.Status.TheVariants.{Yes};
 ghost use Rattle.explain_answer.specs.Parted.{IsPart, parted, unknown_constraint};
 
-use answers::{NoValue, Reply, Status, file, league_in};
+use advice::Advice;
+use answers::{NoValue, Refusal, Reply, Status, file, league_in};
 use league::League;
 use parts::{PartFault, part};
 use robin_io::Shelf;
@@ -32,14 +34,31 @@ fn league_reply(alloc: Global, league: &League) -> Result<Reply, AllocError>
 }
 
 /// No hard constraint has this number.
-fn unknown_reply(alloc: Global, number: u32) -> Result<Reply, AllocError>
-    ensures { IfOk result (λ reply. answer_of reply ≡ unknown_constraint number) }
+fn unknown_refused(alloc: Global, league: &League, number: u32) -> Result<Refusal, AllocError>
+    ensures { IfOk result (refused_with (unknown_constraint number)) }
 {
     let text = format!(in alloc; "refused constraint {number} Unknown\n")?;
-    Ok(Reply {
+    let reply = Reply {
         status: Status::File,
         text: text.into_bytes(),
-    })
+    };
+    Ok(Refusal::new(alloc, reply, advice_on_number(alloc, league, number)))
+}
+
+/// What a person is told of a number that isn't a hard constraint's.
+fn advice_on_number(alloc: Global, league: &League, number: u32) -> Result<Advice, AllocError> {
+    let count = league.constraints().len();
+    let mut advice = Advice::new(alloc);
+    advice.say("robin: constraint ")?;
+    advice.count(u64::from(number))?;
+    if number as usize <= count {
+        advice.say(" is soft, and a part has hard ones alone\n")?;
+    } else {
+        advice.say(" isn't there: the league has ")?;
+        advice.count(count as u64)?;
+        advice.say(" constraints, hard and soft\n")?;
+    }
+    Ok(advice)
 }
 
 /// The league of some hard constraints of a league, or which number isn't one's.
@@ -50,52 +69,29 @@ fn part_reply(alloc: Global, league: &League, members: &[u32]) -> Result<Reply, 
     match part(alloc, league, members) {
         Ok(part) => Ok(league_reply(alloc, &part)?),
         Err(PartFault::UnknownConstraint { number }) => {
-            Err(NoValue::Refused(unknown_reply(alloc, number)?))
+            Err(NoValue::Refused(unknown_refused(alloc, league, number)?))
         }
         Err(PartFault::Mem) => Err(NoValue::Memory),
     }
-}
-
-/// The stages of `part`.
-fn part_stages<S: Shelf>(
-    alloc: Global,
-    shelf: &mut S,
-    instance: &str,
-    members: &[u32],
-) -> Result<Reply, NoValue>
-    requires ascending { IsAscending nat_cmp members.now }
-    ensures answer { Answers (parted (S.contents shelf.old)
-        (λ limit. TookMore limit (S.taken shelf.old) (S.taken shelf.new))
-        (λ name. Rose (S.faults shelf.old name) (S.faults shelf.new name))
-        instance.now members.now) result }
-    ensures contents { (n : List ℕ) → S.contents shelf.new n ≡ S.contents shelf.old n }
-{
-    let bytes = file(alloc, shelf, "instance", instance, INSTANCE_LIMIT)?;
-    let league = league_in(alloc, &bytes)?;
-    part_reply(alloc, &league, members)
 }
 
 /// Makes the league of some hard constraints of the league of a file, by their numbers, and its text; or names the
 /// first number that no hard constraint has.
 ///
 /// # Errors
-/// Only where memory runs out: a refused file has a reply of its own.
+/// Where a file is refused, with the reply that says why, and where memory runs out.
 pub fn part_file<S: Shelf>(
     alloc: Global,
     shelf: &mut S,
     instance: &str,
     members: &[u32],
-) -> Result<Reply, AllocError>
+) -> Result<Reply, NoValue>
     requires ascending { IsAscending nat_cmp members.now }
-    ensures answer { IfOk result (λ reply. parted (S.contents shelf.old)
-        (λ limit. TookMore limit (S.taken shelf.old) (S.taken shelf.new))
-        (λ name. Rose (S.faults shelf.old name) (S.faults shelf.new name))
-        instance.now members.now (answer_of reply)) }
+    ensures answer { Answers (parted (store_between S.Shelf shelf.old shelf.new)
+        instance.now members.now) result }
     ensures contents { (n : List ℕ) → S.contents shelf.new n ≡ S.contents shelf.old n }
 {
-    match part_stages(alloc, shelf, instance, members) {
-        Ok(reply) => Ok(reply),
-        Err(NoValue::Refused(reply)) => Ok(reply),
-        Err(NoValue::Memory) => Err(AllocError),
-    }
+    let bytes = file(alloc, shelf, "instance", instance, INSTANCE_LIMIT)?;
+    let league = league_in(alloc, &bytes)?;
+    part_reply(alloc, &league, members)
 }

@@ -10,7 +10,6 @@ ghost use Rattle.answers.specs.SeenReply.{answer_of};
 ghost use Rattle.answers.specs.declared.status.Status.TheVariants as statuses;
 ghost use Rattle.refutation.specs.Logs.{log_of};
 ghost use Rattle.refutation.specs.Texts as logs;
-ghost use Rattle.check_answer.specs.Check.{too_large};
 ghost use Rattle.solve.specs.Solutions.{IsWritable};
 ghost use Rattle.venue_counts.specs.VenueCounts.{are_crowded, are_short};
 ghost use Rattle.explain.specs.Conflicts.{HasConflict, HasSchedule, IsAmple, IsDecided, IsExplanation};
@@ -26,17 +25,6 @@ use league::{League, Schedule};
 use refutation::{Log, log_text};
 use robinx_write::solution_text;
 use std::alloc::{AllocError, Global};
-
-/// The rows of the league have so many terms, which are too many.
-pub(crate) fn rows_refused(alloc: Global, terms: u64) -> Result<Reply, AllocError>
-    ensures { IfOk result (λ reply. answer_of reply ≡ too_large terms) }
-{
-    let text = format!(in alloc; "refused rows TooLarge terms {terms}\n")?;
-    Ok(Reply {
-        status: Status::File,
-        text: text.into_bytes(),
-    })
-}
 
 /// A schedule that is accepted, with its objective.
 fn schedule_reply(alloc: Global, schedule: &Schedule, objective: u128) -> Result<Reply, AllocError>

@@ -1,12 +1,12 @@
 //! The stages of `explain`.
-ghost use Rattle.std.specs.Prelude.{◌≡◌, ℕ, List, IfOk};
-ghost use Rattle.robin_io.specs.Counts.{Rose, TookMore};
-ghost use Rattle.answers.specs.SeenReply.{answer_of, Answers};
+ghost use Rattle.std.specs.Prelude.{◌≡◌, ℕ, List};
+ghost use Rattle.robin_io.specs.Outside.{store_between};
+ghost use Rattle.answers.specs.SeenReply.{Answers};
 ghost use Rattle.check_answer.specs.Check.{encodes};
 ghost use Rattle.explain_answer.specs.Explained.{IsFound, explained};
 
-use crate::replies::{found_reply, rows_refused};
-use answers::{NoValue, Reply, file, league_in};
+use crate::replies::found_reply;
+use answers::{NoValue, Reply, file, league_in, rows_refused};
 use explain::explain;
 use league::League;
 use robin_io::Shelf;
@@ -25,45 +25,23 @@ fn found_of(alloc: Global, league: &League, conflicts: Option<u64>) -> Result<Re
     }
 }
 
-/// The stages of `explain`.
-fn explain_stages<S: Shelf>(
+/// Finds hard constraints of the league of a file that contradict each other, with a case for each, or a schedule that
+/// the league accepts. With a budget each search learns at most so many clauses; where that of the whole league is
+/// spent, its log is the answer.
+///
+/// # Errors
+/// Where a file is refused, with the reply that says why, and where memory runs out.
+pub fn explain_file<S: Shelf>(
     alloc: Global,
     shelf: &mut S,
     instance: &str,
     conflicts: Option<u64>,
 ) -> Result<Reply, NoValue>
-    ensures answer { Answers (explained (S.contents shelf.old)
-        (λ limit. TookMore limit (S.taken shelf.old) (S.taken shelf.new))
-        (λ name. Rose (S.faults shelf.old name) (S.faults shelf.new name))
+    ensures answer { Answers (explained (store_between S.Shelf shelf.old shelf.new)
         instance.now conflicts) result }
     ensures contents { (n : List ℕ) → S.contents shelf.new n ≡ S.contents shelf.old n }
 {
     let bytes = file(alloc, shelf, "instance", instance, INSTANCE_LIMIT)?;
     let league = league_in(alloc, &bytes)?;
     found_of(alloc, &league, conflicts)
-}
-
-/// Finds hard constraints of the league of a file that contradict each other, with a case for each, or a schedule that
-/// the league accepts. With a budget each search learns at most so many clauses; where that of the whole league is
-/// spent, its log is the answer.
-///
-/// # Errors
-/// Only where memory runs out: a refused file has a reply of its own.
-pub fn explain_file<S: Shelf>(
-    alloc: Global,
-    shelf: &mut S,
-    instance: &str,
-    conflicts: Option<u64>,
-) -> Result<Reply, AllocError>
-    ensures answer { IfOk result (λ reply. explained (S.contents shelf.old)
-        (λ limit. TookMore limit (S.taken shelf.old) (S.taken shelf.new))
-        (λ name. Rose (S.faults shelf.old name) (S.faults shelf.new name))
-        instance.now conflicts (answer_of reply)) }
-    ensures contents { (n : List ℕ) → S.contents shelf.new n ≡ S.contents shelf.old n }
-{
-    match explain_stages(alloc, shelf, instance, conflicts) {
-        Ok(reply) => Ok(reply),
-        Err(NoValue::Refused(reply)) => Ok(reply),
-        Err(NoValue::Memory) => Err(AllocError),
-    }
 }

@@ -1,5 +1,5 @@
 //! The text of a conflict.
-ghost use Rattle.std.specs.Prelude.{◌≡◌, ◌++◌, length, codes, IfOk, OnOk};
+ghost use Rattle.std.specs.Prelude.{◌≡◌, ◌++◌, length, IfOk, OnOk};
 ghost use Rattle.std.specs.List.{All, flat_map};
 ghost use Rattle.solve.specs.Solutions.{IsWritable};
 ghost use Rattle.explain_answer.specs.Texts as texts;

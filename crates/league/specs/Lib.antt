@@ -23,7 +23,7 @@ pub mod Accepted
 --
 -- Laws that the sets rest on:
 pub mod SetLaws
--- Which sets a class has, for copies:
+-- Which sets and bounds a class has:
 pub mod Shapes
 -- Tables in which games are counted:
 pub mod Grid

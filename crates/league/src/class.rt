@@ -2,7 +2,7 @@
 ghost use Rattle.std.specs.Prelude.{◌≡◌, IfOk, IsTrue, codes};
 ghost use Rattle.league.specs.Instance.{class_fits, are_teams, are_slots, are_meetings, is_one_side};
 ghost use Rattle.league.specs.Names.{name_of, name_text};
-ghost use Rattle.league.specs.Shapes.{has_no_side, has_opponents, is_on_a_side};
+ghost use Rattle.league.specs.Shapes.{bounds_of, has_bounds, has_no_side, has_opponents, is_on_a_side};
 
 use crate::pair_set::PairSet;
 use crate::slot_set::SlotSet;
@@ -22,6 +22,13 @@ pub enum Side {
 pub enum Span {
     Global,
     Every,
+}
+
+/// How often something may take place: from `min` to `max` times.
+#[derive(Clone, Copy)]
+pub struct Bounds {
+    pub min: u32,
+    pub max: u32,
 }
 
 /// The name of one of the nine classes.
@@ -144,6 +151,25 @@ impl Class {
             Class::Br2 { .. } => ClassName::Br2,
             Class::Fa2 { .. } => ClassName::Fa2,
             Class::Se1 { .. } => ClassName::Se1,
+        }
+    }
+
+    /// How often that which it counts may take place, of a class that counts games or breaks: breaks from 0 times on.
+    pub fn bounds(&self) -> Bounds
+        requires { IsTrue (has_bounds self.now) }
+        ensures { result ≡ bounds_of self.now }
+    {
+        match self {
+            Class::Ca1 { min, max, .. }
+            | Class::Ca2 { min, max, .. }
+            | Class::Ca3 { min, max, .. }
+            | Class::Ca4 { min, max, .. }
+            | Class::Ga1 { min, max, .. } => Bounds {
+                min: *min,
+                max: *max,
+            },
+            Class::Br1 { intp, .. } | Class::Br2 { intp, .. } => Bounds { min: 0, max: *intp },
+            Class::Fa2 { .. } | Class::Se1 { .. } => unreachable!(),
         }
     }
 

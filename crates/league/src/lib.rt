@@ -15,7 +15,7 @@ mod slot_set;
 mod team_set;
 mod wrongs;
 
-pub use class::{Class, ClassName, Constraint, Side, Span};
+pub use class::{Bounds, Class, ClassName, Constraint, Side, Span};
 pub use game::{Game, SlotId, TeamId};
 pub use grid::Grid;
 pub use league::{League, is_team_count, slot_count};

@@ -1,6 +1,5 @@
 -- The league that `make` writes.
-use Rattle.std.specs.Prelude.{◌≡◌, ℕ, ◌+◌, List, length, Option, Ok}
-use Rattle.std.specs.Io.KnownBytes.{Appends}
+use Rattle.std.specs.Prelude.{◌≡◌, ℕ, ◌+◌, length, Ok}
 use Rattle.league.specs.Accepted.{IsAccepted}
 use Rattle.league.specs.Counts.{counts_of}
 use Rattle.circle_method.specs.Circle.{double_games}
@@ -10,7 +9,6 @@ use Rattle.robinx_form.specs.InstanceFile.{instance_of}
 use Rattle.robinx_form.specs.Texts.{instance_text}
 use Rattle.robinx_tags.specs.Pieces.{pieces}
 use Rattle.answers.specs.Reply.{Answer}
-use Rattle.answers.specs.declared.status.Status.{Status}
 use Rattle.answers.specs.declared.status.Status.TheVariants.{Yes}
 
 -- the made league of n teams and a seed, as an instance file
@@ -24,12 +22,3 @@ pub record IsMade (n seed : ℕ) (answer : Answer) : Type 0 where
   pub reads_back : instance_of (pieces answer.text) ≡ Ok (made_league n (seeded seed))
   pub count : length (made_league n (seeded seed)).constraints ≡ n + 17
   pub accepts : IsAccepted (made_league n (seeded seed)) (counts_of (double_games n))
-
--- ---- a run
-
--- it is written whole
-pub record IsWrittenLeague (n seed : ℕ) (ended : Status) (old new : Option (List ℕ)) : Type 0 where
-  pub answer : Answer
-  pub made : IsMade n seed answer
-  pub status : ended ≡ Yes
-  pub written : Appends old new answer.text

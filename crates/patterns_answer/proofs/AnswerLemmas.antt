@@ -1,5 +1,6 @@
 -- What follows from an answer of `patterns`.
 use Rattle.std.proofs.Common.{◌≡◌, ℕ, ◌≤◌, List, length, Option, Some, Ok, codes, ap, inl, inr, sym, ◌∙◌}
+use Rattle.robin_io.specs.Outside.{Store}
 use Rattle.league.specs.Instance.{Instance}
 use Rattle.robinx_tags.specs.Pieces.{pieces}
 use Rattle.robinx_form.specs.InstanceFile.{instance_of}
@@ -8,7 +9,7 @@ use Rattle.answers.specs.Reply.{Answer}
 use Rattle.answers.specs.Stages.{Outcome, says}
 use Rattle.answers.specs.declared.status.Status.TheVariants.{Yes, File, Refuted, Spent}
 use Rattle.season_check.specs.Excluded.{NoneAccepted}
-use Rattle.answers.proofs.StageLemmas.{reads-known, reads-refuted, says-known}
+use Rattle.answers.proofs.StageLemmas.{takes-known, takes-refuted, says-known}
 use Rattle.encoding_base.specs.Encoding.{encoding_size}
 use Rattle.check_answer.specs.Check.{encodes, most_terms}
 use Rattle.check_answer.proofs.AnswerLemmas.{encodes-small}
@@ -23,16 +24,16 @@ said_of conflicts bytes = says (codes "instance") (instance_of (pieces bytes)) (
 
 -- a file whose bytes are known and within the limit, at which nothing fails, and which says a league whose rows aren't
 -- too many: the answer is what is found of its patterns
-pub patterned-well_formed : (contents : List ℕ → Option (List ℕ)) (took_more : ℕ → Type 0) (failed : List ℕ → Type 0)
+pub patterned-well_formed : (store : Store)
     (instance bytes : List ℕ) (conflicts : Option ℕ) (league : Instance) (answer : Answer)
-    → contents instance ≡ Some bytes → length bytes ≤ INSTANCE_LIMIT → instance_of (pieces bytes) ≡ Ok league
-    → encoding_size league ≤ most_terms → (failed instance → ⊥)
-    → patterned contents took_more failed instance conflicts answer → AreFound league conflicts answer
-patterned-well_formed contents took_more failed instance bytes conflicts league answer known within says_league small
+    → store.contents instance ≡ Some bytes → length bytes ≤ INSTANCE_LIMIT → instance_of (pieces bytes) ≡ Ok league
+    → encoding_size league ≤ most_terms → (store.failed instance → ⊥)
+    → patterned store instance conflicts answer → AreFound league conflicts answer
+patterned-well_formed store instance bytes conflicts league answer known within says_league small
     works given =
     encodes-small league (λ rows. AreFound league conflicts) answer small
     (says-known (codes "instance") (instance_of (pieces bytes)) league (found_of conflicts) answer says_league
-    (reads-known (codes "instance") (contents instance) INSTANCE_LIMIT (took_more INSTANCE_LIMIT) (failed instance)
+    (takes-known (codes "instance") (store.contents instance) INSTANCE_LIMIT (store.took_more INSTANCE_LIMIT) (store.failed instance)
     (said_of conflicts) answer bytes known within works given))
 
 found-refuted : (league : Instance) (conflicts : Option ℕ) (answer : Answer) → answer.status ≡ Refuted
@@ -50,12 +51,12 @@ encoded-refuted league conflicts answer ended (inr h) =
     let same : File ≡ Refuted = sym (ap (λ (a : Answer). a.status) h.1) ∙ ended in absurd (cc)
 
 -- where the answer is a refutation, the league of the instance file accepts no list of games
-pub patterned-refuted : (contents : List ℕ → Option (List ℕ)) (took_more : ℕ → Type 0) (failed : List ℕ → Type 0)
+pub patterned-refuted : (store : Store)
     (instance bytes : List ℕ) (conflicts : Option ℕ) (league : Instance) (answer : Answer)
-    → contents instance ≡ Some bytes → instance_of (pieces bytes) ≡ Ok league → answer.status ≡ Refuted
-    → patterned contents took_more failed instance conflicts answer → NoneAccepted league
-patterned-refuted contents took_more failed instance bytes conflicts league answer known says_league ended given =
+    → store.contents instance ≡ Some bytes → instance_of (pieces bytes) ≡ Ok league → answer.status ≡ Refuted
+    → patterned store instance conflicts answer → NoneAccepted league
+patterned-refuted store instance bytes conflicts league answer known says_league ended given =
     encoded-refuted league conflicts answer ended
     (says-known (codes "instance") (instance_of (pieces bytes)) league (found_of conflicts) answer says_league
-    (reads-refuted (codes "instance") (contents instance) INSTANCE_LIMIT (took_more INSTANCE_LIMIT) (failed instance)
+    (takes-refuted (codes "instance") (store.contents instance) INSTANCE_LIMIT (store.took_more INSTANCE_LIMIT) (store.failed instance)
     (said_of conflicts) answer bytes known ended given))

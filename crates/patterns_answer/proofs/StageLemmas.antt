@@ -1,5 +1,6 @@
 -- How the stages of `patterns` make an answer.
 use Rattle.std.proofs.Common.{◌≡◌, ℕ, List, Option, Ok, codes, inl}
+use Rattle.robin_io.specs.Outside.{Store}
 use Rattle.league.specs.Instance.{Instance}
 use Rattle.robinx_tags.specs.Pieces.{pieces}
 use Rattle.robinx_form.specs.InstanceFile.{instance_of}
@@ -11,12 +12,12 @@ use Rattle.check_answer.specs.Check.{encodes}
 use Rattle.patterns_answer.specs.Patterns.{AreFound, patterned}
 
 -- the instance file is read and says a league: what its rows come to is the answer
-pub patterned-league : (contents : List ℕ → Option (List ℕ)) (took_more : ℕ → Type 0) (failed : List ℕ → Type 0)
+pub patterned-league : (store : Store)
     (instance bytes : List ℕ) (conflicts : Option ℕ) (league : Instance)
-    → IsFile (contents instance) INSTANCE_LIMIT bytes → instance_of (pieces bytes) ≡ Ok league → (answer : Answer)
+    → IsFile (store.contents instance) INSTANCE_LIMIT bytes → instance_of (pieces bytes) ≡ Ok league → (answer : Answer)
     → encodes league (λ rows. AreFound league conflicts) answer
-    → patterned contents took_more failed instance conflicts answer
-patterned-league contents took_more failed instance bytes conflicts league is_file says_league answer rest =
+    → patterned store instance conflicts answer
+patterned-league store instance bytes conflicts league is_file says_league answer rest =
     inl (
       bytes,
       is_file,

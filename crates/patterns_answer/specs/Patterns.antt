@@ -1,7 +1,7 @@
 -- What `patterns` answers: its stages in their order, and what is found of a league's patterns.
 use Rattle.std.specs.Prelude.{◌≡◌, ℕ, ◌+◌, ◌⊎◌, List, [], ◌∷◌, ◌++◌, codes, decimal, Option, Ok}
 use Rattle.std.specs.List.{flat_map}
-use Rattle.std.specs.Io.KnownBytes.{Appends}
+use Rattle.robin_io.specs.Outside.{Store}
 use Rattle.league.specs.Instance.{Instance}
 use Rattle.league.specs.declared.class.Side.{Side}
 use Rattle.league.specs.declared.class.Side.TheVariants.{H, A, Both}
@@ -10,7 +10,6 @@ use Rattle.robinx_form.specs.InstanceFile.{instance_of}
 use Rattle.robinx_read.specs.declared.instance.TheConstants.{INSTANCE_LIMIT}
 use Rattle.answers.specs.Reply.{Answer}
 use Rattle.answers.specs.Stages.{◌>>=◌, Outcome, reads, says}
-use Rattle.answers.specs.declared.status.Status.{Status}
 use Rattle.answers.specs.declared.status.Status.TheVariants.{Yes, Refuted, Spent}
 use Rattle.refutation.specs.Steps.{Step}
 use Rattle.refutation.specs.Logs.{log_of}
@@ -71,21 +70,10 @@ AreFound league conflicts answer =
 
 -- ---- stages
 
--- `patterns`, over the contents of the store's files where they are known, how many bytes it gave more than, and the
--- files at which it failed
-abbrev pub patterned : (List ℕ → Option (List ℕ)) → (ℕ → Type 0) → (List ℕ → Type 0) → List ℕ → Option ℕ → Outcome
-patterned contents took_more failed instance conflicts = do
-  bytes ← reads (codes "instance") (contents instance) INSTANCE_LIMIT (took_more INSTANCE_LIMIT) (failed instance)
+-- `patterns`, over what a store shows
+abbrev pub patterned : Store → List ℕ → Option ℕ → Outcome
+patterned store instance conflicts = do
+  bytes ← reads store (codes "instance") instance INSTANCE_LIMIT 0
   league ← says (codes "instance") (instance_of (pieces bytes))
   rows ← encodes league
   AreFound league conflicts
-
--- ---- a run
-
--- what is found is written whole
-pub record IsPatterned (league : Instance) (conflicts : Option ℕ) (ended : Status) (old new : Option (List ℕ))
-    : Type 0 where
-  pub answer : Answer
-  pub found : AreFound league conflicts answer
-  pub status : ended ≡ answer.status
-  pub written : Appends old new answer.text

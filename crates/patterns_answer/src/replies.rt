@@ -7,7 +7,6 @@ ghost use Rattle.clause_search.specs.News.{IsTidy};
 ghost use Rattle.refutation.specs.Logs.{log_of};
 ghost use Rattle.refutation.specs.Steps.{is_linear};
 ghost use Rattle.refutation.specs.Texts as logs;
-ghost use Rattle.check_answer.specs.Check.{too_large};
 ghost use Rattle.patterns_answer.specs.Patterns as texts;
 ghost use Rattle.patterns_answer.specs.Patterns.{AreFound};
 
@@ -19,17 +18,6 @@ use pattern_search::{PatternFound, pattern_set};
 use patterns::PatternSet;
 use refutation::Log;
 use std::alloc::{AllocError, Global};
-
-/// The rows of the league have so many terms, which are too many.
-pub(crate) fn rows_refused(alloc: Global, terms: u64) -> Result<Reply, AllocError>
-    ensures { IfOk result (λ reply. answer_of reply ≡ too_large terms) }
-{
-    let text = format!(in alloc; "refused rows TooLarge terms {terms}\n")?;
-    Ok(Reply {
-        status: Status::File,
-        text: text.into_bytes(),
-    })
-}
 
 /// Patterns.
 fn patterns_reply(alloc: Global, patterns: &PatternSet) -> Result<Reply, AllocError>

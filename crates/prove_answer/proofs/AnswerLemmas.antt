@@ -1,7 +1,8 @@
 -- What follows from an answer of `prove`.
-use Rattle.std.proofs.Common.{◌≡◌, ℕ, ◌+◌, List, length, Option, Some, Ok, codes, ap, true, inl, inr, sym, subst, ◌∙◌}
+use Rattle.std.proofs.Common.{◌∷◌, [], ◌≡◌, ℕ, ◌+◌, List, length, Option, Some, Ok, codes, ap, true, inl, inr, sym, subst, ◌∙◌}
 use Rattle.std.proofs.Common.{Bool, false, if◌then◌else◌}
 use Rattle.std.specs.Prelude.{IfSome, IsTrue}
+use Rattle.robin_io.specs.Outside.{Store}
 use Rattle.league.specs.Accepted.{IsAccepted}
 use Rattle.league.specs.Counts.{counts_of}
 use Rattle.league.specs.Instance.{Instance}
@@ -11,10 +12,10 @@ use Rattle.robinx_form.specs.InstanceFile.{instance_of}
 use Rattle.robinx_form.specs.SolutionFile.{solution_of}
 use Rattle.robinx_read.specs.declared.instance.TheConstants.{INSTANCE_LIMIT, SOLUTION_LIMIT}
 use Rattle.answers.specs.Reply.{Answer}
-use Rattle.answers.specs.Stages.{Outcome, reads, says}
+use Rattle.answers.specs.Stages.{NoneFails, Outcome, says, takes}
 use Rattle.answers.specs.declared.status.Status.{Status}
 use Rattle.answers.specs.declared.status.Status.TheVariants.{Yes, No, File, Spent, ReadFault, Better}
-use Rattle.answers.proofs.StageLemmas.{reads-known, says-known}
+use Rattle.answers.proofs.StageLemmas.{first-works, says-known, second-works, takes-known}
 use Rattle.bound_answer.proofs.AnswerLemmas.{few-small, few-yes}
 use Rattle.prove_answer.specs.Prove.{IsBettered, IsLeast, IsShown, IsWellFormedCase, proved}
 use Rattle.prove_answer.proofs.StageLemmas.{solution_stages}
@@ -22,37 +23,37 @@ use Rattle.prove_answer.proofs.StageLemmas.{solution_stages}
 -- ---- what is shown
 
 -- a well-formed case at which nothing fails is shown something
-pub proved-well_formed : (contents : List ℕ → Option (List ℕ)) (took_more : ℕ → Type 0) (failed : List ℕ → Type 0)
+pub proved-well_formed : (store : Store)
     (instance solution : List ℕ) (league : Instance) (games : List Game) (conflicts : Option ℕ) (answer : Answer)
-    → IsWellFormedCase contents failed instance solution league games
-    → proved contents took_more failed instance solution conflicts answer → IsShown league conflicts games answer
-proved-well_formed contents took_more failed instance solution league games conflicts answer good given =
+    → IsWellFormedCase store instance solution league games → NoneFails store (instance ∷ solution ∷ [])
+    → proved store instance solution conflicts answer → IsShown league conflicts games answer
+proved-well_formed store instance solution league games conflicts answer good works given =
     let pair = good.pair in
     let front : ℕ = length pair.first in
     let next : List ℕ → Outcome = λ first. says (codes "instance") (instance_of (pieces first))
-    (solution_stages contents took_more failed solution conflicts (length first)) in
+    (solution_stages store solution conflicts (length first)) in
     let at_instance : next pair.first answer =
-    reads-known (codes "instance") (contents instance) INSTANCE_LIMIT (took_more INSTANCE_LIMIT) (failed instance) next
-    answer pair.first pair.first_known pair.first_within pair.first_works given in
-    let at_league : solution_stages contents took_more failed solution conflicts front league answer =
+    takes-known (codes "instance") (store.contents instance) INSTANCE_LIMIT (store.took_more INSTANCE_LIMIT) (store.failed instance) next
+    answer pair.first pair.first_known pair.first_within (first-works store instance (solution ∷ []) works) given in
+    let at_league : solution_stages store solution conflicts front league answer =
     says-known (codes "instance") (instance_of (pieces pair.first)) league
-    (solution_stages contents took_more failed solution conflicts front) answer pair.says_league at_instance in
+    (solution_stages store solution conflicts front) answer pair.says_league at_instance in
     let shown : List ℕ → Outcome = λ bytes. says (codes "solution") (solution_of league.n (pieces bytes))
     (IsShown league conflicts) in
-    let at_solution : reads (codes "solution") (contents solution) SOLUTION_LIMIT (took_more (front + SOLUTION_LIMIT))
-    (failed solution) shown answer =
-    few-small league (λ few. reads (codes "solution") (contents solution) SOLUTION_LIMIT
-    (took_more (front + SOLUTION_LIMIT)) (failed solution) shown) answer good.small at_league in
+    let at_solution : takes (codes "solution") (store.contents solution) SOLUTION_LIMIT (store.took_more (front + SOLUTION_LIMIT))
+    (store.failed solution) shown answer =
+    few-small league (λ few. takes (codes "solution") (store.contents solution) SOLUTION_LIMIT
+    (store.took_more (front + SOLUTION_LIMIT)) (store.failed solution) shown) answer good.small at_league in
     let at_games : shown pair.second answer =
-    reads-known (codes "solution") (contents solution) SOLUTION_LIMIT (took_more (front + SOLUTION_LIMIT))
-    (failed solution) shown answer pair.second pair.second_known pair.second_within pair.second_works at_solution in
+    takes-known (codes "solution") (store.contents solution) SOLUTION_LIMIT (store.took_more (front + SOLUTION_LIMIT))
+    (store.failed solution) shown answer pair.second pair.second_known pair.second_within (second-works store instance solution [] works) at_solution in
     says-known (codes "solution") (solution_of league.n (pieces pair.second)) games (IsShown league conflicts) answer
     pair.says_games at_games
 
 -- a file that wasn't refused was read
 reads-goes : (which : List ℕ) (known : Option (List ℕ)) (limit : ℕ) (long failed : Type 0) (next : List ℕ → Outcome)
     (answer : Answer) (file : List ℕ) → known ≡ Some file → (answer.status ≡ File → ⊥)
-    → (answer.status ≡ ReadFault → ⊥) → reads which known limit long failed next answer → next file answer
+    → (answer.status ≡ ReadFault → ⊥) → takes which known limit long failed next answer → next file answer
 reads-goes which known limit long failed next answer file is no_file no_fault (inl read) =
     let same : read.0 ≡ file = subst (λ (k : Option (List ℕ)). IfSome k (λ bytes. read.0 ≡ bytes)) is read.1.same in
     subst (λ (b : List ℕ). next b answer) same read.2
@@ -62,32 +63,32 @@ reads-goes which known limit long failed next answer file is no_file no_fault (i
     absurd (no_fault (ap (λ (a : Answer). a.status) h.1))
 
 -- files that are known, where none is refused
-proved-goes : (contents : List ℕ → Option (List ℕ)) (took_more : ℕ → Type 0) (failed : List ℕ → Type 0)
+proved-goes : (store : Store)
     (instance solution first second : List ℕ) (league : Instance) (games : List Game) (conflicts : Option ℕ)
-    (answer : Answer) → contents instance ≡ Some first → contents solution ≡ Some second
+    (answer : Answer) → store.contents instance ≡ Some first → store.contents solution ≡ Some second
     → instance_of (pieces first) ≡ Ok league → solution_of league.n (pieces second) ≡ Ok games
     → (answer.status ≡ File → ⊥) → (answer.status ≡ ReadFault → ⊥)
-    → proved contents took_more failed instance solution conflicts answer → IsShown league conflicts games answer
-proved-goes contents took_more failed instance solution first second league games conflicts answer first_known
+    → proved store instance solution conflicts answer → IsShown league conflicts games answer
+proved-goes store instance solution first second league games conflicts answer first_known
     second_known says_league says_games no_file no_fault given =
     let front : ℕ = length first in
     let next : List ℕ → Outcome = λ bytes. says (codes "instance") (instance_of (pieces bytes))
-    (solution_stages contents took_more failed solution conflicts (length bytes)) in
+    (solution_stages store solution conflicts (length bytes)) in
     let at_instance : next first answer =
-    reads-goes (codes "instance") (contents instance) INSTANCE_LIMIT (took_more INSTANCE_LIMIT) (failed instance) next
+    reads-goes (codes "instance") (store.contents instance) INSTANCE_LIMIT (store.took_more INSTANCE_LIMIT) (store.failed instance) next
     answer first first_known no_file no_fault given in
-    let at_league : solution_stages contents took_more failed solution conflicts front league answer =
+    let at_league : solution_stages store solution conflicts front league answer =
     says-known (codes "instance") (instance_of (pieces first)) league
-    (solution_stages contents took_more failed solution conflicts front) answer says_league at_instance in
+    (solution_stages store solution conflicts front) answer says_league at_instance in
     let shown : List ℕ → Outcome = λ bytes. says (codes "solution") (solution_of league.n (pieces bytes))
     (IsShown league conflicts) in
-    let at_solution : reads (codes "solution") (contents solution) SOLUTION_LIMIT (took_more (front + SOLUTION_LIMIT))
-    (failed solution) shown answer =
-    few-yes league (λ few. reads (codes "solution") (contents solution) SOLUTION_LIMIT
-    (took_more (front + SOLUTION_LIMIT)) (failed solution) shown) answer no_file at_league in
+    let at_solution : takes (codes "solution") (store.contents solution) SOLUTION_LIMIT (store.took_more (front + SOLUTION_LIMIT))
+    (store.failed solution) shown answer =
+    few-yes league (λ few. takes (codes "solution") (store.contents solution) SOLUTION_LIMIT
+    (store.took_more (front + SOLUTION_LIMIT)) (store.failed solution) shown) answer no_file at_league in
     let at_games : shown second answer =
-    reads-goes (codes "solution") (contents solution) SOLUTION_LIMIT (took_more (front + SOLUTION_LIMIT))
-    (failed solution) shown answer second second_known no_file no_fault at_solution in
+    reads-goes (codes "solution") (store.contents solution) SOLUTION_LIMIT (store.took_more (front + SOLUTION_LIMIT))
+    (store.failed solution) shown answer second second_known no_file no_fault at_solution in
     says-known (codes "solution") (solution_of league.n (pieces second)) games (IsShown league conflicts) answer
     says_games at_games
 
@@ -155,19 +156,19 @@ better-no_fault answer is refused = let same : Better ≡ ReadFault = other Bett
 
 -- where the answer is yes, the schedule's objective is the least; where it is a better schedule, the league accepts
 -- that
-pub proved-known : (contents : List ℕ → Option (List ℕ)) (took_more : ℕ → Type 0) (failed : List ℕ → Type 0)
+pub proved-known : (store : Store)
     (instance solution first second : List ℕ) (league : Instance) (games : List Game) (conflicts : Option ℕ)
-    (answer : Answer) → contents instance ≡ Some first → contents solution ≡ Some second
+    (answer : Answer) → store.contents instance ≡ Some first → store.contents solution ≡ Some second
     → instance_of (pieces first) ≡ Ok league → solution_of league.n (pieces second) ≡ Ok games
-    → proved contents took_more failed instance solution conflicts answer
+    → proved store instance solution conflicts answer
     → (answer.status ≡ Yes → IsLeast league conflicts games answer) × (answer.status ≡ Better → IsBettered league games answer)
-proved-known contents took_more failed instance solution first second league games conflicts answer first_known
+proved-known store instance solution first second league games conflicts answer first_known
     second_known says_league says_games given = (
       λ is. shown-yes league conflicts games answer
-          (proved-goes contents took_more failed instance solution first second league games conflicts answer
+          (proved-goes store instance solution first second league games conflicts answer
           first_known second_known says_league says_games (yes-no_file answer is) (yes-no_fault answer is) given) is,
       λ is. shown-better league conflicts games answer
-          (proved-goes contents took_more failed instance solution first second league games conflicts answer
+          (proved-goes store instance solution first second league games conflicts answer
           first_known second_known says_league says_games (better-no_file answer is) (better-no_fault answer is) given)
           is,
     )

@@ -1,7 +1,7 @@
 -- What `prove` answers: its stages in their order, and what is shown of a schedule.
 use Rattle.std.specs.Prelude.{◌≡◌, ℕ, ◌+◌, ◌-◌, ◌<◌, ◌≤◌, ◌^◌, ◌⊎◌, List, length, codes, Option, Some, Ok, IfSome}
-use Rattle.std.specs.Io.KnownBytes.{Appends}
 use Rattle.std.specs.List.{All}
+use Rattle.robin_io.specs.Outside.{Store}
 use Rattle.league.specs.Accepted.{IsAccepted, objective}
 use Rattle.league.specs.Counts.{counts_of}
 use Rattle.league.specs.Instance.{Instance, IsGame}
@@ -14,7 +14,6 @@ use Rattle.robinx_form.specs.Texts.{solution_text}
 use Rattle.robinx_read.specs.declared.instance.TheConstants.{INSTANCE_LIMIT, SOLUTION_LIMIT}
 use Rattle.answers.specs.Reply.{Answer}
 use Rattle.answers.specs.Stages.{◌>>=◌, Outcome, reads, says}
-use Rattle.answers.specs.declared.status.Status.{Status}
 use Rattle.answers.specs.declared.status.Status.TheVariants.{Yes, No, Spent, Better}
 use Rattle.refutation.specs.Logs.{log_of}
 use Rattle.refutation.specs.Steps.{Step}
@@ -90,16 +89,14 @@ IsShown league conflicts games answer =
 
 -- ---- stages
 
--- `prove`, over the contents of the store's files where they are known, how many bytes it gave more than, and the files
--- at which it failed
-abbrev pub proved : (List ℕ → Option (List ℕ)) → (ℕ → Type 0) → (List ℕ → Type 0) → List ℕ → List ℕ → Option ℕ
+-- `prove`, over what a store shows
+abbrev pub proved : Store → List ℕ → List ℕ → Option ℕ
     → Outcome
-proved contents took_more failed instance solution conflicts = do
-  first ← reads (codes "instance") (contents instance) INSTANCE_LIMIT (took_more INSTANCE_LIMIT) (failed instance)
+proved store instance solution conflicts = do
+  first ← reads store (codes "instance") instance INSTANCE_LIMIT 0
   league ← says (codes "instance") (instance_of (pieces first))
   few ← has_few_terms league
-  let long = took_more (length first + SOLUTION_LIMIT)
-  second ← reads (codes "solution") (contents solution) SOLUTION_LIMIT long (failed solution)
+  second ← reads store (codes "solution") solution SOLUTION_LIMIT (length first)
   games ← says (codes "solution") (solution_of league.n (pieces second))
   IsShown league conflicts games
 
@@ -107,19 +104,10 @@ proved contents took_more failed instance solution conflicts = do
 
 -- a well-formed pair of files, whose league's bound rows aren't too many
 pub record IsWellFormedCase
-    (contents : List ℕ → Option (List ℕ))
-    (failed : List ℕ → Type 0)
+    (store : Store)
     (instance solution : List ℕ)
     (league : Instance)
     (games : List Game)
     : Type 0 where
-  pub pair : IsWellFormedPair contents failed instance solution league games
+  pub pair : IsWellFormedPair store instance solution league games
   pub small : bound_size league ≤ most_terms
-
--- what is shown is written whole
-pub record IsProved (league : Instance) (conflicts : Option ℕ) (games : List Game) (ended : Status)
-    (old new : Option (List ℕ)) : Type 0 where
-  pub answer : Answer
-  pub shown : IsShown league conflicts games answer
-  pub status : ended ≡ answer.status
-  pub written : Appends old new answer.text

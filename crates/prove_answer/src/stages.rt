@@ -1,7 +1,7 @@
 //! The stages of `prove`.
 ghost use Rattle.std.specs.Prelude.{◌≡◌, ◌≤◌, ℕ, List, Option, IfOk, codes, length};
 ghost use Rattle.std.specs.List.{All};
-ghost use Rattle.robin_io.specs.Counts.{Rose, TookMore};
+ghost use Rattle.robin_io.specs.Outside.{store_between};
 ghost use Rattle.league.specs.Accepted.{IsAccepted};
 ghost use Rattle.league.specs.Counts.{counts_of};
 ghost use Rattle.league.specs.Instance.{IsGame};
@@ -82,17 +82,19 @@ fn show_file(
     Ok(show(alloc, league, &schedule, conflicts)?)
 }
 
-/// The stages of `prove`.
-fn prove_stages<S: Shelf>(
+/// Shows that the schedule of one file can't be bettered in the league of the other, betters it, or spends its budget
+/// of conflicts. A schedule that the league doesn't accept is judged.
+///
+/// # Errors
+/// Where a file is refused, with the reply that says why, and where memory runs out.
+pub fn prove_file<S: Shelf>(
     alloc: Global,
     shelf: &mut S,
     instance: &str,
     solution: &str,
     conflicts: Option<u64>,
 ) -> Result<Reply, NoValue>
-    ensures answer { Answers (proved (S.contents shelf.old)
-        (λ limit. TookMore limit (S.taken shelf.old) (S.taken shelf.new))
-        (λ name. Rose (S.faults shelf.old name) (S.faults shelf.new name))
+    ensures answer { Answers (proved (store_between S.Shelf shelf.old shelf.new)
         instance.now solution.now conflicts) result }
     ensures contents { (n : List ℕ) → S.contents shelf.new n ≡ S.contents shelf.old n }
 {
@@ -101,29 +103,4 @@ fn prove_stages<S: Shelf>(
     has_few_terms(alloc, &league)?;
     let second = file(alloc, shelf, "solution", solution, SOLUTION_LIMIT)?;
     show_file(alloc, &second, &league, conflicts)
-}
-
-/// Shows that the schedule of one file can't be bettered in the league of the other, betters it, or spends its budget
-/// of conflicts. A schedule that the league doesn't accept is judged.
-///
-/// # Errors
-/// Only where memory runs out: a refused file has a reply of its own.
-pub fn prove_file<S: Shelf>(
-    alloc: Global,
-    shelf: &mut S,
-    instance: &str,
-    solution: &str,
-    conflicts: Option<u64>,
-) -> Result<Reply, AllocError>
-    ensures answer { IfOk result (λ reply. proved (S.contents shelf.old)
-        (λ limit. TookMore limit (S.taken shelf.old) (S.taken shelf.new))
-        (λ name. Rose (S.faults shelf.old name) (S.faults shelf.new name))
-        instance.now solution.now conflicts (answer_of reply)) }
-    ensures contents { (n : List ℕ) → S.contents shelf.new n ≡ S.contents shelf.old n }
-{
-    match prove_stages(alloc, shelf, instance, solution, conflicts) {
-        Ok(reply) => Ok(reply),
-        Err(NoValue::Refused(reply)) => Ok(reply),
-        Err(NoValue::Memory) => Err(AllocError),
-    }
 }

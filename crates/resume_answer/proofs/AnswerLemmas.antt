@@ -1,7 +1,8 @@
 -- What follows from an answer of `resume`, and of `audit`.
-use Rattle.std.proofs.Common.{◌≡◌, ℕ, ◌+◌, ◌<◌, ◌≤◌, List, length, Option, Some, Result, Ok, Err, codes, ap, arith}
+use Rattle.std.proofs.Common.{◌∷◌, [], ◌≡◌, ℕ, ◌+◌, ◌<◌, ◌≤◌, List, length, Option, Some, Result, Ok, Err, codes, ap, arith}
 use Rattle.std.proofs.Common.{inl, inr, refl, sym, subst, ◌∙◌}
 use Rattle.std.specs.Prelude.{IfSome}
+use Rattle.robin_io.specs.Outside.{Store}
 use Rattle.league.specs.Counts.{counts_of, slot_count}
 use Rattle.league.specs.Instance.{Instance}
 use Rattle.league.specs.declared.game.Game.{Game}
@@ -11,10 +12,10 @@ use Rattle.robinx_form.specs.SolutionFile.{solution_of}
 use Rattle.robinx_form.specs.Walk as forms
 use Rattle.robinx_read.specs.declared.instance.TheConstants.{INSTANCE_LIMIT, SOLUTION_LIMIT}
 use Rattle.answers.specs.Reply.{Answer}
-use Rattle.answers.specs.Stages.{IsFile, Outcome, reads, says}
+use Rattle.answers.specs.Stages.{IsFile, NoneFails, Outcome, says, takes}
 use Rattle.answers.specs.declared.status.Status.{Status}
 use Rattle.answers.specs.declared.status.Status.TheVariants.{Yes, File, Refuted, Spent, ReadFault}
-use Rattle.answers.proofs.StageLemmas.{reads-known, says-known}
+use Rattle.answers.proofs.StageLemmas.{first-works, says-known, second-works, takes-known, third-works}
 use Rattle.refutation.specs.Logs.{Fault, log_of}
 use Rattle.refutation.specs.Steps.{Step}
 use Rattle.check_answer.specs.Check.{most_log_bytes, most_terms, says_log}
@@ -41,55 +42,58 @@ size-known league k next answer small (inr h) =
     let large : most_terms < resume_size league k = h.0 in absurd (omega arith)
 
 -- two files that are known and well-formed, at which nothing fails: what is answered to their season is the answer
-plays-known : (contents : List ℕ → Option (List ℕ)) (took_more : ℕ → Type 0) (failed : List ℕ → Type 0)
+plays-known : (store : Store)
     (instance solution : List ℕ) (k : ℕ) (next : Season → Outcome) (league : Instance) (played : List Game)
-    (answer : Answer) (good : IsWellFormedSeason contents failed instance solution k league played)
-    → plays contents took_more failed instance solution k next answer
+    (answer : Answer) (good : IsWellFormedSeason store instance solution k league played)
+    → (store.failed instance → ⊥) → (store.failed solution → ⊥) → plays store instance solution k next answer
     → next (record {
       league = league;
       played = played;
       slots = k;
       bytes = length good.say.first + length good.say.second;
     }) answer
-plays-known contents took_more failed instance solution k next league played answer good given =
+plays-known store instance solution k next league played answer good first_works second_works given =
     let say = good.say in
     says-known (codes "solution") (solution_of league.n (pieces say.second)) played
     (λ games.
     next (record { league = league; played = games; slots = k; bytes = length say.first + length say.second }))
     answer say.says_played
-    (reads-known (codes "solution") (contents solution) SOLUTION_LIMIT
-    (took_more (length say.first + SOLUTION_LIMIT)) (failed solution) (after_second (length say.first) k next league)
-    answer say.second say.second_known good.second_within good.second_works
-    (size-known league k (after_size contents took_more failed solution (length say.first) k next league) answer
+    (takes-known (codes "solution") (store.contents solution) SOLUTION_LIMIT
+    (store.took_more (length say.first + SOLUTION_LIMIT)) (store.failed solution) (after_second (length say.first) k next league)
+    answer say.second say.second_known good.second_within second_works
+    (size-known league k (after_size store solution (length say.first) k next league) answer
     good.small
     (slots-known league k
-    (has_size league k (λ size. after_size contents took_more failed solution (length say.first) k next league)) answer
+    (has_size league k (λ size. after_size store solution (length say.first) k next league)) answer
     good.slots
     (says-known (codes "instance") (instance_of (pieces say.first)) league
-    (after_league contents took_more failed solution (length say.first) k next) answer say.says_league
-    (reads-known (codes "instance") (contents instance) INSTANCE_LIMIT (took_more INSTANCE_LIMIT) (failed instance)
-    (after_first contents took_more failed solution k next) answer say.first say.first_known good.first_within
-    good.first_works given)))))
+    (after_league store solution (length say.first) k next) answer say.says_league
+    (takes-known (codes "instance") (store.contents instance) INSTANCE_LIMIT (store.took_more INSTANCE_LIMIT) (store.failed instance)
+    (after_first store solution k next) answer say.first say.first_known good.first_within
+    first_works given)))))
 
-pub resumed-well_formed : (contents : List ℕ → Option (List ℕ)) (took_more : ℕ → Type 0) (failed : List ℕ → Type 0)
+pub resumed-well_formed : (store : Store)
     (instance solution : List ℕ) (k : ℕ) (conflicts : Option ℕ) (league : Instance) (played : List Game)
-    (answer : Answer) → IsWellFormedSeason contents failed instance solution k league played
-    → resumed contents took_more failed instance solution k conflicts answer → IsFound league played k conflicts answer
-resumed-well_formed contents took_more failed instance solution k conflicts league played answer good given =
-    plays-known contents took_more failed instance solution k
-    (λ season. IsFound season.league season.played k conflicts) league played answer good given
+    (answer : Answer) → IsWellFormedSeason store instance solution k league played
+    → NoneFails store (instance ∷ solution ∷ []) → resumed store instance solution k conflicts answer → IsFound league played k conflicts answer
+resumed-well_formed store instance solution k conflicts league played answer good works given =
+    plays-known store instance solution k
+    (λ season. IsFound season.league season.played k conflicts) league played answer good
+    (first-works store instance (solution ∷ []) works) (second-works store instance solution [] works) given
 
-pub audited-well_formed : (contents : List ℕ → Option (List ℕ)) (took_more : ℕ → Type 0) (failed : List ℕ → Type 0)
+pub audited-well_formed : (store : Store)
     (instance solution : List ℕ) (k : ℕ) (log : List ℕ) (league : Instance) (played : List Game) (steps : List Step)
-    (answer : Answer) → IsWellFormedAudit contents failed instance solution k log league played steps
-    → audited contents took_more failed instance solution k log answer → IsVerdict league played k steps answer
-audited-well_formed contents took_more failed instance solution k log league played steps answer good given =
+    (answer : Answer) → IsWellFormedAudit store instance solution k log league played steps
+    → NoneFails store (instance ∷ solution ∷ log ∷ []) → audited store instance solution k log answer → IsVerdict league played k steps answer
+audited-well_formed store instance solution k log league played steps answer good works given =
     let front : ℕ = length good.season.say.first + length good.season.say.second in
     said-known (log_of good.third) steps (IsVerdict league played k) answer good.says_steps
-    (reads-known (codes "log") (contents log) most_log_bytes (took_more (front + most_log_bytes)) (failed log)
-    (λ bytes. says_log (log_of bytes) (IsVerdict league played k)) answer good.third good.known good.within good.works
-    (plays-known contents took_more failed instance solution k (at_log contents took_more failed log k) league played
-    answer good.season given))
+    (takes-known (codes "log") (store.contents log) most_log_bytes (store.took_more (front + most_log_bytes)) (store.failed log)
+    (λ bytes. says_log (log_of bytes) (IsVerdict league played k)) answer good.third good.known good.within
+    (third-works store instance solution log [] works)
+    (plays-known store instance solution k (at_log store log k) league played
+    answer good.season (first-works store instance (solution ∷ log ∷ []) works)
+    (second-works store instance solution (log ∷ []) works) given))
 
 -- ---- an answer that isn't a refusal
 
@@ -98,7 +102,7 @@ abbrev IsAnswered : Answer → Type 0
 IsAnswered answer = (answer.status ≡ File → ⊥) × (answer.status ≡ ReadFault → ⊥)
 
 reads-answered : (which : List ℕ) (known : Option (List ℕ)) (limit : ℕ) (long failed : Type 0)
-    (next : List ℕ → Outcome) (answer : Answer) → IsAnswered answer → reads which known limit long failed next answer
+    (next : List ℕ → Outcome) (answer : Answer) → IsAnswered answer → takes which known limit long failed next answer
     → (bytes : List ℕ) × IsFile known limit bytes × next bytes answer
 reads-answered which known limit long failed next answer is (inl read) = read
 reads-answered which known limit long failed next answer is (inr (inl h)) =
@@ -127,35 +131,35 @@ log-answered (Ok steps) next answer is given = (steps, given)
 log-answered (Err fault) next answer is given = absurd (is.0 (ap (λ (a : Answer). a.status) given))
 
 -- the files were read and said a season, to which this is answered
-record IsOfSeason (contents : List ℕ → Option (List ℕ)) (instance solution : List ℕ) (k : ℕ)
+record IsOfSeason (store : Store) (instance solution : List ℕ) (k : ℕ)
     (next : Season → Outcome) (answer : Answer) : Type 0 where
   first : List ℕ
   second : List ℕ
   league : Instance
   played : List Game
-  first_file : IsFile (contents instance) INSTANCE_LIMIT first
-  second_file : IsFile (contents solution) SOLUTION_LIMIT second
+  first_file : IsFile (store.contents instance) INSTANCE_LIMIT first
+  second_file : IsFile (store.contents solution) SOLUTION_LIMIT second
   says_league : instance_of (pieces first) ≡ Ok league
   says_played : solution_of league.n (pieces second) ≡ Ok played
   rest : next (record { league = league; played = played; slots = k; bytes = length first + length second }) answer
 
-plays-answered : (contents : List ℕ → Option (List ℕ)) (took_more : ℕ → Type 0) (failed : List ℕ → Type 0)
+plays-answered : (store : Store)
     (instance solution : List ℕ) (k : ℕ) (next : Season → Outcome) (answer : Answer) → IsAnswered answer
-    → plays contents took_more failed instance solution k next answer
-    → IsOfSeason contents instance solution k next answer
-plays-answered contents took_more failed instance solution k next answer is given =
-    let read = reads-answered (codes "instance") (contents instance) INSTANCE_LIMIT (took_more INSTANCE_LIMIT)
-    (failed instance) (after_first contents took_more failed solution k next) answer is given in
+    → plays store instance solution k next answer
+    → IsOfSeason store instance solution k next answer
+plays-answered store instance solution k next answer is given =
+    let read = reads-answered (codes "instance") (store.contents instance) INSTANCE_LIMIT (store.took_more INSTANCE_LIMIT)
+    (store.failed instance) (after_first store solution k next) answer is given in
     let front : ℕ = length read.0 in
     let said = says-answered (codes "instance") (instance_of (pieces read.0))
-    (after_league contents took_more failed solution front k next) answer is read.2 in
+    (after_league store solution front k next) answer is read.2 in
     let league : Instance = said.0 in
-    let rest : Outcome = after_size contents took_more failed solution front k next league in
+    let rest : Outcome = after_size store solution front k next league in
     let sized : rest answer =
     size-answered league k rest answer is
     (slots-answered league k (has_size league k (λ size. rest)) answer is said.2) in
-    let second = reads-answered (codes "solution") (contents solution) SOLUTION_LIMIT
-    (took_more (front + SOLUTION_LIMIT)) (failed solution) (after_second front k next league) answer is sized in
+    let second = reads-answered (codes "solution") (store.contents solution) SOLUTION_LIMIT
+    (store.took_more (front + SOLUTION_LIMIT)) (store.failed solution) (after_second front k next league) answer is sized in
     let games = says-answered (codes "solution") (solution_of league.n (pieces second.0))
     (λ played.
     next (record { league = league; played = played; slots = k; bytes = front + length second.0 })) answer is
@@ -182,15 +186,15 @@ same_value : {X E : Type 0} (said : Result X E) (x y : X) → said ≡ Ok x → 
 same_value said x y one other = cc
 
 -- what is answered to the season that they say
-of_known : (contents : List ℕ → Option (List ℕ)) (instance solution : List ℕ) (k : ℕ) (next : Season → Outcome)
-    (league : Instance) (played : List Game) (answer : Answer) → SaySeason contents instance solution league played
-    → IsOfSeason contents instance solution k next answer
+of_known : (store : Store) (instance solution : List ℕ) (k : ℕ) (next : Season → Outcome)
+    (league : Instance) (played : List Game) (answer : Answer) → SaySeason store instance solution league played
+    → IsOfSeason store instance solution k next answer
     → (bytes : ℕ) × next (record { league = league; played = played; slots = k; bytes = bytes }) answer
-of_known contents instance solution k next league played answer say of =
+of_known store instance solution k next league played answer say of =
     let first : of.first ≡ say.first =
-    same_bytes (contents instance) INSTANCE_LIMIT of.first say.first of.first_file say.first_known in
+    same_bytes (store.contents instance) INSTANCE_LIMIT of.first say.first of.first_file say.first_known in
     let second : of.second ≡ say.second =
-    same_bytes (contents solution) SOLUTION_LIMIT of.second say.second of.second_file say.second_known in
+    same_bytes (store.contents solution) SOLUTION_LIMIT of.second say.second of.second_file say.second_known in
     let leagues : of.league ≡ league =
     same_value (instance_of (pieces of.first)) of.league league of.says_league
     (ap (λ (b : List ℕ). instance_of (pieces b)) first ∙ say.says_league) in
@@ -231,41 +235,41 @@ found-excluded league played k conflicts answer ended found =
     ]
 
 -- where the answer is a schedule, it is accepted and keeps the played games
-pub resumed-planned : (contents : List ℕ → Option (List ℕ)) (took_more : ℕ → Type 0) (failed : List ℕ → Type 0)
+pub resumed-planned : (store : Store)
     (instance solution : List ℕ) (k : ℕ) (conflicts : Option ℕ) (league : Instance) (played : List Game)
-    (answer : Answer) → SaySeason contents instance solution league played → answer.status ≡ Yes
-    → resumed contents took_more failed instance solution k conflicts answer → IsPlanned league played k answer
-resumed-planned contents took_more failed instance solution k conflicts league played answer say ended given =
+    (answer : Answer) → SaySeason store instance solution league played → answer.status ≡ Yes
+    → resumed store instance solution k conflicts answer → IsPlanned league played k answer
+resumed-planned store instance solution k conflicts league played answer say ended given =
     let next : Season → Outcome = λ season. IsFound season.league season.played k conflicts in
     let answered : IsAnswered answer = answered-as answer Yes ended (λ same. cc) (λ same. cc) in
     found-planned league played k conflicts answer ended
-    (of_known contents instance solution k next league played answer say
-    (plays-answered contents took_more failed instance solution k next answer answered given)).1
+    (of_known store instance solution k next league played answer say
+    (plays-answered store instance solution k next answer answered given)).1
 
 -- where it is a refutation, no accepted schedule keeps them
-pub resumed-excluded : (contents : List ℕ → Option (List ℕ)) (took_more : ℕ → Type 0) (failed : List ℕ → Type 0)
+pub resumed-excluded : (store : Store)
     (instance solution : List ℕ) (k : ℕ) (conflicts : Option ℕ) (league : Instance) (played : List Game)
-    (answer : Answer) → SaySeason contents instance solution league played → answer.status ≡ Refuted
-    → resumed contents took_more failed instance solution k conflicts answer
+    (answer : Answer) → SaySeason store instance solution league played → answer.status ≡ Refuted
+    → resumed store instance solution k conflicts answer
     → NoneResumes league (counts_of played) k
-resumed-excluded contents took_more failed instance solution k conflicts league played answer say ended given =
+resumed-excluded store instance solution k conflicts league played answer say ended given =
     let next : Season → Outcome = λ season. IsFound season.league season.played k conflicts in
     let answered : IsAnswered answer = answered-as answer Refuted ended (λ same. cc) (λ same. cc) in
     found-excluded league played k conflicts answer ended
-    (of_known contents instance solution k next league played answer say
-    (plays-answered contents took_more failed instance solution k next answer answered given)).1
+    (of_known store instance solution k next league played answer say
+    (plays-answered store instance solution k next answer answered given)).1
 
 -- and where the verdict on a log says yes
-pub audited-excluded : (contents : List ℕ → Option (List ℕ)) (took_more : ℕ → Type 0) (failed : List ℕ → Type 0)
+pub audited-excluded : (store : Store)
     (instance solution : List ℕ) (k : ℕ) (log : List ℕ) (league : Instance) (played : List Game)
-    (answer : Answer) → SaySeason contents instance solution league played → answer.status ≡ Yes
-    → audited contents took_more failed instance solution k log answer → NoneResumes league (counts_of played) k
-audited-excluded contents took_more failed instance solution k log league played answer say ended given =
-    let next : Season → Outcome = at_log contents took_more failed log k in
+    (answer : Answer) → SaySeason store instance solution league played → answer.status ≡ Yes
+    → audited store instance solution k log answer → NoneResumes league (counts_of played) k
+audited-excluded store instance solution k log league played answer say ended given =
+    let next : Season → Outcome = at_log store log k in
     let answered : IsAnswered answer = answered-as answer Yes ended (λ same. cc) (λ same. cc) in
-    let at = of_known contents instance solution k next league played answer say
-    (plays-answered contents took_more failed instance solution k next answer answered given) in
-    let read = reads-answered (codes "log") (contents log) most_log_bytes (took_more (at.0 + most_log_bytes))
-    (failed log) (λ bytes. says_log (log_of bytes) (IsVerdict league played k)) answer answered at.1 in
+    let at = of_known store instance solution k next league played answer say
+    (plays-answered store instance solution k next answer answered given) in
+    let read = reads-answered (codes "log") (store.contents log) most_log_bytes (store.took_more (at.0 + most_log_bytes))
+    (store.failed log) (λ bytes. says_log (log_of bytes) (IsVerdict league played k)) answer answered at.1 in
     let said = log-answered (log_of read.0) (IsVerdict league played k) answer answered read.2 in
     said.1.none ended

@@ -3,6 +3,7 @@ use Rattle.std.proofs.Common.{◌≡◌, ℕ, ◌≤◌, ◌∙◌, true, if◌t
 use Rattle.std.proofs.Common.{codes, ap, arith, inl, inr, refl}
 use Rattle.std.specs.Prelude.{bytes_eq}
 use Rattle.std.specs.Fmt.{digits}
+use Rattle.robin_io.specs.Outside.{Store}
 use Rattle.league.specs.Counts.{counts_of}
 use Rattle.league.specs.Instance.{Instance}
 use Rattle.robinx_tags.specs.Pieces.{pieces, pieces_from}
@@ -12,9 +13,9 @@ use Rattle.robinx_form.specs.SolutionFile.{solution_of}
 use Rattle.robinx_form.specs.Walk.{walk}
 use Rattle.robinx_read.specs.declared.instance.TheConstants.{INSTANCE_LIMIT}
 use Rattle.answers.specs.Reply.{Answer}
-use Rattle.answers.specs.Stages.{Outcome}
+use Rattle.answers.specs.Stages.{NoneFails, Outcome}
 use Rattle.answers.specs.declared.status.Status.TheVariants.{Yes, No, File}
-use Rattle.answers.proofs.StageLemmas.{reads-known, says-known}
+use Rattle.answers.proofs.StageLemmas.{takes-known, says-known}
 use Rattle.encoding_base.specs.Variables.{var_count}
 use Rattle.refutation.specs.Logs.{lines_from, log_of}
 use Rattle.refutation.specs.Steps.{Step}
@@ -86,6 +87,12 @@ never n = ⊥
 abbrev nowhere : List ℕ → Type 0
 nowhere name = ⊥
 
+abbrev store : Store
+store = record { contents = contents; took_more = never; failed = nowhere }
+
+nothing_fails : (names : List (List ℕ)) → NoneFails store names
+nothing_fails names = λ place name within fails. fails
+
 -- ---- more slots than the season has: that is the answer, whatever the solution file is
 
 too_long : (answer : Answer) (rest : Outcome) → has_slots league 3 (λ slots. rest) answer → answer ≡ slot_refused 3
@@ -93,17 +100,17 @@ too_long answer rest (inl h) = let within : 3 ≤ 2 = h.0 in absurd (omega arith
 too_long answer rest (inr h) = h.1
 
 pub resumed-three : (solution : List ℕ) (conflicts : Option ℕ) (answer : Answer)
-    → resumed contents never nowhere (codes "league") solution 3 conflicts answer
+    → resumed store (codes "league") solution 3 conflicts answer
     → answer ≡ record { status = File; text = codes "refused slot 3\n" }
 unfolding digits
 resumed-three solution conflicts answer given =
     let next : Season → Outcome = λ season. IsFound season.league season.played 3 conflicts in
     too_long answer
-    (has_size league 3 (λ size. after_size contents never nowhere solution (length league_file) 3 next league))
+    (has_size league 3 (λ size. after_size store solution (length league_file) 3 next league))
     (says-known (codes "instance") (instance_of (pieces league_file)) league
-    (after_league contents never nowhere solution (length league_file) 3 next) answer says_league
-    (reads-known (codes "instance") (contents (codes "league")) INSTANCE_LIMIT ⊥ ⊥
-    (after_first contents never nowhere solution 3 next) answer league_file refl (omega arith) (λ h. h) given))
+    (after_league store solution (length league_file) 3 next) answer says_league
+    (takes-known (codes "instance") (contents (codes "league")) INSTANCE_LIMIT ⊥ ⊥
+    (after_first store solution 3 next) answer league_file refl (omega arith) (λ h. h) given))
 
 -- ---- slot 0 was played, without a game: no schedule keeps that, and the log shows it
 
@@ -111,7 +118,7 @@ sizes : resume_size league 1 ≡ 62
 sizes = refl
 
 formed : (k : ℕ) → k ≤ 1 → resume_size league k ≤ most_terms
-    → IsWellFormedAudit contents nowhere (codes "league") (codes "played") k (codes "log") league [] steps
+    → IsWellFormedAudit store (codes "league") (codes "played") k (codes "log") league [] steps
 formed k within small = record {
   season = record {
     say = record {
@@ -126,14 +133,11 @@ formed k within small = record {
     second_within = omega arith;
     slots = omega (arith, within);
     small = small;
-    first_works = λ h. h;
-    second_works = λ h. h;
   };
   third = log;
   known = refl;
   within = omega arith;
   says_steps = says_steps;
-  works = λ h. h;
 }
 
 verdict-one : verdict_of (resume_rows league (counts_of []) 1) (var_count league) steps ≡ Accepted
@@ -147,12 +151,12 @@ small-one : resume_size league 1 ≤ most_terms
 small-one = omega (arith, sizes)
 
 pub audited-one : (answer : Answer)
-    → audited contents never nowhere (codes "league") (codes "played") 1 (codes "log") answer
+    → audited store (codes "league") (codes "played") 1 (codes "log") answer
     → (answer ≡ record { status = Yes; text = codes "accepted steps 1\n" }) × NoneResumes league (counts_of []) 1
 audited-one answer given =
     let verdict : IsVerdict league [] 1 steps answer =
-    audited-well_formed contents never nowhere (codes "league") (codes "played") 1 (codes "log") league [] steps answer
-    (formed 1 (omega arith) small-one) given in
+    audited-well_formed store (codes "league") (codes "played") 1 (codes "log") league [] steps answer
+    (formed 1 (omega arith) small-one) (nothing_fails (codes "league" ∷ codes "played" ∷ codes "log" ∷ [])) given in
     let is : answer ≡ record { status = Yes; text = codes "accepted steps 1\n" } =
     verdict.verdict ∙ ap (verdict_answer 1) verdict-one ∙ accepted-one in
     (is, verdict.none (ap (λ (a : Answer). a.status) is))
@@ -174,10 +178,10 @@ small-none : resume_size league 0 ≤ most_terms
 small-none = omega (arith, sizes-none)
 
 pub audited-none : (answer : Answer)
-    → audited contents never nowhere (codes "league") (codes "played") 0 (codes "log") answer
+    → audited store (codes "league") (codes "played") 0 (codes "log") answer
     → answer ≡ record { status = No; text = codes "rejected step 1 cause UnknownRow\n" }
 audited-none answer given =
     let verdict : IsVerdict league [] 0 steps answer =
-    audited-well_formed contents never nowhere (codes "league") (codes "played") 0 (codes "log") league [] steps answer
-    (formed 0 (omega arith) small-none) given in
+    audited-well_formed store (codes "league") (codes "played") 0 (codes "log") league [] steps answer
+    (formed 0 (omega arith) small-none) (nothing_fails (codes "league" ∷ codes "played" ∷ codes "log" ∷ [])) given in
     verdict.verdict ∙ ap (verdict_answer 1) verdict-none ∙ rejected-one

@@ -1,7 +1,9 @@
 -- How the stages of `resume` and `audit` make an answer.
 use Rattle.std.proofs.Common.{◌≡◌, ℕ, ◌+◌, ◌≤◌, List, length, Option, Result, Ok, Err, codes, ap, arith, inl, inr, sym}
 use Rattle.std.proofs.Common.{subst, ◌∙◌}
-use Rattle.robin_io.specs.Counts.{Rose, TookMore, raised}
+use Rattle.robin_io.specs.Counts.{raised}
+use Rattle.robin_io.specs.Outside.{Store}
+use Rattle.robin_io.specs.Rests.{IsRest}
 use Rattle.league.specs.Counts.{counts_of, slot_count}
 use Rattle.league.specs.Instance.{Instance, IsInstance}
 use Rattle.league.specs.declared.game.Game.{Game}
@@ -12,16 +14,16 @@ use Rattle.robinx_form.specs.Walk as forms
 use Rattle.robinx_read.specs.declared.instance.TheConstants.{INSTANCE_LIMIT, SOLUTION_LIMIT}
 use Rattle.answers.specs.Reply.{Answer}
 use Rattle.answers.specs.SeenReply.{IsMalformed, MatchStage}
-use Rattle.answers.specs.Stages.{IsFile, IsUnread, Outcome, reads, says}
+use Rattle.answers.specs.Stages.{IsFile, IsUnread, Outcome, reads, says, takes}
 use Rattle.answers.specs.declared.reply.NoValue.{NoValue}
 use Rattle.answers.specs.declared.reply.NoValue.TheVariants.{Refused, Memory}
-use Rattle.answers.proofs.StageLemmas.{reads-wider, says-value}
+use Rattle.answers.proofs.StageLemmas.{says-value, takes-rest}
 use Rattle.encoding_base.specs.Variables.{var_count}
 use Rattle.refutation.specs.Logs.{Fault, log_of}
 use Rattle.refutation.specs.Steps.{Step}
 use Rattle.refutation.specs.Verdict.{verdict_of}
 use Rattle.check_answer.specs.Check.{IsVerdictOver, most_log_bytes, most_terms, says_log}
-use Rattle.check_answer.proofs.StageLemmas.{is_accepted, rose-before, took_more-before}
+use Rattle.check_answer.proofs.StageLemmas.{is_accepted}
 use Rattle.resume_rows.specs.Kept.{resume_rows, resume_size}
 use Rattle.resume_rows.proofs.Faithful.{accepted_logs_exclude}
 use Rattle.resume_answer.specs.Audited.{IsVerdict, audited}
@@ -38,25 +40,25 @@ after_second front k next league second =
     (λ played. next (record { league = league; played = played; slots = k; bytes = front + length second }))
 
 -- behind the size of the resume rows
-abbrev pub after_size : (List ℕ → Option (List ℕ)) → (ℕ → Type 0) → (List ℕ → Type 0) → List ℕ → ℕ → ℕ
+abbrev pub after_size : Store → List ℕ → ℕ → ℕ
     → (Season → Outcome) → Instance → Outcome
-after_size contents took_more failed solution front k next league =
-    reads (codes "solution") (contents solution) SOLUTION_LIMIT (took_more (front + SOLUTION_LIMIT)) (failed solution)
+after_size store solution front k next league =
+    takes (codes "solution") (store.contents solution) SOLUTION_LIMIT (store.took_more (front + SOLUTION_LIMIT)) (store.failed solution)
     (after_second front k next league)
 
 -- behind the league
-abbrev pub after_league : (List ℕ → Option (List ℕ)) → (ℕ → Type 0) → (List ℕ → Type 0) → List ℕ → ℕ → ℕ
+abbrev pub after_league : Store → List ℕ → ℕ → ℕ
     → (Season → Outcome) → Instance → Outcome
-after_league contents took_more failed solution front k next league =
+after_league store solution front k next league =
     has_slots league k
-    (λ slots. has_size league k (λ size. after_size contents took_more failed solution front k next league))
+    (λ slots. has_size league k (λ size. after_size store solution front k next league))
 
 -- behind the bytes
-abbrev pub after_first : (List ℕ → Option (List ℕ)) → (ℕ → Type 0) → (List ℕ → Type 0) → List ℕ → ℕ
+abbrev pub after_first : Store → List ℕ → ℕ
     → (Season → Outcome) → List ℕ → Outcome
-after_first contents took_more failed solution k next first =
+after_first store solution k next first =
     says (codes "instance") (instance_of (pieces first))
-    (after_league contents took_more failed solution (length first) k next)
+    (after_league store solution (length first) k next)
 
 -- ---- single stages, which may go on to more
 
@@ -79,82 +81,82 @@ says-wider which (Err fault) narrow wide answer wider given = given
 
 read-wider : (which : List ℕ) (known : Option (List ℕ)) (limit : ℕ) (long failed : Type 0)
     (narrow wide : List ℕ → Outcome) (answer : Answer) → ((bytes : List ℕ) → narrow bytes answer → wide bytes answer)
-    → reads which known limit long failed narrow answer → reads which known limit long failed wide answer
+    → takes which known limit long failed narrow answer → takes which known limit long failed wide answer
 read-wider which known limit long failed narrow wide answer wider (inl read) =
     inl (read.0, read.1, wider read.0 read.2)
 read-wider which known limit long failed narrow wide answer wider (inr unread) = inr unread
 
-module _ (contents : List ℕ → Option (List ℕ)) (took_more : ℕ → Type 0) (failed : List ℕ → Type 0)
+module _ (store : Store)
     (instance solution : List ℕ) (k : ℕ) (next : Season → Outcome) where
   -- the instance file isn't read
   pub plays-unread : (answer : Answer)
-      → IsUnread (codes "instance") (contents instance) INSTANCE_LIMIT (took_more INSTANCE_LIMIT) (failed instance)
-      answer → plays contents took_more failed instance solution k next answer
+      → IsUnread (codes "instance") (store.contents instance) INSTANCE_LIMIT (store.took_more INSTANCE_LIMIT) (store.failed instance)
+      answer → plays store instance solution k next answer
   plays-unread answer unread = inr unread
 
   -- it says no league
-  pub plays-malformed : (first : List ℕ) → IsFile (contents instance) INSTANCE_LIMIT first → (answer : Answer)
+  pub plays-malformed : (first : List ℕ) → IsFile (store.contents instance) INSTANCE_LIMIT first → (answer : Answer)
       → IsMalformed (codes "instance") (instance_of (pieces first)) answer
-      → plays contents took_more failed instance solution k next answer
+      → plays store instance solution k next answer
   plays-malformed first is_file answer (fault, said, is) =
       inl (
         first,
         is_file,
         subst
             (λ r. says (codes "instance") r
-            (after_league contents took_more failed solution (length first) k next) answer)
+            (after_league store solution (length first) k next) answer)
             (sym said) is,
       )
 
   -- it says a league
-  plays-league : (first : List ℕ) (league : Instance) → IsFile (contents instance) INSTANCE_LIMIT first
+  plays-league : (first : List ℕ) (league : Instance) → IsFile (store.contents instance) INSTANCE_LIMIT first
       → instance_of (pieces first) ≡ Ok league → (answer : Answer)
-      → after_league contents took_more failed solution (length first) k next league answer
-      → plays contents took_more failed instance solution k next answer
+      → after_league store solution (length first) k next league answer
+      → plays store instance solution k next answer
   plays-league first league is_file says_league answer rest =
       inl (
         first,
         is_file,
         says-value (codes "instance") (instance_of (pieces first)) league
-            (after_league contents took_more failed solution (length first) k next) answer says_league rest,
+            (after_league store solution (length first) k next) answer says_league rest,
       )
 
   -- whose season is too short, or whose rows are too many
-  pub plays-too_long : (first : List ℕ) (league : Instance) → IsFile (contents instance) INSTANCE_LIMIT first
+  pub plays-too_long : (first : List ℕ) (league : Instance) → IsFile (store.contents instance) INSTANCE_LIMIT first
       → instance_of (pieces first) ≡ Ok league → (answer : Answer)
       → has_slots league k (λ slots. has_size league k (λ size answer. ⊥)) answer
-      → plays contents took_more failed instance solution k next answer
+      → plays store instance solution k next answer
   plays-too_long first league is_file says_league answer refused =
-      let rest : Outcome = after_size contents took_more failed solution (length first) k next league in
+      let rest : Outcome = after_size store solution (length first) k next league in
       plays-league first league is_file says_league answer
       (slots-wider league k (has_size league k (λ size answer. ⊥)) (has_size league k (λ size. rest)) answer
       (size-wider league k (λ answer. ⊥) rest answer (λ none. absurd none)) refused)
 
   -- whose season is long enough, and whose rows are few enough
-  plays-size : (first : List ℕ) (league : Instance) → IsFile (contents instance) INSTANCE_LIMIT first
+  plays-size : (first : List ℕ) (league : Instance) → IsFile (store.contents instance) INSTANCE_LIMIT first
       → instance_of (pieces first) ≡ Ok league → k ≤ slot_count league.n → resume_size league k ≤ most_terms
-      → (answer : Answer) → after_size contents took_more failed solution (length first) k next league answer
-      → plays contents took_more failed instance solution k next answer
+      → (answer : Answer) → after_size store solution (length first) k next league answer
+      → plays store instance solution k next answer
   plays-size first league is_file says_league slots small answer rest =
       plays-league first league is_file says_league answer (inl (slots, inl (small, rest)))
 
   -- the solution file isn't read
-  pub plays-second_unread : (first : List ℕ) (league : Instance) → IsFile (contents instance) INSTANCE_LIMIT first
+  pub plays-second_unread : (first : List ℕ) (league : Instance) → IsFile (store.contents instance) INSTANCE_LIMIT first
       → instance_of (pieces first) ≡ Ok league → k ≤ slot_count league.n → resume_size league k ≤ most_terms
       → (answer : Answer)
-      → IsUnread (codes "solution") (contents solution) SOLUTION_LIMIT (took_more (length first + SOLUTION_LIMIT))
-      (failed solution) answer
-      → plays contents took_more failed instance solution k next answer
+      → IsUnread (codes "solution") (store.contents solution) SOLUTION_LIMIT (store.took_more (length first + SOLUTION_LIMIT))
+      (store.failed solution) answer
+      → plays store instance solution k next answer
   plays-second_unread first league is_file says_league slots small answer unread =
       plays-size first league is_file says_league slots small answer (inr unread)
 
   -- it says no games
   pub plays-second_malformed : (first second : List ℕ) (league : Instance)
-      → IsFile (contents instance) INSTANCE_LIMIT first → instance_of (pieces first) ≡ Ok league
+      → IsFile (store.contents instance) INSTANCE_LIMIT first → instance_of (pieces first) ≡ Ok league
       → k ≤ slot_count league.n → resume_size league k ≤ most_terms
-      → IsFile (contents solution) SOLUTION_LIMIT second → (answer : Answer)
+      → IsFile (store.contents solution) SOLUTION_LIMIT second → (answer : Answer)
       → IsMalformed (codes "solution") (solution_of league.n (pieces second)) answer
-      → plays contents took_more failed instance solution k next answer
+      → plays store instance solution k next answer
   plays-second_malformed first second league is_file says_league slots small is_second answer (fault, said, is) =
       plays-size first league is_file says_league slots small answer
       (inl (
@@ -169,8 +171,8 @@ module _ (contents : List ℕ → Option (List ℕ)) (took_more : ℕ → Type 0
       ))
 
   -- both files say a season: what is answered to it is the answer
-  pub plays-season : (season : Season) → IsSaid contents instance solution k season → (answer : Answer)
-      → next season answer → plays contents took_more failed instance solution k next answer
+  pub plays-season : (season : Season) → IsSaid store.contents instance solution k season → (answer : Answer)
+      → next season answer → plays store instance solution k next answer
   plays-season season said answer rest =
       let numbered : next (record {
         league = season.league;
@@ -209,25 +211,25 @@ module _ (contents : List ℕ → Option (List ℕ)) (took_more : ℕ → Type 0
 -- ---- refusals
 
 -- the stages may go on to anything where they refuse
-pub plays-wider : (contents : List ℕ → Option (List ℕ)) (took_more : ℕ → Type 0) (failed : List ℕ → Type 0)
+pub plays-wider : (store : Store)
     (instance solution : List ℕ) (k : ℕ) (narrow wide : Season → Outcome) (answer : Answer)
     → ((season : Season) → narrow season answer → wide season answer)
-    → plays contents took_more failed instance solution k narrow answer
-    → plays contents took_more failed instance solution k wide answer
-plays-wider contents took_more failed instance solution k narrow wide answer wider given =
-    read-wider (codes "instance") (contents instance) INSTANCE_LIMIT (took_more INSTANCE_LIMIT) (failed instance)
-    (after_first contents took_more failed solution k narrow) (after_first contents took_more failed solution k wide)
+    → plays store instance solution k narrow answer
+    → plays store instance solution k wide answer
+plays-wider store instance solution k narrow wide answer wider given =
+    read-wider (codes "instance") (store.contents instance) INSTANCE_LIMIT (store.took_more INSTANCE_LIMIT) (store.failed instance)
+    (after_first store solution k narrow) (after_first store solution k wide)
     answer
     (λ first. says-wider (codes "instance") (instance_of (pieces first))
-    (after_league contents took_more failed solution (length first) k narrow)
-    (after_league contents took_more failed solution (length first) k wide) answer
+    (after_league store solution (length first) k narrow)
+    (after_league store solution (length first) k wide) answer
     (λ league. slots-wider league k
-    (has_size league k (λ size. after_size contents took_more failed solution (length first) k narrow league))
-    (has_size league k (λ size. after_size contents took_more failed solution (length first) k wide league)) answer
-    (size-wider league k (after_size contents took_more failed solution (length first) k narrow league)
-    (after_size contents took_more failed solution (length first) k wide league) answer
-    (read-wider (codes "solution") (contents solution) SOLUTION_LIMIT (took_more (length first + SOLUTION_LIMIT))
-    (failed solution) (after_second (length first) k narrow league) (after_second (length first) k wide league) answer
+    (has_size league k (λ size. after_size store solution (length first) k narrow league))
+    (has_size league k (λ size. after_size store solution (length first) k wide league)) answer
+    (size-wider league k (after_size store solution (length first) k narrow league)
+    (after_size store solution (length first) k wide league) answer
+    (read-wider (codes "solution") (store.contents solution) SOLUTION_LIMIT (store.took_more (length first + SOLUTION_LIMIT))
+    (store.failed solution) (after_second (length first) k narrow league) (after_second (length first) k wide league) answer
     (λ second. says-wider (codes "solution") (solution_of league.n (pieces second))
     (λ played.
     narrow (record { league = league; played = played; slots = k; bytes = length first + length second }))
@@ -242,7 +244,7 @@ pub stage-wider : {X : Type 0} (goes : X → Type 0) (narrow wide : Outcome)
     → ((answer : Answer) → narrow answer → wide answer) → (result : Result X NoValue)
     → MatchStage result goes narrow → MatchStage result goes wide
 stage-wider goes narrow wide wider (Ok x) given = given
-stage-wider goes narrow wide wider (Err (Refused reply)) given = wider _ given
+stage-wider goes narrow wide wider (Err (Refused refusal)) given = wider _ given
 stage-wider goes narrow wide wider (Err Memory) given = tt
 
 -- two files were read, one after the other
@@ -270,10 +272,10 @@ said-verdict league played k (Err fault) answer instance slots is = is
 -- where the verdict over the resume rows says yes, no accepted schedule keeps the played games
 pub read-verdict : (known : Option (List ℕ)) (long failed : Type 0) (league : Instance) (played : List Game) (k : ℕ)
     (answer : Answer) → IsInstance league → k ≤ slot_count league.n
-    → reads (codes "log") known most_log_bytes long failed
+    → takes (codes "log") known most_log_bytes long failed
     (λ bytes.
     says_log (log_of bytes) (IsVerdictOver (resume_rows league (counts_of played) k) (var_count league))) answer
-    → reads (codes "log") known most_log_bytes long failed
+    → takes (codes "log") known most_log_bytes long failed
     (λ bytes. says_log (log_of bytes) (IsVerdict league played k))
     answer
 read-verdict known long failed league played k answer instance slots =
@@ -283,46 +285,20 @@ read-verdict known long failed league played k answer instance slots =
     (λ bytes. said-verdict league played k (log_of bytes) answer instance slots)
 
 -- what is answered to the log by the counts from there on is the answer of the whole run
-abbrev pub at_log : (List ℕ → Option (List ℕ)) → (ℕ → Type 0) → (List ℕ → Type 0) → List ℕ → ℕ → Season → Outcome
-at_log contents took_more failed log k season =
-    reads (codes "log") (contents log) most_log_bytes (took_more (season.bytes + most_log_bytes)) (failed log)
+abbrev pub at_log : Store → List ℕ → ℕ → Season → Outcome
+at_log store log k season =
+    takes (codes "log") (store.contents log) most_log_bytes (store.took_more (season.bytes + most_log_bytes)) (store.failed log)
     (λ bytes. says_log (log_of bytes) (IsVerdict season.league season.played k))
 
-pub audited-within : (contents : List ℕ → Option (List ℕ)) (first_taken mid_taken last_taken : ℕ)
-    (first_faults mid_faults last_faults : List ℕ → ℕ) (instance solution : List ℕ) (k : ℕ) (log : List ℕ)
-    (known : Option (List ℕ)) (season : Season) → IsSaid contents instance solution k season → known ≡ contents log
-    → mid_taken ≡ raised first_taken season.bytes → ((n : List ℕ) → first_faults n ≤ mid_faults n) → (answer : Answer)
-    → reads (codes "log") known most_log_bytes (TookMore most_log_bytes mid_taken last_taken)
-    (Rose (mid_faults log) (last_faults log))
+pub audited-within : (whole rest : Store) (instance solution : List ℕ) (k : ℕ) (log : List ℕ) (season : Season)
+    → IsSaid whole.contents instance solution k season → IsRest season.bytes whole rest → (answer : Answer)
+    → reads rest (codes "log") log most_log_bytes 0
     (λ bytes. says_log (log_of bytes) (IsVerdict season.league season.played season.slots)) answer
-    → audited contents (λ limit. TookMore limit first_taken last_taken)
-    (λ name. Rose (first_faults name) (last_faults name)) instance solution k log answer
-audited-within contents first_taken mid_taken last_taken first_faults mid_faults last_faults instance solution k log
-    known season said told taken later answer given =
-    let long : Type 0 = TookMore most_log_bytes mid_taken last_taken in
-    let failing : Type 0 = Rose (mid_faults log) (last_faults log) in
-    let here : reads (codes "log") (contents log) most_log_bytes long failing
-    (λ bytes. says_log (log_of bytes) (IsVerdict season.league season.played season.slots)) answer =
-    subst
-    (λ (file : Option (List ℕ)).
-    reads (codes "log") file most_log_bytes long failing
-    (λ bytes. says_log (log_of bytes) (IsVerdict season.league season.played season.slots)) answer)
-    told given in
-    let numbered : reads (codes "log") (contents log) most_log_bytes long failing
-    (λ bytes. says_log (log_of bytes) (IsVerdict season.league season.played k)) answer =
-    subst
-    (λ (j : ℕ).
-    reads (codes "log") (contents log) most_log_bytes long failing
-    (λ bytes. says_log (log_of bytes) (IsVerdict season.league season.played j)) answer)
-    said.slots_are here in
-    plays-season contents (λ limit. TookMore limit first_taken last_taken)
-    (λ name. Rose (first_faults name) (last_faults name)) instance solution k
-    (at_log contents (λ limit. TookMore limit first_taken last_taken)
-    (λ name. Rose (first_faults name) (last_faults name)) log k)
-    season said answer
-    (reads-wider (codes "log") (contents log) most_log_bytes long
-    (TookMore (season.bytes + most_log_bytes) first_taken last_taken) failing
-    (Rose (first_faults log) (last_faults log))
-    (λ bytes. says_log (log_of bytes) (IsVerdict season.league season.played k)) answer
-    (took_more-before season.bytes most_log_bytes first_taken mid_taken last_taken taken)
-    (rose-before (first_faults log) (mid_faults log) (last_faults log) (later log)) numbered)
+    → audited whole instance solution k log answer
+audited-within whole rest instance solution k log season said is_rest answer given =
+    let verdict : ℕ → List ℕ → Outcome =
+    λ slots bytes. says_log (log_of bytes) (IsVerdict season.league season.played slots) in
+    let numbered : reads rest (codes "log") log most_log_bytes 0 (verdict k) answer =
+    subst (λ (slots : ℕ). reads rest (codes "log") log most_log_bytes 0 (verdict slots) answer) said.slots_are given in
+    plays-season whole instance solution k (at_log whole log k) season said answer
+    (takes-rest season.bytes whole rest is_rest (codes "log") log most_log_bytes (verdict k) answer numbered)

@@ -1,6 +1,7 @@
 -- What `resume` answers: its stages in their order, and what is found of a league whose first slots are played.
 use Rattle.std.specs.Prelude.{◌≡◌, ℕ, ◌⊎◌, List, Option, Some, Ok}
 use Rattle.std.specs.Io.KnownBytes.{Appends}
+use Rattle.robin_io.specs.Outside.{Output, Store}
 use Rattle.league.specs.Accepted.{IsAccepted, objective}
 use Rattle.league.specs.Counts.{counts_of}
 use Rattle.league.specs.Instance.{Instance}
@@ -9,7 +10,6 @@ use Rattle.league.specs.declared.game.Game.{Game}
 use Rattle.robinx_form.specs.Texts.{solution_text}
 use Rattle.answers.specs.Reply.{Answer}
 use Rattle.answers.specs.Stages.{◌>>=◌, Outcome}
-use Rattle.answers.specs.declared.status.Status.{Status}
 use Rattle.answers.specs.declared.status.Status.TheVariants.{Yes, Refuted, Spent}
 use Rattle.encoding_base.specs.Variables.{var_count}
 use Rattle.refutation.specs.Steps.{Step}
@@ -68,32 +68,17 @@ pub record IsFound (league : Instance) (played : List Game) (k : ℕ) (conflicts
 
 -- ---- stages
 
--- `resume`, over the contents of the store's files where they are known, how many bytes it gave more than, and the
--- files at which it failed
-abbrev pub resumed : (List ℕ → Option (List ℕ)) → (ℕ → Type 0) → (List ℕ → Type 0) → List ℕ → List ℕ → ℕ → Option ℕ
+-- `resume`, over what a store shows
+abbrev pub resumed : Store → List ℕ → List ℕ → ℕ → Option ℕ
     → Outcome
-resumed contents took_more failed instance solution k conflicts = do
-  season ← plays contents took_more failed instance solution k
+resumed store instance solution k conflicts = do
+  season ← plays store instance solution k
   IsFound season.league season.played k conflicts
 
 -- ---- a run
 
--- what is found is written whole
-pub record IsResumed
-    (league : Instance)
-    (played : List Game)
-    (k : ℕ)
-    (conflicts : Option ℕ)
-    (ended : Status)
-    (old new : Option (List ℕ))
-    : Type 0 where
-  pub answer : Answer
-  pub found : IsFound league played k conflicts answer
-  pub status : ended ≡ answer.status
-  pub written : Appends old new answer.text
-
 -- a schedule that the league accepts and that keeps the played games is written whole, in order, with its objective
-pub record IsKeptSeason (league : Instance) (played : List Game) (k : ℕ) (old new : Option (List ℕ)) : Type 0 where
+pub record IsKeptSeason (league : Instance) (played : List Game) (k : ℕ) (output : Output) : Type 0 where
   pub games : List Game
   pub season : IsResumedSeason league played k games (objective league (counts_of games))
-  pub written : Appends old new (solution_text games (Some (0, objective league (counts_of games))))
+  pub written : Appends output.before output.after (solution_text games (Some (0, objective league (counts_of games))))

@@ -1,5 +1,6 @@
 -- The stages that `resume` and `audit` have in common: a league, how many of its slots are played, and a list of games.
-use Rattle.std.specs.Prelude.{◌≡◌, ℕ, ◌+◌, ◌<◌, ◌≤◌, ◌⊎◌, List, ◌++◌, length, codes, decimal, Option, Some, Ok}
+use Rattle.std.specs.Prelude.{◌≡◌, ℕ, ◌+◌, ◌<◌, ◌≤◌, ◌⊎◌, List, ◌++◌, length, codes, decimal, Some, Ok}
+use Rattle.robin_io.specs.Outside.{Store}
 use Rattle.league.specs.Counts.{slot_count}
 use Rattle.league.specs.Instance.{Instance}
 use Rattle.league.specs.declared.game.Game.{Game}
@@ -7,10 +8,10 @@ use Rattle.robinx_tags.specs.Pieces.{pieces}
 use Rattle.robinx_form.specs.InstanceFile.{instance_of}
 use Rattle.robinx_form.specs.SolutionFile.{solution_of}
 use Rattle.robinx_read.specs.declared.instance.TheConstants.{INSTANCE_LIMIT, SOLUTION_LIMIT}
-use Rattle.answers.specs.Reply.{Answer}
+use Rattle.answers.specs.Reply.{Answer, too_large}
 use Rattle.answers.specs.Stages.{◌>>=◌, Outcome, reads, says}
 use Rattle.answers.specs.declared.status.Status.TheVariants.{File}
-use Rattle.check_answer.specs.Check.{most_terms, too_large}
+use Rattle.check_answer.specs.Check.{most_terms}
 use Rattle.resume_rows.specs.Kept.{resume_size}
 use Rattle.encoding.specs.Capped.{capped}
 use Rattle.resume_answer.specs.declared.season.Season.{Season}
@@ -34,15 +35,14 @@ has_size league k next answer =
 
 -- The stages of the first two files: a league, of which k slots are played, and a list of games. How many slots there
 -- are, and how many terms the rows have, is judged before the second file is read.
-abbrev pub plays : (List ℕ → Option (List ℕ)) → (ℕ → Type 0) → (List ℕ → Type 0) → List ℕ → List ℕ → ℕ
+abbrev pub plays : Store → List ℕ → List ℕ → ℕ
     → (Season → Outcome) → Outcome
-plays contents took_more failed instance solution k next = do
-  first ← reads (codes "instance") (contents instance) INSTANCE_LIMIT (took_more INSTANCE_LIMIT) (failed instance)
+plays store instance solution k next = do
+  first ← reads store (codes "instance") instance INSTANCE_LIMIT 0
   league ← says (codes "instance") (instance_of (pieces first))
   slots ← has_slots league k
   size ← has_size league k
-  let long = took_more (length first + SOLUTION_LIMIT)
-  second ← reads (codes "solution") (contents solution) SOLUTION_LIMIT long (failed solution)
+  second ← reads store (codes "solution") solution SOLUTION_LIMIT (length first)
   played ← says (codes "solution") (solution_of league.n (pieces second))
   next (record { league = league; played = played; slots = k; bytes = length first + length second })
 
@@ -50,32 +50,28 @@ plays contents took_more failed instance solution k next = do
 
 -- two files whose bytes are known, and that say a league and a list of games
 pub record SaySeason
-    (contents : List ℕ → Option (List ℕ))
+    (store : Store)
     (instance solution : List ℕ)
     (league : Instance)
     (played : List Game)
     : Type 0 where
   pub first : List ℕ
   pub second : List ℕ
-  pub first_known : contents instance ≡ Some first
-  pub second_known : contents solution ≡ Some second
+  pub first_known : store.contents instance ≡ Some first
+  pub second_known : store.contents solution ≡ Some second
   pub says_league : instance_of (pieces first) ≡ Ok league
   pub says_played : solution_of league.n (pieces second) ≡ Ok played
 
--- such files that are within their limits and at which the store didn't fail, where the season has k slots and the
--- resume rows aren't too many
+-- such files that are within their limits, where the season has k slots and the resume rows aren't too many
 pub record IsWellFormedSeason
-    (contents : List ℕ → Option (List ℕ))
-    (failed : List ℕ → Type 0)
+    (store : Store)
     (instance solution : List ℕ)
     (k : ℕ)
     (league : Instance)
     (played : List Game)
     : Type 0 where
-  pub say : SaySeason contents instance solution league played
+  pub say : SaySeason store instance solution league played
   pub first_within : length say.first ≤ INSTANCE_LIMIT
   pub second_within : length say.second ≤ SOLUTION_LIMIT
   pub slots : k ≤ slot_count league.n
   pub small : resume_size league k ≤ most_terms
-  pub first_works : failed instance → ⊥
-  pub second_works : failed solution → ⊥

@@ -1,11 +1,11 @@
 //! The stages of `audit`.
 ghost use Rattle.std.specs.Prelude.{◌≡◌, ◌≤◌, ℕ, List, IfOk, codes, length};
 ghost use Rattle.std.specs.List.{All};
-ghost use Rattle.robin_io.specs.Counts.{Rose, TookMore};
+ghost use Rattle.robin_io.specs.Outside.{store_between};
 ghost use Rattle.league.specs.Counts as counts;
 ghost use Rattle.league.specs.Instance.{IsGame};
 ghost use Rattle.refutation.specs.Logs.{log_of};
-ghost use Rattle.answers.specs.SeenReply.{answer_of, Answers};
+ghost use Rattle.answers.specs.SeenReply.{Answers};
 ghost use Rattle.answers.specs.Stages.{reads};
 ghost use Rattle.check_answer.specs.Check.{most_log_bytes, says_log};
 ghost use Rattle.resume_rows.specs.Kept as kept;
@@ -49,9 +49,7 @@ fn audit_log<S: Shelf>(
     system: &ResumeSystem,
 ) -> Result<Reply, NoValue>
     requires slots { system.now.k ≤ counts.slot_count system.now.league.n }
-    ensures answer { Answers (reads (codes "log") (S.contents shelf.old name.now) most_log_bytes
-        (TookMore most_log_bytes (S.taken shelf.old) (S.taken shelf.new))
-        (Rose (S.faults shelf.old name.now) (S.faults shelf.new name.now))
+    ensures answer { Answers (reads (store_between S.Shelf shelf.old shelf.new) (codes "log") name.now most_log_bytes 0
         (λ bytes. says_log (log_of bytes) (IsVerdict system.now.league system.now.played system.now.k))) result }
     ensures contents { (n : List ℕ) → S.contents shelf.new n ≡ S.contents shelf.old n }
 {
@@ -61,31 +59,11 @@ fn audit_log<S: Shelf>(
     judge_log(alloc, shelf, name, &mut checker)
 }
 
-/// The stages of `audit`.
-fn audit_stages<S: Shelf>(
-    alloc: Global,
-    shelf: &mut S,
-    instance: &str,
-    solution: &str,
-    k: u64,
-    log: &str,
-) -> Result<Reply, NoValue>
-    ensures answer { Answers (audited (S.contents shelf.old)
-        (λ limit. TookMore limit (S.taken shelf.old) (S.taken shelf.new))
-        (λ name. Rose (S.faults shelf.old name) (S.faults shelf.new name))
-        instance.now solution.now k log.now) result }
-    ensures contents { (n : List ℕ) → S.contents shelf.new n ≡ S.contents shelf.old n }
-{
-    let season = season_in(alloc, shelf, instance, solution, k)?;
-    let system = system_of(alloc, &season.league, &season.played, season.slots)?;
-    audit_log(alloc, shelf, log, &system)
-}
-
 /// Checks the log of a file over the resume rows of a league, of which the first k slots are played as a solution file
 /// says. The log is read in pieces and its steps are judged as they come; it is read to its end before the answer.
 ///
 /// # Errors
-/// Only where memory runs out: a refused file has a reply of its own.
+/// Where a file is refused, with the reply that says why, and where memory runs out.
 pub fn audit_file<S: Shelf>(
     alloc: Global,
     shelf: &mut S,
@@ -93,16 +71,12 @@ pub fn audit_file<S: Shelf>(
     solution: &str,
     k: u64,
     log: &str,
-) -> Result<Reply, AllocError>
-    ensures answer { IfOk result (λ reply. audited (S.contents shelf.old)
-        (λ limit. TookMore limit (S.taken shelf.old) (S.taken shelf.new))
-        (λ name. Rose (S.faults shelf.old name) (S.faults shelf.new name))
-        instance.now solution.now k log.now (answer_of reply)) }
+) -> Result<Reply, NoValue>
+    ensures answer { Answers (audited (store_between S.Shelf shelf.old shelf.new)
+        instance.now solution.now k log.now) result }
     ensures contents { (n : List ℕ) → S.contents shelf.new n ≡ S.contents shelf.old n }
 {
-    match audit_stages(alloc, shelf, instance, solution, k, log) {
-        Ok(reply) => Ok(reply),
-        Err(NoValue::Refused(reply)) => Ok(reply),
-        Err(NoValue::Memory) => Err(AllocError),
-    }
+    let season = season_in(alloc, shelf, instance, solution, k)?;
+    let system = system_of(alloc, &season.league, &season.played, season.slots)?;
+    audit_log(alloc, shelf, log, &system)
 }

@@ -1,7 +1,7 @@
 //! The stages of `resume`.
 ghost use Rattle.std.specs.Prelude.{◌≡◌, ◌≤◌, ℕ, List, IfOk, length};
 ghost use Rattle.std.specs.List.{All};
-ghost use Rattle.robin_io.specs.Counts.{Rose, TookMore};
+ghost use Rattle.robin_io.specs.Outside.{store_between};
 ghost use Rattle.league.specs.Counts as counts;
 ghost use Rattle.league.specs.Instance.{IsGame};
 ghost use Rattle.answers.specs.SeenReply.{answer_of, Answers};
@@ -38,8 +38,14 @@ fn found_of(
     }
 }
 
-/// The stages of `resume`.
-fn resume_stages<S: Shelf>(
+/// Finds a schedule that the league of a file accepts and that keeps, in the first k slots, the games of a solution
+/// file; or a log that there is none. With a budget the search learns at most so many clauses, and its log is the
+/// answer where it is spent. Where the league accepts all games of the solution file as they are, they are the answer;
+/// a schedule that the search finds is made better by moves that leave the played games alone.
+///
+/// # Errors
+/// Where a file is refused, with the reply that says why, and where memory runs out.
+pub fn resume_file<S: Shelf>(
     alloc: Global,
     shelf: &mut S,
     instance: &str,
@@ -47,9 +53,7 @@ fn resume_stages<S: Shelf>(
     k: u64,
     conflicts: Option<u64>,
 ) -> Result<Reply, NoValue>
-    ensures answer { Answers (resumed (S.contents shelf.old)
-        (λ limit. TookMore limit (S.taken shelf.old) (S.taken shelf.new))
-        (λ name. Rose (S.faults shelf.old name) (S.faults shelf.new name))
+    ensures answer { Answers (resumed (store_between S.Shelf shelf.old shelf.new)
         instance.now solution.now k conflicts) result }
     ensures contents { (n : List ℕ) → S.contents shelf.new n ≡ S.contents shelf.old n }
 {
@@ -62,32 +66,4 @@ fn resume_stages<S: Shelf>(
         conflicts,
     )?;
     Ok(reply)
-}
-
-/// Finds a schedule that the league of a file accepts and that keeps, in the first k slots, the games of a solution
-/// file; or a log that there is none. With a budget the search learns at most so many clauses, and its log is the
-/// answer where it is spent. Where the league accepts all games of the solution file as they are, they are the answer;
-/// a schedule that the search finds is made better by moves that leave the played games alone.
-///
-/// # Errors
-/// Only where memory runs out: a refused file has a reply of its own.
-pub fn resume_file<S: Shelf>(
-    alloc: Global,
-    shelf: &mut S,
-    instance: &str,
-    solution: &str,
-    k: u64,
-    conflicts: Option<u64>,
-) -> Result<Reply, AllocError>
-    ensures answer { IfOk result (λ reply. resumed (S.contents shelf.old)
-        (λ limit. TookMore limit (S.taken shelf.old) (S.taken shelf.new))
-        (λ name. Rose (S.faults shelf.old name) (S.faults shelf.new name))
-        instance.now solution.now k conflicts (answer_of reply)) }
-    ensures contents { (n : List ℕ) → S.contents shelf.new n ≡ S.contents shelf.old n }
-{
-    match resume_stages(alloc, shelf, instance, solution, k, conflicts) {
-        Ok(reply) => Ok(reply),
-        Err(NoValue::Refused(reply)) => Ok(reply),
-        Err(NoValue::Memory) => Err(AllocError),
-    }
 }

@@ -1,19 +1,20 @@
 //! What the first two files say: a league and the games that were played.
 ghost use Rattle.std.specs.Prelude.{◌≡◌, ◌<◌, ◌≤◌, ◌+◌, ℕ, List, IfOk, length};
 ghost use Rattle.std.specs.List.{All};
-ghost use Rattle.robin_io.specs.Counts.{raised, Rose, TookMore};
+ghost use Rattle.robin_io.specs.Outside.{store_between};
+ghost use Rattle.robin_io.specs.Counts.{raised};
 ghost use Rattle.league.specs.Counts as counts;
 ghost use Rattle.league.specs.Instance.{IsGame};
+ghost use Rattle.answers.specs.SeenRefusal.{refused_with};
 ghost use Rattle.answers.specs.SeenReply.{answer_of, MatchStage};
-ghost use Rattle.check_answer.specs.Check.{most_terms, too_large};
+ghost use Rattle.check_answer.specs.Check.{most_terms};
 ghost use Rattle.resume_rows.specs.Kept as kept;
-ghost use Rattle.encoding.specs.Capped.{capped};
 ghost use Rattle.resume_answer.specs.Seasons as seasons;
 ghost use Rattle.resume_answer.specs.Seasons.{has_size, has_slots, plays};
 ghost use Rattle.resume_answer.specs.SeenSeason.{IsSaid};
 
-use answers::{NoValue, Reply, Status, file, league_in, schedule_in};
-use check_answer::rows_refused;
+use advice::Advice;
+use answers::{NoValue, Refusal, Reply, Status, file, league_in, rows_refused, schedule_in};
 use league::{League, Schedule, slot_count};
 use resume::resume_size;
 use resume_rows::MOST_TERMS;
@@ -31,14 +32,26 @@ pub(crate) struct Season {
 }
 
 /// The season doesn't have so many slots.
-fn slot_refused(alloc: Global, k: u64) -> Result<Reply, AllocError>
-    ensures { IfOk result (λ reply. answer_of reply ≡ seasons.slot_refused k) }
+fn slot_refused(alloc: Global, league: &League, k: u64) -> Result<Refusal, AllocError>
+    ensures { IfOk result (refused_with (seasons.slot_refused k)) }
 {
     let text = format!(in alloc; "refused slot {k}\n")?;
-    Ok(Reply {
+    let reply = Reply {
         status: Status::File,
         text: text.into_bytes(),
-    })
+    };
+    Ok(Refusal::new(alloc, reply, advice_on_slots(alloc, league, k)))
+}
+
+/// What a person is told of a number of slots that the season doesn't have.
+fn advice_on_slots(alloc: Global, league: &League, k: u64) -> Result<Advice, AllocError> {
+    let mut advice = Advice::new(alloc);
+    advice.say("robin: the season has ")?;
+    advice.count(u64::from(slot_count(league.n())))?;
+    advice.say(" slots, fewer than K, which is ")?;
+    advice.count(k)?;
+    advice.end_line()?;
+    Ok(advice)
 }
 
 /// How many slots of the season are played, or that it doesn't have so many.
@@ -50,7 +63,7 @@ fn slots_of(alloc: Global, league: &League, k: u64) -> Result<u16, NoValue>
     if k <= u64::from(slot_count(league.n())) {
         return Ok(k as u16);
     }
-    Err(NoValue::Refused(slot_refused(alloc, k)?))
+    Err(NoValue::Refused(slot_refused(alloc, league, k)?))
 }
 
 /// The same where the resume rows are few enough; it is judged without the played games.
@@ -78,9 +91,7 @@ pub(crate) fn season_in<S: Shelf>(
 ) -> Result<Season, NoValue>
     ensures season { MatchStage result
         (IsSaid (S.contents shelf.old) instance.now solution.now k)
-        (plays (S.contents shelf.old)
-        (λ limit. TookMore limit (S.taken shelf.old) (S.taken shelf.new))
-        (λ name. Rose (S.faults shelf.old name) (S.faults shelf.new name))
+        (plays (store_between S.Shelf shelf.old shelf.new)
         instance.now solution.now k (λ season answer. ⊥)) }
     ensures few { IfOk result (λ season. length season.played ≤ 10000) }
     ensures fit { IfOk result (λ season. All (IsGame season.league.n) season.played) }

@@ -60,7 +60,8 @@ fn status_of(
     out: &mut impl Sink,
 ) -> Result<u8, AllocError> {
     let words = words_of(alloc, line)?;
-    Ok(code(run(alloc, &words, shelf, out)))
+    let mut told = MemSink::new(alloc, 4096, 4096)?;
+    Ok(code(run(alloc, &words, shelf, out, &mut told)))
 }
 
 /// Runs the command of a line over the files of the machine, and says how it ended.

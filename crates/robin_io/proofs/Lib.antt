@@ -1,3 +1,4 @@
 pub mod FileLemmas
 pub mod NumberLemmas
+pub mod StoreLemmas
 pub mod DeviceFacts

@@ -18,6 +18,7 @@ pub struct HostShelf<R: Files> {
     file: Option<R::File>,
     taken: u64,
     faults: u64,
+    reason: Option<&'static str>,
 }
 
 impl<R: Files> HostShelf<R> {
@@ -32,12 +33,28 @@ impl<R: Files> HostShelf<R> {
             file: None,
             taken: 0,
             faults: 0,
+            reason: None,
         }
     }
 }
 
+/// Why the system failed, in words, where it is one of the usual reasons.
+fn reason_of(error: &io::Error) -> Option<&'static str> {
+    match error.kind() {
+        io::ErrorKind::NotFound => Some("there is no such file"),
+        io::ErrorKind::PermissionDenied => Some("it may not be read"),
+        io::ErrorKind::IsADirectory => Some("it is a folder"),
+        io::ErrorKind::NotADirectory => Some("its path leads through what is no folder"),
+        io::ErrorKind::OutOfMemory => Some("memory ran out"),
+        _ => None,
+    }
+}
+
 /// Keeps what was opened as the started file, with nothing read of it. Where it can't be opened, no file is started.
-fn keep_opened<F: Read + Drop>(opened: io::Result<F>, kept: &mut Option<F>) -> Result<(), Failed>
+fn keep_opened<F: Read + Drop>(
+    opened: io::Result<F>,
+    kept: &mut Option<F>,
+) -> Result<(), Option<&'static str>>
     ensures failed { IsErr result ↔ IsErr opened }
     ensures unread { IfOk opened (λ file. IsSomeAnd kept.new (λ reader. F.remaining reader ≡ F.remaining file)) }
     ensures started { MatchResult result (λ _. IsSome kept.new) (λ _. IsNone kept.new) }
@@ -47,9 +64,9 @@ fn keep_opened<F: Read + Drop>(opened: io::Result<F>, kept: &mut Option<F>) -> R
             *kept = Some(file);
             Ok(())
         }
-        Err(_) => {
+        Err(error) => {
             *kept = None;
-            Err(Failed)
+            Err(reason_of(&error))
         }
     }
 }
@@ -81,9 +98,10 @@ impl<R: Files> Shelf for HostShelf<R> {
         let _taken = self.taken;
         match keep_opened(fs::open(&self.rt, name), &mut self.file) {
             Ok(()) => Ok(()),
-            Err(failed) => {
+            Err(reason) => {
+                self.reason = reason;
                 self.faults = self.faults.saturating_add(1);
-                Err(failed)
+                Err(Failed)
             }
         }
     }
@@ -116,12 +134,17 @@ impl<R: Files> Shelf for HostShelf<R> {
                     self.taken = self.taken.saturating_add(count as u64);
                     Ok(count)
                 }
-                Err(_) => {
+                Err(error) => {
+                    self.reason = reason_of(&error);
                     self.faults = self.faults.saturating_add(1);
                     Err(Failed)
                 }
             },
         }
+    }
+
+    fn reason(&self) -> Option<&'static str> {
+        self.reason
     }
 }
 

@@ -52,6 +52,11 @@ pub trait Shelf {
         ensures err { OnErr result ((left self.new ≡ left self.old) × (taken self.new ≡ taken self.old)) }
         ensures calls { calls self.new ≤ calls self.old + 1 }
         ensures cause { HasCause (faults self.old) (faults self.new) name.now result };
+
+    /// Why the last call failed that did, in words for a person, where the store knows it.
+    fn reason(&self) -> Option<&'static str> {
+        None
+    }
 }
 
 /// Why a file could not be read whole.

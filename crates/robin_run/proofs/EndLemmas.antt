@@ -1,6 +1,7 @@
 -- How the answers to each command end a run: none does so as want of memory does.
 use Rattle.std.proofs.Common.{◌≡◌, ℕ, ◌+◌, Bool, true, false, if◌then◌else◌, List, length, Option, Some, None, Result}
 use Rattle.std.proofs.Common.{Ok, Err, codes, inl, inr, refl, sym, subst, ◌∙◌}
+use Rattle.robin_io.specs.Outside.{Output, Store}
 use Rattle.rows.specs.Rows.{Row}
 use Rattle.league.specs.Instance.{Instance}
 use Rattle.league.specs.declared.game.Game.{Game}
@@ -12,9 +13,9 @@ use Rattle.robinx_read.specs.declared.instance.TheConstants.{INSTANCE_LIMIT, SOL
 use Rattle.budgets.specs.declared.budgets.Budgets.{Budgets}
 use Rattle.command_line.specs.Words.{Command}
 use Rattle.command_line.specs.Words.Command.{Audit, Bound, Check, Circle, Explain, Make, Part, Patterns, Prove, Resume}
-use Rattle.command_line.specs.Words.Command.{Solve, Trial, Validate}
+use Rattle.command_line.specs.Words.Command.{Help, Solve, Trial, Validate, Version}
 use Rattle.answers.specs.Reply.{Answer}
-use Rattle.answers.specs.Stages.{IsWritten, Outcome, reads, says}
+use Rattle.answers.specs.Stages.{IsWritten, Outcome, says, takes}
 use Rattle.answers.specs.declared.status.Status.{Status}
 use Rattle.answers.specs.declared.status.Status.TheVariants.{Yes, No, File, Refuted, Spent, ReadFault}
 use Rattle.answers.specs.declared.status.Status.TheVariants.{WriteFault}
@@ -47,7 +48,8 @@ use Rattle.instance_gen.specs.Draws.{seeded}
 use Rattle.instance_gen.specs.Made.{made_league}
 use Rattle.trial_answer.specs.Trial.{IsTrial, tried}
 use Rattle.robin_run.specs.Answer.{IsAnswer}
-use Rattle.robin_run.specs.Ends.{may_end}
+use Rattle.robin_run.specs.Ends.{EndsByWords, may_end}
+use Rattle.robin_run.specs.Run.{Answered, Run}
 
 -- ---- stages
 
@@ -60,7 +62,7 @@ ends-with Ends answer status is ends = subst Ends (sym is) ends
 
 read-ends : (Ends : Status → Type 0) → Ends File → Ends ReadFault → (which : List ℕ) (known : Option (List ℕ))
     (limit : ℕ) (long failed : Type 0) (next : List ℕ → Outcome) (answer : Answer)
-    → ((bytes : List ℕ) → next bytes answer → Ends answer.status) → reads which known limit long failed next answer
+    → ((bytes : List ℕ) → next bytes answer → Ends answer.status) → takes which known limit long failed next answer
     → Ends answer.status
 read-ends Ends file fault which known limit long failed next answer later (inl read) = later read.0 read.2
 read-ends Ends file fault which known limit long failed next answer later (inr (inl h)) = ends-as Ends answer _ h.2 file
@@ -77,7 +79,7 @@ said-ends Ends file which (Err fault) next answer later given = ends-as Ends ans
 league-ends : (Ends : Status → Type 0) → Ends File → Ends ReadFault → (known : Option (List ℕ)) (long failed : Type 0)
     (next : List ℕ → Instance → Outcome) (answer : Answer)
     → ((bytes : List ℕ) (league : Instance) → next bytes league answer → Ends answer.status)
-    → reads (codes "instance") known INSTANCE_LIMIT long failed
+    → takes (codes "instance") known INSTANCE_LIMIT long failed
     (λ bytes. says (codes "instance") (instance_of (pieces bytes)) (next bytes)) answer
     → Ends answer.status
 league-ends Ends file fault known long failed next answer later given =
@@ -90,7 +92,7 @@ league-ends Ends file fault known long failed next answer later given =
 games-ends : (Ends : Status → Type 0) → Ends File → Ends ReadFault → (n : ℕ) (known : Option (List ℕ))
     (long failed : Type 0) (next : List ℕ → List Game → Outcome) (answer : Answer)
     → ((bytes : List ℕ) (games : List Game) → next bytes games answer → Ends answer.status)
-    → reads (codes "solution") known SOLUTION_LIMIT long failed
+    → takes (codes "solution") known SOLUTION_LIMIT long failed
     (λ bytes. says (codes "solution") (solution_of n (pieces bytes)) (next bytes)) answer
     → Ends answer.status
 games-ends Ends file fault n known long failed next answer later given =
@@ -116,16 +118,16 @@ judgement-ends Ends ends_yes ends_no league games answer judgement =
     ends-with Ends answer _ judgement.status (feasible-ends Ends ends_yes ends_no judgement.feasible)
 
 validated-ends : (Ends : Status → Type 0) → Ends File → Ends ReadFault → Ends Yes → Ends No
-    → (contents : List ℕ → Option (List ℕ)) (took_more : ℕ → Type 0) (failed : List ℕ → Type 0)
-    (instance solution : List ℕ) (answer : Answer) → validated contents took_more failed instance solution answer
+    → (store : Store)
+    (instance solution : List ℕ) (answer : Answer) → validated store instance solution answer
     → Ends answer.status
-validated-ends Ends file fault ends_yes ends_no contents took_more failed instance solution answer given =
-    league-ends Ends file fault (contents instance) (took_more INSTANCE_LIMIT) (failed instance)
-    (λ first league. reads (codes "solution") (contents solution) SOLUTION_LIMIT
-    (took_more (length first + SOLUTION_LIMIT)) (failed solution)
+validated-ends Ends file fault ends_yes ends_no store instance solution answer given =
+    league-ends Ends file fault (store.contents instance) (store.took_more INSTANCE_LIMIT) (store.failed instance)
+    (λ first league. takes (codes "solution") (store.contents solution) SOLUTION_LIMIT
+    (store.took_more (length first + SOLUTION_LIMIT)) (store.failed solution)
     (λ second. says (codes "solution") (solution_of league.n (pieces second)) (IsJudgement league))) answer
-    (λ first league at_league. games-ends Ends file fault league.n (contents solution)
-    (took_more (length first + SOLUTION_LIMIT)) (failed solution) (λ second. IsJudgement league) answer
+    (λ first league at_league. games-ends Ends file fault league.n (store.contents solution)
+    (store.took_more (length first + SOLUTION_LIMIT)) (store.failed solution) (λ second. IsJudgement league) answer
     (λ second games judgement. judgement-ends Ends ends_yes ends_no league games answer judgement) at_league) given
 
 -- ---- `check`, and logs
@@ -144,7 +146,7 @@ said_log-ends Ends file (Err fault) next answer later given = ends-as Ends answe
 -- a file of a log, and the steps that it says
 log-ends : (Ends : Status → Type 0) → Ends File → Ends ReadFault → (known : Option (List ℕ)) (long failed : Type 0)
     (next : List Step → Outcome) (answer : Answer) → ((steps : List Step) → next steps answer → Ends answer.status)
-    → reads (codes "log") known most_log_bytes long failed (λ bytes. says_log (log_of bytes) next) answer
+    → takes (codes "log") known most_log_bytes long failed (λ bytes. says_log (log_of bytes) next) answer
     → Ends answer.status
 log-ends Ends file fault known long failed next answer later given =
     read-ends Ends file fault (codes "log") known most_log_bytes long failed
@@ -152,18 +154,18 @@ log-ends Ends file fault known long failed next answer later given =
     (λ bytes at_bytes. said_log-ends Ends file (log_of bytes) next answer later at_bytes) given
 
 checked-ends : (Ends : Status → Type 0) → Ends File → Ends ReadFault → Ends Yes → Ends No
-    → (contents : List ℕ → Option (List ℕ)) (took_more : ℕ → Type 0) (failed : List ℕ → Type 0)
-    (instance log : List ℕ) (answer : Answer) → checked contents took_more failed instance log answer
+    → (store : Store)
+    (instance log : List ℕ) (answer : Answer) → checked store instance log answer
     → Ends answer.status
-checked-ends Ends file fault ends_yes ends_no contents took_more failed instance log answer given =
-    league-ends Ends file fault (contents instance) (took_more INSTANCE_LIMIT) (failed instance)
+checked-ends Ends file fault ends_yes ends_no store instance log answer given =
+    league-ends Ends file fault (store.contents instance) (store.took_more INSTANCE_LIMIT) (store.failed instance)
     (λ first league. encodes league
-    (λ rows. reads (codes "log") (contents log) most_log_bytes (took_more (length first + most_log_bytes)) (failed log)
+    (λ rows. takes (codes "log") (store.contents log) most_log_bytes (store.took_more (length first + most_log_bytes)) (store.failed log)
     (λ bytes. says_log (log_of bytes) (IsVerdict league rows)))) answer
     (λ first league at_league. encodes-ends Ends file league
-    (λ rows. reads (codes "log") (contents log) most_log_bytes (took_more (length first + most_log_bytes)) (failed log)
+    (λ rows. takes (codes "log") (store.contents log) most_log_bytes (store.took_more (length first + most_log_bytes)) (store.failed log)
     (λ bytes. says_log (log_of bytes) (IsVerdict league rows))) answer
-    (λ rows at_rows. log-ends Ends file fault (contents log) (took_more (length first + most_log_bytes)) (failed log)
+    (λ rows at_rows. log-ends Ends file fault (store.contents log) (store.took_more (length first + most_log_bytes)) (store.failed log)
     (IsVerdict league rows) answer
     (λ steps verdict. ends-as Ends answer _ verdict.verdict (verdict-ends Ends ends_yes ends_no (length steps) _))
     at_rows)
@@ -182,11 +184,11 @@ searched-ends Ends ends_yes refuted spent league budgets rows answer found =
     ]
 
 solved-ends : (Ends : Status → Type 0) → Ends File → Ends ReadFault → Ends Yes → Ends Refuted → Ends Spent
-    → (contents : List ℕ → Option (List ℕ)) (took_more : ℕ → Type 0) (failed : List ℕ → Type 0) (instance : List ℕ)
-    (budgets : Budgets) (answer : Answer) → solved contents took_more failed instance budgets answer
+    → (store : Store) (instance : List ℕ)
+    (budgets : Budgets) (answer : Answer) → solved store instance budgets answer
     → Ends answer.status
-solved-ends Ends file fault ends_yes refuted spent contents took_more failed instance budgets answer given =
-    league-ends Ends file fault (contents instance) (took_more INSTANCE_LIMIT) (failed instance)
+solved-ends Ends file fault ends_yes refuted spent store instance budgets answer given =
+    league-ends Ends file fault (store.contents instance) (store.took_more INSTANCE_LIMIT) (store.failed instance)
     (λ bytes league. encodes league (IsFound league budgets)) answer
     (λ bytes league at_league. encodes-ends Ends file league (IsFound league budgets) answer
     (λ rows found. searched-ends Ends ends_yes refuted spent league budgets rows answer found) at_league) given
@@ -201,11 +203,11 @@ patterns-ends Ends ends_yes refuted spent league conflicts answer (inr (inr log)
     ends-with Ends answer Spent log.status spent
 
 patterned-ends : (Ends : Status → Type 0) → Ends File → Ends ReadFault → Ends Yes → Ends Refuted → Ends Spent
-    → (contents : List ℕ → Option (List ℕ)) (took_more : ℕ → Type 0) (failed : List ℕ → Type 0) (instance : List ℕ)
-    (conflicts : Option ℕ) (answer : Answer) → patterned contents took_more failed instance conflicts answer
+    → (store : Store) (instance : List ℕ)
+    (conflicts : Option ℕ) (answer : Answer) → patterned store instance conflicts answer
     → Ends answer.status
-patterned-ends Ends file fault ends_yes refuted spent contents took_more failed instance conflicts answer given =
-    league-ends Ends file fault (contents instance) (took_more INSTANCE_LIMIT) (failed instance)
+patterned-ends Ends file fault ends_yes refuted spent store instance conflicts answer given =
+    league-ends Ends file fault (store.contents instance) (store.took_more INSTANCE_LIMIT) (store.failed instance)
     (λ bytes league. encodes league (λ rows. AreFound league conflicts)) answer
     (λ bytes league at_league. encodes-ends Ends file league (λ rows. AreFound league conflicts) answer
     (λ rows found. patterns-ends Ends ends_yes refuted spent league conflicts answer found) at_league) given
@@ -220,11 +222,11 @@ explaining-ends Ends ends_yes refuted spent league conflicts answer found =
     ]
 
 explained-ends : (Ends : Status → Type 0) → Ends File → Ends ReadFault → Ends Yes → Ends Refuted → Ends Spent
-    → (contents : List ℕ → Option (List ℕ)) (took_more : ℕ → Type 0) (failed : List ℕ → Type 0) (instance : List ℕ)
-    (conflicts : Option ℕ) (answer : Answer) → explained contents took_more failed instance conflicts answer
+    → (store : Store) (instance : List ℕ)
+    (conflicts : Option ℕ) (answer : Answer) → explained store instance conflicts answer
     → Ends answer.status
-explained-ends Ends file fault ends_yes refuted spent contents took_more failed instance conflicts answer given =
-    league-ends Ends file fault (contents instance) (took_more INSTANCE_LIMIT) (failed instance)
+explained-ends Ends file fault ends_yes refuted spent store instance conflicts answer given =
+    league-ends Ends file fault (store.contents instance) (store.took_more INSTANCE_LIMIT) (store.failed instance)
     (λ bytes league. encodes league (λ rows. explaining.IsFound league conflicts)) answer
     (λ bytes league at_league. encodes-ends Ends file league (λ rows. explaining.IsFound league conflicts) answer
     (λ rows found. explaining-ends Ends ends_yes refuted spent league conflicts answer found) at_league) given
@@ -237,11 +239,11 @@ part-ends Ends file ends_yes league members None = ends_yes
 part-ends Ends file ends_yes league members (Some k) = file
 
 parted-ends : (Ends : Status → Type 0) → Ends File → Ends ReadFault → Ends Yes
-    → (contents : List ℕ → Option (List ℕ)) (took_more : ℕ → Type 0) (failed : List ℕ → Type 0)
-    (instance members : List ℕ) (answer : Answer) → parted contents took_more failed instance members answer
+    → (store : Store)
+    (instance members : List ℕ) (answer : Answer) → parted store instance members answer
     → Ends answer.status
-parted-ends Ends file fault ends_yes contents took_more failed instance members answer given =
-    league-ends Ends file fault (contents instance) (took_more INSTANCE_LIMIT) (failed instance)
+parted-ends Ends file fault ends_yes store instance members answer given =
+    league-ends Ends file fault (store.contents instance) (store.took_more INSTANCE_LIMIT) (store.failed instance)
     (λ bytes league. IsPart league members) answer
     (λ bytes league part. ends-as Ends answer _ part.is
     (part-ends Ends file ends_yes league members (first_unknown league members))) given
@@ -266,22 +268,22 @@ shown-ends Ends ends_yes ends_no better spent league conflicts games answer (inr
     ends-with Ends answer Spent log.status spent
 
 proved-ends : (Ends : Status → Type 0) → Ends File → Ends ReadFault → Ends Yes → Ends No → Ends Better → Ends Spent
-    → (contents : List ℕ → Option (List ℕ)) (took_more : ℕ → Type 0) (failed : List ℕ → Type 0)
+    → (store : Store)
     (instance solution : List ℕ) (conflicts : Option ℕ) (answer : Answer)
-    → proved contents took_more failed instance solution conflicts answer → Ends answer.status
-proved-ends Ends file fault ends_yes ends_no better spent contents took_more failed instance solution conflicts answer
+    → proved store instance solution conflicts answer → Ends answer.status
+proved-ends Ends file fault ends_yes ends_no better spent store instance solution conflicts answer
     given =
-    league-ends Ends file fault (contents instance) (took_more INSTANCE_LIMIT) (failed instance)
+    league-ends Ends file fault (store.contents instance) (store.took_more INSTANCE_LIMIT) (store.failed instance)
     (λ first league. has_few_terms league
-    (λ few. reads (codes "solution") (contents solution) SOLUTION_LIMIT (took_more (length first + SOLUTION_LIMIT))
-    (failed solution)
+    (λ few. takes (codes "solution") (store.contents solution) SOLUTION_LIMIT (store.took_more (length first + SOLUTION_LIMIT))
+    (store.failed solution)
     (λ second. says (codes "solution") (solution_of league.n (pieces second)) (IsShown league conflicts)))) answer
     (λ first league at_league. few-ends Ends file league
-    (λ few. reads (codes "solution") (contents solution) SOLUTION_LIMIT (took_more (length first + SOLUTION_LIMIT))
-    (failed solution)
+    (λ few. takes (codes "solution") (store.contents solution) SOLUTION_LIMIT (store.took_more (length first + SOLUTION_LIMIT))
+    (store.failed solution)
     (λ second. says (codes "solution") (solution_of league.n (pieces second)) (IsShown league conflicts))) answer
-    (λ at_few. games-ends Ends file fault league.n (contents solution) (took_more (length first + SOLUTION_LIMIT))
-    (failed solution) (λ second. IsShown league conflicts) answer
+    (λ at_few. games-ends Ends file fault league.n (store.contents solution) (store.took_more (length first + SOLUTION_LIMIT))
+    (store.failed solution) (λ second. IsShown league conflicts) answer
     (λ second games shown. shown-ends Ends ends_yes ends_no better spent league conflicts games answer shown) at_few)
     at_league)
     given
@@ -299,19 +301,19 @@ said_certificate-ends Ends file (Ok certificate) next answer later given = later
 said_certificate-ends Ends file (Err fault) next answer later given = ends-as Ends answer _ given file
 
 bounded-ends : (Ends : Status → Type 0) → Ends File → Ends ReadFault → Ends Yes → Ends No
-    → (contents : List ℕ → Option (List ℕ)) (took_more : ℕ → Type 0) (failed : List ℕ → Type 0)
-    (instance log : List ℕ) (answer : Answer) → bounded contents took_more failed instance log answer
+    → (store : Store)
+    (instance log : List ℕ) (answer : Answer) → bounded store instance log answer
     → Ends answer.status
-bounded-ends Ends file fault ends_yes ends_no contents took_more failed instance log answer given =
-    league-ends Ends file fault (contents instance) (took_more INSTANCE_LIMIT) (failed instance)
+bounded-ends Ends file fault ends_yes ends_no store instance log answer given =
+    league-ends Ends file fault (store.contents instance) (store.took_more INSTANCE_LIMIT) (store.failed instance)
     (λ first league. has_few_terms league
-    (λ few. reads (codes "log") (contents log) most_log_bytes (took_more (length first + most_log_bytes)) (failed log)
+    (λ few. takes (codes "log") (store.contents log) most_log_bytes (store.took_more (length first + most_log_bytes)) (store.failed log)
     (λ second. says_certificate (certificate_of second) (IsBoundVerdict league)))) answer
     (λ first league at_league. few-ends Ends file league
-    (λ few. reads (codes "log") (contents log) most_log_bytes (took_more (length first + most_log_bytes)) (failed log)
+    (λ few. takes (codes "log") (store.contents log) most_log_bytes (store.took_more (length first + most_log_bytes)) (store.failed log)
     (λ second. says_certificate (certificate_of second) (IsBoundVerdict league))) answer
-    (λ at_few. read-ends Ends file fault (codes "log") (contents log) most_log_bytes
-    (took_more (length first + most_log_bytes)) (failed log)
+    (λ at_few. read-ends Ends file fault (codes "log") (store.contents log) most_log_bytes
+    (store.took_more (length first + most_log_bytes)) (store.failed log)
     (λ second. says_certificate (certificate_of second) (IsBoundVerdict league)) answer
     (λ second at_second. said_certificate-ends Ends file (certificate_of second) (IsBoundVerdict league) answer
     (λ certificate verdict. ends-as Ends answer _ verdict.verdict
@@ -331,33 +333,32 @@ size-ends Ends file league k next answer later (inl h) = later h.1
 size-ends Ends file league k next answer later (inr h) = ends-as Ends answer _ h.1 file
 
 -- the stages that read the second file, and go on with the league, the games and how many bytes both files had
-abbrev season_from : (List ℕ → Option (List ℕ)) → (ℕ → Type 0) → (List ℕ → Type 0) → List ℕ
+abbrev season_from : Store → List ℕ
     → (Instance → List Game → ℕ → Outcome) → List ℕ → Instance → Outcome
-season_from contents took_more failed solution next first league =
-    reads (codes "solution") (contents solution) SOLUTION_LIMIT (took_more (length first + SOLUTION_LIMIT))
-    (failed solution)
+season_from store solution next first league =
+    takes (codes "solution") (store.contents solution) SOLUTION_LIMIT (store.took_more (length first + SOLUTION_LIMIT))
+    (store.failed solution)
     (λ second. says (codes "solution") (solution_of league.n (pieces second))
     (λ played. next league played (length first + length second)))
 
-plays-ends : (Ends : Status → Type 0) → Ends File → Ends ReadFault → (contents : List ℕ → Option (List ℕ))
-    (took_more : ℕ → Type 0) (failed : List ℕ → Type 0) (instance solution : List ℕ) (k : ℕ)
+plays-ends : (Ends : Status → Type 0) → Ends File → Ends ReadFault → (store : Store) (instance solution : List ℕ) (k : ℕ)
     (next : Instance → List Game → ℕ → Outcome) (answer : Answer)
     → ((league : Instance) (played : List Game) (bytes : ℕ) → next league played bytes answer → Ends answer.status)
-    → reads (codes "instance") (contents instance) INSTANCE_LIMIT (took_more INSTANCE_LIMIT) (failed instance)
+    → takes (codes "instance") (store.contents instance) INSTANCE_LIMIT (store.took_more INSTANCE_LIMIT) (store.failed instance)
     (λ first. says (codes "instance") (instance_of (pieces first))
     (λ league. has_slots league k
-    (λ slots. has_size league k (λ size. season_from contents took_more failed solution next first league)))) answer
+    (λ slots. has_size league k (λ size. season_from store solution next first league)))) answer
     → Ends answer.status
-plays-ends Ends file fault contents took_more failed instance solution k next answer later given =
-    league-ends Ends file fault (contents instance) (took_more INSTANCE_LIMIT) (failed instance)
+plays-ends Ends file fault store instance solution k next answer later given =
+    league-ends Ends file fault (store.contents instance) (store.took_more INSTANCE_LIMIT) (store.failed instance)
     (λ first league. has_slots league k
-    (λ slots. has_size league k (λ size. season_from contents took_more failed solution next first league))) answer
+    (λ slots. has_size league k (λ size. season_from store solution next first league))) answer
     (λ first league at_league. slots-ends Ends file league k
-    (λ slots. has_size league k (λ size. season_from contents took_more failed solution next first league)) answer
+    (λ slots. has_size league k (λ size. season_from store solution next first league)) answer
     (λ at_slots. size-ends Ends file league k
-    (λ size. season_from contents took_more failed solution next first league) answer
-    (λ at_size. games-ends Ends file fault league.n (contents solution) (took_more (length first + SOLUTION_LIMIT))
-    (failed solution) (λ second played. next league played (length first + length second)) answer
+    (λ size. season_from store solution next first league) answer
+    (λ at_size. games-ends Ends file fault league.n (store.contents solution) (store.took_more (length first + SOLUTION_LIMIT))
+    (store.failed solution) (λ second played. next league played (length first + length second)) answer
     (λ second played at_season. later league played (length first + length second) at_season) at_size) at_slots)
     at_league) given
 
@@ -372,26 +373,26 @@ resuming-ends Ends ends_yes refuted spent league played k conflicts answer found
     ]
 
 resumed-ends : (Ends : Status → Type 0) → Ends File → Ends ReadFault → Ends Yes → Ends Refuted → Ends Spent
-    → (contents : List ℕ → Option (List ℕ)) (took_more : ℕ → Type 0) (failed : List ℕ → Type 0)
+    → (store : Store)
     (instance solution : List ℕ) (k : ℕ) (conflicts : Option ℕ) (answer : Answer)
-    → resumed contents took_more failed instance solution k conflicts answer → Ends answer.status
-resumed-ends Ends file fault ends_yes refuted spent contents took_more failed instance solution k conflicts answer
+    → resumed store instance solution k conflicts answer → Ends answer.status
+resumed-ends Ends file fault ends_yes refuted spent store instance solution k conflicts answer
     given =
-    plays-ends Ends file fault contents took_more failed instance solution k
+    plays-ends Ends file fault store instance solution k
     (λ league played bytes. resuming.IsFound league played k conflicts) answer
     (λ league played bytes found. resuming-ends Ends ends_yes refuted spent league played k conflicts answer found)
     given
 
 audited-ends : (Ends : Status → Type 0) → Ends File → Ends ReadFault → Ends Yes → Ends No
-    → (contents : List ℕ → Option (List ℕ)) (took_more : ℕ → Type 0) (failed : List ℕ → Type 0)
+    → (store : Store)
     (instance solution : List ℕ) (k : ℕ) (log : List ℕ) (answer : Answer)
-    → audited contents took_more failed instance solution k log answer → Ends answer.status
-audited-ends Ends file fault ends_yes ends_no contents took_more failed instance solution k log answer given =
-    plays-ends Ends file fault contents took_more failed instance solution k
-    (λ league played bytes. reads (codes "log") (contents log) most_log_bytes (took_more (bytes + most_log_bytes))
-    (failed log) (λ third. says_log (log_of third) (auditing.IsVerdict league played k))) answer
-    (λ league played bytes at_season. log-ends Ends file fault (contents log) (took_more (bytes + most_log_bytes))
-    (failed log) (auditing.IsVerdict league played k) answer
+    → audited store instance solution k log answer → Ends answer.status
+audited-ends Ends file fault ends_yes ends_no store instance solution k log answer given =
+    plays-ends Ends file fault store instance solution k
+    (λ league played bytes. takes (codes "log") (store.contents log) most_log_bytes (store.took_more (bytes + most_log_bytes))
+    (store.failed log) (λ third. says_log (log_of third) (auditing.IsVerdict league played k))) answer
+    (λ league played bytes at_season. log-ends Ends file fault (store.contents log) (store.took_more (bytes + most_log_bytes))
+    (store.failed log) (auditing.IsVerdict league played k) answer
     (λ steps verdict. ends-as Ends answer _ verdict.verdict (verdict-ends Ends ends_yes ends_no (length steps) _))
     at_season) given
 
@@ -410,55 +411,57 @@ tried-ends Ends file ends_yes n seed budgets answer given =
 abbrev EndsBy : Option Command → Status → Type 0
 EndsBy words status = may_end words status ≡ true
 
-answer-ends : (words : Option Command) (contents : List ℕ → Option (List ℕ)) (took_more : ℕ → Type 0)
-    (failed : List ℕ → Type 0) (answer : Answer) → IsAnswer words contents took_more failed answer
+answer-ends : (words : Option Command) (store : Store) (answer : Answer) → IsAnswer words store answer
     → EndsBy words answer.status
-answer-ends None contents took_more failed answer given = ends-as (EndsBy None) answer _ given refl
-answer-ends (Some (Validate instance solution)) contents took_more failed answer given =
-    validated-ends (EndsBy (Some (Validate instance solution))) refl refl refl refl contents took_more failed instance
+answer-ends None store answer given = ends-as (EndsBy None) answer _ given refl
+answer-ends (Some (Validate instance solution)) store answer given =
+    validated-ends (EndsBy (Some (Validate instance solution))) refl refl refl refl store instance
     solution answer given
-answer-ends (Some (Check instance log)) contents took_more failed answer given =
-    checked-ends (EndsBy (Some (Check instance log))) refl refl refl refl contents took_more failed instance log answer
+answer-ends (Some (Check instance log)) store answer given =
+    checked-ends (EndsBy (Some (Check instance log))) refl refl refl refl store instance log answer
     given
-answer-ends (Some (Solve instance budgets)) contents took_more failed answer given =
-    solved-ends (EndsBy (Some (Solve instance budgets))) refl refl refl refl refl contents took_more failed instance
+answer-ends (Some (Solve instance budgets)) store answer given =
+    solved-ends (EndsBy (Some (Solve instance budgets))) refl refl refl refl refl store instance
     budgets answer given
-answer-ends (Some (Patterns instance conflicts)) contents took_more failed answer given =
-    patterned-ends (EndsBy (Some (Patterns instance conflicts))) refl refl refl refl refl contents took_more failed
+answer-ends (Some (Patterns instance conflicts)) store answer given =
+    patterned-ends (EndsBy (Some (Patterns instance conflicts))) refl refl refl refl refl store
     instance conflicts answer given
-answer-ends (Some (Explain instance conflicts)) contents took_more failed answer given =
-    explained-ends (EndsBy (Some (Explain instance conflicts))) refl refl refl refl refl contents took_more failed
+answer-ends (Some (Explain instance conflicts)) store answer given =
+    explained-ends (EndsBy (Some (Explain instance conflicts))) refl refl refl refl refl store
     instance conflicts answer given
-answer-ends (Some (Part instance members)) contents took_more failed answer given =
-    parted-ends (EndsBy (Some (Part instance members))) refl refl refl contents took_more failed instance members answer
+answer-ends (Some (Part instance members)) store answer given =
+    parted-ends (EndsBy (Some (Part instance members))) refl refl refl store instance members answer
     given
-answer-ends (Some (Prove instance solution conflicts)) contents took_more failed answer given =
-    proved-ends (EndsBy (Some (Prove instance solution conflicts))) refl refl refl refl refl refl contents took_more
-    failed instance solution conflicts answer given
-answer-ends (Some (Bound instance log)) contents took_more failed answer given =
-    bounded-ends (EndsBy (Some (Bound instance log))) refl refl refl refl contents took_more failed instance log answer
+answer-ends (Some (Prove instance solution conflicts)) store answer given =
+    proved-ends (EndsBy (Some (Prove instance solution conflicts))) refl refl refl refl refl refl store instance solution conflicts answer given
+answer-ends (Some (Bound instance log)) store answer given =
+    bounded-ends (EndsBy (Some (Bound instance log))) refl refl refl refl store instance log answer
     given
-answer-ends (Some (Resume instance solution k conflicts)) contents took_more failed answer given =
-    resumed-ends (EndsBy (Some (Resume instance solution k conflicts))) refl refl refl refl refl contents took_more
-    failed instance solution k conflicts answer given
-answer-ends (Some (Audit instance solution k log)) contents took_more failed answer given =
-    audited-ends (EndsBy (Some (Audit instance solution k log))) refl refl refl refl contents took_more failed instance
+answer-ends (Some (Resume instance solution k conflicts)) store answer given =
+    resumed-ends (EndsBy (Some (Resume instance solution k conflicts))) refl refl refl refl refl store instance solution k conflicts answer given
+answer-ends (Some (Audit instance solution k log)) store answer given =
+    audited-ends (EndsBy (Some (Audit instance solution k log))) refl refl refl refl store instance
     solution k log answer given
-answer-ends (Some (Circle n)) contents took_more failed answer given =
+answer-ends (Some (Circle n)) store answer given =
     ends-as (EndsBy (Some (Circle n))) answer _ given refl
-answer-ends (Some (Make n seed)) contents took_more failed answer given =
+answer-ends (Some (Make n seed)) store answer given =
     ends-as (EndsBy (Some (Make n seed))) answer _ given.made refl
-answer-ends (Some (Trial n seed budgets)) contents took_more failed answer given =
+answer-ends (Some (Trial n seed budgets)) store answer given =
     tried-ends (EndsBy (Some (Trial n seed budgets))) refl refl n seed budgets answer given
+answer-ends (Some (Help topic)) store answer given = ends-as (EndsBy (Some (Help topic))) answer _ given refl
+answer-ends (Some Version) store answer given = ends-as (EndsBy (Some Version)) answer _ given refl
+
+written-ends : (words : Option Command) (store : Store) (answer : Answer) (ended : Status) (output : Output)
+    → IsAnswer words store answer → IsWritten answer ended output → (ended ≡ WriteFault → ⊥) → may_end words ended ≡ true
+written-ends words store answer ended output answered (inl h) whole =
+    subst (EndsBy words) (sym h.0) (answer-ends words store answer answered)
+written-ends words store answer ended output answered (inr h) whole = absurd (whole h.0)
 
 -- a run whose text is written whole ends as its words may
-pub run-ends : (words : Option Command) (contents : List ℕ → Option (List ℕ)) (took_more : ℕ → Type 0)
-    (failed : List ℕ → Type 0) (answer : Answer) (ended : Status) (old new : Option (List ℕ)) (sink_failed : Type 0)
-    → IsAnswer words contents took_more failed answer → IsWritten answer ended old new sink_failed
-    → (ended ≡ WriteFault → ⊥) → may_end words ended ≡ true
-run-ends words contents took_more failed answer ended old new sink_failed answered (inl h) whole =
-    subst (EndsBy words) (sym h.0) (answer-ends words contents took_more failed answer answered)
-run-ends words contents took_more failed answer ended old new sink_failed answered (inr h) whole = absurd (whole h.0)
+pub ends-by-words : (run : Run) → Answered run → EndsByWords run
+ends-by-words run answered memory whole =
+    let told = answered memory in
+    written-ends run.command run.store told.0 run.ended run.output told.1 told.2 whole
 
 no_memory : (words : Option Command) → may_end words Memory ≡ false
 no_memory None = refl
@@ -475,15 +478,16 @@ no_memory (Some (Audit instance solution k log)) = refl
 no_memory (Some (Circle n)) = refl
 no_memory (Some (Make n seed)) = refl
 no_memory (Some (Trial n seed budgets)) = refl
+no_memory (Some (Help topic)) = refl
+no_memory (Some Version) = refl
 
 -- where an answer is written, the run doesn't end as want of memory does
-pub written-memory : (words : Option Command) (contents : List ℕ → Option (List ℕ)) (took_more : ℕ → Type 0)
-    (failed : List ℕ → Type 0) (answer : Answer) (ended : Status) (old new : Option (List ℕ)) (sink_failed : Type 0)
-    → IsAnswer words contents took_more failed answer → IsWritten answer ended old new sink_failed → ended ≡ Memory → ⊥
-written-memory words contents took_more failed answer ended old new sink_failed answered (inl h) memory =
+pub written-memory : (words : Option Command) (store : Store) (answer : Answer) (ended : Status) (output : Output)
+    → IsAnswer words store answer → IsWritten answer ended output → ended ≡ Memory → ⊥
+written-memory words store answer ended output answered (inl h) memory =
     let may : may_end words Memory ≡ true =
-    subst (EndsBy words) (sym h.0 ∙ memory) (answer-ends words contents took_more failed answer answered) in
+    subst (EndsBy words) (sym h.0 ∙ memory) (answer-ends words store answer answered) in
     let none : may_end words Memory ≡ false = no_memory words in
     cc
-written-memory words contents took_more failed answer ended old new sink_failed answered (inr h) memory =
+written-memory words store answer ended output answered (inr h) memory =
     let same : WriteFault ≡ Memory = sym h.0 ∙ memory in cc

@@ -1,4 +1,5 @@
 -- Lemmas on runs of each command, and on how they end:
+mod RunLemmas
 mod ValidateLemmas
 mod CheckLemmas
 mod SolveLemmas
@@ -8,5 +9,6 @@ mod BoundLemmas
 mod ResumeLemmas
 mod MadeLemmas
 mod EndLemmas
+mod FormerClauses
 -- Worked examples, so that a wrong definition does not check:
 mod RunFacts

@@ -1,62 +1,50 @@
--- What follows from a run of `validate`.
-use Rattle.std.proofs.Common.{◌≡◌, ℕ, ◌+◌, List, length, Option, Some, codes, inl, inr, subst}
+-- What `validate` promises is kept.
+use Rattle.std.proofs.Common.{◌∷◌, [], ◌≡◌, ℕ, ◌+◌, List, length, codes}
+use Rattle.robin_io.specs.Outside.{Store}
 use Rattle.robinx_tags.specs.Pieces.{pieces}
 use Rattle.robinx_form.specs.InstanceFile.{instance_of}
 use Rattle.robinx_form.specs.SolutionFile.{solution_of}
 use Rattle.robinx_read.specs.declared.instance.TheConstants.{INSTANCE_LIMIT, SOLUTION_LIMIT}
 use Rattle.league.specs.Instance.{Instance}
 use Rattle.league.specs.declared.game.Game.{Game}
-use Rattle.command_line.specs.Words.{Command}
 use Rattle.command_line.specs.Words.Command.{Validate}
 use Rattle.answers.specs.Reply.{Answer}
-use Rattle.answers.specs.Stages.{IsWritten, Outcome, reads, says}
-use Rattle.answers.specs.declared.status.Status.{Status}
-use Rattle.answers.proofs.StageLemmas.{reads-known, says-known}
-use Rattle.validate_answer.specs.Validate.{IsJudged, IsJudgement, IsWellFormedPair, validated}
-use Rattle.robin_run.specs.Answer.{IsAnswer}
+use Rattle.answers.specs.Stages.{NoneFails, Outcome, says, takes}
+use Rattle.answers.proofs.StageLemmas.{first-works, says-known, second-works, takes-known}
+use Rattle.validate_answer.specs.Validate.{IsJudgement, IsWellFormedPair, validated}
+use Rattle.robin_run.specs.Run.{Answered, Run}
+use Rattle.robin_run.specs.Validate.{Validates}
+use Rattle.robin_run.proofs.RunLemmas.{writes}
 
 -- the stages behind the solution file, and behind the league
 abbrev judged_from : Instance → List ℕ → Outcome
 judged_from league second = says (codes "solution") (solution_of league.n (pieces second)) (IsJudgement league)
 
-abbrev read_from : (List ℕ → Option (List ℕ)) → (ℕ → Type 0) → (List ℕ → Type 0) → List ℕ → List ℕ → Instance → Outcome
-read_from contents took_more failed solution first league =
-    reads (codes "solution") (contents solution) SOLUTION_LIMIT (took_more (length first + SOLUTION_LIMIT))
-    (failed solution) (judged_from league)
+abbrev read_from : Store → List ℕ → List ℕ → Instance → Outcome
+read_from store solution first league =
+    takes (codes "solution") (store.contents solution) SOLUTION_LIMIT (store.took_more (length first + SOLUTION_LIMIT))
+    (store.failed solution) (judged_from league)
 
-judgement : (contents : List ℕ → Option (List ℕ)) (took_more : ℕ → Type 0) (failed : List ℕ → Type 0)
+judgement : (store : Store)
     (instance solution : List ℕ) (league : Instance) (games : List Game) (answer : Answer)
-    → IsWellFormedPair contents failed instance solution league games
-    → validated contents took_more failed instance solution answer → IsJudgement league games answer
-judgement contents took_more failed instance solution league games answer good given =
+    → IsWellFormedPair store instance solution league games → NoneFails store (instance ∷ solution ∷ [])
+    → validated store instance solution answer → IsJudgement league games answer
+judgement store instance solution league games answer good works given =
     says-known (codes "solution") (solution_of league.n (pieces good.second)) games (IsJudgement league) answer
     good.says_games
-    (reads-known (codes "solution") (contents solution) SOLUTION_LIMIT
-    (took_more (length good.first + SOLUTION_LIMIT)) (failed solution) (judged_from league) answer good.second
-    good.second_known good.second_within good.second_works
+    (takes-known (codes "solution") (store.contents solution) SOLUTION_LIMIT
+    (store.took_more (length good.first + SOLUTION_LIMIT)) (store.failed solution) (judged_from league) answer good.second
+    good.second_known good.second_within (second-works store instance solution [] works)
     (says-known (codes "instance") (instance_of (pieces good.first)) league
-    (read_from contents took_more failed solution good.first) answer good.says_league
-    (reads-known (codes "instance") (contents instance) INSTANCE_LIMIT (took_more INSTANCE_LIMIT) (failed instance)
+    (read_from store solution good.first) answer good.says_league
+    (takes-known (codes "instance") (store.contents instance) INSTANCE_LIMIT (store.took_more INSTANCE_LIMIT) (store.failed instance)
     (λ first. says (codes "instance") (instance_of (pieces first))
-    (read_from contents took_more failed solution first)) answer good.first good.first_known good.first_within
-    good.first_works given)))
+    (read_from store solution first)) answer good.first good.first_known good.first_within
+    (first-works store instance (solution ∷ []) works) given)))
 
-written-whole : (league : Instance) (games : List Game) (answer : Answer) (ended : Status) (old new : Option (List ℕ))
-    (sink_failed : Type 0) → IsJudgement league games answer → (sink_failed → ⊥)
-    → IsWritten answer ended old new sink_failed → IsJudged league games ended old new
-written-whole league games answer ended old new sink_failed judged works (inl h) =
-    record { answer = answer; judgement = judged; status = h.0; written = h.1 }
-written-whole league games answer ended old new sink_failed judged works (inr h) = absurd (works h.1)
-
--- two well-formed files at which nothing fails are judged, and the judgement is written whole
-pub run-judged : (words : Option Command) (contents : List ℕ → Option (List ℕ)) (took_more : ℕ → Type 0)
-    (failed : List ℕ → Type 0) (instance solution : List ℕ) (league : Instance) (games : List Game) (answer : Answer)
-    (ended : Status) (old new : Option (List ℕ)) (sink_failed : Type 0) → IsAnswer words contents took_more failed answer
-    → IsWritten answer ended old new sink_failed → words ≡ Some (Validate instance solution)
-    → IsWellFormedPair contents failed instance solution league games → (sink_failed → ⊥)
-    → IsJudged league games ended old new
-run-judged words contents took_more failed instance solution league games answer ended old new sink_failed answered written
-    is good works =
-    written-whole league games answer ended old new sink_failed
-    (judgement contents took_more failed instance solution league games answer good
-    (subst (λ (w : Option Command). IsAnswer w contents took_more failed answer) is answered)) works written
+pub validates : (run : Run) → Answered run → Validates run
+validates run answered instance solution is = record {
+  judged = λ league games good works.
+      writes run (instance ∷ solution ∷ []) (Validate instance solution) (IsJudgement league games) answered is works
+      (λ answer given. judgement run.store instance solution league games answer good works.store given);
+}

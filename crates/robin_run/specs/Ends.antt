@@ -1,12 +1,12 @@
 -- How a run may end, where its text is written whole.
-use Rattle.std.specs.Prelude.{Bool, ◌==◌, List, [], ◌∷◌, Option, None, Some}
+use Rattle.std.specs.Prelude.{◌≢◌, ◌≡◌, Bool, ◌==◌, List, [], ◌∷◌, Option, None, Some}
 use Rattle.std.specs.List.{list_any}
 use Rattle.answers.specs.Status.{status_code}
 use Rattle.answers.specs.declared.status.Status.{Status}
 use Rattle.answers.specs.declared.status.Status.TheVariants.{Yes, No, Words, File, Refuted, Spent, ReadFault, Better}
 use Rattle.command_line.specs.Words.{Command}
 use Rattle.command_line.specs.Words.Command.{Validate, Check, Solve, Patterns, Explain, Part, Prove, Bound, Resume}
-use Rattle.command_line.specs.Words.Command.{Audit, Circle, Make, Trial}
+use Rattle.command_line.specs.Words.Command.{Audit, Circle, Make, Trial, Help, Version}
 
 -- the ends that these words have
 abbrev pub ends_of : Option Command → List Status
@@ -24,7 +24,13 @@ ends_of (Some (Audit instance solution k log)) = Yes ∷ No ∷ File ∷ ReadFau
 ends_of (Some (Circle n)) = Yes ∷ []
 ends_of (Some (Make n seed)) = Yes ∷ []
 ends_of (Some (Trial n seed budgets)) = Yes ∷ File ∷ []
+ends_of (Some (Help topic)) = Yes ∷ []
+ends_of (Some Version) = Yes ∷ []
 
 -- whether a run with these words may end so
 abbrev pub may_end : Option Command → Status → Bool
 may_end words status = list_any (λ one. status_code one == status_code status) (ends_of words)
+
+-- a run ends as its words may, unless memory runs out or the text can't be written
+abbrev pub EndsByWords : Run → Type 0
+EndsByWords run = run.ended ≢ Memory → run.ended ≢ WriteFault → may_end run.command run.ended ≡ true

@@ -1,7 +1,23 @@
 -- What a reader of a claim must believe:
+--
+-- One run, and what all commands promise of it:
 pub mod Answer
 pub mod Ends
-pub mod Contradiction
-pub mod Bounds
-
+pub mod Run
+-- What each command promises, and what its answers mean:
+pub mod Validate
+pub mod Check
+pub mod Solve
+pub mod Patterns
+pub mod Explain
+pub mod Part
+pub mod Prove
+pub mod Bound
+pub mod Resume
+pub mod Audit
+pub mod Circle
+pub mod Make
+pub mod Trial
+pub mod Help
 -- Kept inside (laws, and how fields are seen):
+pub mod Folded

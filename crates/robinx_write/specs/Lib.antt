@@ -5,5 +5,3 @@
 -- Values without where they lie in memory, and numbers as they are held in it:
 pub mod SeenValues
 pub mod Held
--- Which classes are written together:
-pub mod Groups

@@ -1,12 +1,12 @@
 //! The attributes of the nine classes, each in the order of the format.
-ghost use Rattle.std.specs.Prelude.{◌≡◌, ◌++◌, IsTrue, OnOk, codes};
+ghost use Rattle.std.specs.Prelude.{◌≡◌, ◌++◌, OnOk, codes};
+ghost use Rattle.league.specs.Names.{name_of};
 ghost use Rattle.robinx_form.specs.Texts as texts;
 ghost use Rattle.robinx_form.specs.Texts.{class_text};
 ghost use Rattle.robinx_write.specs.Held.{IsHeldClass};
-ghost use Rattle.robinx_write.specs.Groups.{is_capacity};
 
 use crate::tag::{NamedValue, Value, put_attributes};
-use league::{Class, ClassName, PairSet, Side, SlotSet, Span, TeamSet};
+use league::{Class, ClassName, Side, Span};
 use robinx_form::GroupName;
 use std::alloc::AllocError;
 
@@ -43,48 +43,54 @@ fn span_word(span: Span) -> &'static str
 }
 
 /// Adds the attributes of a CA1.
-fn put_ca1<'a>(
-    text: &mut Vec<u8>,
-    teams: &'a TeamSet,
-    min: u32,
-    max: u32,
-    side: Side,
-    slots: &'a SlotSet,
-) -> Result<(), AllocError>
-    ensures written { OnOk result
-        (text.new.items ≡ text.old.items ++ class_text (Class.Ca1 teams.now min max side slots.now)) }
-    ensures held { IsHeldClass (Class.Ca1 teams.now min max side slots.now) }
+fn put_ca1(text: &mut Vec<u8>, class: &Class) -> Result<(), AllocError>
+    requires { name_of class.now ≡ ClassName.Ca1 }
+    ensures written { OnOk result (text.new.items ≡ text.old.items ++ class_text class.now) }
+    ensures held { IsHeldClass class.now }
 {
+    let Class::Ca1 {
+        teams,
+        min,
+        max,
+        side,
+        slots,
+    } = class
+    else {
+        unreachable!()
+    };
     let attributes = [
         NamedValue("teams", Value::Ids(teams.numbers())),
-        NamedValue("min", Value::Count(u128::from(min))),
-        NamedValue("max", Value::Count(u128::from(max))),
-        NamedValue("mode", Value::Word(side_word(side))),
+        NamedValue("min", Value::Count(u128::from(*min))),
+        NamedValue("max", Value::Count(u128::from(*max))),
+        NamedValue("mode", Value::Word(side_word(*side))),
         NamedValue("slots", Value::Ids(slots.numbers())),
     ];
     put_attributes(text, &attributes)
 }
 
 /// Adds the attributes of a CA2.
-fn put_ca2<'a>(
-    text: &mut Vec<u8>,
-    teams1: &'a TeamSet,
-    teams2: &'a TeamSet,
-    min: u32,
-    max: u32,
-    side: Side,
-    slots: &'a SlotSet,
-) -> Result<(), AllocError>
-    ensures written { OnOk result
-        (text.new.items ≡ text.old.items ++ class_text (Class.Ca2 teams1.now teams2.now min max side slots.now)) }
-    ensures held { IsHeldClass (Class.Ca2 teams1.now teams2.now min max side slots.now) }
+fn put_ca2(text: &mut Vec<u8>, class: &Class) -> Result<(), AllocError>
+    requires { name_of class.now ≡ ClassName.Ca2 }
+    ensures written { OnOk result (text.new.items ≡ text.old.items ++ class_text class.now) }
+    ensures held { IsHeldClass class.now }
 {
+    let Class::Ca2 {
+        teams1,
+        teams2,
+        min,
+        max,
+        side,
+        slots,
+    } = class
+    else {
+        unreachable!()
+    };
     let attributes = [
         NamedValue("teams1", Value::Ids(teams1.numbers())),
         NamedValue("teams2", Value::Ids(teams2.numbers())),
-        NamedValue("min", Value::Count(u128::from(min))),
-        NamedValue("max", Value::Count(u128::from(max))),
-        NamedValue("mode1", Value::Word(side_word(side))),
+        NamedValue("min", Value::Count(u128::from(*min))),
+        NamedValue("max", Value::Count(u128::from(*max))),
+        NamedValue("mode1", Value::Word(side_word(*side))),
         NamedValue("mode2", Value::Word("GLOBAL")),
         NamedValue("slots", Value::Ids(slots.numbers())),
     ];
@@ -92,115 +98,125 @@ fn put_ca2<'a>(
 }
 
 /// Adds the attributes of a CA3.
-fn put_ca3<'a>(
-    text: &mut Vec<u8>,
-    teams1: &'a TeamSet,
-    teams2: &'a TeamSet,
-    min: u32,
-    max: u32,
-    intp: u32,
-    side: Side,
-) -> Result<(), AllocError>
-    ensures written { OnOk result
-        (text.new.items ≡ text.old.items ++ class_text (Class.Ca3 teams1.now teams2.now min max intp side)) }
-    ensures held { IsHeldClass (Class.Ca3 teams1.now teams2.now min max intp side) }
+fn put_ca3(text: &mut Vec<u8>, class: &Class) -> Result<(), AllocError>
+    requires { name_of class.now ≡ ClassName.Ca3 }
+    ensures written { OnOk result (text.new.items ≡ text.old.items ++ class_text class.now) }
+    ensures held { IsHeldClass class.now }
 {
+    let Class::Ca3 {
+        teams1,
+        teams2,
+        min,
+        max,
+        intp,
+        side,
+    } = class
+    else {
+        unreachable!()
+    };
     let attributes = [
         NamedValue("teams1", Value::Ids(teams1.numbers())),
         NamedValue("teams2", Value::Ids(teams2.numbers())),
-        NamedValue("min", Value::Count(u128::from(min))),
-        NamedValue("max", Value::Count(u128::from(max))),
-        NamedValue("mode1", Value::Word(side_word(side))),
+        NamedValue("min", Value::Count(u128::from(*min))),
+        NamedValue("max", Value::Count(u128::from(*max))),
+        NamedValue("mode1", Value::Word(side_word(*side))),
         NamedValue("mode2", Value::Word("SLOTS")),
-        NamedValue("intp", Value::Count(u128::from(intp))),
+        NamedValue("intp", Value::Count(u128::from(*intp))),
     ];
     put_attributes(text, &attributes)
 }
 
 /// Adds the attributes of a CA4.
-fn put_ca4<'a>(
-    text: &mut Vec<u8>,
-    teams1: &'a TeamSet,
-    teams2: &'a TeamSet,
-    min: u32,
-    max: u32,
-    side: Side,
-    span: Span,
-    slots: &'a SlotSet,
-) -> Result<(), AllocError>
-    ensures written { OnOk result
-        (text.new.items ≡ text.old.items ++ class_text (Class.Ca4 teams1.now teams2.now min max side span slots.now)) }
-    ensures held { IsHeldClass (Class.Ca4 teams1.now teams2.now min max side span slots.now) }
+fn put_ca4(text: &mut Vec<u8>, class: &Class) -> Result<(), AllocError>
+    requires { name_of class.now ≡ ClassName.Ca4 }
+    ensures written { OnOk result (text.new.items ≡ text.old.items ++ class_text class.now) }
+    ensures held { IsHeldClass class.now }
 {
+    let Class::Ca4 {
+        teams1,
+        teams2,
+        min,
+        max,
+        side,
+        span,
+        slots,
+    } = class
+    else {
+        unreachable!()
+    };
     let attributes = [
         NamedValue("teams1", Value::Ids(teams1.numbers())),
         NamedValue("teams2", Value::Ids(teams2.numbers())),
-        NamedValue("min", Value::Count(u128::from(min))),
-        NamedValue("max", Value::Count(u128::from(max))),
-        NamedValue("mode1", Value::Word(side_word(side))),
-        NamedValue("mode2", Value::Word(span_word(span))),
+        NamedValue("min", Value::Count(u128::from(*min))),
+        NamedValue("max", Value::Count(u128::from(*max))),
+        NamedValue("mode1", Value::Word(side_word(*side))),
+        NamedValue("mode2", Value::Word(span_word(*span))),
         NamedValue("slots", Value::Ids(slots.numbers())),
     ];
     put_attributes(text, &attributes)
 }
 
 /// Adds the attributes of a GA1.
-fn put_ga1<'a>(
-    text: &mut Vec<u8>,
-    meetings: &'a PairSet,
-    min: u32,
-    max: u32,
-    slots: &'a SlotSet,
-) -> Result<(), AllocError>
-    ensures written { OnOk result
-        (text.new.items ≡ text.old.items ++ class_text (Class.Ga1 meetings.now min max slots.now)) }
-    ensures held { IsHeldClass (Class.Ga1 meetings.now min max slots.now) }
+fn put_ga1(text: &mut Vec<u8>, class: &Class) -> Result<(), AllocError>
+    requires { name_of class.now ≡ ClassName.Ga1 }
+    ensures written { OnOk result (text.new.items ≡ text.old.items ++ class_text class.now) }
+    ensures held { IsHeldClass class.now }
 {
+    let Class::Ga1 {
+        meetings,
+        min,
+        max,
+        slots,
+    } = class
+    else {
+        unreachable!()
+    };
     let attributes = [
         NamedValue("meetings", Value::Pairs(meetings.numbers())),
-        NamedValue("min", Value::Count(u128::from(min))),
-        NamedValue("max", Value::Count(u128::from(max))),
+        NamedValue("min", Value::Count(u128::from(*min))),
+        NamedValue("max", Value::Count(u128::from(*max))),
         NamedValue("slots", Value::Ids(slots.numbers())),
     ];
     put_attributes(text, &attributes)
 }
 
 /// Adds the attributes of a BR1.
-fn put_br1<'a>(
-    text: &mut Vec<u8>,
-    teams: &'a TeamSet,
-    intp: u32,
-    side: Side,
-    slots: &'a SlotSet,
-) -> Result<(), AllocError>
-    ensures written { OnOk result
-        (text.new.items ≡ text.old.items ++ class_text (Class.Br1 teams.now intp side slots.now)) }
-    ensures held { IsHeldClass (Class.Br1 teams.now intp side slots.now) }
+fn put_br1(text: &mut Vec<u8>, class: &Class) -> Result<(), AllocError>
+    requires { name_of class.now ≡ ClassName.Br1 }
+    ensures written { OnOk result (text.new.items ≡ text.old.items ++ class_text class.now) }
+    ensures held { IsHeldClass class.now }
 {
+    let Class::Br1 {
+        teams,
+        intp,
+        side,
+        slots,
+    } = class
+    else {
+        unreachable!()
+    };
     let attributes = [
         NamedValue("teams", Value::Ids(teams.numbers())),
-        NamedValue("intp", Value::Count(u128::from(intp))),
+        NamedValue("intp", Value::Count(u128::from(*intp))),
         NamedValue("mode1", Value::Word("LEQ")),
-        NamedValue("mode2", Value::Word(side_word(side))),
+        NamedValue("mode2", Value::Word(side_word(*side))),
         NamedValue("slots", Value::Ids(slots.numbers())),
     ];
     put_attributes(text, &attributes)
 }
 
 /// Adds the attributes of a BR2.
-fn put_br2<'a>(
-    text: &mut Vec<u8>,
-    teams: &'a TeamSet,
-    intp: u32,
-    slots: &'a SlotSet,
-) -> Result<(), AllocError>
-    ensures written { OnOk result
-        (text.new.items ≡ text.old.items ++ class_text (Class.Br2 teams.now intp slots.now)) }
-    ensures held { IsHeldClass (Class.Br2 teams.now intp slots.now) }
+fn put_br2(text: &mut Vec<u8>, class: &Class) -> Result<(), AllocError>
+    requires { name_of class.now ≡ ClassName.Br2 }
+    ensures written { OnOk result (text.new.items ≡ text.old.items ++ class_text class.now) }
+    ensures held { IsHeldClass class.now }
 {
+    let Class::Br2 { teams, intp, slots } = class else {
+        unreachable!()
+    };
     let attributes = [
         NamedValue("teams", Value::Ids(teams.numbers())),
-        NamedValue("intp", Value::Count(u128::from(intp))),
+        NamedValue("intp", Value::Count(u128::from(*intp))),
         NamedValue("homeMode", Value::Word("HA")),
         NamedValue("mode2", Value::Word("LEQ")),
         NamedValue("slots", Value::Ids(slots.numbers())),
@@ -208,80 +224,39 @@ fn put_br2<'a>(
     put_attributes(text, &attributes)
 }
 
-/// Adds the attributes of a FA2.
-fn put_fa2<'a>(
-    text: &mut Vec<u8>,
-    teams: &'a TeamSet,
-    intp: u32,
-    slots: &'a SlotSet,
-) -> Result<(), AllocError>
-    ensures written { OnOk result
-        (text.new.items ≡ text.old.items ++ class_text (Class.Fa2 teams.now intp slots.now)) }
-    ensures held { IsHeldClass (Class.Fa2 teams.now intp slots.now) }
+/// Adds the attributes of an FA2.
+fn put_fa2(text: &mut Vec<u8>, class: &Class) -> Result<(), AllocError>
+    requires { name_of class.now ≡ ClassName.Fa2 }
+    ensures written { OnOk result (text.new.items ≡ text.old.items ++ class_text class.now) }
+    ensures held { IsHeldClass class.now }
 {
+    let Class::Fa2 { teams, intp, slots } = class else {
+        unreachable!()
+    };
     let attributes = [
         NamedValue("teams", Value::Ids(teams.numbers())),
-        NamedValue("intp", Value::Count(u128::from(intp))),
+        NamedValue("intp", Value::Count(u128::from(*intp))),
         NamedValue("mode", Value::Word("H")),
         NamedValue("slots", Value::Ids(slots.numbers())),
     ];
     put_attributes(text, &attributes)
 }
 
-/// Adds the attributes of a SE1.
-fn put_se1(text: &mut Vec<u8>, teams: &TeamSet, min: u32) -> Result<(), AllocError>
-    ensures written { OnOk result (text.new.items ≡ text.old.items ++ class_text (Class.Se1 teams.now min)) }
-    ensures held { IsHeldClass (Class.Se1 teams.now min) }
-{
-    let attributes = [
-        NamedValue("teams", Value::Ids(teams.numbers())),
-        NamedValue("min", Value::Count(u128::from(min))),
-        NamedValue("mode1", Value::Word("SLOTS")),
-    ];
-    put_attributes(text, &attributes)
-}
-
-/// Adds the attributes of a capacity class.
-fn put_capacity(text: &mut Vec<u8>, class: &Class) -> Result<(), AllocError>
-    requires { IsTrue (is_capacity class.now) }
+/// Adds the attributes of an SE1.
+fn put_se1(text: &mut Vec<u8>, class: &Class) -> Result<(), AllocError>
+    requires { name_of class.now ≡ ClassName.Se1 }
     ensures written { OnOk result (text.new.items ≡ text.old.items ++ class_text class.now) }
     ensures held { IsHeldClass class.now }
 {
-    match class {
-        Class::Ca1 {
-            teams,
-            min,
-            max,
-            side,
-            slots,
-        } => put_ca1(text, teams, *min, *max, *side, slots),
-        Class::Ca2 {
-            teams1,
-            teams2,
-            min,
-            max,
-            side,
-            slots,
-        } => put_ca2(text, teams1, teams2, *min, *max, *side, slots),
-        Class::Ca3 {
-            teams1,
-            teams2,
-            min,
-            max,
-            intp,
-            side,
-        } => put_ca3(text, teams1, teams2, *min, *max, *intp, *side),
-        Class::Ca4 {
-            teams1,
-            teams2,
-            min,
-            max,
-            side,
-            span,
-            slots,
-        } => put_ca4(text, teams1, teams2, *min, *max, *side, *span, slots),
-        _ => unreachable!(),
-    }
+    let Class::Se1 { teams, min } = class else {
+        unreachable!()
+    };
+    let attributes = [
+        NamedValue("teams", Value::Ids(teams.numbers())),
+        NamedValue("min", Value::Count(u128::from(*min))),
+        NamedValue("mode1", Value::Word("SLOTS")),
+    ];
+    put_attributes(text, &attributes)
 }
 
 /// Adds the attributes of a class.
@@ -290,23 +265,14 @@ pub(crate) fn put_class(text: &mut Vec<u8>, class: &Class) -> Result<(), AllocEr
     ensures held { IsHeldClass class.now }
 {
     match class {
-        Class::Ca1 { .. } | Class::Ca2 { .. } | Class::Ca3 { .. } | Class::Ca4 { .. } => {
-            put_capacity(text, class)
-        }
-        Class::Ga1 {
-            meetings,
-            min,
-            max,
-            slots,
-        } => put_ga1(text, meetings, *min, *max, slots),
-        Class::Br1 {
-            teams,
-            intp,
-            side,
-            slots,
-        } => put_br1(text, teams, *intp, *side, slots),
-        Class::Br2 { teams, intp, slots } => put_br2(text, teams, *intp, slots),
-        Class::Fa2 { teams, intp, slots } => put_fa2(text, teams, *intp, slots),
-        Class::Se1 { teams, min } => put_se1(text, teams, *min),
+        Class::Ca1 { .. } => put_ca1(text, class),
+        Class::Ca2 { .. } => put_ca2(text, class),
+        Class::Ca3 { .. } => put_ca3(text, class),
+        Class::Ca4 { .. } => put_ca4(text, class),
+        Class::Ga1 { .. } => put_ga1(text, class),
+        Class::Br1 { .. } => put_br1(text, class),
+        Class::Br2 { .. } => put_br2(text, class),
+        Class::Fa2 { .. } => put_fa2(text, class),
+        Class::Se1 { .. } => put_se1(text, class),
     }
 }

@@ -1,5 +1,6 @@
 -- What follows from an answer of `solve`.
-use Rattle.std.proofs.Common.{◌≡◌, ℕ, List, Option, Some, Ok, codes, ap, inl, inr, sym, ◌∙◌}
+use Rattle.std.proofs.Common.{◌∷◌, [], ◌≡◌, ℕ, List, Some, Ok, codes, ap, inl, inr, sym, ◌∙◌}
+use Rattle.robin_io.specs.Outside.{Store}
 use Rattle.rows.specs.Rows.{Row}
 use Rattle.budgets.specs.declared.budgets.Budgets.{Budgets}
 use Rattle.league.specs.Instance.{Instance}
@@ -7,22 +8,22 @@ use Rattle.robinx_tags.specs.Pieces.{pieces}
 use Rattle.robinx_form.specs.InstanceFile.{instance_of}
 use Rattle.robinx_read.specs.declared.instance.TheConstants.{INSTANCE_LIMIT}
 use Rattle.answers.specs.Reply.{Answer}
-use Rattle.answers.specs.Stages.{says}
+use Rattle.answers.specs.Stages.{NoneFails, says}
 use Rattle.answers.specs.declared.status.Status.TheVariants.{Yes, File, Refuted, Spent}
 use Rattle.season_check.specs.Excluded.{NoneAccepted}
-use Rattle.answers.proofs.StageLemmas.{reads-known, reads-refuted, says-known}
+use Rattle.answers.proofs.StageLemmas.{first-works, says-known, takes-known, takes-refuted}
 use Rattle.encoding_base.specs.Encoding.{rows_of}
 use Rattle.check_answer.specs.Check.{encodes}
 use Rattle.check_answer.proofs.AnswerLemmas.{encodes-small}
 use Rattle.solve_answer.specs.Solve.{IsFound, IsWellFormedInstance, solved}
 
 -- a well-formed instance at which nothing fails: the answer is what is found of its league
-pub solved-well_formed : (contents : List ℕ → Option (List ℕ)) (took_more : ℕ → Type 0) (failed : List ℕ → Type 0) (instance : List ℕ) (budgets : Budgets) (league : Instance) (answer : Answer)
-    → IsWellFormedInstance contents failed instance league → solved contents took_more failed instance budgets answer → IsFound league budgets (rows_of league) answer
-solved-well_formed contents took_more failed instance budgets league answer good given =
+pub solved-well_formed : (store : Store) (instance : List ℕ) (budgets : Budgets) (league : Instance) (answer : Answer)
+    → IsWellFormedInstance store instance league → NoneFails store (instance ∷ []) → solved store instance budgets answer → IsFound league budgets (rows_of league) answer
+solved-well_formed store instance budgets league answer good works given =
     encodes-small league (IsFound league budgets) answer good.small
     (says-known (codes "instance") (instance_of (pieces good.bytes)) league (λ l. encodes l (IsFound l budgets)) answer good.says_league
-    (reads-known (codes "instance") (contents instance) INSTANCE_LIMIT (took_more INSTANCE_LIMIT) (failed instance) (λ bytes. says (codes "instance") (instance_of (pieces bytes)) (λ l. encodes l (IsFound l budgets))) answer good.bytes good.known good.within good.works given))
+    (takes-known (codes "instance") (store.contents instance) INSTANCE_LIMIT (store.took_more INSTANCE_LIMIT) (store.failed instance) (λ bytes. says (codes "instance") (instance_of (pieces bytes)) (λ l. encodes l (IsFound l budgets))) answer good.bytes good.known good.within (first-works store instance [] works) given))
 
 found-refuted : (league : Instance) (budgets : Budgets) (rows : List Row) (answer : Answer) → answer.status ≡ Refuted → IsFound league budgets rows answer → NoneAccepted league
 found-refuted league budgets rows answer ended found =
@@ -37,9 +38,9 @@ encoded-refuted league budgets answer ended (inl h) = found-refuted league budge
 encoded-refuted league budgets answer ended (inr h) = let same : File ≡ Refuted = sym (ap (λ (a : Answer). a.status) h.1) ∙ ended in absurd (cc)
 
 -- where the answer is a refutation, the league of the instance file accepts no list of games
-pub solved-refuted : (contents : List ℕ → Option (List ℕ)) (took_more : ℕ → Type 0) (failed : List ℕ → Type 0) (instance bytes : List ℕ) (budgets : Budgets) (league : Instance) (answer : Answer)
-    → contents instance ≡ Some bytes → instance_of (pieces bytes) ≡ Ok league → answer.status ≡ Refuted → solved contents took_more failed instance budgets answer → NoneAccepted league
-solved-refuted contents took_more failed instance bytes budgets league answer known says_league ended given =
+pub solved-refuted : (store : Store) (instance bytes : List ℕ) (budgets : Budgets) (league : Instance) (answer : Answer)
+    → store.contents instance ≡ Some bytes → instance_of (pieces bytes) ≡ Ok league → answer.status ≡ Refuted → solved store instance budgets answer → NoneAccepted league
+solved-refuted store instance bytes budgets league answer known says_league ended given =
     encoded-refuted league budgets answer ended
     (says-known (codes "instance") (instance_of (pieces bytes)) league (λ l. encodes l (IsFound l budgets)) answer says_league
-    (reads-refuted (codes "instance") (contents instance) INSTANCE_LIMIT (took_more INSTANCE_LIMIT) (failed instance) (λ first. says (codes "instance") (instance_of (pieces first)) (λ l. encodes l (IsFound l budgets))) answer bytes known ended given))
+    (takes-refuted (codes "instance") (store.contents instance) INSTANCE_LIMIT (store.took_more INSTANCE_LIMIT) (store.failed instance) (λ first. says (codes "instance") (instance_of (pieces first)) (λ l. encodes l (IsFound l budgets))) answer bytes known ended given))

@@ -3,6 +3,8 @@ use Rattle.std.proofs.Common.{◌≡◌, ℕ, ◌≤◌, ◌∙◌, true, false,
 use Rattle.std.specs.Prelude.{bytes_eq}
 use Rattle.std.specs.Fmt.{digits}
 use Rattle.std.specs.List.{All}
+use Rattle.answers.specs.Stages.{NoneFails}
+use Rattle.robin_io.specs.Outside.{Store}
 use Rattle.robinx_tags.specs.Pieces.{pieces, pieces_from}
 use Rattle.robinx_tags.specs.Tags.{attributes_at}
 use Rattle.budgets.specs.declared.budgets.Budgets.{Budgets}
@@ -62,8 +64,14 @@ size-homeless = refl
 small-homeless : encoding_size homeless ≤ most_terms
 small-homeless = omega (arith, size-homeless)
 
-homeless-formed : IsWellFormedInstance contents nowhere (codes "homeless") homeless
-homeless-formed = record { bytes = league_file; known = refl; within = omega arith; says_league = says-homeless; small = small-homeless; works = λ h. h }
+abbrev store : Store
+store = record { contents = contents; took_more = never; failed = nowhere }
+
+nothing_fails : (names : List (List ℕ)) → NoneFails store names
+nothing_fails names = λ place name within fails. fails
+
+homeless-formed : IsWellFormedInstance store (codes "homeless") homeless
+homeless-formed = record { bytes = league_file; known = refl; within = omega arith; says_league = says-homeless; small = small-homeless }
 
 homeless-verdict : verdict_of (rows_of homeless) (var_count homeless) good_steps ≡ Accepted
 homeless-verdict = refl
@@ -79,9 +87,9 @@ none : NoneAccepted homeless
 none = accepted_logs_exclude homeless good_steps homeless-instance homeless-verdict
 
 -- whatever the budget, no schedule is the answer to `solve homeless`
-pub solve-no_schedule : (budgets : Budgets) (answer : Answer) → solved contents never nowhere (codes "homeless") budgets answer → answer.status ≡ Yes → ⊥
+pub solve-no_schedule : (budgets : Budgets) (answer : Answer) → solved store (codes "homeless") budgets answer → answer.status ≡ Yes → ⊥
 solve-no_schedule budgets answer given ended =
-    let told : IsFound homeless budgets (rows_of homeless) answer = solved-well_formed contents never nowhere (codes "homeless") budgets homeless answer homeless-formed given in
+    let told : IsFound homeless budgets (rows_of homeless) answer = solved-well_formed store (codes "homeless") budgets homeless answer homeless-formed (nothing_fails (codes "homeless" ∷ [])) given in
     elim told.found [
       | inl schedule ↦ none schedule.games schedule.accepted
       | inr (inl refuted) ↦ let same : Refuted ≡ Yes = sym refuted.status ∙ ended in cc
@@ -92,9 +100,9 @@ abbrev unlimited : Budgets
 unlimited = record { conflicts = None; moves = 0; tries = 1; patterns = 0; seed = 0 }
 
 -- and without a budget it is refuted
-pub solve-refuted : (answer : Answer) → solved contents never nowhere (codes "homeless") unlimited answer → answer.status ≡ Refuted
+pub solve-refuted : (answer : Answer) → solved store (codes "homeless") unlimited answer → answer.status ≡ Refuted
 solve-refuted answer given =
-    let told : IsFound homeless unlimited (rows_of homeless) answer = solved-well_formed contents never nowhere (codes "homeless") unlimited homeless answer homeless-formed given in
+    let told : IsFound homeless unlimited (rows_of homeless) answer = solved-well_formed store (codes "homeless") unlimited homeless answer homeless-formed (nothing_fails (codes "homeless" ∷ [])) given in
     elim told.found [
       | inl schedule ↦ absurd (none schedule.games schedule.accepted)
       | inr (inl refuted) ↦ refuted.status
@@ -113,15 +121,15 @@ size-plain = refl
 small-plain : encoding_size plain ≤ most_terms
 small-plain = omega (arith, size-plain)
 
-plain-formed : IsWellFormedInstance contents nowhere (codes "plain") plain
-plain-formed = record { bytes = plain_file; known = refl; within = omega arith; says_league = says-plain; small = small-plain; works = λ h. h }
+plain-formed : IsWellFormedInstance store (codes "plain") plain
+plain-formed = record { bytes = plain_file; known = refl; within = omega arith; says_league = says-plain; small = small-plain }
 
 circle-accepted : IsAccepted plain (counts_of (double_games 2))
 circle-accepted = record { round_robin = IsRoundRobin-double_games 2 two; hard = λ k d h. absurd (omega arith) }
 
 -- whatever the budget, a schedule is the answer to `solve plain`, since its league accepts that of the circle method
-pub solve-circle : (budgets : Budgets) (answer : Answer) → solved contents never nowhere (codes "plain") budgets answer → answer.status ≡ Yes
-solve-circle budgets answer given = (solved-well_formed contents never nowhere (codes "plain") budgets plain answer plain-formed given).circle circle-accepted
+pub solve-circle : (budgets : Budgets) (answer : Answer) → solved store (codes "plain") budgets answer → answer.status ≡ Yes
+solve-circle budgets answer given = (solved-well_formed store (codes "plain") budgets plain answer plain-formed (nothing_fails (codes "plain" ∷ [])) given).circle circle-accepted
 
 -- ---- texts
 

@@ -1,8 +1,8 @@
 -- What `solve` answers: its stages in their order, and what is found of a league.
 use Rattle.std.specs.Prelude.{◌≡◌, ℕ, ◌<◌, ◌≤◌, ◌^◌, ◌++◌, ◌⊎◌, true, if◌then◌else◌, List, length, reverse}
-use Rattle.std.specs.Prelude.{codes, decimal, Option, Some, Ok}
-use Rattle.std.specs.Io.KnownBytes.{Appends}
+use Rattle.std.specs.Prelude.{codes, decimal, Some, Ok}
 use Rattle.std.specs.List.{All, flat_map}
+use Rattle.robin_io.specs.Outside.{Store}
 use Rattle.league.specs.Accepted.{IsAccepted, objective}
 use Rattle.league.specs.Counts.{counts_of}
 use Rattle.league.specs.Instance.{Instance, IsGame}
@@ -16,10 +16,9 @@ use Rattle.robinx_form.specs.Texts.{solution_text}
 use Rattle.robinx_read.specs.declared.instance.TheConstants.{INSTANCE_LIMIT}
 use Rattle.answers.specs.Reply.{Answer}
 use Rattle.answers.specs.Stages.{◌>>=◌, Outcome, reads, says}
-use Rattle.answers.specs.declared.status.Status.{Status}
 use Rattle.answers.specs.declared.status.Status.TheVariants.{Yes, Refuted, Spent}
 use Rattle.rows.specs.Rows.{Row}
-use Rattle.encoding_base.specs.Encoding.{encoding_size, rows_of}
+use Rattle.encoding_base.specs.Encoding.{encoding_size}
 use Rattle.encoding_base.specs.Variables.{var_count}
 use Rattle.refutation.specs.Steps.{Step}
 use Rattle.refutation.specs.Logs.{log_of}
@@ -126,35 +125,24 @@ pub record IsFound (league : Instance) (budgets : Budgets) (rows : List Row) (an
 
 -- ---- stages
 
--- `solve`, over the contents of the store's files where they are known, how many bytes it gave more than, and the files
--- at which it failed
-abbrev pub solved : (List ℕ → Option (List ℕ)) → (ℕ → Type 0) → (List ℕ → Type 0) → List ℕ → Budgets → Outcome
-solved contents took_more failed instance budgets = do
-  bytes ← reads (codes "instance") (contents instance) INSTANCE_LIMIT (took_more INSTANCE_LIMIT) (failed instance)
+-- `solve`, over what a store shows
+abbrev pub solved : Store → List ℕ → Budgets → Outcome
+solved store instance budgets = do
+  bytes ← reads store (codes "instance") instance INSTANCE_LIMIT 0
   league ← says (codes "instance") (instance_of (pieces bytes))
   rows ← encodes league
   IsFound league budgets rows
 
 -- ---- a run
 
--- a file within its limit whose bytes are known and at which the store didn't fail, which says a league whose rows
--- aren't too many
+-- a file within its limit whose bytes are known, which says a league whose rows aren't too many
 pub record IsWellFormedInstance
-    (contents : List ℕ → Option (List ℕ))
-    (failed : List ℕ → Type 0)
+    (store : Store)
     (instance : List ℕ)
     (league : Instance)
     : Type 0 where
   pub bytes : List ℕ
-  pub known : contents instance ≡ Some bytes
+  pub known : store.contents instance ≡ Some bytes
   pub within : length bytes ≤ INSTANCE_LIMIT
   pub says_league : instance_of (pieces bytes) ≡ Ok league
   pub small : encoding_size league ≤ most_terms
-  pub works : failed instance → ⊥
-
--- what is found is written whole
-pub record IsSolved (league : Instance) (budgets : Budgets) (ended : Status) (old new : Option (List ℕ)) : Type 0 where
-  pub answer : Answer
-  pub found : IsFound league budgets (rows_of league) answer
-  pub status : ended ≡ answer.status
-  pub written : Appends old new answer.text

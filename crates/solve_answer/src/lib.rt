@@ -8,6 +8,5 @@ mod replies;
 mod schedules;
 mod stages;
 
-pub use replies::rows_refused;
 pub use schedules::{first_objective, schedule_text};
 pub use stages::solve_file;

@@ -14,7 +14,6 @@ ghost use Rattle.refutation.specs.Logs.{log_of};
 ghost use Rattle.refutation.specs.Steps.{NamesRows};
 ghost use Rattle.refutation.specs.Texts as logs;
 ghost use Rattle.refutation.specs.Writable.{HasShortLines};
-ghost use Rattle.check_answer.specs.Check.{too_large};
 ghost use Rattle.solve.specs.Solutions.{HasSchedule, IsRefuted, IsSolution};
 ghost use Rattle.venue_counts.specs.VenueCounts.{are_crowded, are_short};
 ghost use Rattle.solve_answer.specs.Solve.{IsFound, descent_text};
@@ -27,20 +26,6 @@ use league::{League, Schedule};
 use refutation::{Log, log_text};
 use solve::Solved;
 use std::alloc::{AllocError, Global};
-
-/// The rows of the league have so many terms, which are too many.
-///
-/// # Errors
-/// Only where memory runs out.
-pub fn rows_refused(alloc: Global, terms: u64) -> Result<Reply, AllocError>
-    ensures { IfOk result (λ reply. answer_of reply ≡ too_large terms) }
-{
-    let text = format!(in alloc; "refused rows TooLarge terms {terms}\n")?;
-    Ok(Reply {
-        status: Status::File,
-        text: text.into_bytes(),
-    })
-}
 
 /// A schedule that is accepted, with its objective, and the descent that led to it.
 fn schedule_reply(

@@ -1,12 +1,12 @@
 //! The stages of `solve`.
-ghost use Rattle.std.specs.Prelude.{◌≡◌, ℕ, List, IfOk};
-ghost use Rattle.robin_io.specs.Counts.{Rose, TookMore};
-ghost use Rattle.answers.specs.SeenReply.{answer_of, Answers};
+ghost use Rattle.std.specs.Prelude.{◌≡◌, ℕ, List};
+ghost use Rattle.robin_io.specs.Outside.{store_between};
+ghost use Rattle.answers.specs.SeenReply.{Answers};
 ghost use Rattle.check_answer.specs.Check.{encodes};
 ghost use Rattle.solve_answer.specs.Solve.{IsFound, solved};
 
-use crate::replies::{found_reply, rows_refused};
-use answers::{NoValue, Reply, file, league_in};
+use crate::replies::found_reply;
+use answers::{NoValue, Reply, file, league_in, rows_refused};
 use budgets::Budgets;
 use league::League;
 use robin_io::Shelf;
@@ -25,44 +25,22 @@ fn found_of(alloc: Global, league: &League, budgets: Budgets) -> Result<Reply, N
     }
 }
 
-/// The stages of `solve`.
-fn solve_stages<S: Shelf>(
+/// Finds a schedule that the league of a file accepts, with its objective and the descent that led to it, or a log that
+/// refutes the league, within budgets. The log is the answer too where the budget of conflicts is spent.
+///
+/// # Errors
+/// Where a file is refused, with the reply that says why, and where memory runs out.
+pub fn solve_file<S: Shelf>(
     alloc: Global,
     shelf: &mut S,
     instance: &str,
     budgets: Budgets,
 ) -> Result<Reply, NoValue>
-    ensures answer { Answers (solved (S.contents shelf.old)
-        (λ limit. TookMore limit (S.taken shelf.old) (S.taken shelf.new))
-        (λ name. Rose (S.faults shelf.old name) (S.faults shelf.new name))
+    ensures answer { Answers (solved (store_between S.Shelf shelf.old shelf.new)
         instance.now budgets) result }
     ensures contents { (n : List ℕ) → S.contents shelf.new n ≡ S.contents shelf.old n }
 {
     let bytes = file(alloc, shelf, "instance", instance, INSTANCE_LIMIT)?;
     let league = league_in(alloc, &bytes)?;
     found_of(alloc, &league, budgets)
-}
-
-/// Finds a schedule that the league of a file accepts, with its objective and the descent that led to it, or a log that
-/// refutes the league, within budgets. The log is the answer too where the budget of conflicts is spent.
-///
-/// # Errors
-/// Only where memory runs out: a refused file has a reply of its own.
-pub fn solve_file<S: Shelf>(
-    alloc: Global,
-    shelf: &mut S,
-    instance: &str,
-    budgets: Budgets,
-) -> Result<Reply, AllocError>
-    ensures answer { IfOk result (λ reply. solved (S.contents shelf.old)
-        (λ limit. TookMore limit (S.taken shelf.old) (S.taken shelf.new))
-        (λ name. Rose (S.faults shelf.old name) (S.faults shelf.new name))
-        instance.now budgets (answer_of reply)) }
-    ensures contents { (n : List ℕ) → S.contents shelf.new n ≡ S.contents shelf.old n }
-{
-    match solve_stages(alloc, shelf, instance, budgets) {
-        Ok(reply) => Ok(reply),
-        Err(NoValue::Refused(reply)) => Ok(reply),
-        Err(NoValue::Memory) => Err(AllocError),
-    }
 }

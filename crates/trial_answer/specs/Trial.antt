@@ -1,13 +1,11 @@
 -- What `trial` writes of the league that it makes: seven lines, and behind them what `solve` writes of a schedule.
-use Rattle.std.specs.Prelude.{◌≡◌, ℕ, ◌++◌, Bool, if◌then◌else◌, List, length, codes, decimal, Option}
-use Rattle.std.specs.Io.KnownBytes.{Appends}
+use Rattle.std.specs.Prelude.{◌≡◌, ℕ, ◌++◌, Bool, if◌then◌else◌, List, length, codes, decimal}
 use Rattle.league.specs.Accepted.{objective}
 use Rattle.league.specs.Counts.{counts_of}
 use Rattle.league.specs.Instance.{Instance}
 use Rattle.league.specs.declared.game.Game.{Game}
 use Rattle.answers.specs.Reply.{Answer}
 use Rattle.answers.specs.Stages.{Outcome}
-use Rattle.answers.specs.declared.status.Status.{Status}
 use Rattle.answers.specs.declared.status.Status.TheVariants.{Yes}
 use Rattle.budgets.specs.declared.budgets.Budgets.{Budgets}
 use Rattle.descent.specs.Descended.{Descended}
@@ -54,12 +52,3 @@ pub record IsTrial (n seed : ℕ) (league : Instance) (moves : ℕ) (answer : An
 abbrev pub tried : ℕ → ℕ → Budgets → Outcome
 tried n seed budgets =
     encodes (made_league n (seeded seed)) (λ rows. IsTrial n seed (made_league n (seeded seed)) budgets.moves)
-
--- ---- a run
-
--- what is found is written whole
-pub record IsTried (n seed : ℕ) (budgets : Budgets) (ended : Status) (old new : Option (List ℕ)) : Type 0 where
-  pub answer : Answer
-  pub trial : IsTrial n seed (made_league n (seeded seed)) budgets.moves answer
-  pub status : ended ≡ Yes
-  pub written : Appends old new answer.text

@@ -15,13 +15,13 @@ ghost use Rattle.solve_answer.specs.Solve.{descent_text};
 ghost use Rattle.trial_answer.specs.Trial.{IsTrial, found_lines, league_lines, tried};
 
 use crate::summary::{found_lines, league_lines};
-use answers::{Reply, Status};
+use answers::{Reply, Status, rows_refused};
 use budgets::Budgets;
 use descent::Descent;
 use instance_gen::make;
 use league::{League, Schedule};
 use solve::{SolveFault, Solved, solve};
-use solve_answer::{first_objective, rows_refused, schedule_text};
+use solve_answer::{first_objective, schedule_text};
 use std::alloc::{AllocError, Global};
 
 /// Makes the league of n teams, n even and from 2 to 40, and a seed, and finds a schedule of it within budgets: seven

@@ -1,6 +1,7 @@
 -- A worked judgement, so that a wrong definition of what `validate` may answer does not check.
 use Rattle.std.proofs.Common.{◌≡◌, ℕ, ◌+◌, ◌∙◌, Bool, true, false, if◌then◌else◌, List, [], Option, Some, None, Result, Ok, Err, codes, ap, arith, inl, inr, refl, subst}
 use Rattle.std.specs.Prelude.{bytes_eq}
+use Rattle.robin_io.specs.Outside.{Store}
 use Rattle.robinx_tags.specs.Pieces.{pieces, pieces_from}
 use Rattle.robinx_tags.specs.Tags.{attributes_at}
 use Rattle.robinx_tags.specs.declared.fault.FormKind.TheVariants.{BadNesting}
@@ -13,12 +14,12 @@ use Rattle.robinx_form.specs.SolutionFile.{solution_of}
 use Rattle.robinx_form.specs.Walk.{Fault, walk}
 use Rattle.robinx_read.specs.declared.instance.TheConstants.{SOLUTION_LIMIT}
 use Rattle.answers.specs.Reply.{Answer, malformed}
-use Rattle.answers.specs.Stages.{Outcome, reads, says}
+use Rattle.answers.specs.Stages.{Outcome, says, takes}
 use Rattle.answers.specs.declared.status.Status.{Status}
 use Rattle.answers.specs.declared.status.Status.TheVariants.{Yes, No}
 use Rattle.report.specs.Report.{report_text}
 use Rattle.report.proofs.ReportFacts.{demanding, report_text-thrice, thrice, thrice_report}
-use Rattle.validate_answer.specs.Validate.{IsJudged, IsJudgement, IsWellFormedPair, validated}
+use Rattle.validate_answer.specs.Validate.{IsJudgement, IsWellFormedPair, validated}
 
 -- a store of two files
 abbrev pub league_file : List ℕ
@@ -35,6 +36,9 @@ never n = ⊥
 
 abbrev pub nowhere : List ℕ → Type 0
 nowhere name = ⊥
+
+abbrev pub store : Store
+store = record { contents = contents; took_more = never; failed = nowhere }
 
 says_league : instance_of (pieces league_file) ≡ Ok demanding
 unfolding attributes_at pieces_from walk
@@ -75,7 +79,7 @@ after_second second answer is h =
     judgement-one answer (subst (λ (said : Result (List Game) Fault). says (codes "solution") said (IsJudgement demanding) answer) says_games told)
 
 abbrev second_step : Instance → Outcome
-second_step league answer = reads (codes "solution") (Some season_file) SOLUTION_LIMIT ⊥ ⊥ (λ second. says (codes "solution") (solution_of league.n (pieces second)) (IsJudgement league)) answer
+second_step league answer = takes (codes "solution") (Some season_file) SOLUTION_LIMIT ⊥ ⊥ (λ second. says (codes "solution") (solution_of league.n (pieces second)) (IsJudgement league)) answer
 
 at_second : (answer : Answer) → second_step demanding answer → answer ≡ the_answer
 at_second answer (inl read) = after_second read.0 answer read.1.same read.2
@@ -89,7 +93,7 @@ after_first first answer is h =
     at_second answer (subst (λ (said : Result Instance Fault). says (codes "instance") said second_step answer) says_league told)
 
 -- where nothing fails, the judgement is the one answer to `validate league season`
-pub validated-one : (answer : Answer) → validated contents never nowhere (codes "league") (codes "season") answer → answer ≡ the_answer
+pub validated-one : (answer : Answer) → validated store (codes "league") (codes "season") answer → answer ≡ the_answer
 validated-one answer (inl read) = after_first read.0 answer read.1.same read.2
 validated-one answer (inr (inl long)) = absurd long.0
 validated-one answer (inr (inr failed)) = absurd failed.0
@@ -100,20 +104,20 @@ unfolding attributes_at pieces_from walk
 says_fault = refl
 
 abbrev any_step : Instance → Outcome
-any_step league answer = reads (codes "solution") (Some league_file) SOLUTION_LIMIT ⊥ ⊥ (λ second. says (codes "solution") (solution_of league.n (pieces second)) (IsJudgement league)) answer
+any_step league answer = takes (codes "solution") (Some league_file) SOLUTION_LIMIT ⊥ ⊥ (λ second. says (codes "solution") (solution_of league.n (pieces second)) (IsJudgement league)) answer
 
 fault_first : (first : List ℕ) (answer : Answer) → first ≡ season_file → says (codes "instance") (instance_of (pieces first)) any_step answer → answer ≡ malformed (codes "instance") BadNesting 1
 fault_first first answer is h =
     let told : says (codes "instance") (instance_of (pieces season_file)) any_step answer = subst (λ (bytes : List ℕ). says (codes "instance") (instance_of (pieces bytes)) any_step answer) is h in
     subst (λ (said : Result Instance Fault). says (codes "instance") said any_step answer) says_fault told
 
-pub validated-fault : (answer : Answer) → validated contents never nowhere (codes "season") (codes "league") answer → answer ≡ malformed (codes "instance") BadNesting 1
+pub validated-fault : (answer : Answer) → validated store (codes "season") (codes "league") answer → answer ≡ malformed (codes "instance") BadNesting 1
 validated-fault answer (inl read) = fault_first read.0 answer read.1.same read.2
 validated-fault answer (inr (inl long)) = absurd long.0
 validated-fault answer (inr (inr failed)) = absurd failed.0
 
 -- the two files are a well-formed pair, and their judgement has one status and one text
-pub pair-two : IsWellFormedPair contents nowhere (codes "league") (codes "season") demanding thrice
+pub pair-two : IsWellFormedPair store (codes "league") (codes "season") demanding thrice
 pair-two = record {
   first = league_file;
   second = season_file;
@@ -123,11 +127,10 @@ pair-two = record {
   second_within = omega arith;
   says_league = says_league;
   says_games = says_games;
-  first_works = λ h. h;
-  second_works = λ h. h;
 }
 
-pub judged-one : (ended : Status) (new : List ℕ) → IsJudged demanding thrice ended (Some []) (Some new) → (ended ≡ No) × (new ≡ thrice_report)
-judged-one ended new h =
-    let is : h.answer ≡ the_answer = judgement-one h.answer h.judgement in
-    (h.status ∙ ap (λ (a : Answer). a.status) is, h.written ∙ ap (λ (a : Answer). a.text) is)
+pub judged-one : (answer : Answer) → IsJudgement demanding thrice answer
+    → (answer.status ≡ No) × (answer.text ≡ thrice_report)
+judged-one answer judged =
+    let is : answer ≡ the_answer = judgement-one answer judged in
+    (ap (λ (a : Answer). a.status) is, ap (λ (a : Answer). a.text) is)

@@ -2,8 +2,8 @@
 ghost use Rattle.std.specs.Prelude.{◌≡◌, ◌+◌, ◌*◌, ◌^◌, ◌<◌, ◌≤◌, [], ◌∷◌, ◌++◌, length, IsTrue, OnOk};
 ghost use Rattle.std.specs.List.{All, filter, flat_map};
 ghost use Rattle.league.specs.Counts.{slot_count};
-ghost use Rattle.league.specs.declared.class.Class.TheVariants as class;
 ghost use Rattle.league.specs.Instance.{class_fits};
+ghost use Rattle.league.specs.Names.{name_of};
 ghost use Rattle.encoding_base.specs.Ascending.{AreSlots};
 ghost use Rattle.encoding_base.specs.Demands.{br1_rows};
 ghost use Rattle.encoding_base.specs.Encoding.{class_rows, demands};
@@ -11,30 +11,32 @@ ghost use Rattle.encoding_base.specs.Lists.{away_breaks_at, breaks_in, home_brea
 
 use crate::draft::Draft;
 use encoding_base::{ab_at, hb_at, slot_numbers, team_numbers};
-use league::{Side, SlotSet, TeamSet};
+use league::{Class, ClassName, Side};
 use rows::Lit;
 use std::alloc::AllocError;
 
 impl Draft {
     /// Adds the rows of a BR1.
-    pub(super) fn add_br1_rows(
-        &mut self,
-        n: u16,
-        teams: &TeamSet,
-        intp: u32,
-        side: Side,
-        slots: &SlotSet,
-    ) -> Result<(), AllocError>
+    pub(super) fn add_br1_rows(&mut self, n: u16, class: &Class) -> Result<(), AllocError>
         requires n { n ≤ 40 }
-        requires fits { IsTrue (class_fits n (class.Br1 teams.now intp side slots.now)) }
+        requires class { name_of class.now ≡ ClassName.Br1 }
+        requires fits { IsTrue (class_fits n class.now) }
         requires room { length self.old.rows + 121680 < 2 ^ 32 }
-        ensures rows { OnOk result (self.new.rows
-            ≡ self.old.rows ++ class_rows n (class.Br1 teams.now intp side slots.now)) }
+        ensures rows { OnOk result (self.new.rows ≡ self.old.rows ++ class_rows n class.now) }
         ensures few { OnOk result (length self.new.rows ≤ length self.old.rows + 121680) }
     {
+        let Class::Br1 {
+            teams,
+            intp,
+            side,
+            slots,
+        } = class
+        else {
+            unreachable!()
+        };
         let teams = team_numbers(n, teams);
         let slots = slot_numbers(n, slots);
-        self.bound_breaks(n, teams, intp, side, slots)?;
+        self.bound_breaks(n, teams, *intp, *side, slots)?;
         Ok(())
     }
 
@@ -88,26 +90,23 @@ impl Draft {
     }
 
     /// Adds the rows of a BR2.
-    pub(super) fn add_br2_rows(
-        &mut self,
-        n: u16,
-        teams: &TeamSet,
-        intp: u32,
-        slots: &SlotSet,
-    ) -> Result<(), AllocError>
+    pub(super) fn add_br2_rows(&mut self, n: u16, class: &Class) -> Result<(), AllocError>
         requires n { n ≤ 40 }
-        requires fits { IsTrue (class_fits n (class.Br2 teams.now intp slots.now)) }
+        requires class { name_of class.now ≡ ClassName.Br2 }
+        requires fits { IsTrue (class_fits n class.now) }
         requires room { length self.old.rows + 121680 < 2 ^ 32 }
-        ensures rows { OnOk result (self.new.rows
-            ≡ self.old.rows ++ class_rows n (class.Br2 teams.now intp slots.now)) }
+        ensures rows { OnOk result (self.new.rows ≡ self.old.rows ++ class_rows n class.now) }
         ensures few { OnOk result (length self.new.rows ≤ length self.old.rows + 121680) }
     {
+        let Class::Br2 { teams, intp, slots } = class else {
+            unreachable!()
+        };
         let teams = team_numbers(n, teams);
         let slots = slot_numbers(n, slots);
         self.literals.clear();
         add_home_breaks(&mut self.literals, n, teams, slots)?;
         add_away_breaks(&mut self.literals, n, teams, slots)?;
-        self.demand_at_most(u64::from(intp))?;
+        self.demand_at_most(u64::from(*intp))?;
         Ok(())
     }
 }

@@ -3,44 +3,45 @@ ghost use Rattle.std.specs.Prelude.{◌≡◌, ◌+◌, ◌*◌, ◌-◌, ◌^�
 ghost use Rattle.std.specs.List.{All, filter, flat_map, range_with_len};
 ghost use Rattle.league.specs.Capacity as capacity;
 ghost use Rattle.league.specs.Counts as counts;
-ghost use Rattle.league.specs.declared.class.Class.TheVariants as class;
 ghost use Rattle.league.specs.Instance.{are_teams, class_fits};
 ghost use Rattle.league.specs.Meetings.{meetings_of};
+ghost use Rattle.league.specs.Names.{name_of};
 ghost use Rattle.rows.specs.Cardinality.{between};
 ghost use Rattle.encoding_base.specs.Ascending.{AreMeetings, AreSlots, AreTeams};
 ghost use Rattle.encoding_base.specs.Demands.{ca1_rows, ca2_rows, ca3_rows, ca4_rows};
 ghost use Rattle.encoding_base.specs.Encoding.{class_rows, demands};
 ghost use Rattle.encoding_base.specs.Lists.{games_in, meetings_in_order, venues_in};
 
-use super::Bounds;
 use crate::draft::Draft;
 use crate::literals::{add_away, add_home};
 use crate::season::Season;
 use encoding_base::{is_between, meeting_numbers, meetings_in_order, slot_numbers, team_numbers};
-use league::{PairSet, Side, SlotSet, Span, TeamSet, slot_count};
+use league::{Bounds, Class, ClassName, Side, Span, TeamSet, slot_count};
 use rows::Lit;
 use std::alloc::{AllocError, Global};
 
 impl Draft {
     /// Adds the rows of a CA1.
-    pub(super) fn add_ca1_rows(
-        &mut self,
-        n: u16,
-        teams: &TeamSet,
-        bounds: Bounds,
-        side: Side,
-        slots: &SlotSet,
-    ) -> Result<(), AllocError>
+    pub(super) fn add_ca1_rows(&mut self, n: u16, class: &Class) -> Result<(), AllocError>
         requires n { n ≤ 40 }
-        requires fits { IsTrue (class_fits n (class.Ca1 teams.now bounds.min bounds.max side slots.now)) }
+        requires class { name_of class.now ≡ ClassName.Ca1 }
+        requires fits { IsTrue (class_fits n class.now) }
         requires room { length self.old.rows + 121680 < 2 ^ 32 }
-        ensures rows { OnOk result (self.new.rows
-            ≡ self.old.rows ++ class_rows n (class.Ca1 teams.now bounds.min bounds.max side slots.now)) }
+        ensures rows { OnOk result (self.new.rows ≡ self.old.rows ++ class_rows n class.now) }
         ensures few { OnOk result (length self.new.rows ≤ length self.old.rows + 121680) }
     {
+        let Class::Ca1 {
+            teams,
+            side,
+            slots,
+            ..
+        } = class
+        else {
+            unreachable!()
+        };
         let teams = team_numbers(n, teams);
         let slots = slot_numbers(n, slots);
-        self.bound_venues(n, teams, bounds, side, slots)?;
+        self.bound_venues(n, teams, class.bounds(), *side, slots)?;
         Ok(())
     }
 
@@ -98,50 +99,30 @@ impl Draft {
         &mut self,
         alloc: Global,
         n: u16,
-        teams1: &TeamSet,
-        teams2: &TeamSet,
-        bounds: Bounds,
-        side: Side,
-        slots: &SlotSet,
+        class: &Class,
     ) -> Result<(), AllocError>
         requires n { n ≤ 40 }
-        requires fits { IsTrue (class_fits n (class.Ca2 teams1.now teams2.now bounds.min bounds.max side slots.now)) }
+        requires class { name_of class.now ≡ ClassName.Ca2 }
+        requires fits { IsTrue (class_fits n class.now) }
         requires room { length self.old.rows + 121680 < 2 ^ 32 }
-        ensures rows { OnOk result (self.new.rows ≡ self.old.rows
-            ++ class_rows n (class.Ca2 teams1.now teams2.now bounds.min bounds.max side slots.now)) }
+        ensures rows { OnOk result (self.new.rows ≡ self.old.rows ++ class_rows n class.now) }
         ensures few { OnOk result (length self.new.rows ≤ length self.old.rows + 121680) }
     {
-        let teams1 = team_numbers(n, teams1);
+        let Class::Ca2 {
+            teams1,
+            teams2,
+            side,
+            slots,
+            ..
+        } = class
+        else {
+            unreachable!()
+        };
         let teams2 = team_numbers(n, teams2);
         let slots = slot_numbers(n, slots);
-        self.bound_opponents(alloc, n, teams1, teams2, bounds, side, slots)?;
-        Ok(())
-    }
-
-    /// Adds, team by team, what bounds its games on a side against others in some slots.
-    fn bound_opponents(
-        &mut self,
-        alloc: Global,
-        n: u16,
-        teams1: &[u16],
-        teams2: &[u16],
-        bounds: Bounds,
-        side: Side,
-        slots: &[u16],
-    ) -> Result<(), AllocError>
-        requires n { n ≤ 40 }
-        requires teams1 { All (λ i. i < n) teams1.now }
-        requires few { length teams1.now ≤ 40 }
-        requires teams2 { AreTeams n teams2.now }
-        requires slots { AreSlots n slots.now }
-        requires room { length self.old.rows + 80 < 2 ^ 32 }
-        ensures rows { OnOk result (self.new.rows ≡ self.old.rows
-            ++ flat_map (λ i. filter demands (ca2_rows n teams2.now bounds.min bounds.max side slots.now i))
-            teams1.now) }
-        ensures few { OnOk result (length self.new.rows ≤ length self.old.rows + 2 * length teams1.now) }
-    {
-        for team in teams1 {
-            let meetings = meetings_with(alloc, n, side, *team, teams2)?;
+        let bounds = class.bounds();
+        for team in team_numbers(n, teams1) {
+            let meetings = meetings_with(alloc, n, *side, *team, teams2)?;
             self.demand_games(n, &meetings, slots, bounds)?;
         }
         Ok(())
@@ -152,60 +133,36 @@ impl Draft {
         &mut self,
         alloc: Global,
         season: &Season,
-        teams1: &TeamSet,
-        teams2: &TeamSet,
-        bounds: Bounds,
-        intp: u32,
-        side: Side,
+        class: &Class,
     ) -> Result<(), AllocError>
         requires n { season.now ≤ 40 }
-        requires fits { IsTrue (class_fits season.now
-            (class.Ca3 teams1.now teams2.now bounds.min bounds.max intp side)) }
+        requires class { name_of class.now ≡ ClassName.Ca3 }
+        requires fits { IsTrue (class_fits season.now class.now) }
         requires room { length self.old.rows + 121680 < 2 ^ 32 }
-        ensures rows { OnOk result (self.new.rows ≡ self.old.rows
-            ++ class_rows season.now (class.Ca3 teams1.now teams2.now bounds.min bounds.max intp side)) }
+        ensures rows { OnOk result (self.new.rows ≡ self.old.rows ++ class_rows season.now class.now) }
         ensures few { OnOk result (length self.new.rows ≤ length self.old.rows + 121680) }
     {
+        let Class::Ca3 {
+            teams1,
+            teams2,
+            intp,
+            side,
+            ..
+        } = class
+        else {
+            unreachable!()
+        };
         let n = season.n();
         let slots = slot_count(n);
-        if intp > u32::from(slots) {
+        if *intp > u32::from(slots) {
             return Ok(());
         }
-        let window = intp as u16;
+        let window = *intp as u16;
         let firsts = season.run(0, slots + 1 - window);
-        let teams1 = team_numbers(n, teams1);
         let teams2 = team_numbers(n, teams2);
-        self.bound_windows(alloc, season, firsts, window, teams1, teams2, bounds, side)?;
-        Ok(())
-    }
-
-    /// Adds, team by team, what bounds its games on a side against others in each window of so many slots.
-    fn bound_windows(
-        &mut self,
-        alloc: Global,
-        season: &Season,
-        firsts: &[u16],
-        window: u16,
-        teams1: &[u16],
-        teams2: &[u16],
-        bounds: Bounds,
-        side: Side,
-    ) -> Result<(), AllocError>
-        requires n { season.now ≤ 40 }
-        requires firsts { All (λ first. first + window ≤ counts.slot_count season.now) firsts.now }
-        requires windows { length firsts.now ≤ 78 }
-        requires teams1 { All (λ i. i < season.now) teams1.now }
-        requires few { length teams1.now ≤ 40 }
-        requires teams2 { AreTeams season.now teams2.now }
-        requires room { length self.old.rows + 6240 < 2 ^ 32 }
-        ensures rows { OnOk result (self.new.rows ≡ self.old.rows ++ flat_map (λ i. flat_map (λ first.
-            filter demands
-            (ca2_rows season.now teams2.now bounds.min bounds.max side (range_with_len first window) i))
-            firsts.now) teams1.now) }
-        ensures few { OnOk result (length self.new.rows ≤ length self.old.rows + 156 * length teams1.now) }
-    {
-        for team in teams1 {
-            let meetings = meetings_with(alloc, season.n(), side, *team, teams2)?;
+        let bounds = class.bounds();
+        for team in team_numbers(n, teams1) {
+            let meetings = meetings_with(alloc, n, *side, *team, teams2)?;
             self.bound_windows_of(season, firsts, window, &meetings, bounds)?;
         }
         Ok(())
@@ -242,24 +199,30 @@ impl Draft {
         &mut self,
         alloc: Global,
         season: &Season,
-        teams1: &TeamSet,
-        teams2: &TeamSet,
-        bounds: Bounds,
-        side: Side,
-        span: Span,
-        slots: &SlotSet,
+        class: &Class,
     ) -> Result<(), AllocError>
         requires n { season.now ≤ 40 }
-        requires fits { IsTrue (class_fits season.now
-            (class.Ca4 teams1.now teams2.now bounds.min bounds.max side span slots.now)) }
+        requires class { name_of class.now ≡ ClassName.Ca4 }
+        requires fits { IsTrue (class_fits season.now class.now) }
         requires room { length self.old.rows + 121680 < 2 ^ 32 }
-        ensures rows { OnOk result (self.new.rows ≡ self.old.rows
-            ++ class_rows season.now (class.Ca4 teams1.now teams2.now bounds.min bounds.max side span slots.now)) }
+        ensures rows { OnOk result (self.new.rows ≡ self.old.rows ++ class_rows season.now class.now) }
         ensures few { OnOk result (length self.new.rows ≤ length self.old.rows + 121680) }
     {
+        let Class::Ca4 {
+            teams1,
+            teams2,
+            side,
+            span,
+            slots,
+            ..
+        } = class
+        else {
+            unreachable!()
+        };
         let n = season.n();
-        let meetings = meetings_between(alloc, season, teams1, teams2, side)?;
+        let meetings = meetings_between(alloc, season, teams1, teams2, *side)?;
         let slots = slot_numbers(n, slots);
+        let bounds = class.bounds();
         match span {
             Span::Global => self.demand_games(n, &meetings, slots, bounds),
             Span::Every => self.bound_each_slot(n, &meetings, bounds, slots),
@@ -290,23 +253,25 @@ impl Draft {
     }
 
     /// Adds the rows of a GA1.
-    pub(super) fn add_ga1_rows(
-        &mut self,
-        n: u16,
-        meetings: &PairSet,
-        bounds: Bounds,
-        slots: &SlotSet,
-    ) -> Result<(), AllocError>
+    pub(super) fn add_ga1_rows(&mut self, n: u16, class: &Class) -> Result<(), AllocError>
         requires n { n ≤ 40 }
-        requires fits { IsTrue (class_fits n (class.Ga1 meetings.now bounds.min bounds.max slots.now)) }
+        requires class { name_of class.now ≡ ClassName.Ga1 }
+        requires fits { IsTrue (class_fits n class.now) }
         requires room { length self.old.rows + 121680 < 2 ^ 32 }
-        ensures rows { OnOk result (self.new.rows
-            ≡ self.old.rows ++ class_rows n (class.Ga1 meetings.now bounds.min bounds.max slots.now)) }
+        ensures rows { OnOk result (self.new.rows ≡ self.old.rows ++ class_rows n class.now) }
         ensures few { OnOk result (length self.new.rows ≤ length self.old.rows + 121680) }
     {
+        let Class::Ga1 {
+            meetings,
+            slots,
+            ..
+        } = class
+        else {
+            unreachable!()
+        };
         let meetings = meeting_numbers(n, meetings);
         let slots = slot_numbers(n, slots);
-        self.demand_games(n, meetings, slots, bounds)?;
+        self.demand_games(n, meetings, slots, class.bounds())?;
         Ok(())
     }
 }

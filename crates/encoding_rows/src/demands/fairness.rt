@@ -2,8 +2,8 @@
 ghost use Rattle.std.specs.Prelude.{◌≡◌, ◌+◌, ◌*◌, ◌-◌, ◌^◌, ◌<◌, ◌≤◌, [], ◌∷◌, ◌++◌, length, IsTrue, OnOk};
 ghost use Rattle.std.specs.List.{All, filter, flat_map};
 ghost use Rattle.league.specs.Counts.{slot_count};
-ghost use Rattle.league.specs.declared.class.Class.TheVariants as class;
 ghost use Rattle.league.specs.Instance.{class_fits};
+ghost use Rattle.league.specs.Names.{name_of};
 ghost use Rattle.rows.specs.Cardinality.{at_least};
 ghost use Rattle.encoding_base.specs.Ascending.{AreSlots};
 ghost use Rattle.encoding_base.specs.Demands.{fa2_rows_at};
@@ -15,30 +15,31 @@ use crate::draft::Draft;
 use crate::literals::{add_away, add_home};
 use crate::season::Season;
 use encoding_base::{slot_numbers, team_pairs};
-use league::{SlotSet, TeamSet};
+use league::{Class, ClassName};
 use std::alloc::{AllocError, Global};
 
 impl Draft {
-    /// Adds the rows of an FA2.
+    /// Adds the rows of a FA2.
     pub(super) fn add_fa2_rows(
         &mut self,
         alloc: Global,
         season: &Season,
-        teams: &TeamSet,
-        intp: u32,
-        slots: &SlotSet,
+        class: &Class,
     ) -> Result<(), AllocError>
         requires n { season.now ≤ 40 }
-        requires fits { IsTrue (class_fits season.now (class.Fa2 teams.now intp slots.now)) }
+        requires class { name_of class.now ≡ ClassName.Fa2 }
+        requires fits { IsTrue (class_fits season.now class.now) }
         requires room { length self.old.rows + 121680 < 2 ^ 32 }
-        ensures rows { OnOk result (self.new.rows
-            ≡ self.old.rows ++ class_rows season.now (class.Fa2 teams.now intp slots.now)) }
+        ensures rows { OnOk result (self.new.rows ≡ self.old.rows ++ class_rows season.now class.now) }
         ensures few { OnOk result (length self.new.rows ≤ length self.old.rows + 121680) }
     {
+        let Class::Fa2 { teams, intp, slots } = class else {
+            unreachable!()
+        };
         let n = season.n();
         let pairs = team_pairs(alloc, n, teams)?;
         let slots = slot_numbers(n, slots);
-        self.bound_leads(season, &pairs, intp, slots)?;
+        self.bound_leads(season, &pairs, *intp, slots)?;
         Ok(())
     }
 

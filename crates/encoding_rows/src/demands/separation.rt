@@ -2,8 +2,8 @@
 ghost use Rattle.std.specs.Prelude.{◌≡◌, ◌+◌, ◌*◌, ◌-◌, ◌^◌, ◌<◌, ◌≤◌, [], ◌∷◌, ◌++◌, length, IsTrue, OnOk};
 ghost use Rattle.std.specs.List.{All, filter, flat_map, range_with_len};
 ghost use Rattle.league.specs.Counts as counts;
-ghost use Rattle.league.specs.declared.class.Class.TheVariants as class;
 ghost use Rattle.league.specs.Instance.{IsTeamCount, class_fits};
+ghost use Rattle.league.specs.Names.{name_of};
 ghost use Rattle.rows.specs.Cardinality.{at_most};
 ghost use Rattle.encoding_base.specs.Encoding.{class_rows, demands};
 ghost use Rattle.encoding_base.specs.Lists.{games_in};
@@ -12,29 +12,31 @@ ghost use Rattle.encoding_base.specs.Pairs.{IsPair, both_meetings};
 use crate::draft::Draft;
 use crate::season::Season;
 use encoding_base::team_pairs;
-use league::{TeamSet, slot_count};
+use league::{Class, ClassName, slot_count};
 use std::alloc::{AllocError, Global};
 
 impl Draft {
-    /// Adds the rows of an SE1.
+    /// Adds the rows of a SE1.
     pub(super) fn add_se1_rows(
         &mut self,
         alloc: Global,
         season: &Season,
-        teams: &TeamSet,
-        min: u32,
+        class: &Class,
     ) -> Result<(), AllocError>
         requires n { IsTeamCount season.now }
-        requires fits { IsTrue (class_fits season.now (class.Se1 teams.now min)) }
+        requires class { name_of class.now ≡ ClassName.Se1 }
+        requires fits { IsTrue (class_fits season.now class.now) }
         requires room { length self.old.rows + 121680 < 2 ^ 32 }
-        ensures rows { OnOk result (self.new.rows
-            ≡ self.old.rows ++ class_rows season.now (class.Se1 teams.now min)) }
+        ensures rows { OnOk result (self.new.rows ≡ self.old.rows ++ class_rows season.now class.now) }
         ensures few { OnOk result (length self.new.rows ≤ length self.old.rows + 121680) }
     {
+        let Class::Se1 { teams, min } = class else {
+            unreachable!()
+        };
         let n = season.n();
         let pairs = team_pairs(alloc, n, teams)?;
         let slots = slot_count(n);
-        let window = (u64::from(min) + 1).min(u64::from(slots)) as u16;
+        let window = (u64::from(*min) + 1).min(u64::from(slots)) as u16;
         let firsts = season.run(0, slots + 1 - window);
         self.part_pairs(season, &pairs, firsts, window)?;
         Ok(())

@@ -14,7 +14,7 @@ returns c =
       c.encoding_size.ensures,
       c.more_terms.ensures,
       c.saturating_add-base.ensures,
-      c.in_ok-paid.ensures,
+      c.paid_terms-paid.ensures,
       c.saturating_add.ensures,
       bound_size-paid league,
       same,

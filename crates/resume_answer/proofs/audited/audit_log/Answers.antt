@@ -1,4 +1,4 @@
-use Rattle.robin_io.specs.Counts.{Rose, TookMore}
+use Rattle.robin_io.specs.Outside.{Store, store_between}
 use Rattle.encoding_base.specs.Variables.{var_count}
 use Rattle.answers.proofs.StageLemmas.{Answers-wider}
 use Rattle.check_answer.specs.Check.{most_log_bytes}
@@ -9,10 +9,10 @@ use Rattle.resume_answer.proofs.audited.audit_log.Goals as goal
 -- where the verdict over the resume rows says yes, no accepted schedule keeps the played games
 pub returns-clause-answer : goal.returns-clause-answer
 returns-clause-answer g c =
+    let store : Store = store_between g.S.Shelf c.args.shelf.now c.judge_log.new.shelf in
     Answers-wider _ _
-    (λ answer. read-verdict (g.S.Shelf.contents c.args.shelf.now c.args.name.now)
-    (TookMore most_log_bytes (g.S.Shelf.taken c.args.shelf.now) (g.S.Shelf.taken c.judge_log.new.shelf))
-    (Rose (g.S.Shelf.faults c.args.shelf.now c.args.name.now) (g.S.Shelf.faults c.judge_log.new.shelf c.args.name.now))
+    (λ answer. read-verdict (store.contents c.args.name.now) (store.took_more most_log_bytes)
+    (store.failed c.args.name.now)
     c.args.system.now.league c.args.system.now.played c.args.system.now.k answer c.vars-vars.ensures.instance
     c.requires.slots)
     c.judge_log.result

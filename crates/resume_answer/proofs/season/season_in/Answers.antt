@@ -1,5 +1,5 @@
 use Rattle.std.proofs.Common.{◌≡◌, ℕ, ◌+◌, List, Option, Ok, length, arith, codes, rules, subst, sym}
-use Rattle.robin_io.specs.Counts.{Rose, TookMore}
+use Rattle.robin_io.specs.Outside.{Store, store_between}
 use Rattle.robinx_tags.specs.Pieces.{pieces}
 use Rattle.robinx_form.specs.InstanceFile.{instance_of}
 use Rattle.robinx_form.specs.SolutionFile.{solution_of}
@@ -43,40 +43,32 @@ returns-clause-count g c =
 -- more slots than the season has, or too many rows
 pub returns-in_err-slots-clause-season : goal.returns-in_err-slots-clause-season
 returns-in_err-slots-clause-season g c =
-    let contents : List ℕ → Option (List ℕ) = g.S.Shelf.contents c.args.shelf.now in
-    let took_more : ℕ → Type 0 =
-    λ limit. TookMore limit (g.S.Shelf.taken c.args.shelf.now) (g.S.Shelf.taken c.file.new.shelf) in
-    let failed : List ℕ → Type 0 =
-    λ name. Rose (g.S.Shelf.faults c.args.shelf.now name) (g.S.Shelf.faults c.file.new.shelf name) in
+    let store : Store = store_between g.S.Shelf c.args.shelf.now c.file.new.shelf in
     let never : Season → Outcome = λ season answer. ⊥ in
-    let is_first : IsFile (contents c.args.instance.now) INSTANCE_LIMIT c.deref.result.now =
-    subst (λ (bytes : List ℕ). IsFile (contents c.args.instance.now) INSTANCE_LIMIT bytes) (sym c.deref.ensures.value)
+    let is_first : IsFile (store.contents c.args.instance.now) INSTANCE_LIMIT c.deref.result.now =
+    subst (λ (bytes : List ℕ). IsFile (store.contents c.args.instance.now) INSTANCE_LIMIT bytes) (sym c.deref.ensures.value)
     c.in_ok-first.ensures.stage in
-    stage-wider (IsSaid contents c.args.instance.now c.args.solution.now c.args.k)
+    stage-wider (IsSaid store.contents c.args.instance.now c.args.solution.now c.args.k)
     (has_slots c.in_ok-league.league c.args.k
     (λ slots. has_size c.in_ok-league.league c.args.k (λ size answer. ⊥)))
     _
-    (plays-too_long contents took_more failed c.args.instance.now c.args.solution.now c.args.k never
+    (plays-too_long store c.args.instance.now c.args.solution.now c.args.k never
     c.deref.result.now c.in_ok-league.league is_first c.in_ok-league.ensures)
     c.from_residual-in_err-slots.result (search rules)
 
 -- the solution file isn't read, or memory ran out
 pub returns-in_err-second-clause-season : goal.returns-in_err-second-clause-season
 returns-in_err-second-clause-season g c =
-    let contents : List ℕ → Option (List ℕ) = g.S.Shelf.contents c.args.shelf.now in
-    let took_more : ℕ → Type 0 =
-    λ limit. TookMore limit (g.S.Shelf.taken c.args.shelf.now) (g.S.Shelf.taken c.file-2.new.shelf) in
-    let failed : List ℕ → Type 0 =
-    λ name. Rose (g.S.Shelf.faults c.args.shelf.now name) (g.S.Shelf.faults c.file-2.new.shelf name) in
+    let store : Store = store_between g.S.Shelf c.args.shelf.now c.file-2.new.shelf in
     let never : Season → Outcome = λ season answer. ⊥ in
-    let is_first : IsFile (contents c.args.instance.now) INSTANCE_LIMIT c.deref.result.now =
-    subst (λ (bytes : List ℕ). IsFile (contents c.args.instance.now) INSTANCE_LIMIT bytes) (sym c.deref.ensures.value)
+    let is_first : IsFile (store.contents c.args.instance.now) INSTANCE_LIMIT c.deref.result.now =
+    subst (λ (bytes : List ℕ). IsFile (store.contents c.args.instance.now) INSTANCE_LIMIT bytes) (sym c.deref.ensures.value)
     c.in_ok-first.ensures.stage in
-    stage-wider (IsSaid contents c.args.instance.now c.args.solution.now c.args.k)
-    (λ answer. IsUnread (codes "solution") (contents c.args.solution.now) SOLUTION_LIMIT
-    (took_more (length c.deref.result.now + SOLUTION_LIMIT)) (failed c.args.solution.now) answer)
+    stage-wider (IsSaid store.contents c.args.instance.now c.args.solution.now c.args.k)
+    (λ answer. IsUnread (codes "solution") (store.contents c.args.solution.now) SOLUTION_LIMIT
+    (store.took_more (length c.deref.result.now + SOLUTION_LIMIT)) (store.failed c.args.solution.now) answer)
     _
-    (plays-second_unread contents took_more failed c.args.instance.now c.args.solution.now c.args.k never
+    (plays-second_unread store c.args.instance.now c.args.solution.now c.args.k never
     c.deref.result.now c.in_ok-league.league is_first c.in_ok-league.ensures c.in_ok-slots.ensures.1
     c.in_ok-slots.ensures.2)
     c.from_residual-in_err-second.result (search rules)
@@ -84,23 +76,19 @@ returns-in_err-second-clause-season g c =
 -- it says no games
 pub returns-in_err-played-clause-season : goal.returns-in_err-played-clause-season
 returns-in_err-played-clause-season g c =
-    let contents : List ℕ → Option (List ℕ) = g.S.Shelf.contents c.args.shelf.now in
-    let took_more : ℕ → Type 0 =
-    λ limit. TookMore limit (g.S.Shelf.taken c.args.shelf.now) (g.S.Shelf.taken c.file-2.new.shelf) in
-    let failed : List ℕ → Type 0 =
-    λ name. Rose (g.S.Shelf.faults c.args.shelf.now name) (g.S.Shelf.faults c.file-2.new.shelf name) in
+    let store : Store = store_between g.S.Shelf c.args.shelf.now c.file-2.new.shelf in
     let never : Season → Outcome = λ season answer. ⊥ in
-    let is_first : IsFile (contents c.args.instance.now) INSTANCE_LIMIT c.deref.result.now =
-    subst (λ (bytes : List ℕ). IsFile (contents c.args.instance.now) INSTANCE_LIMIT bytes) (sym c.deref.ensures.value)
+    let is_first : IsFile (store.contents c.args.instance.now) INSTANCE_LIMIT c.deref.result.now =
+    subst (λ (bytes : List ℕ). IsFile (store.contents c.args.instance.now) INSTANCE_LIMIT bytes) (sym c.deref.ensures.value)
     c.in_ok-first.ensures.stage in
-    let is_second : IsFile (contents c.args.solution.now) SOLUTION_LIMIT c.deref-2.result.now =
-    subst (λ (bytes : List ℕ). IsFile (contents c.args.solution.now) SOLUTION_LIMIT bytes)
+    let is_second : IsFile (store.contents c.args.solution.now) SOLUTION_LIMIT c.deref-2.result.now =
+    subst (λ (bytes : List ℕ). IsFile (store.contents c.args.solution.now) SOLUTION_LIMIT bytes)
     (sym c.deref-2.ensures.value)
     (subst (λ (known : Option (List ℕ)). IsFile known SOLUTION_LIMIT c.in_ok-second.second.items)
     (c.in_ok-first.ensures.contents c.args.solution.now) c.in_ok-second.ensures.stage) in
-    stage-wider (IsSaid contents c.args.instance.now c.args.solution.now c.args.k)
+    stage-wider (IsSaid store.contents c.args.instance.now c.args.solution.now c.args.k)
     (IsMalformed (codes "solution") (solution_of c.in_ok-league.league.n (pieces c.deref-2.result.now))) _
-    (plays-second_malformed contents took_more failed c.args.instance.now c.args.solution.now c.args.k never
+    (plays-second_malformed store c.args.instance.now c.args.solution.now c.args.k never
     c.deref.result.now c.deref-2.result.now c.in_ok-league.league is_first c.in_ok-league.ensures
     c.in_ok-slots.ensures.1 c.in_ok-slots.ensures.2 is_second)
     c.from_residual-in_err-played.result (search rules)

@@ -1,289 +1,102 @@
-use Rattle.std.proofs.Common.{ℕ, List, Option, map, string_bytes}
-use Rattle.robin_io.specs.Counts.{Rose, TookMore}
-use Rattle.command_line.specs.Words.{reading}
-use Rattle.answers.specs.SeenReply.{answer_of}
-use Rattle.robin_run.proofs.BoundLemmas.{run-bettered, run-bounded, run-certified, run-proved, run-unbettered}
-use Rattle.robin_run.proofs.CheckLemmas.{run-checked, run-refuted}
-use Rattle.robin_run.proofs.EndLemmas.{run-ends, written-memory}
-use Rattle.robin_run.proofs.ExplainLemmas.{run-contradictory, run-explained, run-parted}
-use Rattle.robin_run.proofs.MadeLemmas.{run-found, run-made, run-seasoned, run-tried}
-use Rattle.robin_run.proofs.PatternLemmas.{run-patterned, run-patternless}
-use Rattle.robin_run.proofs.SolveLemmas.{run-solved, run-unsolvable}
-use Rattle.robin_run.proofs.ResumeLemmas.{run-audited, run-excluded, run-kept, run-resumed, run-unresumable}
-use Rattle.robin_run.proofs.ValidateLemmas.{run-judged}
+use Rattle.robin_run.specs.Run.{run_of}
+use Rattle.robin_run.proofs.BoundLemmas.{bounds, proves}
+use Rattle.robin_run.proofs.CheckLemmas.{checks}
+use Rattle.robin_run.proofs.EndLemmas.{ends-by-words}
+use Rattle.robin_run.proofs.ExplainLemmas.{explains, parts}
+use Rattle.robin_run.proofs.MadeLemmas.{helps, makes, tells-version, tries, writes-circle}
+use Rattle.robin_run.proofs.PatternLemmas.{finds-patterns}
+use Rattle.robin_run.proofs.ResumeLemmas.{audits, resumes}
+use Rattle.robin_run.proofs.RunLemmas.{answered-by, kept-by}
+use Rattle.robin_run.proofs.SolveLemmas.{solves}
+use Rattle.robin_run.proofs.ValidateLemmas.{validates}
 use Rattle.robin_run.proofs.call.run.Goals as goal
 
-pub returns-in-Ok-clause-refuted : goal.returns-in-Ok-clause-refuted
-returns-in-Ok-clause-refuted g c = λ instance log bytes league is known says_league ended.
-    let contents : List ℕ → Option (List ℕ) = g.S.Shelf.contents c.args.shelf.now in
-    let took_more : ℕ → Type 0 = λ limit. TookMore limit (g.S.Shelf.taken c.args.shelf.now) (g.S.Shelf.taken
-    c.answer.new.shelf) in
-    let failed : List ℕ → Type 0 = λ name. Rose (g.S.Shelf.faults c.args.shelf.now name) (g.S.Shelf.faults
-    c.answer.new.shelf name) in
-    run-refuted (reading (map string_bytes c.args.words.now)) contents took_more failed instance log bytes league
-    (answer_of c.in-Ok.reply) c.write_answer.result _ _ _ c.in-Ok.ensures.answer c.write_answer.ensures is known
-    says_league ended
+pub returns-clause-ends : goal.returns-clause-ends
+returns-clause-ends g c =
+    ends-by-words _ (answered-by (run_of g.S.Shelf g.K.Sink c.args.words.now c.args.shelf.now c.answer.new.shelf c.args.out.now
+    c.write_given.new.out c.write_given.result) c.answer.result c.answer.ensures.answer c.write_given.ensures)
 
--- an answer is written, so memory didn't run out
-pub returns-in-Ok-clause-memory : goal.returns-in-Ok-clause-memory
-returns-in-Ok-clause-memory g c = λ ended.
-    let contents : List ℕ → Option (List ℕ) = g.S.Shelf.contents c.args.shelf.now in
-    let took_more : ℕ → Type 0 = λ limit. TookMore limit (g.S.Shelf.taken c.args.shelf.now) (g.S.Shelf.taken
-    c.answer.new.shelf) in
-    let failed : List ℕ → Type 0 = λ name. Rose (g.S.Shelf.faults c.args.shelf.now name) (g.S.Shelf.faults
-    c.answer.new.shelf name) in
-    absurd (written-memory (reading (map string_bytes c.args.words.now)) contents took_more failed (answer_of
-    c.in-Ok.reply) c.write_answer.result _ _ _ c.in-Ok.ensures.answer c.write_answer.ensures ended)
+pub returns-clause-validate : goal.returns-clause-validate
+returns-clause-validate g c =
+    validates _ (answered-by (run_of g.S.Shelf g.K.Sink c.args.words.now c.args.shelf.now c.answer.new.shelf c.args.out.now
+    c.write_given.new.out c.write_given.result) c.answer.result c.answer.ensures.answer c.write_given.ensures)
 
-pub returns-in-Ok-clause-checked : goal.returns-in-Ok-clause-checked
-returns-in-Ok-clause-checked g c = λ instance log league steps is good works later.
-    let contents : List ℕ → Option (List ℕ) = g.S.Shelf.contents c.args.shelf.now in
-    let took_more : ℕ → Type 0 = λ limit. TookMore limit (g.S.Shelf.taken c.args.shelf.now) (g.S.Shelf.taken
-    c.answer.new.shelf) in
-    let failed : List ℕ → Type 0 = λ name. Rose (g.S.Shelf.faults c.args.shelf.now name) (g.S.Shelf.faults
-    c.answer.new.shelf name) in
-    run-checked (reading (map string_bytes c.args.words.now)) contents took_more failed instance log league steps
-    (answer_of c.in-Ok.reply) c.write_answer.result _ _ _ c.in-Ok.ensures.answer c.write_answer.ensures is good works
+pub returns-clause-check : goal.returns-clause-check
+returns-clause-check g c =
+    checks _ (answered-by (run_of g.S.Shelf g.K.Sink c.args.words.now c.args.shelf.now c.answer.new.shelf c.args.out.now
+    c.write_given.new.out c.write_given.result) c.answer.result c.answer.ensures.answer c.write_given.ensures)
 
-pub returns-in-Ok-clause-solved : goal.returns-in-Ok-clause-solved
-returns-in-Ok-clause-solved g c = λ instance budgets league is good works later.
-    let contents : List ℕ → Option (List ℕ) = g.S.Shelf.contents c.args.shelf.now in
-    let took_more : ℕ → Type 0 = λ limit. TookMore limit (g.S.Shelf.taken c.args.shelf.now) (g.S.Shelf.taken
-    c.answer.new.shelf) in
-    let failed : List ℕ → Type 0 = λ name. Rose (g.S.Shelf.faults c.args.shelf.now name) (g.S.Shelf.faults
-    c.answer.new.shelf name) in
-    run-solved (reading (map string_bytes c.args.words.now)) contents took_more failed instance budgets league
-    (answer_of c.in-Ok.reply) c.write_answer.result _ _ _ c.in-Ok.ensures.answer c.write_answer.ensures is good works
+pub returns-clause-solve : goal.returns-clause-solve
+returns-clause-solve g c =
+    solves _ (answered-by (run_of g.S.Shelf g.K.Sink c.args.words.now c.args.shelf.now c.answer.new.shelf c.args.out.now
+    c.write_given.new.out c.write_given.result) c.answer.result c.answer.ensures.answer c.write_given.ensures)
 
-pub returns-in-Ok-clause-unsolvable : goal.returns-in-Ok-clause-unsolvable
-returns-in-Ok-clause-unsolvable g c = λ instance bytes budgets league is known says_league ended.
-    let contents : List ℕ → Option (List ℕ) = g.S.Shelf.contents c.args.shelf.now in
-    let took_more : ℕ → Type 0 = λ limit. TookMore limit (g.S.Shelf.taken c.args.shelf.now) (g.S.Shelf.taken
-    c.answer.new.shelf) in
-    let failed : List ℕ → Type 0 = λ name. Rose (g.S.Shelf.faults c.args.shelf.now name) (g.S.Shelf.faults
-    c.answer.new.shelf name) in
-    run-unsolvable (reading (map string_bytes c.args.words.now)) contents took_more failed instance bytes budgets
-    league (answer_of c.in-Ok.reply) c.write_answer.result _ _ _ c.in-Ok.ensures.answer c.write_answer.ensures is
-    known says_league ended
+pub returns-clause-patterns : goal.returns-clause-patterns
+returns-clause-patterns g c =
+    finds-patterns _ (answered-by (run_of g.S.Shelf g.K.Sink c.args.words.now c.args.shelf.now c.answer.new.shelf c.args.out.now
+    c.write_given.new.out c.write_given.result) c.answer.result c.answer.ensures.answer c.write_given.ensures)
 
-pub returns-in-Ok-clause-patterned : goal.returns-in-Ok-clause-patterned
-returns-in-Ok-clause-patterned g c = λ instance conflicts league is good works later.
-    let contents : List ℕ → Option (List ℕ) = g.S.Shelf.contents c.args.shelf.now in
-    let took_more : ℕ → Type 0 =
-    λ limit. TookMore limit (g.S.Shelf.taken c.args.shelf.now) (g.S.Shelf.taken c.answer.new.shelf) in
-    let failed : List ℕ → Type 0 =
-    λ name. Rose (g.S.Shelf.faults c.args.shelf.now name) (g.S.Shelf.faults c.answer.new.shelf name) in
-    run-patterned (reading (map string_bytes c.args.words.now)) contents took_more failed instance conflicts league
-    (answer_of c.in-Ok.reply) c.write_answer.result _ _ _ c.in-Ok.ensures.answer c.write_answer.ensures is good works
+pub returns-clause-explain : goal.returns-clause-explain
+returns-clause-explain g c =
+    explains _ (answered-by (run_of g.S.Shelf g.K.Sink c.args.words.now c.args.shelf.now c.answer.new.shelf c.args.out.now
+    c.write_given.new.out c.write_given.result) c.answer.result c.answer.ensures.answer c.write_given.ensures)
 
-pub returns-in-Ok-clause-patternless : goal.returns-in-Ok-clause-patternless
-returns-in-Ok-clause-patternless g c = λ instance bytes conflicts league is known says_league ended.
-    let contents : List ℕ → Option (List ℕ) = g.S.Shelf.contents c.args.shelf.now in
-    let took_more : ℕ → Type 0 =
-    λ limit. TookMore limit (g.S.Shelf.taken c.args.shelf.now) (g.S.Shelf.taken c.answer.new.shelf) in
-    let failed : List ℕ → Type 0 =
-    λ name. Rose (g.S.Shelf.faults c.args.shelf.now name) (g.S.Shelf.faults c.answer.new.shelf name) in
-    run-patternless (reading (map string_bytes c.args.words.now)) contents took_more failed instance bytes conflicts
-    league (answer_of c.in-Ok.reply) c.write_answer.result _ _ _ c.in-Ok.ensures.answer c.write_answer.ensures is known
-    says_league ended
+pub returns-clause-part : goal.returns-clause-part
+returns-clause-part g c =
+    parts _ (answered-by (run_of g.S.Shelf g.K.Sink c.args.words.now c.args.shelf.now c.answer.new.shelf c.args.out.now
+    c.write_given.new.out c.write_given.result) c.answer.result c.answer.ensures.answer c.write_given.ensures)
 
-pub returns-in-Ok-clause-explained : goal.returns-in-Ok-clause-explained
-returns-in-Ok-clause-explained g c = λ instance conflicts league is good works later.
-    let contents : List ℕ → Option (List ℕ) = g.S.Shelf.contents c.args.shelf.now in
-    let took_more : ℕ → Type 0 =
-    λ limit. TookMore limit (g.S.Shelf.taken c.args.shelf.now) (g.S.Shelf.taken c.answer.new.shelf) in
-    let failed : List ℕ → Type 0 =
-    λ name. Rose (g.S.Shelf.faults c.args.shelf.now name) (g.S.Shelf.faults c.answer.new.shelf name) in
-    run-explained (reading (map string_bytes c.args.words.now)) contents took_more failed instance conflicts league
-    (answer_of c.in-Ok.reply) c.write_answer.result _ _ _ c.in-Ok.ensures.answer c.write_answer.ensures is good works
+pub returns-clause-prove : goal.returns-clause-prove
+returns-clause-prove g c =
+    proves _ (answered-by (run_of g.S.Shelf g.K.Sink c.args.words.now c.args.shelf.now c.answer.new.shelf c.args.out.now
+    c.write_given.new.out c.write_given.result) c.answer.result c.answer.ensures.answer c.write_given.ensures)
 
-pub returns-in-Ok-clause-contradictory : goal.returns-in-Ok-clause-contradictory
-returns-in-Ok-clause-contradictory g c = λ instance bytes conflicts league is known says_league ended.
-    let contents : List ℕ → Option (List ℕ) = g.S.Shelf.contents c.args.shelf.now in
-    let took_more : ℕ → Type 0 =
-    λ limit. TookMore limit (g.S.Shelf.taken c.args.shelf.now) (g.S.Shelf.taken c.answer.new.shelf) in
-    let failed : List ℕ → Type 0 =
-    λ name. Rose (g.S.Shelf.faults c.args.shelf.now name) (g.S.Shelf.faults c.answer.new.shelf name) in
-    run-contradictory (reading (map string_bytes c.args.words.now)) contents took_more failed instance bytes conflicts
-    league (answer_of c.in-Ok.reply) c.write_answer.result _ _ _ c.in-Ok.ensures.answer c.write_answer.ensures is known
-    says_league ended
+pub returns-clause-bound : goal.returns-clause-bound
+returns-clause-bound g c =
+    bounds _ (answered-by (run_of g.S.Shelf g.K.Sink c.args.words.now c.args.shelf.now c.answer.new.shelf c.args.out.now
+    c.write_given.new.out c.write_given.result) c.answer.result c.answer.ensures.answer c.write_given.ensures)
 
-pub returns-in-Ok-clause-parted : goal.returns-in-Ok-clause-parted
-returns-in-Ok-clause-parted g c = λ instance members bytes league is known within says_league works sink_works later.
-    let contents : List ℕ → Option (List ℕ) = g.S.Shelf.contents c.args.shelf.now in
-    let took_more : ℕ → Type 0 =
-    λ limit. TookMore limit (g.S.Shelf.taken c.args.shelf.now) (g.S.Shelf.taken c.answer.new.shelf) in
-    let failed : List ℕ → Type 0 =
-    λ name. Rose (g.S.Shelf.faults c.args.shelf.now name) (g.S.Shelf.faults c.answer.new.shelf name) in
-    run-parted (reading (map string_bytes c.args.words.now)) contents took_more failed instance members bytes league
-    (answer_of c.in-Ok.reply) c.write_answer.result _ _ _ c.in-Ok.ensures.answer c.write_answer.ensures is known within
-    says_league works sink_works
+pub returns-clause-resume : goal.returns-clause-resume
+returns-clause-resume g c =
+    resumes _ (answered-by (run_of g.S.Shelf g.K.Sink c.args.words.now c.args.shelf.now c.answer.new.shelf c.args.out.now
+    c.write_given.new.out c.write_given.result) c.answer.result c.answer.ensures.answer c.write_given.ensures)
 
-pub returns-in-Ok-clause-judged : goal.returns-in-Ok-clause-judged
-returns-in-Ok-clause-judged g c = λ instance solution league games is good works later.
-    let contents : List ℕ → Option (List ℕ) = g.S.Shelf.contents c.args.shelf.now in
-    let took_more : ℕ → Type 0 =
-    λ limit. TookMore limit (g.S.Shelf.taken c.args.shelf.now) (g.S.Shelf.taken c.answer.new.shelf) in
-    let failed : List ℕ → Type 0 =
-    λ name. Rose (g.S.Shelf.faults c.args.shelf.now name) (g.S.Shelf.faults c.answer.new.shelf name) in
-    run-judged (reading (map string_bytes c.args.words.now)) contents took_more failed instance solution league games
-    (answer_of c.in-Ok.reply) c.write_answer.result _ _ _ c.in-Ok.ensures.answer c.write_answer.ensures is good works
+pub returns-clause-audit : goal.returns-clause-audit
+returns-clause-audit g c =
+    audits _ (answered-by (run_of g.S.Shelf g.K.Sink c.args.words.now c.args.shelf.now c.answer.new.shelf c.args.out.now
+    c.write_given.new.out c.write_given.result) c.answer.result c.answer.ensures.answer c.write_given.ensures)
 
-pub returns-in-Ok-clause-seasoned : goal.returns-in-Ok-clause-seasoned
-returns-in-Ok-clause-seasoned g c = λ n is works later.
-    let contents : List ℕ → Option (List ℕ) = g.S.Shelf.contents c.args.shelf.now in
-    let took_more : ℕ → Type 0 =
-    λ limit. TookMore limit (g.S.Shelf.taken c.args.shelf.now) (g.S.Shelf.taken c.answer.new.shelf) in
-    let failed : List ℕ → Type 0 =
-    λ name. Rose (g.S.Shelf.faults c.args.shelf.now name) (g.S.Shelf.faults c.answer.new.shelf name) in
-    run-seasoned (reading (map string_bytes c.args.words.now)) contents took_more failed n (answer_of c.in-Ok.reply)
-    c.write_answer.result _ _ _ c.in-Ok.ensures.answer c.write_answer.ensures is works
+pub returns-clause-circle : goal.returns-clause-circle
+returns-clause-circle g c =
+    writes-circle _ (answered-by (run_of g.S.Shelf g.K.Sink c.args.words.now c.args.shelf.now c.answer.new.shelf c.args.out.now
+    c.write_given.new.out c.write_given.result) c.answer.result c.answer.ensures.answer c.write_given.ensures)
 
-pub returns-in-Ok-clause-made : goal.returns-in-Ok-clause-made
-returns-in-Ok-clause-made g c = λ n seed is works later.
-    let contents : List ℕ → Option (List ℕ) = g.S.Shelf.contents c.args.shelf.now in
-    let took_more : ℕ → Type 0 =
-    λ limit. TookMore limit (g.S.Shelf.taken c.args.shelf.now) (g.S.Shelf.taken c.answer.new.shelf) in
-    let failed : List ℕ → Type 0 =
-    λ name. Rose (g.S.Shelf.faults c.args.shelf.now name) (g.S.Shelf.faults c.answer.new.shelf name) in
-    run-made (reading (map string_bytes c.args.words.now)) contents took_more failed n seed (answer_of c.in-Ok.reply)
-    c.write_answer.result _ _ _ c.in-Ok.ensures.answer c.write_answer.ensures is works
+pub returns-clause-make : goal.returns-clause-make
+returns-clause-make g c =
+    makes _ (answered-by (run_of g.S.Shelf g.K.Sink c.args.words.now c.args.shelf.now c.answer.new.shelf c.args.out.now
+    c.write_given.new.out c.write_given.result) c.answer.result c.answer.ensures.answer c.write_given.ensures)
 
-pub returns-in-Ok-clause-tried : goal.returns-in-Ok-clause-tried
-returns-in-Ok-clause-tried g c = λ n seed budgets is small works later.
-    let contents : List ℕ → Option (List ℕ) = g.S.Shelf.contents c.args.shelf.now in
-    let took_more : ℕ → Type 0 =
-    λ limit. TookMore limit (g.S.Shelf.taken c.args.shelf.now) (g.S.Shelf.taken c.answer.new.shelf) in
-    let failed : List ℕ → Type 0 =
-    λ name. Rose (g.S.Shelf.faults c.args.shelf.now name) (g.S.Shelf.faults c.answer.new.shelf name) in
-    run-tried (reading (map string_bytes c.args.words.now)) contents took_more failed n seed budgets
-    (answer_of c.in-Ok.reply) c.write_answer.result _ _ _ c.in-Ok.ensures.answer c.write_answer.ensures is small works
+pub returns-clause-trial : goal.returns-clause-trial
+returns-clause-trial g c =
+    tries _ (answered-by (run_of g.S.Shelf g.K.Sink c.args.words.now c.args.shelf.now c.answer.new.shelf c.args.out.now
+    c.write_given.new.out c.write_given.result) c.answer.result c.answer.ensures.answer c.write_given.ensures)
 
-pub returns-in-Ok-clause-found : goal.returns-in-Ok-clause-found
-returns-in-Ok-clause-found g c = λ n seed budgets is.
-    let contents : List ℕ → Option (List ℕ) = g.S.Shelf.contents c.args.shelf.now in
-    let took_more : ℕ → Type 0 =
-    λ limit. TookMore limit (g.S.Shelf.taken c.args.shelf.now) (g.S.Shelf.taken c.answer.new.shelf) in
-    let failed : List ℕ → Type 0 =
-    λ name. Rose (g.S.Shelf.faults c.args.shelf.now name) (g.S.Shelf.faults c.answer.new.shelf name) in
-    run-found (reading (map string_bytes c.args.words.now)) contents took_more failed n seed budgets
-    (answer_of c.in-Ok.reply) c.write_answer.result _ _ _ c.in-Ok.ensures.answer c.write_answer.ensures is
+pub returns-clause-help : goal.returns-clause-help
+returns-clause-help g c =
+    helps _ (answered-by (run_of g.S.Shelf g.K.Sink c.args.words.now c.args.shelf.now c.answer.new.shelf c.args.out.now
+    c.write_given.new.out c.write_given.result) c.answer.result c.answer.ensures.answer c.write_given.ensures)
 
-pub returns-in-Ok-clause-ends : goal.returns-in-Ok-clause-ends
-returns-in-Ok-clause-ends g c = λ enough whole.
-    let contents : List ℕ → Option (List ℕ) = g.S.Shelf.contents c.args.shelf.now in
-    let took_more : ℕ → Type 0 =
-    λ limit. TookMore limit (g.S.Shelf.taken c.args.shelf.now) (g.S.Shelf.taken c.answer.new.shelf) in
-    let failed : List ℕ → Type 0 =
-    λ name. Rose (g.S.Shelf.faults c.args.shelf.now name) (g.S.Shelf.faults c.answer.new.shelf name) in
-    run-ends (reading (map string_bytes c.args.words.now)) contents took_more failed
-    (answer_of c.in-Ok.reply) c.write_answer.result _ _ _ c.in-Ok.ensures.answer c.write_answer.ensures whole
+pub returns-clause-version : goal.returns-clause-version
+returns-clause-version g c =
+    tells-version _ (answered-by (run_of g.S.Shelf g.K.Sink c.args.words.now c.args.shelf.now c.answer.new.shelf c.args.out.now
+    c.write_given.new.out c.write_given.result) c.answer.result c.answer.ensures.answer c.write_given.ensures)
 
-pub returns-in-Ok-clause-proved : goal.returns-in-Ok-clause-proved
-returns-in-Ok-clause-proved g c = λ instance solution conflicts league games is good works later.
-    let contents : List ℕ → Option (List ℕ) = g.S.Shelf.contents c.args.shelf.now in
-    let took_more : ℕ → Type 0 =
-    λ limit. TookMore limit (g.S.Shelf.taken c.args.shelf.now) (g.S.Shelf.taken c.answer.new.shelf) in
-    let failed : List ℕ → Type 0 =
-    λ name. Rose (g.S.Shelf.faults c.args.shelf.now name) (g.S.Shelf.faults c.answer.new.shelf name) in
-    run-proved (reading (map string_bytes c.args.words.now)) contents took_more failed instance solution conflicts
-    league games
-    (answer_of c.in-Ok.reply) c.write_answer.result _ _ _ c.in-Ok.ensures.answer c.write_answer.ensures is good works
+pub returns-clause-answer : goal.returns-clause-answer
+returns-clause-answer g c =
+    answered-by (run_of g.S.Shelf g.K.Sink c.args.words.now c.args.shelf.now c.answer.new.shelf c.args.out.now
+    c.write_given.new.out c.write_given.result) c.answer.result c.answer.ensures.answer c.write_given.ensures
 
-pub returns-in-Ok-clause-unbettered : goal.returns-in-Ok-clause-unbettered
-returns-in-Ok-clause-unbettered g c = λ instance solution conflicts league games is say ended.
-    let contents : List ℕ → Option (List ℕ) = g.S.Shelf.contents c.args.shelf.now in
-    let took_more : ℕ → Type 0 =
-    λ limit. TookMore limit (g.S.Shelf.taken c.args.shelf.now) (g.S.Shelf.taken c.answer.new.shelf) in
-    let failed : List ℕ → Type 0 =
-    λ name. Rose (g.S.Shelf.faults c.args.shelf.now name) (g.S.Shelf.faults c.answer.new.shelf name) in
-    run-unbettered (reading (map string_bytes c.args.words.now)) contents took_more failed instance solution conflicts
-    league games
-    (answer_of c.in-Ok.reply) c.write_answer.result _ _ _ c.in-Ok.ensures.answer c.write_answer.ensures is say ended
-
-pub returns-in-Ok-clause-bettered : goal.returns-in-Ok-clause-bettered
-returns-in-Ok-clause-bettered g c = λ instance solution conflicts league games is say ended.
-    let contents : List ℕ → Option (List ℕ) = g.S.Shelf.contents c.args.shelf.now in
-    let took_more : ℕ → Type 0 =
-    λ limit. TookMore limit (g.S.Shelf.taken c.args.shelf.now) (g.S.Shelf.taken c.answer.new.shelf) in
-    let failed : List ℕ → Type 0 =
-    λ name. Rose (g.S.Shelf.faults c.args.shelf.now name) (g.S.Shelf.faults c.answer.new.shelf name) in
-    run-bettered (reading (map string_bytes c.args.words.now)) contents took_more failed instance solution conflicts
-    league games
-    (answer_of c.in-Ok.reply) c.write_answer.result _ _ _ c.in-Ok.ensures.answer c.write_answer.ensures is say ended
-
-pub returns-in-Ok-clause-bounded : goal.returns-in-Ok-clause-bounded
-returns-in-Ok-clause-bounded g c = λ instance log league certificate is good works later.
-    let contents : List ℕ → Option (List ℕ) = g.S.Shelf.contents c.args.shelf.now in
-    let took_more : ℕ → Type 0 =
-    λ limit. TookMore limit (g.S.Shelf.taken c.args.shelf.now) (g.S.Shelf.taken c.answer.new.shelf) in
-    let failed : List ℕ → Type 0 =
-    λ name. Rose (g.S.Shelf.faults c.args.shelf.now name) (g.S.Shelf.faults c.answer.new.shelf name) in
-    run-bounded (reading (map string_bytes c.args.words.now)) contents took_more failed instance log league certificate
-    (answer_of c.in-Ok.reply) c.write_answer.result _ _ _ c.in-Ok.ensures.answer c.write_answer.ensures is good works
-
-pub returns-in-Ok-clause-certified : goal.returns-in-Ok-clause-certified
-returns-in-Ok-clause-certified g c = λ instance log bytes league is known says_league ended.
-    let contents : List ℕ → Option (List ℕ) = g.S.Shelf.contents c.args.shelf.now in
-    let took_more : ℕ → Type 0 =
-    λ limit. TookMore limit (g.S.Shelf.taken c.args.shelf.now) (g.S.Shelf.taken c.answer.new.shelf) in
-    let failed : List ℕ → Type 0 =
-    λ name. Rose (g.S.Shelf.faults c.args.shelf.now name) (g.S.Shelf.faults c.answer.new.shelf name) in
-    run-certified (reading (map string_bytes c.args.words.now)) contents took_more failed instance log bytes league
-    (answer_of c.in-Ok.reply) c.write_answer.result _ _ _ c.in-Ok.ensures.answer c.write_answer.ensures is known
-    says_league ended
-
-pub returns-in-Ok-clause-resumed : goal.returns-in-Ok-clause-resumed
-returns-in-Ok-clause-resumed g c = λ instance solution k conflicts league played is good works later.
-    let contents : List ℕ → Option (List ℕ) = g.S.Shelf.contents c.args.shelf.now in
-    let took_more : ℕ → Type 0 =
-    λ limit. TookMore limit (g.S.Shelf.taken c.args.shelf.now) (g.S.Shelf.taken c.answer.new.shelf) in
-    let failed : List ℕ → Type 0 =
-    λ name. Rose (g.S.Shelf.faults c.args.shelf.now name) (g.S.Shelf.faults c.answer.new.shelf name) in
-    run-resumed (reading (map string_bytes c.args.words.now)) contents took_more failed instance solution k conflicts
-    league played
-    (answer_of c.in-Ok.reply) c.write_answer.result _ _ _ c.in-Ok.ensures.answer c.write_answer.ensures is good works
-
-pub returns-in-Ok-clause-kept : goal.returns-in-Ok-clause-kept
-returns-in-Ok-clause-kept g c = λ instance solution k conflicts league played is say ended.
-    let contents : List ℕ → Option (List ℕ) = g.S.Shelf.contents c.args.shelf.now in
-    let took_more : ℕ → Type 0 =
-    λ limit. TookMore limit (g.S.Shelf.taken c.args.shelf.now) (g.S.Shelf.taken c.answer.new.shelf) in
-    let failed : List ℕ → Type 0 =
-    λ name. Rose (g.S.Shelf.faults c.args.shelf.now name) (g.S.Shelf.faults c.answer.new.shelf name) in
-    run-kept (reading (map string_bytes c.args.words.now)) contents took_more failed instance solution k conflicts
-    league played
-    (answer_of c.in-Ok.reply) c.write_answer.result _ _ _ c.in-Ok.ensures.answer c.write_answer.ensures is say ended
-
-pub returns-in-Ok-clause-unresumable : goal.returns-in-Ok-clause-unresumable
-returns-in-Ok-clause-unresumable g c = λ instance solution k conflicts league played is say ended.
-    let contents : List ℕ → Option (List ℕ) = g.S.Shelf.contents c.args.shelf.now in
-    let took_more : ℕ → Type 0 =
-    λ limit. TookMore limit (g.S.Shelf.taken c.args.shelf.now) (g.S.Shelf.taken c.answer.new.shelf) in
-    let failed : List ℕ → Type 0 =
-    λ name. Rose (g.S.Shelf.faults c.args.shelf.now name) (g.S.Shelf.faults c.answer.new.shelf name) in
-    run-unresumable (reading (map string_bytes c.args.words.now)) contents took_more failed instance solution k
-    conflicts league played
-    (answer_of c.in-Ok.reply) c.write_answer.result _ _ _ c.in-Ok.ensures.answer c.write_answer.ensures is say ended
-
-pub returns-in-Ok-clause-audited : goal.returns-in-Ok-clause-audited
-returns-in-Ok-clause-audited g c = λ instance solution k log league played steps is good works later.
-    let contents : List ℕ → Option (List ℕ) = g.S.Shelf.contents c.args.shelf.now in
-    let took_more : ℕ → Type 0 =
-    λ limit. TookMore limit (g.S.Shelf.taken c.args.shelf.now) (g.S.Shelf.taken c.answer.new.shelf) in
-    let failed : List ℕ → Type 0 =
-    λ name. Rose (g.S.Shelf.faults c.args.shelf.now name) (g.S.Shelf.faults c.answer.new.shelf name) in
-    run-audited (reading (map string_bytes c.args.words.now)) contents took_more failed instance solution k log league
-    played steps
-    (answer_of c.in-Ok.reply) c.write_answer.result _ _ _ c.in-Ok.ensures.answer c.write_answer.ensures is good works
-
-pub returns-in-Ok-clause-excluded : goal.returns-in-Ok-clause-excluded
-returns-in-Ok-clause-excluded g c = λ instance solution k log league played is say ended.
-    let contents : List ℕ → Option (List ℕ) = g.S.Shelf.contents c.args.shelf.now in
-    let took_more : ℕ → Type 0 =
-    λ limit. TookMore limit (g.S.Shelf.taken c.args.shelf.now) (g.S.Shelf.taken c.answer.new.shelf) in
-    let failed : List ℕ → Type 0 =
-    λ name. Rose (g.S.Shelf.faults c.args.shelf.now name) (g.S.Shelf.faults c.answer.new.shelf name) in
-    run-excluded (reading (map string_bytes c.args.words.now)) contents took_more failed instance solution k log league
-    played
-    (answer_of c.in-Ok.reply) c.write_answer.result _ _ _ c.in-Ok.ensures.answer c.write_answer.ensures is say ended
+pub returns-clause-memory : goal.returns-clause-memory
+returns-clause-memory g c =
+    kept-by (run_of g.S.Shelf g.K.Sink c.args.words.now c.args.shelf.now c.answer.new.shelf c.args.out.now
+    c.write_given.new.out c.write_given.result) c.answer.result c.answer.ensures.answer c.write_given.ensures

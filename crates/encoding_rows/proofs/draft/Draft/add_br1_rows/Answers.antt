@@ -6,4 +6,7 @@ use Rattle.encoding_rows.proofs.draft.Draft.add_br1_rows.Goals as goal
 pub returns-clause-rows : goal.returns-clause-rows
 returns-clause-rows c =
     c.in_ok-bound_breaks.ensures.rows
-    ∙ ap (λ (rows : List Row). c.args.self.now.rows ++ rows) (br1_listed c.args.n c.args.intp c.args.side c.team_numbers-teams.result.now c.slot_numbers-slots.result.now c.args.teams.now c.args.slots.now c.team_numbers-teams.ensures.numbers c.slot_numbers-slots.ensures.numbers)
+    ∙ ap (λ (rows : List Row). c.args.self.now.rows ++ rows)
+    (br1_listed c.args.n c.args.class.now c.in-Br1.intp c.in-Br1.side c.team_numbers-teams.result.now
+    c.slot_numbers-slots.result.now _ _ c.in-Br1.is c.team_numbers-teams.ensures.numbers
+    c.slot_numbers-slots.ensures.numbers)

@@ -33,4 +33,4 @@ returns-clause-rows c =
     ∙ ap (λ (ls : List Literal). ls ++ away) (c.in_ok-add_home_breaks.ensures ∙ ap (λ (ls : List Literal). ls ++ home) c.clear.ensures.items) in
     c.in_ok-demand_at_most.ensures.rows
     ∙ ap (λ (b : ℕ). c.args.self.now.rows ++ filter demands (at_most b c.add_away_breaks.new.literals.items ∷ [])) c.from.ensures
-    ∙ ap (λ (rows : List Row). c.args.self.now.rows ++ rows) (br2_listed n c.args.intp c.add_away_breaks.new.literals.items teams slots c.args.teams.now c.args.slots.now listed c.team_numbers-teams.ensures.numbers c.slot_numbers-slots.ensures.numbers)
+    ∙ ap (λ (rows : List Row). c.args.self.now.rows ++ rows) (br2_listed n c.args.class.now c.in-Br2.intp c.add_away_breaks.new.literals.items teams slots _ _ c.in-Br2.is listed c.team_numbers-teams.ensures.numbers c.slot_numbers-slots.ensures.numbers)

@@ -24,8 +24,8 @@ returns-clause-rows c =
     let n = c.args.season.now in
     let season_is = ap slot_count c.n-n.ensures.n in
     let are = c.run-firsts.ensures.slots ∙ ap (λ (k : ℕ). range_with_len 0 (k + 1 - c.min-window.result)) (c.slot_count-slots.ensures ∙ season_is) in
-    let long : c.min-window.result ≡ smaller (c.args.min + 1) (slot_count n) = omega (arith, season_is) in
+    let long : c.min-window.result ≡ smaller (c.in-Se1.min + 1) (slot_count n) = omega (arith, season_is) in
     let order : All (IsPair n) c.deref.result.now =
     subst (λ (k : ℕ). All (IsPair k) c.deref.result.now) c.n-n.ensures.n (subst (λ (ps : List (ℕ × ℕ)). All (IsPair c.n-n.result) ps) (sym c.deref.ensures.value) c.in_ok-pairs.ensures.fit) in
     c.in_ok-part_pairs.ensures.rows
-    ∙ ap (λ (rows : List Row). c.args.self.now.rows ++ rows) (se1_listed n c.args.min c.min-window.result c.deref.result.now c.run-firsts.result.now c.args.teams.now long are (c.deref.ensures.value ∙ c.in_ok-pairs.ensures.pairs) order)
+    ∙ ap (λ (rows : List Row). c.args.self.now.rows ++ rows) (se1_listed n c.args.class.now c.in-Se1.min c.min-window.result c.deref.result.now c.run-firsts.result.now _ c.in-Se1.is long are (c.deref.ensures.value ∙ c.in_ok-pairs.ensures.pairs) order)

@@ -1,0 +1,4 @@
+-- What is printable:
+mod PrintableFacts
+-- Lemmas on printable text:
+pub mod PrintableLemmas

@@ -1,0 +1,27 @@
+-- What options commands have, and what words are to be, so that a wrong definition does not check.
+use Rattle.std.proofs.Common.{◌≡◌, true, false, Some, None, codes, refl}
+use Rattle.command_line.specs.Faults.{fits, is_question, option_role}
+use Rattle.command_line.specs.declared.topic.Topic.TheVariants as topic
+use Rattle.command_line.specs.declared.role.Role.TheVariants as role
+
+pub option_role-some : (option_role topic.Solve (codes "--seed") ≡ Some role.Draws)
+    × (option_role topic.Trial (codes "--tries") ≡ Some role.Tries)
+    × (option_role topic.Explain (codes "--conflicts") ≡ Some role.Conflicts)
+    × (option_role topic.Prove (codes "--moves") ≡ None)
+    × (option_role topic.Check (codes "--conflicts") ≡ None)
+option_role-some = (refl, refl, refl, refl, refl)
+
+pub fits-some : (fits role.Teams (codes "8") ≡ true)
+    × (fits role.Teams (codes "7") ≡ false)
+    × (fits role.Moves (codes "-1") ≡ false)
+    × (fits role.Tries (codes "101") ≡ false)
+    × (fits role.Conflicts (codes "all") ≡ true)
+    × (fits role.Members (codes "2;1") ≡ false)
+    × (fits role.Log (codes "-a") ≡ false)
+    × (fits role.Slots (codes "03") ≡ false)
+fits-some = (refl, refl, refl, refl, refl, refl, refl, refl)
+
+pub questions : (is_question (codes "--help") ≡ true)
+    × (is_question (codes "--version") ≡ true)
+    × (is_question (codes "help") ≡ false)
+questions = (refl, refl, refl)

@@ -1,0 +1,66 @@
+-- Why words are refused: what is true of each fault.
+use Rattle.std.specs.Prelude.{◌≡◌, ℕ, List, codes, bytes_eq, Bool, true, false, ◌||◌, if◌then◌else◌}
+use Rattle.std.specs.Prelude.{Option, Some, None, is_some}
+use Rattle.command_line.specs.Topics.{topic_of}
+use Rattle.command_line.specs.Words.{budget_in, is_file_name, is_option, members_in, number_in, team_count_in, tries_in}
+use Rattle.command_line.specs.declared.topic.Topic.{Topic}
+use Rattle.command_line.specs.declared.topic.Topic.TheVariants as topic
+use Rattle.command_line.specs.declared.role.Role.{Role}
+use Rattle.command_line.specs.declared.role.Role.TheVariants.{Instance, Solution, Log, Slots, Teams, Seed, Members}
+use Rattle.command_line.specs.declared.role.Role.TheVariants.{Conflicts, Moves, Tries, Patterns, Draws}
+use Rattle.command_line.specs.declared.fault.WordFault.{WordFault}
+use Rattle.command_line.specs.declared.fault.WordFault.TheVariants.{NoWord, NoCommand, NotAlone, NoOption, NoValue, Twice}
+use Rattle.command_line.specs.declared.fault.WordFault.TheVariants.{Unfit, Missing, Surplus, Other}
+
+-- whether a word is what it is to be
+abbrev pub fits : Role → List ℕ → Bool
+fits Instance word = is_file_name word
+fits Solution word = is_file_name word
+fits Log word = is_file_name word
+fits Slots word = is_some (number_in word)
+fits Teams word = is_some (team_count_in word)
+fits Seed word = is_some (number_in word)
+fits Members word = is_some (members_in word)
+fits Conflicts word = is_some (budget_in word)
+fits Moves word = is_some (number_in word)
+fits Tries word = is_some (tries_in word)
+fits Patterns word = is_some (number_in word)
+fits Draws word = is_some (number_in word)
+
+-- what the value of an option is to be, where commands have it that search, or `solve` and `trial`
+abbrev pub search_option : List ℕ → Option Role
+search_option word = if bytes_eq word (codes "--conflicts") then Some Conflicts else None
+
+abbrev pub solve_option : List ℕ → Option Role
+solve_option word =
+    if bytes_eq word (codes "--conflicts") then Some Conflicts
+    else (if bytes_eq word (codes "--moves") then Some Moves
+    else (if bytes_eq word (codes "--tries") then Some Tries
+    else (if bytes_eq word (codes "--patterns") then Some Patterns
+    else (if bytes_eq word (codes "--seed") then Some Draws else None))))
+
+abbrev pub option_role : Topic → List ℕ → Option Role
+option_role topic.Solve word = solve_option word
+option_role topic.Trial word = solve_option word
+option_role topic.Patterns word = search_option word
+option_role topic.Explain word = search_option word
+option_role topic.Prove word = search_option word
+option_role topic.Resume word = search_option word
+option_role _ word = None
+
+-- the words that ask for help or for the version
+abbrev pub is_question : List ℕ → Bool
+is_question word = bytes_eq word (codes "--help") || bytes_eq word (codes "--version")
+
+-- what a fault says of the word that it names is so
+abbrev pub IsSo : WordFault → Type 0
+IsSo NoWord = Unit {0}
+IsSo (NoCommand word) = topic_of word.now ≡ None
+IsSo (NotAlone word) = is_question word.now ≡ true
+IsSo (NoOption command word) = (is_option word.now ≡ true) × (option_role command word.now ≡ None)
+IsSo (NoValue word) = is_option word.now ≡ true
+IsSo (Twice word) = is_option word.now ≡ true
+IsSo (Unfit role word) = fits role word.now ≡ false
+IsSo (Missing command role) = Unit {0}
+IsSo (Surplus command word) = Unit {0}
+IsSo (Other command) = Unit {0}

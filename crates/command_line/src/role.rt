@@ -1,0 +1,104 @@
+//! What a word behind a command is to be.
+ghost use Rattle.std.specs.Prelude.{◌≡◌, ◌<◌, OnSome};
+ghost use Rattle.command_line.specs.Faults as faults;
+
+use crate::list::is_list;
+use crate::topic::Topic;
+use crate::words::{budget, is_name, number, team_count, tries};
+
+/// What a word behind a command, or behind an option, is to be.
+#[derive(Clone, Copy, Debug, PartialEq, Eq)]
+pub enum Role {
+    /// The name of a league's file.
+    Instance,
+    /// The name of a season's file.
+    Solution,
+    /// The name of a log's file, or of a certificate's.
+    Log,
+    /// A number of slots.
+    Slots,
+    /// A number of teams.
+    Teams,
+    /// The seed of a made league.
+    Seed,
+    /// The numbers of hard constraints.
+    Members,
+    /// The value of `--conflicts`.
+    Conflicts,
+    /// The value of `--moves`.
+    Moves,
+    /// The value of `--tries`.
+    Tries,
+    /// The value of `--patterns`.
+    Patterns,
+    /// The value of `--seed`.
+    Draws,
+}
+
+/// Whether a word is such.
+pub(crate) fn fits(role: Role, word: &str) -> bool
+    ensures { result ≡ faults.fits role word.now }
+{
+    match role {
+        Role::Instance | Role::Solution | Role::Log => is_name(word),
+        Role::Slots | Role::Seed | Role::Moves | Role::Patterns | Role::Draws => {
+            number(word).is_some()
+        }
+        Role::Teams => team_count(word).is_some(),
+        Role::Members => is_list(word),
+        Role::Conflicts => budget(word).is_some(),
+        Role::Tries => tries(word).is_some(),
+    }
+}
+
+/// What the value of an option of a command is to be, where the command has this option.
+pub(crate) fn option_role(command: Topic, word: &str) -> Option<Role>
+    ensures { result ≡ faults.option_role command word.now }
+{
+    match command {
+        Topic::Solve | Topic::Trial => solve_option(word),
+        Topic::Patterns | Topic::Explain | Topic::Prove | Topic::Resume => search_option(word),
+        _ => None,
+    }
+}
+
+/// The same of a command that searches.
+fn search_option(word: &str) -> Option<Role>
+    ensures { result ≡ faults.search_option word.now }
+{
+    match word {
+        "--conflicts" => Some(Role::Conflicts),
+        _ => None,
+    }
+}
+
+/// The same of `solve`.
+fn solve_option(word: &str) -> Option<Role>
+    ensures { result ≡ faults.solve_option word.now }
+{
+    match word {
+        "--conflicts" => Some(Role::Conflicts),
+        "--moves" => Some(Role::Moves),
+        "--tries" => Some(Role::Tries),
+        "--patterns" => Some(Role::Patterns),
+        "--seed" => Some(Role::Draws),
+        _ => None,
+    }
+}
+
+/// What an argument of a command is to be, by how many stand before it; there are four at most.
+pub(crate) fn role_at(command: Topic, before: usize) -> Option<Role>
+    ensures { OnSome result (before < 4) }
+{
+    match (command, before) {
+        (Topic::Circle | Topic::Make | Topic::Trial, 0) => Some(Role::Teams),
+        (_, 0) => Some(Role::Instance),
+        (Topic::Part, 1) => Some(Role::Members),
+        (Topic::Make | Topic::Trial, 1) => Some(Role::Seed),
+        (Topic::Check | Topic::Bound, 1) => Some(Role::Log),
+        (Topic::Validate | Topic::Prove | Topic::Resume | Topic::Audit, 1) => Some(Role::Solution),
+        (Topic::Resume | Topic::Audit, 2) => Some(Role::Slots),
+        (Topic::Audit, 3) => Some(Role::Log),
+        _ => None,
+    }
+}

@@ -1,0 +1,2 @@
+-- Each page is that of its command:
+mod HelpFacts

@@ -1,0 +1,302 @@
+//! The text of help, a page for each command, and the version: the one table of them.
+
+/// What `--version` prints.
+pub const VERSION: &str = "robin 1.0.0\n";
+
+/// What `--help` prints: all commands with their words, the options and the statuses.
+pub const ALL: &str = "\
+robin makes and judges seasons of sports leagues in which each two teams meet
+twice, once at home and once away. Its files have the RobinX form (XML).
+
+usage: robin COMMAND WORDS [OPTIONS]
+       robin COMMAND --help    what one command does, with an example
+       robin --help
+       robin --version
+
+  validate INSTANCE SOLUTION     judge a season by the demands of its league
+  solve INSTANCE                 find a season, or prove that there is none
+  patterns INSTANCE              find home-away patterns, or refute them
+  explain INSTANCE               name demands that contradict each other
+  part INSTANCE LIST             write the league of some of its demands
+  check INSTANCE LOG             check a proof that there is no season
+  prove INSTANCE SOLUTION        find a better season, or prove there is none
+  bound INSTANCE LOG             check such a proof
+  resume INSTANCE SOLUTION K     plan the rest of a season after K slots
+  audit INSTANCE SOLUTION K LOG  check a proof that it can't be resumed
+  circle N                       write a season for N teams
+  make N SEED                    write a league of N teams to try things on
+  trial N SEED                   make such a league and solve it
+
+INSTANCE is the file of a league, SOLUTION that of a season, LOG that of a
+proof. A file's name doesn't begin with -. Teams are even in number, 2 to 40.
+
+Options stand before, between or behind the words, each once at most:
+  --conflicts N|all  clauses that a search may learn, or any number (2000);
+                     of solve, patterns, explain, prove, resume and trial
+  --moves N          moves to better seasons (10000); of solve and trial
+  --tries N          tries, from 1 to 100 (1); of solve and trial
+  --patterns N       clauses of a search for patterns (500); of solve and trial
+  --seed N           what random moves are drawn by (0); of solve and trial
+
+Status:  0  accepted, found, proved or made     1  not accepted
+         2  the words are no command
+         3  a file is refused, or its league is too large, or a number of LIST
+            or K is none of its league
+         4  it is proved that there is none, or demands that contradict each
+            other are named
+         5  a budget is spent                   6  a file can't be read
+         7  the text can't be written           8  memory ran out
+         9  a better season is found           10  the words can't be had
+";
+
+/// The commands by name, for who misspelt one.
+pub const NAMES: &str = "\
+commands: validate solve patterns explain part check prove bound resume audit
+          circle make trial
+          robin --help says what they do
+";
+
+pub const VALIDATE: &str = "\
+usage: robin validate INSTANCE SOLUTION
+
+Judges the season of the file SOLUTION by the league of the file INSTANCE: by
+how much it misses each demand, what that costs, and whether it is accepted.
+
+Status:  0  the season is accepted: it is a double round robin, and meets each
+            hard demand
+         1  it isn't accepted, and the report says why
+         3  a file is refused
+         6  a file can't be read
+         7  the text can't be written
+         8  memory ran out
+
+Example: robin validate league.xml season.xml
+";
+
+pub const SOLVE: &str = "\
+usage: robin solve INSTANCE [OPTIONS]
+
+Finds a season that the league of the file INSTANCE accepts, and goes on to
+better ones by moves; or writes a log that proves that there is no season.
+
+Options stand before or behind the file, each once at most:
+  --conflicts N  each search learns at most N clauses (2000); all in place of
+                 N: any number
+  --moves N      at most N moves lead to better seasons, and a walk tries at
+                 most 100 for each of them; 0: no walk, no moves (10000)
+  --tries N      makes N tries and keeps the best season, 1 to 100 (1)
+  --patterns N   where the league doesn't accept the season of circle, a search
+                 for patterns comes first, which learns at most N clauses (500)
+  --seed N       random moves are drawn by N (0)
+N is a number from 0 to 18446744073709551615, where nothing else is said.
+
+Status:  0  a season is found, and written with its objective
+         3  the file is refused, or its league is too large
+         4  there is no season: the log proves it
+         5  a budget is spent: the log says what was learnt
+         6  the file can't be read
+         7  the text can't be written
+         8  memory ran out
+
+Example: robin solve league.xml --tries 4 > season.xml
+";
+
+pub const PATTERNS: &str = "\
+usage: robin patterns INSTANCE [--conflicts N|all]
+
+Finds home-away patterns that meet all that the league of the file INSTANCE
+demands without naming a game: a line for each team, with H or A for each slot.
+Or writes a log that proves that there are none, and so no season.
+
+Options stand before or behind the file, each once at most:
+  --conflicts N  the search learns at most N clauses (2000), a number from 0 to
+                 18446744073709551615; all in place of N: any number
+
+Status:  0  patterns are found, and written
+         3  the file is refused, or its league is too large
+         4  there are none, and no season: the log proves it
+         5  the budget is spent: the log says what was learnt
+         6  the file can't be read
+         7  the text can't be written
+         8  memory ran out
+
+Example: robin patterns league.xml --conflicts all
+";
+
+pub const EXPLAIN: &str = "\
+usage: robin explain INSTANCE [--conflicts N|all]
+
+Names hard demands of the file INSTANCE that contradict each other, by their
+numbers in file order from 1, with a log that proves it, and for each of them a
+season that meets the others. Or finds a season.
+
+Options stand before or behind the file, each once at most:
+  --conflicts N  each search learns at most N clauses (2000), a number from 0
+                 to 18446744073709551615; all in place of N: any number
+
+Status:  0  a season is found, and written with its objective
+         3  the file is refused, or its league is too large
+         4  demands that contradict each other are named
+         5  the budget is spent: the log says what was learnt
+         6  the file can't be read
+         7  the text can't be written
+         8  memory ran out
+
+Example: robin explain league.xml > why.txt
+";
+
+pub const PART: &str = "\
+usage: robin part INSTANCE LIST
+
+Writes the league of some hard demands of the file INSTANCE as an instance
+file. LIST has their numbers, in file order from 1 with the soft demands
+counted: each above the one before it, at most 4294967295, joined by ; with
+nothing between. A shell wants it quoted.
+
+Status:  0  the league is written
+         3  the file is refused, or a number is no hard demand's
+         6  the file can't be read
+         7  the text can't be written
+         8  memory ran out
+
+Example: robin part league.xml '2;7' > part.xml
+";
+
+pub const CHECK: &str = "\
+usage: robin check INSTANCE LOG
+
+Checks the log of the file LOG, which says that the league of the file INSTANCE
+has no season. Nothing is searched.
+
+Status:  0  the log is accepted: there is no season
+         1  it is rejected, at the step that is named
+         3  a file is refused, or the league is too large
+         6  a file can't be read
+         7  the text can't be written
+         8  memory ran out
+
+Example: robin check league.xml found.log
+";
+
+pub const PROVE: &str = "\
+usage: robin prove INSTANCE SOLUTION [--conflicts N|all]
+
+Finds a season of the league of the file INSTANCE that costs less than the
+season of the file SOLUTION, or writes a certificate that none does.
+
+Options stand before, between or behind the files, each once at most:
+  --conflicts N  the search learns at most N clauses (2000), a number from 0 to
+                 18446744073709551615; all in place of N: any number
+
+Status:  0  no accepted season costs less: the certificate proves it
+         1  the season isn't accepted, and the report says why
+         3  a file is refused, or the league is too large
+         5  the budget is spent: the log says what was learnt
+         6  a file can't be read
+         7  the text can't be written
+         8  memory ran out
+         9  a better season is found, and written
+
+Example: robin prove league.xml season.xml > least.log
+";
+
+pub const BOUND: &str = "\
+usage: robin bound INSTANCE LOG
+
+Checks the certificate of the file LOG, which says that no season of the league
+of the file INSTANCE costs less than a number. Nothing is searched.
+
+Status:  0  the certificate is accepted, and its number printed
+         1  it is rejected, at the step that is named
+         3  a file is refused, or the league is too large
+         6  a file can't be read
+         7  the text can't be written
+         8  memory ran out
+
+Example: robin bound league.xml least.log
+";
+
+pub const RESUME: &str = "\
+usage: robin resume INSTANCE SOLUTION K [--conflicts N|all]
+
+Plans the rest of a season of which the first K slots were played: finds a
+season that the league of the file INSTANCE accepts and that has, in these
+slots, the games of the file SOLUTION. Or writes a log that proves that there is
+none. K is a number from 0 to 18446744073709551615.
+
+Options stand before, between or behind the words, each once at most:
+  --conflicts N  the search learns at most N clauses (2000), a number from 0 to
+                 18446744073709551615; all in place of N: any number
+
+Status:  0  a season is found, and written with its objective
+         3  a file is refused, or the league is too large, or the season has
+            fewer than K slots
+         4  there is no such season: the log proves it
+         5  the budget is spent: the log says what was learnt
+         6  a file can't be read
+         7  the text can't be written
+         8  memory ran out
+
+Example: robin resume league.xml season.xml 18 > new-season.xml
+";
+
+pub const AUDIT: &str = "\
+usage: robin audit INSTANCE SOLUTION K LOG
+
+Checks the log of the file LOG, which says that no season that the league of
+the file INSTANCE accepts has the games of the file SOLUTION in the first K
+slots. Nothing is searched. K is a number from 0 to 18446744073709551615.
+
+Status:  0  the log is accepted: there is no such season
+         1  it is rejected, at the step that is named
+         3  a file is refused, or the league is too large, or the season has
+            fewer than K slots
+         6  a file can't be read
+         7  the text can't be written
+         8  memory ran out
+
+Example: robin audit league.xml season.xml 18 none.log
+";
+
+pub const CIRCLE: &str = "\
+usage: robin circle N
+
+Writes the season of the circle method for N teams, N even and from 2 to 40:
+each two teams meet once in each half, with the fewest breaks in each half.
+
+Status:  0  the season is written
+         7  the text can't be written
+         8  memory ran out
+
+Example: robin circle 16 > season.xml
+";
+
+pub const MAKE: &str = "\
+usage: robin make N SEED
+
+Writes a league to try things on: of N teams, N even and from 2 to 40, with
+N + 17 demands that are drawn by SEED, a number from 0 to 18446744073709551615.
+It accepts the season that circle writes.
+
+Status:  0  the league is written
+         7  the text can't be written
+         8  memory ran out
+
+Example: robin make 16 7 > league.xml
+";
+
+pub const TRIAL: &str = "\
+usage: robin trial N SEED [OPTIONS]
+
+Makes the league that make writes, and solves it: seven lines say in short what
+is found, and behind them stands what solve writes. N is even, from 2 to 40,
+and SEED a number from 0 to 18446744073709551615. The options are those of
+solve: --conflicts, --moves, --tries, --patterns and --seed.
+
+Status:  0  a season is found, and written
+         3  the league is too large
+         7  the text can't be written
+         8  memory ran out
+
+Example: robin trial 8 7 --moves 1000
+";

@@ -1,0 +1,78 @@
+-- What holds of the runs of all commands.
+use Rattle.std.proofs.Common.{◌≡◌, ◌≢◌, ℕ, List, Option, Some, Result, Ok, Err, inl, inr, sym, subst, ◌∙◌}
+use Rattle.std.specs.Io.KnownBytes.{Appends, Keeps}
+use Rattle.robin_io.specs.Outside.{Output}
+use Rattle.command_line.specs.Words.{Command}
+use Rattle.answers.specs.Reply.{Answer}
+use Rattle.answers.specs.SeenReply.{Answers, answer_of}
+use Rattle.answers.specs.Stages.{IsWritten, Outcome}
+use Rattle.answers.specs.declared.reply.NoValue.{NoValue}
+use Rattle.answers.specs.declared.reply.NoValue.TheVariants as without
+use Rattle.answers.specs.declared.reply.Reply.{Reply}
+use Rattle.answers.specs.declared.status.Status.{Status}
+use Rattle.answers.specs.declared.status.Status.TheVariants.{Memory, WriteFault}
+use Rattle.robin_run.specs.Answer.{IsAnswer}
+use Rattle.robin_run.specs.Folded.{IsFolded}
+use Rattle.robin_run.specs.Run.{Answered, NothingFails, Run, Writes}
+use Rattle.robin_run.proofs.EndLemmas.{written-memory}
+
+-- ---- what a command gave
+
+-- its answer is written, unless memory ran out
+pub answered-by : (run : Run) (given : Result Reply NoValue) → Answers (IsAnswer run.command run.store) given
+    → IsFolded given run.ended run.output → Answered run
+answered-by run (Ok reply) answer written memory = (answer_of reply, answer, written)
+answered-by run (Err (without.Refused refusal)) answer written memory = (answer_of refusal.reply, answer, written)
+answered-by run (Err without.Memory) answer ended memory = absurd (memory ended.0)
+
+-- where the run ends with want of memory, nothing is written
+pub kept-by : (run : Run) (given : Result Reply NoValue) → Answers (IsAnswer run.command run.store) given
+    → IsFolded given run.ended run.output → run.ended ≡ Memory → Keeps run.output.before run.output.after
+kept-by run (Ok reply) answer written memory =
+    absurd (written-memory run.command run.store (answer_of reply) run.ended run.output answer written memory)
+kept-by run (Err (without.Refused refusal)) answer written memory =
+    absurd (written-memory run.command run.store (answer_of refusal.reply) run.ended run.output answer written memory)
+kept-by run (Err without.Memory) answer ended memory = ended.1
+
+-- ---- what is written
+
+written-whole : (run : Run) (kind : Outcome) (answer : Answer) → kind answer → (run.output.failed → ⊥)
+    → IsWritten answer run.ended run.output → Writes run kind
+written-whole run kind answer is works (inl h) = record { answer = answer; of_kind = is; ended = h.0; written = h.1 }
+written-whole run kind answer is works (inr h) = absurd (works h.1)
+
+-- where nothing fails, an answer of each kind that all answers to the command have is written whole
+pub writes : (run : Run) (files : List (List ℕ)) (command : Command) (kind : Outcome) → Answered run
+    → run.command ≡ Some command → NothingFails run files
+    → ((answer : Answer) → IsAnswer (Some command) run.store answer → kind answer) → Writes run kind
+writes run files command kind answered is works tells =
+    let told = answered works.memory in
+    let given : IsAnswer (Some command) run.store told.0 =
+    subst (λ (words : Option Command). IsAnswer words run.store told.0) is told.1 in
+    written-whole run kind told.0 (tells told.0 given) works.sink told.2
+
+written-as : (answer : Answer) (ended status : Status) (output : Output) → ended ≡ status
+    → (status ≡ WriteFault → ⊥) → IsWritten answer ended output
+    → (answer.status ≡ status) × Appends output.before output.after answer.text
+written-as answer ended status output is other (inl h) = (sym h.0 ∙ is, h.1)
+written-as answer ended status output is other (inr h) = absurd (other (sym is ∙ h.0))
+
+-- where a run ends with this status, an answer to the command with it is written whole
+pub record WritesAs (run : Run) (command : Command) (status : Status) : Type 0 where
+  pub answer : Answer
+  pub given : IsAnswer (Some command) run.store answer
+  pub status_is : answer.status ≡ status
+  pub written : Appends run.output.before run.output.after answer.text
+
+pub writes-as : (run : Run) (command : Command) (status : Status) → Answered run → run.command ≡ Some command
+    → run.ended ≡ status → (status ≡ Memory → ⊥) → (status ≡ WriteFault → ⊥) → WritesAs run command status
+writes-as run command status answered is ended no_memory no_fault =
+    let told = answered (λ memory. no_memory (sym ended ∙ memory)) in
+    let whole : (told.0.status ≡ status) × Appends run.output.before run.output.after told.0.text =
+    written-as told.0 run.ended status run.output ended no_fault told.2 in
+    record {
+      answer = told.0;
+      given = subst (λ (words : Option Command). IsAnswer words run.store told.0) is told.1;
+      status_is = whole.0;
+      written = whole.1;
+    }

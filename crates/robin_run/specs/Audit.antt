@@ -1,0 +1,31 @@
+-- What `audit` promises: the log of a third file gets its verdict over the resume rows of a season.
+use Rattle.std.specs.Prelude.{◌≡◌, ℕ, List, [], ◌∷◌, Some}
+use Rattle.league.specs.Counts.{counts_of}
+use Rattle.league.specs.Instance.{Instance}
+use Rattle.league.specs.declared.game.Game.{Game}
+use Rattle.command_line.specs.Words.Command as command
+use Rattle.answers.specs.declared.status.Status.TheVariants.{Yes}
+use Rattle.refutation.specs.Steps.{Step}
+use Rattle.resume_rows.specs.Resumable.{NoneResumes}
+use Rattle.resume_answer.specs.Audited.{IsVerdict, IsWellFormedAudit}
+use Rattle.resume_answer.specs.Seasons.{SaySeason}
+use Rattle.robin_run.specs.Run.{NothingFails, Run, Writes}
+
+pub record Promise (run : Run) (instance solution : List ℕ) (k : ℕ) (log : List ℕ) : Type 0 where
+  -- A well-formed log over a season whose first k slots are played gets its verdict, where nothing fails.
+  pub audited : (league : Instance) (played : List Game) (steps : List Step)
+      → IsWellFormedAudit run.store instance solution k log league played steps
+      → NothingFails run (instance ∷ solution ∷ log ∷ [])
+      → Writes run (IsVerdict league played k steps)
+  -- Where a log is accepted, no accepted season keeps the played games.
+  pub excluded : (league : Instance) (played : List Game)
+      → SaySeason run.store instance solution league played
+      → run.ended ≡ Yes
+      → NoneResumes league (counts_of played) k
+
+-- each run of `audit` keeps it
+abbrev pub Audits : Run → Type 0
+Audits run =
+    (instance solution : List ℕ) (k : ℕ) (log : List ℕ)
+    → run.command ≡ Some (command.Audit instance solution k log)
+    → Promise run instance solution k log

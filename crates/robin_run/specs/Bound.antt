@@ -1,0 +1,36 @@
+-- What `bound` promises: a certificate gets its verdict.
+use Rattle.std.specs.Prelude.{◌≡◌, ℕ, List, [], ◌∷◌, ◌++◌, codes, decimal, Some}
+use Rattle.std.specs.Io.KnownBytes.{Appends}
+use Rattle.robin_io.specs.Outside.{Output}
+use Rattle.league.specs.Instance.{Instance}
+use Rattle.command_line.specs.Words.Command as command
+use Rattle.answers.specs.Stages.{SaysLeague}
+use Rattle.answers.specs.declared.status.Status.TheVariants.{Yes}
+use Rattle.bound_laws.specs.Faithful.{IsLowerBound}
+use Rattle.bound_answer.specs.Bound.{IsBoundVerdict, IsWellFormedCertificate}
+use Rattle.certificates.specs.declared.certificate.Certificate.{Certificate}
+use Rattle.robin_run.specs.Run.{NothingFails, Run, Writes}
+
+-- the line that is written states a bound, and each accepted schedule has an objective of at least this
+pub record IsCertified (league : Instance) (output : Output) : Type 0 where
+  pub bound : ℕ
+  pub steps : ℕ
+  pub least : IsLowerBound league bound
+  pub written : Appends output.before output.after
+      (codes "accepted bound " ++ (decimal bound ++ (codes " steps " ++ (decimal steps ++ codes "\n"))))
+
+pub record Promise (run : Run) (instance log : List ℕ) : Type 0 where
+  -- A well-formed certificate over a league whose bound rows aren't too many gets its verdict, where nothing fails.
+  pub bounded : (league : Instance) (certificate : Certificate)
+      → IsWellFormedCertificate run.store instance log league certificate
+      → NothingFails run (instance ∷ log ∷ [])
+      → Writes run (IsBoundVerdict league certificate)
+  -- Where a certificate is accepted, each accepted season has an objective of at least the bound that is written.
+  pub certified : (league : Instance)
+      → SaysLeague run.store instance league
+      → run.ended ≡ Yes
+      → IsCertified league run.output
+
+-- each run of `bound` keeps it
+abbrev pub Bounds : Run → Type 0
+Bounds run = (instance log : List ℕ) → run.command ≡ Some (command.Bound instance log) → Promise run instance log

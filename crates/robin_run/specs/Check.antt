@@ -1,0 +1,27 @@
+-- What `check` promises: the log of one file gets its verdict over the rows of the league of the other.
+use Rattle.std.specs.Prelude.{◌≡◌, ℕ, List, [], ◌∷◌, Some}
+use Rattle.league.specs.Instance.{Instance}
+use Rattle.command_line.specs.Words.Command as command
+use Rattle.answers.specs.Stages.{SaysLeague}
+use Rattle.answers.specs.declared.status.Status.TheVariants.{Yes}
+use Rattle.encoding.specs.Encoding.{rows_of}
+use Rattle.refutation.specs.Steps.{Step}
+use Rattle.season_check.specs.Excluded.{NoneAccepted}
+use Rattle.check_answer.specs.Check.{IsVerdict, IsWellFormedLog}
+use Rattle.robin_run.specs.Run.{NothingFails, Run, Writes}
+
+pub record Promise (run : Run) (instance log : List ℕ) : Type 0 where
+  -- A well-formed log over a league whose rows aren't too many gets its verdict, where nothing fails.
+  pub checked : (league : Instance) (steps : List Step)
+      → IsWellFormedLog run.store instance log league steps
+      → NothingFails run (instance ∷ log ∷ [])
+      → Writes run (IsVerdict league (rows_of league) steps)
+  -- Where a log is accepted, the league accepts no list of games.
+  pub refuted : (league : Instance)
+      → SaysLeague run.store instance league
+      → run.ended ≡ Yes
+      → NoneAccepted league
+
+-- each run of `check` keeps it
+abbrev pub Checks : Run → Type 0
+Checks run = (instance log : List ℕ) → run.command ≡ Some (command.Check instance log) → Promise run instance log

@@ -1,0 +1,16 @@
+-- What becomes of what a command gave: an answer is written, or memory ran out.
+use Rattle.std.specs.Prelude.{◌≡◌, Result, Ok, Err}
+use Rattle.std.specs.Io.KnownBytes.{Keeps}
+use Rattle.robin_io.specs.Outside.{Output}
+use Rattle.answers.specs.SeenReply.{answer_of}
+use Rattle.answers.specs.Stages.{IsWritten}
+use Rattle.answers.specs.declared.reply.NoValue.{NoValue}
+use Rattle.answers.specs.declared.reply.NoValue.TheVariants as without
+use Rattle.answers.specs.declared.reply.Reply.{Reply}
+use Rattle.answers.specs.declared.status.Status.{Status}
+use Rattle.answers.specs.declared.status.Status.TheVariants.{Memory}
+
+abbrev pub IsFolded : Result Reply NoValue → Status → Output → Type 0
+IsFolded (Ok reply) ended output = IsWritten (answer_of reply) ended output
+IsFolded (Err (without.Refused refusal)) ended output = IsWritten (answer_of refusal.reply) ended output
+IsFolded (Err without.Memory) ended output = (ended ≡ Memory) × Keeps output.before output.after

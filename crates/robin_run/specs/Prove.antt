@@ -1,0 +1,60 @@
+-- What `prove` promises: a certificate that no season is better, a better season, or a budget that is spent.
+use Rattle.std.specs.Prelude.{◌≡◌, ℕ, ◌<◌, List, [], ◌∷◌, Option, Some}
+use Rattle.std.specs.Io.KnownBytes.{Appends}
+use Rattle.std.specs.List.{All}
+use Rattle.robin_io.specs.Outside.{Output}
+use Rattle.league.specs.Accepted.{IsAccepted, objective}
+use Rattle.league.specs.Counts.{counts_of}
+use Rattle.league.specs.Instance.{Instance, IsGame}
+use Rattle.league.specs.declared.game.Game.{Game}
+use Rattle.command_line.specs.Words.Command as command
+use Rattle.answers.specs.declared.status.Status.TheVariants.{Better, Yes}
+use Rattle.refutation.specs.Steps.{Step}
+use Rattle.refutation.specs.declared.verdict.Verdict.TheVariants.{Accepted}
+use Rattle.robinx_form.specs.Texts.{solution_text}
+use Rattle.bound_laws.specs.Faithful.{IsLowerBound}
+use Rattle.bound_answer.specs.Bound.{bound_verdict}
+use Rattle.certificates.specs.Certificates.{certificate_text}
+use Rattle.prove_answer.specs.Prove.{IsShown, IsWellFormedCase}
+use Rattle.resume_answer.specs.Seasons.{SaySeason}
+use Rattle.robin_run.specs.Run.{NothingFails, Run, Writes}
+
+-- The games are accepted, and no accepted schedule has a lower objective. The certificate that is written states their
+-- objective, and its log is accepted by the verdict of `bound`.
+pub record IsUnbettered (league : Instance) (games : List Game) (output : Output) : Type 0 where
+  pub steps : List Step
+  pub accepted : IsAccepted league (counts_of games)
+  pub least : IsLowerBound league (objective league (counts_of games))
+  pub certified : bound_verdict league (objective league (counts_of games)) steps ≡ Accepted
+  pub written : Appends output.before output.after (certificate_text (objective league (counts_of games)) steps)
+
+-- The games are accepted. The schedule that is written, of games of the league, is accepted too, with a lower
+-- objective, which is written beside it.
+pub record IsBettered (league : Instance) (games : List Game) (output : Output) : Type 0 where
+  pub better : List Game
+  pub accepted : IsAccepted league (counts_of games)
+  pub better_accepted : IsAccepted league (counts_of better)
+  pub fit : All (IsGame league.n) better
+  pub lower : objective league (counts_of better) < objective league (counts_of games)
+  pub written : Appends output.before output.after (solution_text better (Some (0, objective league (counts_of better))))
+
+pub record Promise (run : Run) (instance solution : List ℕ) (conflicts : Option ℕ) : Type 0 where
+  -- What is shown of the season of a well-formed case is written, where nothing fails: the report of `validate` where
+  -- the season isn't accepted, a certificate, a better season, or a log that is spent at the budget.
+  pub proved : (league : Instance) (games : List Game)
+      → IsWellFormedCase run.store instance solution league games → NothingFails run (instance ∷ solution ∷ [])
+      → Writes run (IsShown league conflicts games)
+  -- Where the season is called least, no accepted season has a lower objective.
+  pub unbettered : (league : Instance) (games : List Game)
+      → SaySeason run.store instance solution league games → run.ended ≡ Yes
+      → IsUnbettered league games run.output
+  -- Where the season is bettered, the one that is written is accepted, with a lower objective.
+  pub bettered : (league : Instance) (games : List Game)
+      → SaySeason run.store instance solution league games → run.ended ≡ Better
+      → IsBettered league games run.output
+
+-- each run of `prove` keeps it
+abbrev pub Proves : Run → Type 0
+Proves run =
+    (instance solution : List ℕ) (conflicts : Option ℕ) → run.command ≡ Some (command.Prove instance solution conflicts)
+    → Promise run instance solution conflicts

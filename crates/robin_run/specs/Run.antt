@@ -1,0 +1,49 @@
+-- One run of the program, as the caller of `run` sees it, and what all commands promise of a run.
+use Rattle.std.specs.Prelude.{◌≢◌, ◌≡◌, ℕ, List, Option, String, map, string_bytes}
+use Rattle.std.specs.Io.KnownBytes.{Appends}
+use Rattle.robin_io.specs.Outside.{Output, Store, output_between, store_between}
+use Rattle.robin_io.specs.declared.shelf.Shelf as shelf
+use Rattle.robin_io.specs.declared.sink.Sink as sink
+use Rattle.command_line.specs.Words.{Command, reading}
+use Rattle.answers.specs.Reply.{Answer}
+use Rattle.answers.specs.Stages.{IsWritten, NoneFails, Outcome}
+use Rattle.answers.specs.declared.status.Status.{Status}
+use Rattle.answers.specs.declared.status.Status.TheVariants.{Memory}
+use Rattle.robin_run.specs.Answer.{IsAnswer}
+
+pub record Run : Type 1 where
+  -- the command that the words of the command line are, if they are one
+  pub command : Option Command
+  -- the store of files, from the beginning of the run to its end
+  pub store : Store
+  -- the sink to which the text goes
+  pub output : Output
+  -- how the run ended
+  pub ended : Status
+
+abbrev pub run_of : {S K Z : Type 0} → shelf.Ghosts S → sink.Ghosts K → List (String Z) → S → S → K → K → Status → Run
+run_of shelf sink words store_old store_new sink_old sink_new ended = record {
+  command = reading (map string_bytes words);
+  store = store_between shelf store_old store_new;
+  output = output_between sink sink_old sink_new;
+  ended = ended;
+}
+
+-- Unless memory ran out, an answer to the words over the files is written: whole, or cut by a fault of the sink.
+abbrev pub Answered : Run → Type 0
+Answered run =
+    run.ended ≢ Memory
+    → (answer : Answer) × IsAnswer run.command run.store answer × IsWritten answer run.ended run.output
+
+-- Nothing fails: memory doesn't run out, the sink takes every byte, and the store fails at none of these files.
+pub record NothingFails (run : Run) (files : List (List ℕ)) : Type 0 where
+  pub memory : run.ended ≢ Memory
+  pub sink : run.output.failed → ⊥
+  pub store : NoneFails run.store files
+
+-- an answer of this kind is written whole, and the run ends with its status
+pub record Writes (run : Run) (kind : Outcome) : Type 0 where
+  pub answer : Answer
+  pub of_kind : kind answer
+  pub ended : run.ended ≡ answer.status
+  pub written : Appends run.output.before run.output.after answer.text

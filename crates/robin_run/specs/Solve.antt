@@ -1,0 +1,30 @@
+-- What `solve` promises: a season that the league accepts, a log that refutes the league, or a budget that is spent.
+use Rattle.std.specs.Prelude.{◌≡◌, ℕ, List, [], ◌∷◌, Some}
+use Rattle.league.specs.Instance.{Instance}
+use Rattle.budgets.specs.declared.budgets.Budgets.{Budgets}
+use Rattle.command_line.specs.Words.Command as command
+use Rattle.answers.specs.Stages.{SaysLeague}
+use Rattle.answers.specs.declared.status.Status.TheVariants.{Refuted}
+use Rattle.encoding.specs.Encoding.{rows_of}
+use Rattle.season_check.specs.Excluded.{NoneAccepted}
+use Rattle.solve_answer.specs.Solve.{IsFound, IsWellFormedInstance}
+use Rattle.robin_run.specs.Run.{NothingFails, Run, Writes}
+
+pub record Promise (run : Run) (instance : List ℕ) (budgets : Budgets) : Type 0 where
+  -- What is found of a well-formed league whose rows aren't too many is written, where nothing fails: an accepted season
+  -- with its objective and the descent that led to it, an accepted log, or a log that is spent at the budget.
+  pub solved : (league : Instance)
+      → IsWellFormedInstance run.store instance league
+      → NothingFails run (instance ∷ [])
+      → Writes run (IsFound league budgets (rows_of league))
+  -- Where the run ends with a refutation, the league accepts no list of games.
+  pub unsolvable : (league : Instance)
+      → SaysLeague run.store instance league
+      → run.ended ≡ Refuted
+      → NoneAccepted league
+
+-- each run of `solve` keeps it
+abbrev pub Solves : Run → Type 0
+Solves run =
+    (instance : List ℕ) (budgets : Budgets) → run.command ≡ Some (command.Solve instance budgets)
+    → Promise run instance budgets
