@@ -2,7 +2,7 @@
 ghost use Rattle.std.specs.Prelude.{◌≤◌, vec_len};
 
 use answers::code;
-use robin_io::{HostShelf, HostSink, MemShelf, MemSink, put_all, read_all};
+use robin_io::{HostShelf, HostSink, MemShelf, MemSink, Shelf, Sink, put_all, read_all};
 use robin_run::run;
 use robinx_read::INSTANCE_LIMIT;
 use std::alloc::{AllocError, Global};
@@ -41,7 +41,7 @@ pub const SOUND: Devices = Devices {
 };
 
 /// The words of a line.
-fn words_of(alloc: Global, line: &str) -> Result<Vec<String>, AllocError> {
+pub fn words_of(alloc: Global, line: &str) -> Result<Vec<String>, AllocError> {
     let mut words = Vec::new(alloc);
     if line.is_empty() {
         return Ok(words);
@@ -52,23 +52,37 @@ fn words_of(alloc: Global, line: &str) -> Result<Vec<String>, AllocError> {
     Ok(words)
 }
 
+/// Runs the command of a line, and gives the exit status. No other call of this program runs a command.
+fn status_of(
+    alloc: Global,
+    line: &str,
+    shelf: &mut impl Shelf,
+    out: &mut impl Sink,
+) -> Result<u8, AllocError> {
+    let words = words_of(alloc, line)?;
+    let mut told = MemSink::new(alloc, 4096, 4096)?;
+    Ok(code(run(alloc, &words, shelf, out, &mut told)))
+}
+
 /// Runs the command of a line over the files of the machine, and says how it ended.
 pub fn run_line(rt: &(impl AllocGlobal + Files + Print), line: &str) -> io::Result<()> {
-    println!(rt; "robin {line}")?;
-    let status = status_on_machine(rt, line)?;
+    let mut shelf = HostShelf::new(rt);
+    let mut out = HostSink::new(io::writer(rt));
+    let status = status_of(rt.alloc(), line, &mut shelf, &mut out)?;
     println!(rt; "status {status}")
 }
 
-/// Runs the command of a line over the files of the machine, and gives the exit status.
-fn status_on_machine(
-    rt: &(impl AllocGlobal + Files + Print),
+/// Runs the command of a line over a store, and gives what it wrote and how it ended.
+pub fn run_into(
+    alloc: Global,
     line: &str,
-) -> Result<u8, AllocError> {
-    let words = words_of(rt.alloc(), line)?;
-    let mut shelf = HostShelf::new(rt);
-    let mut out = HostSink::new(io::writer(rt));
-    let mut told = MemSink::new(rt.alloc(), 4096, 4096)?;
-    Ok(code(run(rt.alloc(), &words, &mut shelf, &mut out, &mut told)))
+    shelf: &mut impl Shelf,
+    devices: Devices,
+) -> Result<Ended, AllocError> {
+    let mut out = sink(alloc, devices)?;
+    let status = status_of(alloc, line, shelf, &mut out)?;
+    let text = out.written().to_vec(alloc)?;
+    Ok(Ended { text, status })
 }
 
 /// A store of an instance and a solution.
@@ -92,19 +106,6 @@ fn sink(alloc: Global, devices: Devices) -> Result<MemSink, AllocError> {
     Ok(sink)
 }
 
-/// Runs the command of a line over devices in memory, and gives the exit status.
-fn status_of(
-    alloc: Global,
-    line: &str,
-    shelf: &mut MemShelf,
-    out: &mut MemSink,
-) -> Result<u8, AllocError> {
-    let words = words_of(alloc, line)?;
-    // There is no room for what a person is told, which changes nothing.
-    let mut told = MemSink::new(alloc, 0, 1)?;
-    Ok(code(run(alloc, &words, shelf, out, &mut told)))
-}
-
 /// Runs the command of a line over an instance and a solution in memory, and gives what it wrote and how it ended.
 pub fn run_over(
     alloc: Global,
@@ -115,19 +116,6 @@ pub fn run_over(
 ) -> Result<Ended, AllocError> {
     let mut shelf = store(alloc, instance, solution, devices.call)?;
     run_into(alloc, line, &mut shelf, devices)
-}
-
-/// The same over a store.
-fn run_into(
-    alloc: Global,
-    line: &str,
-    shelf: &mut MemShelf,
-    devices: Devices,
-) -> Result<Ended, AllocError> {
-    let mut out = sink(alloc, devices)?;
-    let status = status_of(alloc, line, shelf, &mut out)?;
-    let text = out.written().to_vec(alloc)?;
-    Ok(Ended { text, status })
 }
 
 /// Judges a solution by an instance, both in memory, and writes the answer to the transcript below a title.
