@@ -256,7 +256,7 @@ part-unknown = record { is = refused_is; reads_back = λ yes. absurd (file_yes y
 
 -- where each is a demand's number, none is refused
 pub part-refused : IsPart league members refused_reply → ⊥
-part-refused is = file_yes (ap (λ (a : Answer). a.status) is.of_kind)
+part-refused is = file_yes (ap (λ (a : Answer). a.status) is.is)
 
 pub parted-both : Writes (ended_with Yes (Some (codes "..")) (Some (codes ".." ++ part_text))) (IsPart league members)
 parted-both = record { answer = yes_with part_text; of_kind = part-both; ended = refl; written = refl }

@@ -120,7 +120,7 @@ pub made-no : (n seed : ℕ) (text : List ℕ) → IsMade n seed (record { statu
 made-no n seed text is = no_yes (ap (λ (answer : Answer). answer.status) is.made)
 
 pub written-no : (n seed : ℕ) (old new : Option (List ℕ)) → Writes (ended_with No old new) (IsMade n seed) → ⊥
-written-no n seed old new is = no_yes is.ended
+written-no n seed old new is = no_yes (is.ended ∙ ap (λ (a : Answer). a.status) is.of_kind.made)
 
 -- ---- `trial`: each season of that league costs 2, for the games next to each other, or misses a hard constraint
 
@@ -230,7 +230,7 @@ trial-nothing n seed moves league is =
     first_byte 116 (drop 1 (summary n seed league is.schedule.games is.schedule.descent ++ is.solved.text)) is.text
 
 pub tried-refuted : (n seed : ℕ) (old new : Option (List ℕ)) → Writes (ended_with Refuted old new) (IsTrial n seed (made_league n (seeded seed)) budgets.moves) → ⊥
-tried-refuted n seed old new is = other_status is.ended
+tried-refuted n seed old new is = other_status (is.ended ∙ is.of_kind.status)
   where
     other_status : Refuted ≡ Yes → ⊥
     other_status same = cc

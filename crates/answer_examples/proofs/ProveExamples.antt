@@ -34,7 +34,7 @@ use Rattle.bound_answer.specs.Bound.{bound_verdict}
 use Rattle.bounds.specs.Proofs as bounds
 use Rattle.bounds.specs.declared.proved.Proved.TheVariants as proofs
 use Rattle.prove_answer.proofs.AnswerLemmas.{shown-refused}
-use Rattle.prove_answer.specs.Prove.{IsShown, IsBettered, IsLeast, IsProved, IsRejected, IsSpentBelow, IsWellFormedCase}
+use Rattle.prove_answer.specs.Prove.{IsShown, IsBettered, IsLeast, IsRejected, IsSpentBelow, IsWellFormedCase}
 use Rattle.answer_examples.proofs.LeastExamples.{away-one, away-zero, away_first, even-accepted, even_soon, least-four}
 use Rattle.answer_examples.proofs.LeastExamples.{log, lower_bound, one-fit, one-in_order, one_first}
 use Rattle.answer_examples.proofs.BetterExamples.{better-one}
