@@ -1,12 +1,14 @@
 //! Worked runs of the encoding, whose transcript is compared with the file `stdout`: rows of leagues of four teams, as
-//! its rules give them, a league whose rows have too many terms, and a season read back from its shadow.
+//! its rules give them, a league whose rows have too many terms, and a season read back from its shadow; and what rows
+//! force and keep, and searches over a few clauses.
 //!
 //! A line of standard input is `FILE: WHAT`, what is to be shown of the encoding of the league of a file of `data`, or
 //! else a title. A variable is shown by its name, with its teams and slot, and a row as its sum and what that is at
-//! least.
+//! least. After the lines come the rows and searches.
 #![tactic(auto)]
 
 mod lines;
+mod searches;
 mod seasons;
 
 ghost use Rattle.std.specs.Prelude.{◌≡◌, ◌≤◌, IfOk, vec_len};
@@ -26,7 +28,7 @@ fn main(rt: HostRuntime) -> Result<()> {
         let line = line?;
         follow(&rt, line.as_str())?;
     }
-    Ok(())
+    Ok(searches::show(&rt)?)
 }
 
 /// Writes a title, or shows what a line asks for.

@@ -1,5 +1,5 @@
 //! Lines of as many bytes as a line may have, and of a byte more.
-use crate::reading::read_in_pieces;
+use crate::logs::reading::read_in_pieces;
 use anyhow::Result;
 use std::alloc::{AllocError, Global};
 

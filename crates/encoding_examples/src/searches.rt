@@ -1,7 +1,4 @@
-//! Rows that are kept and what they force, and searches over a few clauses, worked out by hand; their transcript is
-//! compared with the file `stdout`.
-#![tactic(auto)]
-
+//! Rows that are kept and what they force, and searches over a few clauses, worked out by hand.
 mod kept;
 mod worked;
 
@@ -15,17 +12,17 @@ use rows::{Assignment, Lit};
 use std::io;
 use worked::{VARS, worked_clauses};
 
-/// What rows force, and searches over all six clauses, without a limit and with two, and over the first five.
-fn main(rt: HostRuntime) -> io::Result<()> {
-    show_rows(&rt)?;
-    show(&rt, true, None)?;
-    show(&rt, true, Some(1))?;
-    show(&rt, true, Some(0))?;
-    show(&rt, false, None)
+/// Shows what rows force, and searches over all six clauses, without a limit and with two, and over the first five.
+pub fn show(rt: &(impl AllocGlobal + Print)) -> io::Result<()> {
+    show_rows(rt)?;
+    show_search(rt, true, None)?;
+    show_search(rt, true, Some(1))?;
+    show_search(rt, true, Some(0))?;
+    show_search(rt, false, None)
 }
 
 /// Searches, with the variables 1, 2 and 3 preferred, to be true, and tells what is found.
-fn show(rt: &(impl AllocGlobal + Print), whole: bool, limit: Option<u64>) -> io::Result<()> {
+fn show_search(rt: &(impl AllocGlobal + Print), whole: bool, limit: Option<u64>) -> io::Result<()> {
     let rows = worked_clauses(rt.alloc(), whole)?;
     let prefer = [Lit::new(1, true), Lit::new(2, true), Lit::new(3, true)];
     let found = search(rt.alloc(), &rows, VARS, &prefer, limit)?;

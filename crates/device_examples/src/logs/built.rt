@@ -1,5 +1,5 @@
 //! Logs that are built step by step.
-use crate::reading::tell_log;
+use crate::logs::reading::tell_log;
 use anyhow::Result;
 use refutation::{Log, Part};
 use rows::Lit;
