@@ -37,12 +37,12 @@ fn status_by(alloc: Global, teams: u32, seed: u32) -> Result<u8, AllocError> {
     let league = text_of(alloc, make.as_str())?;
     let circle = format!(in alloc; "circle {teams}")?;
     let season = text_of(alloc, circle.as_str())?;
-    let Ended { text: _, status } = run_over(alloc, VALIDATE, &league, &season, ROOMY)?;
+    let Ended { status, .. } = run_over(alloc, VALIDATE, &league, &season, ROOMY)?;
     Ok(status)
 }
 
 /// What a command writes that needs no file.
 fn text_of(alloc: Global, line: &str) -> Result<Vec<u8>, AllocError> {
-    let Ended { text, status: _ } = run_over(alloc, line, b"", b"", ROOMY)?;
+    let Ended { text, .. } = run_over(alloc, line, b"", b"", ROOMY)?;
     Ok(text)
 }

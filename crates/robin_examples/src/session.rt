@@ -12,11 +12,12 @@ use std::rt::Files;
 /// The command over the two files of a store.
 pub const VALIDATE: &str = "validate instance.xml solution.xml";
 
-/// What a run wrote, and the status that it ended with.
+/// What a run wrote, the status that it ended with, and what a person was told.
 #[derive(Drop)]
 pub struct Ended {
     pub text: Vec<u8>,
     pub status: u8,
+    pub told: Vec<u8>,
 }
 
 /// A store and a sink in memory.
@@ -58,18 +59,21 @@ fn status_of(
     line: &str,
     shelf: &mut impl Shelf,
     out: &mut impl Sink,
+    told: &mut MemSink,
 ) -> Result<u8, AllocError> {
     let words = words_of(alloc, line)?;
-    let mut told = MemSink::new(alloc, 4096, 4096)?;
-    Ok(code(run(alloc, &words, shelf, out, &mut told)))
+    Ok(code(run(alloc, &words, shelf, out, told)))
 }
 
-/// Runs the command of a line over the files of the machine, and says how it ended.
+/// Runs the command of a line over the files of the machine, and says how it ended and what a person was told.
 pub fn run_line(rt: &(impl AllocGlobal + Files + Print), line: &str) -> io::Result<()> {
     let mut shelf = HostShelf::new(rt);
     let mut out = HostSink::new(io::writer(rt));
-    let status = status_of(rt.alloc(), line, &mut shelf, &mut out)?;
-    println!(rt; "status {status}")
+    let mut told = sink(rt.alloc(), SOUND)?;
+    let status = status_of(rt.alloc(), line, &mut shelf, &mut out, &mut told)?;
+    println!(rt; "status {status}")?;
+    print_bytes(rt, told.written());
+    Ok(())
 }
 
 /// Runs the command of a line over a store, and gives what it wrote and how it ended.
@@ -80,9 +84,11 @@ pub fn run_into(
     devices: Devices,
 ) -> Result<Ended, AllocError> {
     let mut out = sink(alloc, devices)?;
-    let status = status_of(alloc, line, shelf, &mut out)?;
+    let mut told = sink(alloc, SOUND)?;
+    let status = status_of(alloc, line, shelf, &mut out, &mut told)?;
     let text = out.written().to_vec(alloc)?;
-    Ok(Ended { text, status })
+    let told = told.written().to_vec(alloc)?;
+    Ok(Ended { text, status, told })
 }
 
 /// A store of an instance and a solution.
@@ -137,11 +143,13 @@ pub fn print_bytes(rt: &impl Print, bytes: &[u8]) {
     let _ = put_all(&mut out, bytes);
 }
 
-/// Writes what a run wrote, and the status.
+/// Writes what a run wrote, the status, and what a person was told.
 pub fn tell(rt: &impl Print, ended: &Ended) -> io::Result<()> {
     print_bytes(rt, &ended.text);
     let status = ended.status;
-    println!(rt; "status {status}")
+    println!(rt; "status {status}")?;
+    print_bytes(rt, &ended.told);
+    Ok(())
 }
 
 /// What a file of the machine holds, and nothing where it can't be read.
