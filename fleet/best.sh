@@ -100,10 +100,12 @@ leave_best() {
         fi
     fi
     [ -n "$least" ] || return 1
-    while "$robin" validate "$dir/league.xml" "$dir/best.xml" >"$report" || fail 7 "the report can't be written"; do
-        cmp -s "$report" "$dir/best.txt" && break
+    for time in 1 2 3 4 5 6 7 8 9; do
+        "$robin" validate "$dir/league.xml" "$dir/best.xml" >"$report" || fail 7 "the report can't be written"
+        cmp -s "$report" "$dir/best.txt" && return
         mv "$report" "$dir/best.txt" || fail 7 "the report can't be renamed"
     done
+    fail 7 "$dir/best.xml changed $time times meanwhile"
 }
 
 if leave_refutation; then

@@ -1,4 +1,5 @@
 # What the scripts of this folder share; each of them reads it. `usage` is the caller's own text.
+# shellcheck shell=sh disable=SC2034,SC2154
 here=$(cd "$(dirname "$0")" && pwd) || exit 6
 robin=${ROBIN:-$here/../robin}
 # A program that is named by a path is found from everywhere.
@@ -31,27 +32,28 @@ read_words() {
     while [ $# -gt 0 ]; do
         case $1 in
         --seeds)
-            first=${2%%-*} last=${2#*-}
+            span=${2-}
+            first=${span%%-*} last=${span#*-}
             is_number "$first" && is_number "$last" && [ "$first" -le "$last" ] || fail 2 "--seeds takes A-B, as 0-99"
             shift
             ;;
         --moves)
-            is_number "$2" || fail 2 "--moves takes a number"
+            is_number "${2-}" || fail 2 "--moves takes a number"
             moves=$2
             shift
             ;;
         --conflicts)
-            [ "$2" = all ] || is_number "$2" || fail 2 "--conflicts takes a number, or all"
+            [ "${2-}" = all ] || is_number "${2-}" || fail 2 "--conflicts takes a number, or all"
             conflicts=$2
             shift
             ;;
         --jobs)
-            is_number "$2" && [ "$2" -gt 0 ] || fail 2 "--jobs takes a number from 1"
+            is_number "${2-}" && [ "${2-}" -gt 0 ] || fail 2 "--jobs takes a number from 1"
             jobs=$2
             shift
             ;;
         --minutes)
-            [ -n "$takes_minutes" ] && is_number "$2" && [ "$2" -gt 0 ] || fail 2 "usage: $usage"
+            [ -n "$takes_minutes" ] && is_number "${2-}" && [ "${2-}" -gt 0 ] || fail 2 "usage: $usage"
             minutes=$2
             shift
             ;;
@@ -114,15 +116,11 @@ has_answer() {
     [ -e "$dir/$1.xml" ] || [ -e "$dir/$1.log" ]
 }
 
-# The seeds without an answer, each on a line, from a place on that depends on the process: of two runs over one folder
-# each then finds most of what the other has answered.
+# The seeds without an answer, each on a line.
 missing() {
-    count=$((last - first + 1))
-    tried=0
-    turn=$(($$ % count))
-    while [ "$tried" -lt "$count" ]; do
-        seed=$((first + (turn + tried) % count))
+    seed=$first
+    while [ "$seed" -le "$last" ]; do
         has_answer "$seed" || echo "$seed"
-        tried=$((tried + 1))
+        seed=$((seed + 1))
     done
 }

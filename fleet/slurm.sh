@@ -24,7 +24,7 @@ is_number "$size" && [ "$size" -gt 0 ] || fail 6 "no Slurm answers"
 # The missing seeds as lines `FIRST LIST`: the numbers of LIST count from the seed FIRST, as 0-3,7, and stay below the
 # size. A line has at most 1,000 ranges.
 arrays() {
-    missing | LC_ALL=C sort -n | awk -v size="$size" '
+    missing | awk -v size="$size" '
         function range() { list = list (list == "" ? "" : ",") (from == to ? from : from "-" to); ranges++ }
         function array() { if (from != "") { range(); print first, list } }
         from == "" || $1 - first >= size || ranges >= 1000 { array(); first = $1; from = to = ranges = 0; list = ""; next }

@@ -94,6 +94,10 @@ calls() {
     grep -c " $1\$" "$folder/calls"
 }
 
+has_calls() {
+    [ "$(wc -l <"$folder/calls")" -eq "$1" ]
+}
+
 # runs SEED: whether a try of this seed runs; sets process to its id.
 runs() {
     process=$(sed -n "s/ $1\$//p" "$folder/calls" | tail -n 1)
@@ -155,7 +159,7 @@ least() {
 }
 
 on_one_machine() {
-    dir=$folder/$1
+    dir="$folder/$1 isn't one word"
     expect "$1: a try for each seed" gives 0 tries "$dir" --seeds 0-3 --jobs 2
     expect "$1: whole answers" whole "$dir" 0 3
     expect "$1: the best is found" gives 0 "$here/best.sh" "$dir"
@@ -203,15 +207,15 @@ interrupted() {
     dir=$folder/interrupted
     echo 3 >"$folder/delay"
     : >"$folder/calls"
-    tries "$dir" --seeds 30-35 --jobs 2 >"$folder/said" 2>&1 &
+    # By its own name, so that the process is that of the script.
+    "$here/tries.sh" "$league" "$dir" --moves 100 --seeds 30-35 --jobs 2 >"$folder/said" 2>&1 &
     run=$!
-    await 20 test -s "$folder/calls"
+    await 20 has_calls 2
     kill -TERM "$run"
     wait "$run"
     expect "interrupted: the run ends" [ $? -eq 143 ]
-    sleep 1
     expect "interrupted: nothing is left under another name" [ -z "$(find "$dir" -name '.*.part')" ]
-    expect "interrupted: no try goes on" [ "$(wc -l <"$folder/calls")" -le 2 ]
+    expect "interrupted: no try goes on" [ "$(wc -l <"$folder/calls") $(find "$dir" -name '3?.xml' | wc -l)" = "2 0" ]
     echo 0 >"$folder/delay"
     expect "interrupted: the same command goes on" gives 0 tries "$dir" --seeds 30-35 --jobs 2
     expect "interrupted: whole answers" whole "$dir" 30 35
@@ -337,7 +341,7 @@ no_jobs() {
 }
 
 under_slurm() {
-    dir=$folder/slurm-tries
+    dir="$folder/slurm isn't one word"
     expect "Slurm: an array, and the job behind it" gives 0 by_slurm "$dir" --seeds 0-5 --wait
     expect "Slurm: whole answers" whole "$dir" 0 5
     expect "Slurm: the best was found by that job" best_is "$dir" "$(least "$dir")"
@@ -380,7 +384,8 @@ under_slurm() {
     scontrol update NodeName="$name" State=DOWN Reason=test
     await 10 gone "$process"
     echo 0 >"$folder/delay"
-    scontrol update NodeName="$name" State=RESUME
+    # Where the node has come back by itself this is refused.
+    scontrol update NodeName="$name" State=RESUME 2>/dev/null
     expect "Slurm: a node is lost and comes back, and all ends" await 180 no_jobs
     expect "Slurm: the lost task was asked again" [ "$(calls 30)" -ge 2 ]
     expect "Slurm: whole answers" whole "$dir" 30 31

@@ -18,11 +18,11 @@ by_parallel() {
     [ -t 2 ] && bar=--bar
     # The words are expanded by the shells that parallel starts.
     # shellcheck disable=SC2016
-    missing | PARALLEL_SHELL=/bin/sh parallel --jobs "$jobs" --ungroup --halt now,success=1 $bar \
+    missing | PARALLEL_SHELL=/bin/sh parallel --jobs "$jobs" --ungroup --halt now,success=1 --termseq TERM,10000,KILL,25 $bar \
         '"$FLEET_TRY" "$FLEET_DIR" {}; [ -e "$FLEET_DIR/refutation.log" ]' &
     engine=$!
-    # At the second signal it ends the tries that run.
-    trap 'kill -TERM "$engine"; kill -TERM "$engine"; wait "$engine"; exit 143' HUP INT TERM
+    # At a second signal it ends the tries that run.
+    trap 'kill "$engine"; sleep 1; kill "$engine" 2>/dev/null; wait "$engine"; exit 143' HUP INT TERM
     wait "$engine"
     trap - HUP INT TERM
 }
