@@ -229,12 +229,16 @@ broken_answers() {
     sed 's|<Solution>|&<MetaData><ObjectiveValue infeasibility="0" objective="0"/></MetaData>|' \
         "$examples/refused-season.xml" >"$dir/3.xml"
     : >"$dir/4.xml"
+    # Accepted, and dearer than it says.
+    sed 's|<Solution>|&<MetaData><ObjectiveValue infeasibility="0" objective="0"/></MetaData>|' \
+        "$examples/accepted-season.xml" >"$dir/8.xml"
     printf 'refutation 1\nend\n' >"$dir/5.log"
     printf 'refutation 1\n0 1 0\nend\n' >"$dir/6.log"
     echo "accepted steps 1" >"$dir/7.log"
     expect "broken: judged" gives 0 "$here/best.sh" "$dir"
-    expect "broken: each by what it is" [ "$(sed -n 's/^\([2-7] [a-z]*\) .*/\1/p' "$dir/table.txt" | tr '\n' ' ')" = \
-        "2 broken 3 rejected 4 broken 5 spent 6 rejected 7 broken " ]
+    expect "broken: each by what it is" [ "$(sed -n 's/^\([2-8] [a-z]*\) .*/\1/p' "$dir/table.txt" | tr '\n' ' ')" = \
+        "2 broken 3 rejected 4 broken 5 spent 6 rejected 7 broken 8 season " ]
+    expect "broken: and by what it costs" grep -q '^8 season 25 ' "$dir/table.txt"
     expect "broken: the best is the least that is accepted" best_is "$dir" "$(least "$dir")"
     cp "$dir/3.xml" "$dir/best.xml"
     expect "broken: judged with a wrong best season there" gives 0 "$here/best.sh" "$dir"
