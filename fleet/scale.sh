@@ -19,7 +19,7 @@ echo "|---|---|---|---|---|"
 for jobs in 1 2 4; do
     dir=$folder/$jobs
     # Far more seeds than can be tried, in the same order each time.
-    "$here/tries.sh" "$instance" "$dir" --seeds 0-99999 --jobs "$jobs" "$@" 2>"$folder/errors" >&2 &
+    "$here/tries.sh" "$instance" "$dir" --seeds 0-9999 --jobs "$jobs" "$@" 2>"$folder/errors" >&2 &
     run=$!
     sleep "$seconds"
     kill "$run" 2>/dev/null

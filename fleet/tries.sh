@@ -15,15 +15,14 @@ jobs=${jobs:-$(processors)}
 # A job that ends well ends all: one behind which there is a refutation.
 by_parallel() {
     bar=''
+    # At a second signal parallel ends the tries that run.
+    trap '[ -z "${!:-}" ] || { kill "$!"; sleep 1; kill "$!" 2>/dev/null; wait "$!"; }; exit 143' HUP INT TERM
     [ -t 2 ] && bar=--bar
     # The words are expanded by the shells that parallel starts.
     # shellcheck disable=SC2016
     missing | PARALLEL_SHELL=/bin/sh parallel --jobs "$jobs" --ungroup --halt now,success=1 --termseq TERM,10000,KILL,25 $bar \
         '"$FLEET_TRY" "$FLEET_DIR" {}; [ -e "$FLEET_DIR/refutation.log" ]' &
-    engine=$!
-    # At a second signal it ends the tries that run.
-    trap 'kill "$engine"; sleep 1; kill "$engine" 2>/dev/null; wait "$engine"; exit 143' HUP INT TERM
-    wait "$engine"
+    wait "$!"
     trap - HUP INT TERM
 }
 
