@@ -93,13 +93,13 @@ keep() {
 # Makes the folder, with the league and the options of `solve`, or finds them there. What processes of this machine left
 # that are no more is taken away: the front of an answer, under another name.
 prepare() {
+    [ -r "$instance" ] || fail 6 "can't read $instance"
     mkdir -p "$dir" && dir=$(cd "$dir" && pwd) || fail 6 "can't make the folder"
     for part in "$dir"/.*."$host".*.part; do
         process=${part%.part}
         process=${process##*.}
         is_number "$process" && ! kill -0 "$process" 2>/dev/null && rm -f "$part"
     done
-    [ -r "$instance" ] || fail 6 "can't read $instance"
     keep league.xml <"$instance" || fail 6 "$dir isn't of this league, or can't be written: take another folder"
     echo "--moves $moves --conflicts $conflicts" | keep words ||
         fail 6 "$dir has tries with $(cat "$dir/words"): say the same, or take another folder"
