@@ -1,0 +1,126 @@
+# What the scripts of this folder share; each of them reads it. `usage` is the caller's own text.
+# shellcheck shell=sh disable=SC2034,SC2154
+here=$(cd "$(dirname "$0")" && pwd) || exit 6
+robin=${ROBIN:-$here/../robin}
+# A program that is named by a path is found from everywhere.
+case $robin in
+*/*) robin=$(cd "$(dirname "$robin")" && pwd)/$(basename "$robin") || exit 6 ;;
+esac
+host=$(uname -n)
+
+fail() {
+    status=$1
+    shift
+    echo "$(basename "$0"): $*" >&2
+    exit "$status"
+}
+
+# is_number WORD: whether it is a number that a shell can count with: at most 15 digits, without a leading zero.
+is_number() {
+    case $1 in
+    '' | *[!0-9]* | 0?* | ????????????????*) return 1 ;;
+    esac
+}
+
+processors() {
+    nproc 2>/dev/null || getconf _NPROCESSORS_ONLN
+}
+
+# read_words WORD ..: sets instance, dir, first, last, moves, conflicts, jobs, minutes and wait.
+read_words() {
+    instance='' dir='' first=0 last=9 moves=10000 conflicts=2000 jobs='' minutes=60 wait=''
+    while [ $# -gt 0 ]; do
+        case $1 in
+        --seeds)
+            span=${2-}
+            first=${span%%-*} last=${span#*-}
+            is_number "$first" && is_number "$last" && [ "$first" -le "$last" ] || fail 2 "--seeds takes A-B, as 0-99"
+            shift
+            ;;
+        --moves)
+            is_number "${2-}" || fail 2 "--moves takes a number"
+            moves=$2
+            shift
+            ;;
+        --conflicts)
+            [ "${2-}" = all ] || is_number "${2-}" || fail 2 "--conflicts takes a number, or all"
+            conflicts=$2
+            shift
+            ;;
+        --jobs)
+            is_number "${2-}" && [ "${2-}" -gt 0 ] || fail 2 "--jobs takes a number from 1"
+            jobs=$2
+            shift
+            ;;
+        --minutes)
+            [ -n "$takes_minutes" ] && is_number "${2-}" && [ "${2-}" -gt 0 ] || fail 2 "usage: $usage"
+            minutes=$2
+            shift
+            ;;
+        --wait)
+            [ -n "$takes_minutes" ] || fail 2 "usage: $usage"
+            wait=--wait
+            ;;
+        -*) fail 2 "usage: $usage" ;;
+        *)
+            [ -z "$dir" ] || fail 2 "usage: $usage"
+            if [ -z "$instance" ]; then instance=$1; else dir=$1; fi
+            ;;
+        esac
+        shift
+    done
+    [ -n "$dir" ] || fail 2 "usage: $usage"
+}
+
+# keep NAME: puts standard input into the folder under this name, whole, unless the name is there; and says whether the
+# folder then has these bytes under it. Where a folder takes no links, a file is renamed.
+keep() {
+    if [ -e "$dir/$1" ]; then
+        cmp -s - "$dir/$1"
+        return
+    fi
+    part=$dir/.$1.$host.$$.part
+    copy=$dir/.$1.copy.$host.$$.part
+    cat >"$part" && {
+        [ -e "$dir/$1" ] || ln "$part" "$dir/$1" 2>/dev/null || [ -e "$dir/$1" ] ||
+            { cp "$part" "$copy" && mv "$copy" "$dir/$1"; }
+    } && cmp -s "$part" "$dir/$1"
+    kept=$?
+    rm -f "$part" "$copy"
+    return "$kept"
+}
+
+# Makes the folder, with the league and the options of `solve`, or finds them there. What processes of this machine left
+# that are no more is taken away: the front of an answer, under another name.
+prepare() {
+    [ -r "$instance" ] || fail 6 "can't read $instance"
+    mkdir -p "$dir" && dir=$(cd "$dir" && pwd) || fail 6 "can't make the folder"
+    for part in "$dir"/.*."$host".*.part; do
+        process=${part%.part}
+        process=${process##*.}
+        is_number "$process" && ! kill -0 "$process" 2>/dev/null && rm -f "$part"
+    done
+    keep league.xml <"$instance" || fail 6 "$dir isn't of this league, or can't be written: take another folder"
+    echo "--moves $moves --conflicts $conflicts" | keep words ||
+        fail 6 "$dir has tries with $(cat "$dir/words"): say the same, or take another folder"
+    "$robin" --version >/dev/null || fail 6 "$robin doesn't run"
+    if [ -e "$dir/refutation.log" ]; then
+        "$robin" check "$dir/league.xml" "$dir/refutation.log" >/dev/null ||
+            fail 6 "$dir/refutation.log isn't accepted: take it away"
+        echo "the league accepts no season: $dir/refutation.log is an accepted refutation"
+        exit 4
+    fi
+}
+
+has_answer() {
+    [ -e "$dir/$1.xml" ] || [ -e "$dir/$1.log" ]
+}
+
+# The seeds without an answer, each on a line.
+missing() {
+    seed=$first
+    while [ "$seed" -le "$last" ]; do
+        has_answer "$seed" || echo "$seed"
+        seed=$((seed + 1))
+    done
+}

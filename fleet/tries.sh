@@ -1,0 +1,44 @@
+#!/bin/sh
+# fleet/tries.sh INSTANCE DIR [--seeds A-B] [--moves N] [--conflicts N] [--jobs N]: tries the seeds A to B (0-9) that
+# have no answer in DIR yet, each by a process of its own, N at once (as many as there are processors), by GNU parallel, or
+# by xargs where that isn't there. The status is 0 where each seed has an answer then, 4 where the league is refuted, 1
+# where answers are missing: the same command goes on with these.
+set -u
+usage="$0 INSTANCE DIR [--seeds A-B] [--moves N] [--conflicts N] [--jobs N]"
+takes_minutes=''
+# shellcheck source=fleet/common.sh
+. "$(dirname "$0")/common.sh"
+read_words "$@"
+prepare
+jobs=${jobs:-$(processors)}
+
+# A job that ends well ends all: one behind which there is a refutation.
+by_parallel() {
+    bar=''
+    # At a second signal parallel ends the tries that run.
+    trap '[ -z "${!:-}" ] || { kill "$!"; sleep 1; kill "$!" 2>/dev/null; wait "$!"; }; exit 143' HUP INT TERM
+    [ -t 2 ] && bar=--bar
+    # The words are expanded by the shells that parallel starts.
+    # shellcheck disable=SC2016
+    missing | PARALLEL_SHELL=/bin/sh parallel --jobs "$jobs" --ungroup --halt now,success=1 --termseq TERM,10000,KILL,25 $bar \
+        '"$FLEET_TRY" "$FLEET_DIR" {}; [ -e "$FLEET_DIR/refutation.log" ]' &
+    wait "$!"
+    trap - HUP INT TERM
+}
+
+# A status of 255 lets xargs begin no further one. The tries that run go on to their end.
+by_xargs() {
+    # The words are expanded by the shells that xargs starts.
+    # shellcheck disable=SC2016
+    missing | xargs -n 1 -P "$jobs" sh -c '"$FLEET_TRY" "$FLEET_DIR" "$1"; [ ! -e "$FLEET_DIR/refutation.log" ] || exit 255' try
+}
+
+export ROBIN="$robin" FLEET_TRY="$here/try.sh" FLEET_DIR="$dir"
+if parallel --version 2>/dev/null | grep -q '^GNU parallel'; then by_parallel; else by_xargs; fi
+if [ -e "$dir/refutation.log" ]; then
+    echo "the league accepts no season: $dir/refutation.log is an accepted refutation"
+    exit 4
+fi
+left=$(missing | wc -l)
+echo "$((last - first + 1 - left)) of $((last - first + 1)) seeds have an answer in $dir"
+[ "$left" -eq 0 ] || fail 1 "the others have none yet: the same command goes on with them"
