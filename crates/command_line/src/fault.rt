@@ -86,21 +86,26 @@ fn fault_behind(command: Topic, words: &[String]) -> WordFault<'_>
     }
 }
 
-/// The first thing that is wrong with an option.
+/// The first thing that is wrong with an option. It is a loop, since words may be many.
 fn wrong_option(command: Topic, words: &[String]) -> Option<WordFault<'_>>
     ensures { IfSome result IsSo }
 {
-    match words {
-        [first, value, rest @ ..] if is_option(first.as_str()) => {
-            match wrong_value(command, first.as_str(), value.as_str(), rest) {
-                Some(fault) => Some(fault),
-                None => wrong_option(command, rest),
+    let mut rest = words;
+    'words: while let [first, later @ ..] = rest {
+        rest = match later {
+            [value, left @ ..] if is_option(first.as_str()) => {
+                if let Some(fault) = wrong_value(command, first.as_str(), value.as_str(), left) {
+                    return Some(fault);
+                }
+                left
             }
-        }
-        [last] if is_option(last.as_str()) => Some(without_value(command, last.as_str())),
-        [_, rest @ ..] => wrong_option(command, rest),
-        [] => None,
+            [] if is_option(first.as_str()) => {
+                return Some(without_value(command, first.as_str()));
+            }
+            _ => later,
+        };
     }
+    None
 }
 
 /// What is wrong with an option that is the last word.
