@@ -536,8 +536,15 @@ COMMANDS = {
 }
 
 
+def are_questions(words):
+    """Whether the words ask for help or for the version."""
+    if list(words) in (["--help"], ["--version"]):
+        return True
+    return len(words) == 2 and "--help" in words and any(word in COMMANDS for word in words)
+
+
 def are_words(words):
-    """Whether the words are a command."""
+    """Whether the words are a command on files or numbers."""
     if not words or words[0] not in COMMANDS:
         return False
     wanted, options = COMMANDS[words[0]]

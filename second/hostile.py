@@ -275,6 +275,8 @@ def edges(t):
 
 def worded(words, which):
     """What words get where no file is there."""
+    if forms.are_questions(words):
+        return 0, None
     if not forms.are_words(words):
         return 2, "refused words\n"
     return (0, None) if words[0] in ("circle", "make", "trial") else (6, f"read fault {which}\n")
@@ -326,6 +328,10 @@ def stands(t):
     ]
 
 
+# What a person is told then.
+NO_MEMORY = b"robin: memory ran out, and nothing was written\n"
+
+
 def memory(t):
     """Memory refused at every number, once and from there on: the command's own answer, or 8 with nothing written."""
     for words, _ in commands(t) if t.server.process else []:
@@ -337,7 +343,7 @@ def memory(t):
             for k, ran in enumerate(t.server.each(words, kind, 0, plain.calls[0] + 1), 1):
                 statuses.append(ran.status)
                 own = (ran.status, ran.out) == (plain.status, plain.out)
-                t.must(own or (ran.status, ran.out, ran.err) == (8, b"", b""), shown, kind, k, ran)
+                t.must(own or (ran.status, ran.out, ran.err) == (8, b"", NO_MEMORY), shown, kind, k, ran)
             told = "the Nth refused" if kind == "at" else "all from the Nth on"
             print(f"    {shown}: {plain.calls[0]} allocations; {told}: {ranges(statuses)}", flush=True)
 

@@ -11,8 +11,11 @@ use std::{env, io};
 /// The exit status where the system gives no arguments, or one that isn't UTF-8.
 const NO_ARGUMENTS: u8 = 10;
 
-/// What is said on standard error where the words can't be had.
+/// What is said on standard error where the system gives no arguments, or one that isn't UTF-8.
 const UNREAD_WORDS: &str = "robin: the words can't be read: a word that isn't UTF-8, say\n";
+
+/// What is said on standard error where there is no memory for the words.
+const NO_MEMORY: &str = "robin: memory ran out, and nothing was written\n";
 
 /// The exit status where the words can't be had.
 fn without_words(error: &io::Error) -> u8 {
@@ -20,6 +23,15 @@ fn without_words(error: &io::Error) -> u8 {
         return code(Status::Memory);
     }
     NO_ARGUMENTS
+}
+
+/// What is said on standard error where the words can't be had and the run ends with this status.
+fn reason_of(status: u8) -> &'static str {
+    if status == NO_ARGUMENTS {
+        UNREAD_WORDS
+    } else {
+        NO_MEMORY
+    }
 }
 
 /// The words of the command line without the program's name, or the exit status where there are none.
@@ -50,7 +62,8 @@ fn main(rt: HostRuntime) -> ExitCode {
         Ok(words) => ExitCode::from(status_of(&rt, &words)),
         Err(status) => {
             // The status says it too, so it doesn't matter whether this is written.
-            let _ = eprint!(rt; "{UNREAD_WORDS}");
+            let reason = reason_of(status);
+            let _ = eprint!(rt; "{reason}");
             ExitCode::from(status)
         }
     }
