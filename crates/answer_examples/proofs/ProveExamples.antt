@@ -23,7 +23,6 @@ use Rattle.answers.specs.declared.status.Status.{Status}
 use Rattle.answers.specs.declared.status.Status.TheVariants.{Yes, No, Spent, Better}
 use Rattle.report.specs.Report.{report_text}
 use Rattle.validate_answer.specs.Validate.{IsWellFormedPair}
-use Rattle.check_answer.specs.Check.{most_terms}
 use Rattle.refutation.specs.Logs.{lines_from, log_of}
 use Rattle.refutation.specs.Steps.{Step}
 use Rattle.refutation.specs.declared.verdict.Verdict.TheVariants.{Accepted}
@@ -41,6 +40,7 @@ use Rattle.answer_examples.proofs.BetterExamples.{better-one}
 use Rattle.answer_examples.proofs.LeastExamples.{one_step}
 use Rattle.answer_examples.proofs.LeastExamples.{zero_first}
 use Rattle.answer_examples.proofs.BetterExamples.{settled-four, spent-at_zero, spent-four}
+use Rattle.encoding.specs.Limit.{most_terms}
 
 -- ---- the three answers of the search that is behind `prove`
 

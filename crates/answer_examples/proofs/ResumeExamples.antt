@@ -31,7 +31,6 @@ use Rattle.refutation.specs.Steps.Step.{Clause}
 use Rattle.refutation.specs.declared.verdict.Cause.TheVariants.{UnknownRow}
 use Rattle.refutation.specs.declared.verdict.Verdict.TheVariants.{Accepted, Rejected}
 use Rattle.clause_search.specs.News.{IsTidy}
-use Rattle.check_answer.specs.Check.{most_terms}
 use Rattle.resume_rows.specs.Kept.{Keeps, resume_rows, resume_size}
 use Rattle.resume_rows.specs.Resumable.{NoneResumes}
 use Rattle.resume_rows.proofs.Faithful.{accepted_logs_exclude}
@@ -40,6 +39,7 @@ use Rattle.resume.specs.declared.resumed.Resumed.TheVariants as resumed
 use Rattle.resume_answer.specs.Seasons.{IsWellFormedSeason, SaySeason}
 use Rattle.answer_examples.proofs.SolveExamples.{fits_home, fits_out, home, ordered_home, ordered_out, out, soft}
 use Rattle.answer_examples.proofs.SolveExamples.{text, two_with}
+use Rattle.encoding.specs.Limit.{most_terms}
 
 abbrev pub league : Instance
 league = two_with (soft 4 (Ca1 (1 ∷ []) 0 0 H (0 ∷ [])) ∷ [])

@@ -45,13 +45,14 @@ use Rattle.refutation.specs.Steps.{Step}
 use Rattle.refutation.specs.Steps.Step.{Clause}
 use Rattle.refutation.specs.declared.verdict.Cause.TheVariants.{NoConflict}
 use Rattle.refutation.specs.declared.verdict.Verdict.TheVariants.{Accepted, Rejected}
-use Rattle.check_answer.specs.Check.{IsVerdict, IsWellFormedLog, checked, most_log_bytes, most_terms}
+use Rattle.check_answer.specs.Check.{IsVerdict, IsWellFormedLog, checked, most_log_bytes}
 use Rattle.check_answer.specs.Check.{verdict_answer}
 use Rattle.answer_examples.proofs.SolveExamples.{accepted_home, false_true, fits_home, home, ordered_home}
 use Rattle.answer_examples.proofs.DescentExamples.{lowers-home}
 use Rattle.answer_examples.proofs.SolveExamples.{out, soft, text, two_with, wishful}
 use Rattle.answer_examples.proofs.DescentExamples.{swapped_home, swapped_out}
 use Rattle.answer_examples.proofs.ConflictExamples.{alone, apart, none-apart}
+use Rattle.encoding.specs.Limit.{most_terms}
 
 -- ---- what a walk gives: team 0 isn't to be away in slot 0 (hard, at no cost), nor team 1 in slot 1 (soft, at 6)
 

@@ -3,7 +3,8 @@ use Rattle.std.proofs.Common.{◌≡◌, ℕ, ◌<◌, ◌≤◌, List, [], ◌�
 use Rattle.std.specs.Fmt.{digits}
 use Rattle.robinx_read.specs.declared.instance.TheConstants.{INSTANCE_LIMIT, SOLUTION_LIMIT}
 use Rattle.robinx_tags.specs.declared.fault.FormKind.TheVariants.{BadTag, BadAttribute, RepeatedAttribute, TooManyAttributes, Truncated, BadNesting, MissingElement, RepeatedElement, MissingAttribute, BadNumber, NumberTooLarge, UnknownTeam, UnknownSlot, SameTeam, BadChoice, UnsupportedClass, WrongCounts, TooMany}
-use Rattle.answers.specs.Reply.{Answer, kind_word, malformed, read_fault, refused_words, too_long}
+use Rattle.refutation.specs.declared.fault.LogKind.TheVariants as log_kinds
+use Rattle.answers.specs.Reply.{Answer, kind_word, log_kind_word, log_malformed, malformed, read_fault, refused_words, too_long}
 use Rattle.answers.specs.Status.{status_code}
 use Rattle.answers.specs.Stages.{IsFile, IsUnread, IsWritten}
 use Rattle.answers.specs.declared.status.Status.{Status}
@@ -36,6 +37,14 @@ kind_word-elements = (refl, refl, refl, refl)
 
 pub kind_word-values : (kind_word BadNumber ≡ codes "BadNumber") × (kind_word NumberTooLarge ≡ codes "NumberTooLarge") × (kind_word UnknownTeam ≡ codes "UnknownTeam") × (kind_word UnknownSlot ≡ codes "UnknownSlot") × (kind_word SameTeam ≡ codes "SameTeam") × (kind_word BadChoice ≡ codes "BadChoice") × (kind_word UnsupportedClass ≡ codes "UnsupportedClass") × (kind_word WrongCounts ≡ codes "WrongCounts") × (kind_word TooMany ≡ codes "TooMany")
 kind_word-values = (refl, refl, refl, refl, refl, refl, refl, refl, refl)
+
+-- faults of a log
+pub log_kind_word-all : (log_kind_word log_kinds.BadLine ≡ codes "BadLine") × (log_kind_word log_kinds.BadNumber ≡ codes "BadNumber") × (log_kind_word log_kinds.NoEnd ≡ codes "NoEnd") × (log_kind_word log_kinds.TooLong ≡ codes "TooLong")
+log_kind_word-all = (refl, refl, refl, refl)
+
+pub log_malformed-some : log_malformed log_kinds.BadLine 3 ≡ record { status = File; text = codes "refused log BadLine line 3\n" }
+unfolding digits
+log_malformed-some = refl
 
 past : 2 ≤ 1 → ⊥
 past h = omega arith

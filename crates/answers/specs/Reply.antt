@@ -7,6 +7,8 @@ use Rattle.robinx_tags.specs.declared.fault.FormKind.TheVariants.{MissingElement
 use Rattle.robinx_tags.specs.declared.fault.FormKind.TheVariants.{BadNumber, NumberTooLarge, UnknownTeam, UnknownSlot}
 use Rattle.robinx_tags.specs.declared.fault.FormKind.TheVariants.{SameTeam, BadChoice, UnsupportedClass, WrongCounts}
 use Rattle.robinx_tags.specs.declared.fault.FormKind.TheVariants.{TooMany}
+use Rattle.refutation.specs.declared.fault.LogKind.{LogKind}
+use Rattle.refutation.specs.declared.fault.LogKind.TheVariants as log_kinds
 use Rattle.answers.specs.declared.status.Status.{Status}
 use Rattle.answers.specs.declared.status.Status.TheVariants.{Words, File, ReadFault}
 
@@ -65,4 +67,18 @@ abbrev pub too_large : ℕ → Answer
 too_large terms = record {
   status = File;
   text = codes "refused rows TooLarge terms " ++ (decimal terms ++ codes "\n");
+}
+
+-- the name of a fault of a log's form
+abbrev pub log_kind_word : LogKind → List ℕ
+log_kind_word log_kinds.BadLine = codes "BadLine"
+log_kind_word log_kinds.BadNumber = codes "BadNumber"
+log_kind_word log_kinds.NoEnd = codes "NoEnd"
+log_kind_word log_kinds.TooLong = codes "TooLong"
+
+-- a log has this fault of form on this line, and none before it
+abbrev pub log_malformed : LogKind → ℕ → Answer
+log_malformed kind line = record {
+  status = File;
+  text = codes "refused log " ++ (log_kind_word kind ++ (codes " line " ++ (decimal line ++ codes "\n")));
 }

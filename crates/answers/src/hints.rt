@@ -1,6 +1,7 @@
 //! What a person is told of a file that is refused.
 
 use advice::Advice;
+use refutation::LogKind;
 use robinx_read::FormKind;
 use std::alloc::{AllocError, Global};
 
@@ -94,10 +95,20 @@ fn holds(bytes: &[u8], text: &str) -> bool {
     !text.is_empty() && bytes.windows(text.len()).any(|window| window == text)
 }
 
-/// How often the tag of a team begins in bytes.
+/// How often the tag of a team begins in bytes, outside of comments.
 fn team_tags(bytes: &[u8]) -> usize {
-    let tag = b"<team ".as_slice();
-    bytes.windows(6).filter(|window| *window == tag).count()
+    let mut tags: usize = 0;
+    let mut in_comment = false;
+    for window in bytes.windows(6) {
+        if in_comment {
+            in_comment = !window.starts_with(b"-->");
+        } else if window.starts_with(b"<!--") {
+            in_comment = true;
+        } else if window == b"<team ".as_slice() {
+            tags = tags.saturating_add(1);
+        }
+    }
+    tags
 }
 
 /// The attributes that have to stand in a tag that begins a line, each but the last with a space behind it.
@@ -117,6 +128,11 @@ fn wanted_in(line: &[u8]) -> &'static str {
         [b'<', b'S', b'E', b'1', ..] => "type teams min",
         _ => "",
     }
+}
+
+/// Whether a line begins with the tag of a constraint.
+fn is_constraint(line: &[u8]) -> bool {
+    wanted_in(line).starts_with("type")
 }
 
 /// Whether some bytes are a white byte, a name and `=`.
@@ -163,6 +179,9 @@ fn say_more(
             }
             None => Ok(()),
         },
+        FormKind::UnsupportedClass if is_constraint(line) => advice.say(
+            "; this one has to stand in its group: CapacityConstraints (CA1 to CA4), GameConstraints (GA1), BreakConstraints (BR1, BR2), FairnessConstraints (FA2) or SeparationConstraints (SE1)",
+        ),
         FormKind::WrongCounts if holds(line, "numberRoundRobin") => {
             advice.say(": there are to be 2 rounds")
         }
@@ -203,10 +222,11 @@ fn is_league(bytes: &[u8]) -> bool {
     holds(bytes, "<Instance") && !holds(bytes, "<Solution")
 }
 
-/// A file of these bytes has a fault of form of this kind, on this line.
+/// A file of this name and these bytes has a fault of form of this kind, on this line.
 pub(crate) fn on_form(
     alloc: Global,
     which: &str,
+    name: &str,
     bytes: &[u8],
     kind: FormKind,
     line: u32,
@@ -215,6 +235,8 @@ pub(crate) fn on_form(
     let text = line_at(bytes, line);
     advice.say("robin: ")?;
     advice.say(kind_of_file(which))?;
+    advice.say(", ")?;
+    advice.show(name.as_bytes())?;
     advice.say(", line ")?;
     advice.count(u64::from(line))?;
     advice.say(": ")?;
@@ -232,6 +254,34 @@ pub(crate) fn on_rows(alloc: Global, terms: u64) -> Result<Advice, AllocError> {
     advice.say("robin: the league is too large: its rows have ")?;
     advice.count(terms)?;
     advice.say(" terms, and at most 40000000 are worked with")?;
+    advice.end_line()?;
+    Ok(advice)
+}
+
+/// What was expected where a log has a fault of form of this kind.
+fn expected_in_log(kind: LogKind) -> &'static str {
+    match kind {
+        LogKind::BadLine => "this isn't a line of a log, or not in its version; line 1 names it",
+        LogKind::BadNumber => "a number is too large",
+        LogKind::NoEnd => "the log ends before its last line, `end`",
+        LogKind::TooLong => "the line has more than 16777216 bytes",
+    }
+}
+
+/// A log of this name has a fault of form of this kind, on this line.
+pub(crate) fn on_log(
+    alloc: Global,
+    name: &str,
+    kind: LogKind,
+    line: u64,
+) -> Result<Advice, AllocError> {
+    let mut advice = Advice::new(alloc);
+    advice.say("robin: log, ")?;
+    advice.show(name.as_bytes())?;
+    advice.say(", line ")?;
+    advice.count(line)?;
+    advice.say(": ")?;
+    advice.say(expected_in_log(kind))?;
     advice.end_line()?;
     Ok(advice)
 }

@@ -10,7 +10,7 @@ mod reply;
 mod stages;
 mod status;
 
-pub use refusal::{Refusal, malformed, past_limit, rows_refused, unreadable};
+pub use refusal::{Refusal, log_refused, malformed, past_limit, rows_refused, unreadable};
 pub use reply::{NoValue, Reply, words_refused};
 pub use stages::{file, league_in, schedule_in, write_answer};
 pub use status::{Status, code};

@@ -5,8 +5,11 @@ ghost use Rattle.answers.specs.SeenReply.{answer_of};
 ghost use Rattle.answers.specs.SeenRefusal.{refused_with};
 
 use crate::hints;
-use crate::reply::{Reply, malformed_reply, past_limit_reply, rows_reply, unreadable_reply};
+use crate::reply::{
+    Reply, log_reply, malformed_reply, past_limit_reply, rows_reply, unreadable_reply,
+};
 use advice::Advice;
+use refutation::LogKind;
 use robinx_read::FormKind;
 use std::alloc::{AllocError, Global};
 
@@ -65,13 +68,14 @@ pub fn past_limit(
     Ok(Refusal::new(alloc, reply, hints::on_length(alloc, which, name, limit)))
 }
 
-/// A file of these bytes has a fault of form of this kind, on this line.
+/// A file of this name and these bytes has a fault of form of this kind, on this line.
 ///
 /// # Errors
 /// Only where memory runs out.
 pub fn malformed(
     alloc: Global,
     which: &str,
+    name: &str,
     bytes: &[u8],
     kind: FormKind,
     line: u32,
@@ -82,7 +86,7 @@ pub fn malformed(
     Ok(Refusal::new(
         alloc,
         reply,
-        hints::on_form(alloc, which, bytes, kind, line),
+        hints::on_form(alloc, which, name, bytes, kind, line),
     ))
 }
 
@@ -95,5 +99,22 @@ pub fn rows_refused(alloc: Global, terms: u64) -> Result<Refusal, AllocError>
 {
     let reply = rows_reply(alloc, terms)?;
     let advice = hints::on_rows(alloc, terms);
+    Ok(Refusal::new(alloc, reply, advice))
+}
+
+/// A log, or a certificate, has a fault of form of this kind, on this line.
+///
+/// # Errors
+/// Only where memory runs out.
+pub fn log_refused(
+    alloc: Global,
+    name: &str,
+    kind: LogKind,
+    line: u64,
+) -> Result<Refusal, AllocError>
+    ensures { IfOk result (refused_with (refusals.log_malformed kind line)) }
+{
+    let reply = log_reply(alloc, kind, line)?;
+    let advice = hints::on_log(alloc, name, kind, line);
     Ok(Refusal::new(alloc, reply, advice))
 }

@@ -6,6 +6,7 @@ ghost use Rattle.answers.specs.declared.reply.NoValue.TheVariants.{Memory};
 
 use crate::refusal::Refusal;
 use crate::status::Status;
+use refutation::LogKind;
 use robinx_read::FormKind;
 use std::alloc::{AllocError, Global};
 
@@ -131,6 +132,33 @@ pub(crate) fn rows_reply(alloc: Global, terms: u64) -> Result<Reply, AllocError>
     ensures { IfOk result (λ reply. answer_of reply ≡ refusals.too_large terms) }
 {
     let text = format!(in alloc; "refused rows TooLarge terms {terms}\n")?;
+    Ok(Reply {
+        status: Status::File,
+        text: text.into_bytes(),
+    })
+}
+
+/// The name of a fault of a log's form.
+fn log_kind_word(kind: LogKind) -> &'static str
+    ensures { result.now ≡ refusals.log_kind_word kind }
+{
+    match kind {
+        LogKind::BadLine => "BadLine",
+        LogKind::BadNumber => "BadNumber",
+        LogKind::NoEnd => "NoEnd",
+        LogKind::TooLong => "TooLong",
+    }
+}
+
+/// A log has a fault of form of this kind, on this line.
+///
+/// # Errors
+/// Only where memory runs out.
+pub(crate) fn log_reply(alloc: Global, kind: LogKind, line: u64) -> Result<Reply, AllocError>
+    ensures { IfOk result (λ reply. answer_of reply ≡ refusals.log_malformed kind line) }
+{
+    let kind = log_kind_word(kind);
+    let text = format!(in alloc; "refused log {kind} line {line}\n")?;
     Ok(Reply {
         status: Status::File,
         text: text.into_bytes(),

@@ -54,11 +54,11 @@ pub fn file<S: Shelf>(
     }
 }
 
-/// The league that an instance file says.
+/// The league that an instance file says. The file's name is told where it is refused.
 ///
 /// # Errors
 /// Where the file has a fault of form, with the reply that names its first one, and where memory runs out.
-pub fn league_in(alloc: Global, bytes: &[u8]) -> Result<League, NoValue>
+pub fn league_in(alloc: Global, name: &str, bytes: &[u8]) -> Result<League, NoValue>
     requires { length bytes.now ≤ INSTANCE_LIMIT }
     ensures { MatchStage result
         (λ league. instance_of (pieces bytes.now) ≡ Ok league)
@@ -67,17 +67,22 @@ pub fn league_in(alloc: Global, bytes: &[u8]) -> Result<League, NoValue>
     match read_instance(alloc, bytes) {
         Ok(league) => Ok(league),
         Err(ReadFault::Form(fault)) => Err(NoValue::Refused(malformed(
-            alloc, "instance", bytes, fault.kind, fault.line,
+            alloc, "instance", name, bytes, fault.kind, fault.line,
         )?)),
         Err(ReadFault::Mem) => Err(NoValue::Memory),
     }
 }
 
-/// The schedule of the league that a solution file says.
+/// The schedule of the league that a solution file says. The file's name is told where it is refused.
 ///
 /// # Errors
 /// Where the file has a fault of form, with the reply that names its first one, and where memory runs out.
-pub fn schedule_in(alloc: Global, bytes: &[u8], league: &League) -> Result<Schedule, NoValue>
+pub fn schedule_in(
+    alloc: Global,
+    name: &str,
+    bytes: &[u8],
+    league: &League,
+) -> Result<Schedule, NoValue>
     requires { length bytes.now ≤ SOLUTION_LIMIT }
     ensures says { MatchStage result
         (λ games. solution_of league.now.n (pieces bytes.now) ≡ Ok games)
@@ -88,7 +93,7 @@ pub fn schedule_in(alloc: Global, bytes: &[u8], league: &League) -> Result<Sched
     match read_solution(alloc, bytes, league) {
         Ok(schedule) => Ok(schedule),
         Err(ReadFault::Form(fault)) => Err(NoValue::Refused(malformed(
-            alloc, "solution", bytes, fault.kind, fault.line,
+            alloc, "solution", name, bytes, fault.kind, fault.line,
         )?)),
         Err(ReadFault::Mem) => Err(NoValue::Memory),
     }

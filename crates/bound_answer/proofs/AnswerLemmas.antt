@@ -12,7 +12,7 @@ use Rattle.answers.specs.Stages.{NoneFails, Outcome, says, takes}
 use Rattle.answers.specs.declared.status.Status.TheVariants.{Yes, File}
 use Rattle.answers.proofs.StageLemmas.{first-works, says-known, second-works, takes-known, takes-yes}
 use Rattle.refutation.specs.Logs.{Fault}
-use Rattle.check_answer.specs.Check.{most_log_bytes, most_terms}
+use Rattle.check_answer.specs.Check.{most_log_bytes}
 use Rattle.bound_base.specs.BoundRows.{bound_size}
 use Rattle.bound_laws.specs.Faithful.{IsLowerBound}
 use Rattle.certificates.specs.Certificates.{certificate_of}
@@ -20,6 +20,7 @@ use Rattle.certificates.specs.declared.certificate.Certificate.{Certificate}
 use Rattle.bound_answer.specs.Bound.{IsBoundVerdict, IsWellFormedCertificate, bounded, has_few_terms}
 use Rattle.bound_answer.specs.Bound.{says_certificate}
 use Rattle.bound_answer.proofs.StageLemmas.{log_stages}
+use Rattle.encoding.specs.Limit.{most_terms}
 
 -- where the bound rows are few enough the run goes on
 pub few-small : (league : Instance) (next : Unit {0} → Outcome) (answer : Answer) → bound_size league ≤ most_terms

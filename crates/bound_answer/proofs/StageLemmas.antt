@@ -13,7 +13,7 @@ use Rattle.answers.proofs.StageLemmas.{says-value}
 use Rattle.refutation.specs.Logs.{Fault}
 use Rattle.refutation.specs.declared.verdict.Verdict.{Verdict}
 use Rattle.refutation.specs.declared.verdict.Verdict.TheVariants.{Accepted, Rejected}
-use Rattle.check_answer.specs.Check.{most_log_bytes, most_terms}
+use Rattle.check_answer.specs.Check.{most_log_bytes}
 use Rattle.bound_base.specs.BoundRows.{bound_size}
 use Rattle.bound_laws.specs.Faithful.{IsLowerBound}
 use Rattle.encoding.specs.Capped.{capped}
@@ -21,6 +21,7 @@ use Rattle.certificates.specs.Certificates.{certificate_of}
 use Rattle.certificates.specs.declared.certificate.Certificate.{Certificate}
 use Rattle.bound_answer.specs.Bound.{IsBoundVerdict, bound_answer, bound_verdict, bounded, has_few_terms}
 use Rattle.bound_answer.specs.Bound.{says_certificate}
+use Rattle.encoding.specs.Limit.{most_terms}
 
 -- ---- stages
 

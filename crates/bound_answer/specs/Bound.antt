@@ -6,7 +6,7 @@ use Rattle.league.specs.Instance.{Instance}
 use Rattle.robinx_tags.specs.Pieces.{pieces}
 use Rattle.robinx_form.specs.InstanceFile.{instance_of}
 use Rattle.robinx_read.specs.declared.instance.TheConstants.{INSTANCE_LIMIT}
-use Rattle.answers.specs.Reply.{Answer, too_large}
+use Rattle.answers.specs.Reply.{Answer, log_malformed, too_large}
 use Rattle.answers.specs.Stages.{◌>>=◌, Outcome, reads, says}
 use Rattle.answers.specs.declared.status.Status.TheVariants.{Yes}
 use Rattle.refutation.specs.Logs.{Fault}
@@ -14,12 +14,13 @@ use Rattle.refutation.specs.Steps.{Step}
 use Rattle.refutation.specs.Verdict.{verdict_of}
 use Rattle.refutation.specs.declared.verdict.Verdict.{Verdict}
 use Rattle.refutation.specs.declared.verdict.Verdict.TheVariants.{Accepted, Rejected}
-use Rattle.check_answer.specs.Check.{log_malformed, most_log_bytes, most_terms, verdict_answer}
+use Rattle.check_answer.specs.Check.{most_log_bytes, verdict_answer}
 use Rattle.bound_base.specs.BoundRows.{bound_rows, bound_size, bound_vars}
 use Rattle.bound_laws.specs.Faithful.{IsLowerBound}
 use Rattle.encoding.specs.Capped.{capped}
 use Rattle.certificates.specs.Certificates.{certificate_of}
 use Rattle.certificates.specs.declared.certificate.Certificate.{Certificate}
+use Rattle.encoding.specs.Limit.{most_terms}
 
 -- ---- verdicts
 

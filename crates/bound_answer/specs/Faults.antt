@@ -1,7 +1,6 @@
 -- How a contract sees that a certificate's text is refused.
 use Rattle.std.specs.Prelude.{◌≡◌, Result, Err}
-use Rattle.answers.specs.Reply.{Answer}
-use Rattle.check_answer.specs.Check.{log_malformed}
+use Rattle.answers.specs.Reply.{Answer, log_malformed}
 use Rattle.refutation.specs.Logs.{Fault}
 
 -- a text has a fault of form, and is refused by it

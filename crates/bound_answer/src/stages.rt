@@ -3,18 +3,19 @@ ghost use Rattle.std.specs.Prelude.{◌≡◌, ◌<◌, ◌≤◌, ℕ, List, Ok
 ghost use Rattle.robin_io.specs.Outside.{store_between};
 ghost use Rattle.answers.specs.Reply.{too_large};
 ghost use Rattle.answers.specs.SeenReply.{Answers, MatchStage};
-ghost use Rattle.check_answer.specs.Check.{most_terms};
 ghost use Rattle.bound_base.specs.BoundRows.{bound_size};
 ghost use Rattle.encoding.specs.Capped.{capped};
 ghost use Rattle.certificates.specs.Certificates.{certificate_of};
 ghost use Rattle.bound_answer.specs.Bound.{IsBoundVerdict, bounded, says_certificate};
 ghost use Rattle.bound_answer.specs.Faults.{IsMalformed};
+ghost use Rattle.encoding.specs.Limit.{most_terms};
 
 use crate::replies::judge;
-use answers::{NoValue, Reply, file, league_in, rows_refused};
-use bound_rows::{MOST_TERMS, bound_terms};
+use answers::{NoValue, Reply, file, league_in, log_refused, rows_refused};
+use bound_rows::bound_terms;
 use certificates::{Certificate, read_certificate};
-use check_answer::{LOG_LIMIT, log_refused};
+use check_answer::LOG_LIMIT;
+use encoding::MOST_TERMS;
 use league::League;
 use refutation::LogFault;
 use robin_io::Shelf;
@@ -39,7 +40,7 @@ pub fn has_few_terms(alloc: Global, league: &League) -> Result<(), NoValue>
 }
 
 /// The certificate that a text writes.
-fn certificate_in(alloc: Global, bytes: &[u8]) -> Result<Certificate, NoValue>
+fn certificate_in(alloc: Global, name: &str, bytes: &[u8]) -> Result<Certificate, NoValue>
     ensures { MatchStage result
         (λ certificate. certificate_of bytes.now ≡ Ok certificate)
         (IsMalformed (certificate_of bytes.now)) }
@@ -47,17 +48,17 @@ fn certificate_in(alloc: Global, bytes: &[u8]) -> Result<Certificate, NoValue>
     match read_certificate(alloc, bytes) {
         Ok(certificate) => Ok(certificate),
         Err(LogFault::Form { kind, line }) => {
-            Err(NoValue::Refused(log_refused(alloc, kind, line)?))
+            Err(NoValue::Refused(log_refused(alloc, name, kind, line)?))
         }
         Err(LogFault::Mem) => Err(NoValue::Memory),
     }
 }
 
 /// Judges the certificate that a text writes.
-fn judge_text(alloc: Global, bytes: &[u8], league: &League) -> Result<Reply, NoValue>
+fn judge_text(alloc: Global, name: &str, bytes: &[u8], league: &League) -> Result<Reply, NoValue>
     ensures { Answers (says_certificate (certificate_of bytes.now) (IsBoundVerdict league.now)) result }
 {
-    let certificate = certificate_in(alloc, bytes)?;
+    let certificate = certificate_in(alloc, name, bytes)?;
     Ok(judge(alloc, league, &certificate)?)
 }
 
@@ -76,8 +77,8 @@ pub fn bound_file<S: Shelf>(
     ensures contents { (n : List ℕ) → S.contents shelf.new n ≡ S.contents shelf.old n }
 {
     let first = file(alloc, shelf, "instance", instance, INSTANCE_LIMIT)?;
-    let league = league_in(alloc, &first)?;
+    let league = league_in(alloc, instance, &first)?;
     has_few_terms(alloc, &league)?;
     let second = file(alloc, shelf, "log", log, LOG_LIMIT)?;
-    judge_text(alloc, &second, &league)
+    judge_text(alloc, log, &second, &league)
 }

@@ -4,6 +4,7 @@ ghost use Rattle.bound_base.specs.BoundRows.{bound_rows, bound_size, bound_vars}
 ghost use Rattle.bound_laws.specs.Faithful.{IsLowerBound};
 ghost use Rattle.encoding.specs.Capped.{capped};
 ghost use Rattle.refutation.specs.Verdict.{verdict_of};
+ghost use Rattle.encoding.specs.Limit.{KeepsLimit};
 
 use bound_rows::bound_system;
 use encoding::EncodeFault;
@@ -28,10 +29,7 @@ pub fn check_bound(
     ensures verdict { IfOk result (λ verdict.
         verdict ≡ verdict_of (bound_rows league.now (bound - 1)) (bound_vars league.now) log.now) }
     ensures holds { result ≡ Ok Verdict.Accepted → IsLowerBound league.now bound }
-    ensures within { IsOk result → bound_size league.now ≤ 40000000 }
-    ensures too_large { 40000000 < bound_size league.now
-        → result ≡ Err (EncodeFault.TooLarge (capped (bound_size league.now))) }
-    ensures only { (terms : ℕ) → result ≡ Err (EncodeFault.TooLarge terms) → 40000000 < bound_size league.now }
+    ensures limit { KeepsLimit (bound_size league.now) (capped (bound_size league.now)) result }
 {
     let _n = league.n();
     let system = bound_system(alloc, league, bound - 1)?;

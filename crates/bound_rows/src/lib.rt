@@ -10,4 +10,4 @@ mod system;
 mod written;
 
 pub use count::bound_terms;
-pub use system::{BoundSystem, MOST_TERMS, bound_system};
+pub use system::{BoundSystem, bound_system};

@@ -5,17 +5,15 @@ ghost use Rattle.encoding_base.specs.Known.{AreKnown};
 ghost use Rattle.bound_base.specs.BoundRows as bounds;
 ghost use Rattle.bound_base.specs.BoundRows.{bound_rows, bound_size, bound_vars};
 ghost use Rattle.encoding.specs.Capped.{capped};
+ghost use Rattle.encoding.specs.Limit.{KeepsLimit, most_terms};
 
 use crate::count::bound_terms;
 use crate::written::{Written, write_bound};
-use encoding::EncodeFault;
+use encoding::{EncodeFault, MOST_TERMS};
 use league::League;
 use rows::RowStore;
 use std::alloc::{AllocError, Global};
 use std::marker::Model;
-
-/// The most terms that bound rows have (own limit).
-pub const MOST_TERMS: u64 = 40_000_000;
 
 /// The bound rows of a league and a bound on the objective: seen as these two. It keeps a copy of the league.
 #[derive(Drop)]
@@ -66,10 +64,7 @@ impl BoundSystem {
 /// `TooLarge` only where the rows have more than 40,000,000 terms, with their number; else only where memory runs out.
 pub fn bound_system(alloc: Global, league: &League, bound: u64) -> Result<BoundSystem, EncodeFault>
     ensures of { IfOk result (λ system. system ≡ record { league = league.now; bound = bound }) }
-    ensures within { IsOk result → bound_size league.now ≤ 40000000 }
-    ensures too_large { 40000000 < bound_size league.now
-        → result ≡ Err (EncodeFault.TooLarge (capped (bound_size league.now))) }
-    ensures only { (terms : ℕ) → result ≡ Err (EncodeFault.TooLarge terms) → 40000000 < bound_size league.now }
+    ensures limit { KeepsLimit (bound_size league.now) (capped (bound_size league.now)) result }
 {
     let terms = bound_terms(league);
     if terms > MOST_TERMS {
@@ -86,7 +81,7 @@ fn written_system(
     bound: u64,
     terms: u64,
 ) -> Result<BoundSystem, AllocError>
-    requires { bound_size league.now ≤ 40000000 }
+    requires { bound_size league.now ≤ most_terms }
     ensures { IfOk result (λ system. system ≡ record { league = league.now; bound = bound }) }
 {
     let Written { rows, vars } = write_bound(alloc, league, bound, terms)?;

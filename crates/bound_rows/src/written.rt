@@ -5,6 +5,7 @@ ghost use Rattle.bound_base.specs.BoundRows as bounds;
 ghost use Rattle.bound_base.specs.Softening.{objective_row, order_rows, softened_rows};
 ghost use Rattle.bound_groups.specs.Bare.{bare_groups, unit_total};
 ghost use Rattle.bound_rows.specs.Drafts.{rows_in, stripped, units_in};
+ghost use Rattle.encoding.specs.Limit.{most_terms};
 
 use crate::draft::{Draft, add_paid};
 use bound_base::{base_vars, needs_breaks};
@@ -28,7 +29,7 @@ pub(crate) fn write_bound(
     bound: u64,
     terms: u64,
 ) -> Result<Written, AllocError>
-    requires { bounds.bound_size league.now ≤ 40000000 }
+    requires { bounds.bound_size league.now ≤ most_terms }
     ensures rows { IfOk result (λ written. written.rows ≡ bounds.bound_rows league.now bound) }
     ensures vars { IfOk result (λ written. written.vars ≡ bounds.bound_vars league.now) }
     ensures few { IfOk result (λ written. written.vars ≤ 40130960) }
@@ -41,7 +42,7 @@ pub(crate) fn write_bound(
 
 /// The rows of the league and of the groups.
 fn softened(alloc: Global, league: &League, first: u32, terms: u64) -> Result<Draft, AllocError>
-    requires size { bounds.bound_size league.now ≤ 40000000 }
+    requires size { bounds.bound_size league.now ≤ most_terms }
     requires first { first ≡ bounds.first_unit league.now }
     requires few { first ≤ 130961 }
     ensures rows { IfOk result (λ draft. draft.rows

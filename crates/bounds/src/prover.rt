@@ -14,13 +14,14 @@ ghost use Rattle.bound_base.specs.BoundRows.{bound_rows, bound_size, bound_vars}
 ghost use Rattle.encoding.specs.Capped.{capped};
 ghost use Rattle.bounds.specs.Lower.{IsLower};
 ghost use Rattle.bounds.specs.Proofs.{IsProved};
+ghost use Rattle.encoding.specs.Limit.{KeepsLimit, most_terms};
 
 use crate::cost::objective_of;
 use crate::proved::Proved;
-use bound_rows::{MOST_TERMS, bound_system, bound_terms};
+use bound_rows::{bound_system, bound_terms};
 use clause_search::{Found, search};
 use decoding::decode;
-use encoding::{EncodeFault, encode};
+use encoding::{EncodeFault, MOST_TERMS, encode};
 use league::{Constraint, League, Schedule};
 use refutation::Log;
 use rows::Assignment;
@@ -50,10 +51,7 @@ pub fn prove(
     requires fit { All (IsGame league.now.n) schedule.now }
     requires few { length schedule.now ≤ 10000 }
     ensures proved { IfOk result (IsProved league.now (counts_of schedule.now) conflicts) }
-    ensures within { IsOk result → bound_size league.now ≤ 40000000 }
-    ensures too_large { 40000000 < bound_size league.now
-        → result ≡ Err (EncodeFault.TooLarge (capped (bound_size league.now))) }
-    ensures only { (terms : ℕ) → result ≡ Err (EncodeFault.TooLarge terms) → 40000000 < bound_size league.now }
+    ensures limit { KeepsLimit (bound_size league.now) (capped (bound_size league.now)) result }
 {
     let terms = bound_terms(league);
     if terms > MOST_TERMS {
@@ -74,9 +72,9 @@ fn shown(
     requires accepted { IsAccepted league.now (counts_of schedule.now) }
     requires fit { All (IsGame league.now.n) schedule.now }
     requires few { length schedule.now ≤ 10000 }
-    requires size { bound_size league.now ≤ 40000000 }
+    requires size { bound_size league.now ≤ most_terms }
     ensures proved { IfOk result (IsProved league.now (counts_of schedule.now) conflicts) }
-    ensures only { (terms : ℕ) → result ≡ Err (EncodeFault.TooLarge terms) → 40000000 < bound_size league.now }
+    ensures only { (terms : ℕ) → result ≡ Err (EncodeFault.TooLarge terms) → most_terms < bound_size league.now }
 {
     let _n = league.n();
     let _greatest = greatest_penalty(league.constraints());
@@ -140,7 +138,7 @@ fn searched(
     ensures proved { IfOk result (λ proved. (m : Counts) → costs.objective league.now m ≡ objective
         → IsSettled league.now.n league.now.phased (league_score league.now) m
         → IsProved league.now m conflicts proved) }
-    ensures only { (terms : ℕ) → result ≡ Err (EncodeFault.TooLarge terms) → 40000000 < bound_size league.now }
+    ensures only { (terms : ℕ) → result ≡ Err (EncodeFault.TooLarge terms) → most_terms < bound_size league.now }
 {
     let _n = league.n();
     let system = bound_system(alloc, league, objective - 1)?;
@@ -167,7 +165,7 @@ fn decoded(
     requires satisfied { SatisfiesAll (assigned values.now) (bound_rows league.now (objective - 1)) }
     ensures proved { IfOk result (λ proved. (m : Counts) (limit : Option ℕ)
         → costs.objective league.now m ≡ objective → IsProved league.now m limit proved) }
-    ensures only { (terms : ℕ) → result ≡ Err (EncodeFault.TooLarge terms) → 40000000 < bound_size league.now }
+    ensures only { (terms : ℕ) → result ≡ Err (EncodeFault.TooLarge terms) → most_terms < bound_size league.now }
 {
     let schedule = schedule_of(alloc, league, values, objective)?;
     let found = objective_of(alloc, league, &schedule)?;
@@ -192,7 +190,7 @@ fn schedule_of(
     requires count { length values.now ≡ bound_vars league.now }
     requires satisfied { SatisfiesAll (assigned values.now) (bound_rows league.now (objective - 1)) }
     ensures lower { IfOk result (IsLower league.now objective) }
-    ensures only { (terms : ℕ) → result ≡ Err (EncodeFault.TooLarge terms) → 40000000 < bound_size league.now }
+    ensures only { (terms : ℕ) → result ≡ Err (EncodeFault.TooLarge terms) → most_terms < bound_size league.now }
 {
     let _n = league.n();
     let encoding = encode(alloc, league)?;

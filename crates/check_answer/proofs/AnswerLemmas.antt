@@ -15,7 +15,8 @@ use Rattle.encoding.specs.Encoding.{encoding_size, rows_of}
 use Rattle.refutation.specs.Steps.{Step}
 use Rattle.refutation.specs.Logs.{Fault, log_of}
 use Rattle.season_check.specs.Excluded.{NoneAccepted}
-use Rattle.check_answer.specs.Check.{IsVerdict, IsWellFormedLog, checked, encodes, most_log_bytes, most_terms, says_log}
+use Rattle.check_answer.specs.Check.{IsVerdict, IsWellFormedLog, checked, encodes, most_log_bytes, says_log}
+use Rattle.encoding.specs.Limit.{most_terms}
 
 -- the stages behind the instance file, whose bytes were so many
 abbrev pub log_stages : Store → List ℕ → ℕ → Instance → Outcome

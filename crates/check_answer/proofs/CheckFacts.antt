@@ -11,7 +11,7 @@ use Rattle.league.specs.declared.class.Class.TheVariants.{Ca1}
 use Rattle.league.specs.declared.class.Side.TheVariants.{H}
 use Rattle.robinx_form.specs.InstanceFile.{instance_of}
 use Rattle.robinx_form.specs.Walk.{walk}
-use Rattle.answers.specs.Reply.{Answer, read_fault, too_large, too_long}
+use Rattle.answers.specs.Reply.{Answer, log_malformed, read_fault, too_large, too_long}
 use Rattle.answers.specs.declared.status.Status.TheVariants.{Yes, No, File, ReadFault}
 use Rattle.encoding.specs.Encoding.{encoding_size, rows_of}
 use Rattle.encoding.specs.Variables.{var_count}
@@ -20,23 +20,17 @@ use Rattle.refutation.specs.Steps.Step.{Clause}
 use Rattle.refutation.specs.Logs as logs
 use Rattle.refutation.specs.Logs.{lines_from, log_of}
 use Rattle.refutation.specs.Verdict.{verdict_of}
-use Rattle.refutation.specs.declared.fault.LogKind.TheVariants.{BadLine, BadNumber, NoEnd, TooLong}
+use Rattle.refutation.specs.declared.fault.LogKind.TheVariants.{BadLine}
 use Rattle.refutation.specs.declared.verdict.Cause.TheVariants.{UnknownRow, UnknownVariable, NoConflict, NoEmptyClause, TooWide}
 use Rattle.refutation.specs.declared.verdict.Verdict.TheVariants.{Accepted, Rejected}
-use Rattle.check_answer.specs.Check.{IsVerdict, IsWellFormedLog, cause_word, checked, kind_word, log_malformed, most_log_bytes, most_terms, says_log, verdict_answer}
+use Rattle.check_answer.specs.Check.{IsVerdict, IsWellFormedLog, cause_word, checked, most_log_bytes, says_log, verdict_answer}
 use Rattle.check_answer.proofs.AnswerLemmas.{checked-at_log, checked-well_formed}
+use Rattle.encoding.specs.Limit.{most_terms}
 
 -- ---- texts
 
-pub kind_word-all : (kind_word BadLine ≡ codes "BadLine") × (kind_word BadNumber ≡ codes "BadNumber") × (kind_word NoEnd ≡ codes "NoEnd") × (kind_word TooLong ≡ codes "TooLong")
-kind_word-all = (refl, refl, refl, refl)
-
 pub cause_word-all : (cause_word UnknownRow ≡ codes "UnknownRow") × (cause_word UnknownVariable ≡ codes "UnknownVariable") × (cause_word NoConflict ≡ codes "NoConflict") × (cause_word NoEmptyClause ≡ codes "NoEmptyClause") × (cause_word TooWide ≡ codes "TooWide")
 cause_word-all = (refl, refl, refl, refl, refl)
-
-pub log_malformed-some : log_malformed BadLine 3 ≡ record { status = File; text = codes "refused log BadLine line 3\n" }
-unfolding digits
-log_malformed-some = refl
 
 pub too_large-some : too_large 49177440 ≡ record { status = File; text = codes "refused rows TooLarge terms 49177440\n" }
 unfolding digits

@@ -8,7 +8,7 @@ use Rattle.rows.specs.Rows.{Row}
 use Rattle.robinx_tags.specs.Pieces.{pieces}
 use Rattle.robinx_form.specs.InstanceFile.{instance_of}
 use Rattle.robinx_read.specs.declared.instance.TheConstants.{INSTANCE_LIMIT}
-use Rattle.answers.specs.Reply.{Answer, too_large}
+use Rattle.answers.specs.Reply.{Answer, log_malformed, too_large}
 use Rattle.answers.specs.Stages.{Outcome, IsFile, reads, takes}
 use Rattle.answers.specs.declared.status.Status.TheVariants.{Yes}
 use Rattle.answers.proofs.StageLemmas.{says-value, takes-rest}
@@ -24,10 +24,11 @@ use Rattle.refutation.specs.declared.verdict.Verdict.TheVariants.{Accepted, Reje
 use Rattle.refutation_check.specs.Judged.{Judged, no_step_of, verdict_so_far}
 use Rattle.refutation_check.proofs.VerdictLemmas.{steps_give_verdict}
 use Rattle.season_check.proofs.SeasonLemmas.{accepted_logs_exclude}
-use Rattle.check_answer.specs.Check.{IsVerdict, IsVerdictOver, checked, encodes, log_malformed, most_log_bytes}
-use Rattle.check_answer.specs.Check.{most_terms, says_log, verdict_answer}
+use Rattle.check_answer.specs.Check.{IsVerdict, IsVerdictOver, checked, encodes, most_log_bytes}
+use Rattle.check_answer.specs.Check.{says_log, verdict_answer}
 use Rattle.check_answer.specs.Feeding.{ChecksOn}
 use Rattle.check_answer.proofs.FeedingLemmas.{log-ended, log-faulty}
+use Rattle.encoding.specs.Limit.{most_terms}
 
 -- ---- stages
 

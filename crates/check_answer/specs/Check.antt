@@ -6,17 +6,16 @@ use Rattle.robinx_tags.specs.Pieces.{pieces}
 use Rattle.league.specs.Instance.{Instance}
 use Rattle.robinx_form.specs.InstanceFile.{instance_of}
 use Rattle.robinx_read.specs.declared.instance.TheConstants.{INSTANCE_LIMIT}
-use Rattle.answers.specs.Reply.{Answer, too_large}
+use Rattle.answers.specs.Reply.{Answer, log_malformed, too_large}
 use Rattle.answers.specs.Stages.{◌>>=◌, Outcome, reads, says}
-use Rattle.answers.specs.declared.status.Status.TheVariants.{Yes, No, File}
+use Rattle.answers.specs.declared.status.Status.TheVariants.{Yes, No}
 use Rattle.rows.specs.Rows.{Row}
 use Rattle.encoding.specs.Encoding.{encoding_size, rows_of}
+use Rattle.encoding.specs.Limit.{most_terms}
 use Rattle.encoding.specs.Variables.{var_count}
 use Rattle.refutation.specs.Steps.{Step}
 use Rattle.refutation.specs.Logs.{Fault, log_of}
 use Rattle.refutation.specs.Verdict.{verdict_of}
-use Rattle.refutation.specs.declared.fault.LogKind.{LogKind}
-use Rattle.refutation.specs.declared.fault.LogKind.TheVariants.{BadLine, BadNumber, NoEnd, TooLong}
 use Rattle.refutation.specs.declared.verdict.Cause.{Cause}
 use Rattle.refutation.specs.declared.verdict.Cause.TheVariants.{UnknownRow, UnknownVariable, NoConflict, NoEmptyClause}
 use Rattle.refutation.specs.declared.verdict.Cause.TheVariants.{TooWide}
@@ -28,25 +27,7 @@ use Rattle.season_check.specs.Excluded.{NoneAccepted}
 abbrev pub most_log_bytes : ℕ
 most_log_bytes = 268435456
 
--- the most terms of a league's rows (own limit)
-abbrev pub most_terms : ℕ
-most_terms = 40000000
-
 -- ---- texts
-
--- the name of a fault of a log's form
-abbrev pub kind_word : LogKind → List ℕ
-kind_word BadLine = codes "BadLine"
-kind_word BadNumber = codes "BadNumber"
-kind_word NoEnd = codes "NoEnd"
-kind_word TooLong = codes "TooLong"
-
--- the log has this fault of form on this line, and none before it
-abbrev pub log_malformed : LogKind → ℕ → Answer
-log_malformed kind line = record {
-  status = File;
-  text = codes "refused log " ++ (kind_word kind ++ (codes " line " ++ (decimal line ++ codes "\n")));
-}
 
 -- the name of a cause
 abbrev pub cause_word : Cause → List ℕ

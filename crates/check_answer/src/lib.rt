@@ -9,5 +9,5 @@ mod replies;
 mod stages;
 
 pub use feeding::LOG_LIMIT;
-pub use replies::{log_refused, verdict_reply};
+pub use replies::verdict_reply;
 pub use stages::{check, judge_log};

@@ -9,13 +9,14 @@ ghost use Rattle.refutation_check.specs.Judged.{no_step_of};
 ghost use Rattle.answers.specs.Reply.{too_large};
 ghost use Rattle.answers.specs.SeenReply.{Answers, MatchStage};
 ghost use Rattle.answers.specs.Stages.{IsUnread, reads};
-ghost use Rattle.check_answer.specs.Check.{IsVerdict, IsVerdictOver, checked, most_log_bytes, most_terms};
+ghost use Rattle.check_answer.specs.Check.{IsVerdict, IsVerdictOver, checked, most_log_bytes};
 ghost use Rattle.check_answer.specs.Check.{says_log};
 ghost use Rattle.check_answer.specs.Feeding.{ChecksFile, ChecksOn};
+ghost use Rattle.encoding.specs.Limit.{most_terms};
 
 use crate::feeding::{LOG_LIMIT, check_file};
-use crate::replies::{log_refused, verdict_reply};
-use answers::{NoValue, Reply, file, league_in, past_limit, rows_refused, unreadable};
+use crate::replies::verdict_reply;
+use answers::{NoValue, Reply, file, league_in, log_refused, past_limit, rows_refused, unreadable};
 use encoding::{EncodeFault, Encoding, encode};
 use league::League;
 use refutation::{LogFault, LogFeed};
@@ -82,6 +83,7 @@ fn log_in<S: Shelf>(
 /// The answer at the end of the log, whose steps the checker has judged.
 fn verdict_on(
     alloc: Global,
+    name: &str,
     feed: LogFeed,
     checker: &Checker,
     steps: usize,
@@ -93,7 +95,7 @@ fn verdict_on(
     match feed.finish() {
         Ok(()) => Ok(verdict_reply(alloc, steps, checker.verdict())?),
         Err(LogFault::Form { kind, line }) => {
-            Err(NoValue::Refused(log_refused(alloc, kind, line)?))
+            Err(NoValue::Refused(log_refused(alloc, name, kind, line)?))
         }
         Err(LogFault::Mem) => Err(NoValue::Memory),
     }
@@ -117,7 +119,7 @@ pub fn judge_log<S: Shelf>(
 {
     let mut feed = LogFeed::new(alloc);
     let steps = log_in(alloc, shelf, name, &mut feed, checker)?;
-    verdict_on(alloc, feed, checker, steps)
+    verdict_on(alloc, name, feed, checker, steps)
 }
 
 /// Checks a log over the rows of a league.
@@ -154,7 +156,7 @@ pub fn check<S: Shelf>(
     ensures contents { (n : List ℕ) → S.contents shelf.new n ≡ S.contents shelf.old n }
 {
     let first = file(alloc, shelf, "instance", instance, INSTANCE_LIMIT)?;
-    let league = league_in(alloc, &first)?;
+    let league = league_in(alloc, instance, &first)?;
     let encoding = encoding_of(alloc, &league)?;
     check_log(alloc, shelf, log, &encoding)
 }

@@ -8,7 +8,8 @@ pub use Rattle.encoding_base.specs.Demands
 pub use Rattle.encoding_base.specs.Encoding
 pub use Rattle.encoding_base.specs.Known
 pub use Rattle.encoding_base.specs.Shadow
--- A number of terms that is too large, as it is told:
+-- The limit on a league's rows, and a number of terms as it is told:
+pub mod Limit
 pub mod Capped
 -- Kept inside (laws, and how fields are seen):
 --

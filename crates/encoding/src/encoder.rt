@@ -1,6 +1,7 @@
 //! From a league to its encoding.
-ghost use Rattle.std.specs.Prelude.{◌≡◌, ℕ, ◌<◌, ◌≤◌, IfOk, IsOk, Err};
+ghost use Rattle.std.specs.Prelude.{◌≡◌, IfOk};
 ghost use Rattle.encoding_base.specs.Encoding.{encoding_size};
+ghost use Rattle.encoding.specs.Limit.{KeepsLimit};
 
 use crate::encoding::Encoding;
 use encoding_base::has_breaks;
@@ -10,8 +11,8 @@ use league::League;
 use std::alloc::{AllocError, Global};
 use thiserror::Error;
 
-/// The most terms that an encoding has (own limit).
-const MOST_TERMS: u64 = 40_000_000;
+/// The most terms that the rows of a league have, whichever rows they are (own limit).
+pub const MOST_TERMS: u64 = 40_000_000;
 
 /// Why a league has no encoding.
 #[derive(Debug, Drop, Error)]
@@ -43,10 +44,7 @@ impl From<AllocError> for EncodeFault {
 /// out.
 pub fn encode(alloc: Global, league: &League) -> Result<Encoding, EncodeFault>
     ensures league { IfOk result (λ encoding. encoding ≡ league.now) }
-    ensures within { IsOk result → encoding_size league.now ≤ 40000000 }
-    ensures too_large { 40000000 < encoding_size league.now
-        → result ≡ Err (EncodeFault.TooLarge (encoding_size league.now)) }
-    ensures only { (terms : ℕ) → result ≡ Err (EncodeFault.TooLarge terms) → 40000000 < encoding_size league.now }
+    ensures limit { KeepsLimit (encoding_size league.now) (encoding_size league.now) result }
 {
     let terms = encoding_size(league);
     if terms > MOST_TERMS {

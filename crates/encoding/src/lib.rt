@@ -8,5 +8,5 @@
 mod encoder;
 mod encoding;
 
-pub use encoder::{EncodeFault, encode};
+pub use encoder::{EncodeFault, MOST_TERMS, encode};
 pub use encoding::Encoding;

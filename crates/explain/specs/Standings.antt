@@ -18,6 +18,7 @@ use Rattle.explain.specs.declared.explained.Explained.{Explained}
 use Rattle.explain.specs.declared.explained.Explained.TheVariants.{Conflict}
 use Rattle.explain.specs.declared.member.Contradiction.{Contradiction}
 use Rattle.explain.specs.declared.member.Member.{Member}
+use Rattle.encoding.specs.Limit.{most_terms}
 
 abbrev pub numbers_of : List Member → List ℕ
 numbers_of members = map (λ m. m.number) members
@@ -36,7 +37,7 @@ open_member number = record { number = number; case = None }
 pub record IsExplained (league : Instance) (limit : Option ℕ) (members : List Member) (log : List Step) : Type 0 where
   pub ascending : IsAscending nat_cmp (numbers_of members)
   pub hard : All (λ k. is_hard_number league.constraints k ≡ true) (numbers_of members)
-  pub small : encoding_size (part_of league (numbers_of members)) ≤ 40000000
+  pub small : encoding_size (part_of league (numbers_of members)) ≤ most_terms
   pub few : var_count (part_of league (numbers_of members)) ≤ var_count league
   pub refuted : RefutesLeague (part_of league (numbers_of members)) log
   pub known : All (λ m. IfSome m.case (IsCase league limit (numbers_of members) m.number)) members

@@ -10,12 +10,14 @@ ghost use Rattle.encoding_base.specs.Encoding.{encoding_size};
 ghost use Rattle.parts.specs.Parts.{is_hard_number, part_of};
 ghost use Rattle.venue_counts.specs.VenueCounts.{are_crowded, are_short};
 ghost use Rattle.explain.specs.Attempts.{IsAttempt, IsMet, IsRefuted};
+ghost use Rattle.encoding.specs.Limit.{KeepsLimit, most_terms};
 
 use budgets::Budgets;
+use encoding::EncodeFault;
 use league::{League, Schedule};
 use parts::{PartFault, part};
 use refutation::Log;
-use solve::{SolveFault, Solved, solve};
+use solve::{Solved, solve};
 use std::alloc::{AllocError, Global};
 
 /// What a try came to.
@@ -60,11 +62,8 @@ pub(crate) fn searched(
     alloc: Global,
     league: &League,
     conflicts: Option<u64>,
-) -> Result<Attempt, SolveFault>
-    ensures within { IsOk result → encoding_size league.now ≤ 40000000 }
-    ensures too_large { 40000000 < encoding_size league.now
-        → result ≡ Err (SolveFault.TooLarge (encoding_size league.now)) }
-    ensures only { (terms : ℕ) → result ≡ Err (SolveFault.TooLarge terms) → 40000000 < encoding_size league.now }
+) -> Result<Attempt, EncodeFault>
+    ensures limit { KeepsLimit (encoding_size league.now) (encoding_size league.now) result }
     ensures attempt { IfOk result (IsAttempt league.now conflicts) }
     ensures circle { IsAccepted league.now (counts_of (double_games league.now.n)) → IfOk result IsMet }
     ensures short { are_short league.now ≡ true → IfOk result IsRefuted }
@@ -119,13 +118,13 @@ pub(crate) fn try_part(
 ) -> Result<Attempt, AllocError>
     requires ascending { IsAscending nat_cmp members.now }
     requires hard { All (λ k. is_hard_number league.now.constraints k ≡ true) members.now }
-    requires small { encoding_size (part_of league.now members.now) ≤ 40000000 }
+    requires small { encoding_size (part_of league.now members.now) ≤ most_terms }
     ensures { IfOk result (IsAttempt (part_of league.now members.now) conflicts) }
 {
     let part = known_part(alloc, league, members)?;
     match searched(alloc, &part, conflicts) {
         Ok(attempt) => Ok(attempt),
-        Err(SolveFault::TooLarge { .. }) => unreachable!(),
-        Err(SolveFault::Mem) => Err(AllocError),
+        Err(EncodeFault::TooLarge { .. }) => unreachable!(),
+        Err(EncodeFault::Mem) => Err(AllocError),
     }
 }

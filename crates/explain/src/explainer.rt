@@ -10,6 +10,7 @@ ghost use Rattle.venue_counts.specs.VenueCounts.{are_crowded, are_short};
 ghost use Rattle.explain.specs.Conflicts.{HasConflict, HasSchedule, IsAmple, IsDecided, IsExplanation};
 ghost use Rattle.explain.specs.Conflicts.{IsIrreducibleIfDecided};
 ghost use Rattle.explain.specs.Standings.{said_of};
+ghost use Rattle.encoding.specs.Limit.{KeepsLimit, most_terms};
 
 use crate::attempt::{Attempt, searched};
 use crate::cases::Cases;
@@ -18,9 +19,9 @@ use crate::explained::Explained;
 use crate::member::{Contradiction, all_open, cases_of, numbers_of};
 use crate::members::Members;
 use crate::smaller::minimise;
+use encoding::EncodeFault;
 use league::League;
 use refutation::Log;
-use solve::SolveFault;
 use std::alloc::{AllocError, Global};
 
 /// Finds hard constraints that contradict each other, or a schedule that the league accepts.
@@ -38,11 +39,8 @@ pub fn explain(
     alloc: Global,
     league: &League,
     conflicts: Option<u64>,
-) -> Result<Explained, SolveFault>
-    ensures within { IsOk result → encoding_size league.now ≤ 40000000 }
-    ensures too_large { 40000000 < encoding_size league.now
-        → result ≡ Err (SolveFault.TooLarge (encoding_size league.now)) }
-    ensures only { (terms : ℕ) → result ≡ Err (SolveFault.TooLarge terms) → 40000000 < encoding_size league.now }
+) -> Result<Explained, EncodeFault>
+    ensures limit { KeepsLimit (encoding_size league.now) (encoding_size league.now) result }
     ensures explanation { IfOk result (IsExplanation league.now conflicts) }
 
     // Where each case of a conflict is a schedule, the conflict is irreducible.
@@ -80,7 +78,7 @@ fn conflict(
     log: Log,
     conflicts: Option<u64>,
 ) -> Result<Explained, AllocError>
-    requires small { encoding_size league.now ≤ 40000000 }
+    requires small { encoding_size league.now ≤ most_terms }
     requires refuted { RefutesLeague league.now log }
     ensures explanation { IfOk result (IsExplanation league.now conflicts) }
     ensures irreducible { IfOk result (IsIrreducibleIfDecided league.now) }

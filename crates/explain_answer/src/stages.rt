@@ -7,11 +7,11 @@ ghost use Rattle.explain_answer.specs.Explained.{IsFound, explained};
 
 use crate::replies::found_reply;
 use answers::{NoValue, Reply, file, league_in, rows_refused};
+use encoding::EncodeFault;
 use explain::explain;
 use league::League;
 use robin_io::Shelf;
 use robinx_read::INSTANCE_LIMIT;
-use solve::SolveFault;
 use std::alloc::{AllocError, Global};
 
 /// Explains a league, and answers it.
@@ -20,8 +20,8 @@ fn found_of(alloc: Global, league: &League, conflicts: Option<u64>) -> Result<Re
 {
     match explain(alloc, league, conflicts) {
         Ok(explained) => Ok(found_reply(alloc, league, conflicts, &explained)?),
-        Err(SolveFault::TooLarge { terms }) => Err(NoValue::Refused(rows_refused(alloc, terms)?)),
-        Err(SolveFault::Mem) => Err(NoValue::Memory),
+        Err(EncodeFault::TooLarge { terms }) => Err(NoValue::Refused(rows_refused(alloc, terms)?)),
+        Err(EncodeFault::Mem) => Err(NoValue::Memory),
     }
 }
 
@@ -42,6 +42,6 @@ pub fn explain_file<S: Shelf>(
     ensures contents { (n : List ℕ) → S.contents shelf.new n ≡ S.contents shelf.old n }
 {
     let bytes = file(alloc, shelf, "instance", instance, INSTANCE_LIMIT)?;
-    let league = league_in(alloc, &bytes)?;
+    let league = league_in(alloc, instance, &bytes)?;
     found_of(alloc, &league, conflicts)
 }

@@ -11,9 +11,10 @@ use Rattle.answers.specs.declared.status.Status.TheVariants.{Yes, File, Refuted,
 use Rattle.season_check.specs.Excluded.{NoneAccepted}
 use Rattle.answers.proofs.StageLemmas.{takes-known, takes-refuted, says-known}
 use Rattle.encoding_base.specs.Encoding.{encoding_size}
-use Rattle.check_answer.specs.Check.{encodes, most_terms}
+use Rattle.check_answer.specs.Check.{encodes}
 use Rattle.check_answer.proofs.AnswerLemmas.{encodes-small}
 use Rattle.patterns_answer.specs.Patterns.{AreFound, patterned}
+use Rattle.encoding.specs.Limit.{most_terms}
 
 -- what is found behind the instance file
 abbrev pub found_of : Option ℕ → Instance → Outcome

@@ -9,11 +9,11 @@ use Rattle.robinx_read.specs.declared.instance.TheConstants.{INSTANCE_LIMIT, SOL
 use Rattle.answers.specs.Reply.{Answer, too_large}
 use Rattle.answers.specs.Stages.{IsFile, IsUnread, says, takes}
 use Rattle.answers.proofs.StageLemmas.{says-value}
-use Rattle.check_answer.specs.Check.{most_terms}
 use Rattle.bound_base.specs.BoundRows.{bound_size}
 use Rattle.encoding.specs.Capped.{capped}
 use Rattle.bound_answer.specs.Bound.{has_few_terms}
 use Rattle.prove_answer.specs.Prove.{IsShown, proved}
+use Rattle.encoding.specs.Limit.{most_terms}
 
 -- the stages behind the instance file, whose bytes were so many
 abbrev pub solution_stages : Store → List ℕ → Option ℕ → ℕ

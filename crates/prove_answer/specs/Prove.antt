@@ -27,8 +27,8 @@ use Rattle.bound_base.specs.BoundRows.{bound_rows, bound_size, bound_vars}
 use Rattle.bound_laws.specs.Faithful.{IsLowerBound}
 use Rattle.certificates.specs.Certificates.{certificate_of, certificate_text}
 use Rattle.validate_answer.specs.Validate.{IsJudgement, IsWellFormedPair}
-use Rattle.check_answer.specs.Check.{most_terms}
 use Rattle.bound_answer.specs.Bound.{bound_verdict, has_few_terms}
+use Rattle.encoding.specs.Limit.{most_terms}
 
 -- ---- what is shown of a schedule
 

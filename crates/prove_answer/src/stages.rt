@@ -69,6 +69,7 @@ fn show(
 /// Answers what is shown of the schedule that a solution file says.
 fn show_file(
     alloc: Global,
+    name: &str,
     bytes: &[u8],
     league: &League,
     conflicts: Option<u64>,
@@ -78,7 +79,7 @@ fn show_file(
         (says (codes "solution") (solution_of league.now.n (pieces bytes.now)) (IsShown league.now conflicts))
         result }
 {
-    let schedule = schedule_in(alloc, bytes, league)?;
+    let schedule = schedule_in(alloc, name, bytes, league)?;
     Ok(show(alloc, league, &schedule, conflicts)?)
 }
 
@@ -99,8 +100,8 @@ pub fn prove_file<S: Shelf>(
     ensures contents { (n : List ℕ) → S.contents shelf.new n ≡ S.contents shelf.old n }
 {
     let first = file(alloc, shelf, "instance", instance, INSTANCE_LIMIT)?;
-    let league = league_in(alloc, &first)?;
+    let league = league_in(alloc, instance, &first)?;
     has_few_terms(alloc, &league)?;
     let second = file(alloc, shelf, "solution", solution, SOLUTION_LIMIT)?;
-    show_file(alloc, &second, &league, conflicts)
+    show_file(alloc, solution, &second, &league, conflicts)
 }

@@ -12,6 +12,7 @@ ghost use Rattle.resume_rows.specs.Kept.{resume_rows};
 ghost use Rattle.resume_rows.specs.Resumable.{NoneResumes};
 ghost use Rattle.encoding.specs.Capped.{capped};
 ghost use Rattle.resume_rows.specs.Systems.{rows_for};
+ghost use Rattle.encoding.specs.Limit.{KeepsLimit};
 
 use encoding::EncodeFault;
 use league::{League, Schedule};
@@ -39,11 +40,7 @@ pub fn check_resume(
     ensures verdict { IfOk result (λ verdict. verdict
         ≡ verdict_of (resume_rows league.now (counts_of played.now) k) (var_count league.now) log.now) }
     ensures none { result ≡ Ok Verdict.Accepted → NoneResumes league.now (counts_of played.now) k }
-    ensures within { IsOk result → kept.resume_size league.now k ≤ 40000000 }
-    ensures too_large { 40000000 < kept.resume_size league.now k
-        → result ≡ Err (EncodeFault.TooLarge (capped (kept.resume_size league.now k))) }
-    ensures only { (terms : ℕ) → result ≡ Err (EncodeFault.TooLarge terms)
-        → 40000000 < kept.resume_size league.now k }
+    ensures limit { KeepsLimit (kept.resume_size league.now k) (capped (kept.resume_size league.now k)) result }
 {
     let _n = league.n();
     let system = resume_system(alloc, league, played, k)?;

@@ -17,15 +17,16 @@ ghost use Rattle.encoding.specs.Capped.{capped};
 ghost use Rattle.resume_rows.specs.Systems.{rows_for};
 ghost use Rattle.resume.specs.Answers.{IsPlan, IsResumed};
 ghost use Rattle.resume.specs.Found.{MeetsLeague, Tells};
+ghost use Rattle.encoding.specs.Limit.{KeepsLimit};
 
 use crate::plan::{old_plan, preferred};
 use crate::resumed::Resumed;
 use crate::season::season_of;
 use clause_search::{Found, search};
 use deviation::assess;
-use encoding::EncodeFault;
+use encoding::{EncodeFault, MOST_TERMS};
 use league::{League, Schedule};
-use resume_rows::{MOST_TERMS, ResumeSystem, resume_size, resume_system};
+use resume_rows::{ResumeSystem, resume_size, resume_system};
 use rows::Assignment;
 use std::alloc::{AllocError, Global};
 
@@ -49,11 +50,7 @@ pub fn resume(
     requires few { length played.now ≤ 10000 }
     requires fit { All (IsGame league.now.n) played.now }
     requires slots { k ≤ counts.slot_count league.now.n }
-    ensures within { IsOk result → kept.resume_size league.now k ≤ 40000000 }
-    ensures too_large { 40000000 < kept.resume_size league.now k
-        → result ≡ Err (EncodeFault.TooLarge (capped (kept.resume_size league.now k))) }
-    ensures only { (terms : ℕ) → result ≡ Err (EncodeFault.TooLarge terms)
-        → 40000000 < kept.resume_size league.now k }
+    ensures limit { KeepsLimit (kept.resume_size league.now k) (capped (kept.resume_size league.now k)) result }
     ensures answer { IfOk result (IsResumed league.now played.now k conflicts) }
 
     // Where the league accepts what `played` has, the answer is a schedule of the same games.
@@ -81,11 +78,7 @@ fn searched(
     requires few { length played.now ≤ 10000 }
     requires fit { All (IsGame league.now.n) played.now }
     requires slots { k ≤ counts.slot_count league.now.n }
-    ensures within { IsOk result → kept.resume_size league.now k ≤ 40000000 }
-    ensures too_large { 40000000 < kept.resume_size league.now k
-        → result ≡ Err (EncodeFault.TooLarge (capped (kept.resume_size league.now k))) }
-    ensures only { (terms : ℕ) → result ≡ Err (EncodeFault.TooLarge terms)
-        → 40000000 < kept.resume_size league.now k }
+    ensures limit { KeepsLimit (kept.resume_size league.now k) (capped (kept.resume_size league.now k)) result }
     ensures answer { IfOk result (IsResumed league.now played.now k conflicts) }
 {
     let _n = league.n();

@@ -18,7 +18,7 @@ use Rattle.answers.specs.declared.status.Status.TheVariants.{Yes, File, Refuted,
 use Rattle.answers.proofs.StageLemmas.{first-works, says-known, second-works, takes-known, third-works}
 use Rattle.refutation.specs.Logs.{Fault, log_of}
 use Rattle.refutation.specs.Steps.{Step}
-use Rattle.check_answer.specs.Check.{most_log_bytes, most_terms, says_log}
+use Rattle.check_answer.specs.Check.{most_log_bytes, says_log}
 use Rattle.check_answer.proofs.AnswerLemmas.{said-known}
 use Rattle.resume_rows.specs.Kept.{resume_size}
 use Rattle.resume_rows.specs.Resumable.{NoneResumes}
@@ -27,6 +27,7 @@ use Rattle.resume_answer.specs.Resumed.{IsFound, IsPlanned, resumed}
 use Rattle.resume_answer.specs.Seasons.{IsWellFormedSeason, SaySeason, has_size, has_slots, plays}
 use Rattle.resume_answer.specs.declared.season.Season.{Season}
 use Rattle.resume_answer.proofs.StageLemmas.{after_first, after_league, after_second, after_size, at_log}
+use Rattle.encoding.specs.Limit.{most_terms}
 
 -- ---- well-formed files
 

@@ -23,7 +23,7 @@ use Rattle.refutation.specs.Steps.Step.{Clause}
 use Rattle.refutation.specs.Verdict.{verdict_of}
 use Rattle.refutation.specs.declared.verdict.Cause.TheVariants.{UnknownRow}
 use Rattle.refutation.specs.declared.verdict.Verdict.TheVariants.{Accepted, Rejected}
-use Rattle.check_answer.specs.Check.{most_terms, verdict_answer}
+use Rattle.check_answer.specs.Check.{verdict_answer}
 use Rattle.resume_rows.specs.Kept.{resume_rows, resume_size}
 use Rattle.resume_rows.specs.Resumable.{NoneResumes}
 use Rattle.resume_answer.specs.Audited.{IsVerdict, IsWellFormedAudit, audited}
@@ -32,6 +32,7 @@ use Rattle.resume_answer.specs.Seasons.{has_size, has_slots, slot_refused}
 use Rattle.resume_answer.specs.declared.season.Season.{Season}
 use Rattle.resume_answer.proofs.AnswerLemmas.{audited-well_formed}
 use Rattle.resume_answer.proofs.StageLemmas.{after_first, after_league, after_size}
+use Rattle.encoding.specs.Limit.{most_terms}
 
 pub slot_refused-some : slot_refused 7 ≡ record { status = File; text = codes "refused slot 7\n" }
 unfolding digits

@@ -22,7 +22,7 @@ use Rattle.encoding_base.specs.Variables.{var_count}
 use Rattle.refutation.specs.Logs.{Fault, log_of}
 use Rattle.refutation.specs.Steps.{Step}
 use Rattle.refutation.specs.Verdict.{verdict_of}
-use Rattle.check_answer.specs.Check.{IsVerdictOver, most_log_bytes, most_terms, says_log}
+use Rattle.check_answer.specs.Check.{IsVerdictOver, most_log_bytes, says_log}
 use Rattle.check_answer.proofs.StageLemmas.{is_accepted}
 use Rattle.resume_rows.specs.Kept.{resume_rows, resume_size}
 use Rattle.resume_rows.proofs.Faithful.{accepted_logs_exclude}
@@ -30,6 +30,7 @@ use Rattle.resume_answer.specs.Audited.{IsVerdict, audited}
 use Rattle.resume_answer.specs.Seasons.{has_size, has_slots, plays}
 use Rattle.resume_answer.specs.SeenSeason.{IsSaid}
 use Rattle.resume_answer.specs.declared.season.Season.{Season}
+use Rattle.encoding.specs.Limit.{most_terms}
 
 -- ---- the stages behind the instance file
 

@@ -11,10 +11,10 @@ use Rattle.robinx_read.specs.declared.instance.TheConstants.{INSTANCE_LIMIT, SOL
 use Rattle.answers.specs.Reply.{Answer, too_large}
 use Rattle.answers.specs.Stages.{◌>>=◌, Outcome, reads, says}
 use Rattle.answers.specs.declared.status.Status.TheVariants.{File}
-use Rattle.check_answer.specs.Check.{most_terms}
 use Rattle.resume_rows.specs.Kept.{resume_size}
 use Rattle.encoding.specs.Capped.{capped}
 use Rattle.resume_answer.specs.declared.season.Season.{Season}
+use Rattle.encoding.specs.Limit.{most_terms}
 
 -- ---- stages
 

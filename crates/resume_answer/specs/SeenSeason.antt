@@ -6,9 +6,9 @@ use Rattle.robinx_form.specs.InstanceFile.{instance_of}
 use Rattle.robinx_form.specs.SolutionFile.{solution_of}
 use Rattle.robinx_read.specs.declared.instance.TheConstants.{INSTANCE_LIMIT, SOLUTION_LIMIT}
 use Rattle.answers.specs.Stages.{IsFile}
-use Rattle.check_answer.specs.Check.{most_terms}
 use Rattle.resume_rows.specs.Kept.{resume_size}
 use Rattle.resume_answer.specs.declared.season.Season.{Season}
+use Rattle.encoding.specs.Limit.{most_terms}
 
 -- both files were read, and said this season, which has k slots and not too many resume rows
 pub record IsSaid

@@ -10,6 +10,7 @@ ghost use Rattle.answers.specs.Stages.{reads};
 ghost use Rattle.check_answer.specs.Check.{most_log_bytes, says_log};
 ghost use Rattle.resume_rows.specs.Kept as kept;
 ghost use Rattle.resume_answer.specs.Audited.{IsVerdict, audited};
+ghost use Rattle.encoding.specs.Limit.{most_terms};
 
 use crate::season::season_in;
 use answers::{NoValue, Reply};
@@ -30,7 +31,7 @@ fn system_of(
     requires few { length played.now ≤ 10000 }
     requires fit { All (IsGame league.now.n) played.now }
     requires slots { k ≤ counts.slot_count league.now.n }
-    requires small { kept.resume_size league.now k ≤ 40000000 }
+    requires small { kept.resume_size league.now k ≤ most_terms }
     ensures { IfOk result (λ system.
         system ≡ record { league = league.now; played = played.now; k = k }) }
 {

@@ -7,6 +7,7 @@ ghost use Rattle.league.specs.Instance.{IsGame};
 ghost use Rattle.answers.specs.SeenReply.{answer_of, Answers};
 ghost use Rattle.resume_rows.specs.Kept as kept;
 ghost use Rattle.resume_answer.specs.Resumed.{IsFound, resumed};
+ghost use Rattle.encoding.specs.Limit.{most_terms};
 
 use crate::replies::found_reply;
 use crate::season::season_in;
@@ -28,7 +29,7 @@ fn found_of(
     requires few { length played.now ≤ 10000 }
     requires fit { All (IsGame league.now.n) played.now }
     requires slots { k ≤ counts.slot_count league.now.n }
-    requires small { kept.resume_size league.now k ≤ 40000000 }
+    requires small { kept.resume_size league.now k ≤ most_terms }
     ensures { IfOk result (λ reply. IsFound league.now played.now k conflicts (answer_of reply)) }
 {
     match resume_lowered(alloc, league, played, k, conflicts) {

@@ -7,17 +7,17 @@ ghost use Rattle.league.specs.Counts as counts;
 ghost use Rattle.league.specs.Instance.{IsGame};
 ghost use Rattle.answers.specs.SeenRefusal.{refused_with};
 ghost use Rattle.answers.specs.SeenReply.{answer_of, MatchStage};
-ghost use Rattle.check_answer.specs.Check.{most_terms};
 ghost use Rattle.resume_rows.specs.Kept as kept;
 ghost use Rattle.resume_answer.specs.Seasons as seasons;
 ghost use Rattle.resume_answer.specs.Seasons.{has_size, has_slots, plays};
 ghost use Rattle.resume_answer.specs.SeenSeason.{IsSaid};
+ghost use Rattle.encoding.specs.Limit.{most_terms};
 
 use advice::Advice;
 use answers::{NoValue, Refusal, Reply, Status, file, league_in, rows_refused, schedule_in};
+use encoding::MOST_TERMS;
 use league::{League, Schedule, slot_count};
 use resume::resume_size;
-use resume_rows::MOST_TERMS;
 use robin_io::Shelf;
 use robinx_read::{INSTANCE_LIMIT, SOLUTION_LIMIT};
 use std::alloc::{AllocError, Global};
@@ -100,10 +100,10 @@ pub(crate) fn season_in<S: Shelf>(
     ensures later { (n : List ℕ) → S.faults shelf.old n ≤ S.faults shelf.new n }
 {
     let first = file(alloc, shelf, "instance", instance, INSTANCE_LIMIT)?;
-    let league = league_in(alloc, &first)?;
+    let league = league_in(alloc, instance, &first)?;
     let slots = slots_in(alloc, &league, k)?;
     let second = file(alloc, shelf, "solution", solution, SOLUTION_LIMIT)?;
-    let played = schedule_in(alloc, &second, &league)?;
+    let played = schedule_in(alloc, solution, &second, &league)?;
     let bytes = first.len() + second.len();
     Ok(Season {
         league,

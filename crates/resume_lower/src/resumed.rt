@@ -8,6 +8,7 @@ ghost use Rattle.league.specs.Instance.{IsGame};
 ghost use Rattle.resume_rows.specs.Kept as kept;
 ghost use Rattle.encoding.specs.Capped.{capped};
 ghost use Rattle.resume.specs.Answers.{IsPlan, IsResumed, IsResumedSeason};
+ghost use Rattle.encoding.specs.Limit.{KeepsLimit};
 
 use crate::lower::{MOST_GAMES, Season, lowered};
 use deviation::assess;
@@ -32,11 +33,7 @@ pub fn resume_lowered(
     requires few { length played.now ≤ 10000 }
     requires fit { All (IsGame league.now.n) played.now }
     requires slots { k ≤ counts.slot_count league.now.n }
-    ensures within { IsOk result → kept.resume_size league.now k ≤ 40000000 }
-    ensures too_large { 40000000 < kept.resume_size league.now k
-        → result ≡ Err (EncodeFault.TooLarge (capped (kept.resume_size league.now k))) }
-    ensures only { (terms : ℕ) → result ≡ Err (EncodeFault.TooLarge terms)
-        → 40000000 < kept.resume_size league.now k }
+    ensures limit { KeepsLimit (kept.resume_size league.now k) (capped (kept.resume_size league.now k)) result }
     ensures answer { IfOk result (IsResumed league.now played.now k conflicts) }
 
     // Where the league accepts what `played` has, the answer is a schedule of the same games.

@@ -9,4 +9,4 @@ mod size;
 mod system;
 
 pub use size::resume_size;
-pub use system::{MOST_TERMS, ResumeSystem, copied, resume_system, season_meetings};
+pub use system::{ResumeSystem, copied, resume_system, season_meetings};

@@ -13,11 +13,12 @@ ghost use Rattle.resume_rows.specs.Kept as kept;
 ghost use Rattle.resume_rows.specs.Kept.{resume_rows};
 ghost use Rattle.encoding.specs.Capped.{capped};
 ghost use Rattle.resume_rows.specs.Systems.{rows_for};
+ghost use Rattle.encoding.specs.Limit.{KeepsLimit};
 
 use crate::kept::add_kept_rows;
 use crate::size::resume_size;
 use deviation::counted;
-use encoding::EncodeFault;
+use encoding::{EncodeFault, MOST_TERMS};
 use encoding_base::{all_meetings, h_count, has_breaks, hb_count, x_count};
 use encoding_rows::write_rows_with;
 use league::{Game, League, Schedule};
@@ -25,9 +26,6 @@ use rows::RowStore;
 use rule_core::Cells;
 use std::alloc::{AllocError, Global};
 use std::marker::Model;
-
-/// The most terms that resume rows have (own limit).
-pub const MOST_TERMS: u64 = 40_000_000;
 
 /// The resume rows of a league, of played games and of the number of slots that are played: seen as these three. It
 /// keeps a copy of the league and of the games.
@@ -89,11 +87,7 @@ pub fn resume_system(
     requires slots { k ≤ counts.slot_count league.now.n }
     ensures of { IfOk result (λ system.
         system ≡ record { league = league.now; played = played.now; k = k }) }
-    ensures within { IsOk result → kept.resume_size league.now k ≤ 40000000 }
-    ensures too_large { 40000000 < kept.resume_size league.now k
-        → result ≡ Err (EncodeFault.TooLarge (capped (kept.resume_size league.now k))) }
-    ensures only { (terms : ℕ) → result ≡ Err (EncodeFault.TooLarge terms)
-        → 40000000 < kept.resume_size league.now k }
+    ensures limit { KeepsLimit (kept.resume_size league.now k) (capped (kept.resume_size league.now k)) result }
 {
     let terms = resume_size(league, k);
     if terms > MOST_TERMS {

@@ -1,12 +1,11 @@
 -- Worked runs, so that a wrong definition of what a run may answer does not check.
 use Rattle.std.proofs.Common.{◌≡◌, true, false, Some, None, codes, refl}
 use Rattle.robinx_tags.specs.declared.fault.FormKind.TheVariants.{BadNesting}
-use Rattle.answers.specs.Reply.{Answer, malformed, refused_words}
+use Rattle.answers.specs.Reply.{Answer, log_malformed, malformed, refused_words}
 use Rattle.answers.specs.declared.status.Status.TheVariants.{Yes, No, Words, File, Refuted, Spent, ReadFault, WriteFault}
 use Rattle.answers.specs.declared.status.Status.TheVariants.{Memory, Better}
 use Rattle.check_answer.proofs.CheckFacts as checks
 use Rattle.check_answer.proofs.CheckFacts.{checked-bad, checked-good}
-use Rattle.check_answer.specs.Check.{log_malformed}
 use Rattle.circle_answer.specs.Circle.{circle_season}
 use Rattle.command_line.specs.Words.Command.{Audit, Bound, Check, Circle, Make, Prove, Resume, Validate}
 use Rattle.make_answer.specs.MadeInstance.{made_instance}

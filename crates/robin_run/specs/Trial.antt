@@ -4,11 +4,11 @@ use Rattle.budgets.specs.declared.budgets.Budgets.{Budgets}
 use Rattle.command_line.specs.Words.{Command}
 use Rattle.answers.specs.declared.status.Status.TheVariants.{Refuted, Spent}
 use Rattle.encoding_base.specs.Encoding.{encoding_size}
-use Rattle.check_answer.specs.Check.{most_terms}
 use Rattle.instance_gen.specs.Draws.{seeded}
 use Rattle.instance_gen.specs.Made.{made_league}
 use Rattle.trial_answer.specs.Trial.{IsTrial}
 use Rattle.robin_run.specs.Run.{NothingFails, Run, Writes}
+use Rattle.encoding.specs.Limit.{most_terms}
 
 pub record Promise (run : Run) (n seed : ℕ) (budgets : Budgets) : Type 0 where
   -- Where the rows of the made league aren't too many, seven lines and a season that it accepts are written, where

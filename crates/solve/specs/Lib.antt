@@ -8,5 +8,3 @@ pub mod Solutions
 pub mod Tried
 -- Which try's schedule is the answer:
 pub mod Earliest
--- Which fault stands for one of the encoding's:
-pub mod Faults

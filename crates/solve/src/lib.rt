@@ -6,7 +6,6 @@
 mod attempt;
 mod circle;
 mod counting;
-mod fault;
 mod from_walk;
 mod lower;
 mod prefer;
@@ -14,7 +13,6 @@ mod solved;
 mod solver;
 mod tries;
 
-pub use fault::SolveFault;
 pub use lower::{Season, lowered};
 pub use solved::Solved;
 pub use solver::solve;

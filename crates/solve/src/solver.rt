@@ -10,16 +10,16 @@ ghost use Rattle.solve.specs.Earliest.{IsBestOfTries};
 ghost use Rattle.solve.specs.Solutions.{HasSchedule, IsRefuted, IsSolution};
 ghost use Rattle.solve.specs.Tried.{IsTried};
 ghost use Rattle.venue_counts.specs.VenueCounts.{are_crowded, are_short};
+ghost use Rattle.encoding.specs.Limit.{KeepsLimit};
 
 use crate::attempt::try_both;
 use crate::circle::try_circle;
 use crate::counting::count_out;
-use crate::fault::SolveFault;
 use crate::prefer::{preferred, shuffled, venues};
 use crate::solved::Solved;
 use crate::tries::{Tried, better, is_refuted, schedule_found, solved_by};
 use budgets::Budgets;
-use encoding::{Encoding, encode};
+use encoding::{EncodeFault, Encoding, encode};
 use league::League;
 use log_lines::note_numbers;
 use pattern_search::{PatternFound, pattern_set};
@@ -46,11 +46,8 @@ use std::alloc::{AllocError, Global};
 /// # Errors
 /// `TooLarge` exactly where the league's rows have more than 40,000,000 terms, with their number, before anything
 /// else; else only where memory runs out.
-pub fn solve(alloc: Global, league: &League, budgets: Budgets) -> Result<Solved, SolveFault>
-    ensures within { IsOk result → encoding_size league.now ≤ 40000000 }
-    ensures too_large { 40000000 < encoding_size league.now
-        → result ≡ Err (SolveFault.TooLarge (encoding_size league.now)) }
-    ensures only { (terms : ℕ) → result ≡ Err (SolveFault.TooLarge terms) → 40000000 < encoding_size league.now }
+pub fn solve(alloc: Global, league: &League, budgets: Budgets) -> Result<Solved, EncodeFault>
+    ensures limit { KeepsLimit (encoding_size league.now) (encoding_size league.now) result }
     ensures solution { IfOk result (IsSolution league.now budgets) }
 
     // Where the league accepts the schedule of the circle method, the answer is a schedule.

@@ -29,12 +29,12 @@ use Rattle.refutation.specs.Verdict.{verdict_of}
 use Rattle.refutation.specs.declared.verdict.Verdict.TheVariants.{Accepted}
 use Rattle.season_check.specs.Excluded.{NoneAccepted}
 use Rattle.season_check.proofs.SeasonLemmas.{accepted_logs_exclude}
-use Rattle.check_answer.specs.Check.{most_terms}
 use Rattle.check_answer.proofs.CheckFacts.{good_steps, homeless, league_file, never, nowhere}
 use Rattle.moves.specs.declared.swap.Swap.TheVariants.{HomeSwap, RoundSwap, TeamSwap, PartRoundSwap, PartTeamSwap}
 use Rattle.descent.specs.Descended.{Descended}
 use Rattle.solve_answer.specs.Solve.{IsFound, IsWellFormedInstance, descent_text, move_line, solved}
 use Rattle.solve_answer.proofs.AnswerLemmas.{solved-well_formed}
+use Rattle.encoding.specs.Limit.{most_terms}
 
 -- a league of two teams without constraints
 abbrev pub plain_file : List ℕ

@@ -35,7 +35,8 @@ use Rattle.pattern_search.specs.declared.found.PatternFound.{PatternFound}
 use Rattle.solve.specs.Solutions.{IsDescent, LeavesOpen, league_score}
 use Rattle.venue_counts.specs.VenueCounts.{are_crowded, are_short}
 use Rattle.season_check.specs.Excluded.{NoneAccepted}
-use Rattle.check_answer.specs.Check.{encodes, most_terms}
+use Rattle.check_answer.specs.Check.{encodes}
+use Rattle.encoding.specs.Limit.{most_terms}
 
 -- ---- what is found
 

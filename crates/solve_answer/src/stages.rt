@@ -8,10 +8,11 @@ ghost use Rattle.solve_answer.specs.Solve.{IsFound, solved};
 use crate::replies::found_reply;
 use answers::{NoValue, Reply, file, league_in, rows_refused};
 use budgets::Budgets;
+use encoding::EncodeFault;
 use league::League;
 use robin_io::Shelf;
 use robinx_read::INSTANCE_LIMIT;
-use solve::{SolveFault, solve};
+use solve::solve;
 use std::alloc::{AllocError, Global};
 
 /// Finds a schedule of a league, or a log, and answers it.
@@ -20,8 +21,8 @@ fn found_of(alloc: Global, league: &League, budgets: Budgets) -> Result<Reply, N
 {
     match solve(alloc, league, budgets) {
         Ok(solved) => Ok(found_reply(alloc, league, budgets, &solved)?),
-        Err(SolveFault::TooLarge { terms }) => Err(NoValue::Refused(rows_refused(alloc, terms)?)),
-        Err(SolveFault::Mem) => Err(NoValue::Memory),
+        Err(EncodeFault::TooLarge { terms }) => Err(NoValue::Refused(rows_refused(alloc, terms)?)),
+        Err(EncodeFault::Mem) => Err(NoValue::Memory),
     }
 }
 
@@ -41,6 +42,6 @@ pub fn solve_file<S: Shelf>(
     ensures contents { (n : List ℕ) → S.contents shelf.new n ≡ S.contents shelf.old n }
 {
     let bytes = file(alloc, shelf, "instance", instance, INSTANCE_LIMIT)?;
-    let league = league_in(alloc, &bytes)?;
+    let league = league_in(alloc, instance, &bytes)?;
     found_of(alloc, &league, budgets)
 }

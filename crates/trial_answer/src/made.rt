@@ -18,9 +18,10 @@ use crate::summary::{found_lines, league_lines};
 use answers::{NoValue, Reply, Status, rows_refused};
 use budgets::Budgets;
 use descent::Descent;
+use encoding::EncodeFault;
 use instance_gen::make;
 use league::{League, Schedule};
-use solve::{SolveFault, Solved, solve};
+use solve::{Solved, solve};
 use solve_answer::{first_objective, schedule_text};
 use std::alloc::{AllocError, Global};
 
@@ -44,8 +45,8 @@ fn solve_made(alloc: Global, league: &League, seed: u64, budgets: Budgets) -> Re
 {
     match solve(alloc, league, budgets) {
         Ok(solved) => Ok(found_reply(alloc, league, seed, budgets, &solved)?),
-        Err(SolveFault::TooLarge { terms }) => Err(NoValue::Refused(rows_refused(alloc, terms)?)),
-        Err(SolveFault::Mem) => Err(NoValue::Memory),
+        Err(EncodeFault::TooLarge { terms }) => Err(NoValue::Refused(rows_refused(alloc, terms)?)),
+        Err(EncodeFault::Mem) => Err(NoValue::Memory),
     }
 }
 

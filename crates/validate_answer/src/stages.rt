@@ -15,13 +15,13 @@ use robinx_read::{INSTANCE_LIMIT, SOLUTION_LIMIT};
 use std::alloc::{AllocError, Global};
 
 /// Judges what a solution file says by the league.
-fn judge_file(alloc: Global, bytes: &[u8], league: &League) -> Result<Reply, NoValue>
+fn judge_file(alloc: Global, name: &str, bytes: &[u8], league: &League) -> Result<Reply, NoValue>
     requires { length bytes.now ≤ SOLUTION_LIMIT }
     ensures { Answers
         (says (codes "solution") (solution_of league.now.n (pieces bytes.now)) (IsJudgement league.now))
         result }
 {
-    let schedule = schedule_in(alloc, bytes, league)?;
+    let schedule = schedule_in(alloc, name, bytes, league)?;
     Ok(judge(alloc, league, &schedule)?)
 }
 
@@ -40,7 +40,7 @@ pub fn validate<S: Shelf>(
     ensures contents { (n : List ℕ) → S.contents shelf.new n ≡ S.contents shelf.old n }
 {
     let first = file(alloc, shelf, "instance", instance, INSTANCE_LIMIT)?;
-    let league = league_in(alloc, &first)?;
+    let league = league_in(alloc, instance, &first)?;
     let second = file(alloc, shelf, "solution", solution, SOLUTION_LIMIT)?;
-    judge_file(alloc, &second, &league)
+    judge_file(alloc, solution, &second, &league)
 }

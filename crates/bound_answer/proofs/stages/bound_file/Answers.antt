@@ -9,11 +9,12 @@ use Rattle.answers.specs.Reply.{too_large}
 use Rattle.answers.specs.SeenReply.{Answers}
 use Rattle.answers.specs.Stages.{IsFile, IsUnread}
 use Rattle.answers.proofs.StageLemmas.{Answers-wider, unread-end}
-use Rattle.check_answer.specs.Check.{most_log_bytes, most_terms}
+use Rattle.check_answer.specs.Check.{most_log_bytes}
 use Rattle.bound_base.specs.BoundRows.{bound_size}
 use Rattle.encoding.specs.Capped.{capped}
 use Rattle.bound_answer.proofs.StageLemmas.{bounded-large, bounded-last, bounded-unread}
 use Rattle.bound_answer.proofs.stages.bound_file.Goals as goal
+use Rattle.encoding.specs.Limit.{most_terms}
 
 -- the certificate has the contents that it had before the instance was read
 pub returns-clause-answer : goal.returns-clause-answer

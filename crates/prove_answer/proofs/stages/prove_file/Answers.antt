@@ -9,11 +9,11 @@ use Rattle.answers.specs.Reply.{too_large}
 use Rattle.answers.specs.SeenReply.{Answers}
 use Rattle.answers.specs.Stages.{IsFile, IsUnread}
 use Rattle.answers.proofs.StageLemmas.{Answers-wider, unread-end}
-use Rattle.check_answer.specs.Check.{most_terms}
 use Rattle.bound_base.specs.BoundRows.{bound_size}
 use Rattle.encoding.specs.Capped.{capped}
 use Rattle.prove_answer.proofs.StageLemmas.{proved-large, proved-last, proved-unread}
 use Rattle.prove_answer.proofs.stages.prove_file.Goals as goal
+use Rattle.encoding.specs.Limit.{most_terms}
 
 -- the solution has the contents that it had before the instance was read
 pub returns-clause-answer : goal.returns-clause-answer
