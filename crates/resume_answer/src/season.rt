@@ -66,7 +66,8 @@ fn slots_of(alloc: Global, league: &League, k: u64) -> Result<u16, NoValue>
     Err(NoValue::Refused(slot_refused(alloc, league, k)?))
 }
 
-/// The same where the resume rows are few enough; it is judged without the played games.
+/// How many slots of the season are played, where the season has as many and the resume rows are few enough. The
+/// size of these rows depends on the league and on `k`, and not on the games that were played.
 fn slots_in(alloc: Global, league: &League, k: u64) -> Result<u16, NoValue>
     ensures { MatchStage result
         (λ slots. (slots ≡ k) × (k ≤ counts.slot_count league.now.n)
