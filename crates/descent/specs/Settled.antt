@@ -3,7 +3,7 @@ use Rattle.std.specs.Prelude.{◌≡◌, ℕ, Bool, true}
 use Rattle.league.specs.Counts.{Counts}
 use Rattle.moves.specs.Moves.{IsLegal, IsOfLeague, moved}
 use Rattle.moves.specs.declared.swap.Swap.{Swap}
-use Rattle.descent.specs.Score.{is_lower}
+use Rattle.descent.specs.Lower.{is_lower}
 use Rattle.descent.specs.declared.score.Score.{Score}
 
 -- a legal move that lowers the score

@@ -4,7 +4,7 @@ use Rattle.league.specs.Counts.{Counts}
 use Rattle.league.specs.Structure.{IsRoundRobin}
 use Rattle.moves.specs.Moves.{IsLegal, moved}
 use Rattle.moves.specs.declared.swap.Swap.{Swap}
-use Rattle.descent.specs.Score.{is_lower}
+use Rattle.descent.specs.Lower.{is_lower}
 use Rattle.descent.specs.Settled.{IsLowering}
 use Rattle.descent.specs.declared.score.Score.{Score}
 

@@ -16,7 +16,7 @@ use Rattle.refutation.specs.Verdict.{verdict_of}
 use Rattle.refutation.specs.Writable.{HasShortLines}
 use Rattle.refutation.specs.declared.verdict.Verdict.TheVariants.{Accepted}
 use Rattle.clause_search.specs.News.{IsSpent, IsTidy}
-use Rattle.tally.specs.League.{hard_sum}
+use Rattle.tally.specs.HardSum.{hard_sum}
 use Rattle.descent.specs.Descended.{Descended}
 use Rattle.descent.specs.Settled.{IsSettled}
 use Rattle.descent.specs.Trail.{IsTrail}

@@ -1,5 +1,6 @@
 -- What a reader of a claim must believe:
 pub mod Tallies
+pub mod HardSum
 pub mod League
 -- Kept inside (laws, and how fields are seen):
 pub mod KeySet
