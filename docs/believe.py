@@ -1,10 +1,10 @@
 #!/usr/bin/env python3
 """What a reader of a claim must believe: the files of definitions that the clauses of the call `run` rest on, all the way down.
 
-    docs/believe.py             prints the two tables of README.md, and which of these files a crate keeps inside
+    docs/believe.py             prints the two tables of docs/PROOF.md, and which of these files a crate keeps inside
     docs/believe.py COMMAND..   prints the files that these commands rest on, as docs/believe.py validate circle
-    docs/believe.py --check     says whether README.md has these tables: with status 1 where it has others
-    docs/believe.py --write     puts them into README.md
+    docs/believe.py --check     says whether docs/PROOF.md has these tables: with status 1 where it has others
+    docs/believe.py --write     puts them into docs/PROOF.md
 
 It follows names of clauses to the files of specs/ that they are imported from, and the imports of a file to further files, each of which is taken whole. A
 command rests on the clauses that name it, on those that name no command, and on its file of robin_run/specs where it has one. Of a file of robin_run/specs
@@ -156,7 +156,7 @@ def crates_in_order():
 
 
 def said(crate, modules, old):
-    """What README.md says of these modules already, or else the first line of the first."""
+    """What docs/PROOF.md says of these modules already, or else the first line of the first."""
     best = max((it for it in old if it[0] == crate), key=lambda it: len(it[1] & set(modules)), default=None)
     if best and best[1] & set(modules):
         return best[2]
@@ -164,10 +164,10 @@ def said(crate, modules, old):
     return first[1].rstrip(".") if first else ""
 
 
-def old_rows(readme):
-    """The crates, modules and words of the first table of README.md."""
+def old_rows(page):
+    """The crates, modules and words of the first table of docs/PROOF.md."""
     found = []
-    for line in table_in(readme, FILES_HEAD)[2:]:
+    for line in table_in(page, FILES_HEAD)[2:]:
         cells = [it.strip() for it in line.strip("|").split("|")]
         names = re.findall(r"`(\w+)`", cells[0].split(":")[-1])
         for name, part in zip(names, cells[1].split(";")):
@@ -193,8 +193,8 @@ def counted(files):
     return f"{len(files)} file{'s' * (len(files) != 1)}, {lines_of(files):,} lines"
 
 
-def files_table(of, readme):
-    old, rows, earlier = old_rows(readme), [FILES_HEAD, "|---|---|---|"], set()
+def files_table(of, page):
+    old, rows, earlier = old_rows(page), [FILES_HEAD, "|---|---|---|"], set()
     rest = [[it] for it in of if not any(it in group for group in GROUPS)]
     for number, group in enumerate([*GROUPS, *rest]):
         files = set().union(*(of[it] for it in group if it in of)) - earlier
@@ -228,25 +228,25 @@ def print_files(of, wanted):
     print(f"{lines_of(files):5}  lines in {len(files)} files")
 
 
-def check(readme, tables):
+def check(page, tables):
     is_same = True
     for made in tables:
-        there = table_in(readme, made[0])
+        there = table_in(page, made[0])
         if there != made:
             is_same = False
-            print("\n".join(difflib.unified_diff(there, made, "README.md", "docs/believe.py", lineterm="", n=0)))
-    print("README.md has the tables that the definitions give" if is_same else "README.md has other tables: docs/believe.py --write puts these there")
+            print("\n".join(difflib.unified_diff(there, made, "docs/PROOF.md", "docs/believe.py", lineterm="", n=0)))
+    print("docs/PROOF.md has the tables that the definitions give" if is_same else "docs/PROOF.md has other tables: docs/believe.py --write puts these there")
     return 0 if is_same else 1
 
 
-def write(readme, tables):
+def write(page, tables):
     for made in tables:
-        there = table_in(readme, made[0])
+        there = table_in(page, made[0])
         if not there:
-            sys.exit(f"believe: README.md has no table that begins with the line {made[0]}")
-        readme = readme.replace("\n".join(there), "\n".join(made))
-    with open("README.md", "w", encoding="utf-8") as it:
-        it.write(readme)
+            sys.exit(f"believe: docs/PROOF.md has no table that begins with the line {made[0]}")
+        page = page.replace("\n".join(there), "\n".join(made))
+    with open("docs/PROOF.md", "w", encoding="utf-8") as it:
+        it.write(page)
 
 
 def main(words):
@@ -254,14 +254,14 @@ def main(words):
     names = commands()
     text, found = clauses()
     of = {it.lower(): believed(it, names, text, found) for it in names}
-    readme = read("README.md")
+    page = read("docs/PROOF.md")
     if words and not words[0].startswith("-"):
         return print_files(of, words)
-    tables = [files_table(of, readme), commands_table(of)]
+    tables = [files_table(of, page), commands_table(of)]
     if words == ["--check"]:
-        return check(readme, tables)
+        return check(page, tables)
     if words == ["--write"]:
-        return write(readme, tables)
+        return write(page, tables)
     if words:
         sys.exit(__doc__)
     print("\n\n".join("\n".join(it) for it in tables))
