@@ -1,0 +1,7 @@
+-- Lemmas on entities as a loop expands them, on names that may be printed, and on labels:
+pub mod EntityLemmas
+pub mod PlainLemmas
+pub mod LabelLemmas
+-- Worked examples, so that a wrong definition does not check:
+pub mod PlainFacts
+pub mod NameFacts
