@@ -32,3 +32,23 @@ ended (suc inside) = refl
 pub expanded_end : (inside : ℕ) (rest : List ℕ) → length rest ≡ 0 → expanded_from inside rest ≡ []
 expanded_end inside [] none = ended inside
 expanded_end inside (b ∷ rest) none = absurd (omega arith)
+
+-- ---- as the code goes on
+
+-- a byte or an entity was taken
+pub taken : (old now bytes : List ℕ) (inside byte more : ℕ) → inside ≡ 0 → 0 < length bytes → (byte, more) ≡ byte_at bytes → now ≡ old ++ byte ∷ []
+    → now ++ expanded_from more (drop 1 bytes) ≡ old ++ expanded_from inside bytes
+taken old now bytes inside byte more none some is grown =
+    let rest = drop 1 bytes in
+    let first : byte ≡ (byte_at bytes).0 = ap (λ (p : ℕ × ℕ). p.0) is in
+    let second : more ≡ (byte_at bytes).1 = ap (λ (p : ℕ × ℕ). p.1) is in
+    ap (λ x. x ++ expanded_from more rest) grown
+    ∙ append_assoc old (byte ∷ []) (expanded_from more rest)
+    ∙ ap (λ x. old ++ x ∷ expanded_from more rest) first
+    ∙ ap (λ x. old ++ (byte_at bytes).0 ∷ expanded_from x rest) second
+    ∙ ap (λ x. old ++ x) (sym (expanded_begun inside bytes none some))
+
+pub drop_next : (place : ℕ) (bytes : List ℕ) → drop (place + 1) bytes ≡ drop 1 (drop place bytes)
+drop_next zero bytes = refl
+drop_next (suc place) [] = let next : suc place + 1 ≡ suc (place + 1) = omega arith in rw next refl
+drop_next (suc place) (b ∷ bytes) = let next : suc place + 1 ≡ suc (place + 1) = omega arith in rw next (drop_next place bytes)

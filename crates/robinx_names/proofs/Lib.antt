@@ -2,6 +2,8 @@
 pub mod EntityLemmas
 pub mod PlainLemmas
 pub mod LabelLemmas
+-- Lemmas on texts that grow, for crates above:
+pub mod TextLemmas
 -- Worked examples, so that a wrong definition does not check:
 pub mod PlainFacts
 pub mod NameFacts
