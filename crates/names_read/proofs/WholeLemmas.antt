@@ -42,7 +42,6 @@ beside read at = record { inner = at.inner; outer = at.outer; passing = at.passi
 module _ {A B : Type 0} (first : Meaning A) (second : Meaning B)
     (starts_so : (element : Element) (tag : List Attribute) (a now : A) (b : B) → first.started element tag a ≡ Ok now → (after : B) × (second.started element tag b ≡ Ok after))
     (ends_so : (element : Element) (value : List ℕ) (a now : A) (b : B) → first.ended element value a ≡ Ok now → (after : B) × (second.ended element value b ≡ Ok after)) where
-
   -- a step of the one walk as a step of the other
   abbrev Follows : (F : Type 0) → Position A → Result (Position B) F → Type 0
   Follows F next other = (after : B) × (other ≡ as_read F (beside after next))
@@ -87,7 +86,7 @@ module _ {A B : Type 0} (first : Meaning A) (second : Meaning B)
       let other = ends_so inner.element (trimmed inner.text) a now b (read_on_line line value now is_complete.1.1) in (
         other.0,
         bind_ok own (λ own. complete >>= λ complete. on_line line other_value) is_own.0 other.0 is_own.1.0
-        (bind_ok complete (λ complete. on_line line other_value) is_complete.0 other.0 is_complete.1.0 (on_line_ok line other_value other.0 other.1)),
+            (bind_ok complete (λ complete. on_line line other_value) is_complete.0 other.0 is_complete.1.0 (on_line_ok line other_value other.0 other.1)),
       )
 
   ended_whole : (outer : List Open) (piece : Piece) (at next : Position A) (b : B) → walk.ended first outer piece at ≡ Ok next → Follows Fault next (walk.ended second outer piece (beside b at))
@@ -131,7 +130,7 @@ module _ {A B : Type 0} (first : Meaning A) (second : Meaning B)
       let other = end_whole within.0.passing piece within.0 next begun.0 within.1.1 in (
         other.0,
         bind_ok (on_line piece.line (walk.at_start second piece (beside b at))) (λ within. walk.at_end second piece within) (beside begun.0 within.0) (beside other.0 next)
-        (on_line_ok piece.line (walk.at_start second piece (beside b at)) (beside begun.0 within.0) begun.1) other.1,
+            (on_line_ok piece.line (walk.at_start second piece (beside b at)) (beside begun.0 within.0) begun.1) other.1,
       )
   piece_whole Text piece at next b h =
       (b, ap (λ (p : Position B). as_read Fault p) (text_same at.passing piece at b) ∙ moved Fault b (walk.at_text piece at) next h)

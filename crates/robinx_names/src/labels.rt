@@ -51,12 +51,7 @@ fn are_distinct(texts: &[String]) -> bool
 }
 
 /// A name, with the team's number before it unless all names are distinct.
-fn labelled(
-    alloc: Global,
-    distinct: bool,
-    team: usize,
-    name: &str,
-) -> Result<String, AllocError>
+fn labelled(alloc: Global, distinct: bool, team: usize, name: &str) -> Result<String, AllocError>
     ensures { IfOk result (λ text. string_bytes text ≡ names.labelled distinct team name.now) }
 {
     if distinct {

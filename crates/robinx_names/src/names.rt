@@ -37,11 +37,7 @@ impl Names {
     ///
     /// # Errors
     /// Only where memory runs out.
-    pub fn new(
-        alloc: Global,
-        teams: Vec<String>,
-        slots: Vec<String>,
-    ) -> Result<Names, AllocError>
+    pub fn new(alloc: Global, teams: Vec<String>, slots: Vec<String>) -> Result<Names, AllocError>
         requires { names.ArePlain
             (record { teams = map string_bytes teams.items; slots = map string_bytes slots.items }) }
         ensures { IfOk result (λ n. n

@@ -28,9 +28,7 @@ fn defused(alloc: Global, name: &[u8]) -> Result<Vec<u8>, AllocError>
 fn needs_quotes(field: &[u8]) -> bool
     ensures { result ≡ csv.needs_quotes field.now }
 {
-    field
-        .iter()
-        .any(|byte| *byte == b',' || *byte == b'"' || *byte == b'\r' || *byte == b'\n')
+    field.iter().any(|byte| *byte == b',' || *byte == b'"' || *byte == b'\r' || *byte == b'\n')
 }
 
 /// Adds a field's bytes with each quote doubled.

@@ -23,12 +23,7 @@ fn parts_of(whole: u16, most: u16) -> u16
 }
 
 /// Adds as few blocks of one width as it takes, of which the last may be narrower.
-fn push_cut(
-    found: &mut Vec<Block>,
-    first: u16,
-    slots: u16,
-    room: u16,
-) -> Result<(), AllocError>
+fn push_cut(found: &mut Vec<Block>, first: u16, slots: u16, room: u16) -> Result<(), AllocError>
     requires first { first ≤ 39 }
     requires slots { slots ≤ 39 }
     requires some { 0 < slots }

@@ -222,11 +222,7 @@ fn push_blocks(
 }
 
 /// Adds the names of slots that say more than their numbers.
-fn push_slot_names(
-    alloc: Global,
-    text: &mut Vec<u8>,
-    season: &Season,
-) -> Result<(), AllocError>
+fn push_slot_names(alloc: Global, text: &mut Vec<u8>, season: &Season) -> Result<(), AllocError>
     requires { IsNames season.now.cells.now.n season.now.names.now }
     ensures { OnOk result (text.new.items ≡ text.old.items ++ grid.slot_lines (season_of season.now)) }
 {

@@ -60,7 +60,11 @@ pub(crate) fn home_run(cells: &Cells, team: TeamId) -> u32
     let mut longest = 0;
     let mut run = 0;
     for number in 0..cells.slots() {
-        run = if cells.home(team, SlotId(number)) > 0 { run + 1 } else { 0 };
+        run = if cells.home(team, SlotId(number)) > 0 {
+            run + 1
+        } else {
+            0
+        };
         longest = run.max(longest);
     }
     longest
@@ -74,7 +78,11 @@ pub(crate) fn away_run(cells: &Cells, team: TeamId) -> u32
     let mut longest = 0;
     let mut run = 0;
     for number in 0..cells.slots() {
-        run = if cells.away(team, SlotId(number)) > 0 { run + 1 } else { 0 };
+        run = if cells.away(team, SlotId(number)) > 0 {
+            run + 1
+        } else {
+            0
+        };
         longest = run.max(longest);
     }
     longest
