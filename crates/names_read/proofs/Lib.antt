@@ -1,3 +1,5 @@
 -- Two meanings over one walk, and the counts of names along it:
 pub mod WholeLemmas
 pub mod CountLemmas
+-- Worked examples, so that a wrong definition does not check:
+pub mod NamesFacts

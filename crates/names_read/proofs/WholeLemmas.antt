@@ -39,6 +39,18 @@ on_line_ok {A} line read x is = ap (λ (r : Result A FormKind). on_line line r) 
 abbrev beside : {A B : Type 0} → B → Position A → Position B
 beside read at = record { inner = at.inner; outer = at.outer; passing = at.passing; read = read }
 
+-- the place behind the Start of an element, and behind the End of one
+abbrev within : {A : Type 0} → Row → Piece → Open → List Open → A → Position A
+within row piece inner outer read = record {
+  inner = record { element = row.element; line = piece.line; seen = []; text = [] };
+  outer = record inner { seen = with_seen row.times piece.name inner.seen } ∷ outer;
+  passing = None;
+  read = read;
+}
+
+abbrev behind : {A : Type 0} → Open → List Open → A → Position A
+behind around outer read = record { inner = around; outer = outer; passing = None; read = read }
+
 module _ {A B : Type 0} (first : Meaning A) (second : Meaning B)
     (starts_so : (element : Element) (tag : List Attribute) (a now : A) (b : B) → first.started element tag a ≡ Ok now → (after : B) × (second.started element tag b ≡ Ok after))
     (ends_so : (element : Element) (value : List ℕ) (a now : A) (b : B) → first.ended element value a ≡ Ok now → (after : B) × (second.ended element value b ≡ Ok after)) where
@@ -52,16 +64,11 @@ module _ {A B : Type 0} (first : Meaning A) (second : Meaning B)
   started_whole : (row : Option Row) (piece : Piece) (at next : Position A) (b : B) → walk.started first row piece at ≡ Ok next → Follows FormKind next (walk.started second row piece (beside b at))
   started_whole None piece at next b h = (b, moved FormKind b (record at { passing = Some piece.name }) next h)
   started_whole (Some row) piece at next b h =
-      let within : {X : Type 0} → X → Position X = λ read. record {
-        inner = record { element = row.element; line = piece.line; seen = []; text = [] };
-        outer = record at.inner { seen = with_seen row.times piece.name at.inner.seen } ∷ at.outer;
-        passing = None;
-        read = read;
-      } in
-      let read = both_read (first.started row.element piece.attributes at.read) (λ read. Ok (within read)) next h in
+      let read = both_read (first.started row.element piece.attributes at.read) (λ read. Ok (within row piece at.inner at.outer read)) next h in
       let other = starts_so row.element piece.attributes at.read read.0 b read.1.0 in (
         other.0,
-        bind_ok (second.started row.element piece.attributes b) (λ read. Ok (within read)) other.0 (beside other.0 next) other.1 (moved FormKind other.0 (within read.0) next read.1.1),
+        bind_ok (second.started row.element piece.attributes b) (λ read. Ok (within row piece at.inner at.outer read)) other.0 (beside other.0 next) other.1
+        (moved FormKind other.0 (within row piece at.inner at.outer read.0) next read.1.1),
       )
 
   begun_whole : (piece : Piece) (at next : Position A) (b : B) → walk.begun first piece at ≡ Ok next → Follows FormKind next (walk.begun second piece (beside b at))
@@ -92,11 +99,11 @@ module _ {A B : Type 0} (first : Meaning A) (second : Meaning B)
   ended_whole : (outer : List Open) (piece : Piece) (at next : Position A) (b : B) → walk.ended first outer piece at ≡ Ok next → Follows Fault next (walk.ended second outer piece (beside b at))
   ended_whole [] piece at next b h = absurd (err_isnt (BadNesting, piece.line) next h)
   ended_whole (around ∷ outer) piece at next b h =
-      let behind : {X : Type 0} → X → Position X = λ read. record { inner = around; outer = outer; passing = None; read = read } in
-      let read = both_read (closed first at.inner piece at.read) (λ read. Ok (behind read)) next h in
+      let read = both_read (closed first at.inner piece at.read) (λ read. Ok (behind around outer read)) next h in
       let other = closed_whole at.inner piece at.read read.0 b read.1.0 in (
         other.0,
-        bind_ok (closed second at.inner piece b) (λ read. Ok (behind read)) other.0 (beside other.0 next) other.1 (moved Fault other.0 (behind read.0) next read.1.1),
+        bind_ok (closed second at.inner piece b) (λ read. Ok (behind around outer read)) other.0 (beside other.0 next) other.1
+        (moved Fault other.0 (behind around outer read.0) next read.1.1),
       )
 
   passed_by : (own : Bool) (at : Position A) (b : B) → (if own then record (beside b at) { passing = None } else beside b at) ≡ beside b (if own then record at { passing = None } else at)

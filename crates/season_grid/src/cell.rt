@@ -17,11 +17,12 @@ fn guest(cells: &Cells, team: TeamId, slot: SlotId) -> u16
     ensures { result ≡ cell.opponent cells.now.n (λ j. table_counts cells.now team.0 j slot.0) }
 {
     let n = cells.n();
-    let mut other = 0;
-    while other < n && cells.at(team, TeamId(other), slot) == 0 {
-        other += 1;
+    for number in 0..n {
+        if cells.at(team, TeamId(number), slot) > 0 {
+            return number;
+        }
     }
-    other
+    n
 }
 
 /// The first team that a team is away at in a slot, or n where there is none.
@@ -31,11 +32,12 @@ fn host(cells: &Cells, team: TeamId, slot: SlotId) -> u16
     ensures { result ≡ cell.opponent cells.now.n (λ j. table_counts cells.now j team.0 slot.0) }
 {
     let n = cells.n();
-    let mut other = 0;
-    while other < n && cells.at(TeamId(other), team, slot) == 0 {
-        other += 1;
+    for number in 0..n {
+        if cells.at(TeamId(number), team, slot) > 0 {
+            return number;
+        }
     }
-    other
+    n
 }
 
 /// How many games there are, if not one.
