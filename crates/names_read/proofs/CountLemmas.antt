@@ -1,6 +1,6 @@
 -- The names that are read are as many as the league has teams and slots.
-use Rattle.std.proofs.Common.{◌≡◌, ℕ, List, [], ◌∷◌, ◌++◌, length, Option, Some, None, Ok, subst, ◌∙◌}
-use Rattle.std.specs.Prelude.{codes, slice_set, replicate}
+use Rattle.std.proofs.Common.{◌≡◌, ℕ, List, [], ◌∷◌, Option, Some, None, Ok, subst, ◌∙◌}
+use Rattle.std.specs.Prelude.{codes, slice_set}
 use Rattle.std.proofs.Math.ListN.{length-set}
 use Rattle.std.proofs.lemmas.List.{length-replicate}
 use Rattle.robinx_tags.specs.Fronts.{◌>>=◌, check}

@@ -3,13 +3,12 @@ use Rattle.std.proofs.Common.{◌≡◌, ℕ, List, [], ◌∷◌, ◌++◌, ref
 use Rattle.std.specs.Prelude.{Ok, Err, codes}
 use Rattle.std.specs.Str.{chars, is_utf8}
 use Rattle.std.specs.Str.Lossy.{utf8_lossy, utf8_valid_len}
-use Rattle.robinx_tags.specs.Tags.{Attribute, attributes_at}
+use Rattle.robinx_tags.specs.Tags.{attributes_at}
 use Rattle.robinx_tags.specs.Pieces.{pieces, pieces_from}
-use Rattle.robinx_tags.specs.declared.fault.FormKind.TheVariants.{MissingAttribute, Truncated}
+use Rattle.robinx_tags.specs.declared.fault.FormKind.TheVariants.{MissingAttribute}
 use Rattle.robinx_form.specs.Attributes.{word}
 use Rattle.robinx_form.specs.Walk.{walk}
 use Rattle.robinx_names.specs.Plain.{expanded_from, plain}
-use Rattle.robinx_names.specs.Names.{Names}
 use Rattle.names_read.specs.NamesFile.{name_in, names_of}
 
 -- the public name, unless there is none or it is empty

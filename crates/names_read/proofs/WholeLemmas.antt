@@ -68,7 +68,7 @@ module _ {A B : Type 0} (first : Meaning A) (second : Meaning B)
       let other = starts_so row.element piece.attributes at.read read.0 b read.1.0 in (
         other.0,
         bind_ok (second.started row.element piece.attributes b) (λ read. Ok (within row piece at.inner at.outer read)) other.0 (beside other.0 next) other.1
-        (moved FormKind other.0 (within row piece at.inner at.outer read.0) next read.1.1),
+            (moved FormKind other.0 (within row piece at.inner at.outer read.0) next read.1.1),
       )
 
   begun_whole : (piece : Piece) (at next : Position A) (b : B) → walk.begun first piece at ≡ Ok next → Follows FormKind next (walk.begun second piece (beside b at))
@@ -103,7 +103,7 @@ module _ {A B : Type 0} (first : Meaning A) (second : Meaning B)
       let other = closed_whole at.inner piece at.read read.0 b read.1.0 in (
         other.0,
         bind_ok (closed second at.inner piece b) (λ read. Ok (behind around outer read)) other.0 (beside other.0 next) other.1
-        (moved Fault other.0 (behind around outer read.0) next read.1.1),
+            (moved Fault other.0 (behind around outer read.0) next read.1.1),
       )
 
   passed_by : (own : Bool) (at : Position A) (b : B) → (if own then record (beside b at) { passing = None } else beside b at) ≡ beside b (if own then record at { passing = None } else at)

@@ -1,6 +1,6 @@
 -- Entities as a loop expands them, byte by byte.
-use Rattle.std.proofs.Common.{◌≡◌, ℕ, zero, suc, ◌+◌, ◌-◌, ◌<◌, ◌≤◌, List, [], ◌∷◌, ◌++◌, length, get_or, drop, refl, sym, ap, ◌∙◌, subst, arith, append_assoc}
-use Rattle.robinx_names.specs.Plain.{byte_at, expanded_from, expanded}
+use Rattle.std.proofs.Common.{◌≡◌, ℕ, zero, suc, ◌+◌, ◌-◌, ◌<◌, List, [], ◌∷◌, ◌++◌, length, drop, refl, sym, ap, ◌∙◌, subst, arith, append_assoc}
+use Rattle.robinx_names.specs.Plain.{byte_at, expanded_from}
 
 -- a byte that belongs to an entity before it adds nothing
 within : (inside : ℕ) (rest tail : List ℕ) (b : ℕ) → rest ≡ b ∷ tail → expanded_from (suc inside) rest ≡ expanded_from inside tail

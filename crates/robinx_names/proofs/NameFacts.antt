@@ -1,8 +1,8 @@
 -- Worked labels, so that a wrong definition does not check.
-use Rattle.std.proofs.Common.{◌≡◌, true, false, List, ℕ, [], ◌∷◌, refl}
+use Rattle.std.proofs.Common.{◌≡◌, [], ◌∷◌, refl}
 use Rattle.std.specs.Prelude.{codes}
 use Rattle.std.specs.Fmt.{digits}
-use Rattle.robinx_names.specs.Names.{Names, team_name, slot_name, or_else, shown, all_shown, are_distinct, labelled, label}
+use Rattle.robinx_names.specs.Names.{Names, team_name, slot_name, label}
 
 -- four teams, of which team 2 has no name, and two slots
 abbrev pub some_names : Names

@@ -1,9 +1,9 @@
 -- Worked names, so that a wrong definition does not check.
-use Rattle.std.proofs.Common.{◌≡◌, true, false, List, ℕ, [], ◌∷◌, ◌++◌, refl}
+use Rattle.std.proofs.Common.{◌≡◌, true, false, [], ◌∷◌, ◌++◌, refl}
 use Rattle.std.specs.Prelude.{codes, replicate}
 use Rattle.std.specs.Str.{chars, is_utf8}
 use Rattle.std.specs.Str.Lossy.{utf8_lossy, utf8_valid_len, utf8_error_len}
-use Rattle.robinx_names.specs.Plain.{byte_at, expanded_from, expanded, is_unprinted, printed, shortened, characters_of}
+use Rattle.robinx_names.specs.Plain.{expanded_from, expanded, is_unprinted, printed, shortened, characters_of}
 
 -- each entity is expanded once, from left to right, and nothing else that begins with `&`
 pub expanded-entities : expanded (codes "&lt;&gt;&quot;&apos;&amp;") ≡ codes "<>\"'&"

@@ -1,5 +1,5 @@
 -- A plain name has at most 40 characters, each of which may be printed.
-use Rattle.std.proofs.Common.{◌≡◌, ℕ, zero, suc, ◌+◌, ◌<◌, ◌≤◌, Bool, true, false, ◌&&◌, cond, List, [], ◌∷◌, ◌++◌, map, length, get_or, take, Ok, Err, String, Global, string_bytes, refl, sym, ap, ◌∙◌, subst, arith, rules}
+use Rattle.std.proofs.Common.{◌≡◌, ℕ, zero, suc, ◌+◌, ◌<◌, ◌≤◌, Bool, true, false, cond, List, [], ◌∷◌, ◌++◌, map, length, get_or, take, Ok, Err, String, Global, string_bytes, refl, sym, ap, ◌∙◌, subst, arith, rules}
 use Rattle.std.specs.Prelude.{Result, IfOk, nat_le, codes}
 use Rattle.std.specs.List.{All}
 use Rattle.std.specs.Cmp.Derive.{both_true}

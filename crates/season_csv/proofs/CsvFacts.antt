@@ -1,12 +1,11 @@
 -- Worked lines, so that a wrong definition does not check.
-use Rattle.std.proofs.Common.{◌≡◌, List, ℕ, true, false, [], ◌∷◌, ◌++◌, refl}
+use Rattle.std.proofs.Common.{◌≡◌, [], ◌∷◌, refl}
 use Rattle.std.specs.Prelude.{codes}
 use Rattle.std.specs.Fmt.{digits}
 use Rattle.league.specs.Counts.{counts_of}
-use Rattle.league.specs.declared.game.Game.{Game}
 use Rattle.robinx_names.specs.Names.{Names}
 use Rattle.season_csv.specs.Order.{game, games_in_order}
-use Rattle.season_csv.specs.Csv.{defused, needs_quotes, field_text, numbered, game_line, csv_text}
+use Rattle.season_csv.specs.Csv.{defused, field_text, numbered, game_line, csv_text}
 
 -- the four signs that begin a formula, and only at the front
 pub defused-some : (defused (codes "=1+1") ≡ codes "'=1+1") × (defused (codes "+A") ≡ codes "'+A") × (defused (codes "-A") ≡ codes "'-A") × (defused (codes "@A") ≡ codes "'@A") × (defused (codes "A=1") ≡ codes "A=1") × (defused [] ≡ [])

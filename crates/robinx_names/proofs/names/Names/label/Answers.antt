@@ -1,4 +1,4 @@
-use Rattle.std.proofs.Common.{◌≡◌, ◌<◌, length, map, string_bytes, ap, ◌∙◌, arith}
+use Rattle.std.proofs.Common.{◌<◌, length, map, string_bytes, ap, ◌∙◌, arith}
 use Rattle.robinx_names.specs.Names.{Names, label}
 use Rattle.robinx_names.proofs.LabelLemmas.{labels_len, label_read}
 use Rattle.robinx_names.proofs.names.Names.label.Goals as goal
