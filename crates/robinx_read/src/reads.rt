@@ -8,7 +8,7 @@ use std::alloc::Global;
 /// What is read of a file, element by element, as the walk over its pieces finds them.
 ///
 /// `meaning` says what a Start and an End make of what was read before, or what fault they are.
-pub(crate) trait Reads {
+pub trait Reads {
     ghost use Rattle.robinx_form.specs.Walk.{Meaning};
 
     ghost meaning: { Meaning Self };

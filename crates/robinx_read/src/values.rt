@@ -66,8 +66,12 @@ pub(crate) fn required<'a>(attrs: &Attrs<'a>, name: &[u8]) -> Result<&'a [u8], F
     attrs.get(name).ok_or(FormKind::MissingAttribute)
 }
 
-/// A number that has to be there.
-pub(crate) fn number_in(attrs: &Attrs, name: &[u8]) -> Result<u32, FormKind>
+/// A number that has to be there: digits of a value below 2^32.
+///
+/// # Errors
+/// `MissingAttribute` where there is no attribute of this name, `BadNumber` where its value is not one or more digits,
+/// `NumberTooLarge` where the number is too large.
+pub fn number_in(attrs: &Attrs, name: &[u8]) -> Result<u32, FormKind>
     ensures { result ≡ values.required name.now values.number attrs.now }
 {
     number(required(attrs, name)?)

@@ -181,7 +181,7 @@ fn on_line(done: Result<(), Stop>, line: u32) -> Result<(), ReadFault>
 /// # Errors
 /// `Form` exactly where the file has a fault: its first one, of a piece or of the reading, with its line. `Mem` where
 /// memory runs out. What `read` then holds isn't said.
-pub(crate) fn read_file<'a, R: Reads>(
+pub fn read_file<'a, R: Reads>(
     alloc: Global,
     tags: TagReader<'a>,
     file: Element,
