@@ -1,0 +1,10 @@
+-- Sums over ranges and over sets:
+mod RangeSums
+-- In a stretch in which each two teams meet, all teams but two have a break:
+mod StretchLemmas
+-- In which stretches each two teams meet:
+mod MetLemmas
+-- What hard constraints allow, and the law:
+pub mod FewLaws
+-- Worked examples, so that a wrong definition does not check:
+mod BreakFacts
