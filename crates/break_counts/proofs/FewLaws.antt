@@ -68,7 +68,7 @@ all_later g (t ∷ stretches) from end follow =
     )
 
 -- a number of a list that all passes
-all_pass : (p : ℕ → Bool) (a k x : ℕ) → list_all p (range_with_len a k) ≡ true → a ≤ x → x < a + k → p x ≡ true
+pub all_pass : (p : ℕ → Bool) (a k x : ℕ) → list_all p (range_with_len a k) ≡ true → a ≤ x → x < a + k → p x ≡ true
 all_pass p a zero x all low high = absurd (omega (arith, low, high))
 all_pass p a (suc k) x all low high =
     let parts = and_parts (p a) (list_all p (range_with_len (a + 1) k)) all in

@@ -6,5 +6,11 @@ mod StretchLemmas
 mod MetLemmas
 -- What hard constraints allow, and the law:
 pub mod FewLaws
+-- What each team is allowed, as it is found:
+pub mod TableLemmas
+-- How long lines are:
+pub mod LineLemmas
+-- Rows over the variables that there are:
+pub mod CheckLemmas
 -- Worked examples, so that a wrong definition does not check:
 mod BreakFacts
