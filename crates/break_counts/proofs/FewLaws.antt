@@ -1,14 +1,13 @@
 -- What hard constraints allow is an upper bound of what an accepted schedule has: so one that allows too little accepts
 -- none.
 use Rattle.std.proofs.Common.{◌≡◌, ℕ, ◌+◌, ◌-◌, ◌*◌, ◌<◌, ◌≤◌, Bool, true, false, not, ◌&&◌, ◌||◌, ◌==◌, nat_lt, min, cond, zero, suc, get_or}
-use Rattle.std.proofs.Common.{List, [], ◌∷◌, length, map, inl, inr, refl, arith, ap, sym, subst, ◌∙◌}
-use Rattle.std.specs.Prelude.{IsTrue}
+use Rattle.std.proofs.Common.{List, [], ◌∷◌, length, map, inl, inr, refl, arith, ap, sym, ◌∙◌}
 use Rattle.std.specs.List.{All, filter, fold, list_all, list_any, range_with_len, sum_by}
 use Rattle.std.proofs.lemmas.Bool.Decides.{nat_tests}
-use Rattle.std.proofs.lemmas.Bool.{and_parts, cases_eq, cond-false, cond-true, cond_both, eqb-true, ltb-true, or_cases}
+use Rattle.std.proofs.lemmas.Bool.{and_parts, cases_eq, cond-true, cond_both, eqb-true, ltb-true, or_cases}
 use Rattle.std.proofs.lemmas.List.Elements.{All-cons, All-head, All-nil, All-tail}
 use Rattle.std.proofs.lemmas.List.Sums.{sum_by-cons, sum_by-le, sum_by-le-sum_by}
-use Rattle.league.specs.Accepted.{IsAccepted, MeetsHard, hard_of}
+use Rattle.league.specs.Accepted.{IsAccepted, hard_of}
 use Rattle.league.specs.Breaks.{all_breaks, br1_entry, breaks_among, breaks_at}
 use Rattle.league.specs.Counts.{Counts, slot_count, teams_of}
 use Rattle.league.specs.Deviation.{vector_of}
@@ -20,7 +19,7 @@ use Rattle.league.specs.declared.class.Class.TheVariants.{Ca1, Ca2, Ca3, Ca4, Ga
 use Rattle.league.specs.declared.class.Constraint.{Constraint}
 use Rattle.league.specs.declared.class.Side.{Side}
 use Rattle.league.specs.declared.class.Side.TheVariants.{H, A, Both}
-use Rattle.league.proofs.OneTermLemmas.{sum_by-range_same, sum_by-swap}
+use Rattle.league.proofs.OneTermLemmas.{sum_by-swap}
 use Rattle.league.proofs.RangeLemmas.{one_if, one_if-le}
 use Rattle.league.proofs.RoundRobinLemmas.{IsPlayedOnce-of}
 use Rattle.league.proofs.SumLemmas.{sum_by-add, sum_by-filter, sum_by-same}

@@ -1,5 +1,5 @@
 -- How long the lines of steps with few items and small numbers are.
-use Rattle.std.proofs.Common.{◌≡◌, ℕ, ◌+◌, ◌*◌, ◌<◌, ◌≤◌, ◌^◌, Bool, true, false, List, ◌++◌}
+use Rattle.std.proofs.Common.{ℕ, ◌*◌, ◌≤◌, Bool, true, false, List, ◌++◌}
 use Rattle.std.proofs.Common.{length, get_or, arith, decimal, length-append}
 use Rattle.std.specs.Prelude.{codes}
 use Rattle.std.specs.List.{All, flat_map, sum_by}
@@ -7,11 +7,9 @@ use Rattle.std.proofs.lemmas.Fmt.{length-decimal-le}
 use Rattle.std.proofs.lemmas.List.Concat.{length-flat_map}
 use Rattle.std.proofs.lemmas.List.Sums.{sum_by-le}
 use Rattle.rows.specs.Literals.{Literal}
-use Rattle.refutation.specs.Logs.{most_bytes}
-use Rattle.refutation.specs.Steps.{Step}
 use Rattle.refutation.specs.Steps.Step.{Clause, Linear}
 use Rattle.refutation.specs.Texts.{clause_mark, clause_text, linear_text, literal_text, literal_token, number_text}
-use Rattle.refutation.specs.Texts.{part_text, sign_text, step_text}
+use Rattle.refutation.specs.Texts.{part_text, sign_text}
 use Rattle.refutation.specs.declared.step.Part.{Part}
 use Rattle.refutation.specs.declared.version.Version.{Version}
 use Rattle.refutation.specs.declared.version.Version.TheVariants.{One, Two}

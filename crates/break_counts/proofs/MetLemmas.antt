@@ -1,5 +1,5 @@
 -- In which stretches each two teams meet: in the halves of a phased league, and in every season.
-use Rattle.std.proofs.Common.{◌≡◌, ◌≢◌, ℕ, ◌+◌, ◌-◌, ◌*◌, ◌<◌, ◌≤◌, Bool, true, [], ◌∷◌, arith, ap}
+use Rattle.std.proofs.Common.{◌≡◌, ℕ, ◌+◌, ◌-◌, ◌<◌, ◌≤◌, Bool, true, arith, ap}
 use Rattle.std.specs.List.{range_with_len, sum_by}
 use Rattle.league.specs.Counts.{Counts, slot_count}
 use Rattle.league.specs.Structure.{IsPlayedOnce}

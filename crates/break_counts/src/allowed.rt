@@ -84,8 +84,8 @@ fn lower(table: &mut [u32], stretches: &[Stretch], side: Side, constraint: &Cons
     requires fits { IsTrue (class_fits (length table.old) constraint.now.class) }
     ensures { (i : ℕ) → slice_index table.old i ≤ length stretches.now → slice_index table.new i
         ≡ (if constraint.now.hard
-            then min (slice_index table.old i) (counts.allowed_by stretches.now side i constraint.now.class)
-            else slice_index table.old i) }
+        then min (slice_index table.old i) (counts.allowed_by stretches.now side i constraint.now.class)
+        else slice_index table.old i) }
 {
     let n = table.len() as u16;
     let Class::Br1 {

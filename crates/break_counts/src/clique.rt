@@ -172,5 +172,14 @@ fn no_game(
         factor: 1,
         row: frame.one_game(team, slot),
     };
-    writer.sum(&[Part { factor: 1, row: venue }, one], 1)
+    writer.sum(
+        &[
+            Part {
+                factor: 1,
+                row: venue,
+            },
+            one,
+        ],
+        1,
+    )
 }

@@ -1,5 +1,5 @@
 //! The log of a shortage.
-ghost use Rattle.std.specs.Prelude.{◌≡◌, ◌+◌, ◌≤◌, length};
+ghost use Rattle.std.specs.Prelude.{◌<◌, IfOk};
 ghost use Rattle.std.specs.List.{All};
 ghost use Rattle.break_counts.specs.Tables.{AreInSeason};
 
@@ -38,7 +38,14 @@ pub(crate) fn log_of(
     let counted = counted_teams(alloc, league, encoding, stretches, class)?;
     let mut writer = Writer::new(alloc, encoding.rows().len() as u64);
     let mut rows = counted.rows;
-    add_cliques(alloc, league, &mut writer, stretches, &counted.teams, &mut rows)?;
+    add_cliques(
+        alloc,
+        league,
+        &mut writer,
+        stretches,
+        &counted.teams,
+        &mut rows,
+    )?;
     let mut parts = Vec::new(alloc);
     for row in &rows {
         parts.push(Part {
@@ -61,6 +68,7 @@ fn add_cliques(
     rows: &mut Vec<u64>,
 ) -> Result<(), AllocError>
     requires season { AreInSeason league.now.n stretches.now }
+    requires teams { All (λ i. i < league.now.n) teams.now }
 {
     let frame = Frame::new(league);
     for stretch in stretches {
@@ -79,6 +87,7 @@ fn counted_teams(
     class: &Class,
 ) -> Result<Counted, AllocError>
     requires season { AreInSeason league.now.n stretches.now }
+    ensures { IfOk result (λ counted. All (λ i. i < league.now.n) counted.teams.items) }
 {
     let together = teams_together(league, stretches, class);
     let mut counted = Counted {
@@ -89,7 +98,9 @@ fn counted_teams(
         add_row(alloc, encoding, class, 0, &mut counted.rows)?;
     }
     for team in 0..league.n() {
-        if has(together, team) || add_single(alloc, league, encoding, stretches, team, &mut counted.rows)? {
+        if has(together, team)
+            || add_single(alloc, league, encoding, stretches, team, &mut counted.rows)?
+        {
             counted.teams.push(team)?;
         }
     }

@@ -77,7 +77,9 @@ fn shortage_in<'a>(
     let constraints = league.constraints();
     for place in 0..constraints.len() {
         let constraint = &constraints[place];
-        if constraint.hard && allowed_with(league, &allowed, stretches, &constraint.class) < needed {
+        if constraint.hard
+            && allowed_with(league, &allowed, stretches, &constraint.class) < needed
+        {
             let mut kept = Vec::new(alloc);
             kept.extend_from_slice(stretches)?;
             return Ok(Some(Shortage {

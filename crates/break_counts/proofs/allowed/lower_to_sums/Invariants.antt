@@ -1,4 +1,4 @@
-use Rattle.std.proofs.Common.{◌≡◌, ℕ, ◌+◌, ◌<◌, ◌≤◌, min, length, get_or}
+use Rattle.std.proofs.Common.{◌≡◌, ℕ, ◌+◌, ◌<◌, ◌≤◌, min, get_or}
 use Rattle.break_counts.proofs.allowed.lower_to_sums.Given as goal
 
 abbrev pub invariant-loop-team : goal.invariant-loop-team

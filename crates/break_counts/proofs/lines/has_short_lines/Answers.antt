@@ -1,4 +1,4 @@
-use Rattle.std.proofs.Common.{◌≡◌, ◌<◌, ℕ, Bool, List, Option, Some, None, arith, get_or, length, subst, take, true}
+use Rattle.std.proofs.Common.{◌≡◌, ◌<◌, Bool, List, Option, Some, None, arith, length, subst, true}
 use Rattle.std.specs.Prelude.{slice_get, IfSome, IsTrue}
 use Rattle.std.specs.List.{All}
 use Rattle.std.proofs.lemmas.List.{take_all}

@@ -1,8 +1,8 @@
-use Rattle.std.proofs.Common.{◌+◌, ◌∙◌, arith, ap, sym, List, ℕ, false, not, true}
+use Rattle.std.proofs.Common.{◌∙◌, arith, ap, sym, List, ℕ, false, not, true}
 use Rattle.std.specs.List.{filter, sum_by}
 use Rattle.league.specs.Counts.{teams_of}
 use Rattle.league.specs.Sets.{is_in}
-use Rattle.break_counts.specs.BreakCounts.{allowed_of, allowed_with, covers}
+use Rattle.break_counts.specs.BreakCounts.{allowed_of, covers}
 use Rattle.break_counts.proofs.TableLemmas.{outside-total, singly-other, singly-total, with-br2}
 use Rattle.break_counts.proofs.shortage.allowed_with.Goals as goal
 
@@ -28,7 +28,7 @@ returns-then-covers c =
       outside-total league.n league.constraints c.args.stretches.now c.args.allowed.now
           c.numbers-then-covers.result.now c.requires.table,
       ap (λ (teams : List ℕ). sum_by (allowed_of league.constraints c.args.stretches.now)
-      (filter (λ i. not (is_in i teams)) (teams_of league.n))) c.numbers-then-covers.ensures.numbers,
+          (filter (λ i. not (is_in i teams)) (teams_of league.n))) c.numbers-then-covers.ensures.numbers,
     )
 
 pub returns-else-covers : goal.returns-else-covers
