@@ -19,8 +19,15 @@ struct Alternation {
     hints: Vec<u64>,
 }
 
-/// The number of a row that says: of the literals of all these teams at least so many are true as there are teams but
-/// one.
+/// The teams so far, and the number of a row that says: of all their literals at least so many are true as there are
+/// teams but one.
+#[derive(Drop)]
+struct Clique {
+    teams: Vec<Alternation>,
+    row: u64,
+}
+
+/// Adds the clauses of each two of these teams and their sums, and gives the number of the row of all of them.
 ///
 /// # Errors
 /// Only where memory runs out.
@@ -36,16 +43,18 @@ pub(crate) fn add_clique(
     requires within { stretch.first + stretch.count ≤ frame.slots }
     requires teams { All (λ i. i < frame.n) teams.now }
 {
-    let mut earlier: Vec<Alternation> = Vec::new(alloc);
-    let mut row = 0;
+    let mut clique = Clique {
+        teams: Vec::new(alloc),
+        row: 0,
+    };
     for team in teams {
         let here = alternation_of(alloc, writer, frame, stretch, home, *team)?;
-        if !earlier.is_empty() {
-            row = add_team(alloc, writer, frame, stretch, &earlier, &here, row)?;
+        if !clique.teams.is_empty() {
+            clique.row = add_team(alloc, writer, frame, stretch, &clique, &here)?;
         }
-        earlier.push(here)?;
+        clique.teams.push(here)?;
     }
-    Ok(row)
+    Ok(clique.row)
 }
 
 /// Adds a team to those of a row: a clause for each pair with an earlier one, and their sum with the row.
@@ -54,21 +63,23 @@ fn add_team(
     writer: &mut Writer,
     frame: Frame,
     stretch: Stretch,
-    earlier: &[Alternation],
+    clique: &Clique,
     here: &Alternation,
-    row: u64,
 ) -> Result<u64, AllocError> {
+    let count = clique.teams.len() as u64;
     let mut parts = Vec::new(alloc);
-    if earlier.len() > 1 {
-        let factor = earlier.len() as u64 - 1;
-        parts.push(Part { factor, row })?;
+    if count > 1 {
+        parts.push(Part {
+            factor: count - 1,
+            row: clique.row,
+        })?;
     }
-    for other in earlier {
+    for other in &clique.teams {
         let meeting = meeting_row(writer, frame, stretch, other.team, here.team)?;
         let row = add_pair(alloc, writer, other, here, meeting)?;
         parts.push(Part { factor: 1, row })?;
     }
-    writer.sum(&parts, (earlier.len() as u64).max(1))
+    writer.sum(&parts, count.max(1))
 }
 
 /// Adds the clause that two teams don't both begin on the same side and alternate: else they never meet.
