@@ -1,0 +1,10 @@
+-- What a reader of a claim must believe:
+--
+-- When a league allows its teams too few breaks, and the law that it accepts no schedule then:
+pub mod BreakCounts
+-- Kept inside (laws, and how fields are seen):
+--
+-- What each team is allowed, as it is kept:
+pub mod Tables
+-- Steps whose lines are short:
+pub mod Lines

@@ -1,0 +1,166 @@
+//! The rows of constraints that bound breaks, and their numbers.
+ghost use Rattle.std.specs.Prelude.{◌+◌, ◌<◌, ◌≤◌};
+ghost use Rattle.std.specs.List.{All};
+
+use crate::cover::{covers, has};
+use crate::stretch::Stretch;
+use encoding::Encoding;
+use encoding_base::{ab_at, hb_at};
+use league::{Class, Constraint, League, Side, slot_count};
+use rows::{Lit, RowStore, Term};
+use std::alloc::{AllocError, Global};
+
+/// A bound of a team's breaks on a side, and the class of its constraint.
+#[derive(Clone, Copy)]
+pub(crate) struct Bound<'a> {
+    pub(crate) class: &'a Class,
+    pub(crate) intp: u32,
+}
+
+/// The least bound below `limit` of a team's breaks on a side in some stretches, by a hard BR1.
+pub(crate) fn least_bound<'a>(
+    league: &'a League,
+    stretches: &[Stretch],
+    side: Side,
+    team: u16,
+    limit: u32,
+) -> Option<Bound<'a>>
+    requires { All (λ t. t.first + t.count ≤ 78) stretches.now }
+{
+    let mut found = None;
+    let mut least = limit;
+    for constraint in league.constraints() {
+        if let Some(intp) = bound_by(constraint, stretches, side, team, least) {
+            least = intp;
+            let class = &constraint.class;
+            found = Some(Bound { class, intp });
+        }
+    }
+    found
+}
+
+/// The bound of a hard BR1, if it is below a limit and counts each break of a team on a side in the stretches.
+fn bound_by(
+    constraint: &Constraint,
+    stretches: &[Stretch],
+    side: Side,
+    team: u16,
+    limit: u32,
+) -> Option<u32>
+    requires { All (λ t. t.first + t.count ≤ 78) stretches.now }
+{
+    let Class::Br1 {
+        teams,
+        intp,
+        side: other,
+        slots,
+    } = &constraint.class
+    else {
+        return None;
+    };
+    let counts = constraint.hard
+        && *other == side
+        && *intp < limit
+        && has(teams.numbers(), team)
+        && covers(slots.numbers(), stretches);
+    if counts { Some(*intp) } else { None }
+}
+
+/// The number of the row of a BR2, or of one team of a BR1, if there is one.
+///
+/// # Errors
+/// Only where memory runs out.
+pub(crate) fn bound_row(
+    alloc: Global,
+    encoding: &Encoding,
+    class: &Class,
+    team: u16,
+) -> Result<Option<u64>, AllocError> {
+    let n = encoding.n();
+    match class {
+        Class::Br1 {
+            teams: _,
+            intp,
+            side,
+            slots,
+        } => {
+            let literals = no_breaks(alloc, n, *side, &[team], slots.numbers())?;
+            Ok(number_of(encoding.rows(), &literals, *intp))
+        }
+        Class::Br2 { teams, intp, slots } => {
+            let literals = no_breaks(alloc, n, Side::Both, teams.numbers(), slots.numbers())?;
+            Ok(number_of(encoding.rows(), &literals, *intp))
+        }
+        _ => Ok(None),
+    }
+}
+
+/// The literals that say that these teams have no breaks on a side at these slots.
+fn no_breaks(
+    alloc: Global,
+    n: u16,
+    side: Side,
+    teams: &[u16],
+    slots: &[u16],
+) -> Result<Vec<Lit>, AllocError>
+    requires { n ≤ 40 }
+{
+    let mut literals = Vec::new(alloc);
+    if side != Side::A {
+        for team in teams {
+            for slot in slots {
+                add_break(&mut literals, n, *team, *slot, true)?;
+            }
+        }
+    }
+    if side != Side::H {
+        for team in teams {
+            for slot in slots {
+                add_break(&mut literals, n, *team, *slot, false)?;
+            }
+        }
+    }
+    Ok(literals)
+}
+
+/// Adds the literal that a team has no home break at a slot, or no away break, if it is a slot at which it may.
+fn add_break(
+    literals: &mut Vec<Lit>,
+    n: u16,
+    team: u16,
+    slot: u16,
+    home: bool,
+) -> Result<(), AllocError>
+    requires { n ≤ 40 }
+{
+    if team >= n || slot == 0 || slot >= slot_count(n) {
+        return Ok(());
+    }
+    let var = if home {
+        hb_at(n, team, slot)
+    } else {
+        ab_at(n, team, slot)
+    };
+    literals.push(Lit::new(var, false))?;
+    Ok(())
+}
+
+/// The number of the first row that says that all but so many of these literals are true, if there is one.
+fn number_of(rows: &RowStore, literals: &[Lit], bound: u32) -> Option<u64> {
+    let degree = (literals.len() as u64).saturating_sub(u64::from(bound));
+    for k in 0..rows.len() {
+        if rows.degree(k) == degree && are_units(rows.terms(k), literals) {
+            return Some(k as u64 + 1);
+        }
+    }
+    None
+}
+
+/// Whether these are the terms of literals that each count once.
+fn are_units(terms: &[Term], literals: &[Lit]) -> bool {
+    terms.len() == literals.len()
+        && terms
+            .iter()
+            .zip(literals)
+            .all(|(term, literal)| term.coef == 1 && term.lit == *literal)
+}

@@ -1,0 +1,196 @@
+//! Of some teams, all but one begin a stretch on the other side or have a break that ends their alternation.
+ghost use Rattle.std.specs.Prelude.{◌+◌, ◌<◌, ◌≤◌};
+ghost use Rattle.std.specs.List.{All};
+
+use crate::frame::Frame;
+use crate::stretch::Stretch;
+use crate::writer::Writer;
+use encoding_base::{ab_at, h_at, hb_at};
+use refutation::Part;
+use rows::Lit;
+use std::alloc::{AllocError, Global};
+
+/// A team that begins a stretch on one side and alternates: the literals of which one is true where it doesn't, and the
+/// rows by which it meets no other team that does so too.
+#[derive(Drop)]
+struct Alternation {
+    team: u16,
+    clause: Vec<Lit>,
+    hints: Vec<u64>,
+}
+
+/// The teams so far, and the number of a row that says: of all their literals at least so many are true as there are
+/// teams but one.
+#[derive(Drop)]
+struct Clique {
+    teams: Vec<Alternation>,
+    row: u64,
+}
+
+/// Adds the clauses of each two of these teams and their sums, and gives the number of the row of all of them.
+///
+/// # Errors
+/// Only where memory runs out.
+pub(crate) fn add_clique(
+    alloc: Global,
+    writer: &mut Writer,
+    frame: Frame,
+    stretch: Stretch,
+    home: bool,
+    teams: &[u16],
+) -> Result<u64, AllocError>
+    requires some { 1 ≤ stretch.count }
+    requires within { stretch.first + stretch.count ≤ frame.slots }
+    requires teams { All (λ i. i < frame.n) teams.now }
+{
+    let mut clique = Clique {
+        teams: Vec::new(alloc),
+        row: 0,
+    };
+    for team in teams {
+        let here = alternation_of(alloc, writer, frame, stretch, home, *team)?;
+        if !clique.teams.is_empty() {
+            clique.row = add_team(alloc, writer, frame, stretch, &clique, &here)?;
+        }
+        clique.teams.push(here)?;
+    }
+    Ok(clique.row)
+}
+
+/// Adds a team to those of a row: a clause for each pair with an earlier one, and their sum with the row.
+fn add_team(
+    alloc: Global,
+    writer: &mut Writer,
+    frame: Frame,
+    stretch: Stretch,
+    clique: &Clique,
+    here: &Alternation,
+) -> Result<u64, AllocError> {
+    let count = clique.teams.len() as u64;
+    let mut parts = Vec::new(alloc);
+    if count > 1 {
+        parts.push(Part {
+            factor: count - 1,
+            row: clique.row,
+        })?;
+    }
+    for other in &clique.teams {
+        let meeting = meeting_row(writer, frame, stretch, other.team, here.team)?;
+        let row = add_pair(alloc, writer, other, here, meeting)?;
+        parts.push(Part { factor: 1, row })?;
+    }
+    writer.sum(&parts, count.max(1))
+}
+
+/// Adds the clause that two teams don't both begin on the same side and alternate: else they never meet.
+fn add_pair(
+    alloc: Global,
+    writer: &mut Writer,
+    first: &Alternation,
+    second: &Alternation,
+    meeting: u64,
+) -> Result<u64, AllocError> {
+    let mut clause = Vec::new(alloc);
+    clause.extend_from_slice(&first.clause)?;
+    clause.extend_from_slice(&second.clause)?;
+    let mut hints = Vec::new(alloc);
+    hints.extend_from_slice(&first.hints)?;
+    hints.extend_from_slice(&second.hints)?;
+    hints.push(meeting)?;
+    writer.clause(&clause, &hints)
+}
+
+/// The number of a row that says that two teams meet in a stretch. In the second half they do since they meet at both
+/// venues, and in the first half no more than once.
+fn meeting_row(
+    writer: &mut Writer,
+    frame: Frame,
+    stretch: Stretch,
+    first: u16,
+    second: u16,
+) -> Result<u64, AllocError> {
+    if !frame.phased {
+        return Ok(frame.meeting(first, second));
+    }
+    let half = frame.half(first, second);
+    if stretch.first == 0 {
+        return Ok(half);
+    }
+    let rows = [
+        frame.meeting(first, second),
+        frame.meeting(second, first),
+        half + 1,
+    ];
+    let parts = rows.map(|row| Part { factor: 1, row });
+    writer.sum(&parts, 1)
+}
+
+/// What is said of a team that begins on a side and alternates.
+fn alternation_of(
+    alloc: Global,
+    writer: &mut Writer,
+    frame: Frame,
+    stretch: Stretch,
+    home: bool,
+    team: u16,
+) -> Result<Alternation, AllocError>
+    requires some { 1 ≤ stretch.count }
+    requires within { stretch.first + stretch.count ≤ frame.slots }
+    requires team { team < frame.n }
+{
+    let mut clause = Vec::new(alloc);
+    clause.push(Lit::new(h_at(frame.n, team, stretch.first), !home))?;
+    let mut hints = Vec::new(alloc);
+    let mut at_home = home;
+    for slot in stretch.first + 1..stretch.first + stretch.count {
+        // At home in the slot before: a home break would end the alternation.
+        let number = frame.home_break(team, slot);
+        if at_home {
+            clause.push(Lit::new(hb_at(frame.n, team, slot), true))?;
+            hints.push(number)?;
+        } else {
+            clause.push(Lit::new(ab_at(frame.n, team, slot), true))?;
+            hints.push(number + 3)?;
+        }
+        at_home = !at_home;
+    }
+    at_home = home;
+    for slot in stretch.first..stretch.first + stretch.count {
+        hints.push(no_game(writer, frame, team, slot, at_home)?)?;
+        at_home = !at_home;
+    }
+    Ok(Alternation {
+        team,
+        clause,
+        hints,
+    })
+}
+
+/// The number of a row by which a team that is at home plays at no other team's venue, or one that isn't has no home
+/// game.
+fn no_game(
+    writer: &mut Writer,
+    frame: Frame,
+    team: u16,
+    slot: u16,
+    at_home: bool,
+) -> Result<u64, AllocError> {
+    let venue = frame.venue(team, slot);
+    if !at_home {
+        return Ok(venue + 1);
+    }
+    let one = Part {
+        factor: 1,
+        row: frame.one_game(team, slot),
+    };
+    writer.sum(
+        &[
+            Part {
+                factor: 1,
+                row: venue,
+            },
+            one,
+        ],
+        1,
+    )
+}

@@ -1,0 +1,21 @@
+//! Leagues that allow their teams too few breaks: refuted by counting.
+//!
+//! In a half of a phased league, and in the season of any other, each two teams meet. So all teams but two have a break
+//! there (de Werra). Where hard constraints BR1 and BR2 allow the teams fewer, no schedule is accepted.
+#![tactic(auto)]
+
+mod allowed;
+mod bounds;
+mod clique;
+mod counts;
+mod cover;
+mod frame;
+mod laws;
+mod lines;
+mod log;
+mod shortage;
+mod stretch;
+mod writer;
+
+pub use counts::break_count;
+pub use laws::few_breaks_allow_none;
