@@ -1,0 +1,6 @@
+-- Texts on their way to a sink:
+pub mod StreamLemmas
+-- What a text is read as: its words, its lines, and the whole:
+pub mod WordLemmas
+pub mod LineLemmas
+pub mod TextLemmas

@@ -1,0 +1,4 @@
+-- What words and lines say, one after another:
+pub mod SaidLemmas
+-- The value that the last literal says:
+pub mod ValueLemmas
