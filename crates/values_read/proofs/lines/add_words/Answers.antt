@@ -29,7 +29,7 @@ returns-in_err-add_word c =
     rw (p.1, p.2)
     (Adds-stop c.args.lits.now.items c.words.lits.items c.add_word.new.lits.items
     (said_by_words (words_of c.args.text.now)) (said_by_word (take at rest)) (said_by_words (words_of left))
-    c.in_err-add_word.field-0
+    c.in_err-add_word.field-0.0
     (ap (behind c.words.lits.items) (sym (words-found rest at c.in-Some.ensures)) ∙ c.words.invariant)
     c.in_err-add_word.ensures)
 

@@ -46,7 +46,7 @@ returns-in_err-add_numbered c =
     rw (p.1, p.2)
     (SaysValues-stop c.lines.lits.items c.add_numbered.new.lits.items (said_from 1 (lines_of c.args.bytes.now))
     (said_by_line (take at rest)) c.lines.line (said_from (c.lines.line + 1) (lines_of left))
-    c.in_err-add_numbered.field-0
+    c.in_err-add_numbered.field-0.0
     (ap (in_front c.lines.lits.items) (sym (lines-found c.lines.line rest at c.in-Some.ensures))
     ∙ c.lines.invariant.said)
     c.in_err-add_numbered.ensures)
@@ -55,10 +55,10 @@ pub returns-in_err-add_numbered-2 : goal.returns-in_err-add_numbered-2
 returns-in_err-add_numbered-2 c =
     let rest : List ℕ = c.lines.rest.now in
     let none : Said = Ok [] in
-    let p = err_from_is_err_and c.from_residual.result c.from_residual.ensures.1 in
+    let p = err_from_is_err_and c.from_residual-in_err-add_numbered-2.result c.from_residual-in_err-add_numbered-2.ensures.1 in
     rw (p.1, p.2)
     (SaysValues-stop c.lines.lits.items c.add_numbered-2.new.lits.items (said_from 1 (lines_of c.args.bytes.now))
-    (said_by_line rest) c.lines.line none c.in_err-add_numbered-2.field-0
+    (said_by_line rest) c.lines.line none c.in_err-add_numbered-2.field-0.0
     (ap (in_front c.lines.lits.items) (sym (lines-alone c.lines.line rest c.in_default.ensures))
     ∙ c.lines.invariant.said)
     c.in_err-add_numbered-2.ensures)
