@@ -4,3 +4,5 @@ pub mod StreamLemmas
 pub mod WordLemmas
 pub mod LineLemmas
 pub mod TextLemmas
+-- Worked examples, so that a wrong definition does not check:
+mod OpbFacts

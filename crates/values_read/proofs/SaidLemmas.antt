@@ -6,7 +6,7 @@ use Rattle.memchr.specs.Find.{IsFirstByte, is_byte}
 use Rattle.rows.specs.Literals.{Literal}
 use Rattle.refutation.proofs.FoundLemmas.{found-none, found-some, token-alone, token-found}
 use Rattle.refutation.proofs.SplitLemmas.{split-last, split-part}
-use Rattle.values_read.specs.Answers.{Adds, AddsLine, SaysValues, behind}
+use Rattle.values_read.specs.Answers.{Adds, AddsLine, SaysFault, behind}
 use Rattle.values_read.specs.Values.{after, joined, said_by_line, said_by_word, said_by_words, said_from, words_of}
 use Rattle.values_read.specs.declared.fault.ValuesFault.{ValuesFault}
 use Rattle.values_read.specs.declared.fault.ValuesFault.TheVariants as values
@@ -111,9 +111,9 @@ pub lines-alone : (line : ℕ) (rest : List ℕ) → IsFirstByte (is_byte 10) re
     → said_from line (lines_of rest) ≡ after (said_by_line rest) line (Ok [])
 lines-alone line rest none = ap (said_from line) (split-last (λ b. b == 10) rest (found-none 10 rest none))
 
-pub SaysValues-stop : {Z : Type 0} (mid new : Lits) (whole : Said) (said : Option Lits) (line : ℕ) (others : Said)
+pub SaysFault-stop : (mid new : Lits) (whole : Said) (said : Option Lits) (line : ℕ) (others : Said)
     (fault : ValuesFault) → in_front mid (after said line others) ≡ whole → AddsLine said line mid new (Err fault)
-    → SaysValues {Z = Z} whole (Err fault)
-SaysValues-stop {Z} mid new whole said line others (values.Form number) so_far adds =
+    → SaysFault whole fault
+SaysFault-stop mid new whole said line others (values.Form number) so_far adds =
     sym so_far ∙ none-after mid said line others adds.0 ∙ ap Err (sym adds.1)
-SaysValues-stop {Z} mid new whole said line others values.Mem so_far adds = tt
+SaysFault-stop mid new whole said line others values.Mem so_far adds = tt

@@ -5,20 +5,20 @@ use Rattle.values_read.specs.declared.fault.ValuesFault.{ValuesFault}
 use Rattle.values_read.specs.declared.fault.ValuesFault.TheVariants.{Form, Mem}
 use Rattle.values_read.specs.declared.fault.WordFault.{WordFault}
 use Rattle.values_read.specs.declared.fault.WordFault.TheVariants as word
-use Rattle.values_read.specs.declared.word.Said.{Said}
-use Rattle.values_read.specs.declared.word.Said.TheVariants.{Nothing, True}
 
 -- the answer to a whole file
+abbrev pub SaysFault : Result (List Literal) ℕ → ValuesFault → Type 0
+SaysFault said (Form line) = said ≡ Err line
+SaysFault said Mem = Unit {0}
+
 abbrev pub SaysValues : {Z : Type 0} → Result (List Literal) ℕ → Result (Vec Literal Z) ValuesFault → Type 0
 SaysValues said (Ok lits) = said ≡ Ok lits.items
-SaysValues said (Err (Form line)) = said ≡ Err line
-SaysValues said (Err Mem) = Unit {0}
+SaysValues said (Err fault) = SaysFault said fault
 
--- what was read of a word
-abbrev pub seen : Option Said → Option (List Literal)
+-- the literal that a word is, alone
+abbrev pub seen : Option Literal → Option (List Literal)
 seen None = None
-seen (Some Nothing) = Some []
-seen (Some (True l)) = Some (l ∷ [])
+seen (Some l) = Some (l ∷ [])
 
 -- what is said, with some literals in front of it
 abbrev pub behind : List Literal → Option (List Literal) → Option (List Literal)

@@ -1,6 +1,6 @@
 -- What a file of values says, as solvers print them: literals that are true, word by word.
 use Rattle.std.specs.Prelude.{ℕ, ◌+◌, Bool, true, false, ◌&&◌, ◌||◌, ◌==◌, nat_lt, nat_le, if◌then◌else◌}
-use Rattle.std.specs.Prelude.{List, [], ◌∷◌, ◌++◌, Option, Some, None, Result, Ok, Err, codes, bytes_eq}
+use Rattle.std.specs.Prelude.{List, [], ◌∷◌, ◌++◌, Option, Some, None, Result, Ok, Err}
 use Rattle.std.specs.List.{fold, slice_split}
 use Rattle.std.specs.Str.{byte}
 use Rattle.std.specs.Str.Parse.{digits_value}
@@ -33,10 +33,15 @@ literal_in (b ∷ word) =
     if b == byte "-" || b == byte "~" then signed false (variable_in word)
     else signed true (variable_in (b ∷ word))
 
--- What a word says: a literal, if it is one. The word `0`, with which lists of values end, says nothing, and so does an
--- empty word, where two spaces follow each other.
+-- whether a word says nothing: it is empty, where two spaces follow each other, or `0`, with which lists of values end
+abbrev pub is_silent : List ℕ → Bool
+is_silent [] = true
+is_silent (b ∷ []) = b == byte "0"
+is_silent (b ∷ c ∷ word) = false
+
+-- what a word says: nothing or a literal, unless it is neither
 abbrev pub said_by_word : List ℕ → Option (List Literal)
-said_by_word word = if bytes_eq word [] || bytes_eq word (codes "0") then Some [] else literal_in word
+said_by_word word = if is_silent word then Some [] else literal_in word
 
 -- ---- lines
 

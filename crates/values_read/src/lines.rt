@@ -1,30 +1,39 @@
 //! Lines of a file of values.
-ghost use Rattle.std.specs.Prelude.{◌≡◌, ◌+◌, ◌≤◌, ◌<◌, ◌^◌, length};
+ghost use Rattle.std.specs.Prelude.{◌≡◌, ◌+◌, ◌≤◌, ◌<◌, ◌^◌, ◌++◌, ◌∷◌, [], length, OnOk};
 ghost use Rattle.values_read.specs.Answers.{Adds, AddsLine, SaysValues};
 ghost use Rattle.values_read.specs.Values as values;
 
 use crate::fault::{ValuesFault, WordFault};
-use crate::word::{Said, said_by};
+use crate::word::{is_silent, literal_in};
 use memchr::memchr;
 use rows::Lit;
 use std::alloc::{AllocError, Global};
+
+/// Adds a literal.
+fn add_literal(lits: &mut Vec<Lit>, lit: Lit) -> Result<(), AllocError>
+    ensures { OnOk result (lits.new.items ≡ lits.old.items ++ lit ∷ []) }
+{
+    lits.push(lit)?;
+    Ok(())
+}
 
 /// Adds what a word says, if it may stand there.
 fn add_word(lits: &mut Vec<Lit>, word: &[u8]) -> Result<(), WordFault>
     ensures { Adds (values.said_by_word word.now) lits.old.items lits.new.items result }
 {
-    match said_by(word) {
-        None => Err(WordFault::Wrong),
-        Some(Said::Nothing) => Ok(()),
-        Some(Said::True(lit)) => {
-            lits.push(lit).map_err(AllocError::from)?;
-            Ok(())
-        }
+    if is_silent(word) {
+        return Ok(());
     }
+    let Some(lit) = literal_in(word) else {
+        return Err(WordFault::Wrong);
+    };
+    add_literal(lits, lit)?;
+    Ok(())
 }
 
 /// Adds what the words of a line say.
 fn add_words(lits: &mut Vec<Lit>, text: &[u8]) -> Result<(), WordFault>
+    requires { length text.now < 2 ^ 63 }
     ensures { Adds (values.said_by_words (values.words_of text.now)) lits.old.items lits.new.items result }
 {
     let mut rest = text;
@@ -47,7 +56,8 @@ fn is_note(text: &[u8]) -> bool
 
 /// A line without the `v` that may stand in front.
 fn without_mark(text: &[u8]) -> &[u8]
-    ensures { result.now ≡ values.without_mark text.now }
+    ensures rest { result.now ≡ values.without_mark text.now }
+    ensures short { length result.now ≤ length text.now }
 {
     match text {
         [b'v', rest @ ..] => rest,
@@ -57,6 +67,7 @@ fn without_mark(text: &[u8]) -> &[u8]
 
 /// Adds what a line says.
 fn add_line(lits: &mut Vec<Lit>, text: &[u8]) -> Result<(), WordFault>
+    requires { length text.now < 2 ^ 63 }
     ensures { Adds (values.said_by_line text.now) lits.old.items lits.new.items result }
 {
     if is_note(text) {
@@ -67,6 +78,7 @@ fn add_line(lits: &mut Vec<Lit>, text: &[u8]) -> Result<(), WordFault>
 
 /// Adds what the line of this number says.
 fn add_numbered(lits: &mut Vec<Lit>, text: &[u8], line: u64) -> Result<(), ValuesFault>
+    requires { length text.now < 2 ^ 63 }
     ensures { AddsLine (values.said_by_line text.now) line lits.old.items lits.new.items result }
 {
     match add_line(lits, text) {

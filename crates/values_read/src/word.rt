@@ -6,13 +6,6 @@ ghost use Rattle.values_read.specs.Values as values;
 use robin_io::decimal;
 use rows::Lit;
 
-/// What a word says.
-#[derive(Clone, Copy, Debug, PartialEq, Eq)]
-pub(crate) enum Said {
-    Nothing,
-    True(Lit),
-}
-
 /// The number of a variable that digits write.
 fn number_in(digits: &[u8]) -> Option<u32>
     ensures { result ≡ values.number_in digits.now }
@@ -45,20 +38,26 @@ fn variable_in(word: &[u8]) -> Option<u32>
 }
 
 /// The literal of a variable.
-fn literal_with(word: &[u8], positive: bool) -> Option<Said>
+fn literal_with(word: &[u8], positive: bool) -> Option<Lit>
     ensures { seen result ≡ values.signed positive (values.variable_in word.now) }
 {
     let var = variable_in(word)?;
-    Some(Said::True(Lit::new(var, positive)))
+    Some(Lit::new(var, positive))
 }
 
-/// What a word says, where it is a literal, empty or `0`.
-pub(crate) fn said_by(word: &[u8]) -> Option<Said>
-    ensures { seen result ≡ values.said_by_word word.now }
+/// The literal that a word is.
+pub(crate) fn literal_in(word: &[u8]) -> Option<Lit>
+    ensures { seen result ≡ values.literal_in word.now }
 {
     match word {
-        [] | b"0" => Some(Said::Nothing),
         [b'-' | b'~', rest @ ..] => literal_with(rest, false),
         rest => literal_with(rest, true),
     }
+}
+
+/// Whether a word says nothing: it is empty, or `0`.
+pub(crate) fn is_silent(word: &[u8]) -> bool
+    ensures { result ≡ values.is_silent word.now }
+{
+    matches!(word, [] | [b'0'])
 }

@@ -1,6 +1,6 @@
-use Rattle.std.proofs.Common.{◌≡◌, Bool, rules, ap, arith, subst, sym, ◌∙◌, ◌==◌}
+use Rattle.std.proofs.Common.{◌≡◌, Bool, false, ap, arith, length, sym, ◌∙◌, ◌==◌}
 use Rattle.std.specs.Prelude.{if◌then◌else◌}
-use Rattle.std.proofs.lemmas.List.{take_all}
+use Rattle.std.proofs.lemmas.List.{length-replicate, take_all}
 use Rattle.rows.specs.Literals.{Literal}
 use Rattle.values_read.specs.Values.{value_in}
 use Rattle.values_read.proofs.ValueLemmas.{assigned-none, value_in-more}
@@ -8,7 +8,7 @@ use Rattle.values_read.proofs.assigned.assignment_of.Goals as goal
 
 pub loop-lit-init : goal.loop-lit-init
 loop-lit-init c = record {
-  length = search rules;
+  length = ap length c.in_ok-values.ensures ∙ length-replicate c.args.vars false;
   values = λ v least most. assigned-none c.in_ok-values.values c.args.vars v c.in_ok-values.ensures;
 }
 

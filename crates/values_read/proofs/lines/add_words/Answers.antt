@@ -1,5 +1,5 @@
-use Rattle.std.proofs.Common.{◌≡◌, ℕ, ◌+◌, List, drop, take, ap, subst, sym, ◌∙◌}
-use Rattle.std.proofs.lemmas.List.{take_rest}
+use Rattle.std.proofs.Common.{◌≡◌, ℕ, ◌+◌, List, length, drop, take, arith, ap, subst, sym, ◌∙◌}
+use Rattle.std.proofs.lemmas.List.{length-drop, take_rest}
 use Rattle.std.proofs.lemmas.Result.{err_from_is_err_and}
 use Rattle.values_read.specs.Answers.{behind}
 use Rattle.values_read.specs.Values.{said_by_word, said_by_words, words_of}
@@ -14,11 +14,22 @@ words-preserved c =
     let mid : Lits = c.words.lits.items in
     let new : Lits = c.add_word.new.lits.items in
     let whole = said_by_words (words_of c.args.text.now) in
-    subst (λ (b : List ℕ). behind new (said_by_words (words_of b)) ≡ behind c.args.lits.now.items whole)
-    (sym (take_rest rest (at + 1)))
-    (joined-added mid new (said_by_word (take at rest)) (said_by_words (words_of left)) c.in_ok-add_word.ensures
-    ∙ ap (behind mid) (sym (words-found rest at c.in-Some.ensures))
-    ∙ c.words.invariant)
+    record {
+      said = subst (λ (b : List ℕ). behind new (said_by_words (words_of b)) ≡ behind c.args.lits.now.items whole)
+          (sym (take_rest rest (at + 1)))
+          (joined-added mid new (said_by_word (take at rest)) (said_by_words (words_of left)) c.in_ok-add_word.ensures
+          ∙ ap (behind mid) (sym (words-found rest at c.in-Some.ensures))
+          ∙ c.words.invariant.said);
+      short = omega (
+        arith,
+        c.words.invariant.short,
+        length-drop (at + 1) rest,
+        ap length (take_rest rest (at + 1)),
+      );
+    }
+
+pub overflow_add-rest : goal.overflow_add-rest
+overflow_add-rest c = omega (arith, c.in-Some.ensures.0.high, c.words.invariant.short, c.requires)
 
 pub returns-in_err-add_word : goal.returns-in_err-add_word
 returns-in_err-add_word c =
@@ -30,7 +41,7 @@ returns-in_err-add_word c =
     (Adds-stop c.args.lits.now.items c.words.lits.items c.add_word.new.lits.items
     (said_by_words (words_of c.args.text.now)) (said_by_word (take at rest)) (said_by_words (words_of left))
     c.in_err-add_word.field-0.0
-    (ap (behind c.words.lits.items) (sym (words-found rest at c.in-Some.ensures)) ∙ c.words.invariant)
+    (ap (behind c.words.lits.items) (sym (words-found rest at c.in-Some.ensures)) ∙ c.words.invariant.said)
     c.in_err-add_word.ensures)
 
 pub returns : goal.returns
@@ -38,5 +49,5 @@ returns c =
     let rest : List ℕ = c.words.rest.now in
     Adds-last c.args.lits.now.items c.words.lits.items c.add_word-2.new.lits.items
     (said_by_words (words_of c.args.text.now)) (said_by_word rest) c.add_word-2.result
-    (ap (behind c.words.lits.items) (sym (words-alone rest c.in_default.ensures)) ∙ c.words.invariant)
+    (ap (behind c.words.lits.items) (sym (words-alone rest c.in_default.ensures)) ∙ c.words.invariant.said)
     c.add_word-2.ensures

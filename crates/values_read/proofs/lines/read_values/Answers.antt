@@ -2,7 +2,7 @@ use Rattle.std.proofs.Common.{◌≡◌, ℕ, ◌+◌, [], List, Ok, drop, take,
 use Rattle.std.proofs.lemmas.List.{length-drop, take_rest}
 use Rattle.std.proofs.lemmas.Result.{err_from_is_err_and}
 use Rattle.values_read.specs.Values.{said_by_line, said_from}
-use Rattle.values_read.proofs.SaidLemmas.{Lits, Said, SaysValues-stop, after-added, in_front, in_front-none, last-added}
+use Rattle.values_read.proofs.SaidLemmas.{Lits, Said, SaysFault-stop, after-added, in_front, in_front-none, last-added}
 use Rattle.values_read.proofs.SaidLemmas.{lines-alone, lines-found, lines_of}
 use Rattle.values_read.proofs.lines.read_values.Goals as goal
 
@@ -11,6 +11,7 @@ lines-init c = record {
   said = ap (λ (lits : Lits). in_front lits (said_from 1 (lines_of c.args.bytes.now))) c.new-lits.ensures.items
       ∙ in_front-none (said_from 1 (lines_of c.args.bytes.now));
   line = omega arith;
+  least = omega arith;
 }
 
 pub lines-preserved : goal.lines-preserved
@@ -35,7 +36,11 @@ lines-preserved c =
         ap length (take_rest rest (at + 1)),
         c.in-Some.ensures.0.high,
       );
+      least = omega arith;
     }
+
+pub add_numbered-requires-2 : goal.add_numbered-requires-2
+add_numbered-requires-2 c = omega (arith, c.lines.invariant.line, c.lines.invariant.least, c.requires)
 
 pub returns-in_err-add_numbered : goal.returns-in_err-add_numbered
 returns-in_err-add_numbered c =
@@ -44,7 +49,7 @@ returns-in_err-add_numbered c =
     let left : List ℕ = drop (at + 1) rest in
     let p = err_from_is_err_and c.from_residual.result c.from_residual.ensures.1 in
     rw (p.1, p.2)
-    (SaysValues-stop c.lines.lits.items c.add_numbered.new.lits.items (said_from 1 (lines_of c.args.bytes.now))
+    (SaysFault-stop c.lines.lits.items c.add_numbered.new.lits.items (said_from 1 (lines_of c.args.bytes.now))
     (said_by_line (take at rest)) c.lines.line (said_from (c.lines.line + 1) (lines_of left))
     c.in_err-add_numbered.field-0.0
     (ap (in_front c.lines.lits.items) (sym (lines-found c.lines.line rest at c.in-Some.ensures))
@@ -57,7 +62,7 @@ returns-in_err-add_numbered-2 c =
     let none : Said = Ok [] in
     let p = err_from_is_err_and c.from_residual-in_err-add_numbered-2.result c.from_residual-in_err-add_numbered-2.ensures.1 in
     rw (p.1, p.2)
-    (SaysValues-stop c.lines.lits.items c.add_numbered-2.new.lits.items (said_from 1 (lines_of c.args.bytes.now))
+    (SaysFault-stop c.lines.lits.items c.add_numbered-2.new.lits.items (said_from 1 (lines_of c.args.bytes.now))
     (said_by_line rest) c.lines.line none c.in_err-add_numbered-2.field-0.0
     (ap (in_front c.lines.lits.items) (sym (lines-alone c.lines.line rest c.in_default.ensures))
     ∙ c.lines.invariant.said)

@@ -8,6 +8,7 @@ abbrev pub invariant-lines : goal.invariant-lines
 invariant-lines l = record {
   said : in_front l.lits.items (said_from l.line (lines_of l.rest)) ≡ said_from 1 (lines_of l.bytes);
   line : l.line + length l.rest ≤ length l.bytes + 1;
+  least : 1 ≤ l.line;
 }
 
 abbrev pub decreases-lines : goal.decreases-lines
