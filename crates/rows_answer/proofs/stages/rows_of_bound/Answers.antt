@@ -1,4 +1,4 @@
-use Rattle.std.proofs.Common.{◌≡◌, ◌≤◌, inl, ap, refl, ◌∙◌}
+use Rattle.std.proofs.Common.{◌≤◌, inl, ap, refl, ◌∙◌}
 use Rattle.check_answer.specs.Check.{most_terms}
 use Rattle.bound_base.specs.BoundRows.{bound_size}
 use Rattle.bound_rows.specs.Bounded.{Bounded}

@@ -1,4 +1,4 @@
-use Rattle.std.proofs.Common.{◌≡◌, ◌≤◌, inl, ap, refl, ◌∙◌}
+use Rattle.std.proofs.Common.{◌≤◌, inl, ap, refl, ◌∙◌}
 use Rattle.check_answer.specs.Check.{most_terms}
 use Rattle.encoding_base.specs.Encoding.{encoding_size}
 use Rattle.rows_answer.specs.Rowed.{league_system, rows_answer}
