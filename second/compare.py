@@ -365,4 +365,5 @@ def main():
         print(f"{total[what]:8} {what}")
 
 
-main()
+if __name__ == "__main__":
+    main()
