@@ -1,5 +1,9 @@
 pub mod ListLemmas
 pub mod CountLemmas
+pub mod MeetingLemmas
 pub mod LawLemmas
+pub mod LeadLemmas
+pub mod GapLemmas
+pub mod AddUpLemmas
 -- Worked examples, so that a wrong definition does not check:
 pub mod ReasonFacts

@@ -1,11 +1,14 @@
 //! The reasons of a constraint of any class.
 ghost use Rattle.std.specs.Prelude.{◌≡◌, ◌<◌, ◌++◌, length, slice_index, OnOk, IfOk, IsTrue};
+ghost use Rattle.std.specs.List.{All};
 ghost use Rattle.league.specs.Counts.{counts_of};
-ghost use Rattle.league.specs.Instance.{class_fits};
+ghost use Rattle.league.specs.Instance.{IsGame, class_fits};
+ghost use Rattle.league.specs.Order.{IsInOrder};
 ghost use Rattle.league.specs.Shapes.{has_bounds};
 ghost use Rattle.rule_core.specs.Ready as ready;
 ghost use Rattle.cells.specs.Table.{table_counts};
 ghost use Rattle.reasons.specs.Groups.{counts_breaks, counts_games_of_a_team, counts_games_of_meetings};
+ghost use Rattle.reasons.specs.Laws.{AddUp};
 ghost use Rattle.reasons.specs.Reasons.{reasons_at, reasons_of};
 
 use crate::bounded::{Entry, Windows, push_by_games, push_by_windows, span_slots};
@@ -229,9 +232,8 @@ fn counted(
     Ok(reasons)
 }
 
-/// Why a constraint is missed by a schedule: the reasons of its entries that aren't 0, in the order of their keys. The
-/// games are those of a league that the constraint fits, with their counts; where they are in order, so are those of
-/// each reason.
+/// Why a constraint is missed by a schedule of its league: the reasons of its entries that aren't 0, in the order of
+/// their keys. The games are in order, and so are those of each reason. At each key the amounts add up to the entry.
 ///
 /// # Errors
 /// Only where memory runs out.
@@ -242,8 +244,11 @@ pub fn reasons(
     games: &[Game],
 ) -> Result<Vec<Reason>, AllocError>
     requires fits { IsTrue (class_fits cells.now.n class.now) }
+    requires fit { All (IsGame cells.now.n) games.now }
+    requires in_order { IsInOrder games.now }
     requires counted { table_counts cells.now ≡ counts_of games.now }
-    ensures { IfOk result (λ reasons. reasons.items ≡ reasons_of cells.now.n games.now class.now) }
+    ensures reasons { IfOk result (λ reasons. reasons.items ≡ reasons_of cells.now.n games.now class.now) }
+    ensures amounts { AddUp cells.now.n games.now class.now }
 {
     match class {
         Class::Fa2 { teams, intp, slots } => leads(alloc, teams, *intp, slots, cells, games),

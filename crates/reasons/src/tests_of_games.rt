@@ -2,6 +2,7 @@
 ghost use Rattle.std.specs.Prelude.{◌≡◌};
 ghost use Rattle.league.specs.Capacity.{is_between};
 ghost use Rattle.league.specs.Sets.{is_in};
+ghost use Rattle.cells.specs.Meetings.{is_listed};
 ghost use Rattle.rule_core.specs.Touched.{plays_against, plays_on};
 ghost use Rattle.reasons.specs.Counting as counting;
 
@@ -59,6 +60,16 @@ fn is_of(side: Side, teams1: &TeamSet, teams2: &TeamSet, game: Game) -> bool
     }
 }
 
+/// Whether the meeting of a game is one of these.
+fn is_meeting(meetings: &PairSet, game: Game) -> bool
+    ensures { result ≡ is_listed meetings.now game.home.0 game.away.0 }
+{
+    meetings
+        .numbers()
+        .iter()
+        .any(|pair| pair.0 == game.home.0 && pair.1 == game.away.0)
+}
+
 /// Whether a game counts for CA1.
 pub(crate) fn counts_in_ca1(player: Player, slots: &[u16], game: Game) -> bool
     ensures { result ≡ counting.counts_in_ca1 player.side slots.now player.team game }
@@ -105,11 +116,7 @@ pub(crate) fn counts_in_ca4(
 pub(crate) fn counts_in_ga1(meetings: &PairSet, slots: &[u16], game: Game) -> bool
     ensures { result ≡ counting.counts_in_ga1 meetings.now slots.now game }
 {
-    let listed = meetings
-        .numbers()
-        .iter()
-        .any(|pair| pair.0 == game.home.0 && pair.1 == game.away.0);
-    listed && has(slots, game.slot.0)
+    is_meeting(meetings, game) && has(slots, game.slot.0)
 }
 
 /// Whether a game counts for a break at a slot.
