@@ -178,18 +178,24 @@ is_against H teams i home away = (i == home) && is_in away teams
 is_against A teams i home away = (i == away) && is_in home teams
 is_against Both teams i home away = ((i == home) && is_in away teams) || ((i == away) && is_in home teams)
 
--- a game's meeting stands once among those of a team with others, or not at all
-pub times-meetings_with : (side : Side) (i : ℕ) (teams : List ℕ) (home away : ℕ) → IsAscending nat_cmp teams → home ≢ away → times (meetings_with side i teams) home away ≡ one_if (is_against side teams i home away)
-times-meetings_with H i teams home away ascending differ =
+times-at_home : (i : ℕ) (teams : List ℕ) (home away : ℕ) → IsAscending nat_cmp teams → home ≢ away → times (map (λ j. (i, j)) (others i teams)) home away ≡ one_if ((i == home) && is_in away teams)
+times-at_home i teams home away ascending differ =
     over_others (λ p. one_if ((home == p.0) && (away == p.1))) (λ j. (i, j)) i teams
     ∙ sum_by-same (λ j. cond (not (j == i)) (one_if ((home == i) && (away == j))) 0) (λ j. one_if ((i == home) && (away == j))) (λ j. home_once home away i j differ) teams
     ∙ once_among (i == home) away teams ascending
-times-meetings_with A i teams home away ascending differ =
+
+times-away : (i : ℕ) (teams : List ℕ) (home away : ℕ) → IsAscending nat_cmp teams → home ≢ away → times (map (λ j. (j, i)) (others i teams)) home away ≡ one_if ((i == away) && is_in home teams)
+times-away i teams home away ascending differ =
     over_others (λ p. one_if ((home == p.0) && (away == p.1))) (λ j. (j, i)) i teams
     ∙ sum_by-same (λ j. cond (not (j == i)) (one_if ((home == j) && (away == i))) 0) (λ j. one_if ((i == away) && (home == j))) (λ j. away_once home away i j differ) teams
     ∙ once_among (i == away) home teams ascending
+
+-- a game's meeting stands once among those of a team with others, or not at all
+pub times-meetings_with : (side : Side) (i : ℕ) (teams : List ℕ) (home away : ℕ) → IsAscending nat_cmp teams → home ≢ away → times (meetings_with side i teams) home away ≡ one_if (is_against side teams i home away)
+times-meetings_with H i teams home away ascending differ = times-at_home i teams home away ascending differ
+times-meetings_with A i teams home away ascending differ = times-away i teams home away ascending differ
 times-meetings_with Both i teams home away ascending differ =
     sum_by-append (λ p. one_if ((home == p.0) && (away == p.1))) (map (λ j. (i, j)) (others i teams)) (map (λ j. (j, i)) (others i teams))
-    ∙ ap (λ (x : ℕ). x + times (map (λ j. (j, i)) (others i teams)) home away) (times-meetings_with H i teams home away ascending differ)
-    ∙ ap (λ (x : ℕ). one_if ((i == home) && is_in away teams) + x) (times-meetings_with A i teams home away ascending differ)
+    ∙ ap (λ (x : ℕ). x + times (map (λ j. (j, i)) (others i teams)) home away) (times-at_home i teams home away ascending differ)
+    ∙ ap (λ (x : ℕ). one_if ((i == home) && is_in away teams) + x) (times-away i teams home away ascending differ)
     ∙ either_once home away i (is_in away teams) (is_in home teams) differ

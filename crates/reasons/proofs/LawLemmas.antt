@@ -28,7 +28,7 @@ use Rattle.league.proofs.RangeLemmas.{one_if}
 use Rattle.league.proofs.SumLemmas.{sum_by-flat_map, sum_by-map, sum_by-same}
 use Rattle.rule_core.specs.Touched.{plays_against, plays_on}
 use Rattle.reasons.specs.Counting.{counts_in_ca1, counts_in_ca2, counts_in_ca3}
-use Rattle.reasons.specs.Reasons.{apart, breaks_at_slot, breaks_of, by_breaks, by_lead, by_window, furthest, reasons_at, where_missed}
+use Rattle.reasons.specs.Reasons.{apart, break_of, breaks_at_slot, breaks_of, by_breaks, by_lead, by_window, furthest, reasons_at, where_missed}
 use Rattle.reasons.specs.declared.reason.Break.{Break}
 use Rattle.reasons.specs.declared.reason.Cause.{Cause}
 use Rattle.reasons.specs.declared.reason.Cause.TheVariants.{Games, Window, Breaks, Lead}
@@ -106,13 +106,19 @@ length-if : {X : Type 0} (b : Bool) (x : X) → length (cond b (x ∷ []) []) �
 length-if true x = refl
 length-if false x = refl
 
+length-home : (n : ℕ) (games : List Game) (i s : ℕ) → length (breaks_at_slot n games H i s) ≡ breaks_at n (counts_of games) H i s
+length-home n games i s = length-if (is_home_break n (counts_of games) i s) (break_of games H i s)
+
+length-away : (n : ℕ) (games : List Game) (i s : ℕ) → length (breaks_at_slot n games A i s) ≡ breaks_at n (counts_of games) A i s
+length-away n games i s = length-if (is_away_break n (counts_of games) i s) (break_of games A i s)
+
 length-breaks_at_slot : (n : ℕ) (games : List Game) (side : Side) (i s : ℕ) → length (breaks_at_slot n games side i s) ≡ breaks_at n (counts_of games) side i s
-length-breaks_at_slot n games H i s = length-if (is_home_break n (counts_of games) i s) _
-length-breaks_at_slot n games A i s = length-if (is_away_break n (counts_of games) i s) _
+length-breaks_at_slot n games H i s = length-home n games i s
+length-breaks_at_slot n games A i s = length-away n games i s
 length-breaks_at_slot n games Both i s =
     length-append (breaks_at_slot n games H i s) (breaks_at_slot n games A i s)
-    ∙ ap (λ (x : ℕ). x + length (breaks_at_slot n games A i s)) (length-breaks_at_slot n games H i s)
-    ∙ ap (λ (x : ℕ). breaks_at n (counts_of games) H i s + x) (length-breaks_at_slot n games A i s)
+    ∙ ap (λ (x : ℕ). x + length (breaks_at_slot n games A i s)) (length-home n games i s)
+    ∙ ap (λ (x : ℕ). breaks_at n (counts_of games) H i s + x) (length-away n games i s)
 
 -- the breaks of a team at some slots
 pub length-breaks_of : (n : ℕ) (games : List Game) (side : Side) (slots : List ℕ) (i : ℕ) → length (breaks_of n games side slots i) ≡ breaks_among n (counts_of games) side slots i

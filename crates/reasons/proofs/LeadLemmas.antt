@@ -50,13 +50,13 @@ attained f a [] = inl refl
 attained f a (x ∷ xs) =
     elim (attained f (max a (f x)) xs) [
       | inl same ↦ elim (cases_lt a (f x)) [
-          | inl less ↦ inr (record {
-              place = 0;
-              within = omega arith;
-              is = λ d. let most : max a (f x) ≡ f x = omega arith in sym (same ∙ most);
-            })
-          | inr not_less ↦ inl (let most : max a (f x) ≡ a = omega arith in same ∙ most)
-        ]
+        | inl less ↦ inr (record {
+          place = 0;
+          within = omega arith;
+          is = λ d. let most : max a (f x) ≡ f x = omega arith in sym (same ∙ most);
+        })
+        | inr not_less ↦ inl (let most : max a (f x) ≡ a = omega arith in same ∙ most)
+      ]
       | inr later ↦ inr (record { place = suc later.place; within = let lt : later.place < length xs = later.within in omega arith; is = later.is })
     ]
 

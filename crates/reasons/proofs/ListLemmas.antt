@@ -36,13 +36,17 @@ pub one_slot : (slots : List ℕ) (k : ℕ) → k < length slots → get_or (spa
 one_slot slots k within = get_or-map (λ s. s ∷ []) slots k 0 [] within
 
 -- the one slot of a key, cut from the slots
-pub cut_one : (slots : List ℕ) (k : ℕ) → k < length (spans Every slots) → take (k + 1 - k) (drop k slots) ≡ get_or (spans Every slots) k []
-cut_one slots k within =
+cut_every : (slots : List ℕ) (k : ℕ) → k < length (spans Every slots) → take (k + 1 - k) (drop k slots) ≡ get_or (spans Every slots) k []
+cut_every slots k within =
     let here : k < length slots = omega (arith, length-map slots (λ s. s ∷ [])) in
     let one : k + 1 - k ≡ 1 = omega arith in
     ap (λ (count : ℕ). take count (drop k slots)) one
     ∙ ap (λ (xs : List ℕ). take 1 xs) (drop-cons slots k 0 here)
     ∙ sym (one_slot slots k here)
+
+pub cut_one : (span : Span) (slots : List ℕ) (k : ℕ) → span ≡ Every → k < length (spans span slots) → take (k + 1 - k) (drop k slots) ≡ get_or (spans span slots) k []
+cut_one span slots k every inside =
+    subst (λ (s : Span). k < length (spans s slots) → take (k + 1 - k) (drop k slots) ≡ get_or (spans s slots) k []) (sym every) (cut_every slots k) inside
 
 one_ascends : (x : ℕ) → IsAscending nat_cmp (x ∷ [])
 one_ascends x i j d before within = absurd (omega arith)
@@ -90,3 +94,11 @@ pub find-here : (p : ℕ → Bool) (xs : List ℕ) (i : ℕ) → i < length xs �
 find-here p xs i within passes =
     ap (find p) (drop-cons xs i 0 within)
     ∙ ap (λ (b : Bool). cond b (Some (get_or xs i 0)) (find p (drop (suc i) xs))) passes
+
+-- a list to which nothing is added, since a test fails, and one to which an item is added, since it passes
+pub added-none : {A : Type 0} (xs : List A) (b : Bool) (x : A) → b ≡ false → xs ≡ xs ++ cond b (x ∷ []) []
+added-none {A} xs b x fails = sym (append-nil xs) ∙ ap (λ (c : Bool). xs ++ cond c (x ∷ []) []) (sym fails)
+
+pub added-one : {A : Type 0} (xs more : List A) (b : Bool) (x y : A) → b ≡ true → y ≡ x → more ≡ xs ++ y ∷ [] → more ≡ xs ++ cond b (x ∷ []) []
+added-one {A} xs more b x y passes same added =
+    added ∙ ap (λ (z : A). xs ++ z ∷ []) same ∙ ap (λ (c : Bool). xs ++ cond c (x ∷ []) []) (sym passes)

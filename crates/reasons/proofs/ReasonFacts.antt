@@ -92,7 +92,7 @@ ga1-none = refl
 -- team 2 is away in slots 0 and 1, and at home in slots 2 and 3; teams 0 and 1 have one break each
 pub br1-two_breaks : found (Br1 (0 ∷ 1 ∷ 2 ∷ []) 1 Both all_slots)
     ≡ reason 2 1 (Breaks (
-        broken 2 A 1 (game 1 2 0 ∷ game 3 2 1 ∷ []) ∷ broken 2 H 3 (game 2 0 2 ∷ game 2 1 3 ∷ []) ∷ [])) ∷ []
+    broken 2 A 1 (game 1 2 0 ∷ game 3 2 1 ∷ []) ∷ broken 2 H 3 (game 2 0 2 ∷ game 2 1 3 ∷ []) ∷ [])) ∷ []
 br1-two_breaks = refl
 
 -- on its side alone
@@ -103,9 +103,9 @@ br1-home = refl
 -- six breaks of all teams
 pub br2-six_breaks : found (Br2 all_teams 5 all_slots)
     ≡ reason 0 1 (Breaks (
-        broken 0 H 4 (game 0 3 3 ∷ game 0 2 4 ∷ []) ∷ broken 1 A 4 (game 2 1 3 ∷ game 3 1 4 ∷ [])
-        ∷ broken 2 A 1 (game 1 2 0 ∷ game 3 2 1 ∷ []) ∷ broken 2 H 3 (game 2 0 2 ∷ game 2 1 3 ∷ [])
-        ∷ broken 3 H 1 (game 3 0 0 ∷ game 3 2 1 ∷ []) ∷ broken 3 A 3 (game 1 3 2 ∷ game 0 3 3 ∷ []) ∷ [])) ∷ []
+    broken 0 H 4 (game 0 3 3 ∷ game 0 2 4 ∷ []) ∷ broken 1 A 4 (game 2 1 3 ∷ game 3 1 4 ∷ [])
+    ∷ broken 2 A 1 (game 1 2 0 ∷ game 3 2 1 ∷ []) ∷ broken 2 H 3 (game 2 0 2 ∷ game 2 1 3 ∷ [])
+    ∷ broken 3 H 1 (game 3 0 0 ∷ game 3 2 1 ∷ []) ∷ broken 3 A 3 (game 1 3 2 ∷ game 0 3 3 ∷ []) ∷ [])) ∷ []
 br2-six_breaks = refl
 
 -- after slot 1 team 3 has played two home games and team 2 none

@@ -100,7 +100,7 @@ reasons_at n games (Ca2 teams1 teams2 min max side slots) key =
 reasons_at n games (Ca3 teams1 teams2 min max intp side) key =
     flat_map
     (λ first. by_window key min max first
-        (filter (counts_in_ca3 teams2 intp side (slice_index teams1 key) first) games))
+    (filter (counts_in_ca3 teams2 intp side (slice_index teams1 key) first) games))
     (range_with_len 0 (slot_count n + 1 - intp))
 reasons_at n games (Ca4 teams1 teams2 min max side span slots) key =
     by_games key min max (filter (counts_in_ca4 teams1 teams2 side (slice_index_or (spans span slots) key [])) games)

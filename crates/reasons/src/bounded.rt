@@ -99,7 +99,7 @@ pub(crate) fn push_by_windows(
 ) -> Result<(), AllocError>
     ensures { OnOk result (reasons.new.items ≡ reasons.old.items ++ flat_map
         (λ first. by_window entry.key entry.min entry.max first
-            (filter (counts_in_ca3 others.now windows.intp player.side player.team first) games.now))
+        (filter (counts_in_ca3 others.now windows.intp player.side player.team first) games.now))
         (range_with_len 0 windows.count)) }
 {
     for first in 0..windows.count {

@@ -34,7 +34,12 @@ fn is_away_break(cells: &Cells, team: TeamId, slot: SlotId) -> bool
 }
 
 /// A break with its games.
-fn break_of(alloc: Global, games: &[Game], player: Player, slot: SlotId) -> Result<Break, AllocError>
+fn break_of(
+    alloc: Global,
+    games: &[Game],
+    player: Player,
+    slot: SlotId,
+) -> Result<Break, AllocError>
     ensures { IfOk result (λ found. found ≡ specs.break_of games.now player.side player.team slot.0) }
 {
     Ok(Break {

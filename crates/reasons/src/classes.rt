@@ -8,7 +8,7 @@ ghost use Rattle.league.specs.Shapes.{has_bounds};
 ghost use Rattle.rule_core.specs.Ready as ready;
 ghost use Rattle.cells.specs.Table.{table_counts};
 ghost use Rattle.reasons.specs.Groups.{counts_breaks, counts_games_of_a_team, counts_games_of_meetings};
-ghost use Rattle.reasons.specs.Laws.{AddUp};
+ghost use Rattle.reasons.specs.Laws.{AddUp, ListTouching};
 ghost use Rattle.reasons.specs.Reasons.{reasons_at, reasons_of};
 
 use crate::bounded::{Entry, Windows, push_by_games, push_by_windows, span_slots};
@@ -233,7 +233,8 @@ fn counted(
 }
 
 /// Why a constraint is missed by a schedule of its league: the reasons of its entries that aren't 0, in the order of
-/// their keys. The games are in order, and so are those of each reason. At each key the amounts add up to the entry.
+/// their keys. The games are in order, and so are those of each reason. At each key the amounts add up to the entry,
+/// and each game that is listed can change it.
 ///
 /// # Errors
 /// Only where memory runs out.
@@ -249,6 +250,7 @@ pub fn reasons(
     requires counted { table_counts cells.now ≡ counts_of games.now }
     ensures reasons { IfOk result (λ reasons. reasons.items ≡ reasons_of cells.now.n games.now class.now) }
     ensures amounts { AddUp cells.now.n games.now class.now }
+    ensures touching { ListTouching cells.now.n games.now class.now }
 {
     match class {
         Class::Fa2 { teams, intp, slots } => leads(alloc, teams, *intp, slots, cells, games),

@@ -7,6 +7,7 @@ ghost use Rattle.reasons.specs.Reasons as specs;
 
 use crate::bounded::push_missed;
 use crate::listed::mutual_games;
+use crate::pair_at::pair_at;
 use crate::reason::{Cause, Reason};
 use keys::Pairs;
 use league::{Game, TeamSet};
@@ -62,8 +63,8 @@ pub(crate) fn gaps(
     let pairs = Pairs::of_teams(alloc, cells.n(), teams)?;
     let mut reasons = Vec::new(alloc);
     for key in 0..pairs.len() {
-        let (first, second) = pairs.get(key);
-        let mutual = mutual_games(alloc, games, first, second)?;
+        let pair = pair_at(&pairs, key);
+        let mutual = mutual_games(alloc, games, pair.first, pair.second)?;
         push_by_gaps(key, min, mutual.games(), &mut reasons)?;
     }
     Ok(reasons)

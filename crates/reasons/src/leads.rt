@@ -1,5 +1,5 @@
 //! Reasons of FA2: two teams of which one has played many more home games than the other.
-ghost use Rattle.std.specs.Prelude.{◌≡◌, ◌+◌, ◌*◌, ◌<◌, ◌≤◌, ◌++◌, OnOk, IfOk, IsTrue};
+ghost use Rattle.std.specs.Prelude.{◌≡◌, ◌+◌, ◌*◌, ◌<◌, ◌≤◌, ◌++◌, Some, OnOk, IfOk, IfSome, IsTrue};
 ghost use Rattle.std.specs.List.{All};
 ghost use Rattle.league.specs.Bounds.{largest};
 ghost use Rattle.league.specs.Counts.{counts_of, slot_count};
@@ -11,19 +11,12 @@ ghost use Rattle.reasons.specs.Reasons as specs;
 
 use crate::bounded::push_missed;
 use crate::listed::home_games_to;
+use crate::pair_at::{PairAt, pair_at};
 use crate::reason::{Cause, Reason};
 use keys::Pairs;
 use league::{Game, SlotId, SlotSet, TeamId, TeamSet};
 use rule_core::Cells;
 use std::alloc::{AllocError, Global};
-
-/// Two teams with the key of their entry.
-#[derive(Clone, Copy)]
-pub(crate) struct PairAt {
-    pub(crate) key: usize,
-    pub(crate) first: TeamId,
-    pub(crate) second: TeamId,
-}
 
 /// The home games that a team has played in slots 0 to a slot.
 fn home_played(cells: &Cells, team: TeamId, slot: u16) -> u32
@@ -74,8 +67,9 @@ fn furthest(cells: &Cells, pair: PairAt, slots: &[u16]) -> Option<u16>
     requires second { pair.second.0 < cells.now.n }
     requires few { cells.now.n ≤ 40 }
     requires slots { All (λ s. s < slot_count cells.now.n) slots.now }
-    ensures { result
+    ensures slot { result
         ≡ specs.furthest cells.now.n (table_counts cells.now) slots.now (pair.first.0, pair.second.0) }
+    ensures within { IfSome result (λ slot. slot < slot_count cells.now.n) }
 {
     let most = largest_apart(cells, pair, slots);
     for slot in slots {
@@ -110,7 +104,8 @@ fn push_lead_at(
         first: home_games_to(alloc, games, pair.first, slot)?,
         second: home_games_to(alloc, games, pair.second, slot)?,
     };
-    push_missed(pair.key, u64::from(amount), cause, reasons)
+    push_missed(pair.key, u64::from(amount), cause, reasons)?;
+    Ok(())
 }
 
 /// Adds the reason of the entry of two teams.
@@ -129,12 +124,12 @@ fn push_lead(
     requires counted { table_counts cells.now ≡ counts_of games.now }
     ensures { OnOk result (reasons.new.items ≡ reasons.old.items
         ++ specs.by_lead pair.key cells.now.n intp games.now (pair.first.0, pair.second.0)
-            (specs.furthest cells.now.n (counts_of games.now) slots.now (pair.first.0, pair.second.0))) }
+        (specs.furthest cells.now.n (counts_of games.now) slots.now (pair.first.0, pair.second.0))) }
 {
-    match furthest(cells, pair, slots) {
-        Some(slot) => push_lead_at(pair, intp, slot, cells, games, reasons),
-        None => Ok(()),
+    if let Some(slot) = furthest(cells, pair, slots) {
+        push_lead_at(pair, intp, slot, cells, games, reasons)?;
     }
+    Ok(())
 }
 
 /// The reasons of FA2.
@@ -155,8 +150,7 @@ pub(crate) fn leads(
     let pairs = Pairs::of_teams(alloc, cells.n(), teams)?;
     let mut reasons = Vec::new(alloc);
     for key in 0..pairs.len() {
-        let (first, second) = pairs.get(key);
-        let pair = PairAt { key, first, second };
+        let pair = pair_at(&pairs, key);
         push_lead(pair, intp, slots.numbers(), cells, games, &mut reasons)?;
     }
     Ok(reasons)

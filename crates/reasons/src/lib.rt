@@ -11,6 +11,7 @@ mod classes;
 mod gaps;
 mod leads;
 mod listed;
+mod pair_at;
 mod reason;
 mod tests_of_games;
 

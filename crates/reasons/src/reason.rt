@@ -70,7 +70,10 @@ pub enum Cause {
     /// The games that are counted (CA1, CA2, CA4, GA1).
     Games(GameList),
     /// The games that are counted in the window from a slot on (CA3).
-    Window { first: SlotId, games: GameList },
+    Window {
+        first: SlotId,
+        games: GameList,
+    },
     /// The breaks that are counted (BR1, BR2).
     Breaks(BreakList),
     /// The home games of the first team and of the second, up to the first slot after which they are furthest apart
@@ -81,7 +84,10 @@ pub enum Cause {
         second: GameList,
     },
     /// Two games of two teams with too few slots between them (SE1).
-    Gap { earlier: Game, later: Game },
+    Gap {
+        earlier: Game,
+        later: Game,
+    },
 }
 
 /// Why an entry isn't 0. An entry of CA3 or SE1 may have many reasons, and any other has one.
