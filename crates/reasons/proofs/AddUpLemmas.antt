@@ -1,5 +1,5 @@
 -- At each key the amounts of the reasons add up to the entry: the classes that bound meetings, and all classes.
-use Rattle.std.proofs.Common.{◌≡◌, ◌≢◌, ℕ, ◌<◌, zero, suc, Bool, true, ◌&&◌, nat_lt, List, [], length, get_or, arith, ap, sym, ◌∙◌, IsTrue}
+use Rattle.std.proofs.Common.{◌≡◌, ℕ, ◌<◌, zero, suc, Bool, true, ◌&&◌, nat_lt, List, [], length, get_or, arith, ap, sym, ◌∙◌, IsTrue}
 use Rattle.std.proofs.lemmas.Bool.{and_parts}
 use Rattle.std.proofs.lemmas.List.{get_or-map}
 use Rattle.std.proofs.lemmas.List.Sums.{length-filter}

@@ -1,11 +1,11 @@
 -- How many games of a list count: sums over teams, meetings and slots, made sums over the games.
-use Rattle.std.proofs.Common.{◌≡◌, ◌≢◌, ℕ, ◌+◌, ◌<◌, Bool, true, false, not, ◌&&◌, ◌||◌, ◌==◌, if◌then◌else◌, cond, List, [], ◌∷◌, ◌++◌, map, refl, arith, ap, sym, ◌∙◌, inl, inr}
+use Rattle.std.proofs.Common.{◌≡◌, ◌≢◌, ℕ, ◌+◌, Bool, true, false, not, ◌&&◌, ◌||◌, ◌==◌, cond, List, [], ◌∷◌, map, refl, arith, ap, sym, ◌∙◌, inl, inr}
 use Rattle.std.proofs.Math.Path.{fun_ext}
 use Rattle.std.proofs.lemmas.Bool.{cases_eq}
 use Rattle.std.proofs.lemmas.Bool.Decides.{nat_tests}
 use Rattle.std.proofs.lemmas.List.Elements.{All-head, All-tail}
 use Rattle.std.proofs.lemmas.List.Sums.{sum_by-append, sum_by-cons}
-use Rattle.std.specs.List.{All, count_by, filter, sum_by}
+use Rattle.std.specs.List.{All, count_by, sum_by}
 use Rattle.std.specs.Ordering.{nat_cmp}
 use Rattle.league.specs.Capacity.{meetings_with}
 use Rattle.league.specs.Counts.{Counts, counts_of, is_game, one_more}
@@ -22,7 +22,7 @@ use Rattle.league.proofs.OneTermLemmas.{sum_by-all_none}
 use Rattle.league.proofs.RangeLemmas.{one_if}
 use Rattle.league.proofs.SumLemmas.{sum_by-add, sum_by-filter, sum_by-map, sum_by-same}
 use Rattle.keys.proofs.KeyLemmas.{ascending-tail, later_differ}
-use Rattle.rule_core.specs.Touched.{plays_against, plays_on}
+use Rattle.rule_core.specs.Touched.{plays_on}
 
 -- a list with a game more before it
 pub counts_of-cons : (g : Game) (games : List Game) → counts_of (g ∷ games) ≡ one_more (counts_of games) g

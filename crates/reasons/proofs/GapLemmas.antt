@@ -1,13 +1,13 @@
 -- The reasons of SE1 amount to the entry: the mutual games of two teams, in order, are in the slots that the definition
 -- of the entry lists.
-use Rattle.std.proofs.Common.{◌≡◌, ◌≢◌, ℕ, ◌+◌, ◌-◌, ◌<◌, ◌≤◌, zero, suc, Bool, true, false, ◌&&◌, ◌||◌, ◌==◌, cond, List, [], ◌∷◌, ◌++◌, length, map, get_or, replicate, IsTrue, refl, arith, ap, sym, ◌∙◌, inl, inr}
+use Rattle.std.proofs.Common.{◌≡◌, ◌≢◌, ℕ, ◌+◌, ◌<◌, ◌≤◌, zero, suc, ◌&&◌, ◌||◌, ◌==◌, cond, List, [], ◌∷◌, ◌++◌, length, map, get_or, replicate, IsTrue, refl, arith, ap, sym, ◌∙◌, inl, inr}
 use Rattle.std.proofs.lemmas.Bool.{cases_lt}
 use Rattle.std.proofs.lemmas.Bool.Decides.{nat_tests}
 use Rattle.std.proofs.lemmas.List.{get_or-map, length-map}
-use Rattle.std.proofs.lemmas.List.Elements.{All-cons, All-filter, All-head, All-map, All-tail}
+use Rattle.std.proofs.lemmas.List.Elements.{All-filter, All-map, All-tail}
 use Rattle.std.proofs.lemmas.List.Kept.{AllPairs-filter}
 use Rattle.std.proofs.lemmas.List.Sums.{sum_by-append, sum_by-cons}
-use Rattle.std.specs.List.{All, AllPairs, count_by, filter, flat_map, range_with_len, sum_by}
+use Rattle.std.specs.List.{All, AllPairs, count_by, filter, flat_map, range_with_len}
 use Rattle.std.specs.Ordering.{is_le, nat_cmp, ordering_then}
 use Rattle.std.specs.declared.cmp.Ordering.{Ordering}
 use Rattle.std.specs.declared.cmp.Ordering.TheVariants.{Less, Equal, Greater}

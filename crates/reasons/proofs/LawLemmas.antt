@@ -1,39 +1,34 @@
 -- At each key the amounts of the reasons add up to the entry: class by class.
-use Rattle.std.proofs.Common.{◌≡◌, ◌≢◌, ℕ, ◌+◌, ◌-◌, ◌<◌, ◌≤◌, zero, suc, Bool, true, false, not, ◌&&◌, ◌||◌, ◌==◌, nat_lt, max, cond, List, [], ◌∷◌, ◌++◌, length, map, get_or, Option, Some, None, refl, arith, ap, sym, ◌∙◌, inl, inr, zero-add}
-use Rattle.std.specs.Prelude.{nat_le}
+use Rattle.std.proofs.Common.{◌≡◌, ℕ, ◌+◌, ◌-◌, ◌<◌, zero, suc, Bool, true, false, ◌&&◌, nat_lt, max, cond, List, [], ◌∷◌, length, get_or, refl, arith, ap, sym, ◌∙◌, zero-add}
 use Rattle.std.proofs.lemmas.Bool.{cond_both}
 use Rattle.std.proofs.lemmas.Bool.Decides.{nat_tests}
 use Rattle.std.proofs.lemmas.List.{get_or-map, length-append}
 use Rattle.std.proofs.lemmas.List.Concat.{length-flat_map}
 use Rattle.std.proofs.lemmas.List.Sums.{length-filter}
-use Rattle.std.specs.List.{All, count_by, filter, find, flat_map, fold, range_with_len, sum_by}
+use Rattle.std.specs.List.{All, count_by, filter, flat_map, fold, range_with_len, sum_by}
 use Rattle.std.specs.Ordering.{nat_cmp}
 use Rattle.league.specs.Bounds.{excess, largest, outside}
 use Rattle.league.specs.Breaks.{breaks_among, breaks_at, is_away_break, is_home_break}
-use Rattle.league.specs.Capacity.{ca1_entry, ca2_entry, ca3_entry, ca4_entry, is_between, meetings_with}
-use Rattle.league.specs.Counts.{Counts, counts_of, slot_count}
-use Rattle.league.specs.Deviation.{entry_of, spans}
-use Rattle.league.specs.Fairness.{fa2_entry}
+use Rattle.league.specs.Capacity.{ca1_entry, ca2_entry, ca3_entry, meetings_with}
+use Rattle.league.specs.Counts.{counts_of, slot_count}
+use Rattle.league.specs.Deviation.{entry_of}
 use Rattle.league.specs.Instance.{IsGame}
-use Rattle.league.specs.Meetings.{games_of, pairs_of}
+use Rattle.league.specs.Meetings.{games_of}
 use Rattle.league.specs.Sets.{IsAscending, is_in}
-use Rattle.league.specs.Venues.{games_on}
-use Rattle.league.specs.declared.class.Class.{Class}
-use Rattle.league.specs.declared.class.Class.TheVariants.{Ca1, Ca2, Ca3, Ca4, Ga1, Br1, Br2, Fa2, Se1}
+use Rattle.league.specs.declared.class.Class.TheVariants.{Ca1, Ca2, Ca3, Br1, Br2}
 use Rattle.league.specs.declared.class.Side.{Side}
 use Rattle.league.specs.declared.class.Side.TheVariants.{H, A, Both}
-use Rattle.league.specs.declared.class.Span.{Span}
 use Rattle.league.specs.declared.game.Game.{Game}
 use Rattle.league.proofs.RangeLemmas.{one_if}
 use Rattle.league.proofs.SumLemmas.{sum_by-flat_map, sum_by-map, sum_by-same}
-use Rattle.rule_core.specs.Touched.{plays_against, plays_on}
+use Rattle.rule_core.specs.Touched.{plays_against}
 use Rattle.reasons.specs.Counting.{counts_in_ca1, counts_in_ca2, counts_in_ca3}
-use Rattle.reasons.specs.Reasons.{apart, break_of, breaks_at_slot, breaks_of, by_breaks, by_lead, by_window, furthest, reasons_at, where_missed}
+use Rattle.reasons.specs.Reasons.{break_of, breaks_at_slot, breaks_of, by_window, reasons_at, where_missed}
 use Rattle.reasons.specs.declared.reason.Break.{Break}
 use Rattle.reasons.specs.declared.reason.Cause.{Cause}
-use Rattle.reasons.specs.declared.reason.Cause.TheVariants.{Games, Window, Breaks, Lead}
+use Rattle.reasons.specs.declared.reason.Cause.TheVariants.{Games, Window, Breaks}
 use Rattle.reasons.specs.declared.reason.Reason.{Reason}
-use Rattle.reasons.proofs.CountLemmas.{games_of-counted, games_on-counted, is_against, times, times-meetings_with}
+use Rattle.reasons.proofs.CountLemmas.{games_of-counted, games_on-counted, is_against, times-meetings_with}
 use Rattle.reasons.proofs.ListLemmas.{is_in-range, range-ascending}
 
 -- what some reasons amount to

@@ -1,14 +1,14 @@
 -- Each game that a reason lists touches the key of the reason: class by class.
-use Rattle.std.proofs.Common.{◌≡◌, ◌≢◌, ℕ, ◌+◌, ◌<◌, zero, suc, Bool, true, false, ◌&&◌, ◌||◌, ◌==◌, nat_lt, cond, List, [], ◌∷◌, ◌++◌, length, get_or, Option, Some, None, refl, arith, ap, subst, sym, ◌∙◌, inl, inr, Contains}
+use Rattle.std.proofs.Common.{◌≡◌, ℕ, ◌+◌, ◌-◌, ◌<◌, Bool, true, false, ◌&&◌, ◌||◌, ◌==◌, nat_lt, cond, List, [], ◌∷◌, length, get_or, Option, Some, None, refl, arith, ap, subst, sym, ◌∙◌, inl, inr, Contains}
 use Rattle.std.specs.Prelude.{nat_le}
 use Rattle.std.proofs.lemmas.Bool.{and_parts, cases_Bool, cond_both}
 use Rattle.std.proofs.lemmas.Bool.Decides.{nat_tests}
 use Rattle.std.proofs.lemmas.List.{get_or_default}
-use Rattle.std.proofs.lemmas.List.Elements.{All-append, All-cons, All-head, All-nil, All-tail, All-weaker}
+use Rattle.std.proofs.lemmas.List.Elements.{All-append, All-cons, All-head, All-nil, All-tail}
 use Rattle.std.specs.List.{All, filter, find, flat_map, list_any, range_with_len}
 use Rattle.league.specs.Breaks.{is_away_break, is_home_break}
 use Rattle.league.specs.Bounds.{excess, largest, outside}
-use Rattle.league.specs.Counts.{Counts, counts_of, slot_count}
+use Rattle.league.specs.Counts.{counts_of, slot_count}
 use Rattle.league.specs.Deviation.{spans}
 use Rattle.league.specs.Capacity.{is_between}
 use Rattle.league.specs.Meetings.{pairs_of}
@@ -24,12 +24,12 @@ use Rattle.league.proofs.MemberLemmas.{is_in-yes}
 use Rattle.league.proofs.OneTermLemmas.{All-flat_map}
 use Rattle.cells.specs.Meetings.{is_listed}
 use Rattle.keys.specs.Keys.{keys_where}
-use Rattle.keys.specs.Pairs.{has_team, key_between, keys_with}
+use Rattle.keys.specs.Pairs.{has_team, keys_with}
 use Rattle.keys.proofs.KeyLemmas.{places_from-has}
 use Rattle.rule_core.specs.Touched.{can_break, plays_against, plays_on, touched_keys}
 use Rattle.reasons.specs.Counting.{counts_in_break, counts_in_ca1, counts_in_ca2, counts_in_ca3, counts_in_ca4, counts_in_fa2, counts_in_ga1, counts_in_se1}
 use Rattle.reasons.specs.Laws.{ListTouching, games_in}
-use Rattle.reasons.specs.Reasons.{apart, away_break_at, break_of, breaks_at_slot, breaks_of, by_gap, by_lead, by_window, furthest, home_break_at, neighbours, reasons_at, where_missed}
+use Rattle.reasons.specs.Reasons.{apart, away_break_at, break_of, breaks_at_slot, breaks_of, by_gap, by_lead, by_window, furthest, home_break_at, neighbours, where_missed}
 use Rattle.reasons.specs.declared.reason.Break.{Break}
 use Rattle.reasons.specs.declared.reason.Cause.{Cause}
 use Rattle.reasons.specs.declared.reason.Cause.TheVariants.{Games, Window, Breaks, Lead, Gap}

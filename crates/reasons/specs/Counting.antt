@@ -1,5 +1,5 @@
 -- Which games of a schedule count for an entry of a constraint, by class.
-use Rattle.std.specs.Prelude.{ℕ, ◌+◌, ◌-◌, Bool, ◌&&◌, ◌||◌, ◌==◌, nat_le, nat_lt, List}
+use Rattle.std.specs.Prelude.{ℕ, ◌+◌, Bool, ◌&&◌, ◌||◌, ◌==◌, nat_le, nat_lt, List}
 use Rattle.league.specs.Capacity.{is_between}
 use Rattle.league.specs.Sets.{is_in}
 use Rattle.league.specs.declared.class.Side.{Side}

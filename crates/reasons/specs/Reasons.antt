@@ -1,5 +1,5 @@
 -- Why an entry of a constraint isn't 0: by how much it is missed, and by which games of a schedule.
-use Rattle.std.specs.Prelude.{ℕ, ◌+◌, ◌-◌, Bool, ◌==◌, nat_lt, if◌then◌else◌, List, [], ◌∷◌, ◌++◌, length, slice_index}
+use Rattle.std.specs.Prelude.{ℕ, ◌+◌, ◌-◌, ◌==◌, nat_lt, if◌then◌else◌, List, [], ◌∷◌, ◌++◌, length, slice_index}
 use Rattle.std.specs.Prelude.{Option, Some, None, slice_index_or}
 use Rattle.std.specs.List.{filter, find, flat_map, range_with_len}
 use Rattle.league.specs.Bounds.{difference, excess, largest, outside}

@@ -1,4 +1,4 @@
-use Rattle.std.proofs.Common.{◌≡◌, true, false, ap, sym, ◌∙◌}
+use Rattle.std.proofs.Common.{ap, sym, ◌∙◌}
 use Rattle.league.specs.Breaks.{is_home_break}
 use Rattle.league.specs.Counts.{Counts}
 use Rattle.reasons.proofs.ListLemmas.{added-none, added-one}

@@ -1,6 +1,6 @@
 use Rattle.std.proofs.Common.{List, ◌++◌, ap, sym, ◌∙◌, append-nil, arith}
 use Rattle.std.specs.List.{flat_map}
-use Rattle.reasons.specs.Reasons.{by_gap, neighbours}
+use Rattle.reasons.specs.Reasons.{by_gap}
 use Rattle.reasons.proofs.StepLemmas.{neighbours-few}
 use Rattle.league.specs.declared.game.Game.{Game}
 use Rattle.reasons.proofs.gaps.push_by_gaps.Goals as goal
