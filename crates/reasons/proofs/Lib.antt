@@ -7,5 +7,6 @@ pub mod LeadLemmas
 pub mod GapLemmas
 pub mod AddUpLemmas
 pub mod TouchLemmas
+pub mod ExactLemmas
 -- Worked examples, so that a wrong definition does not check:
 pub mod ReasonFacts

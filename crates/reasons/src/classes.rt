@@ -8,7 +8,7 @@ ghost use Rattle.league.specs.Shapes.{has_bounds};
 ghost use Rattle.rule_core.specs.Ready as ready;
 ghost use Rattle.cells.specs.Table.{table_counts};
 ghost use Rattle.reasons.specs.Groups.{counts_breaks, counts_games_of_a_team, counts_games_of_meetings};
-ghost use Rattle.reasons.specs.Laws.{AddUp, ListTouching};
+ghost use Rattle.reasons.specs.Laws.{AddUp, ListAllTouching, ListTouching};
 ghost use Rattle.reasons.specs.Reasons.{reasons_at, reasons_of};
 
 use crate::bounded::{Entry, Windows, push_by_games, push_by_windows, span_slots};
@@ -251,6 +251,7 @@ pub fn reasons(
     ensures reasons { IfOk result (λ reasons. reasons.items ≡ reasons_of cells.now.n games.now class.now) }
     ensures amounts { AddUp cells.now.n games.now class.now }
     ensures touching { ListTouching cells.now.n games.now class.now }
+    ensures all_touching { ListAllTouching cells.now.n games.now class.now }
 {
     match class {
         Class::Fa2 { teams, intp, slots } => leads(alloc, teams, *intp, slots, cells, games),
