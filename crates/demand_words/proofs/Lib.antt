@@ -1,0 +1,3 @@
+pub mod DemandLemmas
+-- Worked examples, so that a wrong definition does not check:
+pub mod DemandFacts

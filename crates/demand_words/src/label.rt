@@ -1,0 +1,44 @@
+//! Texts in lists.
+ghost use Rattle.std.specs.Prelude.{◌≡◌, IfOk, string_bytes};
+
+use std::alloc::{AllocError, Global};
+use std::marker::Model;
+
+/// A text, as the name of a team, seen as the list of its bytes.
+#[derive(Drop)]
+pub struct Label {
+    text: String,
+}
+
+impl Model for Label {
+    ghost use Rattle.std.specs.Prelude.{ℕ, List, string_bytes};
+
+    ghost Value = { List ℕ };
+
+    ghost view = { λ label. string_bytes label.text };
+}
+
+impl Label {
+    /// This text.
+    pub fn new(text: String) -> Label
+        ensures { result ≡ string_bytes text }
+    {
+        Label { text }
+    }
+
+    /// The text.
+    pub fn text(&self) -> &str
+        ensures { result.now ≡ self.now }
+    {
+        self.text.as_str()
+    }
+
+    /// An equal text.
+    pub(crate) fn copy(&self, alloc: Global) -> Result<Label, AllocError>
+        ensures { IfOk result (λ copy. copy ≡ self.now) }
+    {
+        Ok(Label {
+            text: String::from_str(alloc, self.text())?,
+        })
+    }
+}
