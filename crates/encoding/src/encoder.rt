@@ -1,10 +1,10 @@
 //! From a league to its encoding.
-ghost use Rattle.std.specs.Prelude.{◌≡◌, ℕ, ◌<◌, ◌≤◌, IfOk, IsOk, Err};
+ghost use Rattle.std.specs.Prelude.{◌≡◌, ℕ, ◌<◌, ◌≤◌, IfOk, IsErr, IsOk, Err};
 ghost use Rattle.encoding_base.specs.Encoding.{encoding_size};
 
 use crate::encoding::Encoding;
 use encoding_base::has_breaks;
-use encoding_rows::write_rows;
+use encoding_rows::{Written, write_rows};
 use encoding_sizes::encoding_size;
 use league::League;
 use std::alloc::{AllocError, Global};
@@ -35,6 +35,24 @@ impl From<AllocError> for EncodeFault {
     }
 }
 
+/// The number of terms of a league's rows, where that is at most 40,000,000. It takes no memory.
+///
+/// # Errors
+/// `TooLarge` exactly where the rows have more than 40,000,000 terms, with their number; nothing else.
+pub fn check_size(league: &League) -> Result<u64, EncodeFault>
+    ensures terms { IfOk result (λ terms. terms ≡ encoding_size league.now) }
+    ensures within { IsOk result → encoding_size league.now ≤ 40000000 }
+    ensures too_large { 40000000 < encoding_size league.now
+        → result ≡ Err (EncodeFault.TooLarge (encoding_size league.now)) }
+    ensures only { IsErr result → 40000000 < encoding_size league.now }
+{
+    let terms = encoding_size(league);
+    if terms > MOST_TERMS {
+        return Err(EncodeFault::TooLarge { terms });
+    }
+    Ok(terms)
+}
+
 /// The encoding of a league. Its terms are counted before any row is made, which takes no memory: where there are too
 /// many, that is the answer.
 ///
@@ -48,16 +66,36 @@ pub fn encode(alloc: Global, league: &League) -> Result<Encoding, EncodeFault>
         → result ≡ Err (EncodeFault.TooLarge (encoding_size league.now)) }
     ensures only { (terms : ℕ) → result ≡ Err (EncodeFault.TooLarge terms) → 40000000 < encoding_size league.now }
 {
-    let terms = encoding_size(league);
-    if terms > MOST_TERMS {
-        return Err(EncodeFault::TooLarge { terms });
-    }
-    let rows = write_rows(alloc, league, terms)?;
+    let terms = check_size(league)?;
+    let encoding = written(alloc, league, terms)?;
+    Ok(encoding)
+}
+
+/// The encoding of a league whose rows have at most 40,000,000 terms: `check_size` tells.
+///
+/// # Errors
+/// Only where memory runs out.
+pub fn encode_small(alloc: Global, league: &League) -> Result<Encoding, AllocError>
+    requires { encoding_size league.now ≤ 40000000 }
+    ensures { IfOk result (λ encoding. encoding ≡ league.now) }
+{
+    written(alloc, league, encoding_size(league))
+}
+
+/// The encoding of a league, with room for so many terms.
+///
+/// # Errors
+/// Only where memory runs out.
+fn written(alloc: Global, league: &League, terms: u64) -> Result<Encoding, AllocError>
+    ensures { IfOk result (λ encoding. encoding ≡ league.now) }
+{
+    let Written { rows, starts } = write_rows(alloc, league, terms)?;
     let breaks = has_breaks(league.constraints());
     let league = league.copy()?;
     Ok(Encoding {
         league,
         rows,
         breaks,
+        starts,
     })
 }

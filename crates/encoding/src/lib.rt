@@ -7,6 +7,7 @@
 
 mod encoder;
 mod encoding;
+mod places;
 
-pub use encoder::{EncodeFault, encode};
+pub use encoder::{EncodeFault, check_size, encode, encode_small};
 pub use encoding::Encoding;
