@@ -1,11 +1,12 @@
 -- Where the rows of constraints begin, as an encoding keeps it, and whose a row is.
 use Rattle.std.proofs.Common.{◌≡◌, ℕ, ◌+◌, ◌-◌, ◌<◌, ◌≤◌, List, length, get_or, arith, ap, subst, sym, ◌∙◌}
 use Rattle.std.proofs.lemmas.List.FromFn.{get_or-map-range_with_len, length-map-range_with_len}
-use Rattle.std.specs.List.{slice_index_or}
+use Rattle.std.specs.List.{slice_range}
 use Rattle.std.specs.List.Sorted.{IsNonDecreasingBy}
 use Rattle.league.specs.Instance.{Instance}
-use Rattle.encoding_base.proofs.RowRangeLemmas.{first_row-order, row_of-once}
-use Rattle.encoding_base.specs.RowRanges.{IsRowOf, first_row, first_rows}
+use Rattle.encoding_base.proofs.RowRangeLemmas.{first_row-order, rows-range}
+use Rattle.encoding_base.specs.Encoding.{rows_of}
+use Rattle.encoding_base.specs.RowRanges.{IsRowOf, first_row, first_rows, rows_of_constraint}
 
 -- there is a beginning for each constraint, and the end of the last one
 pub starts-long : (league : Instance) (starts : List ℕ) → starts ≡ first_rows league
@@ -26,6 +27,19 @@ starts-order league starts are i j d order within =
     let first : get_or starts i d ≡ first_row league i = starts-at league starts i d are (omega (arith, order, within, long)) in
     let later : get_or starts j d ≡ first_row league j = starts-at league starts j d are (omega (arith, within, long)) in
     omega (arith, first, later, first_row-order league i j order)
+
+-- as the league is seen
+pub starts-seen : (inside seen : Instance) (starts : List ℕ) → starts ≡ first_rows inside → inside ≡ seen
+    → starts ≡ first_rows seen
+starts-seen inside seen starts are same = are ∙ ap (λ (league : Instance). first_rows league) same
+
+-- the rows from one beginning to the next
+pub rows-between : (league : Instance) (k start end : ℕ) → start ≡ first_row league k → end ≡ first_row league (k + 1)
+    → slice_range (rows_of league) start end ≡ rows_of_constraint league k
+rows-between league k start end starts ends =
+    ap (λ (from : ℕ). slice_range (rows_of league) from end) starts
+    ∙ ap (λ (to : ℕ). slice_range (rows_of league) (first_row league k) to) ends
+    ∙ rows-range league k
 
 -- the row is of the last constraint whose rows begin at it or before it, where the next one's don't
 pub owner : (league : Instance) (starts : List ℕ) (row begun : ℕ) → starts ≡ first_rows league

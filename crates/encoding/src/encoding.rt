@@ -63,7 +63,9 @@ impl Encoding {
         // The rows at these places are those that the constraint's class demands.
         ensures rows { slice_range (rows_of self.now) result.start result.end ≡ rows_of_constraint self.now k }
     {
-        self.starts[k]..self.starts[k + 1]
+        let start = self.starts[k];
+        let end = self.starts[k + 1];
+        start..end
     }
 
     /// The place in the league, from 0, of the constraint whose row stands at a place in `rows`: none where that is a
