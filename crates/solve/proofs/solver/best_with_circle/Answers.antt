@@ -1,8 +1,0 @@
-use Rattle.solve.proofs.EarliestLemmas.{one_try}
-use Rattle.solve.proofs.solver.best_with_circle.Goals as goal
-
-pub returns-then-budgets_tries-le1-clause-best : goal.returns-then-budgets_tries-le1-clause-best
-returns-then-budgets_tries-le1-clause-best c =
-    one_try c.args.league.now c.args.budgets c.schedule_found-first.result
-    (c.schedule_found-first.ensures.solution c.args.league.now c.args.budgets c.requires.season)
-    c.if-budgets_tries-le1.true
