@@ -21,7 +21,7 @@ pub struct Encoding {
     pub(crate) league: League,
     pub(crate) rows: RowStore,
     pub(crate) breaks: bool,
-    /// Where the rows of each constraint begin, and those of the last one end.
+    /// Where the rows of each constraint begin, and behind that where the last row ends.
     pub(crate) starts: Vec<usize>,
 }
 
@@ -51,8 +51,8 @@ impl Encoding {
         &self.rows
     }
 
-    /// The places in `rows`, from 0, of the rows of a constraint, which is named by its place in the league: none where
-    /// the constraint is soft or demands nothing.
+    /// The places in `rows`, from 0, of the rows of the constraint at place k of the league. There is none where the
+    /// constraint is soft or demands nothing.
     pub fn rows_of_constraint(&self, k: usize) -> Range<usize>
         requires { k < length self.now.constraints }
         ensures start { result.start ≡ first_row self.now k }
@@ -68,8 +68,8 @@ impl Encoding {
         start..end
     }
 
-    /// The place in the league, from 0, of the constraint whose row stands at a place in `rows`: none where that is a
-    /// row of the season or of breaks, or where there is no row.
+    /// The place in the league, from 0, of the constraint whose row stands at a place in `rows`. There is none for a row
+    /// of the season or of breaks, nor where no row stands.
     pub fn constraint_of(&self, row: usize) -> Option<usize>
         ensures whose { IfSome result (λ k. IsRowOf self.now k row) }
         ensures each { (k : ℕ) → IsRowOf self.now k row → result ≡ Some k }

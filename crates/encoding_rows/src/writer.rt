@@ -26,8 +26,8 @@ use std::alloc::{AllocError, Global};
 pub struct Written {
     /// The rows in order.
     pub rows: RowStore,
-    /// The place, from 0, at which the rows of each constraint begin, soft constraints too, and behind these the place
-    /// at which the rows of the last one end.
+    /// The places, from 0, at which the rows of each constraint begin, soft ones too. Behind them stands the place at
+    /// which the rows of the last constraint end.
     pub starts: Vec<usize>,
 }
 
@@ -64,7 +64,7 @@ pub fn write_rows_with(
     Ok(rows)
 }
 
-/// The same, and where the rows of each constraint begin.
+/// The rows of a league with variables for breaks, if it is said so, and where those of each constraint begin.
 ///
 /// # Errors
 /// Only where memory runs out.
@@ -136,8 +136,8 @@ fn add_season_rows(
     Ok(())
 }
 
-/// Adds those of the hard constraints, and gives the places at which the rows of each constraint begin, and the last
-/// ones end.
+/// Adds the rows of the hard constraints. It gives the places at which the rows of each constraint begin, soft ones too,
+/// and at the end the place behind the last row.
 fn add_constraint_rows(
     draft: &mut Draft,
     alloc: Global,
