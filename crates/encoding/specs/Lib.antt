@@ -6,6 +6,7 @@ pub use Rattle.encoding_base.specs.Lists
 pub use Rattle.encoding_base.specs.Season
 pub use Rattle.encoding_base.specs.Demands
 pub use Rattle.encoding_base.specs.Encoding
+pub use Rattle.encoding_base.specs.RowRanges
 pub use Rattle.encoding_base.specs.Known
 pub use Rattle.encoding_base.specs.Shadow
 -- The limit on a league's rows, and a number of terms as it is told:

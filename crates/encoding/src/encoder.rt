@@ -1,11 +1,11 @@
 //! From a league to its encoding.
-ghost use Rattle.std.specs.Prelude.{◌≡◌, IfOk};
+ghost use Rattle.std.specs.Prelude.{◌≡◌, ◌<◌, ◌≤◌, IfOk, IsErr};
 ghost use Rattle.encoding_base.specs.Encoding.{encoding_size};
-ghost use Rattle.encoding.specs.Limit.{KeepsLimit};
+ghost use Rattle.encoding.specs.Limit.{KeepsLimit, most_terms};
 
 use crate::encoding::Encoding;
 use encoding_base::has_breaks;
-use encoding_rows::write_rows;
+use encoding_rows::{Written, write_rows};
 use encoding_sizes::encoding_size;
 use league::League;
 use std::alloc::{AllocError, Global};
@@ -36,6 +36,22 @@ impl From<AllocError> for EncodeFault {
     }
 }
 
+/// The number of terms of a league's rows, where that is at most 40,000,000. It takes no memory.
+///
+/// # Errors
+/// `TooLarge` exactly where the rows have more than 40,000,000 terms, with their number; nothing else.
+pub fn check_size(league: &League) -> Result<u64, EncodeFault>
+    ensures terms { IfOk result (λ terms. terms ≡ encoding_size league.now) }
+    ensures limit { KeepsLimit (encoding_size league.now) (encoding_size league.now) result }
+    ensures only { IsErr result → most_terms < encoding_size league.now }
+{
+    let terms = encoding_size(league);
+    if terms > MOST_TERMS {
+        return Err(EncodeFault::TooLarge { terms });
+    }
+    Ok(terms)
+}
+
 /// The encoding of a league. Its terms are counted before any row is made, which takes no memory: where there are too
 /// many, that is the answer.
 ///
@@ -46,16 +62,36 @@ pub fn encode(alloc: Global, league: &League) -> Result<Encoding, EncodeFault>
     ensures league { IfOk result (λ encoding. encoding ≡ league.now) }
     ensures limit { KeepsLimit (encoding_size league.now) (encoding_size league.now) result }
 {
-    let terms = encoding_size(league);
-    if terms > MOST_TERMS {
-        return Err(EncodeFault::TooLarge { terms });
-    }
-    let rows = write_rows(alloc, league, terms)?;
+    let terms = check_size(league)?;
+    let encoding = written(alloc, league, terms)?;
+    Ok(encoding)
+}
+
+/// The encoding of a league whose rows have at most 40,000,000 terms: `check_size` tells.
+///
+/// # Errors
+/// Only where memory runs out.
+pub fn encode_small(alloc: Global, league: &League) -> Result<Encoding, AllocError>
+    requires { encoding_size league.now ≤ most_terms }
+    ensures { IfOk result (λ encoding. encoding ≡ league.now) }
+{
+    written(alloc, league, encoding_size(league))
+}
+
+/// The encoding of a league, with room for so many terms.
+///
+/// # Errors
+/// Only where memory runs out.
+fn written(alloc: Global, league: &League, terms: u64) -> Result<Encoding, AllocError>
+    ensures { IfOk result (λ encoding. encoding ≡ league.now) }
+{
+    let Written { rows, starts } = write_rows(alloc, league, terms)?;
     let breaks = has_breaks(league.constraints());
     let league = league.copy()?;
     Ok(Encoding {
         league,
         rows,
         breaks,
+        starts,
     })
 }

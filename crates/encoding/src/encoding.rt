@@ -1,15 +1,19 @@
 //! Encodings.
-ghost use Rattle.std.specs.Prelude.{◌≡◌, ◌≢◌, ◌<◌, ◌≤◌, ◌↔◌, true, IsSome, IfSome};
+ghost use Rattle.std.specs.Prelude.{◌≡◌, ◌≢◌, ℕ, ◌+◌, ◌<◌, ◌≤◌, ◌↔◌, true, length, Some, IsSome, IfSome};
+ghost use Rattle.std.specs.List.{slice_range};
 ghost use Rattle.league.specs.Counts as counts;
 ghost use Rattle.league.specs.Instance.{IsInstance};
 ghost use Rattle.encoding_base.specs.Encoding.{rows_of};
 ghost use Rattle.encoding_base.specs.Known.{AreKnown};
+ghost use Rattle.encoding_base.specs.RowRanges.{IsRowOf, first_row, rows_of_constraint};
 ghost use Rattle.encoding_base.specs.Variables.{ab_var, h_var, has_breaks, hb_var, var_count, x_var};
 
+use crate::places::count_at_most;
 use encoding_base::{ab_at, h_at, h_count, hb_at, hb_count, x_at, x_count};
 use league::{League, SlotId, TeamId, slot_count};
 use rows::RowStore;
 use std::marker::Model;
+use std::ops::Range;
 
 /// A league's rows and variables: seen as the league. It keeps a copy of the league.
 #[derive(Drop)]
@@ -17,6 +21,8 @@ pub struct Encoding {
     pub(crate) league: League,
     pub(crate) rows: RowStore,
     pub(crate) breaks: bool,
+    /// Where the rows of each constraint begin, and behind that where the last row ends.
+    pub(crate) starts: Vec<usize>,
 }
 
 impl Model for Encoding {
@@ -27,15 +33,52 @@ impl Model for Encoding {
 
     ghost view = { λ e. e.league };
 
-    ghost invariant = { λ e. IsEncoded e.league e.rows e.breaks };
+    ghost invariant = { λ e. IsEncoded e.league e.rows e.breaks e.starts.items };
 }
 
 impl Encoding {
+    /// The league whose rows these are.
+    pub fn league(&self) -> &League
+        ensures { result.now ≡ self.now }
+    {
+        &self.league
+    }
+
     /// The rows of the league, in order.
     pub fn rows(&self) -> &RowStore
         ensures { result.now ≡ rows_of self.now }
     {
         &self.rows
+    }
+
+    /// The places in `rows`, from 0, of the rows of the constraint at place k of the league. There is none where the
+    /// constraint is soft or demands nothing.
+    pub fn rows_of_constraint(&self, k: usize) -> Range<usize>
+        requires { k < length self.now.constraints }
+        ensures start { result.start ≡ first_row self.now k }
+        ensures end { result.end ≡ first_row self.now (k + 1) }
+        ensures ordered { result.start ≤ result.end }
+        ensures within { result.end ≤ length (rows_of self.now) }
+
+        // The rows at these places are those that the constraint's class demands.
+        ensures rows { slice_range (rows_of self.now) result.start result.end ≡ rows_of_constraint self.now k }
+    {
+        let start = self.starts[k];
+        let end = self.starts[k + 1];
+        start..end
+    }
+
+    /// The place in the league, from 0, of the constraint whose row stands at a place in `rows`. There is none for a row
+    /// of the season or of breaks, nor where no row stands.
+    pub fn constraint_of(&self, row: usize) -> Option<usize>
+        ensures whose { IfSome result (λ k. IsRowOf self.now k row) }
+        ensures each { (k : ℕ) → IsRowOf self.now k row → result ≡ Some k }
+    {
+        let begun = count_at_most(&self.starts, row);
+        if begun == 0 || begun == self.starts.len() {
+            return None;
+        }
+        Some(begun - 1)
     }
 
     /// The number of teams: even, from 2 to 40.

@@ -7,6 +7,7 @@
 
 mod encoder;
 mod encoding;
+mod places;
 
-pub use encoder::{EncodeFault, MOST_TERMS, encode};
+pub use encoder::{EncodeFault, MOST_TERMS, check_size, encode, encode_small};
 pub use encoding::Encoding;

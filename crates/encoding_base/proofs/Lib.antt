@@ -5,6 +5,9 @@ pub mod NumberLemmas
 -- Worked examples, so that a wrong definition does not check:
 pub mod EncodingFacts
 pub mod ClassRowFacts
+pub mod RowRangeFacts
+-- Which rows are whose:
+pub mod RowRangeLemmas
 -- The rows of a class key by key, and what its sets are:
 pub mod KeyRowLemmas
 pub mod PairLemmas

@@ -7,6 +7,7 @@ pub mod Lists
 pub mod Season
 pub mod Demands
 pub mod Encoding
+pub mod RowRanges
 pub mod Known
 -- Which assignment stands for a schedule, and which schedule for an assignment:
 pub mod Shadow

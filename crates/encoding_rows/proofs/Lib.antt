@@ -5,3 +5,5 @@ pub mod TieLemmas
 pub mod ListedRows
 -- The rows of a league, group after group:
 pub mod EncodeLemmas
+-- Where the rows of each constraint begin:
+pub mod StartLemmas

@@ -13,4 +13,4 @@ mod venue_rows;
 mod writer;
 
 pub use season::Season;
-pub use writer::{write_class, write_rows, write_rows_with};
+pub use writer::{Written, write_class, write_rows, write_rows_with};

@@ -4,6 +4,7 @@ ghost use Rattle.std.specs.List.{All};
 ghost use Rattle.league.specs.Instance.{IsTeamCount, class_fits};
 ghost use Rattle.encoding_base.specs.Encoding as encoding;
 ghost use Rattle.encoding_base.specs.Encoding.{constraint_rows, rows_of};
+ghost use Rattle.encoding_base.specs.RowRanges.{first_rows, starts_behind};
 ghost use Rattle.encoding_base.specs.Season.{break_rows};
 
 use crate::break_rows::add_break_rows;
@@ -20,18 +21,29 @@ use league::{Class, Constraint, League};
 use rows::RowStore;
 use std::alloc::{AllocError, Global};
 
-/// The rows of a league, in order. Room is made for so many terms before any row is written: they should be as many as
-/// the rows have, but no claim rests on it.
+/// The rows of a league, and whose they are.
+#[derive(Drop)]
+pub struct Written {
+    /// The rows in order.
+    pub rows: RowStore,
+    /// The places, from 0, at which the rows of each constraint begin, soft ones too. Behind them stands the place at
+    /// which the rows of the last constraint end.
+    pub starts: Vec<usize>,
+}
+
+/// The rows of a league, in order, and where those of each constraint begin. Room is made for so many terms before any
+/// row is written: they should be as many as the rows have, but no claim rests on it.
 ///
 /// # Errors
 /// Only where memory runs out.
-pub fn write_rows(alloc: Global, league: &League, terms: u64) -> Result<RowStore, AllocError>
-    ensures { IfOk result (λ rows. rows ≡ rows_of league.now) }
+pub fn write_rows(alloc: Global, league: &League, terms: u64) -> Result<Written, AllocError>
+    ensures rows { IfOk result (λ written. written.rows ≡ rows_of league.now) }
+    ensures starts { IfOk result (λ written. written.starts.items ≡ first_rows league.now) }
 {
-    write_rows_with(alloc, league, has_breaks(league.constraints()), terms)
+    write_with(alloc, league, has_breaks(league.constraints()), terms)
 }
 
-/// The same, where breaks have variables if it is said so, whatever the hard constraints bound.
+/// The rows of a league, in order, where breaks have variables if it is said so, whatever the hard constraints bound.
 ///
 /// # Errors
 /// Only where memory runs out.
@@ -45,6 +57,30 @@ pub fn write_rows_with(
         ++ break_rows league.now.n breaks ++ constraint_rows league.now.n league.now.constraints) }
     ensures few { IfOk result (λ rows. length rows ≤ 2433640000) }
 {
+    let Written {
+        rows,
+        starts: _starts,
+    } = write_with(alloc, league, breaks, terms)?;
+    Ok(rows)
+}
+
+/// The rows of a league with variables for breaks, if it is said so, and where those of each constraint begin.
+///
+/// # Errors
+/// Only where memory runs out.
+fn write_with(
+    alloc: Global,
+    league: &League,
+    breaks: bool,
+    terms: u64,
+) -> Result<Written, AllocError>
+    ensures rows { IfOk result (λ written. written.rows ≡ encoding.season_rows league.now.n league.now.phased
+        ++ break_rows league.now.n breaks ++ constraint_rows league.now.n league.now.constraints) }
+    ensures few { IfOk result (λ written. length written.rows ≤ 2433640000) }
+    ensures starts { IfOk result (λ written. written.starts.items
+        ≡ starts_behind (length (encoding.season_rows league.now.n league.now.phased ++ break_rows league.now.n breaks))
+        league.now.n league.now.constraints) }
+{
     let n = league.n();
     let rows = RowStore::with_room(alloc, rows_at_most(league, terms), terms as usize)?;
     let mut draft = Draft::with_room(alloc, rows, n)?;
@@ -52,13 +88,13 @@ pub fn write_rows_with(
     add_season_rows(&mut draft, alloc, &season, league.phased())?;
     let constraints = league.constraints();
     add_break_rows(&mut draft, &season, breaks)?;
-    add_constraint_rows(&mut draft, alloc, &season, constraints)?;
+    let starts = add_constraint_rows(&mut draft, alloc, &season, constraints)?;
     let Draft {
         rows,
         literals: _literals,
         terms: _terms,
     } = draft;
-    Ok(rows)
+    Ok(Written { rows, starts })
 }
 
 /// The rows of a class that fits a league of n teams, key by key, without those that demand nothing.
@@ -100,13 +136,14 @@ fn add_season_rows(
     Ok(())
 }
 
-/// Adds those of the hard constraints.
+/// Adds the rows of the hard constraints. It gives the places at which the rows of each constraint begin, soft ones too,
+/// and at the end the place behind the last row.
 fn add_constraint_rows(
     draft: &mut Draft,
     alloc: Global,
     season: &Season,
     constraints: &[Constraint],
-) -> Result<(), AllocError>
+) -> Result<Vec<usize>, AllocError>
     requires n { IsTeamCount season.now }
     requires fit { All (λ c. IsTrue (class_fits season.now c.class)) constraints.now }
     requires few { length constraints.now ≤ 20000 }
@@ -115,11 +152,16 @@ fn add_constraint_rows(
         (draft.new.rows ≡ draft.old.rows ++ constraint_rows season.now constraints.now) }
     ensures few { OnOk result
         (length draft.new.rows ≤ length draft.old.rows + 121680 * length constraints.now) }
+    ensures starts { IfOk result (λ starts.
+        starts.items ≡ starts_behind (length draft.old.rows) season.now constraints.now) }
 {
+    let mut starts = Vec::with_capacity(alloc, constraints.len() + 1)?;
     for constraint in constraints {
+        starts.push(draft.rows.len())?;
         if constraint.hard {
             add_class_rows(draft, alloc, season, &constraint.class)?;
         }
     }
-    Ok(())
+    starts.push(draft.rows.len())?;
+    Ok(starts)
 }
