@@ -5,6 +5,7 @@ use Rattle.league.specs.Counts.{Counts, counts_of}
 use Rattle.cells.specs.Table.{table_counts}
 use Rattle.cells.proofs.ListedLemmas.{same_counts}
 use Rattle.tally.specs.ByTeam.{GameRoom}
+use Rattle.tally.specs.Change.{Changed, LeadsFrom}
 use Rattle.tally.specs.Ready.{IsExact, IsTallied}
 use Rattle.tally.specs.Tallies.{Tallied}
 use Rattle.tally.specs.Weighing.{AreWeighed}
@@ -31,14 +32,13 @@ invariant_of-self g c =
     let all : take c.self.inside.by_team.len (lists ++ drop (length lists) c.self.inside.by_team.items) ≡ lists =
     take_at lists (drop (length lists) c.self.inside.by_team.items) c.self.inside.by_team.len as_long in
     subst (λ (l : List GameRoom). IsTallied g.R.Entries c.self.inside.rules.items c.exchange_games-2.new.cells l
-    c.weigh_rules-sums.new.keys.room c.weigh_rules-sums.new.done c.self.inside.sums) (sym all)
+    c.weigh_rules-sums.new.bench c.self.inside.sums) (sym all)
     (tallied-kept g.R.Entries c.self.inside.rules.items c.self.inside.cells c.exchange_games-2.new.cells
-    c.self.inside.by_team.items lists c.self.inside.keys.room c.weigh_rules-sums.new.keys.room c.self.inside.done
-    c.weigh_rules-sums.new.done c.self.inside.sums c.self.invariant
+    c.self.inside.by_team.items lists c.self.inside.bench c.weigh_rules-sums.new.bench c.self.inside.sums c.self.invariant
     (c.exchange_games-2.ensures.n ∙ c.exchange_games.ensures.n) counts
     (omega (arith, c.list_edit-listed.auto.lists, ap length c.deref_mut.ensures.value, c.self.invariant.teams))
     (λ k d h. omega (arith, c.list_edit-listed.ensures.room k d h, c.n.ensures.n))
-    c.weigh_rules-sums.ensures.keys c.weigh_rules-sums.ensures.done)
+    c.weigh_rules-sums.ensures.bench)
 
 pub returns-clause-counts : goal.returns-clause-counts
 returns-clause-counts g c =
@@ -65,4 +65,7 @@ returns-clause-weighed g c = λ m led.
     c.weigh_rules-sums.result) c.deref.ensures.value
     (subst (λ (k : Counts). AreWeighed g.R.Entries c.args.most k (map (λ k. k.weighted) c.deref.result.now)
     c.weigh_rules-sums.result) same
-    (c.weigh_rules-sums.ensures.weighed start c.exchange_games.ensures.same exact)))
+    (subst (λ (v : Changed). AreWeighed g.R.Entries c.args.most (table_counts v.table)
+    (map (λ k. k.weighted) c.deref.result.now) c.weigh_rules-sums.result) c.new-change.ensures
+    (c.weigh_rules-sums.ensures.weighed start
+    (subst (λ (v : Changed). LeadsFrom start v) (sym c.new-change.ensures) c.exchange_games.ensures.same) exact))))
