@@ -79,17 +79,18 @@ added-more xs ys zs a b c first next is = record {
       ∙ ap (λ (t : Bool). is_in a.list k || t) (sym (is_in-append xs ys k) ∙ ap (λ (l : List ℕ). is_in l k) (sym is));
 }
 
--- the same at a bench
+-- no key more at a bench
 pub found-none : (bench : Bench) → HasFound [] bench bench
 found-none bench = record { reach = refl; found = added-none bench.found }
 
+-- some keys after others at a bench
 pub found-more : (xs ys zs : List ℕ) (a b c : Bench) → HasFound xs a b → HasFound ys b c → zs ≡ xs ++ ys → HasFound zs a c
 found-more xs ys zs a b c first next is = record {
   reach = next.reach ∙ first.reach;
   found = added-more xs ys zs a.found b.found c.found first.found next.found is;
 }
 
--- the same keys in another list
+-- what was found at a bench, by another list of the same keys
 pub found-same : (xs ys : List ℕ) (a b : Bench) → ((k : ℕ) → is_in xs k ≡ is_in ys k) → HasFound xs a b → HasFound ys a b
 found-same xs ys a b same has = record {
   reach = has.reach;
@@ -192,7 +193,7 @@ new_at (key ∷ keys) (suc place) distinct within =
     (lacks_all key keys (IsDistinct-head eqb key keys distinct) place (omega (arith, within)))
     (new_at keys place (IsDistinct-tail eqb key keys distinct) (omega (arith, within)))
 
--- the same, where the key is given
+-- a key that is read at a place of different ones isn't one of those before it
 pub new_key : (keys : List ℕ) (place key : ℕ) → IsDistinct eqb keys → slice_get keys place ≡ Some key
     → is_in (take place keys) key ≡ false
 new_key keys place key distinct at =

@@ -48,7 +48,7 @@ pub record AreReady {R : Type 0} (E : Ghosts R) (n : ℕ) (bench : Bench) (rules
   pub infeasibility : sums.infeasibility ≡ sum_by hard_cost rules
   pub objective : sums.objective ≡ sum_by soft_cost rules
 
--- and their entries are those on the counts; and there is a list of games for each team
+-- rules that are ready and whose entries are those on the counts, with a list of games for each team
 pub record IsTallied {R : Type 0} (E : Ghosts R) (rules : List (Kept R)) (table : Table) (by_team : List GameRoom)
     (bench : Bench) (sums : Sums) : Type 0 where
   pub ready : AreReady E table.n bench rules sums

@@ -5,7 +5,7 @@ ghost use Rattle.league.specs.Counts.{Counts, counts_of};
 ghost use Rattle.league.specs.Instance.{IsGame};
 ghost use Rattle.cells.specs.Table.{table_counts};
 ghost use Rattle.moves.specs.Round.{edited};
-ghost use Rattle.tally.specs.Tallies.{IsWithin, all_terms, all_touched, infeasibility_on, objective_on, vector_on};
+ghost use Rattle.tally.specs.Tallies.{IsWithin, OnlyTallied, all_terms, all_touched, infeasibility_on, objective_on, vector_on};
 ghost use Rattle.tally.specs.Weighing.{AreWeighed};
 
 use crate::bench::Bench;
@@ -146,10 +146,7 @@ impl<R: Entries> Tally<R> {
         requires out_fit { All (IsGame self.old.table.n) edit.now.out }
         requires into_fit { All (IsGame self.old.table.n) edit.now.into }
         requires there { (i j s : ℕ) → counts_of edit.now.out i j s ≤ table_counts self.old.table i j s }
-        ensures weights { self.new.weights ≡ self.old.weights }
-        ensures n { self.new.table.n ≡ self.old.table.n }
-        ensures counts { table_counts self.new.table ≡ table_counts self.old.table }
-        ensures total { sum self.new.table.list ≡ sum self.old.table.list }
+        ensures keeps { OnlyTallied self.old self.new }
         ensures infeasibility { result.infeasibility
             ≡ infeasibility_on R.Entries (edited (table_counts self.old.table) edit.now) self.old.weights }
         ensures objective { result.objective
@@ -173,10 +170,7 @@ impl<R: Entries> Tally<R> {
         requires out_fit { All (IsGame self.old.table.n) edit.now.out }
         requires into_fit { All (IsGame self.old.table.n) edit.now.into }
         requires there { (i j s : ℕ) → counts_of edit.now.out i j s ≤ table_counts self.old.table i j s }
-        ensures weights { self.new.weights ≡ self.old.weights }
-        ensures n { self.new.table.n ≡ self.old.table.n }
-        ensures counts { table_counts self.new.table ≡ table_counts self.old.table }
-        ensures total { sum self.new.table.list ≡ sum self.old.table.list }
+        ensures keeps { OnlyTallied self.old self.new }
 
         // Nothing comes exactly where a number is above its bound.
         ensures within { MatchOption result
@@ -211,10 +205,7 @@ impl<R: Entries> Tally<R> {
         requires into_fit { All (IsGame self.old.table.n) into.now }
         requires there { (i j s : ℕ) → counts_of out.now i j s ≤ table_counts self.old.table i j s }
         requires as_many { length into.now ≡ length out.now }
-        ensures weights { self.new.weights ≡ self.old.weights }
-        ensures n { self.new.table.n ≡ self.old.table.n }
-        ensures counts { table_counts self.new.table ≡ table_counts self.old.table }
-        ensures total { sum self.new.table.list ≡ sum self.old.table.list }
+        ensures keeps { OnlyTallied self.old self.new }
         ensures weighed { (m : Counts) → ((i j s : ℕ) → m i j s + counts_of out.now i j s
             ≡ table_counts self.old.table i j s + counts_of into.now i j s)
             → AreWeighed R.Entries most m self.old.weights result }

@@ -1,6 +1,6 @@
 use Rattle.std.proofs.Common.{◌≡◌, ℕ, ◌+◌, ◌≤◌, ◌++◌, List, length, take, drop, map, ap, subst, sym, ◌∙◌, arith}
 use Rattle.std.proofs.lemmas.List.{take_at}
-use Rattle.std.specs.List.{All}
+use Rattle.std.specs.List.{All, sum}
 use Rattle.league.specs.Counts.{Counts, counts_of}
 use Rattle.cells.specs.Table.{table_counts}
 use Rattle.cells.proofs.ListedLemmas.{same_counts}
@@ -40,11 +40,20 @@ invariant_of-self g c =
     (λ k d h. omega (arith, c.list_edit-listed.ensures.room k d h, c.n.ensures.n))
     c.weigh_rules-sums.ensures.bench)
 
-pub returns-clause-counts : goal.returns-clause-counts
-returns-clause-counts g c =
-    same_counts (table_counts c.exchange_games-2.new.cells) (table_counts c.self.inside.cells)
-    (λ i j s. omega (arith, c.exchange_games.ensures.counts i j s, c.exchange_games-2.ensures.counts i j s))
-    ∙ ap (λ (t : Tallied g.row.R.Denot). table_counts t.table) c.self.view_is
+pub returns-clause-keeps : goal.returns-clause-keeps
+returns-clause-keeps g c = record {
+  weights = ap (λ (t : Tallied g.row.R.Denot). t.weights) c.self.view_is;
+  n = c.exchange_games-2.ensures.n ∙ c.exchange_games.ensures.n ∙ ap (λ (t : Tallied g.row.R.Denot). t.table.n) c.self.view_is;
+  counts = same_counts (table_counts c.exchange_games-2.new.cells) (table_counts c.self.inside.cells)
+      (λ i j s. omega (arith, c.exchange_games.ensures.counts i j s, c.exchange_games-2.ensures.counts i j s))
+      ∙ ap (λ (t : Tallied g.row.R.Denot). table_counts t.table) c.self.view_is;
+  total = omega (
+    arith,
+    c.exchange_games.ensures.total,
+    c.exchange_games-2.ensures.total,
+    ap (λ (t : Tallied g.row.R.Denot). sum t.table.list) c.self.view_is,
+  );
+}
 
 pub returns-clause-weighed : goal.returns-clause-weighed
 returns-clause-weighed g c = λ m led.
