@@ -134,7 +134,13 @@ impl<R: Entries> Tally<R> {
         let listed = list_edit(&mut self.by_team, self.cells.n(), out, into);
         exchange_games(&mut self.cells, out, into);
         let change = Change::new(out, into, &self.by_team[..listed], &self.cells);
-        renew_rules(&mut self.rules, &change, &mut self.bench, &mut self.sums, steps);
+        renew_rules(
+            &mut self.rules,
+            &change,
+            &mut self.bench,
+            &mut self.sums,
+            steps,
+        );
     }
 
     /// What the rules would cost on the counts to which an edit leads, of which `out` has as many games as `into`. The
