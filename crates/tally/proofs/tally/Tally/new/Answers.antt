@@ -14,7 +14,7 @@ pub invariant_of-result : goal.invariant_of-result
 invariant_of-result g c =
     let f : Weighted g.row.R.Denot → ℕ = λ w. g.R.Entries.reach_of w.rule in
     let kept = c.in_ok-rules.rules.items in
-    let bound : All (λ w. f w ≤ c.greatest_reach.result) (map (λ (k : Kept g.row.R.Denot). k.weighted) kept) = subst (λ (l : List (Weighted g.row.R.Denot)). All (λ w. f w ≤ c.greatest_reach.result) l) (c.deref.ensures.value ∙ sym c.in_ok-rules.ensures.weights) c.greatest_reach.ensures in
+    let bound : All (λ w. f w ≤ c.greatest_reach.result) (map (λ (k : Kept g.row.R.Denot). k.weighted) kept) = subst (λ (l : List (Weighted g.row.R.Denot)). All (λ w. f w ≤ c.greatest_reach.result) l) (c.deref-2.ensures.value ∙ sym c.in_ok-rules.ensures.weights) c.greatest_reach.ensures in
     record {
       ready = record {
         ready = subst (λ (room : ℕ). All (IsReady g.R.Entries c.args.cells.n room) kept) (sym c.in_ok-bench.ensures.room) c.in_ok-rules.ensures.ready;

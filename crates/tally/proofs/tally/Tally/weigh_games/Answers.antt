@@ -65,16 +65,16 @@ returns-clause-weighed g c = λ m led.
     let same : table_counts c.exchange_games.new.cells ≡ m =
     exchanged-same start (table_counts c.exchange_games.new.cells) m (counts_of c.args.out.now)
     (counts_of c.args.into.now) c.exchange_games.ensures.counts leads in
-    let exact : All (IsExact g.R.Entries start) c.deref.result.now =
-    subst (λ (l : List (Kept g.row.R.Denot)). All (IsExact g.R.Entries start) l) (sym c.deref.ensures.value)
+    let exact : All (IsExact g.R.Entries start) c.deref-2.result.now =
+    subst (λ (l : List (Kept g.row.R.Denot)). All (IsExact g.R.Entries start) l) (sym c.deref-2.ensures.value)
     c.self.invariant.exact in
     subst (λ (t : Tallied g.row.R.Denot). AreWeighed g.R.Entries c.args.most m t.weights c.weigh_rules-sums.result)
     c.self.view_is
     (subst (λ (l : List (Kept g.row.R.Denot)). AreWeighed g.R.Entries c.args.most m (map (λ k. k.weighted) l)
-    c.weigh_rules-sums.result) c.deref.ensures.value
-    (subst (λ (k : Counts). AreWeighed g.R.Entries c.args.most k (map (λ k. k.weighted) c.deref.result.now)
+    c.weigh_rules-sums.result) c.deref-2.ensures.value
+    (subst (λ (k : Counts). AreWeighed g.R.Entries c.args.most k (map (λ k. k.weighted) c.deref-2.result.now)
     c.weigh_rules-sums.result) same
     (subst (λ (v : Changed). AreWeighed g.R.Entries c.args.most (table_counts v.table)
-    (map (λ k. k.weighted) c.deref.result.now) c.weigh_rules-sums.result) c.new-change.ensures
+    (map (λ k. k.weighted) c.deref-2.result.now) c.weigh_rules-sums.result) c.new-change.ensures
     (c.weigh_rules-sums.ensures.weighed start
     (subst (λ (v : Changed). LeadsFrom start v) (sym c.new-change.ensures) c.exchange_games.ensures.same) exact))))
