@@ -13,7 +13,7 @@ use Rattle.rule_core.specs.declared.rule.Entries.{Ghosts}
 use Rattle.tally.specs.ByTeam.{AreByTeam, GameRoom, games_at, no_games, with_game}
 use Rattle.tally.specs.KeySet.{is_in}
 use Rattle.tally.specs.Ready.{HasWatched}
-use Rattle.tally.proofs.RenewalLemmas.{flat_map-append}
+use Rattle.tally.proofs.TouchedLemmas.{flat_map-append}
 use Rattle.tally.proofs.SetLemmas.{is_in-append}
 
 -- ---- lists that grow

@@ -8,10 +8,12 @@ use Rattle.league.specs.Counts.{Counts}
 use Rattle.rule_core.specs.declared.rule.Entries.{Ghosts}
 use Rattle.keys.specs.Keys.{KeyList}
 use Rattle.cells.specs.Table.{Table, table_counts}
+use Rattle.tally.specs.Bench.{OnlyUsed}
 use Rattle.tally.specs.ByTeam.{GameRoom}
 use Rattle.tally.specs.Ready.{AreReady, IsExact, IsReady, IsTallied, hard_cost, soft_cost}
 use Rattle.tally.specs.Tallies.{cost_on, infeasibility_on, objective_on}
 use Rattle.tally.specs.Weighing.{if_kind, is_kind}
+use Rattle.tally.specs.declared.bench.Bench.{Bench}
 use Rattle.tally.specs.declared.kept.Kept.{Kept}
 use Rattle.tally.specs.declared.weigh.Sums.{Sums}
 use Rattle.tally.specs.declared.weighted.Weighted.{Weighted}
@@ -46,19 +48,19 @@ pub soft_fits : {R : Type 0} (E : Ghosts R) (n room : ℕ) (rules : List (Kept R
 soft_fits E n room rules all = sum_fits soft_cost (λ k. length k.vector.items) (IsReady E n room) (λ k is. else_le k.weighted.hard (k.weighted.penalty * k.deviation) (2 ^ 96 * length k.vector.items) (product_fits k.weighted.penalty k.deviation (length k.vector.items) is.penalty_fits is.small)) rules all
 
 -- one rule's entries and cost have changed
-pub AreReady-next : {R : Type 0} (E : Ghosts R) (n keys_room keys_after : ℕ) (done done_after : KeyList) (rules : List (Kept R)) (sums sums_after : Sums) (i : ℕ) (d new : Kept R) → i < length rules → AreReady E n keys_room done rules sums
-    → new.weighted ≡ (get_or rules i d).weighted → IsReady E n done.room new → done_after ≡ done → keys_after ≡ keys_room
-    → sums_after.infeasibility + hard_cost (get_or rules i d) ≡ sums.infeasibility + hard_cost new → sums_after.objective + soft_cost (get_or rules i d) ≡ sums.objective + soft_cost new → AreReady E n keys_after done_after (set rules i new) sums_after
-AreReady-next {R} E n keys_room keys_after done done_after rules sums sums_after i d new within are weighted ready same_done same_keys hard soft =
+pub AreReady-next : {R : Type 0} (E : Ghosts R) (n : ℕ) (bench bench_after : Bench) (rules : List (Kept R)) (sums sums_after : Sums) (i : ℕ) (d new : Kept R) → i < length rules → AreReady E n bench rules sums
+    → new.weighted ≡ (get_or rules i d).weighted → IsReady E n bench.found.room new → OnlyUsed bench bench_after
+    → sums_after.infeasibility + hard_cost (get_or rules i d) ≡ sums.infeasibility + hard_cost new → sums_after.objective + soft_cost (get_or rules i d) ≡ sums.objective + soft_cost new → AreReady E n bench_after (set rules i new) sums_after
+AreReady-next {R} E n bench bench_after rules sums sums_after i d new within are weighted ready used hard soft =
     let old = get_or rules i d in
-    let was : IsReady E n done.room old = are.ready i d within in
-    let reach : E.reach_of new.weighted.rule ≤ keys_after = omega (arith, are.reach i d within, ap (λ (w : Weighted R). E.reach_of w.rule) weighted, same_keys) in
+    let was : IsReady E n bench.found.room old = are.ready i d within in
+    let reach : E.reach_of new.weighted.rule ≤ bench_after.keys.room = omega (arith, are.reach i d within, ap (λ (w : Weighted R). E.reach_of w.rule) weighted, used.reach) in
     let long : length new.vector.items ≡ length old.vector.items = ready.terms ∙ ap (λ (w : Weighted R). E.term_count w.rule) weighted ∙ sym was.terms in
     record {
-      ready = subst (λ (s : KeyList). All (IsReady E n s.room) (set rules i new)) (sym same_done) (All-set (IsReady E n done.room) rules i new ready are.ready);
-      reach = All-set (λ k. E.reach_of k.weighted.rule ≤ keys_after) rules i new reach (subst (λ (room : ℕ). All (λ k. E.reach_of k.weighted.rule ≤ room) rules) (sym same_keys) are.reach);
+      ready = subst (λ (s : KeyList). All (IsReady E n s.room) (set rules i new)) (sym used.found) (All-set (IsReady E n bench.found.room) rules i new ready are.ready);
+      reach = All-set (λ k. E.reach_of k.weighted.rule ≤ bench_after.keys.room) rules i new reach (subst (λ (room : ℕ). All (λ k. E.reach_of k.weighted.rule ≤ room) rules) (sym used.reach) are.reach);
       few = omega (arith, sum_by-set (λ (k : Kept R). length k.vector.items) rules i new d within, long, are.few);
-      none_done = ap (λ (s : KeyList). s.list) same_done ∙ are.none_done;
+      clean = ap (λ (s : KeyList). s.list) used.found ∙ are.clean;
       infeasibility = omega (arith, sum_by-set hard_cost rules i new d within, hard, are.infeasibility);
       objective = omega (arith, sum_by-set soft_cost rules i new d within, soft, are.objective);
     }
@@ -194,16 +196,34 @@ kind_whole {R} kind f rules i whole past is =
     ∙ ap (λ (l : List (Kept R)). sum_by (λ k. if_kind kind f k.weighted) l) (take_all i rules past)
     ∙ kind_summed kind f rules
 
--- nothing has changed but the counts' representation
+-- a bench that was used twice
+pub used-again : (first next last : Bench) → OnlyUsed first next → OnlyUsed next last → OnlyUsed first last
+used-again first next last before after = record {
+  reach = after.reach ∙ before.reach;
+  found = after.found ∙ before.found;
+}
+
+-- rules are as ready at a bench that was used
+pub ready-used : {R : Type 0} (E : Ghosts R) (n : ℕ) (bench used : Bench) (rules : List (Kept R)) (sums : Sums)
+    → AreReady E n bench rules sums → OnlyUsed bench used → AreReady E n used rules sums
+ready-used {R} E n bench used rules sums are only = record {
+  ready = subst (λ (s : KeyList). All (IsReady E n s.room) rules) (sym only.found) are.ready;
+  reach = subst (λ (room : ℕ). All (λ k. E.reach_of k.weighted.rule ≤ room) rules) (sym only.reach) are.reach;
+  few = are.few;
+  clean = ap (λ (s : KeyList). s.list) only.found ∙ are.clean;
+  infeasibility = are.infeasibility;
+  objective = are.objective;
+}
+
+-- nothing has changed but the counts' representation, and a bench was used
 pub tallied-kept : {R : Type 0} (E : Ghosts R) (rules : List (Kept R)) (table now : Table)
-    (by_team by_team_now : List GameRoom) (keys_room room : ℕ) (done done_now : KeyList) (sums : Sums)
-    → IsTallied E rules table by_team keys_room done sums → now.n ≡ table.n → table_counts now ≡ table_counts table
-    → length by_team_now ≡ table.n → All (λ l. 8 * table.n ≤ l.room) by_team_now → room ≡ keys_room → done_now ≡ done
-    → IsTallied E rules now by_team_now room done_now sums
-tallied-kept E rules table now by_team by_team_now keys_room room done done_now sums is n counts teams lists same_room same_done = record {
-  ready = subst (λ (k : ℕ). AreReady E k room done_now rules sums) (sym n)
-      (subst (λ (k : ℕ). AreReady E table.n k done_now rules sums) (sym same_room)
-      (subst (λ (d : KeyList). AreReady E table.n keys_room d rules sums) (sym same_done) is.ready));
+    (by_team by_team_now : List GameRoom) (bench used : Bench) (sums : Sums)
+    → IsTallied E rules table by_team bench sums → now.n ≡ table.n → table_counts now ≡ table_counts table
+    → length by_team_now ≡ table.n → All (λ l. 8 * table.n ≤ l.room) by_team_now → OnlyUsed bench used
+    → IsTallied E rules now by_team_now used sums
+tallied-kept E rules table now by_team by_team_now bench used sums is n counts teams lists only = record {
+  ready = subst (λ (k : ℕ). AreReady E k used rules sums) (sym n)
+      (ready-used E table.n bench used rules sums is.ready only);
   teams = teams ∙ sym n;
   room = subst (λ (k : ℕ). All (λ (l : GameRoom). 8 * k ≤ l.room) by_team_now) (sym n) lists;
   exact = subst (λ (m : Counts). All (IsExact E m) rules) (sym counts) is.exact;

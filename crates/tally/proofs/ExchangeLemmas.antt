@@ -5,7 +5,7 @@ use Rattle.std.proofs.lemmas.List.Sums.{sum_by_more, sum_by_more_le}
 use Rattle.league.specs.Counts.{Counts, counts_of, is_game, one_more}
 use Rattle.league.specs.declared.game.Game.{Game}
 use Rattle.league.proofs.RangeLemmas.{one_if}
-use Rattle.tally.proofs.RenewalLemmas.{no_game}
+use Rattle.tally.proofs.TouchedLemmas.{no_game}
 
 -- the games before the next one, and that one
 pub counts_more : (games : List Game) (at i j s : ℕ) → at < length games → counts_of (take (at + 1) games) i j s ≡ counts_of (take at games) i j s + one_if (is_game i j s (get_or games at no_game))

@@ -1,6 +1,6 @@
 -- Entries that an edit doesn't touch are the same before and after.
-use Rattle.std.proofs.Common.{◌≡◌, ℕ, ◌<◌, false, ◌||◌, inl, inr, List, [], ◌∷◌, ◌++◌, length, get_or, map, refl, ap, sym, ◌∙◌, arith}
-use Rattle.std.proofs.lemmas.Bool.{cases_Bool, false≢true, or_parts}
+use Rattle.std.proofs.Common.{◌≡◌, ℕ, ◌<◌, true, false, if◌then◌else◌, inl, inr, List, [], ◌∷◌, ◌++◌, length, get_or, map, refl, ap, sym, ◌∙◌, arith}
+use Rattle.std.proofs.lemmas.Bool.{cases_Bool, or_parts}
 use Rattle.std.proofs.lemmas.Bool.Decides.{Decides-eqb, not_from_Decides}
 use Rattle.std.proofs.lemmas.List.{ext_get_or}
 use Rattle.std.proofs.lemmas.List.FromFn.{get_or-map-range_with_len, length-map-range_with_len}
@@ -14,9 +14,11 @@ use Rattle.league.specs.declared.game.Game.{Game}
 use Rattle.league.proofs.RangeLemmas.{one_if}
 use Rattle.cells.proofs.ListedLemmas.{same_counts}
 use Rattle.tally.specs.KeySet.{is_in}
-use Rattle.tally.specs.Renewal.{AreRenewed, IsRenewal}
 use Rattle.tally.specs.Tallies.{with_games}
+use Rattle.tally.specs.Weighing.{renewed}
 use Rattle.tally.proofs.SetLemmas.{is_in-append}
+use Rattle.tally.proofs.TouchedLemmas.{flat_map-append}
+use Rattle.tally.proofs.WeighingLemmas.{chosen, left_out, renewed-at, renewed-long}
 
 -- a game changes no entry of a key that it doesn't touch
 abbrev pub HasFrame : ℕ → ℕ → (ℕ → Counts → ℕ) → (Game → List ℕ) → Type 0
@@ -47,27 +49,28 @@ edit_kept n terms entry touches frame now m out into out_fit into_fit same k bel
 get_or-range : (f : ℕ → ℕ) (terms i : ℕ) → i < terms → get_or (map f (range_with_len 0 terms)) i 0 ≡ f i
 get_or-range f terms i below = get_or-map-range_with_len f 0 terms i i 0 below (omega arith)
 
--- what is renewed where an edit touches it, and was exact before, is exact afterwards
-pub edit_exact : (n terms : ℕ) (entry : ℕ → Counts → ℕ) (touches : Game → List ℕ) → HasFrame n terms entry touches → (now m : Counts) (out into : List Game) → All (IsGame n) out → All (IsGame n) into → with_games now out ≡ with_games m into
-    → (done done_after entries entries_after : List ℕ) (steps steps_after : ℕ) → IsRenewal (λ k. entry k now) (flat_map touches out ++ flat_map touches into) done done_after entries entries_after steps steps_after → done ≡ []
-    → entries ≡ map (λ k. entry k m) (range_with_len 0 terms) → entries_after ≡ map (λ k. entry k now) (range_with_len 0 terms)
-edit_exact n terms entry touches frame now m out into out_fit into_fit same done done_after entries entries_after steps steps_after are none was =
-    let start : AreRenewed (λ k. entry k now) done entries entries = record {
-      long = refl;
-      fresh = λ k below h. absurd (false≢true (ap (λ (l : List ℕ). is_in l k) (sym none) ∙ h));
-      stale = λ k h. refl;
-    } in
-    let ends : AreRenewed (λ k. entry k now) done_after entries entries_after = are.renewed entries start in
+-- entries that were exact before an edit are exact after it where those that it touches are evaluated afresh
+pub edit_exact : (n terms : ℕ) (entry : ℕ → Counts → ℕ) (touches : Game → List ℕ) → HasFrame n terms entry touches
+    → (now m : Counts) (out into : List Game) → All (IsGame n) out → All (IsGame n) into → with_games now out ≡ with_games m into
+    → (keys entries : List ℕ) → ((k : ℕ) → is_in keys k ≡ is_in (flat_map touches (out ++ into)) k)
+    → entries ≡ map (λ k. entry k m) (range_with_len 0 terms)
+    → renewed (λ k. entry k now) keys entries ≡ map (λ k. entry k now) (range_with_len 0 terms)
+edit_exact n terms entry touches frame now m out into out_fit into_fit same keys entries touched was =
+    let f : ℕ → ℕ = λ k. entry k now in
     let long : length entries ≡ terms = ap length was ∙ length-map-range_with_len (λ k. entry k m) 0 terms in
-    let wide : length (map (λ k. entry k now) (range_with_len 0 terms)) ≡ terms = length-map-range_with_len (λ k. entry k now) 0 terms in
-    ext_get_or 0 entries_after (map (λ k. entry k now) (range_with_len 0 terms)) (omega (arith, ends.long, long, wide)) (λ i h.
-    let below : i < terms = omega (arith, h, ends.long, long) in
-    elim (cases_Bool (is_in done_after i)) as (λ _. get_or entries_after i 0 ≡ get_or (map (λ k. entry k now) (range_with_len 0 terms)) i 0) [
-      | inl found ↦ ends.fresh i (omega (arith, below, long)) found ∙ sym (get_or-range (λ k. entry k now) terms i below)
+    let wide : length (map f (range_with_len 0 terms)) ≡ terms = length-map-range_with_len f 0 terms in
+    ext_get_or 0 (renewed f keys entries) (map f (range_with_len 0 terms))
+    (renewed-long f keys entries ∙ long ∙ sym wide) (λ i h.
+    let within : i < length entries = omega (arith, h, renewed-long f keys entries) in
+    let below : i < terms = omega (arith, within, long) in
+    renewed-at f keys entries i within
+    ∙ elim (cases_Bool (is_in keys i)) as (λ _. (if is_in keys i then f i else get_or entries i 0) ≡ f i) [
+      | inl found ↦ chosen (is_in keys i) (f i) (get_or entries i 0) found
       | inr lost ↦
-          ends.stale i lost
+          left_out (is_in keys i) (f i) (get_or entries i 0) lost
           ∙ ap (λ (l : List ℕ). get_or l i 0) was
           ∙ get_or-range (λ k. entry k m) terms i below
-          ∙ sym (edit_kept n terms entry touches frame now m out into out_fit into_fit same i below (ap (λ (l : List ℕ). is_in l i || is_in (flat_map touches out ++ flat_map touches into) i) (sym none) ∙ sym (are.keys i) ∙ lost))
-          ∙ sym (get_or-range (λ k. entry k now) terms i below)
-    ])
+          ∙ sym (edit_kept n terms entry touches frame now m out into out_fit into_fit same i below
+          (ap (λ (l : List ℕ). is_in l i) (sym (flat_map-append touches out into)) ∙ sym (touched i) ∙ lost))
+    ]
+    ∙ sym (get_or-range f terms i below))

@@ -1,5 +1,5 @@
 pub mod SetLemmas
-pub mod RenewalLemmas
+pub mod TouchedLemmas
 pub mod ByTeamLemmas
 pub mod WeighingLemmas
 pub mod FrameLemmas

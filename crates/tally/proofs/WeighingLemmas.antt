@@ -1,32 +1,35 @@
 -- Entries that are taken to be evaluated afresh while they stay as they are.
 use Rattle.std.proofs.Common.{◌≡◌, ℕ, ◌+◌, ◌*◌, ◌^◌, ◌<◌, ◌≤◌, Bool, true, false, ◌||◌, if◌then◌else◌, inl, inr}
-use Rattle.std.proofs.Common.{List, [], ◌∷◌, ◌++◌, length, get_or, set, refl, ap, subst, sym, ◌∙◌, arith}
+use Rattle.std.proofs.Common.{List, [], ◌∷◌, ◌++◌, Global, Vec, length, get_or, set, refl, ap, subst, sym, ◌∙◌, arith}
 use Rattle.std.proofs.lemmas.Bool.{cases_eq, or_right}
 use Rattle.std.proofs.lemmas.List.{ext_get_or, get_or-set_other, get_or-set_same, length-set}
 use Rattle.std.proofs.lemmas.List.FromFn.{get_or-map-range_with_len, length-map-range_with_len}
 use Rattle.std.proofs.lemmas.List.Sums.{sum_by-set}
-use Rattle.std.specs.List.{sum}
+use Rattle.std.specs.List.{All, sum}
+use Rattle.league.specs.declared.game.TeamId.{TeamId}
+use Rattle.rule_core.specs.declared.rule.Entries.{Ghosts}
 use Rattle.deviation.proofs.EntryLemmas.{sum-le}
 use Rattle.tally.specs.KeySet.{is_in}
-use Rattle.tally.specs.Renewal.{IsRenewal}
+use Rattle.tally.specs.Ready.{HasWatched, IsReady}
 use Rattle.tally.specs.Weighing.{IsWeighed, renewed}
-use Rattle.tally.proofs.RenewalLemmas.{renewal-one}
+use Rattle.tally.specs.declared.kept.Kept.{Kept}
+use Rattle.tally.specs.declared.weighted.Weighted.{Weighted}
 use Rattle.tally.proofs.SetLemmas.{is_in-append, one_has, one_lacks, or_false}
 
 pub renewed-long : (f : ℕ → ℕ) (keys entries : List ℕ) → length (renewed f keys entries) ≡ length entries
 renewed-long f keys entries =
     length-map-range_with_len (λ k. if is_in keys k then f k else get_or entries k 0) 0 (length entries)
 
-renewed-at : (f : ℕ → ℕ) (keys entries : List ℕ) (k : ℕ) → k < length entries
+pub renewed-at : (f : ℕ → ℕ) (keys entries : List ℕ) (k : ℕ) → k < length entries
     → get_or (renewed f keys entries) k 0 ≡ (if is_in keys k then f k else get_or entries k 0)
 renewed-at f keys entries k below =
     get_or-map-range_with_len (λ k. if is_in keys k then f k else get_or entries k 0) 0 (length entries) k k 0 below
     (omega arith)
 
-chosen : (b : Bool) (x y : ℕ) → b ≡ true → (if b then x else y) ≡ x
+pub chosen : (b : Bool) (x y : ℕ) → b ≡ true → (if b then x else y) ≡ x
 chosen b x y is = ap (λ (t : Bool). if t then x else y) is
 
-left_out : (b : Bool) (x y : ℕ) → b ≡ false → (if b then x else y) ≡ y
+pub left_out : (b : Bool) (x y : ℕ) → b ≡ false → (if b then x else y) ≡ y
 left_out b x y is = ap (λ (t : Bool). if t then x else y) is
 
 -- with no key, the entries are as they are
@@ -36,7 +39,7 @@ renewed-none f entries =
     (λ i h. renewed-at f [] entries i (omega (arith, h, renewed-long f [] entries)))
 
 -- with one key more, one more entry is f's
-renewed-one : (f : ℕ → ℕ) (key : ℕ) (keys entries : List ℕ) → key < length entries
+pub renewed-one : (f : ℕ → ℕ) (key : ℕ) (keys entries : List ℕ) → key < length entries
     → renewed f (keys ++ key ∷ []) entries ≡ set (renewed f keys entries) key (f key)
 renewed-one f key keys entries within =
     let more : List ℕ = keys ++ key ∷ [] in
@@ -109,14 +112,19 @@ weighed-one f key keys entries deviation after is within new word change =
           ]);
     }
 
--- and what was done
-pub weighing-one : (f : ℕ → ℕ) (key : ℕ) (keys entries : List ℕ) (steps steps_after : ℕ) → key < length entries
-    → steps_after ≡ steps + 1
-    → IsRenewal f (key ∷ []) keys (keys ++ key ∷ []) (renewed f keys entries) (renewed f (keys ++ key ∷ []) entries)
-    steps steps_after
-weighing-one f key keys entries steps steps_after within tick =
-    let before : List ℕ = renewed f keys entries in
-    let place : key < length before = omega (arith, within, renewed-long f keys entries) in
-    subst (λ (l : List ℕ). IsRenewal f (key ∷ []) keys (keys ++ key ∷ []) before l steps steps_after)
-    (sym (renewed-one f key keys entries within))
-    (renewal-one f key keys before (f key) steps steps_after place refl tick)
+-- with its entries written, a rule is as ready as before
+pub ready-written : {R : Type 0} (E : Ghosts R) (n room : ℕ) (old new : Kept R) → IsReady E n room old
+    → new.weighted ≡ old.weighted → new.watched ≡ old.watched → length new.vector.items ≡ length old.vector.items
+    → new.deviation ≡ sum new.vector.items → new.deviation ≤ 2 ^ 64 * length new.vector.items → IsReady E n room new
+ready-written {R} E n room old new ready weighted watched long is small = record {
+  teams = ready.teams ∙ ap (λ (w : Weighted R). E.team_count w.rule) (sym weighted);
+  of_league = subst (λ (teams : Vec TeamId Global). All (λ t. t.0 < n) teams.items) (sym watched) ready.of_league;
+  watches = subst (λ (w : Weighted R). HasWatched E w.rule new.watched.items) (sym weighted)
+      (subst (λ (teams : Vec TeamId Global). HasWatched E old.weighted.rule teams.items) (sym watched) ready.watches);
+  terms = long ∙ ready.terms ∙ ap (λ (w : Weighted R). E.term_count w.rule) (sym weighted);
+  sum_is = is;
+  small = small;
+  few = omega (arith, long, ready.few);
+  penalty_fits = omega (arith, ap (λ (w : Weighted R). w.penalty) weighted, ready.penalty_fits);
+  room_is = omega (arith, long, ready.room_is);
+}

@@ -5,6 +5,7 @@ pub mod League
 -- Kept inside (laws, and how fields are seen):
 pub mod KeySet
 pub mod ByTeam
-pub mod Renewal
+pub mod Bench
+pub mod Change
 pub mod Weighing
 pub mod Ready

@@ -7,7 +7,7 @@ use Rattle.rule_core.specs.declared.rule.Entries.{Ghosts}
 use Rattle.tally.specs.ByTeam.{GameRoom}
 use Rattle.tally.specs.Tallies.{vector_on}
 use Rattle.cells.specs.Table.{Table, table_counts}
-use Rattle.keys.specs.Keys.{KeyList}
+use Rattle.tally.specs.declared.bench.Bench.{Bench}
 use Rattle.tally.specs.declared.kept.Kept.{Kept}
 use Rattle.tally.specs.declared.weigh.Sums.{Sums}
 
@@ -39,20 +39,19 @@ hard_cost k = if k.weighted.hard then k.weighted.penalty * k.deviation else 0
 abbrev pub soft_cost : {R : Type 0} → Kept R → ℕ
 soft_cost k = if k.weighted.hard then 0 else k.weighted.penalty * k.deviation
 
--- rules of a league of n teams, with room for their keys and what they cost
-pub record AreReady {R : Type 0} (E : Ghosts R) (n keys_room : ℕ) (done : KeyList)
-    (rules : List (Kept R)) (sums : Sums) : Type 0 where
-  pub ready : All (IsReady E n done.room) rules
-  pub reach : All (λ k. E.reach_of k.weighted.rule ≤ keys_room) rules
+-- rules of a league of n teams, a clean bench with room for their keys, and what they cost
+pub record AreReady {R : Type 0} (E : Ghosts R) (n : ℕ) (bench : Bench) (rules : List (Kept R)) (sums : Sums) : Type 0 where
+  pub ready : All (IsReady E n bench.found.room) rules
+  pub reach : All (λ k. E.reach_of k.weighted.rule ≤ bench.keys.room) rules
   pub few : sum_by (λ k. length k.vector.items) rules < 2 ^ 31
-  pub none_done : done.list ≡ []
+  pub clean : bench.found.list ≡ []
   pub infeasibility : sums.infeasibility ≡ sum_by hard_cost rules
   pub objective : sums.objective ≡ sum_by soft_cost rules
 
--- and their entries are those on the counts; and there is a list of games for each team
+-- rules that are ready and whose entries are those on the counts, with a list of games for each team
 pub record IsTallied {R : Type 0} (E : Ghosts R) (rules : List (Kept R)) (table : Table) (by_team : List GameRoom)
-    (keys_room : ℕ) (done : KeyList) (sums : Sums) : Type 0 where
-  pub ready : AreReady E table.n keys_room done rules sums
+    (bench : Bench) (sums : Sums) : Type 0 where
+  pub ready : AreReady E table.n bench rules sums
   pub teams : length by_team ≡ table.n
   pub room : All (λ l. 8 * table.n ≤ l.room) by_team
   pub exact : All (IsExact E (table_counts table)) rules

@@ -1,11 +1,11 @@
 -- What rules give and cost on some counts, counted afresh.
-use Rattle.std.specs.Prelude.{ℕ, ◌+◌, ◌-◌, ◌*◌, ◌^◌, ◌<◌, ◌≤◌, not, eqb, List, map}
+use Rattle.std.specs.Prelude.{◌≡◌, ℕ, ◌+◌, ◌-◌, ◌*◌, ◌^◌, ◌<◌, ◌≤◌, not, eqb, List, map}
 use Rattle.std.specs.List.{filter, flat_map, range_with_len, sum, sum_by}
 use Rattle.std.specs.Set.{distinct_count}
 use Rattle.league.specs.Counts.{Counts, counts_of}
 use Rattle.league.specs.declared.game.Game.{Game}
 use Rattle.rule_core.specs.declared.rule.Entries.{Ghosts}
-use Rattle.cells.specs.Table.{Table}
+use Rattle.cells.specs.Table.{Table, table_counts}
 use Rattle.tally.specs.declared.weigh.Sums.{Sums}
 use Rattle.tally.specs.declared.weighted.Weighted.{Weighted}
 
@@ -13,6 +13,13 @@ use Rattle.tally.specs.declared.weighted.Weighted.{Weighted}
 pub record Tallied (R : Type 0) : Type 0 where
   pub weights : List (Weighted R)
   pub table : Table
+
+-- a tally before and after it was only asked: the same rules, on the same counts
+pub record OnlyTallied {R : Type 0} (old new : Tallied R) : Type 0 where
+  pub weights : new.weights ≡ old.weights
+  pub n : new.table.n ≡ old.table.n
+  pub counts : table_counts new.table ≡ table_counts old.table
+  pub total : sum new.table.list ≡ sum old.table.list
 
 -- the entries of a rule on some counts, in the order of their keys
 abbrev pub vector_on : {R : Type 0} → Ghosts R → Counts → R → List ℕ
@@ -47,7 +54,7 @@ all_terms E weights = sum_by (λ w. E.term_count w.rule) weights
 abbrev pub touched_count : {R : Type 0} → Ghosts R → R → List Game → ℕ
 touched_count E rule games = distinct_count eqb (flat_map (E.touches rule) games)
 
--- the same in all
+-- how many different keys of each of some rules the games touch, in all
 abbrev pub all_touched : {R : Type 0} → Ghosts R → List (Weighted R) → List Game → ℕ
 all_touched E weights games = sum_by (λ w. touched_count E w.rule games) weights
 

@@ -81,7 +81,7 @@ fn watched_teams<R: Entries>(alloc: Global, rule: &R) -> Result<Vec<TeamId>, All
     Ok(teams)
 }
 
-/// The same for each of some rules.
+/// Evaluates each entry of some rules, in their order.
 pub(crate) fn keep_rules<R: Rule<L>, L>(
     alloc: Global,
     rules: Vec<Weighted<R>>,

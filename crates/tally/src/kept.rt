@@ -1,19 +1,20 @@
-//! A weighted rule with its entries, and how they follow an edit of the games.
-ghost use Rattle.std.specs.Prelude.{◌≡◌, ◌<◌, ◌≤◌, ◌+◌, ◌*◌, ◌++◌, ◌^◌, true, [], ◌∷◌, length};
-ghost use Rattle.std.specs.List.{All, flat_map, sum};
+//! A weighted rule with its entries, and how they follow a change of the games.
+ghost use Rattle.std.specs.Prelude.{◌≡◌, ℕ, ◌<◌, ◌≤◌, ◌+◌, ◌*◌, ◌^◌, true, [], length, slice_index, slice_set};
+ghost use Rattle.std.specs.List.{All, sum};
 ghost use Rattle.league.specs.Counts.{Counts};
-ghost use Rattle.league.specs.Instance.{IsGame};
 ghost use Rattle.cells.specs.Table.{table_counts};
-ghost use Rattle.tally.specs.ByTeam.{AreByTeam, games_at};
+ghost use Rattle.tally.specs.Bench.{OnlyUsed};
+ghost use Rattle.tally.specs.Change.{LeadsFrom, games_of};
 ghost use Rattle.tally.specs.Ready.{IsExact, IsReady};
-ghost use Rattle.tally.specs.Renewal.{IsRenewal};
-ghost use Rattle.tally.specs.Tallies.{touched_count, with_games};
+ghost use Rattle.tally.specs.Tallies.{touched_count, vector_on};
+ghost use Rattle.tally.specs.Weighing.{IsWeighed, renewed};
 
-use crate::by_team::GameList;
+use crate::bench::Bench;
+use crate::change::Change;
 use crate::key_set::KeySet;
 use crate::weighted::Weighted;
-use league::{Game, TeamId};
-use rule_core::{Cells, Entries, Keys, Rule, Steps};
+use league::TeamId;
+use rule_core::{Cells, Entries, Rule, Steps};
 
 /// A weighted rule with the teams that it watches, its deviation vector and the sum of that.
 #[derive(Drop)]
@@ -25,154 +26,6 @@ pub(crate) struct Kept<R> {
 }
 
 impl<R: Entries> Kept<R> {
-    /// Evaluates the entry of a key, unless that is done.
-    fn renew<L>(&mut self, key: usize, cells: &Cells, done: &mut KeySet, steps: &mut Steps<L>)
-    where
-        R: Rule<L>,
-        requires ready { IsReady R.Entries cells.now.n done.old.room self.old }
-        requires key { key < R.term_count self.old.weighted.rule }
-        ensures weighted { self.new.weighted ≡ self.old.weighted }
-        ensures watched { self.new.watched ≡ self.old.watched }
-        ensures ready { IsReady R.Entries cells.now.n done.old.room self.new }
-        ensures room { done.new.room ≡ done.old.room }
-        ensures renewal { IsRenewal (λ k. R.entry self.old.weighted.rule k (table_counts cells.now)) (key ∷ [])
-            done.old.list done.new.list self.old.vector.items self.new.vector.items steps.old steps.new }
-    {
-        if done.has(key) {
-            return;
-        }
-        let entry = self.weighted.rule.term(key, cells, steps);
-        at_most_words(&self.vector);
-        self.deviation = self.deviation - u128::from(self.vector[key]) + u128::from(entry);
-        self.vector[key] = entry;
-        at_most_words(&self.vector);
-        done.add(key);
-    }
-
-    /// Evaluates the entries of the keys that a game touches, except those that are done.
-    fn renew_game<L>(
-        &mut self,
-        game: Game,
-        cells: &Cells,
-        keys: &mut Keys,
-        done: &mut KeySet,
-        steps: &mut Steps<L>,
-    )
-    where
-        R: Rule<L>,
-        requires ready { IsReady R.Entries cells.now.n done.old.room self.old }
-        requires reach { R.reach_of self.old.weighted.rule ≤ keys.old.room }
-        requires fits { IsGame cells.now.n game }
-        ensures weighted { self.new.weighted ≡ self.old.weighted }
-        ensures watched { self.new.watched ≡ self.old.watched }
-        ensures ready { IsReady R.Entries cells.now.n done.old.room self.new }
-        ensures room { done.new.room ≡ done.old.room }
-        ensures keys { keys.new.room ≡ keys.old.room }
-        ensures renewal { IsRenewal (λ k. R.entry self.old.weighted.rule k (table_counts cells.now))
-            (R.touches self.old.weighted.rule game)
-            done.old.list done.new.list self.old.vector.items self.new.vector.items steps.old steps.new }
-    {
-        keys.clear();
-        self.weighted.rule.touched(game, keys);
-        for place in 0..keys.len() {
-            self.renew(keys.get(place), cells, done, steps);
-        }
-    }
-
-    /// The same for each of some games.
-    fn renew_games<L>(
-        &mut self,
-        games: &[Game],
-        cells: &Cells,
-        keys: &mut Keys,
-        done: &mut KeySet,
-        steps: &mut Steps<L>,
-    )
-    where
-        R: Rule<L>,
-        requires ready { IsReady R.Entries cells.now.n done.old.room self.old }
-        requires reach { R.reach_of self.old.weighted.rule ≤ keys.old.room }
-        requires fit { All (IsGame cells.now.n) games.now }
-        ensures weighted { self.new.weighted ≡ self.old.weighted }
-        ensures watched { self.new.watched ≡ self.old.watched }
-        ensures ready { IsReady R.Entries cells.now.n done.old.room self.new }
-        ensures room { done.new.room ≡ done.old.room }
-        ensures keys { keys.new.room ≡ keys.old.room }
-        ensures renewal { IsRenewal (λ k. R.entry self.old.weighted.rule k (table_counts cells.now))
-            (flat_map (R.touches self.old.weighted.rule) games.now)
-            done.old.list done.new.list self.old.vector.items self.new.vector.items steps.old steps.new }
-    {
-        for game in games {
-            self.renew_game(*game, cells, keys, done, steps);
-        }
-    }
-
-    /// The same for each of the games that are listed at the teams that the rule watches.
-    fn renew_teams<L>(
-        &mut self,
-        by_team: &[GameList],
-        cells: &Cells,
-        keys: &mut Keys,
-        done: &mut KeySet,
-        steps: &mut Steps<L>,
-    )
-    where
-        R: Rule<L>,
-        requires ready { IsReady R.Entries cells.now.n done.old.room self.old }
-        requires reach { R.reach_of self.old.weighted.rule ≤ keys.old.room }
-        requires teams { length by_team.now ≡ cells.now.n }
-        requires fit { All (λ l. All (IsGame cells.now.n) l.list) by_team.now }
-        ensures weighted { self.new.weighted ≡ self.old.weighted }
-        ensures ready { IsReady R.Entries cells.now.n done.old.room self.new }
-        ensures room { done.new.room ≡ done.old.room }
-        ensures keys { keys.new.room ≡ keys.old.room }
-        ensures renewal { IsRenewal (λ k. R.entry self.old.weighted.rule k (table_counts cells.now))
-            (flat_map (λ t. flat_map (R.touches self.old.weighted.rule) (games_at by_team.now t.0))
-            self.old.watched.items)
-            done.old.list done.new.list self.old.vector.items self.new.vector.items steps.old steps.new }
-    {
-        for place in 0..self.watched.len() {
-            let team = self.watched[place];
-            let listed = &by_team[usize::from(team.0)];
-            self.renew_games(listed.games(), cells, keys, done, steps);
-        }
-    }
-
-    /// The same for each game of an edit that can touch a key. A rule that watches few teams is asked for their games
-    /// alone, where these are listed by team.
-    fn renew_touched<L>(
-        &mut self,
-        out: &[Game],
-        into: &[Game],
-        by_team: &[GameList],
-        cells: &Cells,
-        keys: &mut Keys,
-        done: &mut KeySet,
-        steps: &mut Steps<L>,
-    )
-    where
-        R: Rule<L>,
-        requires ready { IsReady R.Entries cells.now.n done.old.room self.old }
-        requires reach { R.reach_of self.old.weighted.rule ≤ keys.old.room }
-        requires out_fit { All (IsGame cells.now.n) out.now }
-        requires into_fit { All (IsGame cells.now.n) into.now }
-        requires listed { 0 < length by_team.now → AreByTeam cells.now.n (out.now ++ into.now) by_team.now }
-        ensures weighted { self.new.weighted ≡ self.old.weighted }
-        ensures ready { IsReady R.Entries cells.now.n done.old.room self.new }
-        ensures room { done.new.room ≡ done.old.room }
-        ensures keys { keys.new.room ≡ keys.old.room }
-        ensures renewal { IsRenewal (λ k. R.entry self.old.weighted.rule k (table_counts cells.now))
-            (flat_map (R.touches self.old.weighted.rule) out.now ++ flat_map (R.touches self.old.weighted.rule) into.now)
-            done.old.list done.new.list self.old.vector.items self.new.vector.items steps.old steps.new }
-    {
-        if self.watches_few(by_team.len()) {
-            self.renew_teams(by_team, cells, keys, done, steps);
-            return;
-        }
-        self.renew_games(out, cells, keys, done, steps);
-        self.renew_games(into, cells, keys, done, steps);
-    }
-
     /// Whether the rule watches less than a third of so many teams.
     pub(crate) fn watches_few(&self, teams: usize) -> bool
         ensures { result ≡ true → 0 < teams }
@@ -180,41 +33,111 @@ impl<R: Entries> Kept<R> {
         self.watched.len() < teams / 3
     }
 
-    /// Makes the entries those on the counts that an edit led to: each key that a game of the edit touches is evaluated
-    /// once.
-    pub(crate) fn renew_edit<L>(
-        &mut self,
-        out: &[Game],
-        into: &[Game],
-        by_team: &[GameList],
-        cells: &Cells,
-        keys: &mut Keys,
-        done: &mut KeySet,
-        steps: &mut Steps<L>,
-    )
+    /// Makes the entries those on the counts that a change led to: each key that it touches is evaluated once.
+    pub(crate) fn renew<L>(&mut self, change: &Change, bench: &mut Bench, steps: &mut Steps<L>)
     where
         R: Rule<L>,
-        requires ready { IsReady R.Entries cells.now.n done.old.room self.old }
-        requires reach { R.reach_of self.old.weighted.rule ≤ keys.old.room }
-        requires none_done { done.old.list ≡ [] }
-        requires out_fit { All (IsGame cells.now.n) out.now }
-        requires into_fit { All (IsGame cells.now.n) into.now }
-        requires listed { 0 < length by_team.now → AreByTeam cells.now.n (out.now ++ into.now) by_team.now }
+        requires ready { IsReady R.Entries change.now.table.n bench.old.found.room self.old }
+        requires reach { R.reach_of self.old.weighted.rule ≤ bench.old.keys.room }
+        requires clean { bench.old.found.list ≡ [] }
         ensures weighted { self.new.weighted ≡ self.old.weighted }
-        ensures ready { IsReady R.Entries cells.now.n done.old.room self.new }
-        ensures done { done.new ≡ done.old }
-        ensures keys { keys.new.room ≡ keys.old.room }
-        ensures exact { (m : Counts) → with_games (table_counts cells.now) out.now ≡ with_games m into.now
-            → IsExact R.Entries m self.old → IsExact R.Entries (table_counts cells.now) self.new }
-        ensures steps { steps.new ≡ steps.old + touched_count R.Entries self.old.weighted.rule (out.now ++ into.now) }
+        ensures ready { IsReady R.Entries change.now.table.n bench.old.found.room self.new }
+        ensures bench { OnlyUsed bench.old bench.new }
+        ensures exact { (m : Counts) → LeadsFrom m change.now → IsExact R.Entries m self.old
+            → IsExact R.Entries (table_counts change.now.table) self.new }
+        ensures steps { steps.new ≡ steps.old
+            + touched_count R.Entries self.old.weighted.rule (games_of change.now) }
     {
-        self.renew_touched(out, into, by_team, cells, keys, done, steps);
-        let _evaluated = done.len();
-        done.clear();
+        change.find_keys(self, bench);
+        self.renew_keys(&bench.found, change.cells(), steps);
+        bench.found.clear();
+    }
+
+    /// Evaluates the entries of some keys.
+    fn renew_keys<L>(&mut self, keys: &KeySet, cells: &Cells, steps: &mut Steps<L>)
+    where
+        R: Rule<L>,
+        requires ready { IsReady R.Entries cells.now.n keys.now.room self.old }
+        requires below { All (λ k. k < R.term_count self.old.weighted.rule) keys.now.list }
+        ensures weighted { self.new.weighted ≡ self.old.weighted }
+        ensures ready { IsReady R.Entries cells.now.n keys.now.room self.new }
+        ensures entries { self.new.vector.items ≡ renewed
+            (λ k. R.entry self.old.weighted.rule k (table_counts cells.now)) keys.now.list self.old.vector.items }
+        ensures steps { steps.new ≡ steps.old + length keys.now.list }
+    {
+        for place in 0..keys.len() {
+            let key = keys.get(place);
+            let entry = self.weighted.rule.term(key, cells, steps);
+            self.write(key, entry);
+        }
+    }
+
+    /// Writes an entry in the place of a key.
+    fn write(&mut self, key: usize, entry: u64)
+        requires key { key < length self.old.vector.items }
+        requires sum_is { self.old.deviation ≡ sum self.old.vector.items }
+        requires few { length self.old.vector.items < 2 ^ 31 }
+        ensures weighted { self.new.weighted ≡ self.old.weighted }
+        ensures watched { self.new.watched ≡ self.old.watched }
+        ensures entries { self.new.vector.items ≡ slice_set self.old.vector.items key entry }
+        ensures sum_is { self.new.deviation ≡ sum self.new.vector.items }
+        ensures small { self.new.deviation ≤ 2 ^ 64 * length self.new.vector.items }
+    {
+        at_most_words(&self.vector);
+        self.deviation = self.deviation - u128::from(self.vector[key]) + u128::from(entry);
+        self.vector[key] = entry;
+        at_most_words(&self.vector);
+    }
+
+    /// The deviation on the counts that a change led to, while the entries stay as they are: each key that the change
+    /// touches is evaluated once.
+    pub(crate) fn weigh<L>(&self, change: &Change, bench: &mut Bench, steps: &mut Steps<L>) -> u128
+    where
+        R: Rule<L>,
+        requires ready { IsReady R.Entries change.now.table.n bench.old.found.room self.now }
+        requires reach { R.reach_of self.now.weighted.rule ≤ bench.old.keys.room }
+        requires clean { bench.old.found.list ≡ [] }
+        ensures bench { OnlyUsed bench.old bench.new }
+        ensures exact { (m : Counts) → LeadsFrom m change.now → IsExact R.Entries m self.now
+            → result ≡ sum (vector_on R.Entries (table_counts change.now.table) self.now.weighted.rule) }
+        ensures small { result ≤ 2 ^ 64 * length self.now.vector.items }
+        ensures steps { steps.new ≡ steps.old
+            + touched_count R.Entries self.now.weighted.rule (games_of change.now) }
+    {
+        change.find_keys(self, bench);
+        let deviation = self.weigh_keys(&bench.found, change.cells(), steps);
+        bench.found.clear();
+        deviation
+    }
+
+    /// The deviation with the entries of some keys evaluated afresh, while the entries stay as they are.
+    fn weigh_keys<L>(&self, keys: &KeySet, cells: &Cells, steps: &mut Steps<L>) -> u128
+    where
+        R: Rule<L>,
+        requires ready { IsReady R.Entries cells.now.n keys.now.room self.now }
+        requires below { All (λ k. k < R.term_count self.now.weighted.rule) keys.now.list }
+        ensures weighed { IsWeighed (λ k. R.entry self.now.weighted.rule k (table_counts cells.now)) keys.now.list
+            self.now.vector.items result }
+        ensures steps { steps.new ≡ steps.old + length keys.now.list }
+    {
+        each_is_word(&self.vector);
+        let mut deviation = self.deviation;
+        for place in 0..keys.len() {
+            let key = keys.get(place);
+            let entry = self.weighted.rule.term(key, cells, steps);
+            let rest = deviation - u128::from(self.vector[key]);
+            deviation = rest + u128::from(entry);
+        }
+        deviation
     }
 }
 
 /// What is known of a list of words: their sum is at most as many times the greatest.
-pub(crate) fn at_most_words(entries: &[u64])
+fn at_most_words(entries: &[u64])
     ensures { sum entries.now ≤ 2 ^ 64 * length entries.now }
+{}
+
+/// What is known of each of some words: that it is below the bound of words.
+fn each_is_word(entries: &[u64])
+    ensures { (k : ℕ) → slice_index entries.now k < 2 ^ 64 }
 {}

@@ -1,7 +1,7 @@
 //! A set of keys with a fixed room, in which a key is found by one look-up.
-ghost use Rattle.std.specs.Prelude.{◌≡◌, ◌<◌, ◌++◌, [], ◌∷◌, false, eqb, length, IfOk};
+ghost use Rattle.std.specs.Prelude.{◌≡◌, ◌<◌, ◌++◌, [], ◌∷◌, false, eqb, length, slice_get, Some, IfOk};
 ghost use Rattle.std.specs.List.{IsDistinct};
-ghost use Rattle.tally.specs.KeySet.{is_in};
+ghost use Rattle.tally.specs.KeySet.{AreAdded, is_in};
 
 use rule_core::Keys;
 use std::alloc::{AllocError, Global};
@@ -44,8 +44,16 @@ impl KeySet {
         self.keys.len()
     }
 
+    /// The key at place k, from 0, in the order in which they came.
+    pub(crate) fn get(&self, k: usize) -> usize
+        requires { k < length self.now.list }
+        ensures { slice_get self.now.list k ≡ Some result }
+    {
+        self.keys.get(k)
+    }
+
     /// Whether a key is in the set.
-    pub(crate) fn has(&self, key: usize) -> bool
+    fn has(&self, key: usize) -> bool
         requires { key < self.now.room }
         ensures { result ≡ is_in self.now.list key }
     {
@@ -53,13 +61,24 @@ impl KeySet {
     }
 
     /// Adds a key that isn't in the set. It takes no memory.
-    pub(crate) fn add(&mut self, key: usize)
+    fn add(&mut self, key: usize)
         requires below { key < self.old.room }
         requires new { is_in self.old.list key ≡ false }
         ensures { self.new ≡ record { list = self.old.list ++ key ∷ []; room = self.old.room } }
     {
         self.keys.push(key);
         self.marks[key] = true;
+    }
+
+    /// Adds a key, unless it is in the set. It takes no memory.
+    pub(crate) fn insert(&mut self, key: usize)
+        requires { key < self.old.room }
+        ensures { AreAdded (key ∷ []) self.old self.new }
+    {
+        if self.has(key) {
+            return;
+        }
+        self.add(key);
     }
 
     /// Takes out all keys, at a step for each.

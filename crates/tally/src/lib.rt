@@ -7,7 +7,9 @@
 //! are the league's own (`laws`).
 #![tactic(auto)]
 
+mod bench;
 mod by_team;
+mod change;
 mod exchange;
 mod keep;
 mod kept;
@@ -16,7 +18,6 @@ pub mod laws;
 mod league_rules;
 mod tally;
 mod weigh;
-mod weighing;
 mod weighted;
 
 pub use league_rules::{league_tally, weighted_rules};

@@ -5,19 +5,20 @@ ghost use Rattle.league.specs.Counts.{Counts, counts_of};
 ghost use Rattle.league.specs.Instance.{IsGame};
 ghost use Rattle.cells.specs.Table.{table_counts};
 ghost use Rattle.moves.specs.Round.{edited};
-ghost use Rattle.tally.specs.Tallies.{IsWithin, all_terms, all_touched, infeasibility_on, objective_on, vector_on};
+ghost use Rattle.tally.specs.Tallies.{IsWithin, OnlyTallied, all_terms, all_touched, infeasibility_on, objective_on, vector_on};
 ghost use Rattle.tally.specs.Weighing.{AreWeighed};
 
+use crate::bench::Bench;
 use crate::by_team::{GameList, list_edit, team_lists};
+use crate::change::Change;
 use crate::exchange::exchange_games;
 use crate::keep::{costs, greatest_reach, greatest_terms, keep_rules};
 use crate::kept::Kept;
-use crate::key_set::KeySet;
 use crate::weigh::{Sums, renew_rules, weigh_rules};
 use crate::weighted::Weighted;
 use league::Game;
 use moves::Edit;
-use rule_core::{Cells, Entries, Keys, Rule, Steps};
+use rule_core::{Cells, Entries, Rule, Steps};
 use std::alloc::{AllocError, Global};
 use std::marker::Model;
 
@@ -28,8 +29,7 @@ pub struct Tally<R: Entries> {
     rules: Vec<Kept<R>>,
     cells: Cells,
     by_team: Vec<GameList>,
-    keys: Keys,
-    done: KeySet,
+    bench: Bench,
     sums: Sums,
 }
 
@@ -42,7 +42,7 @@ impl<R: Entries> Model for Tally<R> {
 
     ghost view = { λ t. record { weights = map (λ k. k.weighted) t.rules.items; table = t.cells } };
 
-    ghost invariant = { λ t. IsTallied R.Entries t.rules.items t.cells t.by_team.items t.keys.room t.done t.sums };
+    ghost invariant = { λ t. IsTallied R.Entries t.rules.items t.cells t.by_team.items t.bench t.sums };
 }
 
 impl<R: Entries> Tally<R> {
@@ -65,17 +65,15 @@ impl<R: Entries> Tally<R> {
         ensures steps { steps.new ≤ steps.old + all_terms R.Entries rules.items }
     {
         let by_team = team_lists(alloc, cells.n())?;
-        let keys = Keys::new(alloc, greatest_reach(&rules))?;
         let room = greatest_terms(&rules);
-        let done = KeySet::new(alloc, room)?;
+        let bench = Bench::new(alloc, greatest_reach(&rules), room)?;
         let rules = keep_rules(alloc, rules, &cells, room, steps)?;
         let sums = costs(&rules, &cells, room);
         Ok(Tally {
             rules,
             cells,
             by_team,
-            keys,
-            done,
+            bench,
             sums,
         })
     }
@@ -135,14 +133,11 @@ impl<R: Entries> Tally<R> {
         let _few = self.cells.games();
         let listed = list_edit(&mut self.by_team, self.cells.n(), out, into);
         exchange_games(&mut self.cells, out, into);
+        let change = Change::new(out, into, &self.by_team[..listed], &self.cells);
         renew_rules(
             &mut self.rules,
-            out,
-            into,
-            &self.by_team[..listed],
-            &self.cells,
-            &mut self.keys,
-            &mut self.done,
+            &change,
+            &mut self.bench,
             &mut self.sums,
             steps,
         );
@@ -157,10 +152,7 @@ impl<R: Entries> Tally<R> {
         requires out_fit { All (IsGame self.old.table.n) edit.now.out }
         requires into_fit { All (IsGame self.old.table.n) edit.now.into }
         requires there { (i j s : ℕ) → counts_of edit.now.out i j s ≤ table_counts self.old.table i j s }
-        ensures weights { self.new.weights ≡ self.old.weights }
-        ensures n { self.new.table.n ≡ self.old.table.n }
-        ensures counts { table_counts self.new.table ≡ table_counts self.old.table }
-        ensures total { sum self.new.table.list ≡ sum self.old.table.list }
+        ensures keeps { OnlyTallied self.old self.new }
         ensures infeasibility { result.infeasibility
             ≡ infeasibility_on R.Entries (edited (table_counts self.old.table) edit.now) self.old.weights }
         ensures objective { result.objective
@@ -184,10 +176,7 @@ impl<R: Entries> Tally<R> {
         requires out_fit { All (IsGame self.old.table.n) edit.now.out }
         requires into_fit { All (IsGame self.old.table.n) edit.now.into }
         requires there { (i j s : ℕ) → counts_of edit.now.out i j s ≤ table_counts self.old.table i j s }
-        ensures weights { self.new.weights ≡ self.old.weights }
-        ensures n { self.new.table.n ≡ self.old.table.n }
-        ensures counts { table_counts self.new.table ≡ table_counts self.old.table }
-        ensures total { sum self.new.table.list ≡ sum self.old.table.list }
+        ensures keeps { OnlyTallied self.old self.new }
 
         // Nothing comes exactly where a number is above its bound.
         ensures within { MatchOption result
@@ -222,10 +211,7 @@ impl<R: Entries> Tally<R> {
         requires into_fit { All (IsGame self.old.table.n) into.now }
         requires there { (i j s : ℕ) → counts_of out.now i j s ≤ table_counts self.old.table i j s }
         requires as_many { length into.now ≡ length out.now }
-        ensures weights { self.new.weights ≡ self.old.weights }
-        ensures n { self.new.table.n ≡ self.old.table.n }
-        ensures counts { table_counts self.new.table ≡ table_counts self.old.table }
-        ensures total { sum self.new.table.list ≡ sum self.old.table.list }
+        ensures keeps { OnlyTallied self.old self.new }
         ensures weighed { (m : Counts) → ((i j s : ℕ) → m i j s + counts_of out.now i j s
             ≡ table_counts self.old.table i j s + counts_of into.now i j s)
             → AreWeighed R.Entries most m self.old.weights result }
@@ -234,17 +220,8 @@ impl<R: Entries> Tally<R> {
         let _few = self.cells.games();
         let listed = list_edit(&mut self.by_team, self.cells.n(), out, into);
         exchange_games(&mut self.cells, out, into);
-        let sums = weigh_rules(
-            &self.rules,
-            most,
-            out,
-            into,
-            &self.by_team[..listed],
-            &self.cells,
-            &mut self.keys,
-            &mut self.done,
-            steps,
-        );
+        let change = Change::new(out, into, &self.by_team[..listed], &self.cells);
+        let sums = weigh_rules(&self.rules, most, &change, &mut self.bench, steps);
         exchange_games(&mut self.cells, into, out);
         sums
     }
@@ -256,7 +233,7 @@ impl<R: Entries> Tally<R> {
         self.sums.infeasibility
     }
 
-    /// The same over the soft rules.
+    /// What the soft rules cost: penalty times deviation, summed.
     pub fn objective(&self) -> u128
         ensures { result ≡ objective_on R.Entries (table_counts self.now.table) self.now.weights }
     {

@@ -5,7 +5,7 @@ use Rattle.league.specs.Instance.{IsGame}
 use Rattle.league.specs.declared.game.Game.{Game}
 use Rattle.tally.specs.ByTeam.{AreByTeam, GameRoom, games_at, no_games, with_game}
 use Rattle.tally.proofs.ByTeamLemmas.{AreByTeam-more, length-with_game, room-more, spare-more, spare_away}
-use Rattle.tally.proofs.RenewalLemmas.{no_game}
+use Rattle.tally.proofs.TouchedLemmas.{no_game}
 use Rattle.tally.proofs.by_team.list_games.Goals as goal
 
 pub list_at-requires-clause-spare : goal.list_at-requires-clause-spare

@@ -1,8 +1,9 @@
-use Rattle.std.proofs.Common.{◌≡◌, ◌<◌, ◌++◌, length, get_or, ap, subst, sym, ◌∙◌, arith}
+use Rattle.std.proofs.Common.{◌≡◌, ◌<◌, length, get_or, ap, subst, sym, ◌∙◌, arith}
 use Rattle.std.proofs.lemmas.List.{get_or-set_other}
 use Rattle.std.proofs.lemmas.List.Elements.{AllWithin-more_set}
 use Rattle.std.proofs.lemmas.List.Sums.{sum_by_more}
 use Rattle.cells.specs.Table.{table_counts}
+use Rattle.tally.specs.Change.{games_of}
 use Rattle.tally.specs.Ready.{IsExact}
 use Rattle.tally.specs.Tallies.{touched_count}
 use Rattle.tally.specs.declared.kept.Kept.{Kept}
@@ -10,10 +11,10 @@ use Rattle.tally.proofs.CostLemmas.{AreReady-next, hard_fits, soft_fits, weights
 use Rattle.tally.proofs.weigh.renew_rules.Goals as goal
 
 pub renew_weighed-requires-clause-infeasibility_room : goal.renew_weighed-requires-clause-infeasibility_room
-renew_weighed-requires-clause-infeasibility_room g c = omega (arith, hard_fits g.R.Entries c.args.cells.now.n c.loop-kept.done.room c.loop-kept.rules c.loop-kept.invariant.ready.ready, c.loop-kept.invariant.ready.infeasibility, c.loop-kept.invariant.ready.few)
+renew_weighed-requires-clause-infeasibility_room g c = omega (arith, hard_fits g.R.Entries c.args.change.now.table.n c.loop-kept.bench.found.room c.loop-kept.rules c.loop-kept.invariant.ready.ready, c.loop-kept.invariant.ready.infeasibility, c.loop-kept.invariant.ready.few)
 
 pub renew_weighed-requires-clause-objective_room : goal.renew_weighed-requires-clause-objective_room
-renew_weighed-requires-clause-objective_room g c = omega (arith, soft_fits g.R.Entries c.args.cells.now.n c.loop-kept.done.room c.loop-kept.rules c.loop-kept.invariant.ready.ready, c.loop-kept.invariant.ready.objective, c.loop-kept.invariant.ready.few)
+renew_weighed-requires-clause-objective_room g c = omega (arith, soft_fits g.R.Entries c.args.change.now.table.n c.loop-kept.bench.found.room c.loop-kept.rules c.loop-kept.invariant.ready.ready, c.loop-kept.invariant.ready.objective, c.loop-kept.invariant.ready.few)
 
 pub loop-kept-preserved : goal.loop-kept-preserved
 loop-kept-preserved g c =
@@ -27,11 +28,9 @@ loop-kept-preserved g c =
     record {
       weights = weights-next rules at d new c.renew_weighed.ensures.weighted ∙ c.loop-kept.invariant.weights;
       later = λ k e h. get_or-set_other rules at k new e (λ is. absurd (omega (arith, is, h))) ∙ c.loop-kept.invariant.later k e (omega (arith, h));
-      ready = AreReady-next g.R.Entries c.args.cells.now.n c.loop-kept.keys.room c.renew_weighed.new.keys.room c.loop-kept.done c.renew_weighed.new.done rules c.loop-kept.sums c.renew_weighed.new.sums at d new within c.loop-kept.invariant.ready c.renew_weighed.ensures.weighted c.renew_weighed.ensures.ready c.renew_weighed.ensures.done c.renew_weighed.ensures.keys c.renew_weighed.ensures.infeasibility c.renew_weighed.ensures.objective;
-      done = c.renew_weighed.ensures.done ∙ c.loop-kept.invariant.done;
-      keys = c.renew_weighed.ensures.keys ∙ c.loop-kept.invariant.keys;
-      exact = λ m same was. AllWithin-more_set rules at new within (IsExact g.R.Entries (table_counts c.args.cells.now)) (c.loop-kept.invariant.exact m same was) (c.renew_weighed.ensures.exact m same (subst (λ (k : Kept g.row.R.Denot). IsExact g.R.Entries m k) (sym same_item) (was at d before)));
-      steps = omega (arith, c.renew_weighed.ensures.steps, c.loop-kept.invariant.steps, sum_by_more (λ (k : Kept g.row.R.Denot). touched_count g.R.Entries k.weighted.rule (c.args.out.now ++ c.args.into.now)) c.args.rules.now at d before, ap (λ (k : Kept g.row.R.Denot). touched_count g.R.Entries k.weighted.rule (c.args.out.now ++ c.args.into.now)) same_item);
+      ready = AreReady-next g.R.Entries c.args.change.now.table.n c.loop-kept.bench c.renew_weighed.new.bench rules c.loop-kept.sums c.renew_weighed.new.sums at d new within c.loop-kept.invariant.ready c.renew_weighed.ensures.weighted c.renew_weighed.ensures.ready c.renew_weighed.ensures.bench c.renew_weighed.ensures.infeasibility c.renew_weighed.ensures.objective;
+      exact = λ m same was. AllWithin-more_set rules at new within (IsExact g.R.Entries (table_counts c.args.change.now.table)) (c.loop-kept.invariant.exact m same was) (c.renew_weighed.ensures.exact m same (subst (λ (k : Kept g.row.R.Denot). IsExact g.R.Entries m k) (sym same_item) (was at d before)));
+      steps = omega (arith, c.renew_weighed.ensures.steps, c.loop-kept.invariant.steps, sum_by_more (λ (k : Kept g.row.R.Denot). touched_count g.R.Entries k.weighted.rule (games_of c.args.change.now)) c.args.rules.now at d before, ap (λ (k : Kept g.row.R.Denot). touched_count g.R.Entries k.weighted.rule (games_of c.args.change.now)) same_item);
     }
 
 pub returns-clause-exact : goal.returns-clause-exact

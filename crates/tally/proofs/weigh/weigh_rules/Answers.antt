@@ -1,17 +1,18 @@
-use Rattle.std.proofs.Common.{◌++◌, map, subst, sym, arith}
+use Rattle.std.proofs.Common.{map, subst, sym, arith}
 use Rattle.std.specs.List.{All}
 use Rattle.keys.specs.Keys.{KeyList}
+use Rattle.tally.specs.Change.{games_of}
 use Rattle.tally.specs.Ready.{IsReady}
 use Rattle.tally.specs.Tallies.{touched_count}
 use Rattle.tally.specs.declared.kept.Kept.{Kept}
 use Rattle.tally.specs.declared.weighted.Weighted.{Weighted}
-use Rattle.tally.proofs.CostLemmas.{both_kinds}
+use Rattle.tally.proofs.CostLemmas.{both_kinds, used-again}
 use Rattle.tally.proofs.weigh.weigh_rules.Goals as goal
 
 pub weigh_kind-objective-requires-clause-ready : goal.weigh_kind-objective-requires-clause-ready
 weigh_kind-objective-requires-clause-ready g c =
-    subst (λ (s : KeyList). All (IsReady g.R.Entries c.args.cells.now.n s.room) c.args.rules.now)
-    (sym c.weigh_kind-infeasibility.ensures.done) c.requires.ready
+    subst (λ (s : KeyList). All (IsReady g.R.Entries c.args.change.now.table.n s.room) c.args.rules.now)
+    (sym c.weigh_kind-infeasibility.ensures.bench.found) c.requires.ready
 
 pub returns-then-infeasibility-most-clause-weighed : goal.returns-then-infeasibility-most-clause-weighed
 returns-then-infeasibility-most-clause-weighed g c = λ m same exact. record {
@@ -26,7 +27,7 @@ returns-then-infeasibility-most-clause-steps g c =
     omega (
       arith,
       c.weigh_kind-infeasibility.ensures.steps,
-      both_kinds (λ (w : Weighted g.row.R.Denot). touched_count g.R.Entries w.rule (c.args.out.now ++ c.args.into.now))
+      both_kinds (λ (w : Weighted g.row.R.Denot). touched_count g.R.Entries w.rule (games_of c.args.change.now))
           (map (λ (k : Kept g.row.R.Denot). k.weighted) c.args.rules.now),
     )
 
@@ -44,6 +45,11 @@ returns-clause-steps g c =
       arith,
       c.weigh_kind-infeasibility.ensures.steps,
       c.weigh_kind-objective.ensures.steps,
-      both_kinds (λ (w : Weighted g.row.R.Denot). touched_count g.R.Entries w.rule (c.args.out.now ++ c.args.into.now))
+      both_kinds (λ (w : Weighted g.row.R.Denot). touched_count g.R.Entries w.rule (games_of c.args.change.now))
           (map (λ (k : Kept g.row.R.Denot). k.weighted) c.args.rules.now),
     )
+
+pub returns-clause-bench : goal.returns-clause-bench
+returns-clause-bench g c =
+    used-again c.args.bench.now c.weigh_kind-infeasibility.new.bench c.weigh_kind-objective.new.bench
+    c.weigh_kind-infeasibility.ensures.bench c.weigh_kind-objective.ensures.bench

@@ -1,6 +1,5 @@
 use Rattle.std.proofs.Common.{◌<◌, ◌≤◌, ◌*◌, ◌^◌, ℕ, List, map, length, ap, subst, sym, ◌∙◌}
 use Rattle.std.specs.List.{All, sum_by}
-use Rattle.keys.specs.Keys.{KeyList}
 use Rattle.tally.specs.Ready.{IsReady, hard_cost, soft_cost}
 use Rattle.tally.specs.declared.kept.Kept.{Kept}
 use Rattle.tally.specs.declared.weighted.Weighted.{Weighted}
@@ -15,13 +14,13 @@ pub invariant_of-result : goal.invariant_of-result
 invariant_of-result g c =
     let f : Weighted g.row.R.Denot → ℕ = λ w. g.R.Entries.reach_of w.rule in
     let kept = c.in_ok-rules.rules.items in
-    let bound : All (λ w. f w ≤ c.greatest_reach.result) (map (λ (k : Kept g.row.R.Denot). k.weighted) kept) = subst (λ (l : List (Weighted g.row.R.Denot)). All (λ w. f w ≤ c.greatest_reach.result) l) (c.deref.ensures.value ∙ sym c.in_ok-rules.ensures.weights) c.greatest_reach.ensures in
+    let bound : All (λ w. f w ≤ c.greatest_reach.result) (map (λ (k : Kept g.row.R.Denot). k.weighted) kept) = subst (λ (l : List (Weighted g.row.R.Denot)). All (λ w. f w ≤ c.greatest_reach.result) l) (c.deref-2.ensures.value ∙ sym c.in_ok-rules.ensures.weights) c.greatest_reach.ensures in
     record {
       ready = record {
-        ready = subst (λ (s : KeyList). All (IsReady g.R.Entries c.args.cells.n s.room) kept) (sym c.in_ok-done.ensures) c.in_ok-rules.ensures.ready;
-        reach = subst (λ (s : KeyList). All (λ (k : Kept g.row.R.Denot). f k.weighted ≤ s.room) kept) (sym c.in_ok-keys.ensures) (kept_bound f c.greatest_reach.result kept bound);
+        ready = subst (λ (room : ℕ). All (IsReady g.R.Entries c.args.cells.n room) kept) (sym c.in_ok-bench.ensures.room) c.in_ok-rules.ensures.ready;
+        reach = subst (λ (room : ℕ). All (λ (k : Kept g.row.R.Denot). f k.weighted ≤ room) kept) (sym c.in_ok-bench.ensures.reach) (kept_bound f c.greatest_reach.result kept bound);
         few = few_kept g.R.Entries c.args.cells.n c.greatest_terms-room.result kept c.args.rules.items c.in_ok-rules.ensures.ready c.in_ok-rules.ensures.weights c.requires.few;
-        none_done = ap (λ (s : KeyList). s.list) c.in_ok-done.ensures;
+        clean = c.in_ok-bench.ensures.clean;
         infeasibility = c.costs-sums.ensures.infeasibility ∙ ap (λ (l : List (Kept g.row.R.Denot)). sum_by hard_cost l) c.deref-3.ensures.value;
         objective = c.costs-sums.ensures.objective ∙ ap (λ (l : List (Kept g.row.R.Denot)). sum_by soft_cost l) c.deref-3.ensures.value;
       };

@@ -17,7 +17,7 @@ pub apply-requires-clause-there : goal.apply-requires-clause-there
 apply-requires-clause-there g c i j s =
     let legal : c.edit_of.result ≡ true = c.if-not-edit_of.false in
     subst (λ (m : Counts). counts_of c.edit_of.new.edit.out i j s ≤ m i j s)
-    (c.requires.standing.counts ∙ sym c.weigh_within-within.ensures.counts) ((c.edit_of.ensures.edit legal).there i j s)
+    (c.requires.standing.counts ∙ sym c.weigh_within-within.ensures.keeps.counts) ((c.edit_of.ensures.edit legal).there i j s)
 
 pub apply-requires-2-clause-there : goal.apply-requires-2-clause-there
 apply-requires-2-clause-there g c i j s =
@@ -36,7 +36,7 @@ pub returns-then-is_none-clause-standing : goal.returns-then-is_none-clause-stan
 returns-then-is_none-clause-standing g c = record {
   teams = c.requires.standing.teams;
   phases = refl;
-  counts = c.requires.standing.counts ∙ sym c.weigh_within-within.ensures.counts;
+  counts = c.requires.standing.counts ∙ sym c.weigh_within-within.ensures.keeps.counts;
   edit_for = c.edit_of.ensures.n ∙ c.requires.standing.edit_for;
 }
 
@@ -48,7 +48,7 @@ returns-clause-standing g c =
     let after : Counts = table_counts c.apply.new.self.table in
     let leads : AreExchanged m after c.edit_of.new.edit.out c.edit_of.new.edit.into =
     subst (λ (k : Counts). AreExchanged k after c.edit_of.new.edit.out c.edit_of.new.edit.into)
-    (c.weigh_within-within.ensures.counts ∙ sym c.requires.standing.counts) c.apply.ensures.counts in
+    (c.weigh_within-within.ensures.keeps.counts ∙ sym c.requires.standing.counts) c.apply.ensures.counts in
     record {
       teams = c.apply-2.ensures.n ∙ c.requires.standing.teams;
       phases = c.apply-2.ensures.phased;

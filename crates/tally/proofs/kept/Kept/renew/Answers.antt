@@ -1,0 +1,33 @@
+use Rattle.std.proofs.Common.{◌≡◌, ◌+◌, ℕ, ap, subst, sym, ◌∙◌, arith}
+use Rattle.cells.specs.Table.{Table, table_counts}
+use Rattle.keys.specs.Keys.{KeyList}
+use Rattle.tally.specs.Change.{games_of}
+use Rattle.tally.specs.Ready.{IsReady}
+use Rattle.tally.specs.Tallies.{vector_on}
+use Rattle.tally.specs.Weighing.{renewed}
+use Rattle.tally.specs.declared.weighted.Weighted.{Weighted}
+use Rattle.tally.proofs.FrameLemmas.{edit_exact}
+use Rattle.tally.proofs.TouchedLemmas.{touched-many}
+use Rattle.tally.proofs.kept.Kept.renew.Goals as goal
+
+pub returns-clause-exact : goal.returns-clause-exact
+returns-clause-exact g c = λ m same was.
+    let rule = c.args.self.now.weighted.rule in
+    let now = table_counts c.args.change.now.table in
+    let keys = c.find_keys.new.bench.found.list in
+    let entries = c.args.self.now.vector.items in
+    c.renew_keys.ensures.entries
+    ∙ ap (λ (t : Table). renewed (λ k. g.R.Entries.entry rule k (table_counts t)) keys entries) c.cells.ensures
+    ∙ edit_exact (g.R.Entries.team_count rule) (g.R.Entries.term_count rule) (λ k m. g.R.Entries.entry rule k m)
+    (g.R.Entries.touches rule) (g.met.R.Entries.frame rule) now m c.args.change.now.out c.args.change.now.into
+    c.find_keys.ensures.out_fit c.find_keys.ensures.into_fit same keys entries c.find_keys.ensures.touched.keys was
+    ∙ ap (λ (w : Weighted g.row.R.Denot). vector_on g.R.Entries now w.rule) (sym c.renew_keys.ensures.weighted)
+
+pub returns-clause-steps : goal.returns-clause-steps
+returns-clause-steps g c =
+    omega (
+      arith,
+      c.renew_keys.ensures.steps,
+      touched-many g.R.Entries c.args.self.now.weighted.rule (games_of c.args.change.now) c.args.bench.now
+          c.find_keys.new.bench c.find_keys.ensures.touched,
+    )
