@@ -18,6 +18,7 @@ mod draws;
 mod factors;
 mod hard;
 mod parts;
+mod scale;
 mod standing;
 mod threshold;
 mod walked;
