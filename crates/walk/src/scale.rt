@@ -31,7 +31,7 @@ pub(crate) fn usual_change<R: Rule<L>, L>(
     let n = board.n();
     let mut edit = Edit::new(alloc, n)?;
     let mut changes = Vec::with_capacity(alloc, LOOKS)?;
-    for _look in 0..LOOKS {
+    'looks: for _look in 0..LOOKS {
         let change = change_of_move(random, board, &mut edit, tally, steps);
         if change > 0 {
             changes.push(change)?;

@@ -94,7 +94,9 @@ impl Course {
     }
 
     /// The next stretch of so many moves, where so many are left.
-    fn stage(self, left: u64, limit: u64) -> Stage {
+    fn stage(self, left: u64, limit: u64) -> Stage
+        ensures { result.limit ≡ limit }
+    {
         Stage {
             limit,
             mix: WHOLES,
@@ -209,12 +211,7 @@ impl Walker {
     ///
     /// # Errors
     /// Only where memory runs out.
-    fn search_afresh(
-        &mut self,
-        alloc: Global,
-        league: &League,
-        unit: u64,
-    ) -> Result<(), AllocError>
+    fn search_afresh(&mut self, alloc: Global, league: &League, unit: u64) -> Result<(), AllocError>
         requires walker { IsWalkerIn league.now self.old }
         ensures walker { OnOk result (IsWalkerIn league.now self.new) }
         ensures no_worse { OnOk result (IsNoWorse self.new.best.score self.old.best.score) }
@@ -224,8 +221,7 @@ impl Walker {
             if self.is_done() {
                 return Ok(());
             }
-            self.restart(alloc, league)?;
-            self.standing.shuffle(&mut self.random);
+            self.place_afresh(alloc, league)?;
             self.search_hard_first(alloc, league, unit)?;
         }
         Ok(())
@@ -282,8 +278,29 @@ impl Walker {
         ensures best { OnOk result (self.new.best ≡ self.old.best) }
         ensures left { OnOk result (self.new.left ≡ self.old.left) }
     {
-        self.standing = Standing::new(alloc, league.n(), league.phased(), start)?;
+        self.stand_at(alloc, league, start)?;
         self.standing.shuffle(&mut self.random);
+        Ok(())
+    }
+
+    /// Goes to the games of a double round robin.
+    ///
+    /// # Errors
+    /// Only where memory runs out.
+    fn stand_at(
+        &mut self,
+        alloc: Global,
+        league: &League,
+        start: &Schedule,
+    ) -> Result<(), AllocError>
+        requires walker { IsWalkerIn league.now self.old }
+        requires fit { All (IsGame league.now.n) start.now }
+        requires round_robin { IsRoundRobin league.now.n league.now.phased (counts_of start.now) }
+        ensures walker { OnOk result (IsWalkerIn league.now self.new) }
+        ensures best { OnOk result (self.new.best ≡ self.old.best) }
+        ensures left { OnOk result (self.new.left ≡ self.old.left) }
+    {
+        self.standing = Standing::new(alloc, league.n(), league.phased(), start)?;
         Ok(())
     }
 
@@ -329,11 +346,7 @@ impl Walker {
         ensures left { OnOk result (self.new.left ≤ self.old.left) }
     {
         self.meet_hard(alloc, league, Patience::of(PATIENCE))?;
-        self.walk_if_met(
-            alloc,
-            league,
-            Course::scaled(self.left, unit, 36, 9, 142),
-        )?;
+        self.walk_if_met(alloc, league, Course::scaled(self.left, unit, 36, 9, 142))?;
         Ok(())
     }
 
@@ -376,6 +389,30 @@ impl Walker {
         ensures no_worse { OnOk result (IsNoWorse self.new.best.score self.old.best.score) }
         ensures left { OnOk result (self.new.left ≤ self.old.left) }
     {
+        let low = self.lowest_of_walk(alloc, league, course)?;
+        self.stand_on(alloc, league, &low)?;
+        let score = low.score();
+        self.best.keep_lower(low);
+        Ok(score)
+    }
+
+    /// Walks on all constraints in stretches, after each of which the weights are adapted. Gives the best games at the
+    /// start or on the way.
+    ///
+    /// # Errors
+    /// Only where memory runs out.
+    fn lowest_of_walk(
+        &mut self,
+        alloc: Global,
+        league: &League,
+        course: Course,
+    ) -> Result<Kept, AllocError>
+        requires walker { IsWalkerIn league.now self.old }
+        ensures walker { OnOk result (IsWalkerIn league.now self.new) }
+        ensures kept { IfOk result (IsKept league.now.n league.now.phased (league_score league.now)) }
+        ensures best { OnOk result (self.new.best ≡ self.old.best) }
+        ensures left { OnOk result (self.new.left ≤ self.old.left) }
+    {
         let mut weights = Weights::together(alloc, league, course.weight)?;
         let mut low = self.kept_now(alloc, league)?;
         let mut left = course.moves;
@@ -386,10 +423,7 @@ impl Walker {
             low.keep_lower(near);
             left = left.saturating_sub(STRETCH);
         }
-        self.stand_on(alloc, league, &low)?;
-        let score = low.score();
-        self.best.keep_lower(low);
-        Ok(score)
+        Ok(low)
     }
 
     /// One stretch on all constraints, by the weights as they are. Gives the best games on the way by these weights, with
@@ -415,13 +449,9 @@ impl Walker {
         let mut steps = Steps::<Plain>::start();
         let mut tally = weighted_tally(alloc, league, weights, &self.games, &mut steps)?;
         let mut near = Kept::new(alloc, &self.standing.board, Score::of(&tally))?;
-        let tried = self.standing.improve(
-            &mut self.random,
-            stage,
-            &mut near,
-            &mut tally,
-            &mut steps,
-        );
+        let tried = self
+            .standing
+            .improve(&mut self.random, stage, &mut near, &mut tally, &mut steps);
         self.left -= tried;
         weights.adapt(&tally);
         let score = cost_of(alloc, league, near.games())?;
@@ -449,12 +479,7 @@ impl Walker {
     ///
     /// # Errors
     /// Only where memory runs out.
-    fn stand_on(
-        &mut self,
-        alloc: Global,
-        league: &League,
-        kept: &Kept,
-    ) -> Result<(), AllocError>
+    fn stand_on(&mut self, alloc: Global, league: &League, kept: &Kept) -> Result<(), AllocError>
         requires walker { IsWalkerIn league.now self.old }
         requires kept { IsKept league.now.n league.now.phased (league_score league.now) kept.now }
         ensures walker { OnOk result (IsWalkerIn league.now self.new) }
@@ -462,7 +487,23 @@ impl Walker {
         ensures left { OnOk result (self.new.left ≡ self.old.left) }
     {
         let schedule = kept.schedule(alloc)?;
-        self.standing = Standing::new(alloc, league.n(), league.phased(), &schedule)?;
+        self.stand_at(alloc, league, &schedule)?;
+        Ok(())
+    }
+
+    /// Goes to a random double round robin, or where none is found stays at the same games, with the teams in a random
+    /// order.
+    ///
+    /// # Errors
+    /// Only where memory runs out.
+    fn place_afresh(&mut self, alloc: Global, league: &League) -> Result<(), AllocError>
+        requires walker { IsWalkerIn league.now self.old }
+        ensures walker { OnOk result (IsWalkerIn league.now self.new) }
+        ensures best { OnOk result (self.new.best ≡ self.old.best) }
+        ensures left { OnOk result (self.new.left ≡ self.old.left) }
+    {
+        self.restart(alloc, league)?;
+        self.standing.shuffle(&mut self.random);
         Ok(())
     }
 
