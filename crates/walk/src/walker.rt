@@ -35,10 +35,13 @@ const PATIENCE: u64 = 1_600_000;
 const SHORT_PATIENCE: u64 = 60_000;
 
 /// As many searches begin at the first games, with the teams in a random order, where a walk has its usual budget.
-const STARTS: u64 = 4;
+const STARTS: u64 = 5;
 
 /// Such a search tries at most so many moves on all constraints, unless the budget is larger.
 const USUAL: u64 = 250_000;
+
+/// Such a search was near to meeting the hard constraints where its best games cost at most so much by these.
+const NEAR: u128 = 3;
 
 /// How long a search has been in vain, and how long it may be.
 #[derive(Clone, Copy)]
@@ -151,8 +154,8 @@ impl Walker {
         })
     }
 
-    /// Searches from the first games with the teams in random orders, and where none meets the hard constraints from
-    /// random double round robins, until no move may be tried any more, or nothing is left to lower.
+    /// Searches from the first games, also with the teams in random orders, and where none meets the hard constraints
+    /// from random double round robins, until no move may be tried any more, or nothing is left to lower.
     ///
     /// # Errors
     /// Only where memory runs out.
@@ -175,8 +178,9 @@ impl Walker {
         Ok(())
     }
 
-    /// Searches from the first games with the teams in random orders: while some moves are left, and where none meets
-    /// the hard constraints while more than two fifths are.
+    /// Searches from the first games, and again from these with the teams in a random order while moves are left. Where
+    /// no search meets the hard constraints it goes on only while more than two fifths of the moves are left, and one was
+    /// near.
     ///
     /// # Errors
     /// Only where memory runs out.
@@ -196,11 +200,11 @@ impl Walker {
     {
         let spare = self.left / 5 * 2;
         let moves = (self.left / STARTS).min((self.left / 32).max(USUAL));
-        'starts: for _start in 0..self.left / STRETCH + 1 {
-            if self.is_done() || (self.is_unmet() && self.left <= spare) {
+        'starts: for number in 0..self.left / STRETCH + 1 {
+            if self.is_done() || (number > 0 && self.is_far(spare)) {
                 return Ok(());
             }
-            self.relabel(alloc, league, start)?;
+            self.place(alloc, league, start, number)?;
             self.search_from_here(alloc, league, unit, moves)?;
         }
         Ok(())
@@ -233,9 +237,10 @@ impl Walker {
         self.left == 0 || (score.infeasibility == 0 && score.objective == 0)
     }
 
-    /// Whether the best games don't meet the hard constraints.
-    fn is_unmet(&self) -> bool {
-        self.best.score().infeasibility > 0
+    /// Whether the best games don't meet the hard constraints, and aren't near, or no more than some spare moves are left.
+    fn is_far(&self, spare: u64) -> bool {
+        let unmet = self.best.score().infeasibility;
+        unmet > NEAR || (unmet > 0 && self.left <= spare)
     }
 
     /// A usual change of the objective by a move from the games where it stands.
@@ -261,15 +266,17 @@ impl Walker {
         Ok(change)
     }
 
-    /// Goes to the first games, with the teams in a random order.
+    /// Goes to where the start with this number begins, from 0: the first one stays at the first games, and the others
+    /// begin at the same with the teams in a random order.
     ///
     /// # Errors
     /// Only where memory runs out.
-    fn relabel(
+    fn place(
         &mut self,
         alloc: Global,
         league: &League,
         start: &Schedule,
+        number: u64,
     ) -> Result<(), AllocError>
         requires walker { IsWalkerIn league.now self.old }
         requires fit { All (IsGame league.now.n) start.now }
@@ -278,6 +285,9 @@ impl Walker {
         ensures best { OnOk result (self.new.best ≡ self.old.best) }
         ensures left { OnOk result (self.new.left ≡ self.old.left) }
     {
+        if number == 0 {
+            return Ok(());
+        }
         self.stand_at(alloc, league, start)?;
         self.standing.shuffle(&mut self.random);
         Ok(())

@@ -16,12 +16,12 @@ pub starts-preserved : goal.starts-preserved
 starts-preserved c = record {
   walker = c.in_ok-search_from_here.ensures.walker;
   no_worse = IsNoWorse-both c.search_from_here.new.self.best.score c.starts.self.best.score c.args.self.now.best.score
-      (subst (λ (kept : Kept). IsNoWorse c.search_from_here.new.self.best.score kept.score) c.in_ok-relabel.ensures.best
+      (subst (λ (kept : Kept). IsNoWorse c.search_from_here.new.self.best.score kept.score) c.in_ok-place.ensures.best
       c.in_ok-search_from_here.ensures.no_worse) c.starts.invariant.no_worse;
   left = omega (
     arith,
     c.in_ok-search_from_here.ensures.left,
-    c.in_ok-relabel.ensures.left,
+    c.in_ok-place.ensures.left,
     c.starts.invariant.left,
   );
 }
