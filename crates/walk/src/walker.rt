@@ -179,7 +179,7 @@ impl Walker {
     }
 
     /// Searches from the first games, and again from these with the teams in a random order while moves are left. Where
-    /// no search meets the hard constraints it goes on only while more than two fifths of the moves are left, and one was
+    /// no search meets the hard constraints it goes on only while more than three fifths of the moves are left, and one was
     /// near.
     ///
     /// # Errors
@@ -198,7 +198,7 @@ impl Walker {
         ensures no_worse { OnOk result (IsNoWorse self.new.best.score self.old.best.score) }
         ensures left { OnOk result (self.new.left ≤ self.old.left) }
     {
-        let spare = self.left / 5 * 2;
+        let spare = self.left / 5 * 3;
         let moves = (self.left / STARTS).min((self.left / 32).max(USUAL));
         'starts: for number in 0..self.left / STRETCH + 1 {
             if self.is_done() || (number > 0 && self.is_far(spare)) {
