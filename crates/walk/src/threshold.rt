@@ -1,5 +1,5 @@
-//! How much worse a move may make a schedule: threshold accepting (Dueck and Scheuer 1990), by thresholds that are drawn
-//! as simulated annealing draws them (Kirkpatrick, Gelatt and Vecchi 1983).
+//! How much worse a move may make a schedule: threshold accepting (Dueck and Scheuer 1990), by thresholds that are
+//! drawn as simulated annealing draws them (Kirkpatrick, Gelatt and Vecchi 1983).
 
 use descent::Score;
 use rand_core::utils::NextWord;

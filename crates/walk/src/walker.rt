@@ -179,8 +179,8 @@ impl Walker {
     }
 
     /// Searches from the first games, and again from these with the teams in a random order while moves are left. Where
-    /// no search meets the hard constraints it goes on only while more than three fifths of the moves are left, and one was
-    /// near.
+    /// no search meets the hard constraints it goes on only while more than three fifths of the moves are left, and one
+    /// was near.
     ///
     /// # Errors
     /// Only where memory runs out.
@@ -237,7 +237,8 @@ impl Walker {
         self.left == 0 || (score.infeasibility == 0 && score.objective == 0)
     }
 
-    /// Whether the best games don't meet the hard constraints, and aren't near, or no more than some spare moves are left.
+    /// Whether the best games don't meet the hard constraints, and aren't near, or no more than the spare moves are
+    /// left.
     fn is_far(&self, spare: u64) -> bool {
         let unmet = self.best.score().infeasibility;
         unmet > NEAR || (unmet > 0 && self.left <= spare)
@@ -436,8 +437,8 @@ impl Walker {
         Ok(low)
     }
 
-    /// One stretch on all constraints, by the weights as they are. Gives the best games on the way by these weights, with
-    /// what they cost in the league.
+    /// One stretch on all constraints, by the weights as they are. Gives the best games on the way by these weights,
+    /// with what they cost in the league.
     ///
     /// # Errors
     /// Only where memory runs out.
