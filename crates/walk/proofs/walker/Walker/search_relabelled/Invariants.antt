@@ -1,0 +1,12 @@
+use Rattle.std.specs.Prelude.{◌≤◌}
+use Rattle.descent.specs.Score.{IsNoWorse}
+use Rattle.walk.specs.Standing.{IsWalkerIn}
+use Rattle.walk.proofs.walker.Walker.search_relabelled.Given as goal
+
+-- the walk goes on, and its best games aren't worse than at the start
+abbrev pub invariant-starts : goal.invariant-starts
+invariant-starts l = record {
+  walker : IsWalkerIn l.league l.self;
+  no_worse : IsNoWorse l.self.best.score l.initial.self.best.score;
+  left : l.self.left ≤ l.initial.self.left;
+}
