@@ -1,11 +1,13 @@
 -- Worked lines, so that a wrong definition does not check.
-use Rattle.std.proofs.Common.{◌≡◌, [], ◌∷◌, refl}
+use Rattle.std.proofs.Common.{◌≡◌, ℕ, [], ◌∷◌, refl}
 use Rattle.std.specs.Prelude.{codes}
 use Rattle.std.specs.Fmt.{digits}
-use Rattle.league.specs.Counts.{counts_of}
+use Rattle.league.specs.declared.game.Game.{Game}
 use Rattle.robinx_names.specs.Names.{Names}
-use Rattle.season_csv.specs.Order.{game, games_in_order}
 use Rattle.season_csv.specs.Csv.{defused, field_text, numbered, game_line, csv_text}
+
+abbrev game : ℕ → ℕ → ℕ → Game
+game i j s = record { home = record { 0 = i }; away = record { 0 = j }; slot = record { 0 = s } }
 
 -- the four signs that begin a formula, and only at the front
 pub defused-some : (defused (codes "=1+1") ≡ codes "'=1+1") × (defused (codes "+A") ≡ codes "'+A") × (defused (codes "-A") ≡ codes "'-A") × (defused (codes "@A") ≡ codes "'@A") × (defused (codes "A=1") ≡ codes "A=1") × (defused [] ≡ [])
@@ -33,7 +35,3 @@ game_line-some = refl
 pub csv_text-some : csv_text some_names (game 3 0 0 ∷ game 0 3 3 ∷ []) ≡ codes "slot,slot_name,home,home_name,away,away_name\r\n0,Sat 1 May,3,Dam,0,\"A & B, \"\"old\"\"\"\r\n3,,0,\"A & B, \"\"old\"\"\",3,Dam\r\n"
 unfolding digits
 csv_text-some = refl
-
--- by slot, then home team; a game that is played twice stands twice
-pub games_in_order-some : games_in_order 2 (counts_of (game 1 0 1 ∷ game 1 0 0 ∷ game 0 1 0 ∷ game 1 0 1 ∷ [])) ≡ game 0 1 0 ∷ game 1 0 0 ∷ game 1 0 1 ∷ game 1 0 1 ∷ []
-games_in_order-some = refl

@@ -4,7 +4,5 @@
 #![tactic(auto)]
 
 mod csv;
-mod order;
 
 pub use csv::season_csv;
-pub use order::games_in_order;
