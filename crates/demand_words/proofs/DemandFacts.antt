@@ -1,5 +1,5 @@
 -- The sentences of each class in a league of four teams.
-use Rattle.std.proofs.Common.{◌≡◌, ℕ, List, [], ◌∷◌, ◌++◌, codes, refl, true, false}
+use Rattle.std.proofs.Common.{◌≡◌, ℕ, List, [], ◌∷◌, codes, refl, true}
 use Rattle.std.specs.Fmt.{digits}
 use Rattle.league.specs.declared.class.Class.{Class}
 use Rattle.league.specs.declared.class.Class.TheVariants.{Ca1, Ca2, Ca3, Ca4, Ga1, Br1, Br2, Fa2, Se1}
@@ -7,7 +7,7 @@ use Rattle.league.specs.declared.class.Side.TheVariants.{H, A, Both}
 use Rattle.league.specs.declared.class.Span.TheVariants.{Global, Every}
 use Rattle.league.proofs.DoubleFour.{all_slots, all_teams}
 use Rattle.demand_words.specs.Demands.{constraint_text, demand_text}
-use Rattle.demand_words.specs.Phrases.{runs_of, slots_list}
+use Rattle.demand_words.specs.Phrases.{slots_list}
 
 abbrev names : List (List ℕ)
 names = codes "Ajax" ∷ codes "Brug" ∷ codes "Club" ∷ codes "Dam" ∷ []

@@ -1,5 +1,5 @@
 -- The sentence of a GA1 of many meetings.
-use Rattle.std.proofs.Common.{◌≡◌, ℕ, ◌<◌, ◌≤◌, List, [], ◌∷◌, ◌++◌, length, map, codes, refl, arith, ap, sym, ◌∙◌}
+use Rattle.std.proofs.Common.{◌≡◌, ℕ, ◌≤◌, List, [], ◌∷◌, ◌++◌, length, map, codes, refl, arith, ap, sym, ◌∙◌}
 use Rattle.demand_words.specs.Demands.{meeting_text, meetings_text}
 use Rattle.demand_words.specs.Phrases.{bare_bounds_text, listed}
 

@@ -1,5 +1,5 @@
 -- Of the classes whose entries are single numbers of games, a game counts for an entry exactly where it touches its key.
-use Rattle.std.proofs.Common.{◌≡◌, ◌≢◌, ℕ, ◌+◌, ◌-◌, ◌<◌, ◌≤◌, zero, suc, Bool, true, false, ◌&&◌, cond, List, [], ◌∷◌, length, get_or, refl, arith, ap, subst, sym, ◌∙◌, inl, inr, Contains}
+use Rattle.std.proofs.Common.{◌≡◌, ℕ, ◌+◌, ◌-◌, ◌<◌, ◌≤◌, zero, suc, Bool, true, false, ◌&&◌, cond, List, [], ◌∷◌, length, get_or, refl, arith, ap, subst, sym, ◌∙◌, inl, inr, Contains}
 use Rattle.std.proofs.Math.Path.{fun_ext}
 use Rattle.std.proofs.lemmas.Bool.{cases_Bool, cond_both}
 use Rattle.std.proofs.lemmas.List.{get_or_default}
@@ -20,8 +20,7 @@ use Rattle.keys.proofs.KeyLemmas.{places_from-has}
 use Rattle.rule_core.specs.Touched.{plays_against, plays_on, touched_keys}
 use Rattle.reasons.specs.Counting.{counts_in_ca1, counts_in_ca2, counts_in_ca4, counts_in_ga1}
 use Rattle.reasons.specs.Laws.{ListAllTouching, games_in}
-use Rattle.reasons.specs.Reasons.{reasons_at, where_missed}
-use Rattle.reasons.specs.declared.reason.Cause.{Cause}
+use Rattle.reasons.specs.Reasons.{where_missed}
 use Rattle.reasons.specs.declared.reason.Cause.TheVariants.{Games}
 use Rattle.reasons.specs.declared.reason.Reason.{Reason}
 
