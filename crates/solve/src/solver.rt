@@ -33,15 +33,15 @@ use std::alloc::{AllocError, Global};
 /// circle method where the league accepts it. Where it doesn't, a search for patterns comes first, which learns at most
 /// as many clauses as the budget of patterns says: a log that refutes the pattern rows is the answer, and patterns that
 /// it finds are what the search over all rows decides first. Each later try searches in another random order. Each try
-/// that doesn't start from that schedule also walks, first from it, also with its teams in random orders, and where
-/// that finds none from random ones, by moves that its seed draws: at most a hundred for each that its descent may
-/// make, and a hundred for each move that there is of so many teams, as often as 10,000 go into the moves of the
-/// descent; behind its search, where that is limited, and else before it, and then a schedule that the walk finds takes
-/// the search's place. With a limit of conflicts the search of a try learns at most so many clauses, and then its log
-/// is the answer, with what is known of the patterns; without one it goes on to the end. From a schedule that is
-/// accepted a descent goes on by moves to better ones, at most so many moves a try. The schedule of the least objective
-/// is the answer, of equal ones the earliest; a refutation is the answer at once. What a search finds first is not
-/// promised, and an objective is the schedule's own, not the least of all.
+/// that doesn't start from that schedule also walks, first from it and then from random ones, by moves that its seed
+/// draws: at most a hundred for each that its descent may make, and a hundred for each move that there is of so many
+/// teams, as often as 10,000 go into the moves of the descent; behind its search, where that is limited, and else
+/// before it, and then a schedule that the walk finds takes the search's place. With a limit of conflicts the search of
+/// a try learns at most so many clauses, and then its log is the answer, with what is known of the patterns; without
+/// one it goes on to the end. From a schedule that is accepted a descent goes on by moves to better ones, at most so
+/// many moves a try. The schedule of the least objective is the answer, of equal ones the earliest; a refutation is the
+/// answer at once. What a search finds first is not promised, and an objective is the schedule's own, not the least of
+/// all.
 ///
 /// # Errors
 /// `TooLarge` exactly where the league's rows have more than 40,000,000 terms, with their number, before anything

@@ -1,6 +1,6 @@
 //! The best games so far.
-ghost use Rattle.std.specs.Prelude.{◌≡◌, ℕ, Bool, ◌*◌, ◌≤◌, length, vec_capacity, IfOk};
-ghost use Rattle.league.specs.Counts.{Counts, counts_of};
+ghost use Rattle.std.specs.Prelude.{◌≡◌, ◌*◌, ◌≤◌, length, vec_capacity, IfOk};
+ghost use Rattle.league.specs.Counts.{Counts};
 ghost use Rattle.league.specs.Instance.{Instance};
 ghost use Rattle.moves.specs.Round.{round_counts};
 ghost use Rattle.descent.specs.Score.{IsNoWorse};
@@ -56,47 +56,6 @@ impl Kept {
             copy_games(board, &mut self.games);
             self.score = score;
         }
-    }
-
-    /// The same games, whose score is this one by another count.
-    pub(crate) fn scored(self, score: Score) -> Kept
-        ensures kept { (n : ℕ) (phased : Bool) (other cost : Counts → Score) → IsKept n phased other self
-            → score ≡ cost (counts_of self.games.items) → IsKept n phased cost result }
-        ensures score { result.score ≡ score }
-    {
-        Kept {
-            games: self.games,
-            score,
-        }
-    }
-
-    /// Becomes other games where their score is lower.
-    pub(crate) fn keep_lower(&mut self, other: Kept)
-        ensures kept { (n : ℕ) (phased : Bool) (cost : Counts → Score) → IsKept n phased cost self.old
-            → IsKept n phased cost other → IsKept n phased cost self.new }
-        ensures no_worse { IsNoWorse self.new.score self.old.score }
-    {
-        if other.score.is_lower(self.score) {
-            *self = other;
-        }
-    }
-
-    /// The games.
-    pub(crate) fn games(&self) -> &[Game]
-        ensures { result.now ≡ self.now.games.items }
-    {
-        &self.games
-    }
-
-    /// The games as a schedule.
-    ///
-    /// # Errors
-    /// Only where memory runs out.
-    pub(crate) fn schedule(&self, alloc: Global) -> Result<Schedule, AllocError>
-        ensures { IfOk result (λ schedule. schedule ≡ self.now.games.items) }
-    {
-        let schedule = listed(alloc, &self.games)?;
-        Ok(schedule)
     }
 
     /// What the games cost.

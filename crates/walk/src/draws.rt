@@ -80,7 +80,7 @@ fn two_slots(random: &mut Pcg32, n: u16, phased: bool) -> Pair
 }
 
 /// A move of two teams.
-pub(crate) fn home_swap(random: &mut Pcg32, n: u16) -> Swap
+fn home_swap(random: &mut Pcg32, n: u16) -> Swap
     requires teams { IsTeamCount n }
     ensures league { IsOfLeague n result }
 {
@@ -143,46 +143,19 @@ fn part_team_swap(random: &mut Pcg32, n: u16) -> Swap
     }
 }
 
-/// How often each kind of move is drawn: so many of 256 draws, and a move of two teams and a slot in the others.
-#[derive(Clone, Copy)]
-pub(crate) struct Mix {
-    home: u16,
-    round: u16,
-    team: u16,
-    part_round: u16,
-}
-
-/// Mostly moves that touch a part of two rounds or of two teams' games.
-pub(crate) const PARTS: Mix = Mix {
-    home: 62,
-    round: 1,
-    team: 2,
-    part_round: 96,
-};
-
-/// More moves of whole rounds and of whole teams, which leave the breaks of the circle method's season as they are.
-pub(crate) const WHOLES: Mix = Mix {
-    home: 60,
-    round: 8,
-    team: 40,
-    part_round: 80,
-};
-
-/// A move of a league of n teams.
-pub(crate) fn drawn_move(random: &mut Pcg32, n: u16, phased: bool, mix: Mix) -> Swap
+/// A move of a league of n teams: mostly one that touches a part of two rounds or of two teams' games.
+pub(crate) fn drawn_move(random: &mut Pcg32, n: u16, phased: bool) -> Swap
     requires teams { IsTeamCount n }
     ensures league { IsOfLeague n result }
 {
     let kind = below(random, 256);
-    let rounds = mix.home.saturating_add(mix.round);
-    let teams = rounds.saturating_add(mix.team);
-    if kind < mix.home {
+    if kind < 62 {
         home_swap(random, n)
-    } else if kind < rounds {
+    } else if kind < 63 {
         round_swap(random, n, phased)
-    } else if kind < teams {
+    } else if kind < 65 {
         team_swap(random, n)
-    } else if kind < teams.saturating_add(mix.part_round) {
+    } else if kind < 161 {
         part_round_swap(random, n, phased)
     } else {
         part_team_swap(random, n)

@@ -1,4 +1,4 @@
-//! The tally of a league's constraints in parts, by weights.
+//! The tally of a league's hard constraints alone, in parts, by weights.
 ghost use Rattle.std.specs.Prelude.{◌≡◌, ◌*◌, ◌<◌, ◌≤◌, ◌^◌, length, IfOk, IsTrue, OnOk};
 ghost use Rattle.std.specs.List.{All};
 ghost use Rattle.league.specs.Counts.{counts_of};
@@ -16,11 +16,11 @@ use tally::{Tally, Weighted};
 /// The most parts that a tally has.
 const MOST: usize = 1_000_000;
 
-/// The tally of parts of a league's constraints on these games, each by its weight.
+/// The tally of a league's hard constraints on these games, in parts, each by its weight.
 ///
 /// # Errors
 /// Only where memory runs out.
-pub(crate) fn weighted_tally<L>(
+pub(crate) fn hard_tally<L>(
     alloc: Global,
     league: &League,
     weights: &Weights,
@@ -103,7 +103,7 @@ fn weighted_part(
 {
     Ok(Weighted {
         rule: AnyRule::new(alloc, n, part)?,
-        hard: part.hard,
+        hard: true,
         penalty: weight,
     })
 }

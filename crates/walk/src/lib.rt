@@ -1,13 +1,13 @@
 //! A walk over double round robins by random moves, and the best one that was seen.
 //!
-//! `walk` keeps the best of the double round robin from which it starts and of those that it comes by. It walks from
-//! that one, and then from the same with the teams in random orders, on all constraints together: by moves that may
-//! cost a little more, less as time goes on, and by weights of the hard constraints' parts that grow while they aren't
-//! met. Where that doesn't come near the hard constraints it searches from random double round robins, one search after
-//! another until its budget is spent: first by the hard constraints alone, some of the moves aimed at what isn't met,
-//! and then on all. What `walk` gives is the best double round robin that it stood on at the end of a stretch of moves,
-//! or that it came by in a stretch on all constraints and judged best there by their weights, with what the league's
-//! constraints cost on it. Which moves it draws and which it makes is not promised.
+//! `walk` keeps the best of the double round robin from which it starts and of those that it comes by. It searches from
+//! that one first, not for long where it is in vain, and then from random ones, one search after another until its
+//! budget is spent. A search looks for games that meet the hard
+//! constraints first: by moves that may cost a little more, some of them aimed at what isn't met, and by weights of the
+//! constraints' parts that grow while they aren't met. Among schedules that are accepted it then looks for those that
+//! cost less. What `walk` gives is the best double round robin that it stood on at the end of a stretch of moves or of
+//! a search, or that it came by once nothing hard was unmet, with what the league's constraints cost on it. Which moves
+//! it draws and which it makes is not promised.
 #![tactic(auto)]
 
 mod afresh;
@@ -18,7 +18,6 @@ mod draws;
 mod factors;
 mod hard;
 mod parts;
-mod scale;
 mod standing;
 mod threshold;
 mod walked;

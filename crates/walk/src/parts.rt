@@ -22,20 +22,6 @@ pub(crate) fn hard_parts(alloc: Global, league: &League) -> Result<Vec<Constrain
     Ok(parts)
 }
 
-/// The same, and behind them each soft constraint as it is.
-///
-/// # Errors
-/// Only where memory runs out.
-pub(crate) fn all_parts(alloc: Global, league: &League) -> Result<Vec<Constraint>, AllocError> {
-    let mut parts = hard_parts(alloc, league)?;
-    for constraint in league.constraints() {
-        if !constraint.hard {
-            parts.push(constraint.copy()?)?;
-        }
-    }
-    Ok(parts)
-}
-
 /// Adds the parts of a constraint.
 ///
 /// # Errors

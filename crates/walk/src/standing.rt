@@ -12,8 +12,8 @@ ghost use Rattle.walk.specs.Standing.{IsKept, IsStandingOn};
 
 use crate::aims::aim_at;
 use crate::best::Kept;
-use crate::draws::{Mix, PARTS, aimed_move, below, drawn_move};
-use crate::threshold::{Cooling, Threshold};
+use crate::draws::{aimed_move, below, drawn_move};
+use crate::threshold::Threshold;
 use descent::Score;
 use league::{Constraint, Schedule, TeamId};
 use moves::{Board, Edit, Swap, edit_of};
@@ -30,32 +30,6 @@ const AIMED: u16 = 64;
 
 /// A move of parts of rounds or of teams' games that takes out more games isn't tried: hardly one is ever made.
 const LONGEST: usize = 12;
-
-/// The temperature at which moves are drawn that are to meet the hard constraints: two, in 256ths.
-const MEETING: u64 = 512;
-
-/// What some moves are to lower: how many are tried at most, how they are drawn, how the temperature falls on the way,
-/// and whether what the hard rules cost is judged together with the objective.
-#[derive(Clone, Copy)]
-pub(crate) struct Stage {
-    pub(crate) limit: u64,
-    pub(crate) mix: Mix,
-    pub(crate) cooling: Cooling,
-    pub(crate) both: bool,
-}
-
-impl Stage {
-    /// A threshold that is drawn behind so many moves.
-    fn threshold(self, random: &mut Pcg32, tried: u64) -> Threshold {
-        let left = self.limit.saturating_sub(tried);
-        let rise = Threshold::rise(random, self.cooling.at(left, self.limit));
-        if self.both {
-            Threshold::Both(rise)
-        } else {
-            Threshold::Soft(rise)
-        }
-    }
-}
 
 /// A double round robin on a board, and room for the games of a move.
 #[derive(Drop)]
@@ -109,8 +83,7 @@ impl Standing {
                 return tried;
             }
             let step = self.hard_move(random, parts, tally);
-            let threshold = Threshold::Hard(Threshold::rise(random, MEETING));
-            let legal = self.attempt(step, threshold, tally, steps);
+            let legal = self.attempt(step, Threshold::hard(random), tally, steps);
             tried = with_move(tried, limit, legal);
         }
         tried
@@ -130,15 +103,16 @@ impl Standing {
         {
             return aimed_move(random, &self.board, aim);
         }
-        drawn_move(random, self.board.n(), self.board.phased(), PARTS)
+        drawn_move(random, self.board.n(), self.board.phased())
     }
 
-    /// Tries moves until so many were legal as a stage says, or the rules cost nothing: each is made where its score
-    /// passes a drawn threshold. The best games on the way are kept. Says how many moves were tried.
+    /// Tries moves until so many were legal, or the soft rules cost nothing: each is made where the hard rules cost no
+    /// more, and the soft ones not much more, by a threshold that falls. The best games on the way are kept. Says how
+    /// many moves were tried.
     pub(crate) fn improve<R: Rule<L>, L>(
         &mut self,
         random: &mut Pcg32,
-        stage: Stage,
+        limit: u64,
         best: &mut Kept,
         tally: &mut Tally<R>,
         steps: &mut Steps<L>,
@@ -150,19 +124,17 @@ impl Standing {
             self.new }
         ensures best { IsKept tally.old.table.n self.old.board.phased (score_on R.Entries tally.old.weights) best.new }
         ensures no_worse { IsNoWorse best.new.score best.old.score }
-        ensures tried { result ≤ stage.limit }
+        ensures tried { result ≤ limit }
     {
         let n = self.board.n();
         let phased = self.board.phased();
-        let limit = stage.limit;
         let mut tried = 0;
         'draws: for _drawn in 0..limit.saturating_mul(DRAWS) {
-            if tried == limit || (tally.infeasibility() == 0 && tally.objective() == 0) {
+            if tried == limit || tally.objective() == 0 {
                 return tried;
             }
-            let step = drawn_move(random, n, phased, stage.mix);
-            let threshold = stage.threshold(random, tried);
-            let legal = self.attempt(step, threshold, tally, steps);
+            let step = drawn_move(random, n, phased);
+            let legal = self.attempt(step, Threshold::soft(limit - tried, limit), tally, steps);
             tried = with_move(tried, limit, legal);
             best.keep(&self.board, Score::of(tally));
         }
@@ -189,9 +161,9 @@ impl Standing {
         if !edit_of(&step, &self.board, &mut self.edit) || self.is_long(&step) {
             return false;
         }
-        let before = Score::of(tally);
-        let within = tally.weigh_within(&self.edit, threshold.most(before), steps);
-        if !threshold.lets(before, within) {
+        let most = threshold.most(Score::of(tally));
+        let within = tally.weigh_within(&self.edit, most, steps);
+        if within.is_none() {
             return true;
         }
         tally.apply(&self.edit, steps);

@@ -56,7 +56,7 @@ pub fn walk(
     ensures tried { IfOk result (λ walked. walked.tried ≤ budget) }
 {
     let mut walker = Walker::new(alloc, league, start, seed, budget)?;
-    walker.search(alloc, league, start)?;
+    walker.search(alloc, league)?;
     let tried = budget - walker.left();
     let best = walker.into_kept().into_best(alloc)?;
     Ok(Walked { best, tried })
