@@ -1,5 +1,5 @@
 //! Logs over bound rows.
-ghost use Rattle.std.specs.Prelude.{◌≡◌, ℕ, ◌-◌, ◌<◌, ◌≤◌, IfOk, IsOk, Ok, Err};
+ghost use Rattle.std.specs.Prelude.{◌≡◌, ◌-◌, ◌≤◌, IfOk, Ok};
 ghost use Rattle.bound_base.specs.BoundRows.{bound_rows, bound_size, bound_vars};
 ghost use Rattle.bound_laws.specs.Faithful.{IsLowerBound};
 ghost use Rattle.encoding.specs.Capped.{capped};

@@ -1,5 +1,5 @@
 //! The bound rows of a league and a bound.
-ghost use Rattle.std.specs.Prelude.{◌≡◌, ℕ, ◌<◌, ◌≤◌, IfOk, IsOk, Err};
+ghost use Rattle.std.specs.Prelude.{◌≡◌, ◌≤◌, IfOk};
 ghost use Rattle.league.specs.Instance.{IsInstance};
 ghost use Rattle.encoding_base.specs.Known.{AreKnown};
 ghost use Rattle.bound_base.specs.BoundRows as bounds;

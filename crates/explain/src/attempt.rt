@@ -1,5 +1,5 @@
 //! One try: a league, or that of some hard constraints alone, is solved. Nothing else of the crate knows of the solver.
-ghost use Rattle.std.specs.Prelude.{◌≡◌, ℕ, ◌<◌, ◌≤◌, true, IfOk, IsOk, Err};
+ghost use Rattle.std.specs.Prelude.{◌≡◌, ◌≤◌, true, IfOk};
 ghost use Rattle.std.specs.List.{All};
 ghost use Rattle.std.specs.Ordering.{nat_cmp};
 ghost use Rattle.league.specs.Accepted.{IsAccepted};

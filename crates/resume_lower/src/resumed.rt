@@ -1,5 +1,5 @@
 //! A season resumed, and made better.
-ghost use Rattle.std.specs.Prelude.{◌≡◌, ℕ, ◌<◌, ◌≤◌, length, IfOk, IsOk, Err};
+ghost use Rattle.std.specs.Prelude.{◌≤◌, length, IfOk};
 ghost use Rattle.std.specs.List.{All};
 ghost use Rattle.league.specs.Accepted.{IsAccepted};
 ghost use Rattle.league.specs.Counts as counts;
