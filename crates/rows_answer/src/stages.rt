@@ -68,6 +68,6 @@ pub fn rows_file<S: Shelf>(
     ensures contents { (n : List ℕ) → S.contents shelf.new n ≡ S.contents shelf.old n }
 {
     let bytes = file(alloc, shelf, "instance", instance, INSTANCE_LIMIT)?;
-    let league = league_in(alloc, &bytes)?;
+    let league = league_in(alloc, instance, &bytes)?;
     rows_of(alloc, &league, bound)
 }

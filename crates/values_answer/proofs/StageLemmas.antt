@@ -8,7 +8,8 @@ use Rattle.robinx_read.specs.declared.instance.TheConstants.{INSTANCE_LIMIT}
 use Rattle.answers.specs.Reply.{Answer, too_large}
 use Rattle.answers.specs.Stages.{IsFile, IsUnread, takes}
 use Rattle.answers.proofs.StageLemmas.{says-value}
-use Rattle.check_answer.specs.Check.{encodes, most_log_bytes, most_terms}
+use Rattle.check_answer.specs.Check.{encodes, most_log_bytes}
+use Rattle.encoding.specs.Limit.{most_terms}
 use Rattle.rows.specs.Literals.{Literal}
 use Rattle.encoding_base.specs.Encoding.{encoding_size, rows_of}
 use Rattle.values_read.specs.Values.{values_of}

@@ -8,7 +8,7 @@ ghost use Rattle.encoding_base.specs.Encoding.{encoding_size, rows_of};
 ghost use Rattle.values_read.specs.Values.{values_of};
 ghost use Rattle.values_answer.specs.Faults.{IsMalformed};
 ghost use Rattle.values_answer.specs.Valued.{IsValued, says_values, valued};
-ghost use Rattle.check_answer.specs.Check.{most_terms};
+ghost use Rattle.encoding.specs.Limit.{most_terms};
 
 use crate::replies::{values_refused, values_reply};
 use answers::{NoValue, Reply, file, league_in, rows_refused};
@@ -79,7 +79,7 @@ pub fn values_file<S: Shelf>(
     ensures contents { (n : List ℕ) → S.contents shelf.new n ≡ S.contents shelf.old n }
 {
     let first = file(alloc, shelf, "instance", instance, INSTANCE_LIMIT)?;
-    let league = league_in(alloc, &first)?;
+    let league = league_in(alloc, instance, &first)?;
     let encoding = encoding_of(alloc, &league)?;
     let second = file(alloc, shelf, "values", values, LOG_LIMIT)?;
     judge_values(alloc, &second, &league, &encoding)

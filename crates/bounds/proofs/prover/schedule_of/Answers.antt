@@ -28,4 +28,4 @@ pub returns-in_err-encoding-clause-only : goal.returns-in_err-encoding-clause-on
 returns-in_err-encoding-clause-only c = λ terms is.
     let p = err_from_is_err_and c.from_residual.result c.from_residual.ensures.1 in
     let fault : c.in_err-encoding.field-0.0 ≡ TooLarge terms = cc (p.1, p.2, is) in
-    omega (arith, encoding-le c.args.league.now, c.in_err-encoding.ensures.only terms (cc fault))
+    omega (arith, encoding-le c.args.league.now, c.in_err-encoding.ensures.limit.only terms (cc fault))

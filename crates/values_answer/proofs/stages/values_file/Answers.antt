@@ -9,7 +9,8 @@ use Rattle.answers.specs.Reply.{too_large}
 use Rattle.answers.specs.SeenReply.{Answers}
 use Rattle.answers.specs.Stages.{IsFile, IsUnread}
 use Rattle.answers.proofs.StageLemmas.{Answers-wider, unread-end}
-use Rattle.check_answer.specs.Check.{most_log_bytes, most_terms}
+use Rattle.check_answer.specs.Check.{most_log_bytes}
+use Rattle.encoding.specs.Limit.{most_terms}
 use Rattle.encoding_base.specs.Encoding.{encoding_size}
 use Rattle.values_answer.proofs.StageLemmas.{valued-large, valued-last, valued-unread}
 use Rattle.values_answer.proofs.stages.values_file.Goals as goal
