@@ -31,6 +31,7 @@ impl Bench {
     }
 
     /// Finds the keys of a rule that a game touches.
+    #[inline(always)]
     fn add_game<R: Entries>(&mut self, rule: &R, game: Game)
         requires room { HasRoom R.Entries rule.now self.old }
         requires fits { IsGame (R.team_count rule.now) game }
@@ -42,6 +43,7 @@ impl Bench {
     }
 
     /// Finds the keys of a rule that some games touch.
+    #[inline(always)]
     pub(crate) fn add_games<R: Entries>(&mut self, rule: &R, games: &[Game])
         requires room { HasRoom R.Entries rule.now self.old }
         requires fit { All (IsGame (R.team_count rule.now)) games.now }
@@ -53,6 +55,7 @@ impl Bench {
     }
 
     /// Finds the keys of a rule that the games touch that are listed at some teams.
+    #[inline(always)]
     pub(crate) fn add_teams<R: Entries>(&mut self, rule: &R, teams: &[TeamId], lists: &[GameList])
         requires room { HasRoom R.Entries rule.now self.old }
         requires teams { All (λ t. t.0 < length lists.now) teams.now }
@@ -68,6 +71,7 @@ impl Bench {
 }
 
 /// Adds some keys to a set, each unless it is there.
+#[inline(always)]
 fn add_keys(found: &mut KeySet, keys: &Keys)
     requires { All (λ k. k < found.old.room) keys.now.list }
     ensures { AreAdded keys.now.list found.old found.new }

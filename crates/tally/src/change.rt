@@ -53,6 +53,7 @@ impl<'a> Change<'a> {
     }
 
     /// The counts to which the change led.
+    #[inline(always)]
     pub(crate) fn cells(&self) -> &Cells
         ensures { result.now ≡ self.now.table }
     {
@@ -60,6 +61,7 @@ impl<'a> Change<'a> {
     }
 
     /// Finds the keys of a rule that the change touches at a clean bench, each once.
+    #[inline(always)]
     pub(crate) fn find_keys<R: Entries>(&self, kept: &Kept<R>, bench: &mut Bench)
         requires ready { IsReady R.Entries self.now.table.n bench.old.found.room kept.now }
         requires reach { R.reach_of kept.now.weighted.rule ≤ bench.old.keys.room }
@@ -74,6 +76,7 @@ impl<'a> Change<'a> {
 
     /// Adds the keys of a rule that the change touches. A rule that watches few teams is asked for the games of these
     /// alone, where the games are listed by team.
+    #[inline(always)]
     fn add_keys<R: Entries>(&self, kept: &Kept<R>, bench: &mut Bench)
         requires ready { IsReady R.Entries self.now.table.n bench.old.found.room kept.now }
         requires reach { R.reach_of kept.now.weighted.rule ≤ bench.old.keys.room }
