@@ -1,205 +1,178 @@
-//! Single parts. Each is made of sets that are all there, so that no way out holds some.
-ghost use Rattle.std.specs.Prelude.{◌≡◌, ◌<◌, ◌+◌, ◌^◌, [], ◌∷◌, IfOk};
-ghost use Rattle.std.specs.Ordering.{nat_cmp};
+//! Single parts of a class. Each is made of sets that are all there, so that no way out holds some.
+ghost use Rattle.std.specs.Prelude.{◌≡◌, ◌<◌, ◌+◌, ◌^◌, [], ◌∷◌, IfOk, IsTrue};
 ghost use Rattle.std.specs.List.{range_with_len};
-ghost use Rattle.league.specs.Sets.{IsAscending};
+ghost use Rattle.league.specs.Names.{name_of};
+ghost use Rattle.bound_parts.specs.OneOf.{is_by_team, of_pair, of_slots, of_team, of_window};
 
-use crate::sets::{one_slot, one_team, slot_set, slots_from, team_set, two_teams};
-use league::{Class, Side, SlotSet, Span, TeamSet};
+use crate::sets::{one_team, slot_set, slots_from, team_set, two_teams};
+use league::{Class, ClassName, SlotSet, Span, TeamSet};
 use std::alloc::{AllocError, Global};
 
-/// How often something is to take place: from `min` to `max` times, on a side.
-#[derive(Clone, Copy)]
-pub(crate) struct Bounds {
-    pub(crate) min: u32,
-    pub(crate) max: u32,
-    pub(crate) side: Side,
+/// The part of a CA1, a CA2 or a BR1 that speaks of one team.
+pub(crate) fn team_part(alloc: Global, class: &Class, team: u16) -> Result<Class, AllocError>
+    requires { IsTrue (is_by_team class.now) }
+    ensures { IfOk result (λ part. part ≡ of_team class.now team) }
+{
+    match class {
+        Class::Ca1 {
+            min,
+            max,
+            side,
+            slots,
+            ..
+        } => {
+            let (teams, slots) = team_and_slots(alloc, team, slots)?;
+            Ok(Class::Ca1 {
+                teams,
+                min: *min,
+                max: *max,
+                side: *side,
+                slots,
+            })
+        }
+        Class::Br1 {
+            intp,
+            side,
+            slots,
+            ..
+        } => {
+            let (teams, slots) = team_and_slots(alloc, team, slots)?;
+            Ok(Class::Br1 {
+                teams,
+                intp: *intp,
+                side: *side,
+                slots,
+            })
+        }
+        _ => ca2_part(alloc, class, team),
+    }
 }
 
-/// CA1 of one team.
-pub(crate) fn ca1_part(
-    alloc: Global,
-    team: u16,
-    bounds: Bounds,
-    slots: &[u16],
-) -> Result<Class, AllocError>
-    requires { IsAscending nat_cmp slots.now }
-    ensures { IfOk result (λ part. part ≡ Class.Ca1 (team ∷ []) bounds.min bounds.max bounds.side slots.now) }
+/// The part of a CA2 that speaks of one of its first teams.
+fn ca2_part(alloc: Global, class: &Class, team: u16) -> Result<Class, AllocError>
+    requires { name_of class.now ≡ ClassName.Ca2 }
+    ensures { IfOk result (λ part. part ≡ of_team class.now team) }
 {
-    let (teams, slots) = team_and_slots(alloc, team, slots)?;
-    Ok(Class::Ca1 {
-        teams,
-        min: bounds.min,
-        max: bounds.max,
-        side: bounds.side,
+    let Class::Ca2 {
+        teams2,
+        min,
+        max,
+        side,
         slots,
-    })
-}
-
-/// A set of one team and one of slots.
-fn team_and_slots(alloc: Global, team: u16, slots: &[u16]) -> Result<(TeamSet, SlotSet), AllocError>
-    requires { IsAscending nat_cmp slots.now }
-    ensures teams { IfOk result (λ sets. sets.0 ≡ team ∷ []) }
-    ensures slots { IfOk result (λ sets. sets.1 ≡ slots.now) }
-{
-    Ok((one_team(alloc, team)?, slot_set(alloc, slots)?))
-}
-
-/// CA2 of one team.
-pub(crate) fn ca2_part(
-    alloc: Global,
-    team: u16,
-    teams2: &[u16],
-    bounds: Bounds,
-    slots: SlotSet,
-) -> Result<Class, AllocError>
-    requires { IsAscending nat_cmp teams2.now }
-    ensures { IfOk result (λ part. part
-        ≡ Class.Ca2 (team ∷ []) teams2.now bounds.min bounds.max bounds.side slots) }
-{
-    let teams1 = one_team(alloc, team)?;
-    let teams2 = team_set(alloc, teams2)?;
+        ..
+    } = class
+    else {
+        unreachable!()
+    };
+    let (teams1, slots) = team_and_slots(alloc, team, slots)?;
+    let teams2 = team_set(alloc, teams2.numbers())?;
     Ok(Class::Ca2 {
         teams1,
         teams2,
-        min: bounds.min,
-        max: bounds.max,
-        side: bounds.side,
+        min: *min,
+        max: *max,
+        side: *side,
         slots,
     })
 }
 
-/// CA2 of one team in some slots.
-pub(crate) fn ca2_part_in(
+/// A set of one team, and one of the same slots.
+fn team_and_slots(
     alloc: Global,
     team: u16,
-    teams2: &[u16],
-    bounds: Bounds,
-    slots: &[u16],
-) -> Result<Class, AllocError>
-    requires teams2 { IsAscending nat_cmp teams2.now }
-    requires slots { IsAscending nat_cmp slots.now }
-    ensures { IfOk result (λ part. part
-        ≡ Class.Ca2 (team ∷ []) teams2.now bounds.min bounds.max bounds.side slots.now) }
+    slots: &SlotSet,
+) -> Result<(TeamSet, SlotSet), AllocError>
+    ensures teams { IfOk result (λ sets. sets.0 ≡ team ∷ []) }
+    ensures slots { IfOk result (λ sets. sets.1 ≡ slots.now) }
 {
-    let slots = slot_set(alloc, slots)?;
-    ca2_part(alloc, team, teams2, bounds, slots)
+    Ok((one_team(alloc, team)?, slot_set(alloc, slots.numbers())?))
 }
 
-/// CA2 of one team in so many slots on end.
-pub(crate) fn ca2_part_from(
+/// The part of a CA3 that speaks of one of its first teams in one window: a CA2 of so many slots on end.
+pub(crate) fn window_part(
     alloc: Global,
+    class: &Class,
     team: u16,
-    teams2: &[u16],
-    bounds: Bounds,
     first: u16,
     count: u16,
 ) -> Result<Class, AllocError>
-    requires teams2 { IsAscending nat_cmp teams2.now }
+    requires class { name_of class.now ≡ ClassName.Ca3 }
     requires slots { first + count < 2 ^ 16 }
-    ensures { IfOk result (λ part. part ≡ Class.Ca2 (team ∷ []) teams2.now bounds.min bounds.max bounds.side
-        (range_with_len first count)) }
+    ensures { IfOk result (λ part. part ≡ of_window class.now team (range_with_len first count)) }
 {
+    let Class::Ca3 {
+        teams2,
+        min,
+        max,
+        side,
+        ..
+    } = class
+    else {
+        unreachable!()
+    };
+    let teams1 = one_team(alloc, team)?;
+    let teams2 = team_set(alloc, teams2.numbers())?;
     let slots = slots_from(alloc, first, count)?;
-    ca2_part(alloc, team, teams2, bounds, slots)
+    Ok(Class::Ca2 {
+        teams1,
+        teams2,
+        min: *min,
+        max: *max,
+        side: *side,
+        slots,
+    })
 }
 
-/// CA4 of all these slots together.
-pub(crate) fn ca4_part(
-    alloc: Global,
-    teams1: &[u16],
-    teams2: &[u16],
-    bounds: Bounds,
-    slots: SlotSet,
-) -> Result<Class, AllocError>
-    requires teams1 { IsAscending nat_cmp teams1.now }
-    requires teams2 { IsAscending nat_cmp teams2.now }
-    ensures { IfOk result (λ part. part
-        ≡ Class.Ca4 teams1.now teams2.now bounds.min bounds.max bounds.side Span.Global slots) }
+/// The part of a CA4 that speaks of some slots together.
+pub(crate) fn slots_part(alloc: Global, class: &Class, slots: SlotSet) -> Result<Class, AllocError>
+    requires { name_of class.now ≡ ClassName.Ca4 }
+    ensures { IfOk result (λ part. part ≡ of_slots class.now slots) }
 {
-    let teams1 = team_set(alloc, teams1)?;
-    let teams2 = team_set(alloc, teams2)?;
+    let Class::Ca4 {
+        teams1,
+        teams2,
+        min,
+        max,
+        side,
+        ..
+    } = class
+    else {
+        unreachable!()
+    };
+    let teams1 = team_set(alloc, teams1.numbers())?;
+    let teams2 = team_set(alloc, teams2.numbers())?;
     Ok(Class::Ca4 {
         teams1,
         teams2,
-        min: bounds.min,
-        max: bounds.max,
-        side: bounds.side,
+        min: *min,
+        max: *max,
+        side: *side,
         span: Span::Global,
         slots,
     })
 }
 
-/// CA4 of all of some slots together.
-pub(crate) fn ca4_part_in(
+/// The part of an FA2 that speaks of two teams, the earlier first.
+pub(crate) fn pair_part(
     alloc: Global,
-    teams1: &[u16],
-    teams2: &[u16],
-    bounds: Bounds,
-    slots: &[u16],
-) -> Result<Class, AllocError>
-    requires teams1 { IsAscending nat_cmp teams1.now }
-    requires teams2 { IsAscending nat_cmp teams2.now }
-    requires slots { IsAscending nat_cmp slots.now }
-    ensures { IfOk result (λ part. part
-        ≡ Class.Ca4 teams1.now teams2.now bounds.min bounds.max bounds.side Span.Global slots.now) }
-{
-    let slots = slot_set(alloc, slots)?;
-    ca4_part(alloc, teams1, teams2, bounds, slots)
-}
-
-/// CA4 of one slot.
-pub(crate) fn ca4_part_of_slot(
-    alloc: Global,
-    teams1: &[u16],
-    teams2: &[u16],
-    bounds: Bounds,
-    slot: u16,
-) -> Result<Class, AllocError>
-    requires teams1 { IsAscending nat_cmp teams1.now }
-    requires teams2 { IsAscending nat_cmp teams2.now }
-    ensures { IfOk result (λ part. part
-        ≡ Class.Ca4 teams1.now teams2.now bounds.min bounds.max bounds.side Span.Global (slot ∷ [])) }
-{
-    let slots = one_slot(alloc, slot)?;
-    ca4_part(alloc, teams1, teams2, bounds, slots)
-}
-
-/// BR1 of one team.
-pub(crate) fn br1_part(
-    alloc: Global,
-    team: u16,
-    intp: u32,
-    side: Side,
-    slots: &[u16],
-) -> Result<Class, AllocError>
-    requires { IsAscending nat_cmp slots.now }
-    ensures { IfOk result (λ part. part ≡ Class.Br1 (team ∷ []) intp side slots.now) }
-{
-    let (teams, slots) = team_and_slots(alloc, team, slots)?;
-    Ok(Class::Br1 {
-        teams,
-        intp,
-        side,
-        slots,
-    })
-}
-
-/// FA2 of two teams, the earlier first.
-pub(crate) fn fa2_part(
-    alloc: Global,
+    class: &Class,
     first: u16,
     second: u16,
-    intp: u32,
-    slots: &[u16],
 ) -> Result<Class, AllocError>
+    requires class { name_of class.now ≡ ClassName.Fa2 }
     requires order { first < second }
-    requires slots { IsAscending nat_cmp slots.now }
-    ensures { IfOk result (λ part. part ≡ Class.Fa2 (first ∷ second ∷ []) intp slots.now) }
+    ensures { IfOk result (λ part. part ≡ of_pair class.now (first, second)) }
 {
+    let Class::Fa2 { intp, slots, .. } = class else {
+        unreachable!()
+    };
     let teams = two_teams(alloc, first, second)?;
-    let slots = slot_set(alloc, slots)?;
-    Ok(Class::Fa2 { teams, intp, slots })
+    let slots = slot_set(alloc, slots.numbers())?;
+    Ok(Class::Fa2 {
+        teams,
+        intp: *intp,
+        slots,
+    })
 }
 
 /// SE1 of two different teams, the one of the lower number first.

@@ -1,21 +1,18 @@
 //! All parts of a constraint, key by key.
-ghost use Rattle.std.specs.Prelude.{◌≡◌, ◌+◌, ◌-◌, ◌<◌, ◌≤◌, [], ◌∷◌, ◌++◌, map, length, IfOk, IsTrue, OnOk};
-ghost use Rattle.std.specs.List.{All, flat_map, range_with_len};
-ghost use Rattle.std.specs.Ordering.{nat_cmp};
+ghost use Rattle.std.specs.Prelude.{◌≡◌, ◌+◌, ◌-◌, ◌<◌, ◌≤◌, [], ◌∷◌, ◌++◌, map, IfOk, IsTrue, OnOk};
+ghost use Rattle.std.specs.List.{All, flat_map};
 ghost use Rattle.league.specs.Capacity.{windows_of};
 ghost use Rattle.league.specs.Counts as counts;
-ghost use Rattle.league.specs.Deviation.{spans};
 ghost use Rattle.league.specs.Instance.{class_fits};
-ghost use Rattle.league.specs.Sets.{IsAscending};
+ghost use Rattle.league.specs.Names.{name_of};
 ghost use Rattle.encoding_base.specs.Pairs.{IsPair};
 ghost use Rattle.bound_base.specs.Parts as parts;
+ghost use Rattle.bound_parts.specs.OneOf.{is_by_team, of_pair, of_slots, of_team, of_window};
 
-use crate::makers::{
-    Bounds, br1_part, ca1_part, ca2_part_from, ca2_part_in, ca4_part_in, ca4_part_of_slot,
-    fa2_part, se1_part,
-};
-use encoding_base::{slot_numbers, team_numbers, team_pairs};
-use league::{Class, Constraint, Side, SlotSet, Span, TeamSet, slot_count};
+use crate::makers::{pair_part, se1_part, slots_part, team_part, window_part};
+use crate::sets::{one_slot, slot_set};
+use encoding_base::team_pairs;
+use league::{Class, ClassName, Constraint, Span, slot_count};
 use std::alloc::{AllocError, Global};
 
 /// The parts of a constraint that fits a league of n teams, key by key.
@@ -27,101 +24,36 @@ pub fn parts_of(alloc: Global, n: u16, constraint: &Constraint) -> Result<Vec<Cl
     requires fits { IsTrue (class_fits n constraint.now.class) }
     ensures parts { IfOk result (λ made. made.items ≡ parts.parts_of n constraint.now.class) }
 
-    // Each of them fits the league, too.
+    // Each part fits the league, too.
     ensures fit { IfOk result (λ made. All (λ part. IsTrue (class_fits n part)) made.items) }
 {
     let made = made_of(alloc, n, constraint)?;
     Ok(made)
 }
 
-/// The same.
+/// The parts of a constraint, made as its class has them.
 fn made_of(alloc: Global, n: u16, constraint: &Constraint) -> Result<Vec<Class>, AllocError>
     requires n { n ≤ 40 }
     requires fits { IsTrue (class_fits n constraint.now.class) }
     ensures { IfOk result (λ made. made.items ≡ parts.parts_of n constraint.now.class) }
 {
-    match &constraint.class {
-        Class::Ca1 {
-            teams,
-            min,
-            max,
-            side,
-            slots,
-        } => {
-            ca1_parts(
-                alloc,
-                teams.numbers(),
-                bounds(*min, *max, *side),
-                slots.numbers(),
-            )
+    let class = &constraint.class;
+    match class {
+        Class::Ca1 { teams, .. } | Class::Br1 { teams, .. } => {
+            team_parts(alloc, class, teams.numbers())
         }
-        Class::Ca2 {
-            teams1,
-            teams2,
-            min,
-            max,
-            side,
-            slots,
-        } => ca2_parts(
-            alloc,
-            teams1.numbers(),
-            teams2.numbers(),
-            bounds(*min, *max, *side),
-            slots.numbers(),
-        ),
-        Class::Ca3 {
-            teams1,
-            teams2,
-            min,
-            max,
-            intp,
-            side,
-        } => {
-            ca3_parts(
-                alloc,
-                n,
-                teams1.numbers(),
-                teams2.numbers(),
-                bounds(*min, *max, *side),
-                *intp,
-            )
+        Class::Ca2 { teams1, .. } => team_parts(alloc, class, teams1.numbers()),
+        Class::Ca3 { teams1, intp, .. } => {
+            window_parts(alloc, n, class, teams1.numbers(), *intp)
         }
-        Class::Ca4 {
-            teams1,
-            teams2,
-            min,
-            max,
-            side,
-            span,
-            slots,
-        } => ca4_parts(
-            alloc,
-            teams1.numbers(),
-            teams2.numbers(),
-            bounds(*min, *max, *side),
-            *span,
-            slots.numbers(),
-        ),
-        Class::Br1 {
-            teams,
-            intp,
-            side,
-            slots,
-        } => { br1_parts(alloc, teams.numbers(), *intp, *side, slots.numbers()) }
-        Class::Fa2 { teams, intp, slots } => fa2_parts(alloc, n, teams, *intp, slots),
-        Class::Se1 { teams, min } => se1_parts(alloc, n, teams, *min),
+        Class::Ca4 { .. } => span_parts(alloc, n, class),
+        Class::Fa2 { .. } => pair_parts(alloc, n, class),
+        Class::Se1 { .. } => separation_parts(alloc, n, class),
         Class::Ga1 { .. } | Class::Br2 { .. } => whole(alloc, constraint),
     }
 }
 
-/// Bounds on a side.
-fn bounds(min: u32, max: u32, side: Side) -> Bounds
-    ensures { result ≡ record { min = min; max = max; side = side } }
-{
-    Bounds { min, max, side }
-}
-
-/// A constraint that is its only part.
+/// The class of a constraint that is its only part.
 fn whole(alloc: Global, constraint: &Constraint) -> Result<Vec<Class>, AllocError>
     ensures { IfOk result (λ made. made.items ≡ constraint.now.class ∷ []) }
 {
@@ -142,203 +74,144 @@ fn one(alloc: Global, class: Class) -> Result<Vec<Class>, AllocError>
     Ok(made)
 }
 
-/// Those of a CA1: each team.
-fn ca1_parts(
-    alloc: Global,
-    teams: &[u16],
-    bounds: Bounds,
-    slots: &[u16],
-) -> Result<Vec<Class>, AllocError>
-    requires { IsAscending nat_cmp slots.now }
-    ensures { IfOk result (λ made. made.items
-        ≡ map (λ i. Class.Ca1 (i ∷ []) bounds.min bounds.max bounds.side slots.now) teams.now) }
+/// The parts of a CA1, a CA2 or a BR1 with each of some teams.
+fn team_parts(alloc: Global, class: &Class, teams: &[u16]) -> Result<Vec<Class>, AllocError>
+    requires { IsTrue (is_by_team class.now) }
+    ensures { IfOk result (λ made. made.items ≡ map (λ i. of_team class.now i) teams.now) }
 {
     let mut made = Vec::new(alloc);
     for team in teams {
-        made.push(ca1_part(alloc, *team, bounds, slots)?)?;
+        made.push(team_part(alloc, class, *team)?)?;
     }
     Ok(made)
 }
 
-/// Those of a CA2: each team of the first.
-fn ca2_parts(
-    alloc: Global,
-    teams1: &[u16],
-    teams2: &[u16],
-    bounds: Bounds,
-    slots: &[u16],
-) -> Result<Vec<Class>, AllocError>
-    requires teams2 { IsAscending nat_cmp teams2.now }
-    requires slots { IsAscending nat_cmp slots.now }
-    ensures { IfOk result (λ made. made.items
-        ≡ map (λ i. Class.Ca2 (i ∷ []) teams2.now bounds.min bounds.max bounds.side slots.now) teams1.now) }
-{
-    let mut made = Vec::new(alloc);
-    for team in teams1 {
-        made.push(ca2_part_in(alloc, *team, teams2, bounds, slots)?)?;
-    }
-    Ok(made)
-}
-
-/// Those of a CA3: of each team each window.
-fn ca3_parts(
+/// The parts of a CA3 with each of some of its first teams: each window of so many slots, if any is so long.
+fn window_parts(
     alloc: Global,
     n: u16,
-    teams1: &[u16],
-    teams2: &[u16],
-    bounds: Bounds,
+    class: &Class,
+    teams: &[u16],
     intp: u32,
 ) -> Result<Vec<Class>, AllocError>
     requires n { n ≤ 40 }
-    requires teams2 { IsAscending nat_cmp teams2.now }
+    requires class { name_of class.now ≡ ClassName.Ca3 }
     ensures { IfOk result (λ made. made.items
-        ≡ flat_map (parts.ca3_parts n teams2.now bounds.min bounds.max intp bounds.side) teams1.now) }
+        ≡ flat_map (λ i. map (λ slots. of_window class.now i slots) (windows_of n intp)) teams.now) }
 {
     let mut made = Vec::new(alloc);
     let season = u32::from(slot_count(n));
     if intp > season {
         return Ok(made);
     }
-    let intp = intp as u16;
-    for team in teams1 {
-        add_windows(&mut made, alloc, n, *team, teams2, bounds, intp)?;
+    let window = intp as u16;
+    for team in teams {
+        add_windows(&mut made, alloc, n, class, *team, window)?;
     }
     Ok(made)
 }
 
-/// Adds those of a team of a CA3: each window of so many slots.
+/// Adds the parts of a CA3 with one of its first teams: each window of so many slots.
 fn add_windows(
     made: &mut Vec<Class>,
     alloc: Global,
     n: u16,
+    class: &Class,
     team: u16,
-    teams2: &[u16],
-    bounds: Bounds,
-    intp: u16,
+    window: u16,
 ) -> Result<(), AllocError>
     requires n { n ≤ 40 }
-    requires teams2 { IsAscending nat_cmp teams2.now }
-    requires intp { intp ≤ counts.slot_count n }
+    requires class { name_of class.now ≡ ClassName.Ca3 }
+    requires window { window ≤ counts.slot_count n }
     ensures { OnOk result (made.new.items ≡ made.old.items
-        ++ parts.ca3_parts n teams2.now bounds.min bounds.max intp bounds.side team) }
+        ++ map (λ slots. of_window class.now team slots) (windows_of n window)) }
 {
-    let windows = slot_count(n) + 1 - intp;
+    let windows = slot_count(n) + 1 - window;
     for first in 0..windows {
-        made.push(ca2_part_from(alloc, team, teams2, bounds, first, intp)?)?;
+        made.push(window_part(alloc, class, team, first, window)?)?;
     }
     Ok(())
 }
 
-/// Those of a CA4: all its slots together, or each.
-fn ca4_parts(
-    alloc: Global,
-    teams1: &[u16],
-    teams2: &[u16],
-    bounds: Bounds,
-    span: Span,
-    slots: &[u16],
-) -> Result<Vec<Class>, AllocError>
-    requires teams1 { IsAscending nat_cmp teams1.now }
-    requires teams2 { IsAscending nat_cmp teams2.now }
-    requires slots { IsAscending nat_cmp slots.now }
-    ensures { IfOk result (λ made. made.items
-        ≡ map (Class.Ca4 teams1.now teams2.now bounds.min bounds.max bounds.side Span.Global)
-        (spans span slots.now)) }
+/// The parts of a CA4: all its slots together, or each.
+fn span_parts(alloc: Global, n: u16, class: &Class) -> Result<Vec<Class>, AllocError>
+    requires { name_of class.now ≡ ClassName.Ca4 }
+    ensures { IfOk result (λ made. made.items ≡ parts.parts_of n class.now) }
 {
+    let Class::Ca4 { span, slots, .. } = class else {
+        unreachable!()
+    };
     match span {
-        Span::Global => one(alloc, ca4_part_in(alloc, teams1, teams2, bounds, slots)?),
-        Span::Every => ca4_parts_by_slot(alloc, teams1, teams2, bounds, slots),
+        Span::Global => {
+            let slots = slot_set(alloc, slots.numbers())?;
+            one(alloc, slots_part(alloc, class, slots)?)
+        }
+        Span::Every => slot_parts(alloc, class, slots.numbers()),
     }
 }
 
-/// Those of a CA4 that bounds each of its slots.
-fn ca4_parts_by_slot(
-    alloc: Global,
-    teams1: &[u16],
-    teams2: &[u16],
-    bounds: Bounds,
-    slots: &[u16],
-) -> Result<Vec<Class>, AllocError>
-    requires teams1 { IsAscending nat_cmp teams1.now }
-    requires teams2 { IsAscending nat_cmp teams2.now }
+/// The parts of a CA4 with each of some slots.
+fn slot_parts(alloc: Global, class: &Class, slots: &[u16]) -> Result<Vec<Class>, AllocError>
+    requires { name_of class.now ≡ ClassName.Ca4 }
     ensures { IfOk result (λ made. made.items
-        ≡ map (Class.Ca4 teams1.now teams2.now bounds.min bounds.max bounds.side Span.Global)
-        (map (λ s. s ∷ []) slots.now)) }
+        ≡ map (λ part. of_slots class.now part) (map (λ s. s ∷ []) slots.now)) }
 {
     let mut made = Vec::new(alloc);
     for slot in slots {
-        made.push(ca4_part_of_slot(alloc, teams1, teams2, bounds, *slot)?)?;
+        let alone = one_slot(alloc, *slot)?;
+        made.push(slots_part(alloc, class, alone)?)?;
     }
     Ok(made)
 }
 
-/// Those of a BR1: each team.
-fn br1_parts(
-    alloc: Global,
-    teams: &[u16],
-    intp: u32,
-    side: Side,
-    slots: &[u16],
-) -> Result<Vec<Class>, AllocError>
-    requires { IsAscending nat_cmp slots.now }
-    ensures { IfOk result (λ made. made.items
-        ≡ map (λ i. Class.Br1 (i ∷ []) intp side slots.now) teams.now) }
-{
-    let mut made = Vec::new(alloc);
-    for team in teams {
-        made.push(br1_part(alloc, *team, intp, side, slots)?)?;
-    }
-    Ok(made)
-}
-
-/// Those of an FA2: each pair of teams.
-fn fa2_parts(
-    alloc: Global,
-    n: u16,
-    teams: &TeamSet,
-    intp: u32,
-    slots: &SlotSet,
-) -> Result<Vec<Class>, AllocError>
+/// The parts of an FA2: each pair of its teams.
+fn pair_parts(alloc: Global, n: u16, class: &Class) -> Result<Vec<Class>, AllocError>
     requires n { n ≤ 40 }
-    requires fits { IsTrue (class_fits n (Class.Fa2 teams.now intp slots.now)) }
-    ensures { IfOk result (λ made. made.items ≡ parts.parts_of n (Class.Fa2 teams.now intp slots.now)) }
+    requires class { name_of class.now ≡ ClassName.Fa2 }
+    requires fits { IsTrue (class_fits n class.now) }
+    ensures { IfOk result (λ made. made.items ≡ parts.parts_of n class.now) }
 {
+    let Class::Fa2 { teams, .. } = class else {
+        unreachable!()
+    };
     let pairs = team_pairs(alloc, n, teams)?;
-    fa2_parts_by_pair(alloc, n, &pairs, intp, slots.numbers())
+    parts_by_pair(alloc, n, class, &pairs)
 }
 
-/// The same of these pairs.
-fn fa2_parts_by_pair(
+/// The parts of an FA2 with each of some pairs of teams.
+fn parts_by_pair(
     alloc: Global,
     n: u16,
+    class: &Class,
     pairs: &[(u16, u16)],
-    intp: u32,
-    slots: &[u16],
 ) -> Result<Vec<Class>, AllocError>
+    requires class { name_of class.now ≡ ClassName.Fa2 }
     requires pairs { All (IsPair n) pairs.now }
-    requires slots { IsAscending nat_cmp slots.now }
-    ensures { IfOk result (λ made. made.items
-        ≡ map (λ p. Class.Fa2 (p.0 ∷ p.1 ∷ []) intp slots.now) pairs.now) }
+    ensures { IfOk result (λ made. made.items ≡ map (λ p. of_pair class.now p) pairs.now) }
 {
     let mut made = Vec::new(alloc);
     for (first, second) in pairs {
-        made.push(fa2_part(alloc, *first, *second, intp, slots)?)?;
+        made.push(pair_part(alloc, class, *first, *second)?)?;
     }
     Ok(made)
 }
 
-/// Those of an SE1: of each pair of teams each number of slots.
-fn se1_parts(alloc: Global, n: u16, teams: &TeamSet, min: u32) -> Result<Vec<Class>, AllocError>
+/// The parts of an SE1: of each pair of its teams each number of slots.
+fn separation_parts(alloc: Global, n: u16, class: &Class) -> Result<Vec<Class>, AllocError>
     requires n { n ≤ 40 }
-    requires fits { IsTrue (class_fits n (Class.Se1 teams.now min)) }
-    ensures { IfOk result (λ made. made.items ≡ parts.parts_of n (Class.Se1 teams.now min)) }
+    requires class { name_of class.now ≡ ClassName.Se1 }
+    requires fits { IsTrue (class_fits n class.now) }
+    ensures { IfOk result (λ made. made.items ≡ parts.parts_of n class.now) }
 {
+    let Class::Se1 { teams, min } = class else {
+        unreachable!()
+    };
     let pairs = team_pairs(alloc, n, teams)?;
-    se1_parts_by_pair(alloc, n, &pairs, min)
+    separations_by_pair(alloc, n, &pairs, *min)
 }
 
-/// The same of these pairs.
-fn se1_parts_by_pair(
+/// The parts of an SE1 with each of some pairs of teams.
+fn separations_by_pair(
     alloc: Global,
     n: u16,
     pairs: &[(u16, u16)],
@@ -354,7 +227,7 @@ fn se1_parts_by_pair(
     Ok(made)
 }
 
-/// Adds those of a pair of teams: each number of slots from the most down to 1.
+/// Adds the parts of an SE1 with two teams: each number of slots from the most down to 1.
 fn add_numbers(
     made: &mut Vec<Class>,
     alloc: Global,
