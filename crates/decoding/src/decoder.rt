@@ -1,17 +1,20 @@
 //! From assignments to schedules.
 ghost use Rattle.std.specs.Prelude.{◌≡◌, ◌<◌, ◌≤◌, ◌++◌, length, IfOk, OnOk};
 ghost use Rattle.league.specs.Accepted.{IsAccepted};
-ghost use Rattle.league.specs.Counts.{counts_of, slot_count};
+ghost use Rattle.league.specs.Counts as counts;
+ghost use Rattle.league.specs.Counts.{counts_of};
 ghost use Rattle.league.specs.Order.{IsInOrder};
 ghost use Rattle.rows.specs.Rows.{SatisfiesAll};
 ghost use Rattle.rows.specs.Values.{assigned};
 ghost use Rattle.encoding_base.specs.Encoding.{rows_of};
 ghost use Rattle.encoding_base.specs.Shadow.{decoded};
+ghost use Rattle.encoding_base.specs.Variables as variables;
 ghost use Rattle.encoding_base.specs.Variables.{var_count};
 ghost use Rattle.decoding.specs.TrueGames.{true_game, true_games_in, true_home_games};
 
 use encoding::Encoding;
-use league::{Game, Schedule, SlotId, TeamId};
+use encoding_base::x_at;
+use league::{Game, Schedule, SlotId, TeamId, slot_count};
 use rows::Assignment;
 use std::alloc::{AllocError, Global};
 
@@ -31,9 +34,28 @@ pub fn decode(
     ensures accepted { SatisfiesAll (assigned assignment.now) (rows_of encoding.now) →
         IfOk result (λ schedule. IsAccepted encoding.now (counts_of schedule)) }
 {
+    let schedule = decode_games(alloc, encoding.n(), assignment)?;
+    Ok(schedule)
+}
+
+/// The games of n teams, at most 40, whose variables are true, in order of slot, home team and away team. It reads no
+/// variables beside those of games.
+///
+/// # Errors
+/// Only where memory runs out.
+pub fn decode_games(
+    alloc: Global,
+    n: u16,
+    assignment: &Assignment,
+) -> Result<Schedule, AllocError>
+    requires n { n ≤ 40 }
+    requires made_for { variables.x_count n ≤ length assignment.now }
+    ensures games { IfOk result (λ schedule. schedule ≡ decoded n (assigned assignment.now)) }
+    ensures in_order { IfOk result (λ schedule. IsInOrder schedule) }
+{
     let mut schedule = Schedule::new(alloc);
-    for slot in 0..encoding.slots() {
-        add_slot(&mut schedule, encoding, assignment, slot)?;
+    for slot in 0..slot_count(n) {
+        add_slot(&mut schedule, n, assignment, slot)?;
     }
     Ok(schedule)
 }
@@ -41,17 +63,18 @@ pub fn decode(
 /// Adds the games of a slot whose variables are true.
 fn add_slot(
     schedule: &mut Schedule,
-    encoding: &Encoding,
+    n: u16,
     assignment: &Assignment,
     slot: u16,
 ) -> Result<(), AllocError>
-    requires made_for { var_count encoding.now ≤ length assignment.now }
-    requires slot { slot < slot_count encoding.now.n }
+    requires n { n ≤ 40 }
+    requires made_for { variables.x_count n ≤ length assignment.now }
+    requires slot { slot < counts.slot_count n }
     ensures { OnOk result
-        (schedule.new ≡ schedule.old ++ true_games_in encoding.now.n (assigned assignment.now) slot) }
+        (schedule.new ≡ schedule.old ++ true_games_in n (assigned assignment.now) slot) }
 {
-    for home in 0..encoding.n() {
-        add_home_games(schedule, encoding, assignment, home, slot)?;
+    for home in 0..n {
+        add_home_games(schedule, n, assignment, home, slot)?;
     }
     Ok(())
 }
@@ -59,24 +82,25 @@ fn add_slot(
 /// Adds the home games of a team in a slot whose variables are true.
 fn add_home_games(
     schedule: &mut Schedule,
-    encoding: &Encoding,
+    n: u16,
     assignment: &Assignment,
     home: u16,
     slot: u16,
 ) -> Result<(), AllocError>
-    requires made_for { var_count encoding.now ≤ length assignment.now }
-    requires home { home < encoding.now.n }
-    requires slot { slot < slot_count encoding.now.n }
+    requires n { n ≤ 40 }
+    requires made_for { variables.x_count n ≤ length assignment.now }
+    requires home { home < n }
+    requires slot { slot < counts.slot_count n }
     ensures { OnOk result
-        (schedule.new ≡ schedule.old ++ true_home_games encoding.now.n (assigned assignment.now) slot home) }
+        (schedule.new ≡ schedule.old ++ true_home_games n (assigned assignment.now) slot home) }
 {
-    for away in 0..encoding.n() {
+    for away in 0..n {
         let game = Game {
             home: TeamId(home),
             away: TeamId(away),
             slot: SlotId(slot),
         };
-        add_if_true(schedule, encoding, assignment, game)?;
+        add_if_true(schedule, n, assignment, game)?;
     }
     Ok(())
 }
@@ -84,18 +108,21 @@ fn add_home_games(
 /// Adds the game of two different teams, where its variable is true.
 fn add_if_true(
     schedule: &mut Schedule,
-    encoding: &Encoding,
+    n: u16,
     assignment: &Assignment,
     game: Game,
 ) -> Result<(), AllocError>
-    requires made_for { var_count encoding.now ≤ length assignment.now }
-    requires home { game.home.0 < encoding.now.n }
-    requires away { game.away.0 < encoding.now.n }
-    requires slot { game.slot.0 < slot_count encoding.now.n }
+    requires n { n ≤ 40 }
+    requires made_for { variables.x_count n ≤ length assignment.now }
+    requires home { game.home.0 < n }
+    requires away { game.away.0 < n }
+    requires slot { game.slot.0 < counts.slot_count n }
     ensures { OnOk result
-        (schedule.new ≡ schedule.old ++ true_game encoding.now.n (assigned assignment.now) game) }
+        (schedule.new ≡ schedule.old ++ true_game n (assigned assignment.now) game) }
 {
-    if game.away.0 != game.home.0 && assignment.value(encoding.x(game.home, game.away, game.slot)) {
+    if game.away.0 != game.home.0
+        && assignment.value(x_at(n, game.home.0, game.away.0, game.slot.0))
+    {
         schedule.push(game)?;
     }
     Ok(())

@@ -6,5 +6,5 @@ mod decoder;
 pub mod laws;
 mod shadows;
 
-pub use decoder::decode;
+pub use decoder::{decode, decode_games};
 pub use shadows::shadow;

@@ -9,7 +9,7 @@ use Rattle.decoding.proofs.decoder.add_home_games.Goals as goal
 
 pub loop-away-preserved : goal.loop-away-preserved
 loop-away-preserved c =
-    let games : ℕ → List Game = λ j. true_game c.args.encoding.now.n (assigned c.args.assignment.now)
+    let games : ℕ → List Game = λ j. true_game c.args.n (assigned c.args.assignment.now)
     (game_of (c.args.home, j) c.args.slot) in
     c.in_ok-add_if_true.ensures
     ∙ ap (λ (xs : List Game). xs ++ games c.loop-away.away) c.loop-away.invariant

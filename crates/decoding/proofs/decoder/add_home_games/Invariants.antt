@@ -7,5 +7,5 @@ use Rattle.decoding.proofs.decoder.add_home_games.Given as goal
 
 abbrev pub invariant-loop-away : goal.invariant-loop-away
 invariant-loop-away l =
-    l.schedule ≡ l.fn.schedule ++ flat_map (λ j. true_game l.encoding.n (assigned l.assignment)
+    l.schedule ≡ l.fn.schedule ++ flat_map (λ j. true_game l.n (assigned l.assignment)
     (game_of (l.home, j) l.slot)) (range_with_len 0 l.away)

@@ -8,7 +8,7 @@ use Rattle.decoding.proofs.decoder.add_slot.Goals as goal
 
 pub loop-home-preserved : goal.loop-home-preserved
 loop-home-preserved c =
-    let games : ℕ → List Game = true_home_games c.args.encoding.now.n (assigned c.args.assignment.now) c.args.slot in
+    let games : ℕ → List Game = true_home_games c.args.n (assigned c.args.assignment.now) c.args.slot in
     c.in_ok-add_home_games.ensures
     ∙ ap (λ (xs : List Game). xs ++ games c.loop-home.home) c.loop-home.invariant
     ∙ flat_map-range_more games c.args.schedule.now c.loop-home.home

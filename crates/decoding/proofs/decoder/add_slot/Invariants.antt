@@ -6,5 +6,5 @@ use Rattle.decoding.proofs.decoder.add_slot.Given as goal
 
 abbrev pub invariant-loop-home : goal.invariant-loop-home
 invariant-loop-home l =
-    l.schedule ≡ l.fn.schedule ++ flat_map (true_home_games l.encoding.n (assigned l.assignment) l.slot)
+    l.schedule ≡ l.fn.schedule ++ flat_map (true_home_games l.n (assigned l.assignment) l.slot)
     (range_with_len 0 l.home)

@@ -1,33 +1,19 @@
--- The games of all slots are those that the assignment decodes to.
-use Rattle.std.proofs.Common.{◌≡◌, ℕ, List, [], ◌++◌, arith, ap, ◌∙◌}
-use Rattle.std.specs.List.{flat_map, range_with_len}
-use Rattle.league.specs.Counts.{slot_count}
-use Rattle.league.specs.declared.game.Game.{Game}
+-- What the variables of games say is what the whole assignment decodes to.
+use Rattle.std.proofs.Common.{ℕ, arith, ap, ◌∙◌}
 use Rattle.rows.specs.Values.{assigned}
-use Rattle.decoding.specs.TrueGames.{true_games_in}
-use Rattle.decoding.proofs.DecodeLemmas.{accepted, flat_map-range_more, in_order, season-true}
+use Rattle.encoding_base.specs.Shadow.{decoded}
+use Rattle.encoding_base.specs.Variables.{x_count}
+use Rattle.decoding.proofs.DecodeLemmas.{accepted}
 use Rattle.decoding.proofs.decoder.decode.Goals as goal
 
-pub loop-slot-preserved : goal.loop-slot-preserved
-loop-slot-preserved c =
-    let games : ℕ → List Game = true_games_in c.args.encoding.now.n (assigned c.args.assignment.now) in
-    c.in_ok-add_slot.ensures
-    ∙ ap (λ (xs : List Game). xs ++ games c.loop-slot.slot) c.loop-slot.invariant
-    ∙ flat_map-range_more games [] c.loop-slot.slot
+pub decode_games-requires-clause-made_for : goal.decode_games-requires-clause-made_for
+decode_games-requires-clause-made_for c = omega (arith, ap (λ (k : ℕ). x_count k) c.n.ensures.n, c.requires)
 
 pub returns-clause-games : goal.returns-clause-games
 returns-clause-games c =
-    let games : ℕ → List Game = true_games_in c.args.encoding.now.n (assigned c.args.assignment.now) in
-    let at_end : c.loop-slot.slot ≡ slot_count c.args.encoding.now.n = omega (arith, c.slots-slot-end.ensures.slots) in
-    c.loop-slot.invariant
-    ∙ ap (λ (k : ℕ). flat_map games (range_with_len 0 k)) at_end
-    ∙ season-true c.args.encoding.now.n (assigned c.args.assignment.now)
-
-pub returns-clause-in_order : goal.returns-clause-in_order
-returns-clause-in_order c =
-    in_order c.args.encoding.now.n (assigned c.args.assignment.now) c.loop-slot.schedule (returns-clause-games c)
+    c.in_ok-schedule.ensures.games ∙ ap (λ (k : ℕ). decoded k (assigned c.args.assignment.now)) c.n.ensures.n
 
 pub returns-clause-accepted : goal.returns-clause-accepted
 returns-clause-accepted c =
-    accepted c.args.encoding.now (assigned c.args.assignment.now) c.loop-slot.schedule c.slots-slot-end.ensures.instance
+    accepted c.args.encoding.now (assigned c.args.assignment.now) c.in_ok-schedule.schedule c.n.ensures.instance
     (returns-clause-games c)
