@@ -41,7 +41,7 @@ two_rows_size low beyond count =
 abbrev pub between_size : ℕ → ℕ → ℕ → ℕ
 between_size low high count = two_rows_size low (count - high) count
 
--- of two teams of an FA2: at each slot two rows, each with two literals for each slot so far
+-- the group of two teams of an FA2: at each slot two rows, each with two literals for each slot so far
 abbrev pub lead_units : ℕ → List ℕ → ℕ
 lead_units intp slots = largest (λ s. s + 1 - intp) slots
 

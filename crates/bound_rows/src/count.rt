@@ -1,10 +1,11 @@
 //! How many terms the bound rows of a league have. They are counted by formulas, and no row is written.
-ghost use Rattle.std.specs.Prelude.{◌≡◌, ◌+◌, [], ◌∷◌, IsTrue};
+ghost use Rattle.std.specs.Prelude.{◌≡◌, ◌+◌, ◌≤◌, [], ◌∷◌, IsTrue};
 ghost use Rattle.std.specs.List.{All};
 ghost use Rattle.league.specs.Instance.{IsTeamCount, class_fits};
 ghost use Rattle.rows.specs.Rows.{size_of};
 ghost use Rattle.encoding_base.specs.Encoding as encoding;
 ghost use Rattle.bound_base.specs.BoundRows as bounds;
+ghost use Rattle.bound_rows.specs.Bounded.{IsCounted};
 ghost use Rattle.bound_rows.specs.Sizes as sizes;
 ghost use Rattle.encoding.specs.Capped.{capped};
 
@@ -15,16 +16,18 @@ use encoding_sizes::encoding_size;
 use league::{Constraint, League};
 
 /// How many terms the bound rows of a league have, whatever the bound; where a number of 64 bits doesn't hold that, the
-/// largest one. It takes no memory.
+/// largest one. It takes no memory. Where it is at most `MOST_TERMS`, the league is counted: it is the test of what
+/// `bound_system` requires.
 pub fn bound_terms(league: &League) -> u64
-    ensures { result ≡ capped (bounds.bound_size league.now) }
+    ensures terms { result ≡ capped (bounds.bound_size league.now) }
+    ensures counted { result ≤ 40000000 → IsCounted league.now result }
 {
     let base = encoding_size(league).saturating_add(more_terms(league));
     let paid = paid_terms(league.n(), league.constraints());
     base.saturating_add(paid)
 }
 
-/// Those of breaks that have variables only since a soft constraint bounds them.
+/// How many terms the rows of breaks have that have variables only since a soft constraint bounds them.
 fn more_terms(league: &League) -> u64
     ensures { encoding.encoding_size league.now + result ≡ size_of (bounds.base_rows league.now) }
 {
@@ -37,7 +40,7 @@ fn more_terms(league: &League) -> u64
     }
 }
 
-/// Those of the groups of the constraints that are paid for.
+/// How many terms the groups of the constraints have that are paid for.
 fn paid_terms(n: u16, constraints: &[Constraint]) -> u64
     requires n { IsTeamCount n }
     requires fit { All (λ c. IsTrue (class_fits n c.class)) constraints.now }
@@ -50,7 +53,7 @@ fn paid_terms(n: u16, constraints: &[Constraint]) -> u64
     total
 }
 
-/// Those of one constraint, where it is paid for.
+/// How many terms the groups of one constraint have, where it is paid for.
 fn terms_if_paid(n: u16, constraint: &Constraint) -> u64
     requires n { IsTeamCount n }
     requires fits { IsTrue (class_fits n constraint.now.class) }

@@ -6,7 +6,7 @@ use refutation::Log;
 #[derive(Drop)]
 pub enum Proved {
     /// No schedule that the league accepts has a lower objective: the log is accepted over the bound rows of one less.
-    /// Of an objective of 0 the log is empty.
+    /// The log for an objective of 0 is empty.
     Least { objective: u64, log: Log },
     /// A schedule that the league accepts, with a lower objective.
     Better { schedule: Schedule, objective: u64 },

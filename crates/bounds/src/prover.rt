@@ -1,36 +1,34 @@
 //! Whether a schedule can be bettered.
-ghost use Rattle.std.specs.Prelude.{◌≡◌, ℕ, ◌-◌, ◌^◌, ◌<◌, ◌≤◌, [], length, IfOk, IsOk, Err, Option};
+ghost use Rattle.std.specs.Prelude.{◌≡◌, ℕ, ◌-◌, ◌^◌, ◌<◌, ◌≤◌, [], length, IfOk, Option};
 ghost use Rattle.std.specs.List.{All};
 ghost use Rattle.league.specs.Accepted.{IsAccepted};
 ghost use Rattle.league.specs.Accepted as costs;
-ghost use Rattle.league.specs.Bounds.{largest};
 ghost use Rattle.league.specs.Counts.{Counts, counts_of};
 ghost use Rattle.league.specs.Instance.{IsGame};
 ghost use Rattle.rows.specs.Rows.{SatisfiesAll};
 ghost use Rattle.rows.specs.Values.{assigned};
 ghost use Rattle.descent.specs.Settled.{IsSettled};
 ghost use Rattle.solve.specs.Solutions.{league_score};
-ghost use Rattle.bound_base.specs.BoundRows.{bound_rows, bound_size, bound_vars};
-ghost use Rattle.encoding.specs.Capped.{capped};
+ghost use Rattle.bound_base.specs.BoundRows.{bound_rows, bound_vars};
+ghost use Rattle.bound_rows.specs.Bounded.{IsCounted};
 ghost use Rattle.bounds.specs.Lower.{IsLower};
 ghost use Rattle.bounds.specs.Proofs.{IsProved};
 
-use crate::cost::objective_of;
 use crate::proved::Proved;
-use bound_rows::{MOST_TERMS, bound_system, bound_terms};
+use bound_rows::bound_system;
 use clause_search::{Found, search};
-use decoding::decode;
-use encoding::{EncodeFault, encode};
+use decoding::decode_games;
 use league::{Constraint, League, Schedule};
 use refutation::Log;
 use rows::Assignment;
 use solve::{Season, lowered};
-use std::alloc::Global;
+use std::alloc::{AllocError, Global};
 
 /// The most moves of a descent.
 const MOVES: u64 = 1_000_000;
 
-/// Shows that an accepted schedule can't be bettered, betters it, or spends its budget.
+/// Shows that an accepted schedule can't be bettered, betters it, or spends its budget. The schedule was assessed before,
+/// and the terms of the league's bound rows were counted (`bound_terms` of `bound_rows`).
 ///
 /// A descent goes on from the schedule by moves. Where that betters it, the schedule to which it leads is the answer,
 /// and else what a search over the bound rows of one less finds, which learns at most so many clauses: from a schedule
@@ -38,49 +36,25 @@ const MOVES: u64 = 1_000_000;
 /// found first is not promised.
 ///
 /// # Errors
-/// `TooLarge` only where the bound rows have more than 40,000,000 terms, with their number as far as a number of 64
-/// bits holds it, and always there; else only where memory runs out.
+/// Only where memory runs out.
 pub fn prove(
     alloc: Global,
     league: &League,
     schedule: &Schedule,
+    cost: u128,
     conflicts: Option<u64>,
-) -> Result<Proved, EncodeFault>
+    terms: u64,
+) -> Result<Proved, AllocError>
     requires accepted { IsAccepted league.now (counts_of schedule.now) }
     requires fit { All (IsGame league.now.n) schedule.now }
     requires few { length schedule.now ≤ 10000 }
-    ensures proved { IfOk result (IsProved league.now (counts_of schedule.now) conflicts) }
-    ensures within { IsOk result → bound_size league.now ≤ 40000000 }
-    ensures too_large { 40000000 < bound_size league.now
-        → result ≡ Err (EncodeFault.TooLarge (capped (bound_size league.now))) }
-    ensures only { (terms : ℕ) → result ≡ Err (EncodeFault.TooLarge terms) → 40000000 < bound_size league.now }
+    requires assessed { cost ≡ costs.objective league.now (counts_of schedule.now) }
+    requires counted { IsCounted league.now terms }
+    ensures { IfOk result (IsProved league.now (counts_of schedule.now) conflicts) }
 {
-    let terms = bound_terms(league);
-    if terms > MOST_TERMS {
-        return Err(EncodeFault::TooLarge { terms });
-    }
-    let proved = shown(alloc, league, schedule, conflicts)?;
-    Ok(proved)
-}
-
-/// What is shown of an accepted schedule of a league whose bound rows are few enough: it pays the greatest penalty at
-/// most once for each of their terms, so that 64 bits hold its objective.
-fn shown(
-    alloc: Global,
-    league: &League,
-    schedule: &Schedule,
-    conflicts: Option<u64>,
-) -> Result<Proved, EncodeFault>
-    requires accepted { IsAccepted league.now (counts_of schedule.now) }
-    requires fit { All (IsGame league.now.n) schedule.now }
-    requires few { length schedule.now ≤ 10000 }
-    requires size { bound_size league.now ≤ 40000000 }
-    ensures proved { IfOk result (IsProved league.now (counts_of schedule.now) conflicts) }
-    ensures only { (terms : ℕ) → result ≡ Err (EncodeFault.TooLarge terms) → 40000000 < bound_size league.now }
-{
-    let _n = league.n();
-    let _greatest = greatest_penalty(league.constraints());
-    let objective = objective_of(alloc, league, schedule)?;
+    // An accepted schedule pays the greatest penalty at most once for each term, so that 64 bits hold its objective.
+    penalties_fit(league.constraints());
+    let objective = in_64_bits(cost);
     if objective == 0 {
         return Ok(least_of_all(alloc));
     }
@@ -88,22 +62,24 @@ fn shown(
     if lower.objective < u128::from(objective) {
         return Ok(bettered(lower));
     }
-    let proved = searched(alloc, league, objective, conflicts)?;
+    let proved = searched(alloc, league, objective, conflicts, terms)?;
     Ok(proved)
 }
 
-/// The greatest penalty, and 0 where there is no constraint.
-fn greatest_penalty(constraints: &[Constraint]) -> u32
-    ensures { result ≡ largest (λ c. c.penalty) constraints.now }
+/// A number that 64 bits hold.
+fn in_64_bits(number: u128) -> u64
+    requires { number < 2 ^ 64 }
+    ensures { result ≡ number }
 {
-    let mut greatest = 0_u32;
-    for constraint in constraints {
-        greatest = greatest.max(constraint.penalty);
-    }
-    greatest
+    number as u64
 }
 
-/// That an objective of 0 is the least.
+/// What is known of each penalty by its type: 32 bits hold it.
+fn penalties_fit(constraints: &[Constraint])
+    ensures { All (λ c. c.penalty < 2 ^ 32) constraints.now }
+{}
+
+/// The answer where the objective is 0, which is the least there is.
 fn least_of_all(alloc: Global) -> Proved
     ensures { result ≡ Proved.Least 0 [] }
 {
@@ -113,7 +89,7 @@ fn least_of_all(alloc: Global) -> Proved
     }
 }
 
-/// The answer where a descent betters the schedule.
+/// The answer where a descent leads to a schedule that costs less.
 fn bettered(lower: Season) -> Proved
     requires { lower.objective < 2 ^ 64 }
     ensures { result ≡ Proved.Better lower.schedule lower.objective }
@@ -125,7 +101,7 @@ fn bettered(lower: Season) -> Proved
     } = lower;
     Proved::Better {
         schedule,
-        objective: objective as u64,
+        objective: in_64_bits(objective),
     }
 }
 
@@ -135,15 +111,15 @@ fn searched(
     league: &League,
     objective: u64,
     conflicts: Option<u64>,
-) -> Result<Proved, EncodeFault>
+    terms: u64,
+) -> Result<Proved, AllocError>
     requires some { 1 ≤ objective }
-    ensures proved { IfOk result (λ proved. (m : Counts) → costs.objective league.now m ≡ objective
+    requires counted { IsCounted league.now terms }
+    ensures { IfOk result (λ proved. (m : Counts) → costs.objective league.now m ≡ objective
         → IsSettled league.now.n league.now.phased (league_score league.now) m
         → IsProved league.now m conflicts proved) }
-    ensures only { (terms : ℕ) → result ≡ Err (EncodeFault.TooLarge terms) → 40000000 < bound_size league.now }
 {
-    let _n = league.n();
-    let system = bound_system(alloc, league, objective - 1)?;
+    let system = bound_system(alloc, league, objective - 1, terms)?;
     let found = search(alloc, system.rows(), system.vars(), &[], conflicts)?;
     match found {
         Found::Sat(values) => {
@@ -161,24 +137,16 @@ fn decoded(
     league: &League,
     values: &Assignment,
     objective: u64,
-) -> Result<Proved, EncodeFault>
+) -> Result<Proved, AllocError>
     requires some { 1 ≤ objective }
     requires count { length values.now ≡ bound_vars league.now }
     requires satisfied { SatisfiesAll (assigned values.now) (bound_rows league.now (objective - 1)) }
-    ensures proved { IfOk result (λ proved. (m : Counts) (limit : Option ℕ)
+    ensures { IfOk result (λ proved. (m : Counts) (limit : Option ℕ)
         → costs.objective league.now m ≡ objective → IsProved league.now m limit proved) }
-    ensures only { (terms : ℕ) → result ≡ Err (EncodeFault.TooLarge terms) → 40000000 < bound_size league.now }
 {
     let schedule = schedule_of(alloc, league, values, objective)?;
-    let found = objective_of(alloc, league, &schedule)?;
     let lower = lowered(alloc, league, &schedule, MOVES)?;
-    if lower.objective < u128::from(found) {
-        return Ok(bettered(lower));
-    }
-    Ok(Proved::Better {
-        schedule,
-        objective: found,
-    })
+    Ok(bettered(lower))
 }
 
 /// The schedule that values say which satisfy the bound rows.
@@ -187,15 +155,12 @@ fn schedule_of(
     league: &League,
     values: &Assignment,
     objective: u64,
-) -> Result<Schedule, EncodeFault>
+) -> Result<Schedule, AllocError>
     requires some { 1 ≤ objective }
     requires count { length values.now ≡ bound_vars league.now }
     requires satisfied { SatisfiesAll (assigned values.now) (bound_rows league.now (objective - 1)) }
-    ensures lower { IfOk result (IsLower league.now objective) }
-    ensures only { (terms : ℕ) → result ≡ Err (EncodeFault.TooLarge terms) → 40000000 < bound_size league.now }
+    ensures { IfOk result (IsLower league.now objective) }
 {
-    let _n = league.n();
-    let encoding = encode(alloc, league)?;
-    let schedule = decode(alloc, &encoding, values)?;
+    let schedule = decode_games(alloc, league.n(), values)?;
     Ok(schedule)
 }

@@ -2,3 +2,6 @@
 pub mod Validate
 
 -- Kept inside (laws, and how fields are seen):
+--
+-- What a schedule was assessed to be:
+pub mod Assessed
