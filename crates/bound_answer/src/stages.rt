@@ -55,12 +55,7 @@ fn certificate_in(alloc: Global, bytes: &[u8]) -> Result<Certificate, NoValue>
 }
 
 /// Judges the certificate that a text writes.
-fn judge_text(
-    alloc: Global,
-    bytes: &[u8],
-    league: &League,
-    terms: u64,
-) -> Result<Reply, NoValue>
+fn judge_text(alloc: Global, bytes: &[u8], league: &League, terms: u64) -> Result<Reply, NoValue>
     requires { IsCounted league.now terms }
     ensures { Answers (says_certificate (certificate_of bytes.now) (IsBoundVerdict league.now)) result }
 {

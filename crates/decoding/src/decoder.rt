@@ -43,11 +43,7 @@ pub fn decode(
 ///
 /// # Errors
 /// Only where memory runs out.
-pub fn decode_games(
-    alloc: Global,
-    n: u16,
-    assignment: &Assignment,
-) -> Result<Schedule, AllocError>
+pub fn decode_games(alloc: Global, n: u16, assignment: &Assignment) -> Result<Schedule, AllocError>
     requires n { n ≤ 40 }
     requires made_for { variables.x_count n ≤ length assignment.now }
     ensures games { IfOk result (λ schedule. schedule ≡ decoded n (assigned assignment.now)) }

@@ -38,7 +38,14 @@ fn show(
     if !assessed.feasible {
         return judgement(alloc, league, schedule, &assessed);
     }
-    let proved = prove(alloc, league, schedule, assessed.objective, conflicts, terms)?;
+    let proved = prove(
+        alloc,
+        league,
+        schedule,
+        assessed.objective,
+        conflicts,
+        terms,
+    )?;
     proof_reply(alloc, &proved)
 }
 

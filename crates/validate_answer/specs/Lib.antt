@@ -1,6 +1,5 @@
 -- What a reader of a claim must believe:
 pub mod Validate
-
 -- Kept inside (laws, and how fields are seen):
 --
 -- What a schedule was assessed to be:
