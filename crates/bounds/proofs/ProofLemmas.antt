@@ -1,8 +1,9 @@
 -- What the answers say of a league and a schedule.
-use Rattle.std.proofs.Common.{◌≡◌, ℕ, ◌+◌, ◌-◌, ◌*◌, ◌^◌, ◌<◌, ◌≤◌, Bool, false, List, [], ◌∷◌}
-use Rattle.std.proofs.Common.{get_or, length, Option, refl, sym, ap, subst, ◌∙◌, arith}
+use Rattle.std.proofs.Common.{◌≡◌, ℕ, ◌+◌, ◌-◌, ◌*◌, ◌^◌, ◌<◌, ◌≤◌, Bool, true, false, cond, max, List, [], ◌++◌}
+use Rattle.std.proofs.Common.{get_or, length, take, Option, refl, sym, ap, subst, ◌∙◌, arith}
 use Rattle.std.proofs.Math.Nat.{mul-le-mul}
-use Rattle.std.proofs.lemmas.List.Elements.{All-head, All-nil, All-tail, All-weaker}
+use Rattle.std.proofs.lemmas.List.Elements.{All-nil, All-weaker}
+use Rattle.std.proofs.lemmas.List.Sums.{fold_more}
 use Rattle.std.specs.List.{All}
 use Rattle.league.specs.Accepted.{IsAccepted, objective}
 use Rattle.league.specs.Bounds.{largest}
@@ -28,7 +29,6 @@ use Rattle.descent.specs.Settled.{IsSettled}
 use Rattle.descent.proofs.TrailLemmas.{trails-stay_feasible}
 use Rattle.solve.specs.Solutions.{IsSchedule, league_score}
 use Rattle.decoding.proofs.GameLemmas.{accepted_few, decoded_fit}
-use Rattle.decoding.proofs.ShortfallLemmas.{largest-cons}
 use Rattle.solve.proofs.LowerLemmas.{IsSchedule-settled}
 use Rattle.walk.proofs.WalkLemmas.{met}
 use Rattle.bound_base.specs.BoundRows.{bound_rows, bound_size, bound_vars}
@@ -47,25 +47,27 @@ games-le league = omega arith
 
 -- ---- objectives of 64 bits
 
-penalties-small : (constraints : List Constraint) → All (λ c. c.penalty < 2 ^ 32) constraints
-    → largest (λ c. c.penalty) constraints ≤ 4294967295
-penalties-small [] fit = omega arith
-penalties-small (c ∷ constraints) fit =
+pub greatest-more : (constraints : List Constraint) (i before after : ℕ) (next : Constraint) → i < length constraints
+    → next ≡ get_or constraints i next → before ≡ largest (λ c. c.penalty) (take i constraints)
+    → after ≡ max before next.penalty → after ≡ largest (λ c. c.penalty) (take (i + 1) constraints)
+greatest-more constraints i before after next within is so_far larger =
+    larger ∙ ap (λ (b : ℕ). max b next.penalty) so_far
+    ∙ ap (λ (c : Constraint). max (largest (λ (c : Constraint). c.penalty) (take i constraints)) c.penalty) is
+    ∙ sym (fold_more (λ (a : ℕ) (c : Constraint). max a c.penalty) 0 constraints i next within)
+
+-- the greatest penalty has 32 bits, and an accepted schedule pays it at most once for each term
+pub objective_small : (league : Instance) (m : Counts) (most : ℕ) → IsInstance league
+    → most ≡ largest (λ c. c.penalty) league.constraints → most < 2 ^ 32 → bound_size league ≤ 40000000
+    → IsAccepted league m → objective league m < 2 ^ 64
+objective_small league m most is greatest fits few accepted =
+    let small : most ≤ 4294967295 = omega (arith, fits) in
+    let paid : most * bound_size league ≤ 4294967295 * 40000000 = mul-le-mul small few in
     omega (
       arith,
-      largest-cons (λ (x : Constraint). x.penalty) c constraints,
-      All-head (λ (x : Constraint). x.penalty < 2 ^ 32) c constraints fit,
-      penalties-small constraints (All-tail (λ (x : Constraint). x.penalty < 2 ^ 32) c constraints fit),
+      costs-bounded league m is accepted,
+      ap (λ (p : ℕ). p * bound_size league) greatest,
+      paid,
     )
-
--- each penalty has 32 bits, and an accepted schedule pays the greatest at most once for each term
-pub objective_small : (league : Instance) (m : Counts) → IsInstance league
-    → All (λ c. c.penalty < 2 ^ 32) league.constraints → bound_size league ≤ 40000000
-    → IsAccepted league m → objective league m < 2 ^ 64
-objective_small league m is fit few accepted =
-    let paid : largest (λ c. c.penalty) league.constraints * bound_size league ≤ 4294967295 * 40000000 =
-    mul-le-mul (penalties-small league.constraints fit) few in
-    omega (arith, costs-bounded league m is accepted, paid)
 
 -- ---- logs that can be written
 

@@ -3,6 +3,7 @@ ghost use Rattle.std.specs.Prelude.{◌≡◌, ℕ, ◌-◌, ◌^◌, ◌<◌, �
 ghost use Rattle.std.specs.List.{All};
 ghost use Rattle.league.specs.Accepted.{IsAccepted};
 ghost use Rattle.league.specs.Accepted as costs;
+ghost use Rattle.league.specs.Bounds.{largest};
 ghost use Rattle.league.specs.Counts.{Counts, counts_of};
 ghost use Rattle.league.specs.Instance.{IsGame};
 ghost use Rattle.rows.specs.Rows.{SatisfiesAll};
@@ -53,7 +54,7 @@ pub fn prove(
     ensures { IfOk result (IsProved league.now (counts_of schedule.now) conflicts) }
 {
     // An accepted schedule pays the greatest penalty at most once for each term, so that 64 bits hold its objective.
-    penalties_fit(league.constraints());
+    let _greatest = greatest_penalty(league.constraints());
     let objective = in_64_bits(cost);
     if objective == 0 {
         return Ok(least_of_all(alloc));
@@ -74,10 +75,16 @@ fn in_64_bits(number: u128) -> u64
     number as u64
 }
 
-/// What is known of each penalty by its type: 32 bits hold it.
-fn penalties_fit(constraints: &[Constraint])
-    ensures { All (λ c. c.penalty < 2 ^ 32) constraints.now }
-{}
+/// The greatest penalty, and 0 where there is no constraint.
+fn greatest_penalty(constraints: &[Constraint]) -> u32
+    ensures { result ≡ largest (λ c. c.penalty) constraints.now }
+{
+    let mut greatest = 0_u32;
+    for constraint in constraints {
+        greatest = greatest.max(constraint.penalty);
+    }
+    greatest
+}
 
 /// The answer where the objective is 0, which is the least there is.
 fn least_of_all(alloc: Global) -> Proved

@@ -1,6 +1,6 @@
-use Rattle.std.proofs.Common.{◌<◌, ◌≤◌, ◌^◌, List, arith, subst, sym, ◌∙◌}
-use Rattle.std.specs.List.{All}
+use Rattle.std.proofs.Common.{◌≤◌, List, arith, ap, subst, sym, ◌∙◌}
 use Rattle.league.specs.Accepted.{objective}
+use Rattle.league.specs.Bounds.{largest}
 use Rattle.league.specs.Counts.{counts_of}
 use Rattle.league.specs.declared.class.Constraint.{Constraint}
 use Rattle.bounds.specs.Proofs.{IsProved}
@@ -13,10 +13,11 @@ in_64_bits-requires c =
     omega (
       arith,
       c.requires.assessed,
-      objective_small c.args.league.now (counts_of c.args.schedule.now) c.requires.counted.instance
-          (subst (λ (cs : List Constraint). All (λ (x : Constraint). x.penalty < 2 ^ 32) cs) c.constraints.ensures
-          c.penalties_fit.ensures)
-          c.requires.counted.few c.requires.accepted,
+      objective_small c.args.league.now (counts_of c.args.schedule.now) c.greatest_penalty-greatest.result
+          c.requires.counted.instance
+          (c.greatest_penalty-greatest.ensures
+          ∙ ap (λ (cs : List Constraint). largest (λ (x : Constraint). x.penalty) cs) c.constraints.ensures)
+          c.greatest_penalty-greatest.type_inv c.requires.counted.few c.requires.accepted,
     )
 
 pub returns-then-objective-eq0 : goal.returns-then-objective-eq0
