@@ -1,5 +1,5 @@
 -- What `bound` answers: its stages in their order, and the verdict on a certificate.
-use Rattle.std.specs.Prelude.{◌≡◌, ℕ, ◌+◌, ◌-◌, ◌<◌, ◌≤◌, ◌⊎◌, ◌==◌, if◌then◌else◌, List, ◌++◌, length, codes, decimal}
+use Rattle.std.specs.Prelude.{◌≡◌, ℕ, ◌-◌, ◌<◌, ◌≤◌, ◌⊎◌, ◌==◌, if◌then◌else◌, List, ◌++◌, length, codes, decimal}
 use Rattle.std.specs.Prelude.{Some, Result, Ok, Err}
 use Rattle.robin_io.specs.Outside.{Store}
 use Rattle.league.specs.Instance.{Instance}

@@ -14,8 +14,8 @@ use league::League;
 use refutation::Verdict;
 use std::alloc::{AllocError, Global};
 
-/// The verdict on a certificate. Where it is accepted, every schedule that the league accepts has an objective of at
-/// least the bound.
+/// The verdict on a certificate. If it is accepted, every schedule that the league accepts has an objective of at least
+/// the bound.
 ///
 /// # Errors
 /// Only where memory runs out.
@@ -37,7 +37,7 @@ fn verdict_on(
     Ok(verdict)
 }
 
-/// The certificate of so many steps is accepted.
+/// The answer to a certificate of `steps` steps that is accepted.
 fn accepted(alloc: Global, bound: u64, steps: usize) -> Result<Reply, AllocError>
     ensures { IfOk result (λ reply. answer_of reply ≡ texts.bound_answer bound steps Verdict.Accepted) }
 {
@@ -48,7 +48,7 @@ fn accepted(alloc: Global, bound: u64, steps: usize) -> Result<Reply, AllocError
     })
 }
 
-/// The verdict on a certificate of so many steps.
+/// The answer that tells the verdict on a certificate of `steps` steps.
 fn bound_reply(
     alloc: Global,
     bound: u64,

@@ -23,10 +23,10 @@ use robin_io::Shelf;
 use robinx_read::INSTANCE_LIMIT;
 use std::alloc::{AllocError, Global};
 
-/// How many terms the bound rows of a league have, where these aren't too many.
+/// How many terms the bound rows of a league have, if these aren't too many.
 ///
 /// # Errors
-/// Where they have more than 40,000,000, with the reply that says how many, and where memory runs out.
+/// If they have more than 40,000,000, with the reply that says how many, or if memory runs out.
 pub fn few_terms(alloc: Global, league: &League) -> Result<u64, NoValue>
     ensures { MatchStage result
         (IsCounted league.now)

@@ -1,4 +1,4 @@
-use Rattle.std.proofs.Common.{◌≡◌, ℕ, List, ◌-◌, Ok, subst, sym, ap, ◌∙◌}
+use Rattle.std.proofs.Common.{◌≡◌, ℕ, List, Ok, subst, sym, ap, ◌∙◌}
 use Rattle.rows.specs.Rows.{Row}
 use Rattle.refutation.specs.declared.verdict.Verdict.TheVariants.{Accepted}
 use Rattle.refutation_check.specs.Within.{AreWithin}

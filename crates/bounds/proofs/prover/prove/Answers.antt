@@ -8,8 +8,8 @@ use Rattle.bounds.specs.declared.proved.Proved.{Proved}
 use Rattle.bounds.proofs.ProofLemmas.{least_of_none, objective_small, settled-of}
 use Rattle.bounds.proofs.prover.prove.Goals as goal
 
-pub in_64_bits-requires : goal.in_64_bits-requires
-in_64_bits-requires c =
+pub in_64_bits-objective-requires : goal.in_64_bits-objective-requires
+in_64_bits-objective-requires c =
     omega (
       arith,
       c.requires.assessed,
