@@ -1,4 +1,4 @@
-use Rattle.prove_answer.proofs.ShownLemmas.{failed, passed, proved-written, replied-rejected, replied-told}
+use Rattle.prove_answer.proofs.ShownLemmas.{failed, proved-written, replied-rejected, replied-told}
 use Rattle.league.specs.Counts.{counts_of}
 use Rattle.prove_answer.proofs.stages.show.Goals as goal
 
@@ -10,7 +10,7 @@ returns-then-not-assessed c =
 
 pub prove-requires-clause-accepted : goal.prove-requires-clause-accepted
 prove-requires-clause-accepted c =
-    c.in_ok-assessed.ensures.feasible.0 (passed c.in_ok-assessed.assessed.feasible c.if-not-assessed.false)
+    c.in_ok-assessed.ensures.feasible.0 c.if-not-assessed.false
 
 pub proof_reply-requires : goal.proof_reply-requires
 proof_reply-requires c =
@@ -21,5 +21,5 @@ pub returns : goal.returns
 returns c =
     replied-told c.args.league.now c.args.conflicts c.args.schedule.now c.in_ok-proved.proved c.proof_reply.result
     c.requires.counted.instance.teams
-    (c.in_ok-assessed.ensures.feasible.0 (passed c.in_ok-assessed.assessed.feasible c.if-not-assessed.false))
+    (c.in_ok-assessed.ensures.feasible.0 c.if-not-assessed.false)
     c.in_ok-proved.ensures c.proof_reply.ensures

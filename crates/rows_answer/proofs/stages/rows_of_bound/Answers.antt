@@ -3,8 +3,8 @@ use Rattle.bound_rows.specs.Bounded.{Bounded}
 use Rattle.rows_answer.specs.Rowed.{bound_system, rows_answer}
 use Rattle.rows_answer.proofs.stages.rows_of_bound.Goals as goal
 
-pub returns-in_ok-of_bound : goal.returns-in_ok-of_bound
-returns-in_ok-of_bound c =
+pub returns : goal.returns
+returns c =
     inl (
       c.in_ok-terms.ensures.few,
       ap rows_answer (c.in_ok-of_bound.ensures
