@@ -29,7 +29,7 @@ few-small league next answer small (inl h) = h.1
 few-small league next answer small (inr h) =
     let large : most_terms < bound_size league = h.0 in absurd (omega arith)
 
--- and where it didn't refuse them, too
+-- where the run didn't refuse the bound rows it goes on, too
 pub few-yes : (league : Instance) (next : Unit {0} → Outcome) (answer : Answer) → (answer.status ≡ File → ⊥)
     → has_few_terms league next answer → next tt answer
 few-yes league next answer goes (inl h) = h.1

@@ -47,7 +47,7 @@ after-league store instance log first league is_first says_league answer rest =
           (log_stages store log (length first)) answer says_league rest,
     )
 
--- its bound rows have too many terms
+-- the bound rows of the league have too many terms
 pub bounded-large : (store : Store)
     (instance log first : List ℕ) (league : Instance) → IsFile (store.contents instance) INSTANCE_LIMIT first
     → instance_of (pieces first) ≡ Ok league → (answer : Answer)
@@ -66,7 +66,7 @@ bounded-unread store instance log first league is_first says_league small answer
     after-league store instance log first league is_first says_league answer
     (inl (small, inr unread))
 
--- it is: the rest is the answer to what it says
+-- the log is read: the rest is the answer to what it says
 pub bounded-last : (store : Store)
     (instance log first second : List ℕ) (league : Instance) → IsFile (store.contents instance) INSTANCE_LIMIT first
     → instance_of (pieces first) ≡ Ok league → bound_size league ≤ most_terms

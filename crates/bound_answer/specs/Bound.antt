@@ -1,5 +1,5 @@
 -- What `bound` answers: its stages in their order, and the verdict on a certificate.
-use Rattle.std.specs.Prelude.{◌≡◌, ℕ, ◌+◌, ◌-◌, ◌<◌, ◌≤◌, ◌⊎◌, ◌==◌, if◌then◌else◌, List, ◌++◌, length, codes, decimal}
+use Rattle.std.specs.Prelude.{◌≡◌, ℕ, ◌-◌, ◌<◌, ◌≤◌, ◌⊎◌, ◌==◌, if◌then◌else◌, List, ◌++◌, length, codes, decimal}
 use Rattle.std.specs.Prelude.{Some, Result, Ok, Err}
 use Rattle.robin_io.specs.Outside.{Store}
 use Rattle.league.specs.Instance.{Instance}
@@ -30,7 +30,7 @@ abbrev pub bound_verdict : Instance → ℕ → List Step → Verdict
 bound_verdict league bound steps =
     if bound == 0 then Accepted else verdict_of (bound_rows league (bound - 1)) (bound_vars league) steps
 
--- its text, of a log of so many steps; where it is rejected, that of `check`
+-- the text of a verdict on a log of so many steps; where the log is rejected, that of `check`
 abbrev pub bound_answer : ℕ → ℕ → Verdict → Answer
 bound_answer bound steps Accepted = record {
   status = Yes;

@@ -7,4 +7,4 @@
 mod replies;
 mod stages;
 
-pub use stages::{bound_file, has_few_terms};
+pub use stages::{bound_file, few_terms};

@@ -1,7 +1,8 @@
 //! The answers of `bound`.
-ghost use Rattle.std.specs.Prelude.{◌≡◌, ◌≤◌, IfOk, Ok};
+ghost use Rattle.std.specs.Prelude.{◌≡◌, IfOk, Ok};
 ghost use Rattle.answers.specs.SeenReply.{answer_of};
 ghost use Rattle.bound_laws.specs.Faithful.{IsLowerBound};
+ghost use Rattle.bound_rows.specs.Bounded.{IsCounted};
 ghost use Rattle.bound_answer.specs.Bound as texts;
 ghost use Rattle.bound_answer.specs.Bound.{IsBoundVerdict, bound_verdict};
 
@@ -9,21 +10,22 @@ use answers::{Reply, Status};
 use bound_check::check_bound;
 use certificates::Certificate;
 use check_answer::verdict_reply;
-use encoding::EncodeFault;
 use league::League;
 use refutation::Verdict;
 use std::alloc::{AllocError, Global};
 
-/// The verdict on a certificate. Where it is accepted, every schedule that the league accepts has an objective of at
-/// least the bound.
+/// The verdict on a certificate. If it is accepted, every schedule that the league accepts has an objective of at least
+/// the bound.
 ///
 /// # Errors
-/// Where memory runs out, and where the bound rows have too many terms, which the caller has excluded.
+/// Only where memory runs out.
 fn verdict_on(
     alloc: Global,
     league: &League,
     certificate: &Certificate,
+    terms: u64,
 ) -> Result<Verdict, AllocError>
+    requires { IsCounted league.now terms }
     ensures verdict { IfOk result (λ verdict.
         verdict ≡ bound_verdict league.now certificate.now.bound certificate.now.log) }
     ensures holds { result ≡ Ok Verdict.Accepted → IsLowerBound league.now certificate.now.bound }
@@ -31,13 +33,11 @@ fn verdict_on(
     if certificate.bound == 0 {
         return Ok(Verdict::Accepted);
     }
-    match check_bound(alloc, league, certificate.bound, &certificate.log) {
-        Ok(verdict) => Ok(verdict),
-        Err(EncodeFault::TooLarge { .. } | EncodeFault::Mem) => Err(AllocError),
-    }
+    let verdict = check_bound(alloc, league, certificate.bound, &certificate.log, terms)?;
+    Ok(verdict)
 }
 
-/// The certificate of so many steps is accepted.
+/// The answer to a certificate of `steps` steps that is accepted.
 fn accepted(alloc: Global, bound: u64, steps: usize) -> Result<Reply, AllocError>
     ensures { IfOk result (λ reply. answer_of reply ≡ texts.bound_answer bound steps Verdict.Accepted) }
 {
@@ -48,7 +48,7 @@ fn accepted(alloc: Global, bound: u64, steps: usize) -> Result<Reply, AllocError
     })
 }
 
-/// The verdict on a certificate of so many steps.
+/// The answer that tells the verdict on a certificate of `steps` steps.
 fn bound_reply(
     alloc: Global,
     bound: u64,
@@ -70,9 +70,11 @@ pub(crate) fn judge(
     alloc: Global,
     league: &League,
     certificate: &Certificate,
+    terms: u64,
 ) -> Result<Reply, AllocError>
+    requires { IsCounted league.now terms }
     ensures { IfOk result (λ reply. IsBoundVerdict league.now certificate.now (answer_of reply)) }
 {
-    let verdict = verdict_on(alloc, league, certificate)?;
+    let verdict = verdict_on(alloc, league, certificate, terms)?;
     bound_reply(alloc, certificate.bound, certificate.log.len(), verdict)
 }

@@ -1,9 +1,10 @@
 //! The stages of `bound`.
-ghost use Rattle.std.specs.Prelude.{◌≡◌, ◌<◌, ◌≤◌, ℕ, List, Ok};
+ghost use Rattle.std.specs.Prelude.{◌≡◌, ◌<◌, ℕ, List, Ok};
 ghost use Rattle.robin_io.specs.Outside.{store_between};
 ghost use Rattle.answers.specs.Reply.{too_large};
 ghost use Rattle.answers.specs.SeenReply.{Answers, MatchStage};
 ghost use Rattle.bound_base.specs.BoundRows.{bound_size};
+ghost use Rattle.bound_rows.specs.Bounded.{IsCounted};
 ghost use Rattle.encoding.specs.Capped.{capped};
 ghost use Rattle.certificates.specs.Certificates.{certificate_of};
 ghost use Rattle.bound_answer.specs.Bound.{IsBoundVerdict, bounded, says_certificate};
@@ -22,13 +23,13 @@ use robin_io::Shelf;
 use robinx_read::INSTANCE_LIMIT;
 use std::alloc::{AllocError, Global};
 
-/// Goes on where the bound rows of a league haven't too many terms.
+/// How many terms the bound rows of a league have, if these aren't too many.
 ///
 /// # Errors
-/// Where they have more than 40,000,000, with the reply that says how many, and where memory runs out.
-pub fn has_few_terms(alloc: Global, league: &League) -> Result<(), NoValue>
+/// If they have more than 40,000,000, with the reply that says how many, or if memory runs out.
+pub fn few_terms(alloc: Global, league: &League) -> Result<u64, NoValue>
     ensures { MatchStage result
-        (λ few. bound_size league.now ≤ most_terms)
+        (IsCounted league.now)
         (λ answer. (most_terms < bound_size league.now)
         × (answer ≡ too_large (capped (bound_size league.now)))) }
 {
@@ -36,7 +37,7 @@ pub fn has_few_terms(alloc: Global, league: &League) -> Result<(), NoValue>
     if terms > MOST_TERMS {
         return Err(NoValue::Refused(rows_refused(alloc, terms)?));
     }
-    Ok(())
+    Ok(terms)
 }
 
 /// The certificate that a text writes.
@@ -55,11 +56,18 @@ fn certificate_in(alloc: Global, name: &str, bytes: &[u8]) -> Result<Certificate
 }
 
 /// Judges the certificate that a text writes.
-fn judge_text(alloc: Global, name: &str, bytes: &[u8], league: &League) -> Result<Reply, NoValue>
+fn judge_text(
+    alloc: Global,
+    name: &str,
+    bytes: &[u8],
+    league: &League,
+    terms: u64,
+) -> Result<Reply, NoValue>
+    requires { IsCounted league.now terms }
     ensures { Answers (says_certificate (certificate_of bytes.now) (IsBoundVerdict league.now)) result }
 {
     let certificate = certificate_in(alloc, name, bytes)?;
-    Ok(judge(alloc, league, &certificate)?)
+    Ok(judge(alloc, league, &certificate, terms)?)
 }
 
 /// Checks the certificate of one file over the bound rows of the league of the other.
@@ -78,7 +86,7 @@ pub fn bound_file<S: Shelf>(
 {
     let first = file(alloc, shelf, "instance", instance, INSTANCE_LIMIT)?;
     let league = league_in(alloc, instance, &first)?;
-    has_few_terms(alloc, &league)?;
+    let terms = few_terms(alloc, &league)?;
     let second = file(alloc, shelf, "log", log, LOG_LIMIT)?;
-    judge_text(alloc, log, &second, &league)
+    judge_text(alloc, log, &second, &league, terms)
 }

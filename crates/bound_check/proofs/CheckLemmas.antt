@@ -14,7 +14,7 @@ pub within-from_known : (vars : ℕ) (rows : List Row) → AreKnown vars rows �
 within-from_known vars rows known =
     All-weaker (IsKnown vars) (IsWithin vars) (λ row is k d within. (is k d within).1) rows known
 
--- rows of a league and a bound, by other names
+-- the bound rows of one less than a bound, under another name, have no solution: so the bound is a lower bound
 pub shown : (league : Instance) (bound : ℕ) (rows : List Row) → IsInstance league
     → rows ≡ bound_rows league (bound - 1) → HaveNoSolution rows → IsLowerBound league bound
 shown league bound rows is same none =

@@ -58,7 +58,7 @@ extends-both old mid new xs ys first second = record {
   count = omega (arith, first.count, second.count, sum_by-append (λ (g : Group). length g.rows) xs ys);
 }
 
--- the same groups, by another name
+-- what extends a draft by some groups extends it by equal groups
 pub extends-as : (old new : Draft) (xs ys : List Group) → xs ≡ ys → Extends old new xs → Extends old new ys
 extends-as old new xs ys same is = subst (λ (gs : List Group). Extends old new gs) same is
 
@@ -69,7 +69,7 @@ later_known low high groups less known =
     All-weaker (λ (g : Group). AreBefore low g.rows) (λ g. AreBefore high g.rows)
     (λ g before k d within l e inside. omega (arith, before k d within l e inside, less)) groups known
 
--- of a list what stands at a place, between what comes before and after it
+-- a list is what stands before a place, the element there, and what stands behind
 pub split_at : {X : Type 0} (xs : List X) (k : ℕ) (d : X) → k < length xs
     → xs ≡ take k xs ++ (get_or xs k d ∷ drop (k + 1) xs)
 split_at xs k d within =

@@ -21,14 +21,14 @@ rows_in groups = sum_by (λ g. length g.rows) groups
 abbrev pub AreBefore : ℕ → List Row → Type 0
 AreBefore next rows = All (λ row. All (λ t. t.lit.var < next) row.terms) rows
 
--- these groups were added
+-- some groups were added to a draft
 pub record Extends (old new : Draft) (groups : List Group) : Type 0 where
   pub rows : new.rows ≡ old.rows ++ softened_rows old.next groups
   pub kept : bare_groups new.groups.items ≡ bare_groups old.groups.items ++ map stripped groups
   pub next : new.next ≡ old.next + units_in groups
   pub count : length new.rows ≡ length old.rows + rows_in groups
 
--- they can be added: there are numbers for their units and their rows, and the units stand after all other variables
+-- groups can be added: there are numbers for their units and their rows, and the units stand after all other variables
 pub record HasRoom (draft : Draft) (groups : List Group) : Type 0 where
   pub first : 1 ≤ draft.next
   pub units : draft.next + units_in groups ≤ 2147483648

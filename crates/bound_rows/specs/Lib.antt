@@ -1,6 +1,6 @@
 -- What a reader of a claim must believe:
 --
--- What a bound system is of:
+-- What a bound system is of, and what must be counted first:
 pub mod Bounded
 -- Kept inside (laws, and how fields are seen):
 --

@@ -28,7 +28,7 @@ paid_size n constraints = sum_by (λ c. parts_size n (parts_of n c.class)) (paid
 abbrev pub row_size : ℕ → ℕ → ℕ → ℕ
 row_size units degree count = if nat_lt 0 degree then count + units else 0
 
--- the units beside these rows
+-- the terms of the units outside of the rows of their group: in the objective row, and in the rows that order them
 abbrev pub units_size : ℕ → ℕ
 units_size units = units + 2 * (units - 1)
 
@@ -41,7 +41,7 @@ two_rows_size low beyond count =
 abbrev pub between_size : ℕ → ℕ → ℕ → ℕ
 between_size low high count = two_rows_size low (count - high) count
 
--- of two teams of an FA2: at each slot two rows, each with two literals for each slot so far
+-- the group of two teams of an FA2: at each slot two rows, each with two literals for each slot so far
 abbrev pub lead_units : ℕ → List ℕ → ℕ
 lead_units intp slots = largest (λ s. s + 1 - intp) slots
 

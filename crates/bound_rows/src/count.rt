@@ -1,12 +1,14 @@
 //! How many terms the bound rows of a league have. They are counted by formulas, and no row is written.
-ghost use Rattle.std.specs.Prelude.{◌≡◌, ◌+◌, [], ◌∷◌, IsTrue};
+ghost use Rattle.std.specs.Prelude.{◌≡◌, ◌+◌, ◌≤◌, [], ◌∷◌, IsTrue};
 ghost use Rattle.std.specs.List.{All};
 ghost use Rattle.league.specs.Instance.{IsTeamCount, class_fits};
 ghost use Rattle.rows.specs.Rows.{size_of};
 ghost use Rattle.encoding_base.specs.Encoding as encoding;
 ghost use Rattle.bound_base.specs.BoundRows as bounds;
+ghost use Rattle.bound_rows.specs.Bounded.{IsCounted};
 ghost use Rattle.bound_rows.specs.Sizes as sizes;
 ghost use Rattle.encoding.specs.Capped.{capped};
+ghost use Rattle.encoding.specs.Limit.{most_terms};
 
 use crate::sizes::class_terms;
 use bound_base::{is_paid, needs_breaks};
@@ -14,17 +16,21 @@ use encoding_base::has_breaks;
 use encoding_sizes::encoding_size;
 use league::{Constraint, League};
 
-/// How many terms the bound rows of a league have, whatever the bound; where a number of 64 bits doesn't hold that, the
-/// largest one. It takes no memory.
+/// How many terms the bound rows of a league have, or 2^64 - 1 if they have more. Their number is the same for every
+/// bound. The count takes no memory.
+///
+/// This is the test of what `bound_system` requires: if the answer is at most `MOST_TERMS`, the league is counted.
 pub fn bound_terms(league: &League) -> u64
-    ensures { result ≡ capped (bounds.bound_size league.now) }
+    ensures terms { result ≡ capped (bounds.bound_size league.now) }
+    ensures counted { result ≤ most_terms → IsCounted league.now result }
 {
     let base = encoding_size(league).saturating_add(more_terms(league));
     let paid = paid_terms(league.n(), league.constraints());
     base.saturating_add(paid)
 }
 
-/// Those of breaks that have variables only since a soft constraint bounds them.
+/// How many terms the rows of breaks have that a league's own encoding lacks: those of a league in which soft constraints
+/// bound breaks and no hard one does.
 fn more_terms(league: &League) -> u64
     ensures { encoding.encoding_size league.now + result ≡ size_of (bounds.base_rows league.now) }
 {
@@ -37,7 +43,7 @@ fn more_terms(league: &League) -> u64
     }
 }
 
-/// Those of the groups of the constraints that are paid for.
+/// How many terms the groups of the constraints have that are paid for, or 2^64 - 1 if they have more.
 fn paid_terms(n: u16, constraints: &[Constraint]) -> u64
     requires n { IsTeamCount n }
     requires fit { All (λ c. IsTrue (class_fits n c.class)) constraints.now }
@@ -50,7 +56,7 @@ fn paid_terms(n: u16, constraints: &[Constraint]) -> u64
     total
 }
 
-/// Those of one constraint, where it is paid for.
+/// How many terms the groups of one constraint have: none if it isn't paid for.
 fn terms_if_paid(n: u16, constraint: &Constraint) -> u64
     requires n { IsTeamCount n }
     requires fits { IsTrue (class_fits n constraint.now.class) }

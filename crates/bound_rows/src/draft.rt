@@ -39,7 +39,7 @@ pub(crate) fn add_paid(
     Ok(())
 }
 
-/// Adds those of one constraint, where it is paid for.
+/// Adds the groups of one constraint, where it is paid for.
 fn add_if_paid(
     draft: &mut Draft,
     alloc: Global,
@@ -56,7 +56,7 @@ fn add_if_paid(
     Ok(())
 }
 
-/// Adds those of one constraint.
+/// Adds the groups of one constraint.
 fn add_constraint(
     draft: &mut Draft,
     alloc: Global,
@@ -73,7 +73,7 @@ fn add_constraint(
     add_parts(draft, alloc, season, constraint.penalty, &parts)
 }
 
-/// Adds those of some parts.
+/// Adds the groups of some parts, in order.
 fn add_parts(
     draft: &mut Draft,
     alloc: Global,

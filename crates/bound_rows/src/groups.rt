@@ -3,14 +3,15 @@ ghost use Rattle.std.specs.Prelude.{◌≡◌, ◌+◌, ◌-◌};
 ghost use Rattle.bound_rows.specs.Sizes as sizes;
 ghost use Rattle.encoding.specs.Capped.{capped};
 
-/// Those of a group that bounds so many literals from below and from above.
+/// How many terms a group has that bounds how many of `count` literals are true: from `low` to `high`.
 pub(crate) fn between_terms(low: u32, high: u32, count: u64) -> u64
     ensures { result ≡ capped (sizes.between_size low high count) }
 {
     two_rows_terms(u64::from(low), count.saturating_sub(u64::from(high)), count)
 }
 
-/// Those of a group of two rows of so many literals, with these degrees: it has so many units as the larger degree.
+/// How many terms a group of two rows has. Both rows have `count` literals; their degrees are `low` and `beyond`. The
+/// group has as many units as the larger degree.
 fn two_rows_terms(low: u64, beyond: u64, count: u64) -> u64
     ensures { result ≡ capped (sizes.two_rows_size low beyond count) }
 {
@@ -19,7 +20,8 @@ fn two_rows_terms(low: u64, beyond: u64, count: u64) -> u64
     rows.saturating_add(units_terms(units))
 }
 
-/// Those of a group of two rows at each slot, each with two literals for each slot so far.
+/// How many terms the group of two teams of an FA2 has. It has two rows at each of the slots. Each row has two literals
+/// for each slot up to that one.
 pub(crate) fn lead_terms(intp: u32, slots: &[u16]) -> u64
     ensures { result ≡ capped (sizes.lead_size intp slots.now) }
 {
@@ -31,7 +33,7 @@ pub(crate) fn lead_terms(intp: u32, slots: &[u16]) -> u64
     total.saturating_add(units_terms(units))
 }
 
-/// How many units it has: so many as the largest degree.
+/// How many units the group of two teams of an FA2 has: as many as the largest degree of its rows.
 fn lead_units(intp: u32, slots: &[u16]) -> u64
     ensures { result ≡ sizes.lead_units intp slots.now }
 {
@@ -42,7 +44,7 @@ fn lead_units(intp: u32, slots: &[u16]) -> u64
     units
 }
 
-/// Those of its two rows at a slot.
+/// How many terms the two rows at a slot have, in a group of two teams of an FA2 with `units` units.
 fn lead_terms_at(units: u64, intp: u32, slot: u16) -> u64
     ensures { result ≡ capped (sizes.lead_size_at units intp slot) }
 {
@@ -50,14 +52,15 @@ fn lead_terms_at(units: u64, intp: u32, slot: u16) -> u64
     row.saturating_mul(2)
 }
 
-/// The degree of either.
+/// The degree of either of the two rows at a slot, in a group of two teams of an FA2.
 fn lead_degree(intp: u32, slot: u16) -> u64
     ensures { result ≡ slot + 1 - intp }
 {
     (u64::from(slot) + 1).saturating_sub(u64::from(intp))
 }
 
-/// Those of a row of so many literals with so many units. It isn't listed where it demands nothing.
+/// How many terms a row has: one for each literal and one for each unit. A row of degree 0 demands nothing. It isn't
+/// listed, so it has none.
 fn row_terms(units: u64, degree: u64, count: u64) -> u64
     ensures { result ≡ capped (sizes.row_size units degree count) }
 {
@@ -68,7 +71,8 @@ fn row_terms(units: u64, degree: u64, count: u64) -> u64
     }
 }
 
-/// Those of so many units beside these rows.
+/// How many terms the units of a group have outside of the group's rows: one each in the objective row, and two in each
+/// row that orders two neighbours.
 fn units_terms(units: u64) -> u64
     ensures { result ≡ capped (sizes.units_size units) }
 {

@@ -9,7 +9,7 @@ ghost use Rattle.encoding.specs.Capped.{capped};
 use encoding_sizes::pair_total;
 use league::{Class, ClassName, slot_count};
 
-/// Those of an SE1: as many for each two of its teams.
+/// How many terms the groups of an SE1 have: as many for each two of its teams.
 pub(crate) fn se1_terms(n: u16, class: &Class) -> u64
     requires n { IsTeamCount n }
     requires class { name_of class.now ≡ ClassName.Se1 }
@@ -22,7 +22,8 @@ pub(crate) fn se1_terms(n: u16, class: &Class) -> u64
     pair_terms(n, *min).saturating_mul(pair_total(n, teams))
 }
 
-/// Those of two teams. With the least numbers of slots from the season's on they are all alike.
+/// How many terms the groups of two teams of an SE1 have: one group for each number of slots up to `min`. The groups for
+/// numbers from the season's slots on are all alike.
 fn pair_terms(n: u16, min: u32) -> u64
     requires { IsTeamCount n }
     ensures { result ≡ capped (sizes.parts_size n (parts.se1_parts min (0, 1))) }
@@ -36,7 +37,8 @@ fn pair_terms(n: u16, min: u32) -> u64
     total.saturating_add(last.saturating_mul(u64::from(min - near)))
 }
 
-/// Those of two teams and one least number of slots: a row with a unit for each window, and the unit's price.
+/// How many terms the group of two teams and one least number of slots has: a row with a unit for each window, and the
+/// unit's term in the objective row.
 fn apart_terms(n: u16, min: u32) -> u64
     requires { IsTeamCount n }
     ensures { result ≡ capped (sizes.part_size n (Class.Se1 (0 ∷ 1 ∷ []) min)) }

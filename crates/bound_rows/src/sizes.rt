@@ -13,7 +13,8 @@ use encoding_base::slot_numbers;
 use encoding_sizes::{Batch, batches_of, pair_total};
 use league::{Bounds, Class, ClassName};
 
-/// Those of a class that fits a league of n teams. It takes no memory, and no longer where there are more of them.
+/// How many terms the groups of a class have that fits a league of n teams. The count takes no memory. It takes no longer
+/// if there are more terms.
 pub(crate) fn class_terms(n: u16, class: &Class) -> u64
     requires n { IsTeamCount n }
     requires fits { IsTrue (class_fits n class.now) }
@@ -26,7 +27,8 @@ pub(crate) fn class_terms(n: u16, class: &Class) -> u64
     }
 }
 
-/// Those of a class that counts games or breaks: a group for each list of literals that it bounds.
+/// How many terms the groups of a class have that bounds how many games or breaks there are: a group for each list of
+/// literals that the class bounds.
 fn counted_terms(n: u16, class: &Class) -> u64
     requires n { IsTeamCount n }
     requires bounds { IsTrue (has_bounds class.now) }
@@ -39,14 +41,14 @@ fn counted_terms(n: u16, class: &Class) -> u64
     first.saturating_add(batch_terms(bounds, batches.second))
 }
 
-/// Those of one batch.
+/// How many terms the groups of one batch have.
 fn batch_terms(bounds: Bounds, batch: Batch) -> u64
     ensures { result ≡ capped (batch.lists * sizes.between_size bounds.min bounds.max batch.literals) }
 {
     between_terms(bounds.min, bounds.max, batch.literals).saturating_mul(batch.lists)
 }
 
-/// Those of an FA2: as many for each two of its teams.
+/// How many terms the groups of an FA2 have: equally many for each two of its teams.
 fn fa2_terms(n: u16, class: &Class) -> u64
     requires n { n ≤ 40 }
     requires class { name_of class.now ≡ ClassName.Fa2 }

@@ -2,14 +2,10 @@
 ghost use Rattle.std.specs.Prelude.{◌≡◌, ◌≤◌, IfOk};
 ghost use Rattle.league.specs.Instance.{IsInstance};
 ghost use Rattle.encoding_base.specs.Known.{AreKnown};
-ghost use Rattle.bound_base.specs.BoundRows as bounds;
-ghost use Rattle.bound_base.specs.BoundRows.{bound_rows, bound_size, bound_vars};
-ghost use Rattle.encoding.specs.Capped.{capped};
-ghost use Rattle.encoding.specs.Limit.{KeepsLimit, most_terms};
+ghost use Rattle.bound_base.specs.BoundRows.{bound_rows, bound_vars};
+ghost use Rattle.bound_rows.specs.Bounded.{IsCounted};
 
-use crate::count::bound_terms;
 use crate::written::{Written, write_bound};
-use encoding::{EncodeFault, MOST_TERMS};
 use league::League;
 use rows::RowStore;
 use std::alloc::{AllocError, Global};
@@ -56,36 +52,21 @@ impl BoundSystem {
     }
 }
 
-/// The bound rows of a league and a bound. Their terms are counted before they are written: where there are too many,
-/// that is the answer. Their number is the same for every bound; a number of 64 bits holds it, and were it larger, the
-/// largest such number would be said.
+/// The bound rows of a league and a bound. `terms` is how many terms they have, as `bound_terms` counted them before.
+/// Room is made for that number, which is the same for every bound.
 ///
 /// # Errors
-/// `TooLarge` only where the rows have more than 40,000,000 terms, with their number; else only where memory runs out.
-pub fn bound_system(alloc: Global, league: &League, bound: u64) -> Result<BoundSystem, EncodeFault>
-    ensures of { IfOk result (λ system. system ≡ record { league = league.now; bound = bound }) }
-    ensures limit { KeepsLimit (bound_size league.now) (capped (bound_size league.now)) result }
-{
-    let terms = bound_terms(league);
-    if terms > MOST_TERMS {
-        return Err(EncodeFault::TooLarge { terms });
-    }
-    let system = written_system(alloc, league, bound, terms)?;
-    Ok(system)
-}
-
-/// The bound rows of a league, which are few enough.
-fn written_system(
+/// Only where memory runs out.
+pub fn bound_system(
     alloc: Global,
     league: &League,
     bound: u64,
     terms: u64,
 ) -> Result<BoundSystem, AllocError>
-    requires { bound_size league.now ≤ most_terms }
+    requires { IsCounted league.now terms }
     ensures { IfOk result (λ system. system ≡ record { league = league.now; bound = bound }) }
 {
     let Written { rows, vars } = write_bound(alloc, league, bound, terms)?;
-    let _n = league.n();
     let league = league.copy()?;
     Ok(BoundSystem {
         league,

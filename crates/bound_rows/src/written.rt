@@ -22,7 +22,7 @@ pub(crate) struct Written {
     pub(crate) vars: u32,
 }
 
-/// The bound rows of a league. Room is made for so many terms before any row is written.
+/// The bound rows of a league. Room is made for all `terms` terms before any row is written.
 pub(crate) fn write_bound(
     alloc: Global,
     league: &League,
@@ -75,7 +75,7 @@ fn base(alloc: Global, league: &League, first: u32, terms: u64) -> Result<Draft,
     })
 }
 
-/// Some rows with the objective row and those that order the units behind.
+/// Some rows, and behind them the objective row and the rows that order the units.
 fn finished(alloc: Global, draft: Draft, first: u32, bound: u64) -> Result<Written, AllocError>
     requires first { 1 ≤ first }
     requires last { first + unit_total draft.groups.items ≤ 2147483648 }

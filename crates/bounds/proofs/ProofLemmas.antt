@@ -1,10 +1,9 @@
 -- What the answers say of a league and a schedule.
-use Rattle.std.proofs.Common.{◌≡◌, ℕ, ◌+◌, ◌-◌, ◌*◌, ◌^◌, ◌<◌, ◌≤◌, Bool, true, false, cond, max, List, [], ◌++◌}
+use Rattle.std.proofs.Common.{◌≡◌, ℕ, ◌+◌, ◌-◌, ◌*◌, ◌^◌, ◌<◌, ◌≤◌, Bool, false, max, List, []}
 use Rattle.std.proofs.Common.{get_or, length, take, Option, refl, sym, ap, subst, ◌∙◌, arith}
 use Rattle.std.proofs.Math.Nat.{mul-le-mul}
-use Rattle.std.proofs.lemmas.Bool.{or_left}
 use Rattle.std.proofs.lemmas.List.Elements.{All-nil, All-weaker}
-use Rattle.std.proofs.lemmas.List.Sums.{fold_more, sum_by-append}
+use Rattle.std.proofs.lemmas.List.Sums.{fold_more}
 use Rattle.std.specs.List.{All}
 use Rattle.league.specs.Accepted.{IsAccepted, objective}
 use Rattle.league.specs.Bounds.{largest}
@@ -13,12 +12,10 @@ use Rattle.league.specs.Instance.{Instance, IsGame, IsInstance}
 use Rattle.league.specs.Order.{IsInOrder}
 use Rattle.league.specs.declared.class.Constraint.{Constraint}
 use Rattle.league.specs.declared.game.Game.{Game}
-use Rattle.rows.specs.Rows.{Row, SatisfiesAll, size_of}
-use Rattle.encoding_base.specs.Encoding.{constraint_rows, encoding_size, season_rows}
+use Rattle.rows.specs.Rows.{Row, SatisfiesAll}
 use Rattle.encoding_base.specs.Known.{AreKnown, IsKnown}
-use Rattle.encoding_base.specs.Season.{break_rows}
 use Rattle.encoding_base.specs.Shadow.{decoded}
-use Rattle.encoding_base.specs.Variables.{has_breaks, hb_count, var_count}
+use Rattle.encoding_base.specs.Variables.{x_count}
 use Rattle.propagate.specs.Trails.{KnowsVariables}
 use Rattle.refutation_check.proofs.SoundLemmas.{accepted_logs_refute}
 use Rattle.refutation.specs.Steps.{NamesRows, Step, is_linear}
@@ -29,14 +26,14 @@ use Rattle.pattern_search.proofs.LogLemmas.{refuted-clauses}
 use Rattle.pattern_search.proofs.NewsLemmas.{news-clauses}
 use Rattle.descent.specs.Descended.{Descended}
 use Rattle.descent.specs.Settled.{IsSettled}
+use Rattle.descent.proofs.TrailLemmas.{trails-stay_feasible}
 use Rattle.solve.specs.Solutions.{IsSchedule, league_score}
 use Rattle.decoding.proofs.GameLemmas.{accepted_few, decoded_fit}
 use Rattle.solve.proofs.LowerLemmas.{IsSchedule-settled}
-use Rattle.bound_base.specs.BoundRows.{base_vars, bound_rows, bound_size, bound_vars, has_paid_breaks}
-use Rattle.bound_base.specs.BoundRows.{needs_breaks}
+use Rattle.walk.proofs.WalkLemmas.{met}
+use Rattle.bound_base.specs.BoundRows.{bound_rows, bound_size, bound_vars}
 use Rattle.bound_laws.proofs.CostLaws.{costs-bounded}
 use Rattle.bound_laws.proofs.Faithful.{bounded-from_rows, bounds-from_refuted}
-use Rattle.bound_rows.proofs.SizeLemmas.{bound_size-groups}
 use Rattle.bounds.specs.Lower.{IsLower}
 use Rattle.bounds.specs.Proofs.{IsBetter, IsLeast, IsSpentBelow}
 
@@ -44,50 +41,9 @@ pub knows-from_known : (vars : ℕ) (rows : List Row) → AreKnown vars rows →
 knows-from_known vars rows known =
     All-weaker (IsKnown vars) (KnowsVariables vars) (λ row is k d within. (is k d within).1) rows known
 
--- ---- the league's own encoding is no larger
-
-breaks-le : (league : Instance) (b : Bool) → has_breaks league.constraints ≡ b
-    → size_of (break_rows league.n (has_breaks league.constraints))
-    ≤ size_of (break_rows league.n (needs_breaks league.constraints))
-breaks-le league true has =
-    let needs : needs_breaks league.constraints ≡ true =
-    or_left (has_breaks league.constraints) (has_paid_breaks league.constraints) has in
-    omega (
-      arith,
-      ap (λ (b : Bool). size_of (break_rows league.n b)) has,
-      ap (λ (b : Bool). size_of (break_rows league.n b)) needs,
-    )
-breaks-le league false has = omega (arith, ap (λ (b : Bool). size_of (break_rows league.n b)) has)
-
-pub encoding-le : (league : Instance) → encoding_size league ≤ bound_size league
-encoding-le league =
-    let n : ℕ = league.n in
-    let terms : Row → ℕ = λ r. length r.terms in
-    let season : List Row = season_rows n league.phased in
-    let hard : List Row = constraint_rows n league.constraints in
-    omega (
-      arith,
-      bound_size-groups league,
-      sum_by-append terms (season ++ break_rows n (has_breaks league.constraints)) hard,
-      sum_by-append terms season (break_rows n (has_breaks league.constraints)),
-      sum_by-append terms (season ++ break_rows n (needs_breaks league.constraints)) hard,
-      sum_by-append terms season (break_rows n (needs_breaks league.constraints)),
-      breaks-le league (has_breaks league.constraints) refl,
-    )
-
-vars-by : (league : Instance) (b : Bool) → has_breaks league.constraints ≡ b → var_count league ≤ base_vars league
-vars-by league true has =
-    let needs : needs_breaks league.constraints ≡ true =
-    or_left (has_breaks league.constraints) (has_paid_breaks league.constraints) has in
-    omega (
-      arith,
-      ap (λ (b : Bool). cond b (2 * hb_count league.n) 0) has,
-      ap (λ (b : Bool). cond b (2 * hb_count league.n) 0) needs,
-    )
-vars-by league false has = omega (arith, ap (λ (b : Bool). cond b (2 * hb_count league.n) 0) has)
-
-pub vars-le : (league : Instance) → var_count league ≤ bound_vars league
-vars-le league = omega (arith, vars-by league (has_breaks league.constraints) refl)
+-- games have variables among all
+pub games-le : (league : Instance) → x_count league.n ≤ bound_vars league
+games-le league = omega arith
 
 -- ---- objectives of 64 bits
 
@@ -213,13 +169,31 @@ lower-of league was n values games is some meets teams same order =
       lower = omega (arith, found.1, some);
     }
 
--- a schedule that costs less than another, or one below it
-pub better-than : (league : Instance) (m : Counts) (was cost : ℕ) (games : List Game) → IsLower league was games
-    → objective league m ≡ was → cost ≡ objective league (counts_of games) → IsBetter league m games cost
-better-than league m was cost games lower costs is = record {
-  accepted = lower.accepted;
-  fit = lower.fit;
-  in_order = lower.in_order;
-  cost = is;
-  lower = omega (arith, lower.lower, costs, is);
-}
+-- a descent leads to no higher an objective
+pub lowered-le : (league : Instance) (moves cost : ℕ) (games : List Game) (descent : Descended)
+    → IsSchedule league moves games cost descent → cost ≤ objective league (counts_of descent.first)
+lowered-le league moves cost games descent is =
+    let first : Counts = counts_of descent.first in
+    let stays = trails-stay_feasible league.n league.phased (league_score league) first (counts_of games) descent.trail
+    ((met league first).1 is.descends.first.hard) is.descends.trail in
+    omega (arith, stays.1, is.cost)
+
+-- the end of a descent that begins with games which cost less than a number costs less, too
+pub below-start : (league : Instance) (was moves cost : ℕ) (start games : List Game) (descent : Descended)
+    → IsLower league was start → IsSchedule league moves games cost descent
+    → counts_of descent.first ≡ counts_of start → cost < was
+below-start league was moves cost start games descent lower is first =
+    omega (
+      arith,
+      lowered-le league moves cost games descent is,
+      ap (λ (m : Counts). objective league m) first,
+      lower.lower,
+    )
+
+-- the end of such a descent betters a schedule that costs as much as that number
+pub better-below : (league : Instance) (m : Counts) (was moves cost : ℕ) (start games : List Game)
+    (descent : Descended) → IsLower league was start → IsSchedule league moves games cost descent
+    → counts_of descent.first ≡ counts_of start → objective league m ≡ was → IsBetter league m games cost
+better-below league m was moves cost start games descent lower is first costs =
+    better-of league m moves cost games descent is
+    (omega (arith, below-start league was moves cost start games descent lower is first, costs))

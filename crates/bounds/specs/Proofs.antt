@@ -17,8 +17,8 @@ use Rattle.bound_laws.specs.Faithful.{IsLowerBound}
 use Rattle.bounds.specs.declared.proved.Proved.{Proved}
 use Rattle.bounds.specs.declared.proved.Proved.TheVariants.{Least, Better, Spent}
 
--- The schedule's objective is the least: no accepted one is below it. The log is accepted over the bound rows of one
--- less, or where the objective is 0 it is empty; its text can be written.
+-- The schedule's objective is the least: no accepted schedule has a lower one. If the objective is 0, the log is empty.
+-- Else the log is accepted over the bound rows of one less than the objective. The log can be written.
 pub record IsLeast (league : Instance) (m : Counts) (limit : Option ℕ) (objective : ℕ) (steps : List Step) : Type 0
   where
     pub cost : objective ≡ costs.objective league m
@@ -35,15 +35,15 @@ pub record IsBetter (league : Instance) (m : Counts) (games : List Game) (object
   pub cost : objective ≡ costs.objective league (counts_of games)
   pub lower : objective < costs.objective league m
 
--- The schedule's objective is above 0, no single legal move betters it, and the log is spent at the limit over the
--- bound rows of one less; its text can be written.
+-- The budget ran out. The schedule's objective is at least 1. No single legal move betters the schedule. The log is
+-- spent at the limit over the bound rows of one less than this objective. The log can be written.
 pub record IsSpentBelow (league : Instance) (m : Counts) (limit : Option ℕ) (steps : List Step) : Type 0 where
   pub some : 1 ≤ costs.objective league m
   pub settled : IsSettled league.n league.phased (league_score league) m
   pub spent : IsSpentAt (bound_rows league (costs.objective league m - 1)) (bound_vars league) limit steps
   pub named : All NamesRows steps
 
--- what each answer says, where the search learns at most so many clauses
+-- what each answer says, if the search learns at most `limit` clauses
 abbrev pub IsProved : Instance → Counts → Option ℕ → Proved → Type 0
 IsProved league m limit (Least objective log) = IsLeast league m limit objective log
 IsProved league m limit (Better games objective) = IsBetter league m games objective

@@ -3,7 +3,6 @@
 //! `specs/Proofs.antt` says what each answer promises.
 #![tactic(auto)]
 
-mod cost;
 mod proved;
 mod prover;
 

@@ -6,10 +6,10 @@ use refutation::Log;
 #[derive(Drop)]
 pub enum Proved {
     /// No schedule that the league accepts has a lower objective: the log is accepted over the bound rows of one less.
-    /// Of an objective of 0 the log is empty.
+    /// If the objective is 0, nothing has to be refuted, and the log is empty.
     Least { objective: u64, log: Log },
     /// A schedule that the league accepts, with a lower objective.
     Better { schedule: Schedule, objective: u64 },
-    /// A log of as many steps as the limit allows, each of which says more than propagation finds.
+    /// The budget ran out: a log of as many steps as the limit allows. Each step says more than propagation finds.
     Spent { log: Log },
 }

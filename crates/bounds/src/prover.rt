@@ -1,5 +1,5 @@
 //! Whether a schedule can be bettered.
-ghost use Rattle.std.specs.Prelude.{◌≡◌, ℕ, ◌-◌, ◌^◌, ◌<◌, ◌≤◌, [], length, IfOk, Err, Option};
+ghost use Rattle.std.specs.Prelude.{◌≡◌, ℕ, ◌-◌, ◌^◌, ◌<◌, ◌≤◌, [], length, IfOk, Option};
 ghost use Rattle.std.specs.List.{All};
 ghost use Rattle.league.specs.Accepted.{IsAccepted};
 ghost use Rattle.league.specs.Accepted as costs;
@@ -10,75 +10,53 @@ ghost use Rattle.rows.specs.Rows.{SatisfiesAll};
 ghost use Rattle.rows.specs.Values.{assigned};
 ghost use Rattle.descent.specs.Settled.{IsSettled};
 ghost use Rattle.solve.specs.Solutions.{league_score};
-ghost use Rattle.bound_base.specs.BoundRows.{bound_rows, bound_size, bound_vars};
-ghost use Rattle.encoding.specs.Capped.{capped};
+ghost use Rattle.bound_base.specs.BoundRows.{bound_rows, bound_vars};
+ghost use Rattle.bound_rows.specs.Bounded.{IsCounted};
 ghost use Rattle.bounds.specs.Lower.{IsLower};
 ghost use Rattle.bounds.specs.Proofs.{IsProved};
-ghost use Rattle.encoding.specs.Limit.{KeepsLimit, most_terms};
 
-use crate::cost::objective_of;
 use crate::proved::Proved;
-use bound_rows::{bound_system, bound_terms};
+use bound_rows::bound_system;
 use clause_search::{Found, search};
-use decoding::decode;
-use encoding::{EncodeFault, MOST_TERMS, encode};
+use decoding::decode_games;
 use league::{Constraint, League, Schedule};
 use refutation::Log;
 use rows::Assignment;
 use solve::{Season, lowered};
-use std::alloc::Global;
+use std::alloc::{AllocError, Global};
 
 /// The most moves of a descent.
 const MOVES: u64 = 1_000_000;
 
-/// Shows that an accepted schedule can't be bettered, betters it, or spends its budget.
+/// Shows that an accepted schedule can't be bettered, betters it, or spends its budget of `conflicts`. `cost` is the
+/// schedule's objective, as `assess` of `deviation` says it. `terms` is how many terms the league's bound rows have, as
+/// `bound_terms` of `bound_rows` counts them.
 ///
-/// A descent goes on from the schedule by moves. Where that betters it, the schedule to which it leads is the answer,
-/// and else what a search over the bound rows of one less finds, which learns at most so many clauses: from a schedule
-/// that it finds a descent goes on, too. So the budget is spent only where no single move betters the schedule. What is
-/// found first is not promised.
+/// A descent goes on from the schedule by moves. If the descent betters the schedule, the answer is the schedule at its
+/// end. If not, a search goes over the bound rows of one less than the objective; it learns at most `conflicts` clauses.
+/// From a schedule that the search finds, a descent goes on, too. So the budget is spent only if no single move betters
+/// the schedule. Which better schedule is found is not promised.
 ///
 /// # Errors
-/// `TooLarge` only where the bound rows have more than 40,000,000 terms, with their number as far as a number of 64
-/// bits holds it, and always there; else only where memory runs out.
+/// Only where memory runs out.
 pub fn prove(
     alloc: Global,
     league: &League,
     schedule: &Schedule,
+    cost: u128,
     conflicts: Option<u64>,
-) -> Result<Proved, EncodeFault>
+    terms: u64,
+) -> Result<Proved, AllocError>
     requires accepted { IsAccepted league.now (counts_of schedule.now) }
     requires fit { All (IsGame league.now.n) schedule.now }
     requires few { length schedule.now ≤ 10000 }
-    ensures proved { IfOk result (IsProved league.now (counts_of schedule.now) conflicts) }
-    ensures limit { KeepsLimit (bound_size league.now) (capped (bound_size league.now)) result }
+    requires assessed { cost ≡ costs.objective league.now (counts_of schedule.now) }
+    requires counted { IsCounted league.now terms }
+    ensures { IfOk result (IsProved league.now (counts_of schedule.now) conflicts) }
 {
-    let terms = bound_terms(league);
-    if terms > MOST_TERMS {
-        return Err(EncodeFault::TooLarge { terms });
-    }
-    let proved = shown(alloc, league, schedule, conflicts)?;
-    Ok(proved)
-}
-
-/// What is shown of an accepted schedule of a league whose bound rows are few enough: it pays the greatest penalty at
-/// most once for each of their terms, so that 64 bits hold its objective.
-fn shown(
-    alloc: Global,
-    league: &League,
-    schedule: &Schedule,
-    conflicts: Option<u64>,
-) -> Result<Proved, EncodeFault>
-    requires accepted { IsAccepted league.now (counts_of schedule.now) }
-    requires fit { All (IsGame league.now.n) schedule.now }
-    requires few { length schedule.now ≤ 10000 }
-    requires size { bound_size league.now ≤ most_terms }
-    ensures proved { IfOk result (IsProved league.now (counts_of schedule.now) conflicts) }
-    ensures only { (terms : ℕ) → result ≡ Err (EncodeFault.TooLarge terms) → most_terms < bound_size league.now }
-{
-    let _n = league.n();
+    // An accepted schedule pays the greatest penalty at most once for each term, so that 64 bits hold its objective.
     let _greatest = greatest_penalty(league.constraints());
-    let objective = objective_of(alloc, league, schedule)?;
+    let objective = in_64_bits(cost);
     if objective == 0 {
         return Ok(least_of_all(alloc));
     }
@@ -86,11 +64,19 @@ fn shown(
     if lower.objective < u128::from(objective) {
         return Ok(bettered(lower));
     }
-    let proved = searched(alloc, league, objective, conflicts)?;
+    let proved = searched(alloc, league, objective, conflicts, terms)?;
     Ok(proved)
 }
 
-/// The greatest penalty, and 0 where there is no constraint.
+/// A number that 64 bits hold.
+fn in_64_bits(number: u128) -> u64
+    requires { number < 2 ^ 64 }
+    ensures { result ≡ number }
+{
+    number as u64
+}
+
+/// The greatest penalty, or 0 if there is no constraint.
 fn greatest_penalty(constraints: &[Constraint]) -> u32
     ensures { result ≡ largest (λ c. c.penalty) constraints.now }
 {
@@ -101,7 +87,7 @@ fn greatest_penalty(constraints: &[Constraint]) -> u32
     greatest
 }
 
-/// That an objective of 0 is the least.
+/// The answer if the objective is 0, which is the least there is.
 fn least_of_all(alloc: Global) -> Proved
     ensures { result ≡ Proved.Least 0 [] }
 {
@@ -111,7 +97,7 @@ fn least_of_all(alloc: Global) -> Proved
     }
 }
 
-/// The answer where a descent betters the schedule.
+/// The answer if a descent leads to a schedule that costs less.
 fn bettered(lower: Season) -> Proved
     requires { lower.objective < 2 ^ 64 }
     ensures { result ≡ Proved.Better lower.schedule lower.objective }
@@ -123,25 +109,26 @@ fn bettered(lower: Season) -> Proved
     } = lower;
     Proved::Better {
         schedule,
-        objective: objective as u64,
+        objective: in_64_bits(objective),
     }
 }
 
-/// The answer of a search over the bound rows of one less than an objective, of a schedule that no single move betters.
+/// The answer of a search over the bound rows of one less than an objective. It holds for each schedule of this objective
+/// that no single move betters.
 fn searched(
     alloc: Global,
     league: &League,
     objective: u64,
     conflicts: Option<u64>,
-) -> Result<Proved, EncodeFault>
+    terms: u64,
+) -> Result<Proved, AllocError>
     requires some { 1 ≤ objective }
-    ensures proved { IfOk result (λ proved. (m : Counts) → costs.objective league.now m ≡ objective
+    requires counted { IsCounted league.now terms }
+    ensures { IfOk result (λ proved. (m : Counts) → costs.objective league.now m ≡ objective
         → IsSettled league.now.n league.now.phased (league_score league.now) m
         → IsProved league.now m conflicts proved) }
-    ensures only { (terms : ℕ) → result ≡ Err (EncodeFault.TooLarge terms) → most_terms < bound_size league.now }
 {
-    let _n = league.n();
-    let system = bound_system(alloc, league, objective - 1)?;
+    let system = bound_system(alloc, league, objective - 1, terms)?;
     let found = search(alloc, system.rows(), system.vars(), &[], conflicts)?;
     match found {
         Found::Sat(values) => {
@@ -153,47 +140,37 @@ fn searched(
     }
 }
 
-/// The answer where values satisfy the bound rows: the schedule to which a descent leads from the one that they say.
+/// The answer if values satisfy the bound rows: the schedule at the end of a descent from the one that the values say.
 fn decoded(
     alloc: Global,
     league: &League,
     values: &Assignment,
     objective: u64,
-) -> Result<Proved, EncodeFault>
+) -> Result<Proved, AllocError>
     requires some { 1 ≤ objective }
     requires count { length values.now ≡ bound_vars league.now }
     requires satisfied { SatisfiesAll (assigned values.now) (bound_rows league.now (objective - 1)) }
-    ensures proved { IfOk result (λ proved. (m : Counts) (limit : Option ℕ)
+    ensures { IfOk result (λ proved. (m : Counts) (limit : Option ℕ)
         → costs.objective league.now m ≡ objective → IsProved league.now m limit proved) }
-    ensures only { (terms : ℕ) → result ≡ Err (EncodeFault.TooLarge terms) → most_terms < bound_size league.now }
 {
     let schedule = schedule_of(alloc, league, values, objective)?;
-    let found = objective_of(alloc, league, &schedule)?;
     let lower = lowered(alloc, league, &schedule, MOVES)?;
-    if lower.objective < u128::from(found) {
-        return Ok(bettered(lower));
-    }
-    Ok(Proved::Better {
-        schedule,
-        objective: found,
-    })
+    Ok(bettered(lower))
 }
 
-/// The schedule that values say which satisfy the bound rows.
+/// The schedule that values say, if they satisfy the bound rows. The league accepts it, and it costs less than the
+/// objective.
 fn schedule_of(
     alloc: Global,
     league: &League,
     values: &Assignment,
     objective: u64,
-) -> Result<Schedule, EncodeFault>
+) -> Result<Schedule, AllocError>
     requires some { 1 ≤ objective }
     requires count { length values.now ≡ bound_vars league.now }
     requires satisfied { SatisfiesAll (assigned values.now) (bound_rows league.now (objective - 1)) }
-    ensures lower { IfOk result (IsLower league.now objective) }
-    ensures only { (terms : ℕ) → result ≡ Err (EncodeFault.TooLarge terms) → most_terms < bound_size league.now }
+    ensures { IfOk result (IsLower league.now objective) }
 {
-    let _n = league.n();
-    let encoding = encode(alloc, league)?;
-    let schedule = decode(alloc, &encoding, values)?;
+    let schedule = decode_games(alloc, league.n(), values)?;
     Ok(schedule)
 }

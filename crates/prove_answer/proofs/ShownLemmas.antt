@@ -1,5 +1,5 @@
 -- What is shown of a schedule, answered.
-use Rattle.std.proofs.Common.{◌≡◌, ℕ, ◌-◌, ◌+◌, ◌<◌, ◌≤◌, ◌==◌, Bool, true, false, not, if◌then◌else◌, List, [], ◌∷◌, length, Option, Some, None}
+use Rattle.std.proofs.Common.{◌≡◌, ℕ, ◌-◌, ◌+◌, ◌<◌, ◌≤◌, ◌==◌, Bool, true, false, if◌then◌else◌, List, [], ◌∷◌, length, Option, Some, None}
 use Rattle.std.proofs.Common.{Result, Ok, Err, refl, arith, ap, subst, ◌∙◌, inl, inr}
 use Rattle.std.specs.Prelude.{IfOk, IfSome, IsTrue}
 use Rattle.std.proofs.lemmas.List.{length-append}
@@ -39,13 +39,8 @@ use Rattle.prove_answer.specs.Told.{CanBeWritten, Tells}
 
 -- ---- what a test says
 
-pub passed : (b : Bool) → not b ≡ false → IsTrue b
-passed true is = refl
-passed false is = cc
-
-pub failed : (b : Bool) → not b ≡ true → IsTrue b → ⊥
-failed true is passes = cc
-failed false is passes = cc
+pub failed : (b : Bool) → b ≡ false → IsTrue b → ⊥
+failed b is passes = cc
 
 -- ---- a schedule that isn't accepted
 

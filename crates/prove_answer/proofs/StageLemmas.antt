@@ -37,7 +37,7 @@ after-league store instance solution conflicts first league is_first says_league
           (solution_stages store solution conflicts (length first)) answer says_league rest,
     )
 
--- its bound rows have too many terms
+-- the bound rows of the league have too many terms
 pub proved-large : (store : Store)
     (instance solution : List ℕ) (conflicts : Option ℕ) (first : List ℕ) (league : Instance)
     → IsFile (store.contents instance) INSTANCE_LIMIT first → instance_of (pieces first) ≡ Ok league → (answer : Answer)
@@ -59,7 +59,7 @@ proved-unread store instance solution conflicts first league is_first says_leagu
     after-league store instance solution conflicts first league is_first says_league answer
     (inl (small, inr unread))
 
--- it is: the rest is the answer to what it says
+-- the solution is read: the rest is the answer to what it says
 pub proved-last : (store : Store)
     (instance solution : List ℕ) (conflicts : Option ℕ) (first second : List ℕ) (league : Instance)
     → IsFile (store.contents instance) INSTANCE_LIMIT first → instance_of (pieces first) ≡ Ok league

@@ -2,67 +2,50 @@
 ghost use Rattle.std.specs.Prelude.{◌≡◌, ◌≤◌, ℕ, List, Option, IfOk, codes, length};
 ghost use Rattle.std.specs.List.{All};
 ghost use Rattle.robin_io.specs.Outside.{store_between};
-ghost use Rattle.league.specs.Accepted.{IsAccepted};
-ghost use Rattle.league.specs.Counts.{counts_of};
 ghost use Rattle.league.specs.Instance.{IsGame};
 ghost use Rattle.robinx_tags.specs.Pieces.{pieces};
 ghost use Rattle.robinx_form.specs.SolutionFile.{solution_of};
 ghost use Rattle.answers.specs.SeenReply.{answer_of, Answers};
 ghost use Rattle.answers.specs.Stages.{says};
-ghost use Rattle.bounds.specs.Proofs as proofs;
+ghost use Rattle.bound_rows.specs.Bounded.{IsCounted};
 ghost use Rattle.prove_answer.specs.Prove.{IsShown, proved};
 
 use crate::replies::proof_reply;
 use answers::{NoValue, Reply, file, league_in, schedule_in};
-use bound_answer::has_few_terms;
-use bounds::{Proved, prove};
+use bound_answer::few_terms;
+use bounds::prove;
 use deviation::assess;
-use encoding::EncodeFault;
 use league::{League, Schedule};
 use robin_io::Shelf;
 use robinx_read::{INSTANCE_LIMIT, SOLUTION_LIMIT};
 use std::alloc::{AllocError, Global};
-use validate_answer::judge;
+use validate_answer::judgement;
 
-/// What is shown of an accepted schedule.
-///
-/// # Errors
-/// Where memory runs out, and where the bound rows have too many terms, which the caller has excluded.
-fn proved_of(
-    alloc: Global,
-    league: &League,
-    schedule: &Schedule,
-    conflicts: Option<u64>,
-) -> Result<Proved, AllocError>
-    requires accepted { IsAccepted league.now (counts_of schedule.now) }
-    requires fit { All (IsGame league.now.n) schedule.now }
-    requires few { length schedule.now ≤ 10000 }
-    ensures { IfOk result (proofs.IsProved league.now (counts_of schedule.now) conflicts) }
-{
-    match prove(alloc, league, schedule, conflicts) {
-        Ok(proved) => Ok(proved),
-        Err(EncodeFault::TooLarge { .. } | EncodeFault::Mem) => Err(AllocError),
-    }
-}
-
-/// Answers what is shown of a schedule.
+/// Answers what is shown of a schedule. It is assessed once.
 fn show(
     alloc: Global,
     league: &League,
     schedule: &Schedule,
     conflicts: Option<u64>,
+    terms: u64,
 ) -> Result<Reply, AllocError>
     requires few { length schedule.now ≤ 10000 }
     requires fit { All (IsGame league.now.n) schedule.now }
+    requires counted { IsCounted league.now terms }
     ensures { IfOk result (λ reply. IsShown league.now conflicts schedule.now (answer_of reply)) }
 {
-    // For its contract: a league has at most 40 teams.
-    let _n = league.n();
     let assessed = assess(alloc, league, schedule)?;
     if !assessed.feasible {
-        return judge(alloc, league, schedule);
+        return judgement(alloc, league, schedule, &assessed);
     }
-    let proved = proved_of(alloc, league, schedule, conflicts)?;
+    let proved = prove(
+        alloc,
+        league,
+        schedule,
+        assessed.objective,
+        conflicts,
+        terms,
+    )?;
     proof_reply(alloc, &proved)
 }
 
@@ -73,14 +56,16 @@ fn show_file(
     bytes: &[u8],
     league: &League,
     conflicts: Option<u64>,
+    terms: u64,
 ) -> Result<Reply, NoValue>
-    requires { length bytes.now ≤ SOLUTION_LIMIT }
+    requires few { length bytes.now ≤ SOLUTION_LIMIT }
+    requires counted { IsCounted league.now terms }
     ensures { Answers
         (says (codes "solution") (solution_of league.now.n (pieces bytes.now)) (IsShown league.now conflicts))
         result }
 {
     let schedule = schedule_in(alloc, name, bytes, league)?;
-    Ok(show(alloc, league, &schedule, conflicts)?)
+    Ok(show(alloc, league, &schedule, conflicts, terms)?)
 }
 
 /// Shows that the schedule of one file can't be bettered in the league of the other, betters it, or spends its budget
@@ -101,7 +86,7 @@ pub fn prove_file<S: Shelf>(
 {
     let first = file(alloc, shelf, "instance", instance, INSTANCE_LIMIT)?;
     let league = league_in(alloc, instance, &first)?;
-    has_few_terms(alloc, &league)?;
+    let terms = few_terms(alloc, &league)?;
     let second = file(alloc, shelf, "solution", solution, SOLUTION_LIMIT)?;
-    show_file(alloc, solution, &second, &league, conflicts)
+    show_file(alloc, solution, &second, &league, conflicts, terms)
 }

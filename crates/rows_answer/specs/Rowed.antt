@@ -20,7 +20,7 @@ use Rattle.opb_write.specs.Texts.{opb_text}
 abbrev pub league_system : Instance → System
 league_system league = record { vars = var_count league; least = None; rows = rows_of league }
 
--- its bound rows
+-- the bound rows of a league and a bound
 abbrev pub bound_system : Instance → ℕ → System
 bound_system league bound =
     record { vars = bound_vars league; least = None; rows = bound_rows league bound }

@@ -6,6 +6,7 @@ ghost use Rattle.rows_answer.specs.Rowed.{league_rows, rowed, rows_answer};
 
 use crate::written::ReadyRows;
 use answers::{NoValue, file, league_in, rows_refused};
+use bound_answer::few_terms;
 use bound_rows::bound_system;
 use encoding::{EncodeFault, encode};
 use league::League;
@@ -32,11 +33,9 @@ fn rows_of_bound(alloc: Global, league: &League, bound: u64) -> Result<ReadyRows
         (λ ready. league_rows (Some bound) league.now (rows_answer ready))
         (league_rows (Some bound) league.now) }
 {
-    match bound_system(alloc, league, bound) {
-        Ok(system) => Ok(ReadyRows::of_bound(alloc, system)?),
-        Err(EncodeFault::TooLarge { terms }) => Err(NoValue::Refused(rows_refused(alloc, terms)?)),
-        Err(EncodeFault::Mem) => Err(NoValue::Memory),
-    }
+    let terms = few_terms(alloc, league)?;
+    let system = bound_system(alloc, league, bound, terms)?;
+    Ok(ReadyRows::of_bound(alloc, system)?)
 }
 
 /// The rows of a league, or with a bound its bound rows.

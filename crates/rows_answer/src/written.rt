@@ -46,7 +46,7 @@ impl Model for ReadyRows {
 }
 
 impl ReadyRows {
-    /// Those of an encoding.
+    /// The rows of an encoding, ready to be written.
     ///
     /// # Errors
     /// Only where memory runs out.
@@ -59,7 +59,7 @@ impl ReadyRows {
         })
     }
 
-    /// Bound rows.
+    /// Bound rows, ready to be written.
     ///
     /// # Errors
     /// Only where memory runs out.

@@ -1,5 +1,5 @@
 -- A worked judgement, so that a wrong definition of what `validate` may answer does not check.
-use Rattle.std.proofs.Common.{◌≡◌, ℕ, ◌+◌, ◌∙◌, Bool, true, false, if◌then◌else◌, List, [], Option, Some, None, Result, Ok, Err, codes, ap, arith, inl, inr, refl, subst}
+use Rattle.std.proofs.Common.{◌≡◌, ℕ, ◌+◌, ◌∙◌, Bool, true, false, if◌then◌else◌, List, Option, Some, None, Result, Ok, Err, codes, ap, arith, inl, inr, refl, subst}
 use Rattle.std.specs.Prelude.{bytes_eq}
 use Rattle.robin_io.specs.Outside.{Store}
 use Rattle.robinx_tags.specs.Pieces.{pieces, pieces_from}
@@ -63,7 +63,7 @@ same_answer answer status text =
     let first : answer ≡ record { status = No; text = answer.text } = ap (λ (s : Status). let a : Answer = record { status = s; text = answer.text } in a) status in
     first ∙ ap (λ (t : List ℕ). let a : Answer = record { status = No; text = t } in a) text
 
--- it has one judgement
+-- a season played thrice has one judgement by a demanding league
 judgement-one : (answer : Answer) → IsJudgement demanding thrice answer → answer ≡ the_answer
 judgement-one answer h =
     let by : (b : Bool) → h.feasible ≡ b → answer ≡ the_answer = λ b. elim b as (λ (b : Bool). h.feasible ≡ b → answer ≡ the_answer) [

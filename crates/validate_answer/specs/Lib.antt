@@ -1,4 +1,6 @@
 -- What a reader of a claim must believe:
 pub mod Validate
-
 -- Kept inside (laws, and how fields are seen):
+--
+-- What a schedule was assessed to be:
+pub mod Assessed

@@ -4,6 +4,7 @@ ghost use Rattle.std.specs.List.{All};
 ghost use Rattle.league.specs.Instance.{IsGame};
 ghost use Rattle.answers.specs.SeenReply.{answer_of};
 ghost use Rattle.report.specs.Report.{constraints_text, lines_text};
+ghost use Rattle.validate_answer.specs.Assessed.{IsAssessmentOf};
 ghost use Rattle.validate_answer.specs.Validate.{IsJudgement};
 
 use answers::{Reply, Status};
@@ -64,7 +65,23 @@ pub fn judge(alloc: Global, league: &League, schedule: &Schedule) -> Result<Repl
     ensures { IfOk result (λ reply. IsJudgement league.now schedule.now (answer_of reply)) }
 {
     let assessed = assess(alloc, league, schedule)?;
-    let text = report_on(alloc, league, schedule.len(), &assessed)?;
+    judgement(alloc, league, schedule, &assessed)
+}
+
+/// The judgement of a schedule that was assessed by the league before, and its report.
+///
+/// # Errors
+/// Only where memory runs out.
+pub fn judgement(
+    alloc: Global,
+    league: &League,
+    schedule: &Schedule,
+    assessed: &Assessment,
+) -> Result<Reply, AllocError>
+    requires { IsAssessmentOf league.now schedule.now assessed.now }
+    ensures { IfOk result (λ reply. IsJudgement league.now schedule.now (answer_of reply)) }
+{
+    let text = report_on(alloc, league, schedule.len(), assessed)?;
     Ok(Reply {
         status: status_of(assessed.feasible),
         text: text.into_bytes(),

@@ -6,5 +6,5 @@
 mod judging;
 mod stages;
 
-pub use judging::judge;
+pub use judging::{judge, judgement};
 pub use stages::validate;

@@ -1,4 +1,4 @@
-use Rattle.std.proofs.Common.{◌≡◌, ℕ, List, ◌-◌, Ok, subst, sym, ap, ◌∙◌}
+use Rattle.std.proofs.Common.{◌≡◌, ℕ, List, Ok, subst, sym, ap, ◌∙◌}
 use Rattle.rows.specs.Rows.{Row}
 use Rattle.refutation.specs.declared.verdict.Verdict.TheVariants.{Accepted}
 use Rattle.refutation_check.specs.Within.{AreWithin}
@@ -18,6 +18,6 @@ check-requires c =
 pub returns-clause-holds : goal.returns-clause-holds
 returns-clause-holds c = λ accepted.
     let same : c.in_ok-verdict.verdict ≡ Accepted = cc in
-    shown c.args.league.now c.args.bound c.rows.result.now c.n-n.ensures.instance
-    (c.rows.ensures ∙ ap (λ (b : Bounded). bound_rows b.league b.bound) c.in_ok-system.ensures.of)
+    shown c.args.league.now c.args.bound c.rows.result.now c.requires.counted.instance
+    (c.rows.ensures ∙ ap (λ (b : Bounded). bound_rows b.league b.bound) c.in_ok-system.ensures)
     (c.in_ok-verdict.ensures.refuted (ap Ok same))

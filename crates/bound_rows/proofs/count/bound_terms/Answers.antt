@@ -1,10 +1,11 @@
 use Rattle.std.proofs.Common.{◌≡◌, ℕ, ap, ◌∙◌, arith}
+use Rattle.bound_base.specs.BoundRows.{bound_size}
 use Rattle.bound_rows.specs.Sizes.{paid_size}
 use Rattle.bound_rows.proofs.SizeLemmas.{bound_size-paid}
 use Rattle.bound_rows.proofs.count.bound_terms.Goals as goal
 
-pub returns : goal.returns
-returns c =
+pub returns-clause-terms : goal.returns-clause-terms
+returns-clause-terms c =
     let league = c.args.league.now in
     let same : paid_size c.n.result c.constraints.result.now ≡ paid_size league.n league.constraints =
     ap (λ (k : ℕ). paid_size k c.constraints.result.now) c.n.ensures.n
@@ -19,3 +20,8 @@ returns c =
       bound_size-paid league,
       same,
     )
+
+pub returns-clause-counted : goal.returns-clause-counted
+returns-clause-counted c = λ few.
+    let count : c.saturating_add.result ≡ bound_size c.args.league.now = omega (arith, returns-clause-terms c, few) in
+    record { instance = c.n.ensures.instance; count = count; few = omega (arith, count, few) }

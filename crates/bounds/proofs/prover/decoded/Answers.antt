@@ -1,7 +1,22 @@
-use Rattle.bounds.proofs.ProofLemmas.{better-than}
+use Rattle.std.proofs.Common.{arith, subst, sym}
+use Rattle.bounds.specs.Proofs.{IsProved}
+use Rattle.bounds.specs.declared.proved.Proved.{Proved}
+use Rattle.bounds.proofs.ProofLemmas.{below-start, better-below}
 use Rattle.bounds.proofs.prover.decoded.Goals as goal
 
-pub returns-clause-proved : goal.returns-clause-proved
-returns-clause-proved c = λ m limit cost.
-    better-than c.args.league.now m c.args.objective c.in_ok-found.found c.in_ok-schedule.schedule
-    c.in_ok-schedule.ensures.lower cost c.in_ok-found.ensures
+pub bettered-requires : goal.bettered-requires
+bettered-requires c =
+    omega (
+      arith,
+      below-start c.args.league.now c.args.objective _ c.in_ok-lower.lower.objective c.in_ok-schedule.schedule
+          c.in_ok-lower.lower.schedule c.in_ok-lower.lower.descent c.in_ok-schedule.ensures
+          c.in_ok-lower.ensures.descends c.in_ok-lower.ensures.first,
+      c.ranges.objective.fits,
+    )
+
+pub returns : goal.returns
+returns c = λ m limit cost.
+    subst (λ (p : Proved). IsProved c.args.league.now m limit p) (sym c.bettered.ensures)
+    (better-below c.args.league.now m c.args.objective _ c.in_ok-lower.lower.objective c.in_ok-schedule.schedule
+    c.in_ok-lower.lower.schedule c.in_ok-lower.lower.descent c.in_ok-schedule.ensures
+    c.in_ok-lower.ensures.descends c.in_ok-lower.ensures.first cost)

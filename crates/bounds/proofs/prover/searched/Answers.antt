@@ -18,33 +18,33 @@ search-requires-clause-known c =
 pub decoded-requires-clause-count : goal.decoded-requires-clause-count
 decoded-requires-clause-count c =
     let answer = answer-of c.args.league.now (c.args.objective - 1) c.vars.result c.rows.result.now c.args.conflicts
-    c.in_ok-found.found (c.rows.ensures ∙ ap (λ (b : Bounded). bound_rows b.league b.bound) c.in_ok-system.ensures.of)
-    (c.vars.ensures.vars ∙ ap (λ (b : Bounded). bound_vars b.league) c.in_ok-system.ensures.of) c.in_ok-found.ensures
+    c.in_ok-found.found (c.rows.ensures ∙ ap (λ (b : Bounded). bound_rows b.league b.bound) c.in_ok-system.ensures)
+    (c.vars.ensures.vars ∙ ap (λ (b : Bounded). bound_vars b.league) c.in_ok-system.ensures) c.in_ok-found.ensures
     in
     (rw c.in-Sat.is at answer).0
 
 pub decoded-requires-clause-satisfied : goal.decoded-requires-clause-satisfied
 decoded-requires-clause-satisfied c =
     let answer = answer-of c.args.league.now (c.args.objective - 1) c.vars.result c.rows.result.now c.args.conflicts
-    c.in_ok-found.found (c.rows.ensures ∙ ap (λ (b : Bounded). bound_rows b.league b.bound) c.in_ok-system.ensures.of)
-    (c.vars.ensures.vars ∙ ap (λ (b : Bounded). bound_vars b.league) c.in_ok-system.ensures.of) c.in_ok-found.ensures
+    c.in_ok-found.found (c.rows.ensures ∙ ap (λ (b : Bounded). bound_rows b.league b.bound) c.in_ok-system.ensures)
+    (c.vars.ensures.vars ∙ ap (λ (b : Bounded). bound_vars b.league) c.in_ok-system.ensures) c.in_ok-found.ensures
     in
     (rw c.in-Sat.is at answer).1
 
-pub returns-in-Refuted-clause-proved : goal.returns-in-Refuted-clause-proved
-returns-in-Refuted-clause-proved c = λ m cost settled.
+pub returns-in-Refuted : goal.returns-in-Refuted
+returns-in-Refuted c = λ m cost settled.
     let answer = answer-of c.args.league.now (c.args.objective - 1) c.vars.result c.rows.result.now c.args.conflicts
-    c.in_ok-found.found (c.rows.ensures ∙ ap (λ (b : Bounded). bound_rows b.league b.bound) c.in_ok-system.ensures.of)
-    (c.vars.ensures.vars ∙ ap (λ (b : Bounded). bound_vars b.league) c.in_ok-system.ensures.of) c.in_ok-found.ensures
+    c.in_ok-found.found (c.rows.ensures ∙ ap (λ (b : Bounded). bound_rows b.league b.bound) c.in_ok-system.ensures)
+    (c.vars.ensures.vars ∙ ap (λ (b : Bounded). bound_vars b.league) c.in_ok-system.ensures) c.in_ok-found.ensures
     in
-    least-of c.args.league.now m c.args.conflicts c.args.objective c.in-Refuted.log c.n-n.ensures.instance cost
+    least-of c.args.league.now m c.args.conflicts c.args.objective c.in-Refuted.log c.requires.counted.instance cost
     c.requires.some (rw c.in-Refuted.is at answer)
 
-pub returns-clause-proved : goal.returns-clause-proved
-returns-clause-proved c = λ m cost settled.
+pub returns : goal.returns
+returns c = λ m cost settled.
     let answer = answer-of c.args.league.now (c.args.objective - 1) c.vars.result c.rows.result.now c.args.conflicts
-    c.in_ok-found.found (c.rows.ensures ∙ ap (λ (b : Bounded). bound_rows b.league b.bound) c.in_ok-system.ensures.of)
-    (c.vars.ensures.vars ∙ ap (λ (b : Bounded). bound_vars b.league) c.in_ok-system.ensures.of) c.in_ok-found.ensures
+    c.in_ok-found.found (c.rows.ensures ∙ ap (λ (b : Bounded). bound_rows b.league b.bound) c.in_ok-system.ensures)
+    (c.vars.ensures.vars ∙ ap (λ (b : Bounded). bound_vars b.league) c.in_ok-system.ensures) c.in_ok-found.ensures
     in
     spent-of c.args.league.now m c.args.conflicts c.args.objective c.in-Spent.log cost settled c.requires.some
     (rw c.in-Spent.is at answer)

@@ -28,7 +28,7 @@ returns-clause-answer g c =
     (c.file.ensures.contents c.args.solution.now) c.in_ok-second.ensures.stage) in
     Answers-wider _ _
     (proved-last store c.args.instance.now c.args.solution.now c.args.conflicts _ _ _ is_first c.in_ok-league.ensures
-    c.in_ok-has_few_terms.ensures is_second) _ c.show_file.ensures
+    c.in_ok-terms.ensures.few is_second) _ c.show_file.ensures
 
 -- the solution isn't read, or memory ran out
 pub returns-in_err-second-clause-answer : goal.returns-in_err-second-clause-answer
@@ -54,11 +54,11 @@ returns-in_err-second-clause-answer g c =
     (λ reply is. rw is at c.in_err-second.ensures.stage)) in
     Answers-wider _ _
     (proved-unread store c.args.instance.now name c.args.conflicts _ _ is_first c.in_ok-league.ensures
-    c.in_ok-has_few_terms.ensures) _ unread
+    c.in_ok-terms.ensures.few) _ unread
 
 -- the bound rows have too many terms, or memory ran out
-pub returns-in_err-has_few_terms-clause-answer : goal.returns-in_err-has_few_terms-clause-answer
-returns-in_err-has_few_terms-clause-answer g c =
+pub returns-in_err-terms-clause-answer : goal.returns-in_err-terms-clause-answer
+returns-in_err-terms-clause-answer g c =
     let store : Store = store_between g.S.Shelf c.args.shelf.now c.file.new.shelf in
     let is_first : IsFile (store.contents c.args.instance.now) INSTANCE_LIMIT c.deref.result.now =
     subst (λ (bytes : List ℕ). IsFile (store.contents c.args.instance.now) INSTANCE_LIMIT bytes) (sym c.deref.ensures.value)
