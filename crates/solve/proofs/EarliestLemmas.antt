@@ -6,7 +6,7 @@ use Rattle.std.proofs.lemmas.Bool.Decides.{nat_tests}
 use Rattle.std.proofs.lemmas.List.Elements.{All-append, All-cons, All-nil, All-push, All-weaker}
 use Rattle.budgets.specs.declared.budgets.Budgets.{Budgets}
 use Rattle.league.specs.Instance.{Instance}
-use Rattle.solve.specs.Earliest.{IsBestOf, season_of, season_tried}
+use Rattle.solve.specs.Earliest.{IsBestOf, IsBestOfTries, season_of, season_tried}
 use Rattle.solve.specs.Solutions.{IsSolution}
 use Rattle.solve.specs.Tried.{IsSeason, IsTried}
 use Rattle.solve.specs.declared.lower.Season.{Season}
@@ -133,3 +133,15 @@ pub season-is_tried : (league : Instance) (budgets : Budgets) (tried : Tried) �
 season-is_tried league budgets (tries.Found season) is = is
 season-is_tried league budgets (tries.Refuted log) is = tt
 season-is_tried league budgets (tries.Spent log) is = tt
+
+-- an answer of one try, where there may be no more
+pub one_try : (league : Instance) (budgets : Budgets) (answer : Solved) → IsSolution league budgets answer
+    → budgets.tries ≤ 1 → IsBestOfTries league budgets answer
+one_try league budgets answer is most = record {
+  found = season_of answer ∷ [];
+  each = All-cons (λ o. IfSome o (IsSeason league budgets.moves)) (season_of answer) []
+      (season-solved league budgets answer is) (All-nil (λ o. IfSome o (IsSeason league budgets.moves)));
+  few = λ more. absurd (omega (arith, more));
+  all = λ goes_on. most;
+  best = one-best (season_of answer);
+}

@@ -1,9 +1,10 @@
 //! Refutations by counting, tried first: two sums that no search over clauses finds in any time.
-ghost use Rattle.std.specs.Prelude.{◌≡◌, false, None, Ok, IfOk, IfSome};
+ghost use Rattle.std.specs.Prelude.{◌≡◌, ◌≤◌, false, None, Ok, IfOk, IfSome};
+ghost use Rattle.encoding.specs.Limit.{most_terms};
+ghost use Rattle.encoding_base.specs.Encoding.{encoding_size};
 ghost use Rattle.solve.specs.Solutions.{RefutesLeague};
 ghost use Rattle.venue_counts.specs.VenueCounts.{are_crowded, are_short};
 
-use encoding::Encoding;
 use league::League;
 use refutation::Log;
 use std::alloc::{AllocError, Global};
@@ -13,20 +14,16 @@ use venue_counts::{venue_count, venue_count_low};
 ///
 /// # Errors
 /// Only where memory runs out.
-pub(crate) fn count_out(
-    alloc: Global,
-    league: &League,
-    encoding: &Encoding,
-) -> Result<Option<Log>, AllocError>
-    requires league { encoding.now ≡ league.now }
+pub(crate) fn count_out(alloc: Global, league: &League) -> Result<Option<Log>, AllocError>
+    requires small { encoding_size league.now ≤ most_terms }
     ensures refuted { IfOk result (λ found. IfSome found (RefutesLeague league.now)) }
     ensures short { result ≡ Ok None → are_short league.now ≡ false }
     ensures crowded { result ≡ Ok None → are_crowded league.now ≡ false }
 {
     let _n = league.n();
-    if let Some(log) = venue_count(alloc, league, encoding)? {
+    if let Some(log) = venue_count(alloc, league)? {
         return Ok(Some(log));
     }
-    let crowded = venue_count_low(alloc, league, encoding)?;
+    let crowded = venue_count_low(alloc, league)?;
     Ok(crowded)
 }

@@ -1,5 +1,5 @@
 //! The solver.
-ghost use Rattle.std.specs.Prelude.{◌≡◌, true, Some, IfOk};
+ghost use Rattle.std.specs.Prelude.{◌≡◌, ◌≤◌, true, Some, IfOk};
 ghost use Rattle.league.specs.Accepted.{IsAccepted};
 ghost use Rattle.league.specs.Counts.{counts_of};
 ghost use Rattle.circle_method.specs.Circle.{double_games};
@@ -8,18 +8,19 @@ ghost use Rattle.pattern_search.specs.PatternLogs.{IsPatternSpent};
 ghost use Rattle.pattern_search.specs.PatternSets.{IsPatternSet};
 ghost use Rattle.solve.specs.Earliest.{IsBestOfTries};
 ghost use Rattle.solve.specs.Solutions.{HasSchedule, IsRefuted, IsSolution};
-ghost use Rattle.solve.specs.Tried.{IsTried};
+ghost use Rattle.solve.specs.Tried.{IsSeason, IsTried};
 ghost use Rattle.venue_counts.specs.VenueCounts.{are_crowded, are_short};
-ghost use Rattle.encoding.specs.Limit.{KeepsLimit};
+ghost use Rattle.encoding.specs.Limit.{KeepsLimit, most_terms};
 
 use crate::attempt::try_both;
 use crate::circle::try_circle;
 use crate::counting::count_out;
+use crate::lower::Season;
 use crate::prefer::{preferred, shuffled, venues};
 use crate::solved::Solved;
 use crate::tries::{Tried, better, is_refuted, schedule_found, solved_by};
 use budgets::Budgets;
-use encoding::{EncodeFault, Encoding, encode};
+use encoding::{EncodeFault, Encoding, check_size, encode_small};
 use league::League;
 use log_lines::note_numbers;
 use pattern_search::{PatternFound, pattern_set};
@@ -57,30 +58,75 @@ pub fn solve(alloc: Global, league: &League, budgets: Budgets) -> Result<Solved,
     ensures short { are_short league.now ≡ true → IfOk result IsRefuted }
     ensures crowded { are_crowded league.now ≡ true → IfOk result IsRefuted }
 {
-    let encoding = encode(alloc, league)?;
-    if let Some(log) = count_out(alloc, league, &encoding)? {
+    let _terms = check_size(league)?;
+    if let Some(log) = count_out(alloc, league)? {
         return Ok(Solved::Refuted(log));
     }
-    let solved = best_try(alloc, league, &encoding, budgets)?;
+    let solved = best_try(alloc, league, budgets)?;
     Ok(solved)
 }
 
-/// The best answer of all tries.
+/// The best answer of all tries. The league's rows are written where a try searches them.
 ///
 /// # Errors
 /// Only where memory runs out.
-fn best_try(
-    alloc: Global,
-    league: &League,
-    encoding: &Encoding,
-    budgets: Budgets,
-) -> Result<Solved, AllocError>
-    requires league { encoding.now ≡ league.now }
+fn best_try(alloc: Global, league: &League, budgets: Budgets) -> Result<Solved, AllocError>
+    requires small { encoding_size league.now ≤ most_terms }
     ensures solution { IfOk result (IsSolution league.now budgets) }
     ensures circle { IsAccepted league.now (counts_of (double_games league.now.n)) → IfOk result HasSchedule }
     ensures best { IfOk result (IsBestOfTries league.now budgets) }
 {
-    let mut best = first_try(alloc, league, encoding, budgets)?;
+    if let Some(season) = try_circle(alloc, league, budgets.moves)? {
+        return best_with_circle(alloc, league, budgets, season);
+    }
+    let encoding = encode_small(alloc, league)?;
+    let first = try_patterns(alloc, league, &encoding, budgets)?;
+    best_from(alloc, league, &encoding, budgets, first)
+}
+
+/// The best answer of all tries, of which the first starts from the schedule of the circle method: without later ones
+/// no row is written.
+///
+/// # Errors
+/// Only where memory runs out.
+fn best_with_circle(
+    alloc: Global,
+    league: &League,
+    budgets: Budgets,
+    season: Season,
+) -> Result<Solved, AllocError>
+    requires small { encoding_size league.now ≤ most_terms }
+    requires season { IsSeason league.now budgets.moves season }
+    ensures solution { IfOk result (IsSolution league.now budgets) }
+    ensures schedule { IfOk result HasSchedule }
+    ensures best { IfOk result (IsBestOfTries league.now budgets) }
+{
+    let first = schedule_found(season);
+    if budgets.tries <= 1 {
+        return Ok(first);
+    }
+    let encoding = encode_small(alloc, league)?;
+    best_from(alloc, league, &encoding, budgets, first)
+}
+
+/// The best answer of all tries, of which the first came to this.
+///
+/// # Errors
+/// Only where memory runs out.
+fn best_from(
+    alloc: Global,
+    league: &League,
+    encoding: &Encoding,
+    budgets: Budgets,
+    first: Solved,
+) -> Result<Solved, AllocError>
+    requires league { encoding.now ≡ league.now }
+    requires first { IsSolution league.now budgets first }
+    ensures solution { IfOk result (IsSolution league.now budgets) }
+    ensures schedule { HasSchedule first → IfOk result HasSchedule }
+    ensures best { IfOk result (IsBestOfTries league.now budgets) }
+{
+    let mut best = first;
     for k in 1..budgets.tries {
         if is_refuted(&best) {
             return Ok(best);
@@ -89,26 +135,6 @@ fn best_try(
         best = better(best, later);
     }
     Ok(best)
-}
-
-/// The first try.
-///
-/// # Errors
-/// Only where memory runs out.
-fn first_try(
-    alloc: Global,
-    league: &League,
-    encoding: &Encoding,
-    budgets: Budgets,
-) -> Result<Solved, AllocError>
-    requires league { encoding.now ≡ league.now }
-    ensures solution { IfOk result (IsSolution league.now budgets) }
-    ensures circle { IsAccepted league.now (counts_of (double_games league.now.n)) → IfOk result HasSchedule }
-{
-    if let Some(season) = try_circle(alloc, league, budgets.moves)? {
-        return Ok(schedule_found(season));
-    }
-    try_patterns(alloc, league, encoding, budgets)
 }
 
 /// The first try where the schedule of the circle method isn't accepted: patterns are searched first.

@@ -1,6 +1,8 @@
 //! Whether the venue counts of a league refute it.
-ghost use Rattle.std.specs.Prelude.{◌≡◌, ◌↔◌, true, is_some, IfOk, IfSome, IsSome};
+ghost use Rattle.std.specs.Prelude.{◌≡◌, ◌≤◌, ◌↔◌, true, is_some, IfOk, IfSome, IsSome};
 ghost use Rattle.league.specs.Instance.{IsInstance};
+ghost use Rattle.encoding.specs.Limit.{most_terms};
+ghost use Rattle.encoding_base.specs.Encoding.{encoding_size};
 ghost use Rattle.venue_counts.specs.CountLogs.{IsCrowdedCount, IsShortCount, IsRefuting};
 ghost use Rattle.venue_counts.specs.Needs.{IsCount, exceeds};
 ghost use Rattle.venue_counts.specs.VenueCounts.{are_crowded, are_short};
@@ -8,57 +10,45 @@ ghost use Rattle.venue_counts.specs.VenueCounts.{are_crowded, are_short};
 use crate::groups::groups_of;
 use crate::limit::Limit;
 use crate::log::log_of;
-use encoding::Encoding;
+use encoding::encode_small;
 use league::League;
 use refutation::Log;
 use std::alloc::{AllocError, Global};
 
 /// Some exactly where the venue counts of a league are short: the log of two steps that refutes it. Its first step adds
 /// up, for some slots and a side, the row of each slot and the row of each team that may play there less often than the
-/// slots are; the second is the empty clause. It takes the time of one walk over the constraints, and where they are
-/// short, one over the rows for each slot and team.
+/// slots are; the second is the empty clause. It takes the time of one walk over the constraints; the league's rows are
+/// written only where they are short.
 ///
 /// # Errors
 /// Only where memory runs out.
-pub fn venue_count(
-    alloc: Global,
-    league: &League,
-    encoding: &Encoding,
-) -> Result<Option<Log>, AllocError>
-    requires league { encoding.now ≡ league.now }
+pub fn venue_count(alloc: Global, league: &League) -> Result<Option<Log>, AllocError>
+    requires small { encoding_size league.now ≤ most_terms }
     ensures short { IfOk result (λ found. IsSome found ↔ (are_short league.now ≡ true)) }
     ensures counted { IfOk result (λ found. IfSome found (IsShortCount league.now)) }
     ensures refuting { IfOk result (λ found. IfSome found (IsRefuting league.now)) }
 {
-    count(alloc, league, encoding, Limit::Most)
+    count(alloc, league, Limit::Most)
 }
 
 /// Some exactly where the venue counts of a league are crowded: the log of two steps that refutes it, which adds up the
-/// rows of some slots, and of the teams that have to play there on a side: together more often than there are games.
+/// rows of some slots, and of the teams that have to play there on a side: together more often than there are games. The
+/// league's rows are written only where they are crowded.
 ///
 /// # Errors
 /// Only where memory runs out.
-pub fn venue_count_low(
-    alloc: Global,
-    league: &League,
-    encoding: &Encoding,
-) -> Result<Option<Log>, AllocError>
-    requires league { encoding.now ≡ league.now }
+pub fn venue_count_low(alloc: Global, league: &League) -> Result<Option<Log>, AllocError>
+    requires small { encoding_size league.now ≤ most_terms }
     ensures crowded { IfOk result (λ found. IsSome found ↔ (are_crowded league.now ≡ true)) }
     ensures counted { IfOk result (λ found. IfSome found (IsCrowdedCount league.now)) }
     ensures refuting { IfOk result (λ found. IfSome found (IsRefuting league.now)) }
 {
-    count(alloc, league, encoding, Limit::Least)
+    count(alloc, league, Limit::Least)
 }
 
 /// The same by either bound.
-fn count(
-    alloc: Global,
-    league: &League,
-    encoding: &Encoding,
-    limit: Limit,
-) -> Result<Option<Log>, AllocError>
-    requires league { encoding.now ≡ league.now }
+fn count(alloc: Global, league: &League, limit: Limit) -> Result<Option<Log>, AllocError>
+    requires small { encoding_size league.now ≤ most_terms }
     ensures instance { IsInstance league.now }
     ensures exceeds { IfOk result (λ found. is_some found ≡ exceeds limit league.now.n league.now.constraints) }
     ensures counted { IfOk result (λ found. IfSome found (IsCount limit league.now)) }
@@ -68,7 +58,8 @@ fn count(
     let groups = groups_of(alloc, league, limit)?;
     for group in &groups {
         if group.exceeds(n) {
-            let log = log_of(alloc, encoding, group, limit)?;
+            let encoding = encode_small(alloc, league)?;
+            let log = log_of(alloc, &encoding, group, limit)?;
             return Ok(Some(log));
         }
     }

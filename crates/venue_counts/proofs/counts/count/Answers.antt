@@ -42,7 +42,7 @@ returns-then-exceeds-clause-counted c =
       side = g.side;
       slots = g.slots.now;
       above = above;
-      adds_up = adds-of c.args.limit league c.args.encoding.now g c.in_ok-log.log c.requires.league
+      adds_up = adds-of c.args.limit league c.in_ok-encoding.encoding g c.in_ok-log.log c.in_ok-encoding.ensures
           c.in_ok-log.ensures.adds_up;
     }
 
@@ -60,7 +60,7 @@ returns-then-exceeds-clause-refuting c =
     record {
       accepted = count-accepted c.args.limit league g c.in_ok-log.log c.n-n.ensures.instance is c.exceeds.ensures.fits
           above
-          (adds-of c.args.limit league c.args.encoding.now g c.in_ok-log.log c.requires.league
+          (adds-of c.args.limit league c.in_ok-encoding.encoding g c.in_ok-log.log c.in_ok-encoding.ensures
           c.in_ok-log.ensures.adds_up);
       named = c.in_ok-log.ensures.named;
       short_lines = c.in_ok-log.ensures.short;

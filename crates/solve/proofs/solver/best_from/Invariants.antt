@@ -1,13 +1,10 @@
 use Rattle.std.specs.Prelude.{◌≡◌, ◌<◌, ◌≤◌, List, length, Option, IfSome}
 use Rattle.std.specs.List.{All}
-use Rattle.league.specs.Accepted.{IsAccepted}
-use Rattle.league.specs.Counts.{counts_of}
-use Rattle.circle_method.specs.Circle.{double_games}
 use Rattle.solve.specs.Earliest.{IsBestOf, season_of}
 use Rattle.solve.specs.Solutions.{HasSchedule, IsSolution}
 use Rattle.solve.specs.Tried.{IsSeason}
 use Rattle.solve.specs.declared.lower.Season.{Season}
-use Rattle.solve.proofs.solver.best_try.Given as goal
+use Rattle.solve.proofs.solver.best_from.Given as goal
 
 -- the best answer so far
 abbrev pub invariant-loop-k : goal.invariant-loop-k
@@ -18,5 +15,5 @@ invariant-loop-k l = record {
   tried : length found ≡ l.k;
   within : 1 < l.k → l.k ≤ l.budgets.tries;
   best : IsBestOf found (season_of l.best);
-  circle : IsAccepted l.league (counts_of (double_games l.league.n)) → HasSchedule l.best;
+  schedule : HasSchedule l.fn.first → HasSchedule l.best;
 }

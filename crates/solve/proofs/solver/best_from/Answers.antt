@@ -6,21 +6,21 @@ use Rattle.solve.specs.Solutions.{IsRefuted}
 use Rattle.solve.specs.Tried.{IsSeason}
 use Rattle.solve.specs.declared.lower.Season.{Season}
 use Rattle.solve.proofs.EarliestLemmas.{one-best, season-is_tried, season-solved}
-use Rattle.solve.proofs.solver.best_try.Goals as goal
+use Rattle.solve.proofs.solver.best_from.Goals as goal
 
 pub loop-k-init : goal.loop-k-init
 loop-k-init c =
     let P : Option Season → Type 0 = λ o. IfSome o (IsSeason c.args.league.now c.args.budgets.moves) in
-    let first : Option Season = season_of c.in_ok-best.best in
+    let first : Option Season = season_of c.args.first in
     record {
-      solution = c.in_ok-best.ensures.solution;
+      solution = c.requires.first;
       found = first ∷ [];
       each = All-cons P first []
-          (season-solved c.args.league.now c.args.budgets c.in_ok-best.best c.in_ok-best.ensures.solution) (All-nil P);
+          (season-solved c.args.league.now c.args.budgets c.args.first c.requires.first) (All-nil P);
       tried = refl;
       within = λ more. absurd (omega (arith, more));
       best = one-best first;
-      circle = c.in_ok-best.ensures.circle;
+      schedule = λ has. has;
     }
 
 pub loop-k-preserved : goal.loop-k-preserved
@@ -39,7 +39,7 @@ loop-k-preserved c =
       tried = omega (arith, length-append found (later ∷ []), c.loop-k.invariant.tried);
       within = λ more. omega arith;
       best = c.better-best.ensures.best found goes_on c.loop-k.invariant.best;
-      circle = λ accepted. c.better-best.ensures.schedule (c.loop-k.invariant.circle accepted);
+      schedule = λ has. c.better-best.ensures.schedule (c.loop-k.invariant.schedule has);
     }
 
 pub returns-then-is_refuted-clause-best : goal.returns-then-is_refuted-clause-best
