@@ -32,7 +32,7 @@ use Rattle.rows.specs.Literals.{no, yes}
 use Rattle.rows.specs.Rows.{Row}
 use Rattle.encoding_base.specs.Encoding.{rows_of}
 use Rattle.bound_base.specs.BoundRows.{bound_rows}
-use Rattle.bound_rows.specs.Bounded.{IsSystem}
+use Rattle.bound_rows.specs.Bounded.{IsCounted, IsSystem}
 use Rattle.resume_rows.specs.Systems.{PartlyPlayed, rows_for}
 use Rattle.resume_rows.specs.Systems as resumed
 use Rattle.descent.specs.Descended.{Descended}
@@ -324,10 +324,27 @@ instance_of constraints few fit = record {
   fit = fit;
 }
 
+is_instance : IsInstance league
+is_instance =
+    instance_of league.constraints (lit≤ tt)
+    (All-from_recursion (λ (c : Constraint). IsTrue (class_fits 2 c.class)) league.constraints (refl, tt))
+
+-- 56 terms of the season, two of the softened row, and one of the objective's
+pub counted : IsCounted league 59
+counted = record { instance = is_instance; count = refl; few = lit≤ tt }
+
+-- the season's terms alone aren't all, nor are those without the objective row's; and three teams have no season
+pub not_counted : (IsCounted league 56 → ⊥) × (IsCounted league 58 → ⊥)
+    × ((terms : ℕ) → IsCounted (record { n = 3; phased = false; constraints = [] }) terms → ⊥)
+not_counted = (
+  λ is. let terms : ◌≡◌ {A = ℕ} 56 59 = is.count in omega (arith, terms),
+  λ is. let terms : ◌≡◌ {A = ℕ} 58 59 = is.count in omega (arith, terms),
+  λ terms is. let odd : ◌≡◌ {A = ℕ} 1 0 = is.instance.teams.even in omega (arith, odd),
+)
+
 pub system : IsSystem league 3 (bound_rows league 3) 9
 system = record {
-  instance = instance_of league.constraints (lit≤ tt)
-      (All-from_recursion (λ (c : Constraint). IsTrue (class_fits 2 c.class)) league.constraints (refl, tt));
+  instance = is_instance;
   size = lit≤ tt;
   rows_are = refl;
   vars_are = refl;

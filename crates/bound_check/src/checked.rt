@@ -11,8 +11,8 @@ use refutation::{Log, Verdict};
 use refutation_check::check;
 use std::alloc::{AllocError, Global};
 
-/// The verdict on a log over the bound rows of one less than the bound. `terms` is how many terms the league's bound rows
-/// have, as `bound_terms` of `bound_rows` counts them.
+/// The verdict on a log over the bound rows of one less than the bound. `terms` is how many terms the league's bound
+/// rows have, as `bound_terms` of `bound_rows` counts them.
 ///
 /// If the log is accepted, every schedule that the league accepts has an objective of at least the bound.
 ///

@@ -29,8 +29,8 @@ pub fn bound_terms(league: &League) -> u64
     base.saturating_add(paid)
 }
 
-/// How many terms the rows of breaks have that a league's own encoding lacks: those of a league in which soft constraints
-/// bound breaks and no hard one does.
+/// How many terms the rows of breaks have that a league's own encoding lacks: those of a league in which soft
+/// constraints bound breaks and no hard one does.
 fn more_terms(league: &League) -> u64
     ensures { encoding.encoding_size league.now + result ≡ size_of (bounds.base_rows league.now) }
 {

@@ -22,8 +22,8 @@ pub(crate) fn se1_terms(n: u16, class: &Class) -> u64
     pair_terms(n, *min).saturating_mul(pair_total(n, teams))
 }
 
-/// How many terms the groups of two teams of an SE1 have: one group for each number of slots up to `min`. The groups for
-/// numbers from the season's slots on are all alike.
+/// How many terms the groups of two teams of an SE1 have: one group for each number of slots up to `min`. The groups
+/// for numbers from the season's slots on are all alike.
 fn pair_terms(n: u16, min: u32) -> u64
     requires { IsTeamCount n }
     ensures { result ≡ capped (sizes.parts_size n (parts.se1_parts min (0, 1))) }

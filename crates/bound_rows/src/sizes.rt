@@ -13,8 +13,8 @@ use encoding_base::slot_numbers;
 use encoding_sizes::{Batch, batches_of, pair_total};
 use league::{Bounds, Class, ClassName};
 
-/// How many terms the groups of a class have that fits a league of n teams. The count takes no memory. It takes no longer
-/// if there are more terms.
+/// How many terms the groups of a class have that fits a league of n teams. The count takes no memory. It takes no
+/// longer if there are more terms.
 pub(crate) fn class_terms(n: u16, class: &Class) -> u64
     requires n { IsTeamCount n }
     requires fits { IsTrue (class_fits n class.now) }

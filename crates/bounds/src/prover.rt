@@ -33,9 +33,9 @@ const MOVES: u64 = 1_000_000;
 /// `bound_terms` of `bound_rows` counts them.
 ///
 /// A descent goes on from the schedule by moves. If the descent betters the schedule, the answer is the schedule at its
-/// end. If not, a search goes over the bound rows of one less than the objective; it learns at most `conflicts` clauses.
-/// From a schedule that the search finds, a descent goes on, too. So the budget is spent only if no single move betters
-/// the schedule. Which better schedule is found is not promised.
+/// end. If not, a search goes over the bound rows of one less than the objective; it learns at most `conflicts`
+/// clauses. From a schedule that the search finds, a descent goes on, too. So the budget is spent only if no single
+/// move betters the schedule. Which better schedule is found is not promised.
 ///
 /// # Errors
 /// Only where memory runs out.
@@ -113,8 +113,8 @@ fn bettered(lower: Season) -> Proved
     }
 }
 
-/// The answer of a search over the bound rows of one less than an objective. It holds for each schedule of this objective
-/// that no single move betters.
+/// The answer of a search over the bound rows of one less than an objective. It holds for each schedule of this
+/// objective that no single move betters.
 fn searched(
     alloc: Global,
     league: &League,
