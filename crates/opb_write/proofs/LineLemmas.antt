@@ -1,18 +1,17 @@
 -- The lines of a text, and what they are read as.
-use Rattle.std.proofs.Common.{◌≡◌, ℕ, ◌<◌, ◌≤◌, ◌^◌, ◌==◌, Bool, true, false, List, [], ◌∷◌, ◌++◌, append_assoc}
-use Rattle.std.proofs.Common.{refl, arith, ap, sym, subst, ◌∙◌, decimal, Option, Some, None}
+use Rattle.std.proofs.Common.{◌≡◌, ℕ, ◌<◌, ◌≤◌, ◌^◌, ◌==◌, Bool, false, List, [], ◌∷◌, ◌++◌, append_assoc}
+use Rattle.std.proofs.Common.{refl, arith, ap, sym, subst, ◌∙◌, decimal, Option, Some}
 use Rattle.std.specs.Prelude.{codes, nat_eq, bytes_eq}
 use Rattle.std.specs.List.{All, flat_map, slice_split, starts_with}
 use Rattle.std.proofs.lemmas.Bool.Decides.{nat_tests}
 use Rattle.std.proofs.lemmas.List.Elements.{All-nil, All-cons, All-head, All-tail, All-append, All-weaker}
 use Rattle.std.proofs.lemmas.List.Splits.{slice_split_at, slice_split_none}
-use Rattle.rows.specs.Rows.{Row}
 use Rattle.rows.specs.declared.lit.Term.{Term}
 use Rattle.opb_write.specs.Opb.{both, coef_in, heading_from, least_from, least_in, lines_of, literal_in, number_in}
 use Rattle.opb_write.specs.Opb.{row_from, row_in, sum_in, terms_in, with_degree, words_of}
 use Rattle.opb_write.specs.Texts.{literal_text, sum_text, term_text, terms_text}
 use Rattle.opb_write.specs.Systems.{IsSmallTerm}
-use Rattle.opb_write.proofs.WordLemmas.{IsLine, IsWord, by_test, coef-not, coef_in-text, decimal-not, decimal-word}
+use Rattle.opb_write.proofs.WordLemmas.{IsLine, by_test, coef-not, coef_in-text, decimal-not, decimal-word}
 use Rattle.opb_write.proofs.WordLemmas.{literal-not, literal_in-text, number_in-decimal, term-line, term_words, with_term-some}
 use Rattle.opb_write.proofs.WordLemmas.{word-line, words_of-last, words_of-term, words_of-word}
 

@@ -9,7 +9,6 @@ use Rattle.std.specs.List.{All, flat_map}
 use Rattle.std.proofs.lemmas.List.{flat_map_more, length-append, take-append-drop, take-append-le, take_more}
 use Rattle.std.proofs.lemmas.List.Concat.{flat_map-append}
 use Rattle.std.proofs.lemmas.List.Elements.{All-more}
-use Rattle.robin_io.specs.Counts.{HasOneCause}
 use Rattle.robin_io.specs.Written.{AppendsPrefix}
 use Rattle.robin_io.specs.declared.failed.Failed.{Failed}
 use Rattle.robin_io.specs.declared.sink.Sink as sink

@@ -1,5 +1,5 @@
 -- The whole text reads back as what was written.
-use Rattle.std.proofs.Common.{◌≡◌, ℕ, ◌<◌, ◌≤◌, ◌^◌, ◌==◌, Bool, true, false, List, [], ◌∷◌, ◌++◌, append_assoc, length}
+use Rattle.std.proofs.Common.{◌≡◌, ℕ, ◌<◌, ◌^◌, ◌==◌, Bool, true, false, List, [], ◌∷◌, ◌++◌, append_assoc, length}
 use Rattle.std.proofs.Common.{refl, arith, ap, ◌∙◌, decimal, Option, Some, None}
 use Rattle.std.specs.Prelude.{codes, nat_eq, if◌then◌else◌, IfSome, OnOk, Result, Ok, Err}
 use Rattle.robin_io.specs.declared.failed.Failed.{Failed}
@@ -8,8 +8,8 @@ use Rattle.std.proofs.lemmas.Bool.Decides.{nat_tests}
 use Rattle.std.proofs.lemmas.List.Elements.{All-head, All-tail}
 use Rattle.rows.specs.Rows.{IsRow, Row}
 use Rattle.rows.specs.declared.lit.Term.{Term}
-use Rattle.opb_write.specs.Opb.{body_in, heading_from, least_in, lines_in, lines_of, opb_of, row_in, rows_in, system_from}
-use Rattle.opb_write.specs.Opb.{with_heading, with_least, with_row, words_of}
+use Rattle.opb_write.specs.Opb.{body_in, least_in, lines_in, lines_of, opb_of, row_in, rows_in, system_from}
+use Rattle.opb_write.specs.Opb.{with_heading, with_least, with_row}
 use Rattle.opb_write.specs.Texts.{heading_text, least_text, opb_text, row_text, rows_text, sum_text}
 use Rattle.opb_write.specs.Systems.{IsSmallRow, IsSmallSystem, IsSmallTerm, System}
 use Rattle.opb_write.proofs.LineLemmas.{HasCoef, Words, heading_in-line, heading_line, heading_line-line, least_in-line}

@@ -30,11 +30,7 @@ pub(crate) fn make_room<K: Sink>(sink: &mut K, waiting: &mut Waiting) -> Result<
 }
 
 /// Sends a short text on its way.
-pub(crate) fn send<K: Sink>(
-    sink: &mut K,
-    waiting: &mut Waiting,
-    text: &[u8],
-) -> Result<(), Failed>
+pub(crate) fn send<K: Sink>(sink: &mut K, waiting: &mut Waiting, text: &[u8]) -> Result<(), Failed>
     requires { length text.now ≤ 128 }
     ensures { Sends K.Sink sink.old sink.new waiting.old waiting.new text.now result }
 {

@@ -44,11 +44,7 @@ fn put_heading<K: Sink>(
 }
 
 /// Sends the line of what is to be least on its way.
-fn put_sum_line<K: Sink>(
-    sink: &mut K,
-    waiting: &mut Waiting,
-    terms: &[Term],
-) -> Result<(), Failed>
+fn put_sum_line<K: Sink>(sink: &mut K, waiting: &mut Waiting, terms: &[Term]) -> Result<(), Failed>
     ensures sends { Sends K.Sink sink.old sink.new waiting.old waiting.new (texts.least_text (Some terms.now)) result }
     ensures small { OnOk result (All IsSmallTerm terms.now) }
 {
@@ -63,7 +59,7 @@ fn put_least<K: Sink>(
     waiting: &mut Waiting,
     least: Option<&[Term]>,
 ) -> Result<(), Failed>
-    ensures sends { Sends K.Sink sink.old sink.new waiting.old waiting.new 
+    ensures sends { Sends K.Sink sink.old sink.new waiting.old waiting.new
         (texts.least_text (system_of 0 least.entry []).least) result }
     ensures small { OnOk result (IfSome (system_of 0 least.entry []).least (All IsSmallTerm)) }
 {

@@ -1,1 +1,2 @@
-
+-- Rows that were written are those that were to be:
+pub mod RowsLemmas

@@ -1,5 +1,4 @@
 -- What a contract sees of rows that are ready to be written.
-use Rattle.std.specs.Prelude.{◌≡◌, [], List, ℕ}
 use Rattle.opb_write.specs.Systems.{System}
 use Rattle.rows_answer.specs.Rowed.{bound_system, league_system}
 use Rattle.rows_answer.specs.declared.written.Kept.{Kept}

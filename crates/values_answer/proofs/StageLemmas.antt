@@ -1,5 +1,5 @@
 -- How the stages of `values` make an answer.
-use Rattle.std.proofs.Common.{◌≡◌, ℕ, ◌+◌, ◌<◌, ◌≤◌, List, length, Bool, Option, Some, None, Result, Ok, Err, codes, inl, inr, sym, subst}
+use Rattle.std.proofs.Common.{◌≡◌, ℕ, ◌+◌, ◌<◌, ◌≤◌, List, length, Bool, Option, Result, Ok, codes, inl, inr, sym, subst}
 use Rattle.robin_io.specs.Outside.{Store}
 use Rattle.league.specs.Instance.{Instance}
 use Rattle.robinx_tags.specs.Pieces.{pieces}
@@ -12,7 +12,7 @@ use Rattle.check_answer.specs.Check.{encodes, most_log_bytes, most_terms}
 use Rattle.rows.specs.Literals.{Literal}
 use Rattle.encoding_base.specs.Encoding.{encoding_size, rows_of}
 use Rattle.values_read.specs.Values.{values_of}
-use Rattle.values_answer.specs.Valued.{IsValued, found_of, missed_answer, says_values, valued}
+use Rattle.values_answer.specs.Valued.{IsValued, found_of, says_values, valued}
 
 -- the stages behind the instance file, whose bytes were so many
 abbrev pub values_stages : Store → List ℕ → ℕ → Instance → Answer → Type 0

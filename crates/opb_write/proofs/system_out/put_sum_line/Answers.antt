@@ -1,4 +1,4 @@
-use Rattle.std.proofs.Common.{◌++◌, Ok, codes}
+use Rattle.std.proofs.Common.{◌++◌, codes}
 use Rattle.std.proofs.lemmas.Result.{err_from_is_err_and}
 use Rattle.opb_write.specs.Texts.{sum_text}
 use Rattle.opb_write.proofs.StreamLemmas.{OnOk-holds, Sends-exit, Sends-then}

@@ -1,5 +1,4 @@
 use Rattle.opb_write.specs.SeenSystem.{system_of}
-use Rattle.opb_write.specs.Systems.{System}
 use Rattle.opb_write.specs.Texts.{opb_text}
 use Rattle.opb_write.proofs.StreamLemmas.{whole-cut, whole-written}
 use Rattle.opb_write.proofs.TextLemmas.{reads-back}

@@ -1,4 +1,4 @@
-use Rattle.std.proofs.Common.{◌≡◌, Bool, false, ap, arith, length, sym, ◌∙◌, ◌==◌}
+use Rattle.std.proofs.Common.{Bool, false, ap, arith, length, sym, ◌∙◌, ◌==◌}
 use Rattle.std.specs.Prelude.{if◌then◌else◌}
 use Rattle.std.proofs.lemmas.List.{length-replicate, take_all}
 use Rattle.rows.specs.Literals.{Literal}

@@ -1,0 +1,12 @@
+-- Rows that were written are those that were to be.
+use Rattle.std.proofs.Common.{◌≡◌, ℕ, List, None, ap, ◌∙◌}
+use Rattle.rows.specs.Rows.{Row}
+use Rattle.opb_write.specs.Systems.{System}
+
+-- rows and variables that are equal make one system
+pub same-system : (vars wanted_vars : ℕ) (rows wanted : List Row) → vars ≡ wanted_vars → rows ≡ wanted
+    → let one : System = record { vars = vars; least = None; rows = rows } in
+    let other : System = record { vars = wanted_vars; least = None; rows = wanted } in one ≡ other
+same-system vars wanted_vars rows wanted first second =
+    ap (λ (v : ℕ). let one : System = record { vars = v; least = None; rows = rows } in one) first
+    ∙ ap (λ (rs : List Row). let one : System = record { vars = wanted_vars; least = None; rows = rs } in one) second

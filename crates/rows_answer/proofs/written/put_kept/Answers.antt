@@ -1,0 +1,56 @@
+use Rattle.std.proofs.Common.{◌≡◌, None, ap, subst, sym, ◌∙◌}
+use Rattle.std.specs.Prelude.{OnErr, OnOk}
+use Rattle.std.specs.Io.KnownBytes.{Appends}
+use Rattle.robin_io.specs.Written.{AppendsPrefix}
+use Rattle.encoding_base.specs.Encoding.{rows_of}
+use Rattle.encoding_base.specs.Variables.{var_count}
+use Rattle.bound_base.specs.BoundRows.{bound_rows, bound_vars}
+use Rattle.opb_write.specs.Systems.{System}
+use Rattle.opb_write.specs.Texts.{opb_text}
+use Rattle.rows_answer.specs.SeenRows.{system_kept}
+use Rattle.rows_answer.proofs.RowsLemmas.{same-system}
+use Rattle.rows_answer.proofs.written.put_kept.Goals as goal
+
+pub returns-in-League-clause-ok : goal.returns-in-League-clause-ok
+returns-in-League-clause-ok g c =
+    let put : System = record { vars = c.vars.result; least = None; rows = c.rows.result.now } in
+    let same : put ≡ system_kept c.args.kept.now =
+    same-system c.vars.result (var_count c.in-League.encoding) c.rows.result.now
+    (rows_of c.in-League.encoding) c.vars.ensures.vars c.rows.ensures ∙ sym (ap system_kept c.in-League.is) in
+    subst
+    (λ (s : System). OnOk c.put_system.result (Appends (g.K.Sink.written c.args.out.now)
+    (g.K.Sink.written c.put_system.new.sink) (opb_text s)))
+    same c.put_system.ensures.ok
+
+pub returns-in-League-clause-err : goal.returns-in-League-clause-err
+returns-in-League-clause-err g c =
+    let put : System = record { vars = c.vars.result; least = None; rows = c.rows.result.now } in
+    let same : put ≡ system_kept c.args.kept.now =
+    same-system c.vars.result (var_count c.in-League.encoding) c.rows.result.now
+    (rows_of c.in-League.encoding) c.vars.ensures.vars c.rows.ensures ∙ sym (ap system_kept c.in-League.is) in
+    subst
+    (λ (s : System). OnErr c.put_system.result (AppendsPrefix (g.K.Sink.written c.args.out.now)
+    (g.K.Sink.written c.put_system.new.sink) (opb_text s)))
+    same c.put_system.ensures.err
+
+pub returns-in-Bound-clause-ok : goal.returns-in-Bound-clause-ok
+returns-in-Bound-clause-ok g c =
+    let put : System = record { vars = c.vars-in-Bound.result; least = None; rows = c.rows-in-Bound.result.now } in
+    let same : put ≡ system_kept c.args.kept.now =
+    same-system c.vars-in-Bound.result (bound_vars c.in-Bound.system.league) c.rows-in-Bound.result.now
+    (bound_rows c.in-Bound.system.league c.in-Bound.system.bound) c.vars-in-Bound.ensures.vars c.rows-in-Bound.ensures ∙ sym (ap system_kept c.in-Bound.is) in
+    subst
+    (λ (s : System). OnOk c.put_system-in-Bound.result (Appends (g.K.Sink.written c.args.out.now)
+    (g.K.Sink.written c.put_system-in-Bound.new.sink) (opb_text s)))
+    same c.put_system-in-Bound.ensures.ok
+
+pub returns-in-Bound-clause-err : goal.returns-in-Bound-clause-err
+returns-in-Bound-clause-err g c =
+    let put : System = record { vars = c.vars-in-Bound.result; least = None; rows = c.rows-in-Bound.result.now } in
+    let same : put ≡ system_kept c.args.kept.now =
+    same-system c.vars-in-Bound.result (bound_vars c.in-Bound.system.league) c.rows-in-Bound.result.now
+    (bound_rows c.in-Bound.system.league c.in-Bound.system.bound) c.vars-in-Bound.ensures.vars c.rows-in-Bound.ensures ∙ sym (ap system_kept c.in-Bound.is) in
+    subst
+    (λ (s : System). OnErr c.put_system-in-Bound.result (AppendsPrefix (g.K.Sink.written c.args.out.now)
+    (g.K.Sink.written c.put_system-in-Bound.new.sink) (opb_text s)))
+    same c.put_system-in-Bound.ensures.err
