@@ -41,7 +41,7 @@ solve_option word =
     else (if bytes_eq word (codes "--patterns") then Some Patterns
     else (if bytes_eq word (codes "--seed") then Some Draws else None))))
 
--- the same of `rows`
+-- what the value of an option of `rows` is to be
 abbrev pub row_option : List ℕ → Option Role
 row_option word = if bytes_eq word (codes "--bound") then Some Bound else None
 

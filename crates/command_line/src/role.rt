@@ -45,12 +45,8 @@ pub(crate) fn fits(role: Role, word: &str) -> bool
 {
     match role {
         Role::Instance | Role::Solution | Role::Log | Role::Values => is_name(word),
-        Role::Slots
-        | Role::Seed
-        | Role::Moves
-        | Role::Patterns
-        | Role::Draws
-        | Role::Bound => number(word).is_some(),
+        Role::Slots | Role::Seed | Role::Moves | Role::Patterns | Role::Draws | Role::Bound =>
+            number(word).is_some(),
         Role::Teams => team_count(word).is_some(),
         Role::Members => is_list(word),
         Role::Conflicts => budget(word).is_some(),
@@ -80,7 +76,7 @@ fn search_option(word: &str) -> Option<Role>
     }
 }
 
-/// The same of `rows`.
+/// What the value of an option of `rows` is to be.
 fn row_option(word: &str) -> Option<Role>
     ensures { result ≡ faults.row_option word.now }
 {
