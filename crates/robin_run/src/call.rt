@@ -30,7 +30,7 @@ ghost use Rattle.robin_run.specs.Trial.{Tries};
 ghost use Rattle.robin_run.specs.Validate.{Validates};
 ghost use Rattle.robin_run.specs.Values.{JudgesValues};
 
-use crate::given::{Given, given};
+use crate::given::{Given, give};
 use answers::{NoValue, Reply, Status, write_answer};
 use bound_answer::bound_file;
 use check_answer::check;
@@ -88,41 +88,41 @@ fn follow<S: Shelf>(alloc: Global, command: Words, shelf: &mut S) -> Result<Give
     ensures untouched { NeedsNoFile (Some (command_of command.entry)) → shelf.new ≡ shelf.old }
 {
     match command {
-        Words::Validate { instance, solution } => given(validate(alloc, shelf, instance, solution)),
-        Words::Check { instance, log } => given(check(alloc, shelf, instance, log)),
-        Words::Solve { instance, budgets } => given(solve_file(alloc, shelf, instance, budgets)),
+        Words::Validate { instance, solution } => give(validate(alloc, shelf, instance, solution)),
+        Words::Check { instance, log } => give(check(alloc, shelf, instance, log)),
+        Words::Solve { instance, budgets } => give(solve_file(alloc, shelf, instance, budgets)),
         Words::Patterns {
             instance,
             conflicts,
-        } => given(patterns_file(alloc, shelf, instance, conflicts)),
+        } => give(patterns_file(alloc, shelf, instance, conflicts)),
         Words::Explain {
             instance,
             conflicts,
-        } => given(explain_file(alloc, shelf, instance, conflicts)),
-        Words::Part { instance, list } => given(part_of_list(alloc, shelf, instance, list)),
+        } => give(explain_file(alloc, shelf, instance, conflicts)),
+        Words::Part { instance, list } => give(part_of_list(alloc, shelf, instance, list)),
         Words::Prove {
             instance,
             solution,
             conflicts,
-        } => given(prove_file(alloc, shelf, instance, solution, conflicts)),
-        Words::Bound { instance, log } => given(bound_file(alloc, shelf, instance, log)),
+        } => give(prove_file(alloc, shelf, instance, solution, conflicts)),
+        Words::Bound { instance, log } => give(bound_file(alloc, shelf, instance, log)),
         Words::Resume {
             instance,
             solution,
             k,
             conflicts,
-        } => given(resume_file(alloc, shelf, instance, solution, k, conflicts)),
+        } => give(resume_file(alloc, shelf, instance, solution, k, conflicts)),
         Words::Audit {
             instance,
             solution,
             k,
             log,
-        } => given(audit_file(alloc, shelf, instance, solution, k, log)),
+        } => give(audit_file(alloc, shelf, instance, solution, k, log)),
         Words::Rows { instance, bound } => rows_of_file(alloc, shelf, instance, bound),
-        Words::Values { instance, values } => given(values_file(alloc, shelf, instance, values)),
+        Words::Values { instance, values } => give(values_file(alloc, shelf, instance, values)),
         Words::Circle { n } => Ok(Given::Answer(circle(alloc, n)?)),
         Words::Make { n, seed } => Ok(Given::Answer(make_league(alloc, n, seed)?)),
-        Words::Trial { n, seed, budgets } => given(trial(alloc, n, seed, budgets)),
+        Words::Trial { n, seed, budgets } => give(trial(alloc, n, seed, budgets)),
         Words::Help { topic } => Ok(Given::Answer(help(alloc, topic)?)),
         Words::Version => Ok(Given::Answer(version(alloc)?)),
     }

@@ -12,8 +12,8 @@ pub(crate) enum Given {
     Rows(ReadyRows),
 }
 
-/// A reply, given as it is.
-pub(crate) fn given(reply: Result<Reply, NoValue>) -> Result<Given, NoValue>
+/// Gives a reply as it is.
+pub(crate) fn give(reply: Result<Reply, NoValue>) -> Result<Given, NoValue>
     ensures { IsGiven reply result }
 {
     match reply {
