@@ -1,6 +1,6 @@
 -- What `rows` and `values` promise is kept.
 use Rattle.std.proofs.Common.{◌∷◌, [], ◌≡◌, ℕ, ◌+◌, List, length, Option, Some, None, arith, Bool, Result, Ok, Err, codes, ap, inl}
-use Rattle.std.proofs.Common.{inr, ◌≤◌, refl, sym, subst, ◌∙◌}
+use Rattle.std.proofs.Common.{inr, ◌≤◌, sym, subst, ◌∙◌}
 use Rattle.std.specs.Io.KnownBytes.{Appends}
 use Rattle.std.specs.Prelude.{IfSome}
 use Rattle.robin_io.specs.Outside.{Output, Store}
@@ -22,12 +22,11 @@ use Rattle.check_answer.specs.Check.{encodes, most_log_bytes}
 use Rattle.solve_answer.specs.Solve.{IsWellFormedInstance}
 use Rattle.encoding_base.specs.Shadow.{decoded}
 use Rattle.opb_write.specs.Texts.{opb_text}
-use Rattle.rows_answer.specs.Rowed.{league_rows, rowed, rows_answer}
+use Rattle.rows_answer.specs.Rowed.{league_rows, rows_answer}
 use Rattle.values_read.specs.Values.{values_of}
 use Rattle.values_answer.specs.Valued.{IsSeason, IsValued, found_of, missed_from, says_values, valued}
 use Rattle.robin_run.specs.Rows.{WritesRows, system_of}
 use Rattle.robin_run.specs.Run.{Answered, Run}
-use Rattle.robin_run.specs.Said.{SaysLeague}
 use Rattle.robin_run.specs.Values.{IsAcceptedSeason, JudgesValues, SaysLiterals}
 use Rattle.robin_run.proofs.RunLemmas.{writes, writes-as}
 
