@@ -19,7 +19,7 @@ TOP = os.path.dirname(os.path.dirname(os.path.abspath(__file__)))
 RUN = "crates/robin_run"
 COMMANDS = "crates/command_line/specs/Words.antt"
 # Of each group the first table has what those before it don't need.
-GROUPS = [["validate", "circle"], ["check", "solve"], ["patterns"], ["explain", "part"], ["make", "trial"], ["prove", "bound"], ["resume", "audit"]]
+GROUPS = [["validate", "circle"], ["check", "solve"], ["patterns"], ["explain", "part"], ["make", "trial"], ["prove", "bound"], ["resume", "audit"], ["rows", "values"]]
 FILES_HEAD = "| Crate | Files of its `specs/`, with their lines | What they say |"
 COMMANDS_HEAD = "| Command alone | Files | Lines |"
 USE = re.compile(r"^(?:ghost )?use Rattle\.(\w+)\.specs\.([\w.]+?)(?:\.\{([^}]*)\})?(?: as (\w+))?;?\s*$", re.M)

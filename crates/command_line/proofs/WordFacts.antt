@@ -8,7 +8,7 @@ use Rattle.command_line.specs.Words.{files_and_number, members_in, members_of, n
 use Rattle.command_line.specs.Words.{one_number, reading, rising, said, two_files}
 use Rattle.command_line.specs.Words.{team_count_in, teams_and_seed, tries_in, values_of, words_of, NeedsNoFile}
 use Rattle.command_line.specs.Words.Command.{Audit, Bound, Check, Circle, Explain, Make, Part, Patterns, Prove}
-use Rattle.command_line.specs.Words.Command.{Help, Resume, Solve, Trial, Validate, Version}
+use Rattle.command_line.specs.Words.Command.{Help, Resume, Rows, Solve, Trial, Validate, Values, Version}
 
 -- a number: 0 itself, no leading zero, no sign, no blank, at most 2 ^ 64 - 1
 pub number_in-some : (number_in (codes "0") ≡ Some 0) × (number_in (codes "10") ≡ Some 10) × (number_in (codes "18446744073709551615") ≡ Some 18446744073709551615)
@@ -375,3 +375,17 @@ pub topics : (topic_of (codes "validate") ≡ Some topic.Validate)
     × (topic_of (codes "trial") ≡ Some topic.Trial)
     × (topic_of (codes "Trial") ≡ None)
 topics = (refl, refl, refl, refl, refl, refl, refl, refl, refl, refl, refl, refl, refl, refl)
+
+-- `rows` with and without a bound, before the file and behind it; `values` over two files
+pub rows-some : (reading (codes "rows" ∷ codes "a" ∷ []) ≡ Some (Rows (codes "a") None))
+    × (reading (codes "rows" ∷ codes "a" ∷ codes "--bound" ∷ codes "7" ∷ []) ≡ Some (Rows (codes "a") (Some 7)))
+    × (reading (codes "rows" ∷ codes "--bound" ∷ codes "0" ∷ codes "a" ∷ []) ≡ Some (Rows (codes "a") (Some 0)))
+    × (reading (codes "values" ∷ codes "a" ∷ codes "b" ∷ []) ≡ Some (Values (codes "a") (codes "b")))
+rows-some = (refl, refl, refl, refl)
+
+pub rows-none : (reading (codes "rows" ∷ []) ≡ None) × (reading (codes "rows" ∷ codes "a" ∷ codes "b" ∷ []) ≡ None)
+    × (reading (codes "rows" ∷ codes "a" ∷ codes "--bound" ∷ []) ≡ None)
+    × (reading (codes "rows" ∷ codes "a" ∷ codes "--bound" ∷ codes "07" ∷ []) ≡ None)
+    × (reading (codes "rows" ∷ codes "a" ∷ codes "--seed" ∷ codes "7" ∷ []) ≡ None)
+    × (reading (codes "values" ∷ codes "a" ∷ []) ≡ None) × (reading (codes "values" ∷ codes "a" ∷ codes "-" ∷ []) ≡ None)
+rows-none = (refl, refl, refl, refl, refl, refl, refl)

@@ -6,8 +6,8 @@ use Rattle.command_line.specs.Words.{budget_in, is_file_name, is_option, members
 use Rattle.command_line.specs.declared.topic.Topic.{Topic}
 use Rattle.command_line.specs.declared.topic.Topic.TheVariants as topic
 use Rattle.command_line.specs.declared.role.Role.{Role}
-use Rattle.command_line.specs.declared.role.Role.TheVariants.{Instance, Solution, Log, Slots, Teams, Seed, Members}
-use Rattle.command_line.specs.declared.role.Role.TheVariants.{Conflicts, Moves, Tries, Patterns, Draws}
+use Rattle.command_line.specs.declared.role.Role.TheVariants.{Instance, Solution, Log, Values, Slots, Teams, Seed}
+use Rattle.command_line.specs.declared.role.Role.TheVariants.{Members, Conflicts, Moves, Tries, Patterns, Draws, Bound}
 use Rattle.command_line.specs.declared.fault.WordFault.{WordFault}
 use Rattle.command_line.specs.declared.fault.WordFault.TheVariants.{NoWord, NoCommand, NotAlone, NoOption, NoValue, Twice}
 use Rattle.command_line.specs.declared.fault.WordFault.TheVariants.{Unfit, Missing, Surplus, Other}
@@ -17,6 +17,7 @@ abbrev pub fits : Role → List ℕ → Bool
 fits Instance word = is_file_name word
 fits Solution word = is_file_name word
 fits Log word = is_file_name word
+fits Values word = is_file_name word
 fits Slots word = is_some (number_in word)
 fits Teams word = is_some (team_count_in word)
 fits Seed word = is_some (number_in word)
@@ -26,6 +27,7 @@ fits Moves word = is_some (number_in word)
 fits Tries word = is_some (tries_in word)
 fits Patterns word = is_some (number_in word)
 fits Draws word = is_some (number_in word)
+fits Bound word = is_some (number_in word)
 
 -- what the value of an option is to be, where commands have it that search, or `solve` and `trial`
 abbrev pub search_option : List ℕ → Option Role
@@ -39,6 +41,10 @@ solve_option word =
     else (if bytes_eq word (codes "--patterns") then Some Patterns
     else (if bytes_eq word (codes "--seed") then Some Draws else None))))
 
+-- what the value of an option of `rows` is to be
+abbrev pub row_option : List ℕ → Option Role
+row_option word = if bytes_eq word (codes "--bound") then Some Bound else None
+
 abbrev pub option_role : Topic → List ℕ → Option Role
 option_role topic.Solve word = solve_option word
 option_role topic.Trial word = solve_option word
@@ -46,6 +52,7 @@ option_role topic.Patterns word = search_option word
 option_role topic.Explain word = search_option word
 option_role topic.Prove word = search_option word
 option_role topic.Resume word = search_option word
+option_role topic.Rows word = row_option word
 option_role _ word = None
 
 -- the words that ask for help or for the version

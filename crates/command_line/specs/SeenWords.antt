@@ -1,7 +1,7 @@
 -- What a contract sees of a command.
 use Rattle.command_line.specs.Words.{Command, members_of}
 use Rattle.command_line.specs.Words.Command.{Validate, Check, Solve, Patterns, Explain, Part, Prove, Bound, Resume}
-use Rattle.command_line.specs.Words.Command.{Audit, Circle, Make, Trial, Help, Version}
+use Rattle.command_line.specs.Words.Command.{Audit, Rows, Values, Circle, Make, Trial, Help, Version}
 use Rattle.command_line.specs.declared.words.Words.{Words}
 use Rattle.command_line.specs.declared.words.Words.TheVariants as words
 
@@ -17,6 +17,8 @@ command_of (words.Prove instance solution conflicts) = Prove instance.now soluti
 command_of (words.Bound instance log) = Bound instance.now log.now
 command_of (words.Resume instance solution k conflicts) = Resume instance.now solution.now k conflicts
 command_of (words.Audit instance solution k log) = Audit instance.now solution.now k log.now
+command_of (words.Rows instance bound) = Rows instance.now bound
+command_of (words.Values instance values) = Values instance.now values.now
 command_of (words.Circle n) = Circle n
 command_of (words.Make n seed) = Make n seed
 command_of (words.Trial n seed budgets) = Trial n seed budgets

@@ -3,7 +3,8 @@ use Rattle.std.specs.Prelude.{ℕ, List, [], ◌∷◌, codes, bytes_eq, Option,
 use Rattle.std.specs.List.{find}
 use Rattle.command_line.specs.declared.topic.Topic.{Topic}
 use Rattle.command_line.specs.declared.topic.Topic.TheVariants.{Validate, Solve, Patterns, Explain, Part, Check}
-use Rattle.command_line.specs.declared.topic.Topic.TheVariants.{Prove, Bound, Resume, Audit, Circle, Make, Trial}
+use Rattle.command_line.specs.declared.topic.Topic.TheVariants.{Prove, Bound, Resume, Audit, Rows, Values, Circle, Make}
+use Rattle.command_line.specs.declared.topic.Topic.TheVariants.{Trial}
 
 -- each command with its name
 abbrev pub names : List (List ℕ × Topic)
@@ -18,6 +19,8 @@ names =
     ∷ (codes "bound", Bound)
     ∷ (codes "resume", Resume)
     ∷ (codes "audit", Audit)
+    ∷ (codes "rows", Rows)
+    ∷ (codes "values", Values)
     ∷ (codes "circle", Circle)
     ∷ (codes "make", Make)
     ∷ (codes "trial", Trial)

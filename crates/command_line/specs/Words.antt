@@ -24,6 +24,8 @@ pub data Command : Type 0 where
   Bound : (instance log : List ℕ) → Command
   Resume : (instance solution : List ℕ) → (k : ℕ) → (conflicts : Option ℕ) → Command
   Audit : (instance solution : List ℕ) → (k : ℕ) → (log : List ℕ) → Command
+  Rows : (instance : List ℕ) → (bound : Option ℕ) → Command
+  Values : (instance values : List ℕ) → Command
   Circle : (n : ℕ) → Command
   Make : (n seed : ℕ) → Command
   Trial : (n seed : ℕ) → (budgets : Budgets) → Command
@@ -195,6 +197,22 @@ teams_and_seed [] = None
 teams_and_seed (teams ∷ rest) =
     option_and_then (λ n. option_map (λ seed. (n, seed)) (one_number rest)) (team_count_in teams)
 
+-- the name of the option of `rows`
+abbrev pub row_options : List (List ℕ)
+row_options = codes "--bound" ∷ []
+
+-- the bound that a word writes
+abbrev pub bound_in : List ℕ → Option (Option ℕ)
+bound_in word = option_map Some (number_in word)
+
+-- `rows` over one file, with a bound said before or behind it, or none
+abbrev pub rowing : List (List ℕ) → Option Command
+rowing words =
+    if has_options row_options words
+    then option_and_then (λ file. option_map (Rows file) (said None bound_in (values_of (codes "--bound") words)))
+    (one_file (arguments_of words))
+    else None
+
 -- `trial` with a number of teams, a seed and the options of `solve`
 abbrev pub trying : List (List ℕ) → Option Command
 trying words =
@@ -245,7 +263,8 @@ abbrev pub over_files : List ℕ → List ℕ → List ℕ → Option Command
 over_files command first second =
     if bytes_eq command (codes "validate") then Some (Validate first second)
     else (if bytes_eq command (codes "check") then Some (Check first second)
-    else (if bytes_eq command (codes "bound") then Some (Bound first second) else None))
+    else (if bytes_eq command (codes "bound") then Some (Bound first second)
+    else (if bytes_eq command (codes "values") then Some (Values first second) else None)))
 
 -- the command of this name that has no options
 abbrev pub plain : List ℕ → List (List ℕ) → Option Command
@@ -275,7 +294,8 @@ following (command ∷ words) =
     else (if bytes_eq command (codes "prove") then proving words
     else (if bytes_eq command (codes "resume") then resuming words
     else (if bytes_eq command (codes "audit") then auditing words
-    else (if bytes_eq command (codes "trial") then trying words else plain command words))))))
+    else (if bytes_eq command (codes "trial") then trying words
+    else (if bytes_eq command (codes "rows") then rowing words else plain command words)))))))
 
 -- ---- help and the version
 
@@ -309,6 +329,8 @@ HasTeams (Prove instance solution conflicts) = Unit {0}
 HasTeams (Bound instance log) = Unit {0}
 HasTeams (Resume instance solution k conflicts) = Unit {0}
 HasTeams (Audit instance solution k log) = Unit {0}
+HasTeams (Rows instance bound) = Unit {0}
+HasTeams (Values instance values) = Unit {0}
 HasTeams (Circle n) = IsTeamCount n
 HasTeams (Make n seed) = IsTeamCount n
 HasTeams (Trial n seed budgets) = IsTeamCount n
@@ -334,3 +356,5 @@ NeedsNoFile (Some (Prove instance solution conflicts)) = ⊥
 NeedsNoFile (Some (Bound instance log)) = ⊥
 NeedsNoFile (Some (Resume instance solution k conflicts)) = ⊥
 NeedsNoFile (Some (Audit instance solution k log)) = ⊥
+NeedsNoFile (Some (Rows instance bound)) = ⊥
+NeedsNoFile (Some (Values instance values)) = ⊥

@@ -15,6 +15,8 @@ pub enum Role {
     Solution,
     /// The name of a log's file, or of a certificate's.
     Log,
+    /// The name of a file of values.
+    Values,
     /// A number of slots.
     Slots,
     /// A number of teams.
@@ -33,6 +35,8 @@ pub enum Role {
     Patterns,
     /// The value of `--seed`.
     Draws,
+    /// The value of `--bound`.
+    Bound,
 }
 
 /// Whether a word is such.
@@ -40,10 +44,9 @@ pub(crate) fn fits(role: Role, word: &str) -> bool
     ensures { result ≡ faults.fits role word.now }
 {
     match role {
-        Role::Instance | Role::Solution | Role::Log => is_name(word),
-        Role::Slots | Role::Seed | Role::Moves | Role::Patterns | Role::Draws => {
-            number(word).is_some()
-        }
+        Role::Instance | Role::Solution | Role::Log | Role::Values => is_name(word),
+        Role::Slots | Role::Seed | Role::Moves | Role::Patterns | Role::Draws | Role::Bound =>
+            number(word).is_some(),
         Role::Teams => team_count(word).is_some(),
         Role::Members => is_list(word),
         Role::Conflicts => budget(word).is_some(),
@@ -58,6 +61,7 @@ pub(crate) fn option_role(command: Topic, word: &str) -> Option<Role>
     match command {
         Topic::Solve | Topic::Trial => solve_option(word),
         Topic::Patterns | Topic::Explain | Topic::Prove | Topic::Resume => search_option(word),
+        Topic::Rows => row_option(word),
         _ => None,
     }
 }
@@ -68,6 +72,16 @@ fn search_option(word: &str) -> Option<Role>
 {
     match word {
         "--conflicts" => Some(Role::Conflicts),
+        _ => None,
+    }
+}
+
+/// What the value of an option of `rows` is to be.
+fn row_option(word: &str) -> Option<Role>
+    ensures { result ≡ faults.row_option word.now }
+{
+    match word {
+        "--bound" => Some(Role::Bound),
         _ => None,
     }
 }
@@ -96,6 +110,7 @@ pub(crate) fn role_at(command: Topic, before: usize) -> Option<Role>
         (Topic::Part, 1) => Some(Role::Members),
         (Topic::Make | Topic::Trial, 1) => Some(Role::Seed),
         (Topic::Check | Topic::Bound, 1) => Some(Role::Log),
+        (Topic::Values, 1) => Some(Role::Values),
         (Topic::Validate | Topic::Prove | Topic::Resume | Topic::Audit, 1) => Some(Role::Solution),
         (Topic::Resume | Topic::Audit, 2) => Some(Role::Slots),
         (Topic::Audit, 3) => Some(Role::Log),

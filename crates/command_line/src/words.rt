@@ -5,9 +5,9 @@ ghost use Rattle.std.specs.Prelude.{option_map, IfSome};
 ghost use Rattle.std.specs.List.{list_any};
 ghost use Rattle.std.specs.Option.{option_copied};
 ghost use Rattle.command_line.specs.Words as options;
-ghost use Rattle.command_line.specs.Words.{arguments_of, asking, auditing, budget_in, budgets_in, conflicts_in, explaining};
+ghost use Rattle.command_line.specs.Words.{arguments_of, asking, auditing, bound_in, budget_in, budgets_in, conflicts_in, explaining};
 ghost use Rattle.command_line.specs.Words.{following, has_options, helping, is_file_name, making, parting};
-ghost use Rattle.command_line.specs.Words.{HasTeams, number_in, patterning, plain, proving, reading, resuming, said};
+ghost use Rattle.command_line.specs.Words.{HasTeams, number_in, patterning, plain, proving, reading, resuming, row_options, rowing, said};
 ghost use Rattle.command_line.specs.Words.{search_options, solve_options, solving, team_count_in, tries_in, trying};
 ghost use Rattle.command_line.specs.Words.{values_of};
 ghost use Rattle.command_line.specs.Words.Command.{Circle};
@@ -87,6 +87,18 @@ pub enum Words<'a> {
         solution: &'a str,
         k: u64,
         log: &'a str,
+    },
+    /// Write the rows of the league of an instance file, or with a bound those of a schedule that it accepts with an
+    /// objective of at most the bound.
+    Rows {
+        instance: &'a str,
+        bound: Option<u64>,
+    },
+    /// Write the schedule that the values of one file stand for, where they satisfy the rows of the league of an
+    /// instance file.
+    Values {
+        instance: &'a str,
+        values: &'a str,
     },
     /// Write the double round robin of the circle method for n teams, n even and from 2 to 40.
     Circle {
@@ -209,6 +221,8 @@ fn follow<'a>(command: &str, words: &'a [String]) -> Option<Words<'a>>
         read_audit(words)
     } else if command == "trial" {
         read_trial(words)
+    } else if command == "rows" {
+        read_rows(words)
     } else {
         read_plain(command, words)
     }
@@ -251,6 +265,11 @@ fn with_two<'a>(command: &str, first: &'a str, second: &'a str) -> Option<Words<
         Some(Words::Bound {
             instance: first,
             log: second,
+        })
+    } else if command == "values" {
+        Some(Words::Values {
+            instance: first,
+            values: second,
         })
     } else {
         None
@@ -412,6 +431,19 @@ fn audit_of<'a>(
     })
 }
 
+/// `rows` over one file, with its option.
+fn read_rows(words: &[String]) -> Option<Words<'_>>
+    ensures reading { option_map command_of result ≡ rowing (map string_bytes words.now) }
+    ensures teams { IfSome result (λ command. HasTeams (command_of command)) }
+{
+    if !has_row_options(words) {
+        return None;
+    }
+    let instance = one_file(words)?;
+    let bound = bound_said(words)?;
+    Some(Words::Rows { instance, bound })
+}
+
 /// `trial` with a number of teams and a seed, and the options of `solve`.
 fn read_trial(words: &[String]) -> Option<Words<'_>>
     ensures reading { option_map command_of result ≡ trying (map string_bytes words.now) }
@@ -496,6 +528,17 @@ fn conflicts_said(words: &[String]) -> Option<Option<u64>>
     match value_of(words, "--conflicts") {
         Standing::Never => Some(Some(USUAL_CONFLICTS)),
         Standing::Once(word) => budget(word),
+        Standing::Often => None,
+    }
+}
+
+/// The bound that the words say, if any.
+fn bound_said(words: &[String]) -> Option<Option<u64>>
+    ensures { result ≡ said None bound_in (values_of (codes "--bound") (map string_bytes words.now)) }
+{
+    match value_of(words, "--bound") {
+        Standing::Never => Some(None),
+        Standing::Once(word) => bound(word),
         Standing::Often => None,
     }
 }
@@ -616,6 +659,19 @@ fn has_search_options(words: &[String]) -> bool
     }
 }
 
+/// Whether each option is that of `rows`, and has a value.
+fn has_row_options(words: &[String]) -> bool
+    ensures { result ≡ has_options row_options (map string_bytes words.now) }
+{
+    match words {
+        [first, _, rest @ ..] if is_option(first.as_str()) => {
+            first.as_str() == "--bound" && has_row_options(rest)
+        }
+        [first, rest @ ..] => !is_option(first.as_str()) && has_row_options(rest),
+        [] => true,
+    }
+}
+
 /// Whether a word is the name of an option of `solve`.
 fn is_solve_option(word: &str) -> bool
     ensures { result ≡ list_any (λ name. bytes_eq word.now name) solve_options }
@@ -643,6 +699,14 @@ pub(crate) fn budget(word: &str) -> Option<Option<u64>>
     }
     let conflicts = number(word)?;
     Some(Some(conflicts))
+}
+
+/// The bound that a word writes.
+fn bound(word: &str) -> Option<Option<u64>>
+    ensures { result ≡ bound_in word.now }
+{
+    let bound = number(word)?;
+    Some(Some(bound))
 }
 
 /// Whether a word is a file's name: a word that begins with `-` is none.

@@ -2,7 +2,8 @@
 use Rattle.std.specs.Prelude.{ℕ, List, Option, None, Some}
 use Rattle.command_line.specs.declared.topic.Topic.{Topic}
 use Rattle.command_line.specs.declared.topic.Topic.TheVariants.{Validate, Solve, Patterns, Explain, Part, Check}
-use Rattle.command_line.specs.declared.topic.Topic.TheVariants.{Prove, Bound, Resume, Audit, Circle, Make, Trial}
+use Rattle.command_line.specs.declared.topic.Topic.TheVariants.{Prove, Bound, Resume, Audit, Rows, Values, Circle, Make}
+use Rattle.command_line.specs.declared.topic.Topic.TheVariants.{Trial}
 use Rattle.answers.specs.Reply.{Answer}
 use Rattle.answers.specs.declared.status.Status.TheVariants.{Yes}
 use Rattle.help_answer.specs.declared.pages.TheConstants as page
@@ -20,6 +21,8 @@ help_text (Some Prove) = page.PROVE.now
 help_text (Some Bound) = page.BOUND.now
 help_text (Some Resume) = page.RESUME.now
 help_text (Some Audit) = page.AUDIT.now
+help_text (Some Rows) = page.ROWS.now
+help_text (Some Values) = page.VALUES.now
 help_text (Some Circle) = page.CIRCLE.now
 help_text (Some Make) = page.MAKE.now
 help_text (Some Trial) = page.TRIAL.now

@@ -24,6 +24,8 @@ fn page(topic: Option<Topic>) -> &'static str
         Some(Topic::Bound) => pages::BOUND,
         Some(Topic::Resume) => pages::RESUME,
         Some(Topic::Audit) => pages::AUDIT,
+        Some(Topic::Rows) => pages::ROWS,
+        Some(Topic::Values) => pages::VALUES,
         Some(Topic::Circle) => pages::CIRCLE,
         Some(Topic::Make) => pages::MAKE,
         Some(Topic::Trial) => pages::TRIAL,

@@ -23,12 +23,15 @@ usage: robin COMMAND WORDS [OPTIONS]
   bound INSTANCE LOG             check such a proof
   resume INSTANCE SOLUTION K     plan the rest of a season after K slots
   audit INSTANCE SOLUTION K LOG  check a proof that it can't be resumed
+  rows INSTANCE                  write the league's rows for other solvers
+  values INSTANCE VALUES         write the season that a solver's values say
   circle N                       write a season for N teams
   make N SEED                    write a league of N teams to try things on
   trial N SEED                   make such a league and solve it
 
 INSTANCE is the file of a league, SOLUTION that of a season, LOG that of a
-proof. A file's name doesn't begin with -. Teams are even in number, 2 to 40.
+proof, VALUES what a solver prints. A file's name doesn't begin with -. Teams
+are even in number, 2 to 40.
 
 Options stand before, between or behind the words, each once at most:
   --conflicts N|all  clauses that a search may learn, or any number (2000);
@@ -37,6 +40,7 @@ Options stand before, between or behind the words, each once at most:
   --tries N          tries, from 1 to 100 (1); of solve and trial
   --patterns N       clauses of a search for patterns (500); of solve and trial
   --seed N           what random moves are drawn by (0); of solve and trial
+  --bound B          seasons that cost at most B; of rows
 
 Status:  0  accepted, found, proved or made     1  not accepted
          2  the words are no command
@@ -52,7 +56,7 @@ Status:  0  accepted, found, proved or made     1  not accepted
 /// The commands by name, for who misspelt one.
 pub const NAMES: &str = "\
 commands: validate solve patterns explain part check prove bound resume audit
-          circle make trial
+          rows values circle make trial
           robin --help says what they do
 ";
 
@@ -256,6 +260,45 @@ Status:  0  the log is accepted: there is no such season
          8  memory ran out
 
 Example: robin audit league.xml season.xml 18 none.log
+";
+
+pub const ROWS: &str = "\
+usage: robin rows INSTANCE [--bound B]
+
+Writes the rows of the league of the file INSTANCE as a text in OPB, the format
+of the pseudo-Boolean competitions, in the order and with the numbers that logs
+use. Where a solver finds values that satisfy them, the command values writes
+the season that they say; where there are none, the league accepts no season.
+
+Options stand before or behind the word, each once at most:
+  --bound B  the rows of a season that costs at most B, a number from 0 to
+             18446744073709551615, as certificates use them
+
+Status:  0  the rows are written
+         3  the file is refused, or the league is too large
+         6  the file can't be read
+         7  the text can't be written
+         8  memory ran out
+
+Example: robin rows league.xml > league.opb
+";
+
+pub const VALUES: &str = "\
+usage: robin values INSTANCE VALUES
+
+Writes the season that the values of the file VALUES say, where they satisfy
+the rows of the league of the file INSTANCE. The file is what a solver prints:
+words x7 or 7 are true variables, -x7 or -7 false ones, with or without v in
+front of a line; lines that begin with c, o or s are passed over.
+
+Status:  0  the season is written with its objective, and is accepted
+         1  a row isn't satisfied, and the first such is named
+         3  a file is refused, or the league is too large
+         6  a file can't be read
+         7  the text can't be written
+         8  memory ran out
+
+Example: robin values league.xml values.txt > season.xml
 ";
 
 pub const CIRCLE: &str = "\

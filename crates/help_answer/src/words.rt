@@ -112,6 +112,7 @@ fn wanted(role: Role) -> &'static str {
         Role::Instance => "INSTANCE is the name of a league's file, which doesn't begin with -",
         Role::Solution => "SOLUTION is the name of a season's file, which doesn't begin with -",
         Role::Log => "LOG is the name of a log's file, which doesn't begin with -",
+        Role::Values => "VALUES is the name of a file of values, which doesn't begin with -",
         Role::Slots => "K is a number from 0 to 18446744073709551615",
         Role::Teams => "N is an even number of teams from 2 to 40",
         Role::Seed => "SEED is a number from 0 to 18446744073709551615",
@@ -123,5 +124,6 @@ fn wanted(role: Role) -> &'static str {
         Role::Tries => "--tries takes a number from 1 to 100",
         Role::Patterns => "--patterns takes a number from 0 to 18446744073709551615",
         Role::Draws => "--seed takes a number from 0 to 18446744073709551615",
+        Role::Bound => "--bound takes a number from 0 to 18446744073709551615",
     }
 }

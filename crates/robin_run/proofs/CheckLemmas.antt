@@ -1,5 +1,5 @@
 -- What `check` promises is kept.
-use Rattle.std.proofs.Common.{◌≡◌, [], ◌∷◌}
+use Rattle.std.proofs.Common.{[], ◌∷◌}
 use Rattle.command_line.specs.Words.Command.{Check}
 use Rattle.answers.specs.declared.status.Status.TheVariants.{Yes}
 use Rattle.encoding.specs.Encoding.{rows_of}

@@ -2,7 +2,9 @@
 use Rattle.std.proofs.Common.{◌≡◌, ℕ, ◌+◌, Bool, true, false, if◌then◌else◌, List, length, Option, Some, None, Result}
 use Rattle.std.proofs.Common.{Ok, Err, codes, inl, inr, refl, sym, subst, ◌∙◌}
 use Rattle.robin_io.specs.Outside.{Output, Store}
+use Rattle.rows.specs.Literals.{Literal}
 use Rattle.rows.specs.Rows.{Row}
+use Rattle.rows.specs.Values.{assigned}
 use Rattle.league.specs.Instance.{Instance}
 use Rattle.league.specs.declared.game.Game.{Game}
 use Rattle.robinx_tags.specs.Pieces.{pieces}
@@ -13,7 +15,7 @@ use Rattle.robinx_read.specs.declared.instance.TheConstants.{INSTANCE_LIMIT, SOL
 use Rattle.budgets.specs.declared.budgets.Budgets.{Budgets}
 use Rattle.command_line.specs.Words.{Command}
 use Rattle.command_line.specs.Words.Command.{Audit, Bound, Check, Circle, Explain, Make, Part, Patterns, Prove, Resume}
-use Rattle.command_line.specs.Words.Command.{Help, Solve, Trial, Validate, Version}
+use Rattle.command_line.specs.Words.Command.{Help, Rows, Solve, Trial, Validate, Values, Version}
 use Rattle.answers.specs.Reply.{Answer}
 use Rattle.answers.specs.Stages.{IsWritten, Outcome, says, takes}
 use Rattle.answers.specs.declared.status.Status.{Status}
@@ -47,6 +49,9 @@ use Rattle.resume_answer.specs.Seasons.{has_size, has_slots}
 use Rattle.instance_gen.specs.Draws.{seeded}
 use Rattle.instance_gen.specs.Made.{made_league}
 use Rattle.trial_answer.specs.Trial.{IsTrial, tried}
+use Rattle.rows_answer.specs.Rowed.{bound_system, league_rows, league_system, rowed, rows_answer}
+use Rattle.values_read.specs.Values.{values_of}
+use Rattle.values_answer.specs.Valued.{IsValued, found_of, missed_from, says_values, valued}
 use Rattle.robin_run.specs.Answer.{IsAnswer}
 use Rattle.robin_run.specs.Ends.{EndsByWords, may_end}
 use Rattle.robin_run.specs.Run.{Answered, Run}
@@ -396,6 +401,55 @@ audited-ends Ends file fault ends_yes ends_no store instance solution k log answ
     (λ steps verdict. ends-as Ends answer _ verdict.verdict (verdict-ends Ends ends_yes ends_no (length steps) _))
     at_season) given
 
+-- ---- `rows` and `values`
+
+rows-ends : (Ends : Status → Type 0) → Ends File → Ends Yes → (league : Instance) (bound : Option ℕ) (answer : Answer)
+    → league_rows bound league answer → Ends answer.status
+rows-ends Ends file ends_yes league None answer given =
+    encodes-ends Ends file league (λ rows a. a ≡ rows_answer (league_system league)) answer
+    (λ rows is. ends-as Ends answer _ is ends_yes) given
+rows-ends Ends file ends_yes league (Some bound) answer given =
+    few-ends Ends file league (λ few a. a ≡ rows_answer (bound_system league bound)) answer
+    (λ is. ends-as Ends answer _ is ends_yes) given
+
+rowed-ends : (Ends : Status → Type 0) → Ends File → Ends ReadFault → Ends Yes → (store : Store) (instance : List ℕ)
+    (bound : Option ℕ) (answer : Answer) → rowed store instance bound answer → Ends answer.status
+rowed-ends Ends file fault ends_yes store instance bound answer given =
+    league-ends Ends file fault (store.contents instance) (store.took_more INSTANCE_LIMIT) (store.failed instance)
+    (λ bytes. league_rows bound) answer
+    (λ bytes league at_league. rows-ends Ends file ends_yes league bound answer at_league) given
+
+found-ends : (Ends : Status → Type 0) → Ends Yes → Ends No → (league : Instance) (values : ℕ → Bool)
+    (missed : Option ℕ) (answer : Answer) → found_of league values missed answer → Ends answer.status
+found-ends Ends ends_yes ends_no league values None answer season = ends-with Ends answer Yes season.status ends_yes
+found-ends Ends ends_yes ends_no league values (Some k) answer is = ends-as Ends answer _ is ends_no
+
+said_values-ends : (Ends : Status → Type 0) → Ends File → (said : Result (List Literal) ℕ)
+    (next : List Literal → Outcome) (answer : Answer) → ((lits : List Literal) → next lits answer → Ends answer.status)
+    → says_values said next answer → Ends answer.status
+said_values-ends Ends file (Ok lits) next answer later given = later lits given
+said_values-ends Ends file (Err line) next answer later given = ends-as Ends answer _ given file
+
+-- the stages behind the rows, where the instance file had so many bytes
+abbrev values_from : Store → List ℕ → ℕ → Instance → List Row → Outcome
+values_from store values front league rows =
+    takes (codes "values") (store.contents values) most_log_bytes (store.took_more (front + most_log_bytes))
+    (store.failed values) (λ bytes. says_values (values_of bytes) (IsValued league rows))
+
+valued-ends : (Ends : Status → Type 0) → Ends File → Ends ReadFault → Ends Yes → Ends No → (store : Store)
+    (instance values : List ℕ) (answer : Answer) → valued store instance values answer → Ends answer.status
+valued-ends Ends file fault ends_yes ends_no store instance values answer given =
+    league-ends Ends file fault (store.contents instance) (store.took_more INSTANCE_LIMIT) (store.failed instance)
+    (λ first league. encodes league (values_from store values (length first) league)) answer
+    (λ first league at_league. encodes-ends Ends file league (values_from store values (length first) league) answer
+    (λ rows at_rows. read-ends Ends file fault (codes "values") (store.contents values) most_log_bytes
+    (store.took_more (length first + most_log_bytes)) (store.failed values)
+    (λ bytes. says_values (values_of bytes) (IsValued league rows)) answer
+    (λ bytes at_bytes. said_values-ends Ends file (values_of bytes) (IsValued league rows) answer
+    (λ lits found. found-ends Ends ends_yes ends_no league (assigned found.values) (missed_from 1 rows (assigned found.values))
+    answer found.found) at_bytes)
+    at_rows) at_league) given
+
 -- ---- `trial`
 
 tried-ends : (Ends : Status → Type 0) → Ends File → Ends Yes → (n seed : ℕ) (budgets : Budgets) (answer : Answer)
@@ -442,6 +496,10 @@ answer-ends (Some (Resume instance solution k conflicts)) store answer given =
 answer-ends (Some (Audit instance solution k log)) store answer given =
     audited-ends (EndsBy (Some (Audit instance solution k log))) refl refl refl refl store instance
     solution k log answer given
+answer-ends (Some (Rows instance bound)) store answer given =
+    rowed-ends (EndsBy (Some (Rows instance bound))) refl refl refl store instance bound answer given
+answer-ends (Some (Values instance values)) store answer given =
+    valued-ends (EndsBy (Some (Values instance values))) refl refl refl refl store instance values answer given
 answer-ends (Some (Circle n)) store answer given =
     ends-as (EndsBy (Some (Circle n))) answer _ given refl
 answer-ends (Some (Make n seed)) store answer given =
@@ -475,6 +533,8 @@ no_memory (Some (Prove instance solution conflicts)) = refl
 no_memory (Some (Bound instance log)) = refl
 no_memory (Some (Resume instance solution k conflicts)) = refl
 no_memory (Some (Audit instance solution k log)) = refl
+no_memory (Some (Rows instance bound)) = refl
+no_memory (Some (Values instance values)) = refl
 no_memory (Some (Circle n)) = refl
 no_memory (Some (Make n seed)) = refl
 no_memory (Some (Trial n seed budgets)) = refl

@@ -7,6 +7,7 @@ mod PatternLemmas
 mod ExplainLemmas
 mod BoundLemmas
 mod ResumeLemmas
+mod RowLemmas
 mod MadeLemmas
 mod EndLemmas
 -- Worked examples, so that a wrong definition does not check:

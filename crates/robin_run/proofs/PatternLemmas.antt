@@ -1,5 +1,5 @@
 -- What `patterns` promises is kept.
-use Rattle.std.proofs.Common.{◌≡◌, [], ◌∷◌}
+use Rattle.std.proofs.Common.{[], ◌∷◌}
 use Rattle.command_line.specs.Words.Command.{Patterns}
 use Rattle.answers.specs.declared.status.Status.TheVariants.{Refuted}
 use Rattle.answers.proofs.StageLemmas.{first-works}

@@ -1,5 +1,5 @@
 -- What `resume` and `audit` promise is kept.
-use Rattle.std.proofs.Common.{◌∷◌, [], ◌≡◌, ℕ, List, subst}
+use Rattle.std.proofs.Common.{◌∷◌, [], ℕ, List, subst}
 use Rattle.std.specs.Io.KnownBytes.{Appends}
 use Rattle.robin_io.specs.Outside.{Output}
 use Rattle.league.specs.Instance.{Instance}
@@ -7,8 +7,8 @@ use Rattle.league.specs.declared.game.Game.{Game}
 use Rattle.command_line.specs.Words.Command.{Audit, Resume}
 use Rattle.answers.specs.Reply.{Answer}
 use Rattle.answers.specs.declared.status.Status.TheVariants.{Yes, Refuted}
-use Rattle.resume_answer.specs.Audited.{IsVerdict, audited}
-use Rattle.resume_answer.specs.Resumed.{IsFound, IsKeptSeason, IsPlanned, resumed}
+use Rattle.resume_answer.specs.Audited.{IsVerdict}
+use Rattle.resume_answer.specs.Resumed.{IsFound, IsKeptSeason, IsPlanned}
 use Rattle.resume_answer.proofs.AnswerLemmas.{audited-excluded, audited-well_formed, resumed-excluded, resumed-planned}
 use Rattle.resume_answer.proofs.AnswerLemmas.{resumed-well_formed}
 use Rattle.robin_run.specs.Audit.{Audits}

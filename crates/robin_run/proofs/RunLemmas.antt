@@ -1,5 +1,5 @@
 -- What holds of the runs of all commands.
-use Rattle.std.proofs.Common.{◌≡◌, ◌≢◌, ℕ, List, Option, Some, Result, Ok, Err, inl, inr, sym, subst, ◌∙◌}
+use Rattle.std.proofs.Common.{◌≡◌, ℕ, List, Option, Some, Result, Ok, Err, inl, inr, sym, subst, ◌∙◌}
 use Rattle.std.specs.Io.KnownBytes.{Appends, Keeps}
 use Rattle.robin_io.specs.Outside.{Output}
 use Rattle.command_line.specs.Words.{Command}
@@ -13,23 +13,35 @@ use Rattle.answers.specs.declared.status.Status.{Status}
 use Rattle.answers.specs.declared.status.Status.TheVariants.{Memory, WriteFault}
 use Rattle.robin_run.specs.Answer.{IsAnswer}
 use Rattle.robin_run.specs.Folded.{IsFolded}
+use Rattle.robin_run.specs.Givens.{Gives, IsGiven, given_answer}
 use Rattle.robin_run.specs.Run.{Answered, NothingFails, Run, Writes}
+use Rattle.robin_run.specs.declared.given.Given.{Given}
 use Rattle.robin_run.proofs.EndLemmas.{written-memory}
 
 -- ---- what a command gave
 
+-- a reply that is given as it is keeps what holds of it
+pub given-gives : (outcome : Outcome) (reply : Result Reply NoValue) (given : Result Given NoValue)
+    → IsGiven reply given → Answers outcome reply → Gives outcome given
+given-gives outcome (Ok reply) given is holds =
+    subst (λ (g : Result Given NoValue). Gives outcome g) (sym is) holds
+given-gives outcome (Err (without.Refused refusal)) given is holds =
+    subst (λ (g : Result Given NoValue). Gives outcome g) (sym is) holds
+given-gives outcome (Err without.Memory) given is holds =
+    subst (λ (g : Result Given NoValue). Gives outcome g) (sym is) holds
+
 -- its answer is written, unless memory ran out
-pub answered-by : (run : Run) (given : Result Reply NoValue) → Answers (IsAnswer run.command run.store) given
+pub answered-by : (run : Run) (given : Result Given NoValue) → Gives (IsAnswer run.command run.store) given
     → IsFolded given run.ended run.output → Answered run
-answered-by run (Ok reply) answer written memory = (answer_of reply, answer, written)
+answered-by run (Ok given) answer written memory = (given_answer given, answer, written)
 answered-by run (Err (without.Refused refusal)) answer written memory = (answer_of refusal.reply, answer, written)
 answered-by run (Err without.Memory) answer ended memory = absurd (memory ended.0)
 
 -- where the run ends with want of memory, nothing is written
-pub kept-by : (run : Run) (given : Result Reply NoValue) → Answers (IsAnswer run.command run.store) given
+pub kept-by : (run : Run) (given : Result Given NoValue) → Gives (IsAnswer run.command run.store) given
     → IsFolded given run.ended run.output → run.ended ≡ Memory → Keeps run.output.before run.output.after
-kept-by run (Ok reply) answer written memory =
-    absurd (written-memory run.command run.store (answer_of reply) run.ended run.output answer written memory)
+kept-by run (Ok given) answer written memory =
+    absurd (written-memory run.command run.store (given_answer given) run.ended run.output answer written memory)
 kept-by run (Err (without.Refused refusal)) answer written memory =
     absurd (written-memory run.command run.store (answer_of refusal.reply) run.ended run.output answer written memory)
 kept-by run (Err without.Memory) answer ended memory = ended.1

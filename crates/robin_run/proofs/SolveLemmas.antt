@@ -1,5 +1,5 @@
 -- What `solve` promises is kept.
-use Rattle.std.proofs.Common.{◌≡◌, [], ◌∷◌}
+use Rattle.std.proofs.Common.{[], ◌∷◌}
 use Rattle.command_line.specs.Words.Command.{Solve}
 use Rattle.answers.specs.declared.status.Status.TheVariants.{Refuted}
 use Rattle.encoding.specs.Encoding.{rows_of}

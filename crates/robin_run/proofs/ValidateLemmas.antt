@@ -1,5 +1,5 @@
 -- What `validate` promises is kept.
-use Rattle.std.proofs.Common.{◌∷◌, [], ◌≡◌, ℕ, ◌+◌, List, length, codes}
+use Rattle.std.proofs.Common.{◌∷◌, [], ℕ, ◌+◌, List, length, codes}
 use Rattle.robin_io.specs.Outside.{Store}
 use Rattle.robinx_tags.specs.Pieces.{pieces}
 use Rattle.robinx_form.specs.InstanceFile.{instance_of}

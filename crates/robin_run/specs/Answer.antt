@@ -8,7 +8,7 @@ use Rattle.check_answer.specs.Check.{checked}
 use Rattle.circle_answer.specs.Circle.{circle_season}
 use Rattle.command_line.specs.Words.{Command}
 use Rattle.command_line.specs.Words.Command.{Validate, Check, Solve, Patterns, Explain, Part, Prove, Bound, Resume}
-use Rattle.command_line.specs.Words.Command.{Audit, Circle, Make, Trial, Help, Version}
+use Rattle.command_line.specs.Words.Command.{Audit, Rows, Values, Circle, Make, Trial, Help, Version}
 use Rattle.explain_answer.specs.Explained.{explained}
 use Rattle.explain_answer.specs.Parted.{parted}
 use Rattle.help_answer.specs.Help.{help_answer, version_answer}
@@ -17,9 +17,11 @@ use Rattle.patterns_answer.specs.Patterns.{patterned}
 use Rattle.prove_answer.specs.Prove.{proved}
 use Rattle.resume_answer.specs.Audited.{audited}
 use Rattle.resume_answer.specs.Resumed.{resumed}
+use Rattle.rows_answer.specs.Rowed.{rowed}
 use Rattle.solve_answer.specs.Solve.{solved}
 use Rattle.trial_answer.specs.Trial.{tried}
 use Rattle.validate_answer.specs.Validate.{validated}
+use Rattle.values_answer.specs.Valued.{valued}
 
 -- the answer to the words
 abbrev pub IsAnswer : Option Command → Store → Outcome
@@ -34,6 +36,8 @@ IsAnswer (Some (Prove instance solution conflicts)) store answer = proved store 
 IsAnswer (Some (Bound instance log)) store answer = bounded store instance log answer
 IsAnswer (Some (Resume instance solution k conflicts)) store answer = resumed store instance solution k conflicts answer
 IsAnswer (Some (Audit instance solution k log)) store answer = audited store instance solution k log answer
+IsAnswer (Some (Rows instance bound)) store answer = rowed store instance bound answer
+IsAnswer (Some (Values instance values)) store answer = valued store instance values answer
 IsAnswer (Some (Circle n)) store answer = answer ≡ circle_season n
 IsAnswer (Some (Make n seed)) store answer = IsMade n seed answer
 IsAnswer (Some (Trial n seed budgets)) store answer = tried n seed budgets answer

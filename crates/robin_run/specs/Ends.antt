@@ -7,7 +7,7 @@ use Rattle.answers.specs.declared.status.Status.TheVariants.{Yes, No, Words, Fil
 use Rattle.answers.specs.declared.status.Status.TheVariants.{Memory, WriteFault}
 use Rattle.command_line.specs.Words.{Command}
 use Rattle.command_line.specs.Words.Command.{Validate, Check, Solve, Patterns, Explain, Part, Prove, Bound, Resume}
-use Rattle.command_line.specs.Words.Command.{Audit, Circle, Make, Trial, Help, Version}
+use Rattle.command_line.specs.Words.Command.{Audit, Rows, Values, Circle, Make, Trial, Help, Version}
 use Rattle.robin_run.specs.Run.{Run}
 
 -- the ends that these words have
@@ -23,6 +23,8 @@ ends_of (Some (Prove instance solution conflicts)) = Yes ∷ No ∷ Better ∷ S
 ends_of (Some (Bound instance log)) = Yes ∷ No ∷ File ∷ ReadFault ∷ []
 ends_of (Some (Resume instance solution k conflicts)) = Yes ∷ Refuted ∷ Spent ∷ File ∷ ReadFault ∷ []
 ends_of (Some (Audit instance solution k log)) = Yes ∷ No ∷ File ∷ ReadFault ∷ []
+ends_of (Some (Rows instance bound)) = Yes ∷ File ∷ ReadFault ∷ []
+ends_of (Some (Values instance values)) = Yes ∷ No ∷ File ∷ ReadFault ∷ []
 ends_of (Some (Circle n)) = Yes ∷ []
 ends_of (Some (Make n seed)) = Yes ∷ []
 ends_of (Some (Trial n seed budgets)) = Yes ∷ File ∷ []

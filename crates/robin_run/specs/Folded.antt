@@ -6,11 +6,12 @@ use Rattle.answers.specs.SeenReply.{answer_of}
 use Rattle.answers.specs.Stages.{IsWritten}
 use Rattle.answers.specs.declared.reply.NoValue.{NoValue}
 use Rattle.answers.specs.declared.reply.NoValue.TheVariants as without
-use Rattle.answers.specs.declared.reply.Reply.{Reply}
 use Rattle.answers.specs.declared.status.Status.{Status}
+use Rattle.robin_run.specs.Givens.{given_answer}
+use Rattle.robin_run.specs.declared.given.Given.{Given}
 use Rattle.answers.specs.declared.status.Status.TheVariants.{Memory}
 
-abbrev pub IsFolded : Result Reply NoValue → Status → Output → Type 0
-IsFolded (Ok reply) ended output = IsWritten (answer_of reply) ended output
+abbrev pub IsFolded : Result Given NoValue → Status → Output → Type 0
+IsFolded (Ok given) ended output = IsWritten (given_answer given) ended output
 IsFolded (Err (without.Refused refusal)) ended output = IsWritten (answer_of refusal.reply) ended output
 IsFolded (Err without.Memory) ended output = (ended ≡ Memory) × Keeps output.before output.after

@@ -16,9 +16,12 @@ pub mod Prove
 pub mod Bound
 pub mod Resume
 pub mod Audit
+pub mod Rows
+pub mod Values
 pub mod Circle
 pub mod Make
 pub mod Trial
 pub mod Help
 -- Kept inside (laws, and how fields are seen):
+pub mod Givens
 pub mod Folded

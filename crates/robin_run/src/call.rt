@@ -7,6 +7,7 @@ ghost use Rattle.command_line.specs.Words.{members_of, reading, HasTeams, NeedsN
 ghost use Rattle.answers.specs.SeenReply.{answer_of, Answers};
 ghost use Rattle.answers.specs.Stages.{IsWritten};
 ghost use Rattle.explain_answer.specs.Parted.{parted};
+ghost use Rattle.rows_answer.specs.Rowed.{rowed, rows_answer};
 ghost use Rattle.robin_run.specs.Answer.{IsAnswer};
 ghost use Rattle.robin_run.specs.Audit.{Audits};
 ghost use Rattle.robin_run.specs.Bound.{Bounds};
@@ -15,17 +16,21 @@ ghost use Rattle.robin_run.specs.Circle.{WritesCircle};
 ghost use Rattle.robin_run.specs.Ends.{EndsByWords};
 ghost use Rattle.robin_run.specs.Explain.{Explains};
 ghost use Rattle.robin_run.specs.Folded.{IsFolded};
+ghost use Rattle.robin_run.specs.Givens.{Gives};
 ghost use Rattle.robin_run.specs.Help.{Helps, TellsVersion};
 ghost use Rattle.robin_run.specs.Make.{Makes};
 ghost use Rattle.robin_run.specs.Part.{Parts};
 ghost use Rattle.robin_run.specs.Patterns.{FindsPatterns};
 ghost use Rattle.robin_run.specs.Prove.{Proves};
 ghost use Rattle.robin_run.specs.Resume.{Resumes};
+ghost use Rattle.robin_run.specs.Rows.{WritesRows};
 ghost use Rattle.robin_run.specs.Run.{Answered, run_of};
 ghost use Rattle.robin_run.specs.Solve.{Solves};
 ghost use Rattle.robin_run.specs.Trial.{Tries};
 ghost use Rattle.robin_run.specs.Validate.{Validates};
+ghost use Rattle.robin_run.specs.Values.{JudgesValues};
 
+use crate::given::{Given, give};
 use answers::{NoValue, Reply, Status, write_answer};
 use bound_answer::bound_file;
 use check_answer::check;
@@ -38,10 +43,12 @@ use patterns_answer::patterns_file;
 use prove_answer::prove_file;
 use resume_answer::{audit_file, resume_file};
 use robin_io::{Shelf, Sink, put_all};
+use rows_answer::{ReadyRows, rows_file, write_rows};
 use solve_answer::solve_file;
 use std::alloc::Global;
 use trial_answer::trial;
 use validate_answer::validate;
+use values_answer::values_file;
 
 /// Writes the part of the league of a file for the numbers of a list.
 fn part_of_list<S: Shelf>(
@@ -58,56 +65,72 @@ fn part_of_list<S: Shelf>(
     part_file(alloc, shelf, instance, &members)
 }
 
+/// The rows of the league of a file, ready to be written.
+fn rows_of_file<S: Shelf>(
+    alloc: Global,
+    shelf: &mut S,
+    instance: &str,
+    bound: Option<u64>,
+) -> Result<Given, NoValue>
+    ensures answer { Gives (rowed (store_between S.Shelf shelf.old shelf.new) instance.now bound) result }
+    ensures contents { (n : List ℕ) → S.contents shelf.new n ≡ S.contents shelf.old n }
+{
+    let ready = rows_file(alloc, shelf, instance, bound)?;
+    Ok(Given::Rows(ready))
+}
+
 /// Follows a command.
-fn follow<S: Shelf>(alloc: Global, command: Words, shelf: &mut S) -> Result<Reply, NoValue>
+fn follow<S: Shelf>(alloc: Global, command: Words, shelf: &mut S) -> Result<Given, NoValue>
     requires { HasTeams (command_of command) }
-    ensures answer { Answers (IsAnswer (Some (command_of command.entry))
+    ensures answer { Gives (IsAnswer (Some (command_of command.entry))
         (store_between S.Shelf shelf.old shelf.new)) result }
     ensures contents { (n : List ℕ) → S.contents shelf.new n ≡ S.contents shelf.old n }
     ensures untouched { NeedsNoFile (Some (command_of command.entry)) → shelf.new ≡ shelf.old }
 {
     match command {
-        Words::Validate { instance, solution } => validate(alloc, shelf, instance, solution),
-        Words::Check { instance, log } => check(alloc, shelf, instance, log),
-        Words::Solve { instance, budgets } => solve_file(alloc, shelf, instance, budgets),
+        Words::Validate { instance, solution } => give(validate(alloc, shelf, instance, solution)),
+        Words::Check { instance, log } => give(check(alloc, shelf, instance, log)),
+        Words::Solve { instance, budgets } => give(solve_file(alloc, shelf, instance, budgets)),
         Words::Patterns {
             instance,
             conflicts,
-        } => patterns_file(alloc, shelf, instance, conflicts),
+        } => give(patterns_file(alloc, shelf, instance, conflicts)),
         Words::Explain {
             instance,
             conflicts,
-        } => explain_file(alloc, shelf, instance, conflicts),
-        Words::Part { instance, list } => part_of_list(alloc, shelf, instance, list),
+        } => give(explain_file(alloc, shelf, instance, conflicts)),
+        Words::Part { instance, list } => give(part_of_list(alloc, shelf, instance, list)),
         Words::Prove {
             instance,
             solution,
             conflicts,
-        } => prove_file(alloc, shelf, instance, solution, conflicts),
-        Words::Bound { instance, log } => bound_file(alloc, shelf, instance, log),
+        } => give(prove_file(alloc, shelf, instance, solution, conflicts)),
+        Words::Bound { instance, log } => give(bound_file(alloc, shelf, instance, log)),
         Words::Resume {
             instance,
             solution,
             k,
             conflicts,
-        } => resume_file(alloc, shelf, instance, solution, k, conflicts),
+        } => give(resume_file(alloc, shelf, instance, solution, k, conflicts)),
         Words::Audit {
             instance,
             solution,
             k,
             log,
-        } => audit_file(alloc, shelf, instance, solution, k, log),
-        Words::Circle { n } => Ok(circle(alloc, n)?),
-        Words::Make { n, seed } => Ok(make_league(alloc, n, seed)?),
-        Words::Trial { n, seed, budgets } => trial(alloc, n, seed, budgets),
-        Words::Help { topic } => Ok(help(alloc, topic)?),
-        Words::Version => Ok(version(alloc)?),
+        } => give(audit_file(alloc, shelf, instance, solution, k, log)),
+        Words::Rows { instance, bound } => rows_of_file(alloc, shelf, instance, bound),
+        Words::Values { instance, values } => give(values_file(alloc, shelf, instance, values)),
+        Words::Circle { n } => Ok(Given::Answer(circle(alloc, n)?)),
+        Words::Make { n, seed } => Ok(Given::Answer(make_league(alloc, n, seed)?)),
+        Words::Trial { n, seed, budgets } => give(trial(alloc, n, seed, budgets)),
+        Words::Help { topic } => Ok(Given::Answer(help(alloc, topic)?)),
+        Words::Version => Ok(Given::Answer(version(alloc)?)),
     }
 }
 
 /// The answer to the words, or why there is none.
-fn answer<S: Shelf>(alloc: Global, words: &[String], shelf: &mut S) -> Result<Reply, NoValue>
-    ensures answer { Answers (IsAnswer (reading (map string_bytes words.now))
+fn answer<S: Shelf>(alloc: Global, words: &[String], shelf: &mut S) -> Result<Given, NoValue>
+    ensures answer { Gives (IsAnswer (reading (map string_bytes words.now))
         (store_between S.Shelf shelf.old shelf.new)) result }
     ensures contents { (n : List ℕ) → S.contents shelf.new n ≡ S.contents shelf.old n }
     ensures untouched { NeedsNoFile (reading (map string_bytes words.now)) → shelf.new ≡ shelf.old }
@@ -132,6 +155,15 @@ fn write_told<K: Sink, T: Sink>(out: &mut K, told: &mut T, reply: &Reply) -> Sta
     status
 }
 
+/// Writes rows, and tells where they couldn't be written whole.
+fn write_rows_told<K: Sink, T: Sink>(out: &mut K, told: &mut T, ready: ReadyRows) -> Status
+    ensures { IsWritten (rows_answer ready) result (output_between K.Sink out.old out.new) }
+{
+    let status = write_rows(out, ready);
+    tell(told, unwritten(status));
+    status
+}
+
 /// What is told where an answer couldn't be written whole.
 fn unwritten(status: Status) -> &'static [u8] {
     match status {
@@ -141,11 +173,12 @@ fn unwritten(status: Status) -> &'static [u8] {
 }
 
 /// Writes the answer that a command gave, tells what a person is told beside it, and says how the run ends.
-fn write_given<K: Sink, T: Sink>(out: &mut K, told: &mut T, given: Result<Reply, NoValue>) -> Status
+fn write_given<K: Sink, T: Sink>(out: &mut K, told: &mut T, given: Result<Given, NoValue>) -> Status
     ensures { IsFolded given result (output_between K.Sink out.old out.new) }
 {
     match given {
-        Ok(reply) => write_told(out, told, &reply),
+        Ok(Given::Answer(reply)) => write_told(out, told, &reply),
+        Ok(Given::Rows(ready)) => write_rows_told(out, told, ready),
         Err(NoValue::Refused(refusal)) => {
             tell(told, refusal.advice.text());
             write_told(out, told, &refusal.reply)
@@ -160,7 +193,7 @@ fn write_given<K: Sink, T: Sink>(out: &mut K, told: &mut T, given: Result<Reply,
 /// Runs the command that the words name, over a store of files, writes its text to `out`, and says how the run ends.
 ///
 /// `words` are the words of the command line without the program's name. The whole text is made before its first byte
-/// is written. What a person is told of a run that went wrong goes to `told`: no clause says anything of it, and its
+/// is written, but for that of `rows`, which is made as it is written. What a person is told of a run that went wrong goes to `told`: no clause says anything of it, and its
 /// faults change nothing.
 ///
 /// - `answer`: whatever the store, the sink and the files do, an answer to the words is written, and each refusal has
@@ -189,6 +222,8 @@ pub fn run<S: Shelf, K: Sink, T: Sink>(
     ensures bound { Bounds (run_of S.Shelf K.Sink words.now shelf.old shelf.new out.old out.new result) }
     ensures resume { Resumes (run_of S.Shelf K.Sink words.now shelf.old shelf.new out.old out.new result) }
     ensures audit { Audits (run_of S.Shelf K.Sink words.now shelf.old shelf.new out.old out.new result) }
+    ensures rows { WritesRows (run_of S.Shelf K.Sink words.now shelf.old shelf.new out.old out.new result) }
+    ensures values { JudgesValues (run_of S.Shelf K.Sink words.now shelf.old shelf.new out.old out.new result) }
     ensures circle { WritesCircle (run_of S.Shelf K.Sink words.now shelf.old shelf.new out.old out.new result) }
     ensures make { Makes (run_of S.Shelf K.Sink words.now shelf.old shelf.new out.old out.new result) }
     ensures trial { Tries (run_of S.Shelf K.Sink words.now shelf.old shelf.new out.old out.new result) }

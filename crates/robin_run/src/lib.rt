@@ -4,5 +4,6 @@
 #![tactic(auto)]
 
 mod call;
+mod given;
 
 pub use call::run;

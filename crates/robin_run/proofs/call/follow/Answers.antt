@@ -1,37 +1,106 @@
+use Rattle.robin_io.specs.Outside.{store_between}
+use Rattle.command_line.specs.Words.{members_of}
+use Rattle.bound_answer.specs.Bound.{bounded}
+use Rattle.check_answer.specs.Check.{checked}
+use Rattle.explain_answer.specs.Explained.{explained}
+use Rattle.explain_answer.specs.Parted.{parted}
+use Rattle.patterns_answer.specs.Patterns.{patterned}
+use Rattle.prove_answer.specs.Prove.{proved}
+use Rattle.resume_answer.specs.Audited.{audited}
+use Rattle.resume_answer.specs.Resumed.{resumed}
+use Rattle.solve_answer.specs.Solve.{solved}
+use Rattle.trial_answer.specs.Trial.{tried}
+use Rattle.validate_answer.specs.Validate.{validated}
+use Rattle.values_answer.specs.Valued.{valued}
+use Rattle.robin_run.proofs.RunLemmas.{given-gives}
 use Rattle.robin_run.proofs.call.follow.Goals as goal
 
 pub returns-in-Validate-clause-answer : goal.returns-in-Validate-clause-answer
-returns-in-Validate-clause-answer g c = rw c.in-Validate.is c.validate.ensures.answer
+returns-in-Validate-clause-answer g c =
+    rw c.in-Validate.is
+    (given-gives
+    (validated (store_between g.S.Shelf c.args.shelf.now c.validate.new.shelf) c.in-Validate.instance.now c.in-Validate.solution.now)
+    _ _ c.give.ensures c.validate.ensures.answer)
 
 pub returns-in-Check-clause-answer : goal.returns-in-Check-clause-answer
-returns-in-Check-clause-answer g c = rw c.in-Check.is c.check.ensures.answer
+returns-in-Check-clause-answer g c =
+    rw c.in-Check.is
+    (given-gives
+    (checked (store_between g.S.Shelf c.args.shelf.now c.check.new.shelf) c.in-Check.instance.now c.in-Check.log.now)
+    _ _ c.give-in-Check.ensures c.check.ensures.answer)
 
 pub returns-in-Solve-clause-answer : goal.returns-in-Solve-clause-answer
-returns-in-Solve-clause-answer g c = rw c.in-Solve.is c.solve_file.ensures.answer
+returns-in-Solve-clause-answer g c =
+    rw c.in-Solve.is
+    (given-gives
+    (solved (store_between g.S.Shelf c.args.shelf.now c.solve_file.new.shelf) c.in-Solve.instance.now c.in-Solve.budgets)
+    _ _ c.give-in-Solve.ensures c.solve_file.ensures.answer)
+
+pub returns-in-Patterns-clause-answer : goal.returns-in-Patterns-clause-answer
+returns-in-Patterns-clause-answer g c =
+    rw c.in-Patterns.is
+    (given-gives
+    (patterned (store_between g.S.Shelf c.args.shelf.now c.patterns_file.new.shelf) c.in-Patterns.instance.now c.in-Patterns.conflicts)
+    _ _ c.give-in-Patterns.ensures c.patterns_file.ensures.answer)
+
+pub returns-in-Explain-clause-answer : goal.returns-in-Explain-clause-answer
+returns-in-Explain-clause-answer g c =
+    rw c.in-Explain.is
+    (given-gives
+    (explained (store_between g.S.Shelf c.args.shelf.now c.explain_file.new.shelf) c.in-Explain.instance.now c.in-Explain.conflicts)
+    _ _ c.give-in-Explain.ensures c.explain_file.ensures.answer)
+
+pub returns-in-Part-clause-answer : goal.returns-in-Part-clause-answer
+returns-in-Part-clause-answer g c =
+    rw c.in-Part.is
+    (given-gives
+    (parted (store_between g.S.Shelf c.args.shelf.now c.part_of_list.new.shelf) c.in-Part.instance.now (members_of c.in-Part.list.now))
+    _ _ c.give-in-Part.ensures c.part_of_list.ensures.answer)
+
+pub returns-in-Prove-clause-answer : goal.returns-in-Prove-clause-answer
+returns-in-Prove-clause-answer g c =
+    rw c.in-Prove.is
+    (given-gives
+    (proved (store_between g.S.Shelf c.args.shelf.now c.prove_file.new.shelf) c.in-Prove.instance.now c.in-Prove.solution.now c.in-Prove.conflicts)
+    _ _ c.give-in-Prove.ensures c.prove_file.ensures.answer)
+
+pub returns-in-Bound-clause-answer : goal.returns-in-Bound-clause-answer
+returns-in-Bound-clause-answer g c =
+    rw c.in-Bound.is
+    (given-gives
+    (bounded (store_between g.S.Shelf c.args.shelf.now c.bound_file.new.shelf) c.in-Bound.instance.now c.in-Bound.log.now)
+    _ _ c.give-in-Bound.ensures c.bound_file.ensures.answer)
+
+pub returns-in-Resume-clause-answer : goal.returns-in-Resume-clause-answer
+returns-in-Resume-clause-answer g c =
+    rw c.in-Resume.is
+    (given-gives
+    (resumed (store_between g.S.Shelf c.args.shelf.now c.resume_file.new.shelf) c.in-Resume.instance.now c.in-Resume.solution.now c.in-Resume.k c.in-Resume.conflicts)
+    _ _ c.give-in-Resume.ensures c.resume_file.ensures.answer)
+
+pub returns-in-Audit-clause-answer : goal.returns-in-Audit-clause-answer
+returns-in-Audit-clause-answer g c =
+    rw c.in-Audit.is
+    (given-gives
+    (audited (store_between g.S.Shelf c.args.shelf.now c.audit_file.new.shelf) c.in-Audit.instance.now c.in-Audit.solution.now c.in-Audit.k c.in-Audit.log.now)
+    _ _ c.give-in-Audit.ensures c.audit_file.ensures.answer)
+
+pub returns-in-Values-clause-answer : goal.returns-in-Values-clause-answer
+returns-in-Values-clause-answer g c =
+    rw c.in-Values.is
+    (given-gives
+    (valued (store_between g.S.Shelf c.args.shelf.now c.values_file.new.shelf) c.in-Values.instance.now c.in-Values.values.now)
+    _ _ c.give-in-Values.ensures c.values_file.ensures.answer)
+
+pub returns-in-Trial-clause-answer : goal.returns-in-Trial-clause-answer
+returns-in-Trial-clause-answer g c =
+    rw c.in-Trial.is
+    (given-gives
+    (tried c.in-Trial.n c.in-Trial.seed c.in-Trial.budgets)
+    _ _ c.give-in-Trial.ensures c.trial.ensures)
+
+pub returns-in-Rows-clause-answer : goal.returns-in-Rows-clause-answer
+returns-in-Rows-clause-answer g c = rw c.in-Rows.is c.rows_of_file.ensures.answer
 
 pub returns-in_ok-make_league-in-Make-clause-answer : goal.returns-in_ok-make_league-in-Make-clause-answer
 returns-in_ok-make_league-in-Make-clause-answer g c = rw c.in-Make.is c.in_ok-make_league-in-Make.ensures
-
-pub returns-in-Patterns-clause-answer : goal.returns-in-Patterns-clause-answer
-returns-in-Patterns-clause-answer g c = rw c.in-Patterns.is c.patterns_file.ensures.answer
-
-pub returns-in-Explain-clause-answer : goal.returns-in-Explain-clause-answer
-returns-in-Explain-clause-answer g c = rw c.in-Explain.is c.explain_file.ensures.answer
-
-pub returns-in-Part-clause-answer : goal.returns-in-Part-clause-answer
-returns-in-Part-clause-answer g c = rw c.in-Part.is c.part_of_list.ensures.answer
-
-pub returns-in-Prove-clause-answer : goal.returns-in-Prove-clause-answer
-returns-in-Prove-clause-answer g c = rw c.in-Prove.is c.prove_file.ensures.answer
-
-pub returns-in-Bound-clause-answer : goal.returns-in-Bound-clause-answer
-returns-in-Bound-clause-answer g c = rw c.in-Bound.is c.bound_file.ensures.answer
-
-pub returns-in-Resume-clause-answer : goal.returns-in-Resume-clause-answer
-returns-in-Resume-clause-answer g c = rw c.in-Resume.is c.resume_file.ensures.answer
-
-pub returns-in-Audit-clause-answer : goal.returns-in-Audit-clause-answer
-returns-in-Audit-clause-answer g c = rw c.in-Audit.is c.audit_file.ensures.answer
-
-pub returns-in-Trial-clause-answer : goal.returns-in-Trial-clause-answer
-returns-in-Trial-clause-answer g c = rw c.in-Trial.is c.trial.ensures

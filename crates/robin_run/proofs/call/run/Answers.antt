@@ -6,6 +6,7 @@ use Rattle.robin_run.proofs.ExplainLemmas.{explains, parts}
 use Rattle.robin_run.proofs.MadeLemmas.{helps, makes, tells-version, tries, writes-circle}
 use Rattle.robin_run.proofs.PatternLemmas.{finds-patterns}
 use Rattle.robin_run.proofs.ResumeLemmas.{audits, resumes}
+use Rattle.robin_run.proofs.RowLemmas.{judges-values, writes-rows}
 use Rattle.robin_run.proofs.RunLemmas.{answered-by, kept-by}
 use Rattle.robin_run.proofs.SolveLemmas.{solves}
 use Rattle.robin_run.proofs.ValidateLemmas.{validates}
@@ -64,6 +65,16 @@ returns-clause-resume g c =
 pub returns-clause-audit : goal.returns-clause-audit
 returns-clause-audit g c =
     audits _ (answered-by (run_of g.S.Shelf g.K.Sink c.args.words.now c.args.shelf.now c.answer-given.new.shelf c.args.out.now
+    c.write_given.new.out c.write_given.result) c.answer-given.result c.answer-given.ensures.answer c.write_given.ensures)
+
+pub returns-clause-rows : goal.returns-clause-rows
+returns-clause-rows g c =
+    writes-rows _ (answered-by (run_of g.S.Shelf g.K.Sink c.args.words.now c.args.shelf.now c.answer-given.new.shelf c.args.out.now
+    c.write_given.new.out c.write_given.result) c.answer-given.result c.answer-given.ensures.answer c.write_given.ensures)
+
+pub returns-clause-values : goal.returns-clause-values
+returns-clause-values g c =
+    judges-values _ (answered-by (run_of g.S.Shelf g.K.Sink c.args.words.now c.args.shelf.now c.answer-given.new.shelf c.args.out.now
     c.write_given.new.out c.write_given.result) c.answer-given.result c.answer-given.ensures.answer c.write_given.ensures)
 
 pub returns-clause-circle : goal.returns-clause-circle
