@@ -4,5 +4,8 @@ pub mod PartLaws
 pub mod StandingLemmas
 -- What is said at the end:
 pub mod ConflictLemmas
+-- What a log uses, and which constraints it names:
+mod UsedLemmas
+mod NamedLemmas
 -- Worked conflicts:
 mod ConflictFacts

@@ -10,3 +10,5 @@ pub mod Attempts
 -- What is known of the members while a conflict is made smaller:
 pub mod Standings
 pub mod Cores
+-- What a log uses, and which members it names so:
+pub mod Used

@@ -1,69 +1,72 @@
-//! Which rows a log uses.
-ghost use Rattle.std.specs.Prelude.{◌<◌, length};
+//! What a log uses.
+ghost use Rattle.std.specs.Prelude.{◌≡◌, [], ◌∷◌, ◌≤◌, ◌<◌, length, map, IfOk};
+ghost use Rattle.explain.specs.Used.{AreNoted, IsMarked, named_at};
 
-use refutation::{Log, StepKind};
+use refutation::{Log, Part, StepKind};
 use std::alloc::{AllocError, Global};
 
-/// Which rows and which steps a log uses, from its last step back.
-#[derive(Drop)]
-pub(crate) struct Used {
-    rows: Vec<bool>,
-    steps: Vec<bool>,
+/// Which rows and steps a log over so many rows uses: a flag for each row, and behind these one for each step.
+///
+/// # Errors
+/// Only where memory runs out.
+pub(crate) fn marked(alloc: Global, rows: usize, log: &Log) -> Result<Vec<bool>, AllocError>
+    ensures { IfOk result (λ flags. IsMarked rows log.now flags.items) }
+{
+    let steps = log.len();
+    let Some(count) = rows.checked_add(steps) else {
+        return Err(AllocError);
+    };
+    let mut flags = vec![in alloc; false; count]?;
+    if steps > 0 {
+        flags[count - 1] = true;
+    }
+    for done in 0..steps {
+        let k = steps - 1 - done;
+        if flags[rows + k] {
+            note_step(&mut flags, rows + k, log, k);
+        }
+    }
+    Ok(flags)
 }
 
-impl Used {
-    /// What a log over so many rows uses.
-    ///
-    /// # Errors
-    /// Only where memory runs out.
-    pub(crate) fn of(alloc: Global, rows: usize, log: &Log) -> Result<Used, AllocError> {
-        let steps = vec![in alloc; false; log.len()]?;
-        let rows = vec![in alloc; false; rows]?;
-        let mut used = Used { rows, steps };
-        for k in (0..log.len()).rev() {
-            if k + 1 == log.len() || used.uses_step(k) {
-                used.note_step(log, k);
-            }
-        }
-        Ok(used)
+/// Sets the flags of what the step at a place names, below a limit.
+fn note_step(flags: &mut [bool], limit: usize, log: &Log, k: usize)
+    requires limit { limit ≤ length flags.old }
+    requires there { k < length log.now }
+    ensures { AreNoted limit (named_at log.now k) flags.old flags.new }
+{
+    match log.kind(k) {
+        StepKind::Clause => note_hints(flags, limit, log.hints(k)),
+        StepKind::Linear => note_rows(flags, limit, log.parts(k)),
     }
+}
 
-    /// Whether the row at a place is used.
-    pub(crate) fn uses_row(&self, place: usize) -> bool {
-        place < self.rows.len() && self.rows[place]
+/// Sets the flags of some hints, below a limit.
+fn note_hints(flags: &mut [bool], limit: usize, hints: &[u64])
+    requires { limit ≤ length flags.old }
+    ensures { AreNoted limit hints.now flags.old flags.new }
+{
+    for hint in hints {
+        note(flags, limit, *hint);
     }
+}
 
-    /// Whether the step at a place is used.
-    fn uses_step(&self, place: usize) -> bool {
-        place < self.steps.len() && self.steps[place]
+/// Sets the flags of the rows of some parts, below a limit.
+fn note_rows(flags: &mut [bool], limit: usize, parts: &[Part])
+    requires { limit ≤ length flags.old }
+    ensures { AreNoted limit (map (λ part. part.row) parts.now) flags.old flags.new }
+{
+    for part in parts {
+        note(flags, limit, part.row);
     }
+}
 
-    /// Notes what the step at a place names.
-    fn note_step(&mut self, log: &Log, k: usize)
-        requires { k < length log.now }
-    {
-        match log.kind(k) {
-            StepKind::Clause => {
-                for hint in log.hints(k) {
-                    self.note(*hint);
-                }
-            }
-            StepKind::Linear => {
-                for part in log.parts(k) {
-                    self.note(part.row);
-                }
-            }
-        }
-    }
-
-    /// Notes the row, or behind the rows the step, with a number.
-    fn note(&mut self, number: u64) {
-        let place = number.saturating_sub(1) as usize;
-        let rows = self.rows.len();
-        if place < rows {
-            self.rows[place] = true;
-        } else if place - rows < self.steps.len() {
-            self.steps[place - rows] = true;
-        }
+/// Sets the flag of a number, from 1, where it lies below a limit.
+fn note(flags: &mut [bool], limit: usize, number: u64)
+    requires { limit ≤ length flags.old }
+    ensures { AreNoted limit (number ∷ []) flags.old flags.new }
+{
+    if number > 0 && number <= limit as u64 {
+        flags[number as usize - 1] = true;
     }
 }
