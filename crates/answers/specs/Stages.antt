@@ -35,8 +35,8 @@ takes which known limit long failed next answer =
     ((bytes : List ℕ) × IsFile known limit bytes × next bytes answer)
     ⊎ IsUnread which known limit long failed answer
 
--- the stage that reads the file of a name, which is called `instance`, `solution` or `log`, where so many bytes were
--- taken before it
+-- the stage that reads the file of a name, which is called `instance`, `solution`, `log` or `values`, where so many
+-- bytes were taken before it
 abbrev pub reads : Store → List ℕ → List ℕ → ℕ → ℕ → (List ℕ → Outcome) → Outcome
 reads store which name limit before =
     takes which (store.contents name) limit (store.took_more (before + limit)) (store.failed name)

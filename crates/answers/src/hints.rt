@@ -10,6 +10,7 @@ fn kind_of_file(which: &str) -> &'static str {
     match which {
         "instance" => "instance (a league's file)",
         "solution" => "solution (a season's file)",
+        "values" => "values (what a solver printed)",
         _ => "log",
     }
 }
