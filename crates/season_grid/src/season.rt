@@ -1,0 +1,11 @@
+//! A season with the names of its league.
+use cells::Cells;
+use robinx_names::Names;
+
+/// The games of a season, counted, and the names of its league, which is phased or not.
+#[derive(Drop)]
+pub struct Season<'a> {
+    pub cells: &'a Cells,
+    pub names: &'a Names,
+    pub phased: bool,
+}
