@@ -1,0 +1,30 @@
+# Completion of robin for bash: source this file, or put it into /usr/share/bash-completion/completions as robin. Made by share/make.py.
+_robin() {
+    local word=${COMP_WORDS[COMP_CWORD]} options=
+    if [ "$COMP_CWORD" -eq 1 ]; then
+        COMPREPLY=($(compgen -W "validate solve patterns explain part check prove bound resume audit rows values circle make trial --help --version" -- "$word"))
+        return
+    fi
+    case ${COMP_WORDS[1]} in
+        validate) options="" ;;
+        solve) options="--conflicts --moves --patterns --seed --tries" ;;
+        patterns) options="--conflicts" ;;
+        explain) options="--conflicts" ;;
+        part) options="" ;;
+        check) options="" ;;
+        prove) options="--conflicts" ;;
+        bound) options="" ;;
+        resume) options="--conflicts" ;;
+        audit) options="" ;;
+        rows) options="--bound" ;;
+        values) options="" ;;
+        circle) options="" ;;
+        make) options="" ;;
+        trial) options="--conflicts --moves --patterns --seed --tries" ;;
+    esac
+    case $word in
+        -*) COMPREPLY=($(compgen -W "$options --help" -- "$word")) ;;
+        *) COMPREPLY=($(compgen -f -- "$word")) ;;
+    esac
+}
+complete -o filenames -F _robin robin
