@@ -1,0 +1,3 @@
+" Rattle's code and its definitions and proofs.
+autocmd BufRead,BufNewFile *.rt setfiletype rattle
+autocmd BufRead,BufNewFile *.antt setfiletype antt
