@@ -18,6 +18,8 @@ import sys
 TOP = os.path.dirname(os.path.dirname(os.path.abspath(__file__)))
 RUN = "crates/robin_run"
 COMMANDS = "crates/command_line/specs/Words.antt"
+# The record with a field for each command, which one clause of the call names.
+PROMISES = f"{RUN}/specs/Commands.antt"
 # Of each group the first table has what those before it don't need.
 GROUPS = [["validate", "circle"], ["check", "solve"], ["patterns"], ["explain", "part"], ["make", "trial"], ["prove", "bound"], ["resume", "audit"], ["rows", "values"]]
 FILES_HEAD = "| Crate | Files of its `specs/`, with their lines | What they say |"
@@ -74,7 +76,7 @@ def commands():
 
 
 def clauses():
-    """The text that imports for the call, and its clauses."""
+    """The clauses of the call, and the fields of the record that one of them names in their place: each with the text that imports for it."""
     for name in sorted(os.listdir(f"{RUN}/src")):
         text = read(f"{RUN}/src/{name}")
         begin = re.search(r"^pub fn run\b", text, re.M)
@@ -90,8 +92,14 @@ def clauses():
         while depth:
             depth += {"{": 1, "}": -1}.get(head[at], 0)
             at += 1
-        found.append(head[clause.end() : at - 1])
-    return text, found
+        found.append((text, head[clause.end() : at - 1]))
+    promises = read(PROMISES)
+    record = re.search(r"^pub record (\w+)", promises, re.M)[1]
+    fields = [(promises, it) for it in re.findall(r"^  pub \w+ : (.*)$", promises, re.M)]
+    kept = [it for it in found if not has_name(record, it[1])]
+    if len(kept) + 1 != len(found):
+        sys.exit(f"believe: not one clause of run names {record}")
+    return kept + fields
 
 
 def own_part(text, command, names):
@@ -109,19 +117,20 @@ def own_part(text, command, names):
     return "\n".join(kept)
 
 
-def believed(command, names, text, found):
+def believed(command, names, found):
     """The files that a command rests on."""
     own_files = {f"{RUN}/specs/{it}.antt": it for it in names}
 
-    def owners(clause):
+    def owners(text, clause):
         named = {it for it in names if re.search(r"\(" + it + r"\b", clause)}
         return named or {own_files[path] for path, words in imports(text) if path in own_files and any(has_name(it, clause) for it in words)}
 
-    mine = "\n".join(it for it in found if not owners(it) or command in owners(it))
-    todo = [path for path, words in imports(text) if any(has_name(it, mine) for it in words)]
+    mine = [(text, it) for text, it in found if not owners(text, it) or command in owners(text, it)]
+    todo = [path for text, clause in mine for path, words in imports(text) if any(has_name(it, clause) for it in words)]
     own = f"{RUN}/specs/{command}.antt"
     todo += [own] if os.path.isfile(own) else []
-    seen = set()
+    # Its fields were taken as clauses.
+    seen = {PROMISES}
     while todo:
         path = todo.pop()
         if path in seen:
@@ -252,8 +261,8 @@ def write(page, tables):
 def main(words):
     os.chdir(TOP)
     names = commands()
-    text, found = clauses()
-    of = {it.lower(): believed(it, names, text, found) for it in names}
+    found = clauses()
+    of = {it.lower(): believed(it, names, found) for it in names}
     page = read("docs/PROOF.md")
     if words and not words[0].startswith("-"):
         return print_files(of, words)

@@ -9,6 +9,7 @@ mod BoundLemmas
 mod ResumeLemmas
 mod RowLemmas
 mod MadeLemmas
+mod CommandLemmas
 mod EndLemmas
 -- Worked examples, so that a wrong definition does not check:
 mod RunFacts

@@ -6,6 +6,7 @@ pub mod Ends
 pub mod Run
 pub mod Said
 -- What each command promises, and what its answers mean:
+pub mod Commands
 pub mod Validate
 pub mod Check
 pub mod Solve

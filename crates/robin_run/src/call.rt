@@ -9,26 +9,11 @@ ghost use Rattle.answers.specs.Stages.{IsWritten};
 ghost use Rattle.explain_answer.specs.Parted.{parted};
 ghost use Rattle.rows_answer.specs.Rowed.{rowed, rows_answer};
 ghost use Rattle.robin_run.specs.Answer.{IsAnswer};
-ghost use Rattle.robin_run.specs.Audit.{Audits};
-ghost use Rattle.robin_run.specs.Bound.{Bounds};
-ghost use Rattle.robin_run.specs.Check.{Checks};
-ghost use Rattle.robin_run.specs.Circle.{WritesCircle};
+ghost use Rattle.robin_run.specs.Commands.{KeepsPromises};
 ghost use Rattle.robin_run.specs.Ends.{EndsByWords};
-ghost use Rattle.robin_run.specs.Explain.{Explains};
 ghost use Rattle.robin_run.specs.Folded.{IsFolded};
 ghost use Rattle.robin_run.specs.Givens.{Gives};
-ghost use Rattle.robin_run.specs.Help.{Helps, TellsVersion};
-ghost use Rattle.robin_run.specs.Make.{Makes};
-ghost use Rattle.robin_run.specs.Part.{Parts};
-ghost use Rattle.robin_run.specs.Patterns.{FindsPatterns};
-ghost use Rattle.robin_run.specs.Prove.{Proves};
-ghost use Rattle.robin_run.specs.Resume.{Resumes};
-ghost use Rattle.robin_run.specs.Rows.{WritesRows};
 ghost use Rattle.robin_run.specs.Run.{Answered, run_of};
-ghost use Rattle.robin_run.specs.Solve.{Solves};
-ghost use Rattle.robin_run.specs.Trial.{Tries};
-ghost use Rattle.robin_run.specs.Validate.{Validates};
-ghost use Rattle.robin_run.specs.Values.{JudgesValues};
 
 use crate::given::{Given, give};
 use answers::{NoValue, Reply, Status, write_answer};
@@ -193,14 +178,15 @@ fn write_given<K: Sink, T: Sink>(out: &mut K, told: &mut T, given: Result<Given,
 /// Runs the command that the words name, over a store of files, writes its text to `out`, and says how the run ends.
 ///
 /// `words` are the words of the command line without the program's name. The whole text is made before its first byte
-/// is written, but for that of `rows`, which is made as it is written. What a person is told of a run that went wrong goes to `told`: no clause says anything of it, and its
-/// faults change nothing.
+/// is written, but for that of `rows`, which is made as it is written. What a person is told of a run that went wrong
+/// goes to `told`: no clause says anything of it, and its faults change nothing.
 ///
 /// - `answer`: whatever the store, the sink and the files do, an answer to the words is written, and each refusal has
 ///   its cause.
 /// - `ends`: a run ends in one of the ways that its words have.
-/// - A clause for each command says what its runs promise: `specs/NAME.antt` has the sentences. Most of them are for a
-///   store that tells the bytes of the files. A store in memory tells them, that of the machine doesn't.
+/// - `commands`: each command keeps what it promises. `specs/Commands.antt` has a field a command, and the command's own
+///   file there has its sentences. Most of them are for a store that tells the bytes of the files. A store in memory
+///   tells them, that of the machine doesn't.
 /// - `contents` and `untouched`: no file's contents change, and words that need no file leave the store alone.
 /// - `memory`: memory may run out at any time, and then nothing is written. Nothing is said of which files were read.
 pub fn run<S: Shelf, K: Sink, T: Sink>(
@@ -212,23 +198,7 @@ pub fn run<S: Shelf, K: Sink, T: Sink>(
 ) -> Status
     ensures answer { Answered (run_of S.Shelf K.Sink words.now shelf.old shelf.new out.old out.new result) }
     ensures ends { EndsByWords (run_of S.Shelf K.Sink words.now shelf.old shelf.new out.old out.new result) }
-    ensures validate { Validates (run_of S.Shelf K.Sink words.now shelf.old shelf.new out.old out.new result) }
-    ensures check { Checks (run_of S.Shelf K.Sink words.now shelf.old shelf.new out.old out.new result) }
-    ensures solve { Solves (run_of S.Shelf K.Sink words.now shelf.old shelf.new out.old out.new result) }
-    ensures patterns { FindsPatterns (run_of S.Shelf K.Sink words.now shelf.old shelf.new out.old out.new result) }
-    ensures explain { Explains (run_of S.Shelf K.Sink words.now shelf.old shelf.new out.old out.new result) }
-    ensures part { Parts (run_of S.Shelf K.Sink words.now shelf.old shelf.new out.old out.new result) }
-    ensures prove { Proves (run_of S.Shelf K.Sink words.now shelf.old shelf.new out.old out.new result) }
-    ensures bound { Bounds (run_of S.Shelf K.Sink words.now shelf.old shelf.new out.old out.new result) }
-    ensures resume { Resumes (run_of S.Shelf K.Sink words.now shelf.old shelf.new out.old out.new result) }
-    ensures audit { Audits (run_of S.Shelf K.Sink words.now shelf.old shelf.new out.old out.new result) }
-    ensures rows { WritesRows (run_of S.Shelf K.Sink words.now shelf.old shelf.new out.old out.new result) }
-    ensures values { JudgesValues (run_of S.Shelf K.Sink words.now shelf.old shelf.new out.old out.new result) }
-    ensures circle { WritesCircle (run_of S.Shelf K.Sink words.now shelf.old shelf.new out.old out.new result) }
-    ensures make { Makes (run_of S.Shelf K.Sink words.now shelf.old shelf.new out.old out.new result) }
-    ensures trial { Tries (run_of S.Shelf K.Sink words.now shelf.old shelf.new out.old out.new result) }
-    ensures help { Helps (run_of S.Shelf K.Sink words.now shelf.old shelf.new out.old out.new result) }
-    ensures version { TellsVersion (run_of S.Shelf K.Sink words.now shelf.old shelf.new out.old out.new result) }
+    ensures commands { KeepsPromises (run_of S.Shelf K.Sink words.now shelf.old shelf.new out.old out.new result) }
     ensures contents { (n : List ℕ) → S.contents shelf.new n ≡ S.contents shelf.old n }
     ensures untouched { NeedsNoFile (reading (map string_bytes words.now)) → shelf.new ≡ shelf.old }
     ensures memory { result ≡ Status.Memory → Keeps (K.written out.old) (K.written out.new) }
