@@ -153,8 +153,8 @@ pub irreducible-both : IsIrreducible league members
 irreducible-both = record {
   infeasible = none-both;
   needed = All-from_recursion
-      (λ (k : ℕ). (games : List Game) × IsAccepted (part_of league (without k members)) (counts_of games)) members
-      ((home, season-home.accepted), ((out, season-out.accepted), tt));
+      (λ (k : ℕ). (games : List Game) × IsSeason (part_of league (without k members)) games) members
+      ((home, season-home), ((out, season-out), tt));
 }
 
 -- the cases come in the order of the members
@@ -192,7 +192,7 @@ none-more =
     accepted_logs_exclude (part_of league (2 ∷ 3 ∷ 4 ∷ [])) (Clause [] (31 ∷ 36 ∷ 20 ∷ 24 ∷ []) ∷ []) more_instance refl
 
 pub irreducible-more : IsIrreducible league (2 ∷ 3 ∷ 4 ∷ []) → ⊥
-irreducible-more is = none-both (is.needed 1 0 (lit< tt)).0 (is.needed 1 0 (lit< tt)).1
+irreducible-more is = none-both (is.needed 1 0 (lit< tt)).0 (is.needed 1 0 (lit< tt)).1.accepted
 
 -- ---- a conflict of one demand, of which nothing was found out: a slot between the two games of two teams
 

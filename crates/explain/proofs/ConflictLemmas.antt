@@ -17,7 +17,7 @@ use Rattle.refutation.specs.Steps.{Step}
 use Rattle.solve.specs.Solutions.{IsSpentOn, RefutesLeague}
 use Rattle.explain.specs.Cases.{is_decided}
 use Rattle.explain.specs.Conflicts.{AreDecided, IsAmple, IsCase, IsConflict, IsDecided, IsExplanation, IsIrreducible}
-use Rattle.explain.specs.Conflicts.{IsIrreducibleIfDecided}
+use Rattle.explain.specs.Conflicts.{IsIrreducibleIfDecided, IsSeason}
 use Rattle.explain.specs.Standings.{AreClosed, IsExplained, cases_of, is_open, is_open_case, numbers_of, said_of}
 use Rattle.explain.specs.declared.cases.Case.{Case}
 use Rattle.explain.specs.declared.cases.Case.TheVariants.{Without, Undecided}
@@ -69,13 +69,13 @@ is_conflict league limit members log instance is closed = record {
 
 all_needed : (league : Instance) (limit : Option ℕ) (whole numbers : List ℕ) (cases : List Case)
     → AllZip (IsCase league limit whole) numbers cases → AreDecided cases
-    → All (λ k. (games : List Game) × IsAccepted (part_of league (without k whole)) (counts_of games)) numbers
+    → All (λ k. (games : List Game) × IsSeason (part_of league (without k whole)) games) numbers
 all_needed league limit whole [] cases said decided =
-    All-nil (λ (k : ℕ). (games : List Game) × IsAccepted (part_of league (without k whole)) (counts_of games))
+    All-nil (λ (k : ℕ). (games : List Game) × IsSeason (part_of league (without k whole)) games)
 all_needed league limit whole (k ∷ numbers) [] said decided = absurd said
 all_needed league limit whole (k ∷ numbers) (Without games ∷ cases) said decided =
-    All-cons (λ (k : ℕ). (games : List Game) × IsAccepted (part_of league (without k whole)) (counts_of games)) k
-    numbers (games, said.0.accepted)
+    All-cons (λ (k : ℕ). (games : List Game) × IsSeason (part_of league (without k whole)) games) k
+    numbers (games, said.0)
     (all_needed league limit whole numbers cases said.1
     (All-tail (λ case. is_decided case ≡ true) (Without games) cases decided))
 all_needed league limit whole (k ∷ numbers) (Undecided log ∷ cases) said decided =

@@ -41,11 +41,10 @@ pub record IsConflict (league : Instance) (limit : Option ℕ) (members : List �
   pub refuted : RefutesLeague (part_of league members) log
   pub each : AllZip (IsCase league limit members) members cases
 
--- no schedule meets these constraints, and without any one of them there is a schedule
+-- no schedule meets these constraints, and without any one of them there is a season
 pub record IsIrreducible (league : Instance) (members : List ℕ) : Type 0 where
   pub infeasible : NoneAccepted (part_of league members)
-  pub needed : All (λ k. (games : List Game) × IsAccepted (part_of league (without k members)) (counts_of games))
-      members
+  pub needed : All (λ k. (games : List Game) × IsSeason (part_of league (without k members)) games) members
 
 -- each case is a schedule
 abbrev pub AreDecided : List Case → Type 0
