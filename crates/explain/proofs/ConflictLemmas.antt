@@ -6,8 +6,6 @@ use Rattle.std.specs.List.{All, AllZip}
 use Rattle.std.specs.Option.{option_to_list}
 use Rattle.std.proofs.Math.Nat.{pow-le-pow_right}
 use Rattle.std.proofs.lemmas.List.Elements.{All-cons, All-head, All-nil, All-tail}
-use Rattle.league.specs.Accepted.{IsAccepted}
-use Rattle.league.specs.Counts.{counts_of}
 use Rattle.league.specs.Instance.{Instance, IsInstance}
 use Rattle.league.specs.declared.game.Game.{Game}
 use Rattle.circle_method.specs.Circle.{double_games}
