@@ -1,8 +1,10 @@
-//! Files at their limits and beyond, seasons of many teams, and every front of a file.
+//! Files at their limits and beyond, seasons of many teams, every front of a file, and a counter without bytes.
 use crate::session::{Devices, SOUND, VALIDATE, bytes_of, judge, run_over, tell};
 use std::alloc::{AllocError, Global};
 use std::io;
+use std::mem::size_of;
 use std::rt::Files;
+use steps::{Plain, Steps};
 
 /// Devices with room for a line for each of 20,000 constraints.
 const WIDE: Devices = Devices {
@@ -25,7 +27,7 @@ pub fn show(rt: &(impl AllocGlobal + Files + Print)) -> io::Result<()> {
     show_files(rt, &league, &season, &head)
 }
 
-/// The same of these files: a league, a season and the front of a league up to its constraints.
+/// Runs commands over these files: a league, a season and the front of a league up to its constraints.
 fn show_files(
     rt: &(impl AllocGlobal + Print),
     league: &[u8],
@@ -38,7 +40,13 @@ fn show_files(
     for circle in &SEASONS {
         count_lines(rt, *circle, b"", b"")?;
     }
-    show_fronts(rt, league, season)
+    show_fronts(rt, league, season)?;
+    show_counter(rt)
+}
+
+/// The bytes of a counter of steps, of which proofs alone know anything.
+fn show_counter(rt: &impl Print) -> io::Result<()> {
+    println!(rt; "bytes of a counter of steps: {}", size_of::<Steps<Plain>>())
 }
 
 /// An instance file and a solution file of one byte more than they may have.
