@@ -37,20 +37,24 @@ pub fn break_count(alloc: Global, league: &League) -> Result<Option<Log>, AllocE
         &shortage.stretches,
         shortage.class,
     )?;
-    if refutes(alloc, &encoding, &log)? {
+    if let Some(log) = if_accepted(alloc, &encoding, log)? {
         return Ok(Some(log));
     }
     let log = searched(alloc, &encoding)?;
     Ok(Some(log))
 }
 
-/// Whether a log is accepted over the rows of a league, and its text can be written.
+/// A log, if it is accepted over the rows of a league and its text can be written.
 ///
 /// # Errors
 /// Only where memory runs out.
-fn refutes(alloc: Global, encoding: &Encoding, log: &Log) -> Result<bool, AllocError>
-    ensures { IfOk result (λ yes. yes ≡ true → IsRefuting encoding.now log.now) }
+fn if_accepted(alloc: Global, encoding: &Encoding, log: Log) -> Result<Option<Log>, AllocError>
+    ensures { IfOk result (λ found. IfSome found (IsRefuting encoding.now)) }
 {
-    let verdict = check(alloc, encoding.rows(), encoding.vars(), log)?;
-    Ok(verdict == Verdict::Accepted && log.names_rows() && has_short_lines(log))
+    let verdict = check(alloc, encoding.rows(), encoding.vars(), &log)?;
+    if verdict == Verdict::Accepted && log.names_rows() && has_short_lines(&log) {
+        Ok(Some(log))
+    } else {
+        Ok(None)
+    }
 }
