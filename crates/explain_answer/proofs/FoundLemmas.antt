@@ -133,7 +133,7 @@ replied-spent {E} league conflicts steps (Ok reply) spent not_ample no_circle no
       circle = λ accepted. absurd (no_circle accepted);
       short = λ short. absurd (not_short short);
       crowded = λ crowded. absurd (not_crowded crowded);
-  few = λ is. absurd (enough is);
+      few = λ is. absurd (enough is);
     }
 replied-spent {E} league conflicts steps (Err error) spent not_ample no_circle not_short not_crowded enough status text back =
     tt

@@ -114,7 +114,7 @@ found-spent league budgets steps patterns answer spent leaves no_circle not_shor
       circle = λ accepted. absurd (no_circle accepted);
       short = λ is. absurd (not_short is);
       crowded = λ is. absurd (not_crowded is);
-  few = λ is. absurd (enough is);
+      few = λ is. absurd (enough is);
     }
 
 -- ---- the same of a reply, unless memory ran out
