@@ -18,11 +18,14 @@ pub(crate) fn searched(alloc: Global, encoding: &Encoding) -> Result<Log, AllocE
     requires { are_few encoding.now ≡ true }
     ensures { IfOk result (IsRefuting encoding.now) }
 {
-    match search(alloc, encoding.rows(), encoding.vars(), &[], None)? {
+    let vars = encoding.vars();
+    let found = search(alloc, encoding.rows(), vars, &[], None)?;
+    match found {
         Found::Refuted(log) => {
             note_numbers(&log);
             Ok(log)
         }
-        Found::Sat(_) | Found::Spent(_) => unreachable!(),
+        Found::Sat(_values) => unreachable!(),
+        Found::Spent(_log) => unreachable!(),
     }
 }
