@@ -19,7 +19,7 @@ use Rattle.robinx_form.specs.Walk.{walk}
 use Rattle.league.specs.Accepted.{IsAccepted, objective}
 use Rattle.league.specs.Counts.{Counts, counts_of}
 use Rattle.league.specs.Instance.{Instance, IsInstance, class_fits, is_one_side}
-use Rattle.league.specs.declared.class.Class.TheVariants.{Ca1, Ga1}
+use Rattle.league.specs.declared.class.Class.TheVariants.{Br2, Ca1, Ga1}
 use Rattle.league.specs.declared.class.Constraint.{Constraint}
 use Rattle.league.specs.declared.class.Side.{Side}
 use Rattle.league.specs.declared.class.Side.TheVariants.{H, A}
@@ -164,6 +164,7 @@ found-zero = record {
   circle = λ accepted. refl;
   short = λ short. absurd (false_true short);
   crowded = λ crowded. absurd (false_true crowded);
+  few = λ few. absurd (false_true few);
 }
 
 pub solved-zero : Writes (ended_with Yes (Some []) (Some found.text)) (IsFound even_soon budgets (rows_of even_soon))
@@ -349,6 +350,7 @@ found-home = record {
   circle = λ accepted. absurd (none (double_games 2) accepted);
   short = λ short. refl;
   crowded = λ crowded. refl;
+  few = λ few. refl;
 }
 
 pub solved-home : Writes (ended_with Refuted (Some (codes "> ")) (Some (codes "> " ++ refutation.text))) (IsFound home_last budgets (rows_of home_last))
@@ -553,6 +555,7 @@ found-wanted = record {
   circle = λ accepted. absurd (circle-unwanted accepted);
   short = λ short. absurd (false_true short);
   crowded = λ crowded. absurd (false_true crowded);
+  few = λ few. absurd (false_true few);
 }
 
 pub solved-wanted : Writes (ended_with Spent (Some []) (Some (codes "refutation 1\nend\n"))) (IsFound wanted budgets (rows_of wanted))
@@ -574,6 +577,21 @@ crowd = record {
 
 pub found-crowded : IsFound crowd budgets (rows_of crowd) spent → ⊥
 found-crowded is = refuted_spent (is.crowded refl)
+
+-- four teams need two breaks in the season of a league without phases, and may have one
+abbrev one_break : Instance
+one_break = record {
+  n = 4;
+  phased = false;
+  constraints = record {
+    hard = true;
+    penalty = 1;
+    class = Br2 (0 ∷ 1 ∷ 2 ∷ 3 ∷ []) 1 (0 ∷ 1 ∷ 2 ∷ 3 ∷ 4 ∷ 5 ∷ []);
+  } ∷ [];
+}
+
+pub found-few : IsFound one_break budgets (rows_of one_break) spent → ⊥
+found-few is = refuted_spent (is.few refl)
 
 -- what accepts a season has no refuted patterns
 pub patterns-even : (conflicts : Option ℕ) (answer : Answer) → patterned.IsRefuted even_soon conflicts answer → ⊥

@@ -13,7 +13,7 @@ use Rattle.league.specs.Accepted.{IsAccepted}
 use Rattle.league.specs.Counts.{counts_of}
 use Rattle.league.specs.Instance.{Instance, IsInstance, class_fits}
 use Rattle.league.specs.Sets.{IsAscending}
-use Rattle.league.specs.declared.class.Class.TheVariants.{Ca1}
+use Rattle.league.specs.declared.class.Class.TheVariants.{Br2, Ca1}
 use Rattle.league.specs.declared.class.Constraint.{Constraint}
 use Rattle.league.specs.declared.class.Side.TheVariants.{H}
 use Rattle.league.proofs.AcceptedLemmas.{MeetsHard-from_sum, sum-from_MeetsHard}
@@ -310,7 +310,7 @@ yes_refuted is = cc
 yes_spent : Yes ≡ Spent → ⊥
 yes_spent is = cc
 
--- the league has no hard CA1, so that its venue counts are neither short nor crowded
+-- the league has no hard CA1, so that its venue counts are neither short nor crowded, and its two teams need no break
 pub found-met : (conflicts : Option ℕ) → IsFound (phased (wish ∷ [])) conflicts (yes_with scored)
 found-met conflicts = record {
   found = inl met-out;
@@ -318,6 +318,7 @@ found-met conflicts = record {
   circle = λ accepted. refl;
   short = λ short. absurd (false_true short);
   crowded = λ crowded. absurd (false_true crowded);
+  few = λ few. absurd (false_true few);
 }
 
 abbrev named_reply : Answer
@@ -352,6 +353,7 @@ found-named conflicts = record {
   circle = λ accepted. absurd (refuses_circle accepted);
   short = λ short. refl;
   crowded = λ crowded. refl;
+  few = λ few. refl;
 }
 
 -- the conflict of one demand, of which a limit leaves the case open: text and all
@@ -414,6 +416,21 @@ found-short conflicts is = spent_refuted (is.short refl)
 pub found-crowded : (conflicts : Option ℕ) → IsFound crowded conflicts open_log → ⊥
 found-crowded conflicts is = spent_refuted (is.crowded refl)
 
+-- where four teams may have three breaks, one less than they need in both halves, the break counts tell
+abbrev three_breaks : Instance
+three_breaks = record {
+  n = 4;
+  phased = true;
+  constraints = record {
+    hard = true;
+    penalty = 1;
+    class = Br2 (0 ∷ 1 ∷ 2 ∷ 3 ∷ []) 3 (0 ∷ 1 ∷ 2 ∷ 3 ∷ 4 ∷ 5 ∷ []);
+  } ∷ [];
+}
+
+pub found-few : (conflicts : Option ℕ) → IsFound three_breaks conflicts open_log → ⊥
+found-few conflicts is = spent_refuted (is.few refl)
+
 -- of a slot between their games they don't tell, and at the limit 0 the search learns nothing: over the row that allows
 -- one of four games, and the others, propagation stands still
 abbrev one_game : Row
@@ -458,6 +475,7 @@ found-open = record {
   circle = λ accepted. absurd (none-apart home accepted);
   short = λ short. absurd (false_true short);
   crowded = λ crowded. absurd (false_true crowded);
+  few = λ few. absurd (false_true few);
 }
 
 -- with an ample limit it isn't

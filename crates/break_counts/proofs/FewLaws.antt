@@ -23,12 +23,14 @@ use Rattle.league.proofs.OneTermLemmas.{sum_by-swap}
 use Rattle.league.proofs.RangeLemmas.{one_if, one_if-le}
 use Rattle.league.proofs.RoundRobinLemmas.{IsPlayedOnce-of}
 use Rattle.league.proofs.SumLemmas.{sum_by-add, sum_by-filter, sum_by-same}
+use Rattle.rows.proofs.ListLemmas.{list_all-at, sum_by-range-append, sum_by-range-part}
+use Rattle.venue_counts.specs.VenueCounts.{is_side}
 use Rattle.break_counts.specs.BreakCounts.{FewBreaksAllowNone, allowed_by, allowed_of, allowed_on, allowed_singly}
-use Rattle.break_counts.specs.BreakCounts.{allowed_with, are_few, covers, is_few_in, is_few_with, is_side, later_slots}
+use Rattle.break_counts.specs.BreakCounts.{allowed_with, are_few, covers, is_few_in, is_few_with, later_slots}
 use Rattle.break_counts.specs.BreakCounts.{stretch, stretches_of}
 use Rattle.break_counts.specs.declared.stretch.Stretch.{Stretch}
 use Rattle.break_counts.proofs.MetLemmas.{first_half-met, season-met, second_half-met}
-use Rattle.break_counts.proofs.RangeSums.{only_in, only_in-le, range_le, range_longer, range_parts}
+use Rattle.break_counts.proofs.RangeSums.{only_in, only_in-le, range_le}
 use Rattle.break_counts.proofs.StretchLemmas.{IsMet, all_but_two}
 
 -- ---- stretches one behind another
@@ -48,16 +50,16 @@ later_before g t from low some =
     let end : t.first + 1 + (t.count - 1) ≡ t.first + t.count = omega (arith, some) in
     omega (
       arith,
-      range_parts g 0 (t.first + 1) (t.count - 1),
+      sum_by-range-append g 0 (t.first + 1) (t.count - 1),
       ap (λ (a : ℕ). sum_by g (range_with_len a (t.count - 1))) place,
       ap (before g) end,
-      range_longer g from (t.first + 1) (omega (arith, low)),
+      sum_by-range-part g 0 (t.first + 1) 0 from (omega arith) (omega (arith, low)),
     )
 
 -- a sum over all their later slots
 all_later : (g : ℕ → ℕ) (stretches : List Stretch) (from end : ℕ) → Follow from stretches end
     → sum_by (λ t. sum_by g (later_slots t)) stretches + before g from ≤ before g end
-all_later g [] from end follow = omega (arith, range_longer g from end follow)
+all_later g [] from end follow = omega (arith, sum_by-range-part g 0 end 0 from (omega arith) (omega (arith, follow)))
 all_later g (t ∷ stretches) from end follow =
     omega (
       arith,
@@ -65,16 +67,6 @@ all_later g (t ∷ stretches) from end follow =
       later_before g t from follow.0 follow.1,
       all_later g stretches (t.first + t.count) end follow.2,
     )
-
--- a number of a list that all passes
-pub all_pass : (p : ℕ → Bool) (a k x : ℕ) → list_all p (range_with_len a k) ≡ true → a ≤ x → x < a + k → p x ≡ true
-all_pass p a zero x all low high = absurd (omega (arith, low, high))
-all_pass p a (suc k) x all low high =
-    let parts = and_parts (p a) (list_all p (range_with_len (a + 1) k)) all in
-    elim (cases_eq x a) [
-      | inl same ↦ ap p same ∙ parts.0
-      | inr other ↦ all_pass p (a + 1) k x parts.1 (omega (arith, low, other)) (omega (arith, high))
-    ]
 
 -- what is counted at the later slots is counted at slots that cover them
 covered_le : (g : ℕ → ℕ) (slots : List ℕ) (stretches : List Stretch) → covers slots stretches ≡ true
@@ -91,7 +83,7 @@ covered_le g slots (t ∷ stretches) covered =
           (λ x low high.
           (let kept : only_in slots g x ≡ g x =
           cond-true (is_in x slots) (g x) 0
-          (all_pass (λ s. is_in s slots) (t.first + 1) (t.count - 1) x parts.0 low high) in
+          (list_all-at (λ s. is_in s slots) (t.first + 1) (t.count - 1) x parts.0 low high) in
           omega (arith, kept))),
       covered_le g slots stretches parts.1,
     )

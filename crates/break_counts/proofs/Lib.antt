@@ -12,5 +12,7 @@ pub mod TableLemmas
 pub mod LineLemmas
 -- Rows over the variables that there are:
 pub mod CheckLemmas
+-- What a search without a limit answers:
+pub mod SearchLemmas
 -- Worked examples, so that a wrong definition does not check:
 mod BreakFacts

@@ -3,8 +3,8 @@ use Rattle.std.proofs.Common.{◌≡◌, ℕ, ◌+◌, ◌-◌, ◌<◌, ◌≤�
 use Rattle.std.specs.List.{range_with_len, sum_by}
 use Rattle.league.specs.Counts.{Counts, slot_count}
 use Rattle.league.specs.Structure.{IsPlayedOnce}
+use Rattle.rows.proofs.ListLemmas.{sum_by-range-append}
 use Rattle.break_counts.specs.BreakCounts.{stretch}
-use Rattle.break_counts.proofs.RangeSums.{range_parts}
 use Rattle.break_counts.proofs.StretchLemmas.{IsMet}
 
 -- each two teams have two games in the season
@@ -49,8 +49,8 @@ second_half-met n phased m two phases played = record {
         played.halves phases i j order there,
         ap (season (λ s. m i j s)) whole,
         ap (season (λ s. m j i s)) whole,
-        range_parts (λ s. m i j s) 0 (n - 1) (n - 1),
-        range_parts (λ s. m j i s) 0 (n - 1) (n - 1),
+        sum_by-range-append (λ s. m i j s) 0 (n - 1) (n - 1),
+        sum_by-range-append (λ s. m j i s) 0 (n - 1) (n - 1),
         ap (later (λ s. m i j s)) from,
         ap (later (λ s. m j i s)) from,
       ));

@@ -20,32 +20,6 @@ term_in g a k d below =
       ap g (get_or-range_with_len a k d 0 below),
     )
 
--- a range in two parts
-pub range_parts : (g : ℕ → ℕ) (a b c : ℕ)
-    → sum_by g (range_with_len a (b + c)) ≡ sum_by g (range_with_len a b) + sum_by g (range_with_len (a + b) c)
-range_parts g a b zero =
-    let none : b + 0 ≡ b = omega arith in
-    omega (arith, ap (λ (k : ℕ). sum_by g (range_with_len a k)) none)
-range_parts g a b (suc c) =
-    let last : b + suc c ≡ b + c + 1 = omega arith in
-    let next : suc c ≡ c + 1 = omega arith in
-    let place : a + (b + c) ≡ a + b + c = omega arith in
-    omega (
-      arith,
-      ap (λ (k : ℕ). sum_by g (range_with_len a k)) last,
-      sum_by-range_more g a (b + c),
-      ap g place,
-      range_parts g a b c,
-      ap (λ (k : ℕ). sum_by g (range_with_len (a + b) k)) next,
-      sum_by-range_more g (a + b) c,
-    )
-
--- a longer range from 0 has no smaller sum
-pub range_longer : (g : ℕ → ℕ) (a b : ℕ) → a ≤ b → sum_by g (range_with_len 0 a) ≤ sum_by g (range_with_len 0 b)
-range_longer g a b below =
-    let parts : a + (b - a) ≡ b = omega (arith, below) in
-    omega (arith, range_parts g 0 a (b - a), ap (λ (k : ℕ). sum_by g (range_with_len 0 k)) parts)
-
 -- the same terms by their distance from the first
 pub range_shifted : (g : ℕ → ℕ) (a k : ℕ)
     → sum_by g (range_with_len a k) ≡ sum_by (λ d. g (a + d)) (range_with_len 0 k)

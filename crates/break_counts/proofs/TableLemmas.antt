@@ -4,7 +4,7 @@ use Rattle.std.proofs.Common.{List, [], ◌∷◌, ◌++◌, length, get_or, tak
 use Rattle.std.specs.Prelude.{sum}
 use Rattle.std.specs.List.{filter, fold, list_all, list_any, range_with_len, sum_by}
 use Rattle.std.proofs.lemmas.Bool.{false_from_ne_true, false≢true, lt-ltb}
-use Rattle.std.proofs.lemmas.List.{take_all, take_more}
+use Rattle.std.proofs.lemmas.List.{append-nil, take_all, take_more}
 use Rattle.std.proofs.lemmas.List.Elements.{filter-append}
 use Rattle.std.proofs.lemmas.List.Folds.{list_all-append, list_any_at}
 use Rattle.std.proofs.lemmas.List.FromFn.{fill_by_all}
@@ -20,11 +20,11 @@ use Rattle.league.specs.declared.class.Side.TheVariants.{H, A, Both}
 use Rattle.league.proofs.OneTermLemmas.{sum_by-range_same}
 use Rattle.league.proofs.RangeLemmas.{range_with_len-more}
 use Rattle.league.proofs.SumLemmas.{sum_by-filter}
+use Rattle.rows.proofs.ListLemmas.{list_all-at}
 use Rattle.break_counts.specs.BreakCounts.{allowed_by, allowed_of, allowed_on, allowed_singly, allowed_with, covers}
 use Rattle.break_counts.specs.BreakCounts.{is_few_in, is_few_with}
 use Rattle.break_counts.specs.Tables.{IsTable, IsTableOn, IsUniform}
 use Rattle.break_counts.specs.declared.stretch.Stretch.{Stretch}
-use Rattle.break_counts.proofs.FewLaws.{all_pass}
 
 -- ---- a range that all passes a test, number by number
 
@@ -45,7 +45,7 @@ holds-more slots first d some so_far here =
 pub fails-at : (p : ℕ → Bool) (a k x : ℕ) → a ≤ x → x < a + k → p x ≡ false → false ≡ list_all p (range_with_len a k)
 fails-at p a k x low high fails =
     sym (false_from_ne_true (list_all p (range_with_len a k))
-    (λ all. false≢true (sym fails ∙ all_pass p a k x all low high)))
+    (λ all. false≢true (sym fails ∙ list_all-at p a k x all low high)))
 
 -- ---- one constraint more
 
@@ -55,10 +55,6 @@ hard_of-more : (constraints : List Constraint) (k : ℕ) (c : Constraint) → k 
 hard_of-more constraints k c there is =
     ap hard_of (take_more constraints k c there ∙ ap (λ (d : Constraint). take k constraints ++ d ∷ []) (sym is))
     ∙ filter-append (λ (d : Constraint). d.hard) (take k constraints) (c ∷ [])
-
-append-none : {X : Type 0} (xs : List X) → xs ++ [] ≡ xs
-append-none [] = refl
-append-none {X} (x ∷ xs) = ap (λ (ys : List X). x ∷ ys) (append-none xs)
 
 folded-more : (stretches : List Stretch) (side : Side) (i : ℕ) (hard : List Constraint) (c : Constraint) (here : Bool)
     → fold (λ least d. min least (allowed_by stretches side i d.class)) (length stretches)
@@ -72,7 +68,7 @@ folded-more stretches side i hard c true =
 folded-more stretches side i hard c false =
     ap (λ (cs : List Constraint).
     fold (λ least (d : Constraint). min least (allowed_by stretches side i d.class)) (length stretches) cs)
-    (append-none hard)
+    (append-nil hard)
 
 allowed_on-more : (constraints : List Constraint) (stretches : List Stretch) (side : Side) (i k : ℕ) (c : Constraint)
     → k < length constraints → c ≡ get_or constraints k c

@@ -12,6 +12,7 @@ use Rattle.league.specs.declared.class.Class.TheVariants.{Br1, Br2}
 use Rattle.league.specs.declared.class.Constraint.{Constraint}
 use Rattle.league.specs.declared.class.Side.{Side}
 use Rattle.league.specs.declared.class.Side.TheVariants.{H, A, Both}
+use Rattle.venue_counts.specs.VenueCounts.{is_side}
 use Rattle.break_counts.specs.declared.stretch.Stretch.{Stretch}
 
 -- ---- stretches
@@ -39,13 +40,6 @@ abbrev pub covers : List ℕ → List Stretch → Bool
 covers slots stretches = list_all (λ t. list_all (λ s. is_in s slots) (later_slots t)) stretches
 
 -- ---- what is allowed
-
--- whether two sides are one
-abbrev pub is_side : Side → Side → Bool
-is_side H H = true
-is_side A A = true
-is_side Both Both = true
-is_side _ _ = false
 
 -- In how many of the stretches a class lets team i have breaks on a side: `intp` of a BR1 that counts all of them, and
 -- else in each.

@@ -1,36 +1,56 @@
 //! Whether a league's break counts refute it.
-ghost use Rattle.std.specs.Prelude.{◌≡◌, true, IfOk, IfSome, IsSome};
+ghost use Rattle.std.specs.Prelude.{◌≡◌, ◌≤◌, ◌↔◌, true, IfOk, IfSome, IsSome};
+ghost use Rattle.encoding.specs.Limit.{most_terms};
+ghost use Rattle.encoding_base.specs.Encoding.{encoding_size};
 ghost use Rattle.venue_counts.specs.CountLogs.{IsRefuting};
 ghost use Rattle.break_counts.specs.BreakCounts.{are_few};
 
 use crate::lines::has_short_lines;
 use crate::log::log_of;
+use crate::searched::searched;
 use crate::shortage::find_shortage;
-use encoding::Encoding;
+use encoding::{Encoding, encode_small};
 use league::League;
 use refutation::{Log, Verdict};
 use refutation_check::check;
 use std::alloc::{AllocError, Global};
 
-/// A log that refutes a league that allows its teams too few breaks, by the rows of the league alone: some clauses for
-/// each two teams, and their sums. It is checked before it is given. None where the league doesn't allow too few, or
-/// where the log isn't accepted.
+/// Some exactly where a league allows its teams too few breaks: a log that refutes it, by the rows of the league alone.
+/// It has some clauses for each two teams, and their sums. It is checked before it is given; were it not accepted, a
+/// search without a limit would find another. The league's rows are written only where it allows too few.
 ///
 /// # Errors
 /// Only where memory runs out.
-pub fn break_count(
-    alloc: Global,
-    league: &League,
-    encoding: &Encoding,
-) -> Result<Option<Log>, AllocError>
-    requires league { encoding.now ≡ league.now }
-    ensures few { IfOk result (λ found. IsSome found → are_few league.now ≡ true) }
+pub fn break_count(alloc: Global, league: &League) -> Result<Option<Log>, AllocError>
+    requires small { encoding_size league.now ≤ most_terms }
+    ensures few { IfOk result (λ found. IsSome found ↔ (are_few league.now ≡ true)) }
     ensures refuting { IfOk result (λ found. IfSome found (IsRefuting league.now)) }
 {
     let Some(shortage) = find_shortage(alloc, league)? else {
         return Ok(None);
     };
-    let log = log_of(alloc, league, encoding, &shortage.stretches, shortage.class)?;
+    let encoding = encode_small(alloc, league)?;
+    let log = log_of(
+        alloc,
+        league,
+        &encoding,
+        &shortage.stretches,
+        shortage.class,
+    )?;
+    if let Some(log) = if_accepted(alloc, &encoding, log)? {
+        return Ok(Some(log));
+    }
+    let log = searched(alloc, &encoding)?;
+    Ok(Some(log))
+}
+
+/// A log, if it is accepted over the rows of a league and its text can be written.
+///
+/// # Errors
+/// Only where memory runs out.
+fn if_accepted(alloc: Global, encoding: &Encoding, log: Log) -> Result<Option<Log>, AllocError>
+    ensures { IfOk result (λ found. IfSome found (IsRefuting encoding.now)) }
+{
     let verdict = check(alloc, encoding.rows(), encoding.vars(), &log)?;
     if verdict == Verdict::Accepted && log.names_rows() && has_short_lines(&log) {
         Ok(Some(log))

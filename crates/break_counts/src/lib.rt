@@ -13,6 +13,7 @@ mod frame;
 mod laws;
 mod lines;
 mod log;
+mod searched;
 mod shortage;
 mod stretch;
 mod writer;

@@ -9,6 +9,7 @@ ghost use Rattle.circle_method.specs.Circle.{double_games};
 ghost use Rattle.encoding_base.specs.Encoding.{encoding_size};
 ghost use Rattle.parts.specs.Parts.{is_hard_number, part_of};
 ghost use Rattle.venue_counts.specs.VenueCounts.{are_crowded, are_short};
+ghost use Rattle.break_counts.specs.BreakCounts.{are_few};
 ghost use Rattle.explain.specs.Attempts.{IsAttempt, IsMet, IsRefuted};
 ghost use Rattle.encoding.specs.Limit.{KeepsLimit, most_terms};
 
@@ -68,6 +69,7 @@ pub(crate) fn searched(
     ensures circle { IsAccepted league.now (counts_of (double_games league.now.n)) → IfOk result IsMet }
     ensures short { are_short league.now ≡ true → IfOk result IsRefuted }
     ensures crowded { are_crowded league.now ≡ true → IfOk result IsRefuted }
+    ensures few { are_few league.now ≡ true → IfOk result IsRefuted }
 {
     match solve(alloc, league, budgets_of(conflicts))? {
         Solved::Schedule {

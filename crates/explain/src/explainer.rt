@@ -7,6 +7,7 @@ ghost use Rattle.encoding_base.specs.Encoding.{encoding_size};
 ghost use Rattle.encoding_base.specs.Variables.{var_count};
 ghost use Rattle.solve.specs.Solutions.{RefutesLeague};
 ghost use Rattle.venue_counts.specs.VenueCounts.{are_crowded, are_short};
+ghost use Rattle.break_counts.specs.BreakCounts.{are_few};
 ghost use Rattle.explain.specs.Conflicts.{HasConflict, HasSchedule, IsAmple, IsDecided, IsExplanation};
 ghost use Rattle.explain.specs.Conflicts.{IsIrreducibleIfDecided};
 ghost use Rattle.explain.specs.Standings.{said_of};
@@ -50,10 +51,11 @@ pub fn explain(
     ensures decided { IsAmple (var_count league.now) conflicts → IfOk result IsDecided }
 
     // Where the league accepts the schedule of the circle method, the answer is a schedule; where its venue counts are
-    // short, or crowded, it is a conflict whatever the limit.
+    // short, or crowded, or it allows its teams too few breaks, it is a conflict whatever the limit.
     ensures circle { IsAccepted league.now (counts_of (double_games league.now.n)) → IfOk result HasSchedule }
     ensures short { are_short league.now ≡ true → IfOk result HasConflict }
     ensures crowded { are_crowded league.now ≡ true → IfOk result HasConflict }
+    ensures few { are_few league.now ≡ true → IfOk result HasConflict }
 {
     match searched(alloc, league, conflicts)? {
         Attempt::Met {

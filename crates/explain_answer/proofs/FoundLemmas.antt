@@ -21,6 +21,7 @@ use Rattle.answers.specs.declared.status.Status.{Status}
 use Rattle.answers.specs.declared.status.Status.TheVariants.{Yes, Refuted, Spent}
 use Rattle.solve.specs.Solutions.{IsSpentOn}
 use Rattle.venue_counts.specs.VenueCounts.{are_crowded, are_short}
+use Rattle.break_counts.specs.BreakCounts.{are_few}
 use Rattle.explain.specs.Conflicts.{AreDecided, IsAmple, IsCase, IsConflict, IsIrreducible, IsSeason}
 use Rattle.explain.specs.declared.cases.Case.{Case}
 use Rattle.explain.specs.declared.cases.Case.TheVariants.{Without, Undecided}
@@ -66,11 +67,11 @@ not_spent_either status is ended = let same : Refuted ≡ Spent = sym is ∙ end
 
 pub replied-met : {E : Type 0} (league : Instance) (conflicts : Option ℕ) (games : List Game) (objective : ℕ)
     (result : Result Reply E) → IsSeason league games × (objective ≡ costs.objective league (counts_of games))
-    → (are_short league ≡ true → ⊥) → (are_crowded league ≡ true → ⊥)
+    → (are_short league ≡ true → ⊥) → (are_crowded league ≡ true → ⊥) → (are_few league ≡ true → ⊥)
     → IfOk result (λ reply. (answer_of reply).status ≡ Yes)
     → IfOk result (λ reply. (answer_of reply).text ≡ solution_text games (Some (0, objective)))
     → IfOk result (λ reply. IsFound league conflicts (answer_of reply))
-replied-met {E} league conflicts games objective (Ok reply) is not_short not_crowded status text = record {
+replied-met {E} league conflicts games objective (Ok reply) is not_short not_crowded enough status text = record {
   found = inl (record {
     games = games;
     season = is.0;
@@ -81,8 +82,9 @@ replied-met {E} league conflicts games objective (Ok reply) is not_short not_cro
   circle = λ accepted. status;
   short = λ short. absurd (not_short short);
   crowded = λ crowded. absurd (not_crowded crowded);
+  few = λ is. absurd (enough is);
 }
-replied-met {E} league conflicts games objective (Err error) is not_short not_crowded status text = tt
+replied-met {E} league conflicts games objective (Err error) is not_short not_crowded enough status text = tt
 
 pub replied-conflict : {E : Type 0} (league : Instance) (conflicts : Option ℕ) (members : List ℕ) (log : List Step)
     (cases : List Case) (result : Result Reply E) → IsConflict league conflicts members log cases
@@ -107,17 +109,18 @@ replied-conflict {E} league conflicts members log cases (Ok reply) is irreducibl
       circle = λ accepted. absurd (no_circle accepted);
       short = λ short. status;
       crowded = λ crowded. status;
+      few = λ is. status;
     }
 replied-conflict {E} league conflicts members log cases (Err error) is irreducible decided no_circle status text = tt
 
 pub replied-spent : {E : Type 0} (league : Instance) (conflicts : Option ℕ) (steps : List Step)
     (result : Result Reply E) → IsSpentOn league conflicts steps → (IsAmple (var_count league) conflicts → ⊥)
     → (IsAccepted league (counts_of (double_games league.n)) → ⊥) → (are_short league ≡ true → ⊥)
-    → (are_crowded league ≡ true → ⊥) → IfOk result (λ reply. (answer_of reply).status ≡ Spent)
+    → (are_crowded league ≡ true → ⊥) → (are_few league ≡ true → ⊥) → IfOk result (λ reply. (answer_of reply).status ≡ Spent)
     → IfOk result (λ reply. (answer_of reply).text ≡ log_text steps)
     → IfOk result (λ reply. log_of (answer_of reply).text ≡ Ok steps)
     → IfOk result (λ reply. IsFound league conflicts (answer_of reply))
-replied-spent {E} league conflicts steps (Ok reply) spent not_ample no_circle not_short not_crowded status text back =
+replied-spent {E} league conflicts steps (Ok reply) spent not_ample no_circle not_short not_crowded enough status text back =
     record {
       found = inr (inr (record {
         steps = steps;
@@ -130,6 +133,7 @@ replied-spent {E} league conflicts steps (Ok reply) spent not_ample no_circle no
       circle = λ accepted. absurd (no_circle accepted);
       short = λ short. absurd (not_short short);
       crowded = λ crowded. absurd (not_crowded crowded);
+      few = λ is. absurd (enough is);
     }
-replied-spent {E} league conflicts steps (Err error) spent not_ample no_circle not_short not_crowded status text back =
+replied-spent {E} league conflicts steps (Err error) spent not_ample no_circle not_short not_crowded enough status text back =
     tt

@@ -19,6 +19,7 @@ use Rattle.refutation.specs.Logs.{log_of}
 use Rattle.refutation.specs.Texts.{log_text}
 use Rattle.solve.specs.Solutions.{IsSpentOn}
 use Rattle.venue_counts.specs.VenueCounts.{are_crowded, are_short}
+use Rattle.break_counts.specs.BreakCounts.{are_few}
 use Rattle.check_answer.specs.Check.{encodes}
 use Rattle.explain.specs.Conflicts.{AreDecided, IsAmple, IsConflict, IsIrreducible, IsSeason}
 use Rattle.explain.specs.declared.cases.Case.{Case}
@@ -55,14 +56,15 @@ pub record IsBudgetSpent (league : Instance) (conflicts : Option ℕ) (answer : 
   pub reads_back : log_of answer.text ≡ Ok steps
 
 -- What is found of a league, within a budget of conflicts a search. Where the league accepts the schedule of the circle
--- method, a schedule is; where its venue counts are short, or crowded, a conflict is, whatever the budget; and an ample
--- budget isn't spent.
+-- method, a schedule is; where its venue counts are short, or crowded, or it allows its teams too few breaks, a conflict
+-- is, whatever the budget; and an ample budget isn't spent.
 pub record IsFound (league : Instance) (conflicts : Option ℕ) (answer : Answer) : Type 0 where
   pub found : IsMet league answer ⊎ (IsNamed league conflicts answer ⊎ IsBudgetSpent league conflicts answer)
   pub ample : IsAmple (var_count league) conflicts → answer.status ≡ Spent → ⊥
   pub circle : IsAccepted league (counts_of (double_games league.n)) → answer.status ≡ Yes
   pub short : are_short league ≡ true → answer.status ≡ Refuted
   pub crowded : are_crowded league ≡ true → answer.status ≡ Refuted
+  pub few : are_few league ≡ true → answer.status ≡ Refuted
 
 -- ---- stages
 

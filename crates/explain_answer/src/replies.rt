@@ -12,6 +12,7 @@ ghost use Rattle.refutation.specs.Logs.{log_of};
 ghost use Rattle.refutation.specs.Texts as logs;
 ghost use Rattle.solve.specs.Solutions.{IsWritable};
 ghost use Rattle.venue_counts.specs.VenueCounts.{are_crowded, are_short};
+ghost use Rattle.break_counts.specs.BreakCounts.{are_few};
 ghost use Rattle.explain.specs.Conflicts.{HasConflict, HasSchedule, IsAmple, IsDecided, IsExplanation};
 ghost use Rattle.explain.specs.Conflicts.{IsIrreducibleIfDecided};
 ghost use Rattle.explain_answer.specs.Explained.{IsFound};
@@ -87,6 +88,7 @@ pub(crate) fn found_reply(
     requires circle { IsAccepted league.now (counts_of (double_games league.now.n)) → HasSchedule explained.now }
     requires short { are_short league.now ≡ true → HasConflict explained.now }
     requires crowded { are_crowded league.now ≡ true → HasConflict explained.now }
+    requires few { are_few league.now ≡ true → HasConflict explained.now }
     ensures { IfOk result (λ reply. IsFound league.now conflicts (answer_of reply)) }
 {
     match explained {

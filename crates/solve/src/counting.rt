@@ -1,16 +1,18 @@
-//! Refutations by counting, tried first: two sums that no search over clauses finds in any time.
+//! Refutations by counting, tried first: no search over clauses finds them in any time.
 ghost use Rattle.std.specs.Prelude.{◌≡◌, ◌≤◌, false, None, Ok, IfOk, IfSome};
 ghost use Rattle.encoding.specs.Limit.{most_terms};
 ghost use Rattle.encoding_base.specs.Encoding.{encoding_size};
+ghost use Rattle.break_counts.specs.BreakCounts.{are_few};
 ghost use Rattle.solve.specs.Solutions.{RefutesLeague};
 ghost use Rattle.venue_counts.specs.VenueCounts.{are_crowded, are_short};
 
+use break_counts::break_count;
 use league::League;
 use refutation::Log;
 use std::alloc::{AllocError, Global};
 use venue_counts::{venue_count, venue_count_low};
 
-/// The log that refutes a league whose venue counts are short, or crowded.
+/// The log that refutes a league whose venue counts are short, or crowded, or that allows its teams too few breaks.
 ///
 /// # Errors
 /// Only where memory runs out.
@@ -19,11 +21,15 @@ pub(crate) fn count_out(alloc: Global, league: &League) -> Result<Option<Log>, A
     ensures refuted { IfOk result (λ found. IfSome found (RefutesLeague league.now)) }
     ensures short { result ≡ Ok None → are_short league.now ≡ false }
     ensures crowded { result ≡ Ok None → are_crowded league.now ≡ false }
+    ensures few { result ≡ Ok None → are_few league.now ≡ false }
 {
     let _n = league.n();
     if let Some(log) = venue_count(alloc, league)? {
         return Ok(Some(log));
     }
-    let crowded = venue_count_low(alloc, league)?;
-    Ok(crowded)
+    if let Some(log) = venue_count_low(alloc, league)? {
+        return Ok(Some(log));
+    }
+    let few = break_count(alloc, league)?;
+    Ok(few)
 }

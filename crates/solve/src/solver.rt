@@ -2,6 +2,7 @@
 ghost use Rattle.std.specs.Prelude.{◌≡◌, ◌≤◌, true, Some, IfOk};
 ghost use Rattle.league.specs.Accepted.{IsAccepted};
 ghost use Rattle.league.specs.Counts.{counts_of};
+ghost use Rattle.break_counts.specs.BreakCounts.{are_few};
 ghost use Rattle.circle_method.specs.Circle.{double_games};
 ghost use Rattle.encoding_base.specs.Encoding.{encoding_size};
 ghost use Rattle.pattern_search.specs.PatternLogs.{IsPatternSpent};
@@ -30,7 +31,7 @@ use std::alloc::{AllocError, Global};
 
 /// Finds a schedule that the league accepts, or a proof that there is none.
 ///
-/// Where the venue counts of the league refute it, that is the answer. The first try starts from the schedule of the
+/// Where the venue counts or the break counts of the league refute it, that is the answer. The first try starts from the schedule of the
 /// circle method where the league accepts it. Where it doesn't, a search for patterns comes first, which learns at most
 /// as many clauses as the budget of patterns says: a log that refutes the pattern rows is the answer, and patterns that
 /// it finds are what the search over all rows decides first. Each later try searches in another random order. Each try
@@ -54,9 +55,11 @@ pub fn solve(alloc: Global, league: &League, budgets: Budgets) -> Result<Solved,
     // Where the league accepts the schedule of the circle method, the answer is a schedule.
     ensures circle { IsAccepted league.now (counts_of (double_games league.now.n)) → IfOk result HasSchedule }
 
-    // Where the venue counts of the league are short, or crowded, it is refuted whatever the budgets.
+    // Where the venue counts of the league are short, or crowded, or it allows its teams too few breaks, it is refuted
+    // whatever the budgets.
     ensures short { are_short league.now ≡ true → IfOk result IsRefuted }
     ensures crowded { are_crowded league.now ≡ true → IfOk result IsRefuted }
+    ensures few { are_few league.now ≡ true → IfOk result IsRefuted }
 {
     let _terms = check_size(league)?;
     if let Some(log) = count_out(alloc, league)? {

@@ -26,6 +26,7 @@ use Rattle.solve.proofs.FewLemmas.{round_robin-few}
 use Rattle.solve.proofs.LowerLemmas.{IsDescent-climbs, IsDescent-settles}
 use Rattle.descent.specs.Descended.{Descended}
 use Rattle.venue_counts.specs.VenueCounts.{are_crowded, are_short}
+use Rattle.break_counts.specs.BreakCounts.{are_few}
 use Rattle.solve_answer.specs.Solve.{IsFound, IsSchedule, descent_text}
 use Rattle.solve_answer.proofs.ReadingLemmas.{schedule-reads_back}
 
@@ -60,16 +61,17 @@ schedule-told league moves games objective descent answer teams schedule status 
 
 pub found-schedule : (league : Instance) (budgets : Budgets) (games : List Game) (objective : ℕ) (descent : Descended)
     (answer : Answer) → IsTeamCount league.n → solutions.IsSchedule league budgets.moves games objective descent
-    → (are_short league ≡ true → ⊥) → (are_crowded league ≡ true → ⊥) → answer.status ≡ Yes
+    → (are_short league ≡ true → ⊥) → (are_crowded league ≡ true → ⊥) → (are_few league ≡ true → ⊥) → answer.status ≡ Yes
     → answer.text
     ≡ solution_text games (Some (0, objective))
     ++ descent_text (costs.objective league (counts_of descent.first)) descent
     → IsFound league budgets (rows_of league) answer
-found-schedule league budgets games objective descent answer teams schedule not_short not_crowded status text = record {
+found-schedule league budgets games objective descent answer teams schedule not_short not_crowded enough status text = record {
   found = inl (schedule-told league budgets.moves games objective descent answer teams schedule status text);
   circle = λ accepted. status;
   short = λ is. absurd (not_short is);
   crowded = λ is. absurd (not_crowded is);
+  few = λ is. absurd (enough is);
 }
 
 pub found-refuted : (league : Instance) (budgets : Budgets) (steps : List Step) (answer : Answer)
@@ -88,14 +90,15 @@ found-refuted league budgets steps answer refutes no_circle status text reads_ba
   circle = λ accepted. absurd (no_circle accepted);
   short = λ is. status;
   crowded = λ is. status;
+  few = λ is. status;
 }
 
 pub found-spent : (league : Instance) (budgets : Budgets) (steps : List Step) (patterns : PatternFound)
     (answer : Answer) → IsSpentOn league budgets.conflicts steps → LeavesOpen league budgets.patterns patterns
     → (IsAccepted league (counts_of (double_games league.n)) → ⊥) → (are_short league ≡ true → ⊥)
-    → (are_crowded league ≡ true → ⊥) → answer.status ≡ Spent → answer.text ≡ log_text steps
+    → (are_crowded league ≡ true → ⊥) → (are_few league ≡ true → ⊥) → answer.status ≡ Spent → answer.text ≡ log_text steps
     → log_of answer.text ≡ Ok steps → IsFound league budgets (rows_of league) answer
-found-spent league budgets steps patterns answer spent leaves no_circle not_short not_crowded status text reads_back =
+found-spent league budgets steps patterns answer spent leaves no_circle not_short not_crowded enough status text reads_back =
     record {
       found = inr (inr (record {
         steps = steps;
@@ -111,6 +114,7 @@ found-spent league budgets steps patterns answer spent leaves no_circle not_shor
       circle = λ accepted. absurd (no_circle accepted);
       short = λ is. absurd (not_short is);
       crowded = λ is. absurd (not_crowded is);
+      few = λ is. absurd (enough is);
     }
 
 -- ---- the same of a reply, unless memory ran out
@@ -118,15 +122,15 @@ found-spent league budgets steps patterns answer spent leaves no_circle not_shor
 pub replied-schedule : {E : Type 0} (league : Instance) (budgets : Budgets) (games : List Game) (objective : ℕ)
     (descent : Descended) (result : Result Reply E) → IsTeamCount league.n
     → solutions.IsSchedule league budgets.moves games objective descent → (are_short league ≡ true → ⊥)
-    → (are_crowded league ≡ true → ⊥) → IfOk result (λ reply. (answer_of reply).status ≡ Yes)
+    → (are_crowded league ≡ true → ⊥) → (are_few league ≡ true → ⊥) → IfOk result (λ reply. (answer_of reply).status ≡ Yes)
     → IfOk result (λ reply. (answer_of reply).text
     ≡ solution_text games (Some (0, objective))
     ++ descent_text (costs.objective league (counts_of descent.first)) descent)
     → IfOk result (λ reply. IsFound league budgets (rows_of league) (answer_of reply))
-replied-schedule league budgets games objective descent (Ok reply) teams schedule not_short not_crowded status text =
-    found-schedule league budgets games objective descent (answer_of reply) teams schedule not_short not_crowded status
+replied-schedule league budgets games objective descent (Ok reply) teams schedule not_short not_crowded enough status text =
+    found-schedule league budgets games objective descent (answer_of reply) teams schedule not_short not_crowded enough status
     text
-replied-schedule league budgets games objective descent (Err error) teams schedule not_short not_crowded status text =
+replied-schedule league budgets games objective descent (Err error) teams schedule not_short not_crowded enough status text =
     tt
 
 pub replied-refuted : {E : Type 0} (league : Instance) (budgets : Budgets) (steps : List Step)
@@ -143,12 +147,12 @@ replied-refuted league budgets steps (Err error) refutes no_circle status text r
 pub replied-spent : {E : Type 0} (league : Instance) (budgets : Budgets) (steps : List Step) (patterns : PatternFound)
     (result : Result Reply E) → IsSpentOn league budgets.conflicts steps × LeavesOpen league budgets.patterns patterns
     → (IsAccepted league (counts_of (double_games league.n)) → ⊥) → (are_short league ≡ true → ⊥)
-    → (are_crowded league ≡ true → ⊥) → IfOk result (λ reply. (answer_of reply).status ≡ Spent)
+    → (are_crowded league ≡ true → ⊥) → (are_few league ≡ true → ⊥) → IfOk result (λ reply. (answer_of reply).status ≡ Spent)
     → IfOk result (λ reply. (answer_of reply).text ≡ log_text steps)
     → IfOk result (λ reply. log_of (answer_of reply).text ≡ Ok steps)
     → IfOk result (λ reply. IsFound league budgets (rows_of league) (answer_of reply))
-replied-spent league budgets steps patterns (Ok reply) spent no_circle not_short not_crowded status text reads_back =
-    found-spent league budgets steps patterns (answer_of reply) spent.0 spent.1 no_circle not_short not_crowded status
+replied-spent league budgets steps patterns (Ok reply) spent no_circle not_short not_crowded enough status text reads_back =
+    found-spent league budgets steps patterns (answer_of reply) spent.0 spent.1 no_circle not_short not_crowded enough status
     text reads_back
-replied-spent league budgets steps patterns (Err error) spent no_circle not_short not_crowded status text reads_back =
+replied-spent league budgets steps patterns (Err error) spent no_circle not_short not_crowded enough status text reads_back =
     tt

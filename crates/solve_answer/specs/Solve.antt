@@ -34,6 +34,7 @@ use Rattle.descent.specs.Trail.{IsClimb}
 use Rattle.pattern_search.specs.declared.found.PatternFound.{PatternFound}
 use Rattle.solve.specs.Solutions.{IsDescent, LeavesOpen, league_score}
 use Rattle.venue_counts.specs.VenueCounts.{are_crowded, are_short}
+use Rattle.break_counts.specs.BreakCounts.{are_few}
 use Rattle.season_check.specs.Excluded.{NoneAccepted}
 use Rattle.check_answer.specs.Check.{encodes}
 use Rattle.encoding.specs.Limit.{most_terms}
@@ -115,7 +116,8 @@ pub record IsBudgetSpent (league : Instance) (rows : List Row) (budgets : Budget
   pub reads_back : log_of answer.text ≡ Ok steps
 
 -- What is found of a league, over its rows and within budgets. Where the league accepts the schedule of the circle
--- method, a schedule is; where its venue counts are short, or crowded, a refutation is, whatever the budgets.
+-- method, a schedule is; where its venue counts are short, or crowded, or it allows its teams too few breaks, a refutation
+-- is, whatever the budgets.
 pub record IsFound (league : Instance) (budgets : Budgets) (rows : List Row) (answer : Answer) : Type 0 where
   pub found :
       IsSchedule league budgets.moves answer
@@ -123,6 +125,7 @@ pub record IsFound (league : Instance) (budgets : Budgets) (rows : List Row) (an
   pub circle : IsAccepted league (counts_of (double_games league.n)) → answer.status ≡ Yes
   pub short : are_short league ≡ true → answer.status ≡ Refuted
   pub crowded : are_crowded league ≡ true → answer.status ≡ Refuted
+  pub few : are_few league ≡ true → answer.status ≡ Refuted
 
 -- ---- stages
 

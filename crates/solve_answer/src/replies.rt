@@ -16,6 +16,7 @@ ghost use Rattle.refutation.specs.Texts as logs;
 ghost use Rattle.refutation.specs.Writable.{HasShortLines};
 ghost use Rattle.solve.specs.Solutions.{HasSchedule, IsRefuted, IsSolution};
 ghost use Rattle.venue_counts.specs.VenueCounts.{are_crowded, are_short};
+ghost use Rattle.break_counts.specs.BreakCounts.{are_few};
 ghost use Rattle.solve_answer.specs.Solve.{IsFound, descent_text};
 
 use crate::schedules::{first_objective, schedule_text};
@@ -73,6 +74,7 @@ pub(crate) fn found_reply(
     requires circle { IsAccepted league.now (counts_of (double_games league.now.n)) → HasSchedule solved.now }
     requires short { are_short league.now ≡ true → IsRefuted solved.now }
     requires crowded { are_crowded league.now ≡ true → IsRefuted solved.now }
+    requires few { are_few league.now ≡ true → IsRefuted solved.now }
     ensures { IfOk result (λ reply. IsFound league.now budgets (rows_of league.now) (answer_of reply)) }
 {
     let _n = league.n();

@@ -15,7 +15,8 @@ pub returns-in-Met : goal.returns-in-Met
 returns-in-Met c =
     replied-met c.args.league.now c.args.conflicts c.in-Met.schedule c.in-Met.objective c.schedule_reply.result
     (rw c.in-Met.is at c.requires.explanation) (λ short. rw c.in-Met.is at c.requires.short short)
-    (λ crowded. rw c.in-Met.is at c.requires.crowded crowded) c.schedule_reply.ensures.status
+    (λ crowded. rw c.in-Met.is at c.requires.crowded crowded)
+    (λ is. rw c.in-Met.is at c.requires.few is) c.schedule_reply.ensures.status
     c.schedule_reply.ensures.text
 
 pub returns-in-Conflict : goal.returns-in-Conflict

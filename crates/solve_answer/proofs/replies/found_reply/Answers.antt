@@ -8,6 +8,7 @@ returns-in-Schedule c =
     c.in-Schedule.descent c.schedule_reply.result c.n-n.ensures.instance.teams
     (rw c.in-Schedule.is at c.requires.solution) (λ is. rw c.in-Schedule.is at c.requires.short is)
     (λ is. rw c.in-Schedule.is at c.requires.crowded is)
+    (λ is. rw c.in-Schedule.is at c.requires.few is)
     c.schedule_reply.ensures.status c.schedule_reply.ensures.text
 
 pub returns-in-Refuted : goal.returns-in-Refuted
@@ -21,6 +22,7 @@ returns-in-Spent c =
     replied-spent c.args.league.now c.args.budgets c.in-Spent.log c.in-Spent.patterns c.log_reply-in-Spent.result
     (rw c.in-Spent.is at c.requires.solution) (λ accepted. rw c.in-Spent.is at c.requires.circle accepted)
     (λ is. rw c.in-Spent.is at c.requires.short is) (λ is. rw c.in-Spent.is at c.requires.crowded is)
+    (λ is. rw c.in-Spent.is at c.requires.few is)
     c.log_reply-in-Spent.ensures.status c.log_reply-in-Spent.ensures.text c.log_reply-in-Spent.ensures.reads_back
 
 pub schedule_reply-requires-clause-fit : goal.schedule_reply-requires-clause-fit
