@@ -14,7 +14,7 @@ usage: robin COMMAND WORDS [OPTIONS]
        robin --version
 
   validate INSTANCE SOLUTION     judge a season by the demands of its league
-  show INSTANCE SOLUTION         show a season, and by which games it misses what
+  show INSTANCE SOLUTION         show a season, and what it misses by its games
   solve INSTANCE                 find a season, or prove that there is none
   patterns INSTANCE              find home-away patterns, or refute them
   explain INSTANCE               name demands that contradict each other
