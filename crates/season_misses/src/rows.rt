@@ -27,7 +27,7 @@ fn are_same_games(games: &[Game], others: &[Game]) -> bool
 {
     let mut left = games;
     let mut right = others;
-    loop {
+    'games: loop {
         match (left, right) {
             ([], []) => return true,
             ([game, rest @ ..], [other, others @ ..]) => {
@@ -89,11 +89,10 @@ pub(crate) fn rows_of(alloc: Global, reasons: &[Reason]) -> Result<Vec<Row<'_>>,
 {
     let mut made = Vec::new(alloc);
     let mut told = 0;
-    for k in 0..reasons.len() {
+    for (k, reason) in reasons.iter().enumerate() {
         if told > 0 {
             told -= 1;
         } else {
-            let reason = &reasons[k];
             let more = more_windows(reason, &reasons[k + 1..]);
             made.push(Row { reason, more })?;
             told = more;
