@@ -518,9 +518,12 @@ SOLVE = {
     "--patterns": is_number,
     "--seed": is_number,
 }
+is_small = lambda word: is_number(word, 0, LARGEST)
+SHOW = {"--form": lambda word: word in ("text", "csv"), "--most": is_small, "--width": is_small}
 is_file = lambda word: True
 COMMANDS = {
     "validate": ([is_file, is_file], {}),
+    "show": ([is_file, is_file], SHOW),
     "check": ([is_file, is_file], {}),
     "solve": ([is_file], SOLVE),
     "patterns": ([is_file], CONFLICTS),

@@ -2,11 +2,12 @@
 _robin() {
     local word=${COMP_WORDS[COMP_CWORD]} options=
     if [ "$COMP_CWORD" -eq 1 ]; then
-        COMPREPLY=($(compgen -W "validate solve patterns explain part check prove bound resume audit rows values circle make trial --help --version" -- "$word"))
+        COMPREPLY=($(compgen -W "validate show solve patterns explain part check prove bound resume audit rows values circle make trial --help --version" -- "$word"))
         return
     fi
     case ${COMP_WORDS[1]} in
         validate) options="" ;;
+        show) options="--form --most --width" ;;
         solve) options="--conflicts --moves --patterns --seed --tries" ;;
         patterns) options="--conflicts" ;;
         explain) options="--conflicts" ;;

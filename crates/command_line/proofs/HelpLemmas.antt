@@ -23,7 +23,8 @@ name_help name =
     (none_if (bytes_eq name (codes "resume")) _
     (none_if (bytes_eq name (codes "audit")) _
     (none_if (bytes_eq name (codes "trial")) _
-    (none_if (bytes_eq name (codes "rows")) _ (no_circle (bytes_eq name (codes "circle"))))))))))
+    (none_if (bytes_eq name (codes "rows")) _
+    (none_if (bytes_eq name (codes "show")) _ (no_circle (bytes_eq name (codes "circle")))))))))))
   where
     no_circle : (b : Bool) → (let none : Option Command = None in if b then none else none) ≡ None
     no_circle true = refl

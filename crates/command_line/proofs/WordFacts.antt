@@ -8,7 +8,7 @@ use Rattle.command_line.specs.Words.{files_and_number, members_in, members_of, n
 use Rattle.command_line.specs.Words.{one_number, reading, rising, said, two_files}
 use Rattle.command_line.specs.Words.{team_count_in, teams_and_seed, tries_in, values_of, words_of, NeedsNoFile}
 use Rattle.command_line.specs.Words.Command.{Audit, Bound, Check, Circle, Explain, Make, Part, Patterns, Prove}
-use Rattle.command_line.specs.Words.Command.{Help, Resume, Rows, Solve, Trial, Validate, Values, Version}
+use Rattle.command_line.specs.Words.Command.{Help, Resume, Rows, Sheet, Show, Solve, Trial, Validate, Values, Version}
 
 -- a number: 0 itself, no leading zero, no sign, no blank, at most 2 ^ 64 - 1
 pub number_in-some : (number_in (codes "0") ≡ Some 0) × (number_in (codes "10") ≡ Some 10) × (number_in (codes "18446744073709551615") ≡ Some 18446744073709551615)
@@ -375,6 +375,20 @@ pub topics : (topic_of (codes "validate") ≡ Some topic.Validate)
     × (topic_of (codes "trial") ≡ Some topic.Trial)
     × (topic_of (codes "Trial") ≡ None)
 topics = (refl, refl, refl, refl, refl, refl, refl, refl, refl, refl, refl, refl, refl, refl)
+
+-- `show` with each option or none, before, between and behind its files
+pub show-some : (reading (codes "show" ∷ codes "a" ∷ codes "b" ∷ []) ≡ Some (Show (codes "a") (codes "b") 20 80))
+    × (reading (codes "show" ∷ codes "a" ∷ codes "--most" ∷ codes "0" ∷ codes "b" ∷ codes "--width" ∷ codes "4294967295" ∷ []) ≡ Some (Show (codes "a") (codes "b") 0 4294967295))
+    × (reading (codes "show" ∷ codes "--form" ∷ codes "text" ∷ codes "a" ∷ codes "b" ∷ []) ≡ Some (Show (codes "a") (codes "b") 20 80))
+    × (reading (codes "show" ∷ codes "a" ∷ codes "b" ∷ codes "--form" ∷ codes "csv" ∷ []) ≡ Some (Sheet (codes "a") (codes "b")))
+    × (reading (codes "show" ∷ codes "--help" ∷ []) ≡ Some (Help (Some topic.Show)))
+show-some = (refl, refl, refl, refl, refl)
+
+pub show-none : (reading (codes "show" ∷ codes "a" ∷ []) ≡ None) × (reading (codes "show" ∷ codes "a" ∷ codes "b" ∷ codes "c" ∷ []) ≡ None)
+    × (reading (codes "show" ∷ codes "a" ∷ codes "b" ∷ codes "--most" ∷ codes "4294967296" ∷ []) ≡ None)
+    × (reading (codes "show" ∷ codes "a" ∷ codes "b" ∷ codes "--form" ∷ codes "html" ∷ []) ≡ None)
+    × (reading (codes "show" ∷ codes "a" ∷ codes "b" ∷ codes "--width" ∷ []) ≡ None)
+show-none = (refl, refl, refl, refl, refl)
 
 -- `rows` with and without a bound, before the file and behind it; `values` over two files
 pub rows-some : (reading (codes "rows" ∷ codes "a" ∷ []) ≡ Some (Rows (codes "a") None))

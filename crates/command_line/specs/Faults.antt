@@ -2,12 +2,14 @@
 use Rattle.std.specs.Prelude.{◌≡◌, ℕ, List, codes, bytes_eq, Bool, true, false, ◌||◌, if◌then◌else◌}
 use Rattle.std.specs.Prelude.{Option, Some, None, is_some}
 use Rattle.command_line.specs.Topics.{topic_of}
-use Rattle.command_line.specs.Words.{budget_in, is_file_name, is_option, members_in, number_in, team_count_in, tries_in}
+use Rattle.command_line.specs.Words.{budget_in, form_in, is_file_name, is_option, members_in, number_in}
+use Rattle.command_line.specs.Words.{small_in, team_count_in, tries_in}
 use Rattle.command_line.specs.declared.topic.Topic.{Topic}
 use Rattle.command_line.specs.declared.topic.Topic.TheVariants as topic
 use Rattle.command_line.specs.declared.role.Role.{Role}
 use Rattle.command_line.specs.declared.role.Role.TheVariants.{Instance, Solution, Log, Values, Slots, Teams, Seed}
 use Rattle.command_line.specs.declared.role.Role.TheVariants.{Members, Conflicts, Moves, Tries, Patterns, Draws, Bound}
+use Rattle.command_line.specs.declared.role.Role.TheVariants.{Form, Most, Width}
 use Rattle.command_line.specs.declared.fault.WordFault.{WordFault}
 use Rattle.command_line.specs.declared.fault.WordFault.TheVariants.{NoWord, NoCommand, NotAlone, NoOption, NoValue, Twice}
 use Rattle.command_line.specs.declared.fault.WordFault.TheVariants.{Unfit, Missing, Surplus, Other}
@@ -28,6 +30,9 @@ fits Tries word = is_some (tries_in word)
 fits Patterns word = is_some (number_in word)
 fits Draws word = is_some (number_in word)
 fits Bound word = is_some (number_in word)
+fits Form word = is_some (form_in word)
+fits Most word = is_some (small_in word)
+fits Width word = is_some (small_in word)
 
 -- what the value of an option is to be, where commands have it that search, or `solve` and `trial`
 abbrev pub search_option : List ℕ → Option Role
@@ -45,6 +50,13 @@ solve_option word =
 abbrev pub row_option : List ℕ → Option Role
 row_option word = if bytes_eq word (codes "--bound") then Some Bound else None
 
+-- what the value of an option of `show` is to be
+abbrev pub show_option : List ℕ → Option Role
+show_option word =
+    if bytes_eq word (codes "--form") then Some Form
+    else (if bytes_eq word (codes "--most") then Some Most
+    else (if bytes_eq word (codes "--width") then Some Width else None))
+
 abbrev pub option_role : Topic → List ℕ → Option Role
 option_role topic.Solve word = solve_option word
 option_role topic.Trial word = solve_option word
@@ -53,6 +65,7 @@ option_role topic.Explain word = search_option word
 option_role topic.Prove word = search_option word
 option_role topic.Resume word = search_option word
 option_role topic.Rows word = row_option word
+option_role topic.Show word = show_option word
 option_role _ word = None
 
 -- the words that ask for help or for the version

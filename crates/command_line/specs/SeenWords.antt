@@ -1,13 +1,15 @@
 -- What a contract sees of a command.
 use Rattle.command_line.specs.Words.{Command, members_of}
-use Rattle.command_line.specs.Words.Command.{Validate, Check, Solve, Patterns, Explain, Part, Prove, Bound, Resume}
-use Rattle.command_line.specs.Words.Command.{Audit, Rows, Values, Circle, Make, Trial, Help, Version}
+use Rattle.command_line.specs.Words.Command.{Validate, Show, Sheet, Check, Solve, Patterns, Explain, Part, Prove}
+use Rattle.command_line.specs.Words.Command.{Bound, Resume, Audit, Rows, Values, Circle, Make, Trial, Help, Version}
 use Rattle.command_line.specs.declared.words.Words.{Words}
 use Rattle.command_line.specs.declared.words.Words.TheVariants as words
 
 -- the command without where its words lie in memory, and with the numbers of a list in place of its text
 abbrev pub command_of : Words → Command
 command_of (words.Validate instance solution) = Validate instance.now solution.now
+command_of (words.Show instance solution most width) = Show instance.now solution.now most width
+command_of (words.Sheet instance solution) = Sheet instance.now solution.now
 command_of (words.Check instance log) = Check instance.now log.now
 command_of (words.Solve instance budgets) = Solve instance.now budgets
 command_of (words.Patterns instance conflicts) = Patterns instance.now conflicts

@@ -2,7 +2,7 @@
 use Rattle.std.specs.Prelude.{ℕ, List, [], ◌∷◌, codes, bytes_eq, Option, option_map}
 use Rattle.std.specs.List.{find}
 use Rattle.command_line.specs.declared.topic.Topic.{Topic}
-use Rattle.command_line.specs.declared.topic.Topic.TheVariants.{Validate, Solve, Patterns, Explain, Part, Check}
+use Rattle.command_line.specs.declared.topic.Topic.TheVariants.{Validate, Show, Solve, Patterns, Explain, Part, Check}
 use Rattle.command_line.specs.declared.topic.Topic.TheVariants.{Prove, Bound, Resume, Audit, Rows, Values, Circle, Make}
 use Rattle.command_line.specs.declared.topic.Topic.TheVariants.{Trial}
 
@@ -10,6 +10,7 @@ use Rattle.command_line.specs.declared.topic.Topic.TheVariants.{Trial}
 abbrev pub names : List (List ℕ × Topic)
 names =
     (codes "validate", Validate)
+    ∷ (codes "show", Show)
     ∷ (codes "solve", Solve)
     ∷ (codes "patterns", Patterns)
     ∷ (codes "explain", Explain)

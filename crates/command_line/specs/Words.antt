@@ -15,6 +15,8 @@ use Rattle.command_line.specs.declared.topic.Topic.{Topic}
 -- a command with its arguments
 pub data Command : Type 0 where
   Validate : (instance solution : List ℕ) → Command
+  Show : (instance solution : List ℕ) → (most width : ℕ) → Command
+  Sheet : (instance solution : List ℕ) → Command
   Check : (instance log : List ℕ) → Command
   Solve : (instance : List ℕ) → (budgets : Budgets) → Command
   Patterns : (instance : List ℕ) → (conflicts : Option ℕ) → Command
@@ -213,6 +215,35 @@ rowing words =
     (one_file (arguments_of words))
     else None
 
+-- the names of the options of `show`
+abbrev pub show_options : List (List ℕ)
+show_options = codes "--form" ∷ codes "--most" ∷ codes "--width" ∷ []
+
+-- whether the form that a word names is that of a spreadsheet
+abbrev pub form_in : List ℕ → Option Bool
+form_in word =
+    if bytes_eq word (codes "text") then Some false else (if bytes_eq word (codes "csv") then Some true else None)
+
+-- the number below 4294967296 that a word writes
+abbrev pub small_in : List ℕ → Option ℕ
+small_in word = option_and_then (λ k. if nat_lt k (2 ^ 32) then Some k else None) (number_in word)
+
+-- `show` over two files: as a text, with how many lines of a list and how wide a page; where the words don't say it,
+-- own choices; or for a spreadsheet
+abbrev pub show_of : List ℕ × List ℕ → Bool → ℕ → ℕ → Command
+show_of files sheet most width = if sheet then Sheet files.0 files.1 else Show files.0 files.1 most width
+
+-- `show` over two files, with options before, between and behind them
+abbrev pub showing : List (List ℕ) → Option Command
+showing words =
+    if has_options show_options words
+    then option_and_then (λ files. option_and_then (λ sheet. option_and_then (λ most.
+    option_map (show_of files sheet most) (said 80 small_in (values_of (codes "--width") words)))
+    (said 20 small_in (values_of (codes "--most") words)))
+    (said false form_in (values_of (codes "--form") words)))
+    (two_files (arguments_of words))
+    else None
+
 -- `trial` with a number of teams, a seed and the options of `solve`
 abbrev pub trying : List (List ℕ) → Option Command
 trying words =
@@ -295,7 +326,8 @@ following (command ∷ words) =
     else (if bytes_eq command (codes "resume") then resuming words
     else (if bytes_eq command (codes "audit") then auditing words
     else (if bytes_eq command (codes "trial") then trying words
-    else (if bytes_eq command (codes "rows") then rowing words else plain command words)))))))
+    else (if bytes_eq command (codes "rows") then rowing words
+    else (if bytes_eq command (codes "show") then showing words else plain command words))))))))
 
 -- ---- help and the version
 
@@ -320,6 +352,8 @@ reading words = option_or (asking words) (following words)
 -- a league may have the teams of a command, where it names a number of them
 abbrev pub HasTeams : Command → Type 0
 HasTeams (Validate instance solution) = Unit {0}
+HasTeams (Show instance solution most width) = Unit {0}
+HasTeams (Sheet instance solution) = Unit {0}
 HasTeams (Check instance log) = Unit {0}
 HasTeams (Solve instance budgets) = Unit {0}
 HasTeams (Patterns instance conflicts) = Unit {0}
@@ -347,6 +381,8 @@ NeedsNoFile (Some (Trial n seed budgets)) = Unit {0}
 NeedsNoFile (Some (Help topic)) = Unit {0}
 NeedsNoFile (Some Version) = Unit {0}
 NeedsNoFile (Some (Validate instance solution)) = ⊥
+NeedsNoFile (Some (Show instance solution most width)) = ⊥
+NeedsNoFile (Some (Sheet instance solution)) = ⊥
 NeedsNoFile (Some (Check instance log)) = ⊥
 NeedsNoFile (Some (Solve instance budgets)) = ⊥
 NeedsNoFile (Some (Patterns instance conflicts)) = ⊥

@@ -4,7 +4,7 @@ ghost use Rattle.command_line.specs.Faults as faults;
 
 use crate::list::is_list;
 use crate::topic::Topic;
-use crate::words::{budget, is_name, number, team_count, tries};
+use crate::words::{budget, form, is_name, number, small, team_count, tries};
 
 /// What a word behind a command, or behind an option, is to be.
 #[derive(Clone, Copy, Debug, PartialEq, Eq)]
@@ -37,6 +37,12 @@ pub enum Role {
     Draws,
     /// The value of `--bound`.
     Bound,
+    /// The value of `--form`.
+    Form,
+    /// The value of `--most`.
+    Most,
+    /// The value of `--width`.
+    Width,
 }
 
 /// Whether a word is such.
@@ -51,6 +57,8 @@ pub(crate) fn fits(role: Role, word: &str) -> bool
         Role::Members => is_list(word),
         Role::Conflicts => budget(word).is_some(),
         Role::Tries => tries(word).is_some(),
+        Role::Form => form(word).is_some(),
+        Role::Most | Role::Width => small(word).is_some(),
     }
 }
 
@@ -62,6 +70,7 @@ pub(crate) fn option_role(command: Topic, word: &str) -> Option<Role>
         Topic::Solve | Topic::Trial => solve_option(word),
         Topic::Patterns | Topic::Explain | Topic::Prove | Topic::Resume => search_option(word),
         Topic::Rows => row_option(word),
+        Topic::Show => show_option(word),
         _ => None,
     }
 }
@@ -82,6 +91,18 @@ fn row_option(word: &str) -> Option<Role>
 {
     match word {
         "--bound" => Some(Role::Bound),
+        _ => None,
+    }
+}
+
+/// What the value of an option of `show` is to be.
+fn show_option(word: &str) -> Option<Role>
+    ensures { result ≡ faults.show_option word.now }
+{
+    match word {
+        "--form" => Some(Role::Form),
+        "--most" => Some(Role::Most),
+        "--width" => Some(Role::Width),
         _ => None,
     }
 }
@@ -111,7 +132,10 @@ pub(crate) fn role_at(command: Topic, before: usize) -> Option<Role>
         (Topic::Make | Topic::Trial, 1) => Some(Role::Seed),
         (Topic::Check | Topic::Bound, 1) => Some(Role::Log),
         (Topic::Values, 1) => Some(Role::Values),
-        (Topic::Validate | Topic::Prove | Topic::Resume | Topic::Audit, 1) => Some(Role::Solution),
+        (
+            Topic::Validate | Topic::Show | Topic::Prove | Topic::Resume | Topic::Audit,
+            1,
+        ) => Some(Role::Solution),
         (Topic::Resume | Topic::Audit, 2) => Some(Role::Slots),
         (Topic::Audit, 3) => Some(Role::Log),
         _ => None,

@@ -6,6 +6,7 @@ ghost use Rattle.command_line.specs.Topics as topics;
 #[derive(Clone, Copy, Debug, PartialEq, Eq)]
 pub enum Topic {
     Validate,
+    Show,
     Solve,
     Patterns,
     Explain,
@@ -28,6 +29,7 @@ pub fn topic_of(name: &str) -> Option<Topic>
 {
     match name {
         "validate" => Some(Topic::Validate),
+        "show" => Some(Topic::Show),
         "solve" => Some(Topic::Solve),
         "patterns" => Some(Topic::Patterns),
         "explain" => Some(Topic::Explain),
@@ -52,6 +54,7 @@ pub fn name_of(topic: Topic) -> &'static str
 {
     match topic {
         Topic::Validate => "validate",
+        Topic::Show => "show",
         Topic::Solve => "solve",
         Topic::Patterns => "patterns",
         Topic::Explain => "explain",

@@ -8,6 +8,7 @@ ghost use Rattle.command_line.specs.Words as options;
 ghost use Rattle.command_line.specs.Words.{arguments_of, asking, auditing, bound_in, budget_in, budgets_in, conflicts_in, explaining};
 ghost use Rattle.command_line.specs.Words.{following, has_options, helping, is_file_name, making, parting};
 ghost use Rattle.command_line.specs.Words.{HasTeams, number_in, patterning, plain, proving, reading, resuming, row_options, rowing, said};
+ghost use Rattle.command_line.specs.Words.{form_in, show_options, showing, small_in};
 ghost use Rattle.command_line.specs.Words.{search_options, solve_options, solving, team_count_in, tries_in, trying};
 ghost use Rattle.command_line.specs.Words.{values_of};
 ghost use Rattle.command_line.specs.Words.Command.{Circle};
@@ -27,6 +28,19 @@ use robin_io::decimal;
 pub enum Words<'a> {
     /// Judge the schedule of a solution file by the league of an instance file.
     Validate {
+        instance: &'a str,
+        solution: &'a str,
+    },
+    /// Show the schedule of a solution file as a grid on a page of so many characters, and in words what it misses: so
+    /// many constraints, and so many lines of each.
+    Show {
+        instance: &'a str,
+        solution: &'a str,
+        most: u32,
+        width: u32,
+    },
+    /// Write the schedule of a solution file for a spreadsheet.
+    Sheet {
         instance: &'a str,
         solution: &'a str,
     },
@@ -132,6 +146,12 @@ const USUAL_MOVES: u64 = 10_000;
 /// How many clauses the search for patterns may learn where the words don't say it.
 const USUAL_PATTERNS: u64 = 500;
 
+/// How many lines of a list `show` tells where the words don't say it.
+const USUAL_MOST: u32 = 20;
+
+/// How wide the page of `show` is where the words don't say it.
+const USUAL_WIDTH: u32 = 80;
+
 /// What the arguments, without the program's name, ask for: None exactly where they are no command. It takes no
 /// memory.
 pub fn read_words(words: &[String]) -> Option<Words<'_>>
@@ -223,6 +243,8 @@ fn follow<'a>(command: &str, words: &'a [String]) -> Option<Words<'a>>
         read_trial(words)
     } else if command == "rows" {
         read_rows(words)
+    } else if command == "show" {
+        read_show(words)
     } else {
         read_plain(command, words)
     }
@@ -444,6 +466,29 @@ fn read_rows(words: &[String]) -> Option<Words<'_>>
     Some(Words::Rows { instance, bound })
 }
 
+/// `show` over two files, with its options.
+fn read_show(words: &[String]) -> Option<Words<'_>>
+    ensures reading { option_map command_of result ≡ showing (map string_bytes words.now) }
+    ensures teams { IfSome result (λ command. HasTeams (command_of command)) }
+{
+    if !has_show_options(words) {
+        return None;
+    }
+    let (instance, solution) = two_files(words)?;
+    let sheet = form_said(words)?;
+    let most = small_said(words, "--most", USUAL_MOST)?;
+    let width = small_said(words, "--width", USUAL_WIDTH)?;
+    if sheet {
+        return Some(Words::Sheet { instance, solution });
+    }
+    Some(Words::Show {
+        instance,
+        solution,
+        most,
+        width,
+    })
+}
+
 /// `trial` with a number of teams and a seed, and the options of `solve`.
 fn read_trial(words: &[String]) -> Option<Words<'_>>
     ensures reading { option_map command_of result ≡ trying (map string_bytes words.now) }
@@ -539,6 +584,28 @@ fn bound_said(words: &[String]) -> Option<Option<u64>>
     match value_of(words, "--bound") {
         Standing::Never => Some(None),
         Standing::Once(word) => bound(word),
+        Standing::Often => None,
+    }
+}
+
+/// Whether the form that the words say is that of a spreadsheet.
+fn form_said(words: &[String]) -> Option<bool>
+    ensures { result ≡ said false form_in (values_of (codes "--form") (map string_bytes words.now)) }
+{
+    match value_of(words, "--form") {
+        Standing::Never => Some(false),
+        Standing::Once(word) => form(word),
+        Standing::Often => None,
+    }
+}
+
+/// The number that an option says, below 4,294,967,296, or the usual one where it doesn't stand.
+fn small_said(words: &[String], name: &str, usual: u32) -> Option<u32>
+    ensures { result ≡ said usual small_in (values_of name.now (map string_bytes words.now)) }
+{
+    match value_of(words, name) {
+        Standing::Never => Some(usual),
+        Standing::Once(word) => small(word),
         Standing::Often => None,
     }
 }
@@ -672,6 +739,26 @@ fn has_row_options(words: &[String]) -> bool
     }
 }
 
+/// Whether each option is one of `show`, and has a value.
+fn has_show_options(words: &[String]) -> bool
+    ensures { result ≡ has_options show_options (map string_bytes words.now) }
+{
+    match words {
+        [first, _, rest @ ..] if is_option(first.as_str()) => {
+            is_show_option(first.as_str()) && has_show_options(rest)
+        }
+        [first, rest @ ..] => !is_option(first.as_str()) && has_show_options(rest),
+        [] => true,
+    }
+}
+
+/// Whether a word is the name of an option of `show`.
+fn is_show_option(word: &str) -> bool
+    ensures { result ≡ list_any (λ name. bytes_eq word.now name) show_options }
+{
+    word == "--form" || word == "--most" || word == "--width"
+}
+
 /// Whether a word is the name of an option of `solve`.
 fn is_solve_option(word: &str) -> bool
     ensures { result ≡ list_any (λ name. bytes_eq word.now name) solve_options }
@@ -707,6 +794,29 @@ fn bound(word: &str) -> Option<Option<u64>>
 {
     let bound = number(word)?;
     Some(Some(bound))
+}
+
+/// Whether the form that a word names is that of a spreadsheet.
+pub(crate) fn form(word: &str) -> Option<bool>
+    ensures { result ≡ form_in word.now }
+{
+    match word {
+        "text" => Some(false),
+        "csv" => Some(true),
+        _ => None,
+    }
+}
+
+/// The number below 4,294,967,296 that a word writes.
+pub(crate) fn small(word: &str) -> Option<u32>
+    ensures { result ≡ small_in word.now }
+{
+    let k = number(word)?;
+    if k < 4_294_967_296 {
+        Some(k as u32)
+    } else {
+        None
+    }
 }
 
 /// Whether a word is a file's name: a word that begins with `-` is none.

@@ -7,7 +7,7 @@ ghost use Rattle.demand_words.specs.Demands as demands;
 ghost use Rattle.demand_words.specs.Groups.{is_of_breaks, is_of_games, is_of_pairs};
 
 use crate::label::Label;
-use crate::listed::listed;
+use crate::lists::listed;
 use crate::numbers::{bare_bounds, bounds, many};
 use crate::slots::{all_slots, each_slot, windows};
 use crate::teams::{against_teams, all_teams, each_team, name_of, two_teams};
@@ -247,7 +247,7 @@ fn apart(alloc: Global, intp: u32) -> Result<String, AllocError>
     if intp == 0 {
         return String::from_str(alloc, "no home game apart after ");
     }
-    let games = many(alloc, intp, "home game")?;
+    let games = many(alloc, u64::from(intp), "home game")?;
     format!(in alloc; "at most {games} apart after ")
 }
 
@@ -258,7 +258,7 @@ fn between(alloc: Global, min: u32) -> Result<String, AllocError>
     if min == 0 {
         return String::from_str(alloc, "any number of slots between their games");
     }
-    let slots = many(alloc, min, "slot")?;
+    let slots = many(alloc, u64::from(min), "slot")?;
     format!(in alloc; "at least {slots} between their games")
 }
 

@@ -6,10 +6,12 @@
 
 mod demands;
 mod label;
-mod listed;
+mod lists;
 mod numbers;
 mod slots;
 mod teams;
 
 pub use demands::{constraint_words, demand_words};
 pub use label::Label;
+pub use lists::listed;
+pub use numbers::many;

@@ -5,7 +5,10 @@ ghost use Rattle.demand_words.specs.Phrases as phrases;
 use std::alloc::{AllocError, Global};
 
 /// `no game`, `1 game`, `2 games`.
-pub(crate) fn many(alloc: Global, count: u32, noun: &str) -> Result<String, AllocError>
+///
+/// # Errors
+/// Only where memory runs out.
+pub fn many(alloc: Global, count: u64, noun: &str) -> Result<String, AllocError>
     ensures { IfOk result (λ text. string_bytes text ≡ phrases.many count noun.now) }
 {
     if count == 0 {
@@ -21,7 +24,7 @@ pub(crate) fn many(alloc: Global, count: u32, noun: &str) -> Result<String, Allo
 pub(crate) fn bounds(alloc: Global, low: u32, high: u32, noun: &str) -> Result<String, AllocError>
     ensures { IfOk result (λ text. string_bytes text ≡ phrases.bounds_text low high noun.now) }
 {
-    let most = many(alloc, high, noun)?;
+    let most = many(alloc, u64::from(high), noun)?;
     if high < low {
         return format!(in alloc; "at least {low} and at most {most}, which can't both be,");
     }

@@ -4,7 +4,7 @@ ghost use Rattle.std.specs.List.{flat_map};
 ghost use Rattle.demand_words.specs.Phrases as phrases;
 
 use crate::label::Label;
-use crate::listed::listed;
+use crate::lists::listed;
 use league::{SlotSet, slot_count};
 use std::alloc::{AllocError, Global};
 

@@ -5,7 +5,7 @@ ghost use Rattle.league.specs.Instance.{are_teams};
 ghost use Rattle.demand_words.specs.Phrases as phrases;
 
 use crate::label::Label;
-use crate::listed::listed;
+use crate::lists::listed;
 use league::TeamSet;
 use std::alloc::{AllocError, Global};
 

@@ -6,7 +6,7 @@ use Rattle.command_line.specs.declared.topic.Topic.{Topic}
 use Rattle.command_line.specs.declared.topic.Topic.TheVariants as topic
 use Rattle.help_answer.specs.Help.{help_text, version_answer}
 
-pub version : version_answer.text ≡ codes "robin 1.1.0\n"
+pub version : version_answer.text ≡ codes "robin 1.2.0\n"
 version = refl
 
 -- a page begins with the words of a command
@@ -14,6 +14,7 @@ abbrev IsUsage : Topic → List ℕ → Type 0
 IsUsage one name = starts_with nat_eq (help_text (Some one)) (codes "usage: robin " ++ (name ++ codes " ")) ≡ true
 
 pub pages : (IsUsage topic.Validate (codes "validate"))
+    × (IsUsage topic.Show (codes "show"))
     × (IsUsage topic.Solve (codes "solve"))
     × (IsUsage topic.Patterns (codes "patterns"))
     × (IsUsage topic.Explain (codes "explain"))
@@ -26,4 +27,4 @@ pub pages : (IsUsage topic.Validate (codes "validate"))
     × (IsUsage topic.Circle (codes "circle"))
     × (IsUsage topic.Make (codes "make"))
     × (IsUsage topic.Trial (codes "trial"))
-pages = (refl, refl, refl, refl, refl, refl, refl, refl, refl, refl, refl, refl, refl)
+pages = (refl, refl, refl, refl, refl, refl, refl, refl, refl, refl, refl, refl, refl, refl)

@@ -1,8 +1,8 @@
 -- What `--help` and `--version` answer: the pages that the code has as constants.
 use Rattle.std.specs.Prelude.{ℕ, List, Option, None, Some}
 use Rattle.command_line.specs.declared.topic.Topic.{Topic}
-use Rattle.command_line.specs.declared.topic.Topic.TheVariants.{Validate, Solve, Patterns, Explain, Part, Check}
-use Rattle.command_line.specs.declared.topic.Topic.TheVariants.{Prove, Bound, Resume, Audit, Rows, Values, Circle, Make}
+use Rattle.command_line.specs.declared.topic.Topic.TheVariants.{Validate, Show, Solve, Patterns, Explain, Part}
+use Rattle.command_line.specs.declared.topic.Topic.TheVariants.{Check, Prove, Bound, Resume, Audit, Rows, Values, Circle, Make}
 use Rattle.command_line.specs.declared.topic.Topic.TheVariants.{Trial}
 use Rattle.answers.specs.Reply.{Answer}
 use Rattle.answers.specs.declared.status.Status.TheVariants.{Yes}
@@ -12,6 +12,7 @@ use Rattle.help_answer.specs.declared.pages.TheConstants as page
 abbrev pub help_text : Option Topic → List ℕ
 help_text None = page.ALL.now
 help_text (Some Validate) = page.VALIDATE.now
+help_text (Some Show) = page.SHOW.now
 help_text (Some Solve) = page.SOLVE.now
 help_text (Some Patterns) = page.PATTERNS.now
 help_text (Some Explain) = page.EXPLAIN.now

@@ -15,6 +15,7 @@ fn page(topic: Option<Topic>) -> &'static str
     match topic {
         None => pages::ALL,
         Some(Topic::Validate) => pages::VALIDATE,
+        Some(Topic::Show) => pages::SHOW,
         Some(Topic::Solve) => pages::SOLVE,
         Some(Topic::Patterns) => pages::PATTERNS,
         Some(Topic::Explain) => pages::EXPLAIN,

@@ -1,7 +1,7 @@
 //! The text of help, a page for each command, and the version: the one table of them.
 
 /// What `--version` prints.
-pub const VERSION: &str = "robin 1.1.0\n";
+pub const VERSION: &str = "robin 1.2.0\n";
 
 /// What `--help` prints: all commands with their words, the options and the statuses.
 pub const ALL: &str = "\
@@ -14,6 +14,7 @@ usage: robin COMMAND WORDS [OPTIONS]
        robin --version
 
   validate INSTANCE SOLUTION     judge a season by the demands of its league
+  show INSTANCE SOLUTION         show a season, and what it misses by its games
   solve INSTANCE                 find a season, or prove that there is none
   patterns INSTANCE              find home-away patterns, or refute them
   explain INSTANCE               name demands that contradict each other
@@ -41,6 +42,9 @@ Options stand before, between or behind the words, each once at most:
   --patterns N       clauses of a search for patterns (500); of solve and trial
   --seed N           what random moves are drawn by (0); of solve and trial
   --bound B          seasons that cost at most B; of rows
+  --form text|csv    a text, or values for a spreadsheet (text); of show
+  --most N           lines of a list (20); of show
+  --width N          characters of a line of the grid (80); of show
 
 Status:  0  accepted, found, proved or made     1  not accepted
          2  the words are no command
@@ -55,8 +59,8 @@ Status:  0  accepted, found, proved or made     1  not accepted
 
 /// The commands by name, for who misspelt one.
 pub const NAMES: &str = "\
-commands: validate solve patterns explain part check prove bound resume audit
-          rows values circle make trial
+commands: validate show solve patterns explain part check prove bound resume
+          audit rows values circle make trial
           robin --help says what they do
 ";
 
@@ -75,6 +79,32 @@ Status:  0  the season is accepted: it is a double round robin, and meets each
          8  memory ran out
 
 Example: robin validate league.xml season.xml
+";
+
+pub const SHOW: &str = "\
+usage: robin show INSTANCE SOLUTION [OPTIONS]
+
+Shows the season of the file SOLUTION, with the names of the file INSTANCE, as a
+grid of teams by slots, and says in words what it lacks of a double round robin
+and which demands it misses: by how much, and by which games. Hard demands come
+first, then what costs more. The last lines are those of validate.
+
+Options stand before, between or behind the words, each once at most:
+  --most N         the most demands, and the most lines of each, a number from 0
+                   to 4294967295 (20)
+  --width N        the most characters of a line of the grid, where one slot has
+                   room, from 0 to 4294967295 (80)
+  --form text|csv  a text, or a line a game for a spreadsheet (text)
+
+Status:  0  the season is accepted: it is a double round robin, and meets each
+            hard demand
+         1  it isn't accepted
+         3  a file is refused
+         6  a file can't be read
+         7  the text can't be written
+         8  memory ran out
+
+Example: robin show league.xml season.xml --most 5
 ";
 
 pub const SOLVE: &str = "\

@@ -8,12 +8,14 @@ use Rattle.robin_run.proofs.MadeLemmas.{helps, makes, tells-version, tries, writ
 use Rattle.robin_run.proofs.PatternLemmas.{finds-patterns}
 use Rattle.robin_run.proofs.ResumeLemmas.{audits, resumes}
 use Rattle.robin_run.proofs.RowLemmas.{judges-values, writes-rows}
+use Rattle.robin_run.proofs.ShowLemmas.{shows}
 use Rattle.robin_run.proofs.SolveLemmas.{solves}
 use Rattle.robin_run.proofs.ValidateLemmas.{validates}
 
 pub keeps-promises : (run : Run) → Answered run → KeepsPromises run
 keeps-promises run answered = record {
   validate = validates run answered;
+  show = shows run answered;
   check = checks run answered;
   solve = solves run answered;
   patterns = finds-patterns run answered;

@@ -15,7 +15,7 @@ use Rattle.robinx_read.specs.declared.instance.TheConstants.{INSTANCE_LIMIT, SOL
 use Rattle.budgets.specs.declared.budgets.Budgets.{Budgets}
 use Rattle.command_line.specs.Words.{Command}
 use Rattle.command_line.specs.Words.Command.{Audit, Bound, Check, Circle, Explain, Make, Part, Patterns, Prove, Resume}
-use Rattle.command_line.specs.Words.Command.{Help, Rows, Solve, Trial, Validate, Values, Version}
+use Rattle.command_line.specs.Words.Command.{Help, Rows, Sheet, Show, Solve, Trial, Validate, Values, Version}
 use Rattle.answers.specs.Reply.{Answer}
 use Rattle.answers.specs.Stages.{IsWritten, Outcome, says, takes}
 use Rattle.answers.specs.declared.status.Status.{Status}
@@ -31,6 +31,12 @@ use Rattle.refutation.specs.declared.verdict.Verdict.TheVariants.{Accepted, Reje
 use Rattle.certificates.specs.Certificates.{certificate_of}
 use Rattle.certificates.specs.declared.certificate.Certificate.{Certificate}
 use Rattle.validate_answer.specs.Validate.{IsJudgement, validated}
+use Rattle.robinx_names.specs.Names.{Names}
+use Rattle.names_read.specs.NamesFile.{names_of}
+use Rattle.show_answer.specs.Show as showing
+use Rattle.show_answer.specs.Show.{form_text}
+use Rattle.show_answer.specs.declared.form.Form.{Form}
+use Rattle.show_answer.specs.declared.form.Form.TheVariants.{Text, Csv}
 use Rattle.check_answer.specs.Check.{IsVerdict, checked, encodes, most_log_bytes, says_log, verdict_answer}
 use Rattle.patterns_answer.specs.Patterns.{AreFound, patterned}
 use Rattle.solve_answer.specs.Solve.{IsFound, solved}
@@ -134,6 +140,28 @@ validated-ends Ends file fault ends_yes ends_no store instance solution answer g
     (λ first league at_league. games-ends Ends file fault league.n (store.contents solution)
     (store.took_more (length first + SOLUTION_LIMIT)) (store.failed solution) (λ second. IsJudgement league) answer
     (λ second games judgement. judgement-ends Ends ends_yes ends_no league games answer judgement) at_league) given
+
+-- ---- `show`
+
+shown-ends : (Ends : Status → Type 0) → Ends File → Ends ReadFault → Ends Yes → Ends No → (store : Store)
+    (instance solution : List ℕ) (form : Form) (answer : Answer) → showing.shown store instance solution form answer
+    → Ends answer.status
+shown-ends Ends file fault ends_yes ends_no store instance solution form answer given =
+    league-ends Ends file fault (store.contents instance) (store.took_more INSTANCE_LIMIT) (store.failed instance)
+    (λ first league. says (codes "instance") (names_of league.n (pieces first)) (read_next first league)) answer
+    (λ first league at_league. said-ends Ends file (codes "instance") (names_of league.n (pieces first))
+    (read_next first league) answer (λ names at_names. games-ends Ends file fault league.n (store.contents solution)
+    (store.took_more (length first + SOLUTION_LIMIT)) (store.failed solution)
+    (λ second. showing.IsShown league (form_text form league names)) answer
+    (λ second games shown. ends-with Ends answer _ shown.status (feasible-ends Ends ends_yes ends_no shown.feasible))
+    at_names) at_league) given
+  where
+    abbrev read_next : List ℕ → Instance → Names → Outcome
+    read_next first league names =
+        takes (codes "solution") (store.contents solution) SOLUTION_LIMIT
+        (store.took_more (length first + SOLUTION_LIMIT)) (store.failed solution)
+        (λ second. says (codes "solution") (solution_of league.n (pieces second))
+        (showing.IsShown league (form_text form league names)))
 
 -- ---- `check`, and logs
 
@@ -471,6 +499,12 @@ answer-ends None store answer given = ends-as (EndsBy None) answer _ given refl
 answer-ends (Some (Validate instance solution)) store answer given =
     validated-ends (EndsBy (Some (Validate instance solution))) refl refl refl refl store instance
     solution answer given
+answer-ends (Some (Show instance solution most width)) store answer given =
+    shown-ends (EndsBy (Some (Show instance solution most width))) refl refl refl refl store instance
+    solution (Text most width) answer given
+answer-ends (Some (Sheet instance solution)) store answer given =
+    shown-ends (EndsBy (Some (Sheet instance solution))) refl refl refl refl store instance
+    solution Csv answer given
 answer-ends (Some (Check instance log)) store answer given =
     checked-ends (EndsBy (Some (Check instance log))) refl refl refl refl store instance log answer
     given
@@ -524,6 +558,8 @@ ends-by-words run answered memory whole =
 no_memory : (words : Option Command) → may_end words Memory ≡ false
 no_memory None = refl
 no_memory (Some (Validate instance solution)) = refl
+no_memory (Some (Show instance solution most width)) = refl
+no_memory (Some (Sheet instance solution)) = refl
 no_memory (Some (Check instance log)) = refl
 no_memory (Some (Solve instance budgets)) = refl
 no_memory (Some (Patterns instance conflicts)) = refl

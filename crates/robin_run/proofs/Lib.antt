@@ -1,6 +1,7 @@
 -- Lemmas on runs of each command, and on how they end:
 mod RunLemmas
 mod ValidateLemmas
+mod ShowLemmas
 mod CheckLemmas
 mod SolveLemmas
 mod PatternLemmas

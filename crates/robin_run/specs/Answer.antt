@@ -7,8 +7,8 @@ use Rattle.bound_answer.specs.Bound.{bounded}
 use Rattle.check_answer.specs.Check.{checked}
 use Rattle.circle_answer.specs.Circle.{circle_season}
 use Rattle.command_line.specs.Words.{Command}
-use Rattle.command_line.specs.Words.Command.{Validate, Check, Solve, Patterns, Explain, Part, Prove, Bound, Resume}
-use Rattle.command_line.specs.Words.Command.{Audit, Rows, Values, Circle, Make, Trial, Help, Version}
+use Rattle.command_line.specs.Words.Command.{Validate, Show, Sheet, Check, Solve, Patterns, Explain, Part, Prove}
+use Rattle.command_line.specs.Words.Command.{Bound, Resume, Audit, Rows, Values, Circle, Make, Trial, Help, Version}
 use Rattle.explain_answer.specs.Explained.{explained}
 use Rattle.explain_answer.specs.Parted.{parted}
 use Rattle.help_answer.specs.Help.{help_answer, version_answer}
@@ -18,6 +18,8 @@ use Rattle.prove_answer.specs.Prove.{proved}
 use Rattle.resume_answer.specs.Audited.{audited}
 use Rattle.resume_answer.specs.Resumed.{resumed}
 use Rattle.rows_answer.specs.Rowed.{rowed}
+use Rattle.show_answer.specs.Show.{shown}
+use Rattle.show_answer.specs.declared.form.Form.TheVariants.{Text, Csv}
 use Rattle.solve_answer.specs.Solve.{solved}
 use Rattle.trial_answer.specs.Trial.{tried}
 use Rattle.validate_answer.specs.Validate.{validated}
@@ -27,6 +29,9 @@ use Rattle.values_answer.specs.Valued.{valued}
 abbrev pub IsAnswer : Option Command → Store → Outcome
 IsAnswer None store answer = answer ≡ refused_words
 IsAnswer (Some (Validate instance solution)) store answer = validated store instance solution answer
+IsAnswer (Some (Show instance solution most width)) store answer =
+    shown store instance solution (Text most width) answer
+IsAnswer (Some (Sheet instance solution)) store answer = shown store instance solution Csv answer
 IsAnswer (Some (Check instance log)) store answer = checked store instance log answer
 IsAnswer (Some (Solve instance budgets)) store answer = solved store instance budgets answer
 IsAnswer (Some (Patterns instance conflicts)) store answer = patterned store instance conflicts answer

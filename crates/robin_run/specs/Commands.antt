@@ -12,6 +12,7 @@ use Rattle.robin_run.specs.Prove.{Proves}
 use Rattle.robin_run.specs.Resume.{Resumes}
 use Rattle.robin_run.specs.Rows.{WritesRows}
 use Rattle.robin_run.specs.Run.{Run}
+use Rattle.robin_run.specs.Show.{Shows}
 use Rattle.robin_run.specs.Solve.{Solves}
 use Rattle.robin_run.specs.Trial.{Tries}
 use Rattle.robin_run.specs.Validate.{Validates}
@@ -19,6 +20,7 @@ use Rattle.robin_run.specs.Values.{JudgesValues}
 
 pub record KeepsPromises (run : Run) : Type 0 where
   pub validate : Validates run
+  pub show : Shows run
   pub check : Checks run
   pub solve : Solves run
   pub patterns : FindsPatterns run

@@ -8,6 +8,7 @@ pub mod Said
 -- What each command promises, and what its answers mean:
 pub mod Commands
 pub mod Validate
+pub mod Show
 pub mod Check
 pub mod Solve
 pub mod Patterns

@@ -29,6 +29,7 @@ use prove_answer::prove_file;
 use resume_answer::{audit_file, resume_file};
 use robin_io::{Shelf, Sink, put_all};
 use rows_answer::{ReadyRows, rows_file, write_rows};
+use show_answer::{Form, show};
 use solve_answer::solve_file;
 use std::alloc::Global;
 use trial_answer::trial;
@@ -74,6 +75,15 @@ fn follow<S: Shelf>(alloc: Global, command: Words, shelf: &mut S) -> Result<Give
 {
     match command {
         Words::Validate { instance, solution } => give(validate(alloc, shelf, instance, solution)),
+        Words::Show {
+            instance,
+            solution,
+            most,
+            width,
+        } => give(show(alloc, shelf, instance, solution, Form::Text { most, width })),
+        Words::Sheet { instance, solution } => {
+            give(show(alloc, shelf, instance, solution, Form::Csv))
+        }
         Words::Check { instance, log } => give(check(alloc, shelf, instance, log)),
         Words::Solve { instance, budgets } => give(solve_file(alloc, shelf, instance, budgets)),
         Words::Patterns {

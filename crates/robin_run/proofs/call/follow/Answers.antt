@@ -8,6 +8,8 @@ use Rattle.patterns_answer.specs.Patterns.{patterned}
 use Rattle.prove_answer.specs.Prove.{proved}
 use Rattle.resume_answer.specs.Audited.{audited}
 use Rattle.resume_answer.specs.Resumed.{resumed}
+use Rattle.show_answer.specs.Show.{shown}
+use Rattle.show_answer.specs.declared.form.Form.TheVariants.{Text, Csv}
 use Rattle.solve_answer.specs.Solve.{solved}
 use Rattle.trial_answer.specs.Trial.{tried}
 use Rattle.validate_answer.specs.Validate.{validated}
@@ -21,6 +23,20 @@ returns-in-Validate-clause-answer g c =
     (given-gives
     (validated (store_between g.S.Shelf c.args.shelf.now c.validate.new.shelf) c.in-Validate.instance.now c.in-Validate.solution.now)
     _ _ c.give.ensures c.validate.ensures.answer)
+
+pub returns-in-Show-clause-answer : goal.returns-in-Show-clause-answer
+returns-in-Show-clause-answer g c =
+    rw c.in-Show.is
+    (given-gives
+    (shown (store_between g.S.Shelf c.args.shelf.now c.show.new.shelf) c.in-Show.instance.now c.in-Show.solution.now (Text c.in-Show.most c.in-Show.width))
+    _ _ c.give-in-Show.ensures c.show.ensures.answer)
+
+pub returns-in-Sheet-clause-answer : goal.returns-in-Sheet-clause-answer
+returns-in-Sheet-clause-answer g c =
+    rw c.in-Sheet.is
+    (given-gives
+    (shown (store_between g.S.Shelf c.args.shelf.now c.show-in-Sheet.new.shelf) c.in-Sheet.instance.now c.in-Sheet.solution.now Csv)
+    _ _ c.give-in-Sheet.ensures c.show-in-Sheet.ensures.answer)
 
 pub returns-in-Check-clause-answer : goal.returns-in-Check-clause-answer
 returns-in-Check-clause-answer g c =

@@ -5,8 +5,11 @@ ghost use Rattle.demand_words.specs.Phrases as phrases;
 use crate::label::Label;
 use std::alloc::{AllocError, Global};
 
-/// The items in a row, with a word before the last.
-pub(crate) fn listed(alloc: Global, word: &str, items: &[Label]) -> Result<String, AllocError>
+/// The items in a row, with a word before the last: `A, B and C`.
+///
+/// # Errors
+/// Only where memory runs out.
+pub fn listed(alloc: Global, word: &str, items: &[Label]) -> Result<String, AllocError>
     ensures { IfOk result (λ text. string_bytes text ≡ phrases.listed word.now items.now) }
 {
     let mut text = String::new(alloc);

@@ -1,6 +1,6 @@
 use Rattle.std.proofs.Common.{◌≡◌, ◌++◌, length, string_bytes}
 use Rattle.demand_words.specs.Phrases as phrases
-use Rattle.demand_words.proofs.listed.listed.Given as goal
+use Rattle.demand_words.proofs.lists.listed.Given as goal
 
 -- the text so far, with the items that are left
 abbrev pub invariant-loop-rest : goal.invariant-loop-rest

@@ -1,0 +1,36 @@
+-- What `show` promises: the season of one file is shown with the names that the other gives its league, and judged by it.
+use Rattle.std.specs.Prelude.{◌≡◌, ℕ, List, [], ◌∷◌, Ok, Some}
+use Rattle.robinx_tags.specs.Pieces.{pieces}
+use Rattle.league.specs.Instance.{Instance}
+use Rattle.league.specs.declared.game.Game.{Game}
+use Rattle.robinx_names.specs.Names.{Names}
+use Rattle.names_read.specs.NamesFile.{names_of}
+use Rattle.command_line.specs.Words.{Command}
+use Rattle.answers.specs.Reply.{Answer}
+use Rattle.validate_answer.specs.Validate.{IsWellFormedPair}
+use Rattle.show_answer.specs.Show.{IsShown, form_text}
+use Rattle.show_answer.specs.declared.form.Form.{Form}
+use Rattle.show_answer.specs.declared.form.Form.TheVariants.{Text, Csv}
+use Rattle.robin_run.specs.Run.{NothingFails, Run, Writes}
+
+-- an answer that shows these games of a league in a form, with the names that the bytes of an instance file give
+pub record IsShownNamed (league : Instance) (file : List ℕ) (form : Form) (games : List Game) (answer : Answer)
+    : Type 0 where
+  pub names : Names
+  pub are_names : names_of league.n (pieces file) ≡ Ok names
+  pub shown : IsShown league (form_text form league names) games answer
+
+pub record Promise (run : Run) (instance solution : List ℕ) (form : Form) : Type 0 where
+  -- Two well-formed files are shown, where nothing fails.
+  pub shown : (league : Instance) (games : List Game)
+      → (files : IsWellFormedPair run.store instance solution league games)
+      → NothingFails run (instance ∷ solution ∷ [])
+      → Writes run (IsShownNamed league files.first form games)
+
+-- each run of `show` keeps it, as a text or for a spreadsheet
+pub record Shows (run : Run) : Type 0 where
+  pub text : (instance solution : List ℕ) (most width : ℕ)
+      → run.command ≡ Some (Command.Show instance solution most width)
+      → Promise run instance solution (Text most width)
+  pub sheet : (instance solution : List ℕ) → run.command ≡ Some (Command.Sheet instance solution)
+      → Promise run instance solution Csv

@@ -1,0 +1,2 @@
+-- The rows of reasons:
+mod RowLemmas

@@ -1,0 +1,9 @@
+use Rattle.std.proofs.Common.{◌≡◌, ◌++◌, take}
+use Rattle.season_misses.specs.Lacks.{lacks_at}
+use Rattle.season_misses.proofs.structure.push_teams.Given as goal
+
+-- the lines of the teams so far
+abbrev pub invariant-loop-i : goal.invariant-loop-i
+invariant-loop-i l =
+    l.lines.items
+    ≡ l.fn.lines.items ++ lacks_at l.lack l.season.n l.season.names.now l.season.games.now (take l.i-index l.firsts) l.seconds

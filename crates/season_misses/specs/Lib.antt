@@ -1,0 +1,17 @@
+-- What a reader of a claim must believe:
+--
+-- Read in this order. Games and numbers in words:
+pub mod Games
+pub mod Amounts
+-- Which reasons are one line, and the line of each class:
+pub mod Rows
+pub mod Lines
+-- The constraints that are missed, in order, with their lines:
+pub mod Misses
+-- What a season lacks of a double round robin:
+pub mod Lacks
+-- Kept inside (how fields are seen):
+--
+-- A row without where its reason lies in memory, and what is kept of a season:
+pub mod SeenRow
+pub mod SeenTold

@@ -1,0 +1,15 @@
+-- What holds of a season that is told: it is one of its league, with the names of all teams.
+use Rattle.std.specs.Prelude.{◌≡◌, length}
+use Rattle.std.specs.List.{All}
+use Rattle.league.specs.Counts.{counts_of}
+use Rattle.league.specs.Instance.{IsGame}
+use Rattle.league.specs.Order.{IsInOrder}
+use Rattle.cells.specs.Table.{table_counts}
+use Rattle.season_misses.specs.declared.told.Told.{Told}
+
+pub record IsTold (told : Told) : Type 0 where
+  pub names : length told.names.now ≡ told.league.now.n
+  pub fit : All (IsGame told.league.now.n) told.games.now
+  pub in_order : IsInOrder told.games.now
+  pub teams : told.cells.now.n ≡ told.league.now.n
+  pub counted : table_counts told.cells.now ≡ counts_of told.games.now

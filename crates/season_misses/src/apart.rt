@@ -1,0 +1,131 @@
+//! The lines of FA2 and SE1.
+ghost use Rattle.std.specs.Prelude.{◌≡◌, map, decimal, IfOk, string_bytes};
+ghost use Rattle.season_misses.specs.Lines as lines;
+
+use crate::amounts::count_text;
+use crate::games::games_text;
+use demand_words::{Label, listed, many};
+use league::Game;
+use reasons::Cause;
+use std::alloc::{AllocError, Global};
+
+/// The slots of games, each as a text.
+fn slot_labels(alloc: Global, games: &[Game]) -> Result<Vec<Label>, AllocError>
+    ensures { IfOk result (λ labels. labels.items ≡ map (λ g. decimal g.slot.0) games.now) }
+{
+    let mut labels = Vec::new(alloc);
+    for game in games {
+        let slot = game.slot.0;
+        labels.push(Label::new(format!(in alloc; "{slot}")?))?;
+    }
+    Ok(labels)
+}
+
+/// The slots of games in a row.
+fn slots_of_games(alloc: Global, games: &[Game]) -> Result<String, AllocError>
+    ensures { IfOk result (λ text. string_bytes text ≡ lines.slots_of_games games.now) }
+{
+    let labels = slot_labels(alloc, games)?;
+    listed(alloc, "and", &labels)
+}
+
+/// Where a team played at home too, if it did.
+fn played_too(alloc: Global, who: &str, games: &[Game]) -> Result<String, AllocError>
+    ensures { IfOk result (λ text. string_bytes text ≡ lines.played_too who.now games.now) }
+{
+    if games.is_empty() {
+        return Ok(String::new(alloc));
+    }
+    let slots = slots_of_games(alloc, games)?;
+    format!(in alloc; "; {who} in {slots}")
+}
+
+/// A team with its home games.
+#[derive(Clone, Copy)]
+struct AtHome<'a> {
+    who: &'a str,
+    games: &'a [Game],
+}
+
+/// Two teams too far apart after a slot, the one with more home games first.
+fn apart_line(
+    alloc: Global,
+    intp: u32,
+    slot: u16,
+    more: AtHome<'_>,
+    fewer: AtHome<'_>,
+) -> Result<String, AllocError>
+    ensures { IfOk result (λ text. string_bytes text ≡ lines.apart_line intp slot more.entry.who.now
+        more.entry.games.now fewer.entry.who.now fewer.entry.games.now) }
+{
+    let who = more.who;
+    let other = fewer.who;
+    let apart = (more.games.len() as u64).saturating_sub(fewer.games.len() as u64);
+    let much = apart.saturating_sub(u64::from(intp));
+    let games = many(alloc, more.games.len() as u64, "home game")?;
+    let count = count_text(alloc, fewer.games.len() as u64)?;
+    let slots = slots_of_games(alloc, more.games)?;
+    let too = played_too(alloc, other, fewer.games)?;
+    format!(
+        in alloc;
+        "after slot {slot} {who} has {games} and {other} {count}, {apart} apart, {much} too many: {who} in {slots}{too}"
+    )
+}
+
+/// The line of an FA2.
+pub(crate) fn lead_text(
+    alloc: Global,
+    intp: u32,
+    who: &str,
+    other: &str,
+    cause: &Cause,
+) -> Result<String, AllocError>
+    ensures { IfOk result (λ text. string_bytes text ≡ lines.lead_text intp who.now other.now cause.now) }
+{
+    match cause {
+        Cause::Lead {
+            slot,
+            first,
+            second,
+        } => {
+            let games = first.games();
+            let one = AtHome { who, games };
+            let games = second.games();
+            let two = AtHome { who: other, games };
+            if two.games.len() < one.games.len() {
+                apart_line(alloc, intp, slot.0, one, two)
+            } else {
+                apart_line(alloc, intp, slot.0, two, one)
+            }
+        }
+        _ => Ok(String::new(alloc)),
+    }
+}
+
+/// The line of an SE1: two teams that meet again too soon.
+pub(crate) fn gap_text(
+    alloc: Global,
+    names: &[Label],
+    min: u32,
+    who: &str,
+    other: &str,
+    cause: &Cause,
+) -> Result<String, AllocError>
+    ensures { IfOk result (λ text. string_bytes text ≡ lines.gap_text names.now min who.now other.now cause.now) }
+{
+    match cause {
+        Cause::Gap { earlier, later } => {
+            let first = earlier.slot.0;
+            let second = later.slot.0;
+            let between = second.saturating_sub(first).saturating_sub(1);
+            let few = min.saturating_sub(u32::from(between));
+            let slots = many(alloc, u64::from(between), "slot")?;
+            let list = games_text(alloc, names, &[*earlier, *later])?;
+            format!(
+                in alloc;
+                "{who} and {other} meet in slots {first} and {second}, {slots} between, {few} too few: {list}"
+            )
+        }
+        _ => Ok(String::new(alloc)),
+    }
+}

@@ -1,0 +1,13 @@
+//! What `show` answers: a season as a grid, with what it lacks and misses in words, or as comma-separated values.
+//!
+//! A contract sees the answer by the stages of `specs/Show.antt`, and the text by the definitions of `season_grid`,
+//! `season_misses` and `season_csv`.
+#![tactic(auto)]
+
+mod form;
+mod judged;
+mod stages;
+mod texts;
+
+pub use form::Form;
+pub use stages::show;
