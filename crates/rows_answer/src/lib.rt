@@ -4,6 +4,7 @@
 //! is made.
 #![tactic(auto)]
 
+mod prices;
 mod stages;
 mod written;
 
