@@ -1,2 +1,4 @@
 -- Rows that were written are those that were to be:
 pub mod RowsLemmas
+-- The objective row is found:
+pub mod PriceLemmas
