@@ -2,3 +2,5 @@
 pub mod RowsLemmas
 -- The objective row is found:
 pub mod PriceLemmas
+-- The least sum is the least objective:
+pub mod LeastLaws

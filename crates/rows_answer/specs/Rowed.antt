@@ -1,5 +1,5 @@
 -- What `rows` answers: the rows of a league as a text in OPB.
-use Rattle.std.specs.Prelude.{◌≡◌, ℕ, List, codes, map, Some, None}
+use Rattle.std.specs.Prelude.{◌≡◌, ℕ, List, codes, map, Option, Some, None, Ok}
 use Rattle.robin_io.specs.Outside.{Store}
 use Rattle.league.specs.Instance.{Instance}
 use Rattle.robinx_tags.specs.Pieces.{pieces}
@@ -70,3 +70,9 @@ rowed store instance goal = do
   bytes ← reads store (codes "instance") instance INSTANCE_LIMIT 0
   league ← says (codes "instance") (instance_of (pieces bytes))
   league_rows goal league
+
+-- these rows are those that ask for a season of the league that a file's contents say, where they are known
+abbrev pub AreRowsOf : Option (List ℕ) → Goal → System → Type 0
+AreRowsOf contents goal system =
+    (bytes : List ℕ) (league : Instance) → contents ≡ Some bytes → instance_of (pieces bytes) ≡ Ok league
+    → system ≡ system_of goal league

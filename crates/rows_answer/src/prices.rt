@@ -40,8 +40,9 @@ pub(crate) fn prices(alloc: Global, system: &BoundSystem) -> Result<Vec<Term>, A
     ensures prices { IfOk result (λ terms. terms.items ≡ rowed.prices system.now.league) }
     ensures coefs { IfOk result (λ terms. All (λ t. 1 ≤ t.coef) terms.items) }
 {
+    let terms = costs(system);
     let mut prices = Vec::new(alloc);
-    for term in costs(system) {
+    for term in terms {
         prices.push(Term {
             coef: term.coef,
             lit: term.lit.negate(),

@@ -1,9 +1,9 @@
 //! The stages of `rows`.
-ghost use Rattle.std.specs.Prelude.{◌≡◌, ℕ, List};
+ghost use Rattle.std.specs.Prelude.{◌≡◌, ℕ, List, IfOk};
 ghost use Rattle.robin_io.specs.Outside.{store_between};
 ghost use Rattle.answers.specs.SeenReply.{MatchStage};
 ghost use Rattle.command_line.specs.declared.goal.Goal.TheVariants.{Accepted, AtMost, Least};
-ghost use Rattle.rows_answer.specs.Rowed.{league_rows, rowed, rows_answer};
+ghost use Rattle.rows_answer.specs.Rowed.{AreRowsOf, league_rows, rowed, rows_answer, system_of};
 
 use crate::prices::prices;
 use crate::written::ReadyRows;
@@ -19,9 +19,10 @@ use std::alloc::Global;
 
 /// The rows of a league.
 fn rows_of_league(alloc: Global, league: &League) -> Result<ReadyRows, NoValue>
-    ensures { MatchStage result
+    ensures answer { MatchStage result
         (λ ready. league_rows Accepted league.now (rows_answer ready))
         (league_rows Accepted league.now) }
+    ensures rows { IfOk result (λ ready. ready ≡ system_of Accepted league.now) }
 {
     match encode(alloc, league) {
         Ok(encoding) => Ok(ReadyRows::of_league(alloc, encoding)?),
@@ -32,9 +33,10 @@ fn rows_of_league(alloc: Global, league: &League) -> Result<ReadyRows, NoValue>
 
 /// The bound rows of a league.
 fn rows_of_bound(alloc: Global, league: &League, bound: u64) -> Result<ReadyRows, NoValue>
-    ensures { MatchStage result
+    ensures answer { MatchStage result
         (λ ready. league_rows (AtMost bound) league.now (rows_answer ready))
         (league_rows (AtMost bound) league.now) }
+    ensures rows { IfOk result (λ ready. ready ≡ system_of (AtMost bound) league.now) }
 {
     let terms = few_terms(alloc, league)?;
     let system = bound_system(alloc, league, bound, terms)?;
@@ -43,9 +45,10 @@ fn rows_of_bound(alloc: Global, league: &League, bound: u64) -> Result<ReadyRows
 
 /// The bound rows of a league without a bound, with what a season costs as a sum that is to be least.
 fn rows_of_least(alloc: Global, league: &League) -> Result<ReadyRows, NoValue>
-    ensures { MatchStage result
+    ensures answer { MatchStage result
         (λ ready. league_rows Least league.now (rows_answer ready))
         (league_rows Least league.now) }
+    ensures rows { IfOk result (λ ready. ready ≡ system_of Least league.now) }
 {
     let terms = few_terms(alloc, league)?;
     let system = bound_system(alloc, league, u64::MAX, terms)?;
@@ -55,9 +58,10 @@ fn rows_of_least(alloc: Global, league: &League) -> Result<ReadyRows, NoValue>
 
 /// The rows of a league that ask for a season.
 fn rows_of(alloc: Global, league: &League, goal: Goal) -> Result<ReadyRows, NoValue>
-    ensures { MatchStage result
+    ensures answer { MatchStage result
         (λ ready. league_rows goal league.now (rows_answer ready))
         (league_rows goal league.now) }
+    ensures rows { IfOk result (λ ready. ready ≡ system_of goal league.now) }
 {
     match goal {
         Goal::Accepted => rows_of_league(alloc, league),
@@ -79,6 +83,9 @@ pub fn rows_file<S: Shelf>(
     ensures answer { let store = store_between S.Shelf shelf.old shelf.new in MatchStage result
         (λ ready. rowed store instance.now goal (rows_answer ready))
         (rowed store instance.now goal) }
+
+    // They are those of the league that the file says.
+    ensures rows { IfOk result (AreRowsOf (S.contents shelf.old instance.now) goal) }
     ensures contents { (n : List ℕ) → S.contents shelf.new n ≡ S.contents shelf.old n }
 {
     let bytes = file(alloc, shelf, "instance", instance, INSTANCE_LIMIT)?;
