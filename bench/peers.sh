@@ -1,8 +1,8 @@
 #!/usr/bin/env bash
 # bench/peers.sh PROGRAM [SECONDS [PART ..]]: robin beside the other solvers that are installed (clasp, minisat+, sat4j, z3,
-# toulbar2, cbc and glpsol), each on the same rows, written by second/opb.py, in one run. The parts are refute, find,
-# objective and leagues; where none is said, all. Each run may take so many seconds of processor time (60). A line for each
-# run: what it answered, its user seconds, and the machine's load. Needs python3; SOLVERS names the ones to be asked.
+# toulbar2, cbc and glpsol), each on the rows that `rows` writes, in one run. The parts are refute, find, objective and
+# leagues; where none is said, all. Each run may take so many seconds of processor time (60). A line for each run: what it
+# answered, its user seconds, and the machine's load. Needs python3; SOLVERS names the ones to be asked.
 here=$(cd "$(dirname "$0")" && pwd)
 program=$(realpath "$1")
 seconds=${2:-60}
@@ -33,14 +33,13 @@ limited() {
     return 0
 }
 
-# rows [--objective]: the league's rows, in the forms that the installed solvers read. Of 40 teams that wants 11 GB of
-# memory. Where they can't be written the peers aren't asked.
+# rows [--objective]: the league's rows, in the forms that the installed solvers read. Where they can't be written the
+# peers aren't asked.
 rows() {
-    local write="python3 $here/../second/opb.py league.xml $1"
     rm -f rows.opb plain.opb rows.lp
-    ! installed | grep -qE 'clasp|sat4j' || $write >rows.opb || return 1
-    ! installed | grep -qE 'minisat|z3|toulbar2' || $write --form plain >plain.opb || return 1
-    ! installed | grep -qE 'cbc|glpsol' || $write --form lp >rows.lp
+    "$program" rows league.xml $1 >rows.opb || return 1
+    ! installed | grep -qE 'minisat|z3|toulbar2' || python3 "$here/../second/plain.py" <rows.opb >plain.opb || return 1
+    ! installed | grep -qE 'cbc|glpsol' || python3 "$here/../second/plain.py" --lp <rows.opb >rows.lp
 }
 
 # ask SOLVER LIMIT: asks it about the rows; `verdict` is found, best, none, spent or gave up, and `least` the objective that it says last.
@@ -120,7 +119,7 @@ decide() {
         ask "$solver" "$seconds"
         if [ "$verdict" = found ] || [ "$verdict" = best ]; then
             answered "$solver" >said
-            python3 "$here/../second/opb.py" league.xml --season said >season.xml
+            "$program" values league.xml said >season.xml
             verdict="found $(judged season.xml)"
         fi
         say "$name $solver" "$verdict"

@@ -1,7 +1,6 @@
 #!/bin/sh
-# bench/search.sh PROGRAM [SECONDS]: refutes leagues with too few breaks, beside clasp on the same rows (written by
-# second/opb.py), in one run: conflicts or steps, and processor seconds. Needs python3 and clasp.
-here=$(cd "$(dirname "$0")" && pwd)
+# bench/search.sh PROGRAM [SECONDS]: refutes leagues with too few breaks, beside clasp on the rows that `rows` writes, in
+# one run: conflicts or steps, and processor seconds. Needs clasp.
 program=$1
 seconds=${2:-60}
 folder=$(mktemp -d) || exit 1
@@ -28,7 +27,7 @@ user() {
 for case in "4 3" "6 2" "6 6" "8 11"; do
     set -- $case
     league "$1" "$2" >"$folder/league.xml"
-    python3 "$here/../second/opb.py" "$folder/league.xml" >"$folder/rows.opb"
+    "$program" rows "$folder/league.xml" >"$folder/rows.opb"
     ours=$(user "$seconds" "$program" solve "$folder/league.xml" --conflicts all)
     steps=$(($(wc -l <"$folder/out") - 2))
     theirs=$(user "$seconds" clasp "$folder/rows.opb" --stats)

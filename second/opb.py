@@ -3,7 +3,7 @@
 python3 second/opb.py LEAGUE                 all rows of the league
 python3 second/opb.py LEAGUE --patterns      those without a game's variable
 python3 second/opb.py LEAGUE --bound B       the rows of an accepted season with an objective of at most B
-python3 second/opb.py LEAGUE --objective     the rows of an accepted season, and its objective as what is to be least
+python3 second/opb.py LEAGUE --objective     these rows without a bound, and the objective as what is to be least
 python3 second/opb.py LEAGUE --keep SEASON K the rows of an accepted season that keeps the games of the first K slots
 
 With --form plain negations are written as negative coefficients (for solvers that read the older form alone, as
@@ -56,8 +56,7 @@ def main():
     if said.bound is not None:
         count, found = rows.bound_rows(league, said.bound)
     elif said.objective:
-        count, found, priced, orders = rows.softened_rows(league)
-        found += orders
+        count, found, priced = rows.least_rows(league)
     elif said.keep:
         count, found = rows.resume_rows(league, leagues.read_season(said.keep[0]), int(said.keep[1]))
     else:

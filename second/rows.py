@@ -250,6 +250,12 @@ def with_bound(softened, bound):
     return count, [*rows, ([(penalty, -unit) for penalty, unit in priced], max(total - bound, 0)), *orders]
 
 
+def least_rows(league):
+    """The bound rows with a bound that demands nothing, and the units with their penalties, which are to cost least."""
+    softened = softened_rows(league)
+    return *with_bound(softened, sum(penalty for penalty, _ in softened[2])), softened[2]
+
+
 def unit_groups(constraint, v):
     at = constraint.at
     if constraint.name != "SE1":
@@ -291,14 +297,17 @@ def plain_opb(count, rows, priced=None):
     )
 
 
+def on_lines(terms):
+    """The terms of a sum, on lines of twenty."""
+    words = [f"{coef:+} x{variable}" for coef, variable in terms]
+    return "\n ".join(" ".join(words[at : at + 20]) for at in range(0, len(words), 20))
+
+
 def program(count, rows, priced=None):
     """The rows as an integer program in the form of CPLEX (LP)."""
-    cost = " ".join(f"+{coef} x{unit}" for coef, unit in priced or [(0, 1)])
-    lines = ["minimize", "objective: " + cost, "subject to"]
+    lines = ["minimize", "objective: " + on_lines(priced or [(0, 1)]), "subject to"]
     for number, row in enumerate(rows, 1):
         terms, degree = signed(*row)
-        words = [f"{coef:+} x{variable}" for coef, variable in terms]
-        parts = [" ".join(words[at : at + 20]) for at in range(0, len(words), 20)]
-        lines.append(f"r{number}: " + "\n ".join(parts) + f" >= {degree}")
+        lines.append(f"r{number}: {on_lines(terms)} >= {degree}")
     lines += ["binary", *(f" x{variable}" for variable in range(1, count + 1)), "end"]
     return "\n".join(lines) + "\n"

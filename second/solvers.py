@@ -1,6 +1,6 @@
 """Gives the rows that robin writes to other solvers, and what they find back to robin.
 
-python3 second/solvers.py PROGRAM [--rows PROGRAM] [--seconds N] [--rounds N] [--seed N] [LEAGUE ..]
+python3 second/solvers.py PROGRAM [--objective] [--rows PROGRAM] [--seconds N] [--rounds N] [--seed N] [LEAGUE ..]
 
 PROGRAM is robin as it was built; `--rows` is a program that takes the words `rows` and `values`, where that is another
 one. Each LEAGUE is taken by its hard constraints; without any, so many rounds draw a small one. The text of `rows` is
@@ -9,9 +9,14 @@ many seconds of processor time. What a solver finds goes back by `values`: the s
 accepts, and with one value changed the row that `values` names has to be the first that the values miss. What the
 solvers say has to agree with each other, and with `solve --conflicts all` unless that takes too long. It stops at the
 first difference.
+
+With `--objective` the leagues have soft constraints too, and the rows are those of `rows --objective`: what a solver
+proves to be least has to be the objective of the season that its values say, the same of each solver, and by `prove
+--conflicts all` the least; where it finds no season, `solve --conflicts all` has to say so too.
 """
 
 import argparse
+import io
 import os
 import random
 import re
@@ -24,6 +29,7 @@ import time
 sys.path.insert(0, os.path.dirname(os.path.abspath(__file__)))
 import compare
 import leagues
+import plain
 import rows
 
 
@@ -33,6 +39,18 @@ def limited(seconds, *words):
     command = ["bash", "-c", f'ulimit -t {seconds}; exec "$@"', "_", *map(str, words)]
     done = subprocess.run(command, stdout=subprocess.PIPE, stderr=subprocess.DEVNULL)
     return done.returncode, done.stdout.decode(), time.time() - began
+
+
+def write(name, text):
+    with open(name, "w", encoding="utf-8") as out:
+        out.write(text)
+
+
+def read(name):
+    if not os.path.exists(name):
+        return ""
+    with open(name, encoding="utf-8") as it:
+        return it.read()
 
 
 def read_rows(text):
@@ -59,30 +77,49 @@ def missed(found, values):
     return None
 
 
-def ask(solver, seconds, count, found):
-    """What a solver says of rows.opb: the lines of its values, False where there are none, None where it gave up."""
-    if solver == "clasp":
-        _, said, took = limited(seconds, "clasp", "rows.opb")
-    elif solver == "minisat+":
-        with open("plain.opb", "w", encoding="utf-8") as plain:
-            plain.write(rows.plain_opb(count, found))
-        _, said, took = limited(seconds, "minisat+", "plain.opb")
-    else:
-        with open("rows.lp", "w", encoding="utf-8") as program:
-            program.write(rows.program(count, found))
-        if os.path.exists("answer"):
-            os.remove("answer")
-        _, said, took = limited(seconds + 5, "cbc", "rows.lp", "-sec", seconds, "-solve", "-solution", "answer")
-        if re.search("infeasible", said) or re.search("infeasible", open("answer").readline() if os.path.exists("answer") else ""):
-            return False, took
-        if "Optimal solution found" not in said and "Result - Optimal" not in said:
-            return None, took
-        with open("answer", encoding="utf-8") as answer:
-            true = [int(word) for word in re.findall(r"x(\d+) +(?:1|0\.99\d*)\b", answer.read())]
-        return "v " + " ".join(f"x{v}" for v in true) + "\n", took
+def rewritten(text, as_program):
+    out = io.StringIO()
+    plain.rewrite(io.StringIO(text), out.write, as_program)
+    return out.getvalue()
+
+
+def written(text, system):
+    """The rows that robin wrote, in a file of each form that solvers read; they are to be these rows."""
+    assert text == rows.opb(*system), "the rows differ"
+    forms = {"plain.opb": (False, rows.plain_opb), "rows.lp": (True, rows.program)}
+    write("rows.opb", text)
+    for name, (as_program, second) in forms.items():
+        write(name, rewritten(text, as_program))
+        assert read(name) == second(*system), name
+
+
+def ask(solver, seconds):
+    """What a solver says of the rows: the lines of its values, False where there are none, None where it gave up; and
+    what it says that they cost, where it says that nothing costs less."""
+    if solver == "cbc":
+        return ask_cbc(seconds)
+    words = ("clasp", "rows.opb") if solver == "clasp" else ("minisat+", "-a", "plain.opb")
+    _, said, took = limited(seconds, *words)
     if re.search("^s UNSATISFIABLE", said, re.M):
-        return False, took
-    return (said if re.search("^s (SATIS|OPTIMUM)", said, re.M) else None), took
+        return False, None, took
+    costs = r"^(?:o|c Found solution:) (\d+)"
+    least = re.findall(costs, said, re.M) if re.search("^s OPTIMUM", said, re.M) else []
+    found = re.search("^s (SATIS|OPTIMUM)", said, re.M)
+    return said if found else None, int(least[-1]) if least else None, took
+
+
+def ask_cbc(seconds):
+    if os.path.exists("answer"):
+        os.remove("answer")
+    _, said, took = limited(seconds + 5, "cbc", "rows.lp", "-sec", seconds, "-solve", "-solution", "answer")
+    answer = read("answer")
+    if "infeasible" in said or "infeasible" in answer.split("\n")[0]:
+        return False, None, took
+    if "Optimal solution found" not in said and "Result - Optimal" not in said:
+        return None, None, took
+    least = round(float(re.search(r"objective value +([-\d.e+]+)", answer).group(1)))
+    true = [int(word) for word in re.findall(r"x(\d+) +(?:1|0\.99\d*)\b", answer)]
+    return "v " + " ".join(f"x{v}" for v in true) + "\n", least, took
 
 
 def true_of(said):
@@ -91,69 +128,106 @@ def true_of(said):
     return {int(word[1:]) for word in words if word.startswith("x")}
 
 
-def back(programs, said, found, rng):
-    """The values go back: a season that is accepted; and with one changed, the first row that is missed."""
+def season_of(programs, said):
+    """The values go back: the objective of the season that they say, which is to be accepted."""
     program, own = programs
-    with open("values", "w", encoding="utf-8") as values:
-        values.write(said)
+    write("values", said)
     status, season = compare.run(own, "values", "league.xml", "values")
     assert status == 0, (status, season)
-    with open("season.xml", "w", encoding="utf-8") as out:
-        out.write(season)
+    write("season.xml", season)
     status, report = compare.run(program, "validate", "league.xml", "season.xml")
     assert status == 0 and "\nfeasible yes" in report, report
+    return int(re.search("^objective (.*)$", report, re.M).group(1))
+
+
+def changed(own, said, found, rng):
+    """With one value changed, the first row that is missed has to be named."""
     true = true_of(said)
     for _ in range(3):
-        changed = rng.randint(1, rows.Numbers(leagues.read_league("league.xml")).count)
-        with open("changed", "w", encoding="utf-8") as values:
-            values.write(said + f"v {'-' if changed in true else ''}x{changed}\n")
-        row = missed(found, true ^ {changed})
+        at = rng.randint(1, rows.Numbers(leagues.read_league("league.xml")).count)
+        write("changed", said + f"v {'-' if at in true else ''}x{at}\n")
+        row = missed(found, true ^ {at})
         wanted = (1, f"missed row {row}\n") if row else (0, None)
         status, text = compare.run(own, "values", "league.xml", "changed")
-        assert status == wanted[0] and wanted[1] in (None, text), (changed, wanted, status, text)
+        assert status == wanted[0] and wanted[1] in (None, text), (at, wanted, status, text)
 
 
-def league(programs, name, solvers, seconds, rng):
-    program, own = programs
-    begun = time.time()
-    status, text = compare.run(own, "rows", "league.xml")
+def robin_rows(own, *words):
+    status, text = compare.run(own, "rows", "league.xml", *words)
     assert status == 0, text
-    took = time.time() - begun
-    read = leagues.read_league("league.xml")
-    count, found = rows.league_rows(read)
-    assert text == rows.opb(count, found), "the rows differ"
+    return text
+
+
+def hard(programs, solvers, seconds, rng):
+    """A league of hard constraints: what robin and each solver say, in words, and whether there is a season."""
+    program, own = programs
+    read_league = leagues.read_league("league.xml")
+    text = robin_rows(own)
+    count, found = rows.league_rows(read_league)
+    written(text, (count, found))
     assert read_rows(text) == (count, found)
     bound = rng.randint(0, 5)
-    assert compare.run(own, "rows", "league.xml", "--bound", bound)[1] == rows.opb(*rows.bound_rows(read, bound))
-    with open("rows.opb", "w", encoding="utf-8") as out:
-        out.write(text)
-    said = {}
+    assert robin_rows(own, "--bound", bound) == rows.opb(*rows.bound_rows(read_league, bound))
     status, _, solved = limited(seconds, program, "solve", "league.xml", "--conflicts", "all")
-    said["robin"] = {0: True, 4: False}.get(status)
+    said = {"robin": {0: True, 4: False}.get(status)}
     words = [f"robin {said['robin']} {solved:.1f}s"]
     for solver in solvers:
-        values, spent = ask(solver, seconds, count, found)
+        values, _, spent = ask(solver, seconds)
         said[solver] = None if values is None else values is not False
         words.append(f"{solver} {said[solver]} {spent:.1f}s")
         if values:
-            back(programs, values, found, rng)
-    answers = {answer for answer in said.values() if answer is not None}
+            season_of(programs, values)
+            changed(own, values, found, rng)
+    return said, words
+
+
+def least(programs, solvers, seconds):
+    """A league with soft constraints: the least objective by each solver, in words too, and False where no season is."""
+    program, own = programs
+    written(robin_rows(own, "--objective"), rows.least_rows(leagues.read_league("league.xml")))
+    said, words = {}, []
+    for solver in solvers:
+        values, cost, spent = ask(solver, seconds)
+        said[solver] = False if values is False else cost
+        words.append(f"{solver} {said[solver]} {spent:.1f}s")
+        if values:
+            objective = season_of(programs, values)
+            assert cost in (None, objective), (solver, cost, objective)
+            if cost is not None:
+                status, text, _ = limited(seconds, program, "prove", "league.xml", "season.xml", "--conflicts", "all")
+                assert status in (0, 5) or status < 0 or status > 128, (solver, status, text[:200])
+                said["robin"] = cost if status == 0 else None
+        elif values is False:
+            status, _, _ = limited(seconds, program, "solve", "league.xml", "--conflicts", "all")
+            said["robin"] = {0: True, 4: False}.get(status)
+    words.append(f"robin {said.get('robin')}")
+    return said, words
+
+
+def league(programs, name, solvers, seconds, rng, objective):
+    said, words = least(programs, solvers, seconds) if objective else hard(programs, solvers, seconds, rng)
+    answers = {(type(answer), answer) for answer in said.values() if answer is not None}
     assert len(answers) <= 1, said
-    print(f"{name}: {len(text)} bytes in {took:.2f}s; " + ", ".join(words), flush=True)
-    return answers
+    print(f"{name}: {os.path.getsize('rows.opb')} bytes; " + ", ".join(words), flush=True)
+    return next(iter(answers))[1] if answers else None
 
 
-def drawn(rng):
-    """A small league with a few hard constraints."""
+def drawn(rng, objective):
+    """A small league with a few constraints, hard ones alone or soft ones too."""
     n = rng.choice([2, 4, 4, 4, 6])
     classes = [compare.drawn_class(rng, n) for _ in range(rng.randint(1, 4))]
-    return compare.league_text(n, rng.random() < 0.5, [(name, {**at, "type": "HARD"}) for name, at in classes])
+    if objective:
+        classes += [compare.drawn_class(rng, n) for _ in range(2)]
+    types = [rng.choice(["HARD", "SOFT", "SOFT"]) if objective else "HARD" for _ in classes]
+    priced = [(name, {**at, "type": kind, "penalty": rng.randint(0, 12)}) for (name, at), kind in zip(classes, types)]
+    return compare.league_text(n, rng.random() < 0.5, priced)
 
 
 def main():
     words = argparse.ArgumentParser(description=__doc__, formatter_class=argparse.RawDescriptionHelpFormatter)
     words.add_argument("program")
     words.add_argument("leagues", nargs="*")
+    words.add_argument("--objective", action="store_true")
     words.add_argument("--rows")
     words.add_argument("--seconds", type=int, default=60)
     words.add_argument("--rounds", type=int, default=50)
@@ -167,12 +241,13 @@ def main():
         os.chdir(folder)
         found = []
         for name in files or range(said.rounds):
-            text = drawn(rng) if not files else open(name, encoding="utf-8").read()
-            hard = [line for line in text.splitlines(keepends=True) if 'type="SOFT"' not in line] if files else [text]
-            with open("league.xml", "w", encoding="utf-8") as out:
-                out.writelines(hard)
-            found.append(league(programs, os.path.basename(str(name)), solvers, said.seconds, rng))
-    print(f"{len(found)} leagues, {found.count({True})} with a season, {found.count({False})} with none: no difference")
+            text = read(name) if files else drawn(rng, said.objective)
+            lines = text.splitlines(keepends=True)
+            write("league.xml", "".join(it for it in lines if said.objective or not files or 'type="SOFT"' not in it))
+            short = os.path.basename(str(name))
+            found.append(league(programs, short, solvers, said.seconds, rng, said.objective))
+    none, spent = [it is False for it in found].count(True), [it is None for it in found].count(True)
+    print(f"{len(found)} leagues, {len(found) - none - spent} with a season, {none} with none: no difference")
 
 
 main()

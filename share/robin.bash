@@ -17,7 +17,7 @@ _robin() {
         bound) options="" ;;
         resume) options="--conflicts" ;;
         audit) options="" ;;
-        rows) options="--bound" ;;
+        rows) options="--bound --objective" ;;
         values) options="" ;;
         circle) options="" ;;
         make) options="" ;;

@@ -1,6 +1,6 @@
 -- What options commands have, and what words are to be, so that a wrong definition does not check.
 use Rattle.std.proofs.Common.{◌≡◌, true, false, Some, None, codes, refl}
-use Rattle.command_line.specs.Faults.{fits, is_question, option_role}
+use Rattle.command_line.specs.Faults.{fits, is_flag, is_question, option_role}
 use Rattle.command_line.specs.declared.topic.Topic.TheVariants as topic
 use Rattle.command_line.specs.declared.role.Role.TheVariants as role
 
@@ -20,6 +20,13 @@ pub fits-some : (fits role.Teams (codes "8") ≡ true)
     × (fits role.Log (codes "-a") ≡ false)
     × (fits role.Slots (codes "03") ≡ false)
 fits-some = (refl, refl, refl, refl, refl, refl, refl, refl)
+
+-- `--objective` has no value, and `rows` alone has it
+pub flags : (is_flag topic.Rows (codes "--objective") ≡ true)
+    × (is_flag topic.Rows (codes "--bound") ≡ false)
+    × (is_flag topic.Solve (codes "--objective") ≡ false)
+    × (option_role topic.Rows (codes "--objective") ≡ None)
+flags = (refl, refl, refl, refl)
 
 pub questions : (is_question (codes "--help") ≡ true)
     × (is_question (codes "--version") ≡ true)

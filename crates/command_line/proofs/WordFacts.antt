@@ -2,6 +2,7 @@
 use Rattle.std.proofs.Common.{◌≡◌, ℕ, true, false, List, [], ◌∷◌, Some, None, codes, refl}
 use Rattle.command_line.specs.Topics.{topic_of}
 use Rattle.command_line.specs.declared.topic.Topic.TheVariants as topic
+use Rattle.command_line.specs.declared.goal.Goal.TheVariants as goal
 use Rattle.budgets.specs.declared.budgets.Budgets.{Budgets}
 use Rattle.command_line.specs.Words.{arguments_of, budget_in, has_options, is_file_name, is_option, is_shortest}
 use Rattle.command_line.specs.Words.{files_and_number, members_in, members_of, number_above, number_in, one_file}
@@ -390,12 +391,25 @@ pub show-none : (reading (codes "show" ∷ codes "a" ∷ []) ≡ None) × (readi
     × (reading (codes "show" ∷ codes "a" ∷ codes "b" ∷ codes "--width" ∷ []) ≡ None)
 show-none = (refl, refl, refl, refl, refl)
 
--- `rows` with and without a bound, before the file and behind it; `values` over two files
-pub rows-some : (reading (codes "rows" ∷ codes "a" ∷ []) ≡ Some (Rows (codes "a") None))
-    × (reading (codes "rows" ∷ codes "a" ∷ codes "--bound" ∷ codes "7" ∷ []) ≡ Some (Rows (codes "a") (Some 7)))
-    × (reading (codes "rows" ∷ codes "--bound" ∷ codes "0" ∷ codes "a" ∷ []) ≡ Some (Rows (codes "a") (Some 0)))
+-- `rows` with and without one of its options, before the file and behind it; `values` over two files
+pub rows-some : (reading (codes "rows" ∷ codes "a" ∷ []) ≡ Some (Rows (codes "a") goal.Accepted))
+    × (reading (codes "rows" ∷ codes "a" ∷ codes "--bound" ∷ codes "7" ∷ []) ≡ Some (Rows (codes "a") (goal.AtMost 7)))
+    × (reading (codes "rows" ∷ codes "--bound" ∷ codes "0" ∷ codes "a" ∷ []) ≡ Some (Rows (codes "a") (goal.AtMost 0)))
+    × (reading (codes "rows" ∷ codes "a" ∷ codes "--objective" ∷ []) ≡ Some (Rows (codes "a") goal.Least))
+    × (reading (codes "rows" ∷ codes "--objective" ∷ codes "a" ∷ []) ≡ Some (Rows (codes "a") goal.Least))
     × (reading (codes "values" ∷ codes "a" ∷ codes "b" ∷ []) ≡ Some (Values (codes "a") (codes "b")))
-rows-some = (refl, refl, refl, refl)
+rows-some = (refl, refl, refl, refl, refl, refl)
+
+-- `--objective` without a file, twice, beside a bound, with a value, beside two files, and spelt otherwise
+pub rows-no_objective : (reading (codes "rows" ∷ codes "--objective" ∷ []) ≡ None)
+    × (reading (codes "rows" ∷ codes "--objective" ∷ codes "--objective" ∷ []) ≡ None)
+    × (reading (codes "rows" ∷ codes "a" ∷ codes "--objective" ∷ codes "--objective" ∷ []) ≡ None)
+    × (reading (codes "rows" ∷ codes "a" ∷ codes "--objective" ∷ codes "--bound" ∷ codes "7" ∷ []) ≡ None)
+    × (reading (codes "rows" ∷ codes "--bound" ∷ codes "7" ∷ codes "a" ∷ codes "--objective" ∷ []) ≡ None)
+    × (reading (codes "rows" ∷ codes "a" ∷ codes "--objective" ∷ codes "7" ∷ []) ≡ None)
+    × (reading (codes "rows" ∷ codes "a" ∷ codes "b" ∷ codes "--objective" ∷ []) ≡ None)
+    × (reading (codes "rows" ∷ codes "a" ∷ codes "--Objective" ∷ []) ≡ None)
+rows-no_objective = (refl, refl, refl, refl, refl, refl, refl, refl)
 
 pub rows-none : (reading (codes "rows" ∷ []) ≡ None) × (reading (codes "rows" ∷ codes "a" ∷ codes "b" ∷ []) ≡ None)
     × (reading (codes "rows" ∷ codes "a" ∷ codes "--bound" ∷ []) ≡ None)

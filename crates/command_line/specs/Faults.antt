@@ -12,7 +12,7 @@ use Rattle.command_line.specs.declared.role.Role.TheVariants.{Members, Conflicts
 use Rattle.command_line.specs.declared.role.Role.TheVariants.{Form, Most, Width}
 use Rattle.command_line.specs.declared.fault.WordFault.{WordFault}
 use Rattle.command_line.specs.declared.fault.WordFault.TheVariants.{NoWord, NoCommand, NotAlone, NoOption, NoValue, Twice}
-use Rattle.command_line.specs.declared.fault.WordFault.TheVariants.{Unfit, Missing, Surplus, Other}
+use Rattle.command_line.specs.declared.fault.WordFault.TheVariants.{Beside, Unfit, Missing, Surplus, Other}
 
 -- whether a word is what it is to be
 abbrev pub fits : Role → List ℕ → Bool
@@ -34,7 +34,7 @@ fits Form word = is_some (form_in word)
 fits Most word = is_some (small_in word)
 fits Width word = is_some (small_in word)
 
--- what the value of an option is to be, where commands have it that search, or `solve` and `trial`
+-- of the options of commands that search, and of `solve` and `trial`
 abbrev pub search_option : List ℕ → Option Role
 search_option word = if bytes_eq word (codes "--conflicts") then Some Conflicts else None
 
@@ -46,7 +46,7 @@ solve_option word =
     else (if bytes_eq word (codes "--patterns") then Some Patterns
     else (if bytes_eq word (codes "--seed") then Some Draws else None))))
 
--- what the value of an option of `rows` is to be
+-- of the option of `rows`
 abbrev pub row_option : List ℕ → Option Role
 row_option word = if bytes_eq word (codes "--bound") then Some Bound else None
 
@@ -57,6 +57,7 @@ show_option word =
     else (if bytes_eq word (codes "--most") then Some Most
     else (if bytes_eq word (codes "--width") then Some Width else None))
 
+-- what the value of an option of a command is to be, where the command has this option with a value
 abbrev pub option_role : Topic → List ℕ → Option Role
 option_role topic.Solve word = solve_option word
 option_role topic.Trial word = solve_option word
@@ -68,6 +69,11 @@ option_role topic.Rows word = row_option word
 option_role topic.Show word = show_option word
 option_role _ word = None
 
+-- whether a word is an option of a command that has no value
+abbrev pub is_flag : Topic → List ℕ → Bool
+is_flag topic.Rows word = bytes_eq word (codes "--objective")
+is_flag _ word = false
+
 -- the words that ask for help or for the version
 abbrev pub is_question : List ℕ → Bool
 is_question word = bytes_eq word (codes "--help") || bytes_eq word (codes "--version")
@@ -77,9 +83,11 @@ abbrev pub IsSo : WordFault → Type 0
 IsSo NoWord = Unit {0}
 IsSo (NoCommand word) = topic_of word.now ≡ None
 IsSo (NotAlone word) = is_question word.now ≡ true
-IsSo (NoOption command word) = (is_option word.now ≡ true) × (option_role command word.now ≡ None)
+IsSo (NoOption command word) =
+    (is_option word.now ≡ true) × (option_role command word.now ≡ None) × (is_flag command word.now ≡ false)
 IsSo (NoValue word) = is_option word.now ≡ true
 IsSo (Twice word) = is_option word.now ≡ true
+IsSo (Beside command word) = is_flag command word.now ≡ true
 IsSo (Unfit role word) = fits role word.now ≡ false
 IsSo (Missing command role) = Unit {0}
 IsSo (Surplus command word) = Unit {0}

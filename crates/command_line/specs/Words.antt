@@ -10,6 +10,8 @@ use Rattle.league.specs.Instance.{IsTeamCount, is_team_count}
 use Rattle.budgets.specs.declared.budgets.Budgets.{Budgets}
 use Rattle.robin_io.specs.Numbers.{is_number}
 use Rattle.command_line.specs.Topics.{topic_of}
+use Rattle.command_line.specs.declared.goal.Goal.{Goal}
+use Rattle.command_line.specs.declared.goal.Goal.TheVariants.{Accepted, AtMost, Least}
 use Rattle.command_line.specs.declared.topic.Topic.{Topic}
 
 -- a command with its arguments
@@ -26,7 +28,7 @@ pub data Command : Type 0 where
   Bound : (instance log : List ℕ) → Command
   Resume : (instance solution : List ℕ) → (k : ℕ) → (conflicts : Option ℕ) → Command
   Audit : (instance solution : List ℕ) → (k : ℕ) → (log : List ℕ) → Command
-  Rows : (instance : List ℕ) → (bound : Option ℕ) → Command
+  Rows : (instance : List ℕ) → (goal : Goal) → Command
   Values : (instance values : List ℕ) → Command
   Circle : (n : ℕ) → Command
   Make : (n seed : ℕ) → Command
@@ -199,19 +201,19 @@ teams_and_seed [] = None
 teams_and_seed (teams ∷ rest) =
     option_and_then (λ n. option_map (λ seed. (n, seed)) (one_number rest)) (team_count_in teams)
 
--- the name of the option of `rows`
+-- the name of the option of `rows` that has a value
 abbrev pub row_options : List (List ℕ)
 row_options = codes "--bound" ∷ []
 
--- the bound that a word writes
-abbrev pub bound_in : List ℕ → Option (Option ℕ)
-bound_in word = option_map Some (number_in word)
+-- what is asked for with the bound that a word writes
+abbrev pub bound_in : List ℕ → Option Goal
+bound_in word = option_map AtMost (number_in word)
 
 -- `rows` over one file, with a bound said before or behind it, or none
-abbrev pub rowing : List (List ℕ) → Option Command
-rowing words =
+abbrev pub bounding : List (List ℕ) → Option Command
+bounding words =
     if has_options row_options words
-    then option_and_then (λ file. option_map (Rows file) (said None bound_in (values_of (codes "--bound") words)))
+    then option_and_then (λ file. option_map (Rows file) (said Accepted bound_in (values_of (codes "--bound") words)))
     (one_file (arguments_of words))
     else None
 
@@ -243,6 +245,21 @@ showing words =
     (said false form_in (values_of (codes "--form") words)))
     (two_files (arguments_of words))
     else None
+
+-- `rows` over one file, where the objective is to be least
+abbrev pub costing : List ℕ → Option Command
+costing file = if is_file_name file then Some (Rows file Least) else None
+
+-- the same: `--objective` stands behind the file or before it, and has no value
+abbrev pub lowering : List (List ℕ) → Option Command
+lowering (first ∷ second ∷ []) =
+    if bytes_eq second (codes "--objective") then costing first
+    else (if bytes_eq first (codes "--objective") then costing second else None)
+lowering _ = None
+
+-- `rows`, with one of its options or with none
+abbrev pub rowing : List (List ℕ) → Option Command
+rowing words = option_or (lowering words) (bounding words)
 
 -- `trial` with a number of teams, a seed and the options of `solve`
 abbrev pub trying : List (List ℕ) → Option Command
@@ -363,7 +380,7 @@ HasTeams (Prove instance solution conflicts) = Unit {0}
 HasTeams (Bound instance log) = Unit {0}
 HasTeams (Resume instance solution k conflicts) = Unit {0}
 HasTeams (Audit instance solution k log) = Unit {0}
-HasTeams (Rows instance bound) = Unit {0}
+HasTeams (Rows instance goal) = Unit {0}
 HasTeams (Values instance values) = Unit {0}
 HasTeams (Circle n) = IsTeamCount n
 HasTeams (Make n seed) = IsTeamCount n
@@ -392,5 +409,5 @@ NeedsNoFile (Some (Prove instance solution conflicts)) = ⊥
 NeedsNoFile (Some (Bound instance log)) = ⊥
 NeedsNoFile (Some (Resume instance solution k conflicts)) = ⊥
 NeedsNoFile (Some (Audit instance solution k log)) = ⊥
-NeedsNoFile (Some (Rows instance bound)) = ⊥
+NeedsNoFile (Some (Rows instance goal)) = ⊥
 NeedsNoFile (Some (Values instance values)) = ⊥

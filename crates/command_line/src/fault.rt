@@ -1,11 +1,11 @@
 //! Why words are refused.
-ghost use Rattle.std.specs.Prelude.{◌≡◌, ◌≤◌, true, None, map, string_bytes, is_some, is_none, IfSome};
+ghost use Rattle.std.specs.Prelude.{◌≡◌, ◌≤◌, true, false, None, map, string_bytes, is_some, is_none, IfSome};
 ghost use Rattle.command_line.specs.Words as options;
 ghost use Rattle.command_line.specs.Words.{reading};
 ghost use Rattle.command_line.specs.Faults as faults;
 ghost use Rattle.command_line.specs.Faults.{IsSo};
 
-use crate::role::{Role, fits, option_role, role_at};
+use crate::role::{Role, fits, is_flag, option_role, role_at};
 use crate::topic::{Topic, topic_of};
 use crate::words::{Standing, is_option, read_words, value_of};
 
@@ -24,6 +24,8 @@ pub enum WordFault<'a> {
     NoValue { word: &'a str },
     /// An option stands more than once.
     Twice { word: &'a str },
+    /// Another option, or the same again, stands beside an option that stands alone.
+    Beside { command: Topic, word: &'a str },
     /// A word is not what it is to be.
     Unfit { role: Role, word: &'a str },
     /// A word is missing.
@@ -80,9 +82,23 @@ fn fault_behind(command: Topic, words: &[String]) -> WordFault<'_>
     if let Some(fault) = wrong_option(command, words) {
         return fault;
     }
-    match wrong_argument(command, 0, words) {
-        Some(fault) => fault,
+    if let Some(fault) = wrong_argument(command, 0, words) {
+        return fault;
+    }
+    match flag_among(command, words) {
+        Some(word) => WordFault::Beside { command, word },
         None => WordFault::Other { command },
+    }
+}
+
+/// The first option without a value among words.
+fn flag_among(command: Topic, words: &[String]) -> Option<&str>
+    ensures { IfSome result (λ word. faults.is_flag command word.now ≡ true) }
+{
+    match words {
+        [first, ..] if is_flag(command, first.as_str()) => Some(first.as_str()),
+        [_, rest @ ..] => flag_among(command, rest),
+        [] => None,
     }
 }
 
@@ -93,6 +109,7 @@ fn wrong_option(command: Topic, words: &[String]) -> Option<WordFault<'_>>
     let mut rest = words;
     'words: while let [first, later @ ..] = rest {
         rest = match later {
+            _ if is_flag(command, first.as_str()) => later,
             [value, left @ ..] if is_option(first.as_str()) => {
                 if let Some(fault) = wrong_value(command, first.as_str(), value.as_str(), left) {
                     return Some(fault);
@@ -110,7 +127,8 @@ fn wrong_option(command: Topic, words: &[String]) -> Option<WordFault<'_>>
 
 /// What is wrong with an option that is the last word.
 fn without_value(command: Topic, option: &str) -> WordFault<'_>
-    requires { options.is_option option.now ≡ true }
+    requires option { options.is_option option.now ≡ true }
+    requires valued { faults.is_flag command option.now ≡ false }
     ensures { IsSo result }
 {
     match option_role(command, option) {
@@ -122,6 +140,7 @@ fn without_value(command: Topic, option: &str) -> WordFault<'_>
 /// An option that the command doesn't have.
 fn no_option(command: Topic, option: &str) -> WordFault<'_>
     requires option { options.is_option option.now ≡ true }
+    requires valued { faults.is_flag command option.now ≡ false }
     requires unknown { faults.option_role command option.now ≡ None }
     ensures { IsSo result }
 {
@@ -142,7 +161,8 @@ fn wrong_value<'a>(
     value: &'a str,
     rest: &[String],
 ) -> Option<WordFault<'a>>
-    requires { options.is_option option.now ≡ true }
+    requires option { options.is_option option.now ≡ true }
+    requires valued { faults.is_flag command option.now ≡ false }
     ensures { IfSome result IsSo }
 {
     match option_role(command, option) {
@@ -167,6 +187,9 @@ fn wrong_argument(command: Topic, before: usize, words: &[String]) -> Option<Wor
     ensures { IfSome result IsSo }
 {
     match words {
+        [first, rest @ ..] if is_flag(command, first.as_str()) => {
+            wrong_argument(command, before, rest)
+        }
         [first, _, rest @ ..] if is_option(first.as_str()) => {
             wrong_argument(command, before, rest)
         }

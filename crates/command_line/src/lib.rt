@@ -5,12 +5,14 @@
 
 mod arguments;
 mod fault;
+mod goal;
 mod list;
 mod role;
 mod topic;
 mod words;
 
 pub use fault::{WordFault, why_refused};
+pub use goal::Goal;
 pub use list::members;
 pub use role::Role;
 pub use topic::{Topic, name_of, topic_of};

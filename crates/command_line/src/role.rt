@@ -62,7 +62,17 @@ pub(crate) fn fits(role: Role, word: &str) -> bool
     }
 }
 
-/// What the value of an option of a command is to be, where the command has this option.
+/// Whether a word is an option of a command that has no value.
+pub(crate) fn is_flag(command: Topic, word: &str) -> bool
+    ensures { result ≡ faults.is_flag command word.now }
+{
+    match command {
+        Topic::Rows => word == "--objective",
+        _ => false,
+    }
+}
+
+/// What the value of an option of a command is to be, where the command has this option with a value.
 pub(crate) fn option_role(command: Topic, word: &str) -> Option<Role>
     ensures { result ≡ faults.option_role command word.now }
 {
@@ -85,7 +95,7 @@ fn search_option(word: &str) -> Option<Role>
     }
 }
 
-/// What the value of an option of `rows` is to be.
+/// The same of `rows`.
 fn row_option(word: &str) -> Option<Role>
     ensures { result ≡ faults.row_option word.now }
 {

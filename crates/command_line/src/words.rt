@@ -5,18 +5,21 @@ ghost use Rattle.std.specs.Prelude.{option_map, IfSome};
 ghost use Rattle.std.specs.List.{list_any};
 ghost use Rattle.std.specs.Option.{option_copied};
 ghost use Rattle.command_line.specs.Words as options;
-ghost use Rattle.command_line.specs.Words.{arguments_of, asking, auditing, bound_in, budget_in, budgets_in, conflicts_in, explaining};
+ghost use Rattle.command_line.specs.Words.{arguments_of, asking, auditing, bound_in, bounding, budget_in, budgets_in};
+ghost use Rattle.command_line.specs.Words.{conflicts_in, costing, explaining, lowering};
 ghost use Rattle.command_line.specs.Words.{following, has_options, helping, is_file_name, making, parting};
 ghost use Rattle.command_line.specs.Words.{HasTeams, number_in, patterning, plain, proving, reading, resuming, row_options, rowing, said};
 ghost use Rattle.command_line.specs.Words.{form_in, show_options, showing, small_in};
 ghost use Rattle.command_line.specs.Words.{search_options, solve_options, solving, team_count_in, tries_in, trying};
 ghost use Rattle.command_line.specs.Words.{values_of};
 ghost use Rattle.command_line.specs.Words.Command.{Circle};
+ghost use Rattle.command_line.specs.declared.goal.Goal.TheVariants.{Accepted};
 ghost use Rattle.command_line.specs.SeenWords.{command_of};
 ghost use Rattle.command_line.specs.Standing.{once_more, standing};
 ghost use Rattle.command_line.specs.SeenStanding.{seen};
 
 use crate::arguments::{files_and_number, two_files};
+use crate::goal::Goal;
 use crate::list::is_list;
 use crate::topic::{Topic, topic_of};
 use budgets::Budgets;
@@ -102,11 +105,10 @@ pub enum Words<'a> {
         k: u64,
         log: &'a str,
     },
-    /// Write the rows of the league of an instance file, or with a bound those of a schedule that it accepts with an
-    /// objective of at most the bound.
+    /// Write the rows of the league of an instance file that ask for such a schedule.
     Rows {
         instance: &'a str,
-        bound: Option<u64>,
+        goal: Goal,
     },
     /// Write the schedule that the values of one file stand for, where they satisfy the rows of the league of an
     /// instance file.
@@ -453,17 +455,68 @@ fn audit_of<'a>(
     })
 }
 
-/// `rows` over one file, with its option.
+/// `rows` over one file, with one of its options.
 fn read_rows(words: &[String]) -> Option<Words<'_>>
     ensures reading { option_map command_of result ≡ rowing (map string_bytes words.now) }
+    ensures teams { IfSome result (λ command. HasTeams (command_of command)) }
+{
+    match read_least(words) {
+        Some(least) => Some(least),
+        None => read_bounded(words),
+    }
+}
+
+/// `rows` over one file, where the objective is to be least.
+fn read_least(words: &[String]) -> Option<Words<'_>>
+    ensures reading { option_map command_of result ≡ lowering (map string_bytes words.now) }
+    ensures teams { IfSome result (λ command. HasTeams (command_of command)) }
+{
+    match words {
+        [first, second] => least_of_two(first.as_str(), second.as_str()),
+        _ => None,
+    }
+}
+
+/// The same, where one of two words is `--objective` and the other one the file.
+fn least_of_two<'a>(first: &'a str, second: &'a str) -> Option<Words<'a>>
+    ensures reading { option_map command_of result ≡ lowering (first.now ∷ second.now ∷ []) }
+    ensures teams { IfSome result (λ command. HasTeams (command_of command)) }
+{
+    if second == "--objective" {
+        least_of(first)
+    } else if first == "--objective" {
+        least_of(second)
+    } else {
+        None
+    }
+}
+
+/// The same over a file.
+fn least_of(instance: &str) -> Option<Words<'_>>
+    ensures reading { option_map command_of result ≡ costing instance.now }
+    ensures teams { IfSome result (λ command. HasTeams (command_of command)) }
+{
+    if is_name(instance) {
+        Some(Words::Rows {
+            instance,
+            goal: Goal::Least,
+        })
+    } else {
+        None
+    }
+}
+
+/// `rows` over one file, with a bound or without.
+fn read_bounded(words: &[String]) -> Option<Words<'_>>
+    ensures reading { option_map command_of result ≡ bounding (map string_bytes words.now) }
     ensures teams { IfSome result (λ command. HasTeams (command_of command)) }
 {
     if !has_row_options(words) {
         return None;
     }
     let instance = one_file(words)?;
-    let bound = bound_said(words)?;
-    Some(Words::Rows { instance, bound })
+    let goal = goal_said(words)?;
+    Some(Words::Rows { instance, goal })
 }
 
 /// `show` over two files, with its options.
@@ -577,12 +630,12 @@ fn conflicts_said(words: &[String]) -> Option<Option<u64>>
     }
 }
 
-/// The bound that the words say, if any.
-fn bound_said(words: &[String]) -> Option<Option<u64>>
-    ensures { result ≡ said None bound_in (values_of (codes "--bound") (map string_bytes words.now)) }
+/// What is asked for, with the bound that the words say, if any.
+fn goal_said(words: &[String]) -> Option<Goal>
+    ensures { result ≡ said Accepted bound_in (values_of (codes "--bound") (map string_bytes words.now)) }
 {
     match value_of(words, "--bound") {
-        Standing::Never => Some(None),
+        Standing::Never => Some(Goal::Accepted),
         Standing::Once(word) => bound(word),
         Standing::Often => None,
     }
@@ -726,7 +779,7 @@ fn has_search_options(words: &[String]) -> bool
     }
 }
 
-/// Whether each option is that of `rows`, and has a value.
+/// Whether each option is that of `rows` that has a value, and has it.
 fn has_row_options(words: &[String]) -> bool
     ensures { result ≡ has_options row_options (map string_bytes words.now) }
 {
@@ -788,12 +841,12 @@ pub(crate) fn budget(word: &str) -> Option<Option<u64>>
     Some(Some(conflicts))
 }
 
-/// The bound that a word writes.
-fn bound(word: &str) -> Option<Option<u64>>
+/// What is asked for with the bound that a word writes.
+fn bound(word: &str) -> Option<Goal>
     ensures { result ≡ bound_in word.now }
 {
     let bound = number(word)?;
-    Some(Some(bound))
+    Some(Goal::AtMost { bound })
 }
 
 /// Whether the form that a word names is that of a spreadsheet.

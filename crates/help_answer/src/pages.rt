@@ -42,6 +42,7 @@ Options stand before, between or behind the words, each once at most:
   --patterns N       clauses of a search for patterns (500); of solve and trial
   --seed N           what random moves are drawn by (0); of solve and trial
   --bound B          seasons that cost at most B; of rows
+  --objective        a season that costs least; of rows, and not with --bound
   --form text|csv    a text, or values for a spreadsheet (text); of show
   --most N           lines of a list (20); of show
   --width N          characters of a line of the grid (80); of show
@@ -293,16 +294,18 @@ Example: robin audit league.xml season.xml 18 none.log
 ";
 
 pub const ROWS: &str = "\
-usage: robin rows INSTANCE [--bound B]
+usage: robin rows INSTANCE [--bound B | --objective]
 
 Writes the rows of the league of the file INSTANCE as a text in OPB, the format
 of the pseudo-Boolean competitions, in the order and with the numbers that logs
 use. Where a solver finds values that satisfy them, the command values writes
 the season that they say; where there are none, the league accepts no season.
 
-Options stand before or behind the word, each once at most:
-  --bound B  the rows of a season that costs at most B, a number from 0 to
-             18446744073709551615, as certificates use them
+One option may stand before or behind the file:
+  --bound B    the rows of a season that costs at most B, a number from 0 to
+               18446744073709551615, as certificates use them
+  --objective  these rows without a bound, and what the season costs as a sum
+               that is to be least
 
 Status:  0  the rows are written
          3  the file is refused, or the league is too large

@@ -20,7 +20,7 @@ use answers::{NoValue, Reply, Status, write_answer};
 use bound_answer::bound_file;
 use check_answer::check;
 use circle_answer::circle;
-use command_line::{Words, members, read_words};
+use command_line::{Goal, Words, members, read_words};
 use explain_answer::{explain_file, part_file};
 use help_answer::{help, refuse_words, version};
 use make_answer::make_league;
@@ -56,12 +56,12 @@ fn rows_of_file<S: Shelf>(
     alloc: Global,
     shelf: &mut S,
     instance: &str,
-    bound: Option<u64>,
+    goal: Goal,
 ) -> Result<Given, NoValue>
-    ensures answer { Gives (rowed (store_between S.Shelf shelf.old shelf.new) instance.now bound) result }
+    ensures answer { Gives (rowed (store_between S.Shelf shelf.old shelf.new) instance.now goal) result }
     ensures contents { (n : List ℕ) → S.contents shelf.new n ≡ S.contents shelf.old n }
 {
-    let ready = rows_file(alloc, shelf, instance, bound)?;
+    let ready = rows_file(alloc, shelf, instance, goal)?;
     Ok(Given::Rows(ready))
 }
 
@@ -113,7 +113,7 @@ fn follow<S: Shelf>(alloc: Global, command: Words, shelf: &mut S) -> Result<Give
             k,
             log,
         } => give(audit_file(alloc, shelf, instance, solution, k, log)),
-        Words::Rows { instance, bound } => rows_of_file(alloc, shelf, instance, bound),
+        Words::Rows { instance, goal } => rows_of_file(alloc, shelf, instance, goal),
         Words::Values { instance, values } => give(values_file(alloc, shelf, instance, values)),
         Words::Circle { n } => Ok(Given::Answer(circle(alloc, n)?)),
         Words::Make { n, seed } => Ok(Given::Answer(make_league(alloc, n, seed)?)),

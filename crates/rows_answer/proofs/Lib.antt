@@ -1,2 +1,6 @@
 -- Rows that were written are those that were to be:
 pub mod RowsLemmas
+-- The objective row is found:
+pub mod PriceLemmas
+-- The least sum is the least objective:
+pub mod LeastLaws

@@ -1,13 +1,16 @@
 //! The stages of `rows`.
-ghost use Rattle.std.specs.Prelude.{◌≡◌, ℕ, List, None, Some};
+ghost use Rattle.std.specs.Prelude.{◌≡◌, ℕ, List, IfOk};
 ghost use Rattle.robin_io.specs.Outside.{store_between};
 ghost use Rattle.answers.specs.SeenReply.{MatchStage};
-ghost use Rattle.rows_answer.specs.Rowed.{league_rows, rowed, rows_answer};
+ghost use Rattle.command_line.specs.declared.goal.Goal.TheVariants.{Accepted, AtMost, Least};
+ghost use Rattle.rows_answer.specs.Rowed.{AreRowsOf, league_rows, rowed, rows_answer, system_of};
 
+use crate::prices::prices;
 use crate::written::ReadyRows;
 use answers::{NoValue, file, league_in, rows_refused};
 use bound_answer::few_terms;
 use bound_rows::bound_system;
+use command_line::Goal;
 use encoding::{EncodeFault, encode};
 use league::League;
 use robin_io::Shelf;
@@ -16,9 +19,10 @@ use std::alloc::Global;
 
 /// The rows of a league.
 fn rows_of_league(alloc: Global, league: &League) -> Result<ReadyRows, NoValue>
-    ensures { MatchStage result
-        (λ ready. league_rows None league.now (rows_answer ready))
-        (league_rows None league.now) }
+    ensures answer { MatchStage result
+        (λ ready. league_rows Accepted league.now (rows_answer ready))
+        (league_rows Accepted league.now) }
+    ensures rows { IfOk result (λ ready. ready ≡ system_of Accepted league.now) }
 {
     match encode(alloc, league) {
         Ok(encoding) => Ok(ReadyRows::of_league(alloc, encoding)?),
@@ -29,29 +33,44 @@ fn rows_of_league(alloc: Global, league: &League) -> Result<ReadyRows, NoValue>
 
 /// The bound rows of a league.
 fn rows_of_bound(alloc: Global, league: &League, bound: u64) -> Result<ReadyRows, NoValue>
-    ensures { MatchStage result
-        (λ ready. league_rows (Some bound) league.now (rows_answer ready))
-        (league_rows (Some bound) league.now) }
+    ensures answer { MatchStage result
+        (λ ready. league_rows (AtMost bound) league.now (rows_answer ready))
+        (league_rows (AtMost bound) league.now) }
+    ensures rows { IfOk result (λ ready. ready ≡ system_of (AtMost bound) league.now) }
 {
     let terms = few_terms(alloc, league)?;
     let system = bound_system(alloc, league, bound, terms)?;
     Ok(ReadyRows::of_bound(alloc, system)?)
 }
 
-/// The rows of a league, or with a bound its bound rows.
-fn rows_of(alloc: Global, league: &League, bound: Option<u64>) -> Result<ReadyRows, NoValue>
-    ensures { MatchStage result
-        (λ ready. league_rows bound league.now (rows_answer ready))
-        (league_rows bound league.now) }
+/// The bound rows of a league without a bound, with what a season costs as a sum that is to be least.
+fn rows_of_least(alloc: Global, league: &League) -> Result<ReadyRows, NoValue>
+    ensures answer { MatchStage result
+        (λ ready. league_rows Least league.now (rows_answer ready))
+        (league_rows Least league.now) }
+    ensures rows { IfOk result (λ ready. ready ≡ system_of Least league.now) }
 {
-    match bound {
-        None => rows_of_league(alloc, league),
-        Some(bound) => rows_of_bound(alloc, league, bound),
+    let terms = few_terms(alloc, league)?;
+    let system = bound_system(alloc, league, u64::MAX, terms)?;
+    let prices = prices(alloc, &system)?;
+    Ok(ReadyRows::of_least(alloc, system, prices)?)
+}
+
+/// The rows of a league that ask for a season.
+fn rows_of(alloc: Global, league: &League, goal: Goal) -> Result<ReadyRows, NoValue>
+    ensures answer { MatchStage result
+        (λ ready. league_rows goal league.now (rows_answer ready))
+        (league_rows goal league.now) }
+    ensures rows { IfOk result (λ ready. ready ≡ system_of goal league.now) }
+{
+    match goal {
+        Goal::Accepted => rows_of_league(alloc, league),
+        Goal::AtMost { bound } => rows_of_bound(alloc, league, bound),
+        Goal::Least => rows_of_least(alloc, league),
     }
 }
 
-/// The rows of the league of a file, or with a bound those of an accepted season with an objective of at most the bound,
-/// ready to be written.
+/// The rows of the league of a file that ask for a season, ready to be written.
 ///
 /// # Errors
 /// Where the file is refused or the rows have too many terms, with the reply that says why, and where memory runs out.
@@ -59,14 +78,17 @@ pub fn rows_file<S: Shelf>(
     alloc: Global,
     shelf: &mut S,
     instance: &str,
-    bound: Option<u64>,
+    goal: Goal,
 ) -> Result<ReadyRows, NoValue>
     ensures answer { let store = store_between S.Shelf shelf.old shelf.new in MatchStage result
-        (λ ready. rowed store instance.now bound (rows_answer ready))
-        (rowed store instance.now bound) }
+        (λ ready. rowed store instance.now goal (rows_answer ready))
+        (rowed store instance.now goal) }
+
+    // They are those of the league that the file says.
+    ensures rows { IfOk result (AreRowsOf (S.contents shelf.old instance.now) goal) }
     ensures contents { (n : List ℕ) → S.contents shelf.new n ≡ S.contents shelf.old n }
 {
     let bytes = file(alloc, shelf, "instance", instance, INSTANCE_LIMIT)?;
     let league = league_in(alloc, instance, &bytes)?;
-    rows_of(alloc, &league, bound)
+    rows_of(alloc, &league, goal)
 }

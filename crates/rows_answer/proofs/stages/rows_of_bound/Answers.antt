@@ -3,10 +3,14 @@ use Rattle.bound_rows.specs.Bounded.{Bounded}
 use Rattle.rows_answer.specs.Rowed.{bound_system, rows_answer}
 use Rattle.rows_answer.proofs.stages.rows_of_bound.Goals as goal
 
-pub returns : goal.returns
-returns c =
+pub returns-clause-answer : goal.returns-clause-answer
+returns-clause-answer c =
     inl (
       c.in_ok-terms.ensures.few,
       ap rows_answer (c.in_ok-of_bound.ensures
           ∙ ap (λ (b : Bounded). bound_system b.league b.bound) c.in_ok-system.ensures),
     )
+
+pub returns-clause-rows : goal.returns-clause-rows
+returns-clause-rows c =
+    c.in_ok-of_bound.ensures ∙ ap (λ (b : Bounded). bound_system b.league b.bound) c.in_ok-system.ensures
