@@ -7,7 +7,8 @@ use Rattle.command_line.specs.declared.topic.Topic.{Topic}
 use Rattle.command_line.specs.declared.topic.Topic.TheVariants as topic
 use Rattle.command_line.specs.declared.role.Role.{Role}
 use Rattle.command_line.specs.declared.role.Role.TheVariants.{Instance, Solution, Log, Values, Slots, Teams, Seed}
-use Rattle.command_line.specs.declared.role.Role.TheVariants.{Members, Conflicts, Moves, Tries, Patterns, Draws, Bound}
+use Rattle.command_line.specs.declared.role.Role.TheVariants.{Members, Conflicts, Moves, Tries, Patterns, Draws, Seconds}
+use Rattle.command_line.specs.declared.role.Role.TheVariants.{Bound}
 use Rattle.command_line.specs.declared.fault.WordFault.{WordFault}
 use Rattle.command_line.specs.declared.fault.WordFault.TheVariants.{NoWord, NoCommand, NotAlone, NoOption, NoValue, Twice}
 use Rattle.command_line.specs.declared.fault.WordFault.TheVariants.{Unfit, Missing, Surplus, Other}
@@ -27,6 +28,7 @@ fits Moves word = is_some (number_in word)
 fits Tries word = is_some (tries_in word)
 fits Patterns word = is_some (number_in word)
 fits Draws word = is_some (number_in word)
+fits Seconds word = is_some (number_in word)
 fits Bound word = is_some (number_in word)
 
 -- what the value of an option is to be, where commands have it that search, or `solve` and `trial`
@@ -39,7 +41,8 @@ solve_option word =
     else (if bytes_eq word (codes "--moves") then Some Moves
     else (if bytes_eq word (codes "--tries") then Some Tries
     else (if bytes_eq word (codes "--patterns") then Some Patterns
-    else (if bytes_eq word (codes "--seed") then Some Draws else None))))
+    else (if bytes_eq word (codes "--seed") then Some Draws
+    else (if bytes_eq word (codes "--seconds") then Some Seconds else None)))))
 
 -- what the value of an option of `rows` is to be
 abbrev pub row_option : List ℕ → Option Role

@@ -6,10 +6,10 @@ ghost use Rattle.std.specs.List.{list_any};
 ghost use Rattle.std.specs.Option.{option_copied};
 ghost use Rattle.command_line.specs.Words as options;
 ghost use Rattle.command_line.specs.Words.{arguments_of, asking, auditing, bound_in, budget_in, budgets_in, conflicts_in, explaining};
-ghost use Rattle.command_line.specs.Words.{following, has_options, helping, is_file_name, making, parting};
+ghost use Rattle.command_line.specs.Words.{following, has_options, helping, is_file_name, limit_in, making, parting};
 ghost use Rattle.command_line.specs.Words.{HasTeams, number_in, patterning, plain, proving, reading, resuming, row_options, rowing, said};
 ghost use Rattle.command_line.specs.Words.{search_options, solve_options, solving, team_count_in, tries_in, trying};
-ghost use Rattle.command_line.specs.Words.{values_of};
+ghost use Rattle.command_line.specs.Words.{seconds_in, time_limit, values_of};
 ghost use Rattle.command_line.specs.Words.Command.{Circle};
 ghost use Rattle.command_line.specs.SeenWords.{command_of};
 ghost use Rattle.command_line.specs.Standing.{once_more, standing};
@@ -503,13 +503,24 @@ fn number_alone(word: &str, rest: &[String]) -> Option<u64>
     }
 }
 
+/// After how many seconds the run of these words, without the program's name, is to end: None where they don't say it.
+pub fn seconds_of(words: &[String]) -> Option<u64>
+    ensures { result ≡ time_limit (map string_bytes words.now) }
+{
+    match words {
+        [] => None,
+        [_, rest @ ..] => seconds_said(rest).unwrap_or(None),
+    }
+}
+
 /// What the words say of how far `solve` goes.
 fn budgets(words: &[String]) -> Option<Budgets>
     ensures { result ≡ budgets_in (map string_bytes words.now) }
 {
     let conflicts = conflicts_said(words)?;
     let moves = number_said(words, "--moves", USUAL_MOVES)?;
-    let tries = tries_said(words)?;
+    let seconds = seconds_said(words)?;
+    let tries = tries_said(words, usual_tries(seconds))?;
     let patterns = number_said(words, "--patterns", USUAL_PATTERNS)?;
     let seed = number_said(words, "--seed", 0)?;
     Some(Budgets {
@@ -543,12 +554,33 @@ fn bound_said(words: &[String]) -> Option<Option<u64>>
     }
 }
 
-/// How many tries there are.
-fn tries_said(words: &[String]) -> Option<u64>
-    ensures { result ≡ said 1 tries_in (values_of (codes "--tries") (map string_bytes words.now)) }
+/// After how many seconds the run is to end, if the words say it.
+fn seconds_said(words: &[String]) -> Option<Option<u64>>
+    ensures { result ≡ seconds_in (map string_bytes words.now) }
+{
+    match value_of(words, "--seconds") {
+        Standing::Never => Some(None),
+        Standing::Once(word) => limit(word),
+        Standing::Often => None,
+    }
+}
+
+/// How many tries there are where the words don't say it: with a time limit as many as it leaves time for.
+fn usual_tries(seconds: Option<u64>) -> u64
+    ensures { result ≡ options.usual_tries seconds }
+{
+    match seconds {
+        None => 1,
+        Some(_) => u64::MAX,
+    }
+}
+
+/// How many tries there are; the usual number where the words don't say it.
+fn tries_said(words: &[String], usual: u64) -> Option<u64>
+    ensures { result ≡ said usual tries_in (values_of (codes "--tries") (map string_bytes words.now)) }
 {
     match value_of(words, "--tries") {
-        Standing::Never => Some(1),
+        Standing::Never => Some(usual),
         Standing::Once(word) => tries(word),
         Standing::Often => None,
     }
@@ -681,6 +713,7 @@ fn is_solve_option(word: &str) -> bool
         || word == "--tries"
         || word == "--patterns"
         || word == "--seed"
+        || word == "--seconds"
 }
 
 /// Whether a word names an option: it begins with `--`.
@@ -707,6 +740,14 @@ fn bound(word: &str) -> Option<Option<u64>>
 {
     let bound = number(word)?;
     Some(Some(bound))
+}
+
+/// The time limit that a word writes, in seconds.
+fn limit(word: &str) -> Option<Option<u64>>
+    ensures { result ≡ limit_in word.now }
+{
+    let seconds = number(word)?;
+    Some(Some(seconds))
 }
 
 /// Whether a word is a file's name: a word that begins with `-` is none.

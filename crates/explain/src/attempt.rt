@@ -19,6 +19,7 @@ use parts::{PartFault, part};
 use refutation::Log;
 use solve::{Solved, solve};
 use std::alloc::{AllocError, Global};
+use watching::Unwatched;
 
 /// What a try came to.
 #[derive(Drop)]
@@ -69,7 +70,7 @@ pub(crate) fn searched(
     ensures short { are_short league.now ≡ true → IfOk result IsRefuted }
     ensures crowded { are_crowded league.now ≡ true → IfOk result IsRefuted }
 {
-    match solve(alloc, league, budgets_of(conflicts))? {
+    match solve(alloc, league, budgets_of(conflicts), &Unwatched)? {
         Solved::Schedule {
             schedule,
             objective,

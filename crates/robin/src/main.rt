@@ -3,6 +3,8 @@
 #![tactic(auto)]
 
 use answers::{Status, code};
+use command_line::seconds_of;
+use host_watch::HostWatch;
 use robin_io::{HostShelf, HostSink};
 use robin_run::run;
 use std::process::ExitCode;
@@ -54,7 +56,8 @@ fn status_of(rt: &HostRuntime, words: &[String]) -> u8 {
     let mut shelf = HostShelf::new(rt);
     let mut out = HostSink::new(io::writer(rt));
     let mut told = HostSink::new(rt.stderr());
-    code(run(rt.alloc(), words, &mut shelf, &mut out, &mut told))
+    let watch = HostWatch::new(rt, seconds_of(words));
+    code(run(rt.alloc(), words, &mut shelf, &mut out, &mut told, &watch))
 }
 
 fn main(rt: HostRuntime) -> ExitCode {

@@ -21,6 +21,7 @@ use rand_pcg::Pcg32;
 use rule_core::{Entries, Rule, Steps};
 use std::alloc::{AllocError, Global};
 use tally::Tally;
+use watching::Watch;
 
 /// How many moves are drawn, legal or not, for each that may be tried.
 const DRAWS: u64 = 8;
@@ -60,16 +61,17 @@ impl Standing {
         })
     }
 
-    /// Tries moves until so many were legal, or the hard rules cost nothing: each is made where its score passes a
-    /// drawn threshold. A quarter of them is aimed at unmet parts of the hard constraints, of which the tally's rules
-    /// are. Says how many were tried.
-    pub(crate) fn meet<R: Rule<L>, L>(
+    /// Tries moves until so many were legal, the hard rules cost nothing, or the watch ends the walk: each is made where
+    /// its score passes a drawn threshold. A quarter of them is aimed at unmet parts of the hard constraints, of which
+    /// the tally's rules are. Says how many were tried.
+    pub(crate) fn meet<R: Rule<L>, L, W: Watch>(
         &mut self,
         random: &mut Pcg32,
         limit: u64,
         parts: &[Constraint],
         tally: &mut Tally<R>,
         steps: &mut Steps<L>,
+        watch: &W,
     ) -> u64
         requires standing { IsStandingOn tally.old.table.n self.old.board.phased (table_counts tally.old.table)
             self.old }
@@ -79,7 +81,7 @@ impl Standing {
     {
         let mut tried = 0;
         'draws: for _drawn in 0..limit.saturating_mul(DRAWS) {
-            if tried == limit || tally.infeasibility() == 0 {
+            if tried == limit || tally.infeasibility() == 0 || watch.is_over(tried) {
                 return tried;
             }
             let step = self.hard_move(random, parts, tally);
@@ -106,16 +108,17 @@ impl Standing {
         drawn_move(random, self.board.n(), self.board.phased())
     }
 
-    /// Tries moves until so many were legal, or the soft rules cost nothing: each is made where the hard rules cost no
-    /// more, and the soft ones not much more, by a threshold that falls. The best games on the way are kept. Says how
-    /// many moves were tried.
-    pub(crate) fn improve<R: Rule<L>, L>(
+    /// Tries moves until so many were legal, the soft rules cost nothing, or the watch ends the walk: each is made where
+    /// the hard rules cost no more, and the soft ones not much more, by a threshold that falls. The best games on the
+    /// way are kept. Says how many moves were tried.
+    pub(crate) fn improve<R: Rule<L>, L, W: Watch>(
         &mut self,
         random: &mut Pcg32,
         limit: u64,
         best: &mut Kept,
         tally: &mut Tally<R>,
         steps: &mut Steps<L>,
+        watch: &W,
     ) -> u64
         requires standing { IsStandingOn tally.old.table.n self.old.board.phased (table_counts tally.old.table)
             self.old }
@@ -130,7 +133,7 @@ impl Standing {
         let phased = self.board.phased();
         let mut tried = 0;
         'draws: for _drawn in 0..limit.saturating_mul(DRAWS) {
-            if tried == limit || tally.objective() == 0 {
+            if tried == limit || tally.objective() == 0 || watch.is_over(tried) {
                 return tried;
             }
             let step = drawn_move(random, n, phased);

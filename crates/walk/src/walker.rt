@@ -21,6 +21,7 @@ use rand_pcg::Pcg32;
 use rule_core::{Plain, Steps};
 use std::alloc::{AllocError, Global};
 use tally::league_tally;
+use watching::Watch;
 
 /// After so many moves tried the weights of the hard constraints are adapted.
 const STRETCH: u64 = 2000;
@@ -65,13 +66,15 @@ impl Patience {
     }
 }
 
-/// Where a walk stands, room for a copy of its games, the best games so far, and how many moves may still be tried.
+/// Where a walk stands, room for a copy of its games, the best games so far, how many moves it may try in all, and how
+/// many of them may still be tried.
 #[derive(Drop)]
 pub(crate) struct Walker {
     standing: Standing,
     games: Vec<Game>,
     best: Kept,
     random: Pcg32,
+    budget: u64,
     left: u64,
 }
 
@@ -104,24 +107,30 @@ impl Walker {
             games,
             best,
             random: Pcg32::seed_from_u64(seed),
+            budget,
             left: budget,
         })
     }
 
     /// Searches, from the games where it stands and then each time from a new double round robin, one after another
-    /// until no move may be tried any more, or nothing is left to lower.
+    /// until no move may be tried any more, nothing is left to lower, or the watch ends the walk.
     ///
     /// # Errors
     /// Only where memory runs out.
-    pub(crate) fn search(&mut self, alloc: Global, league: &League) -> Result<(), AllocError>
+    pub(crate) fn search<W: Watch>(
+        &mut self,
+        alloc: Global,
+        league: &League,
+        watch: &W,
+    ) -> Result<(), AllocError>
         requires walker { IsWalkerIn league.now self.old }
         ensures walker { OnOk result (IsWalkerIn league.now self.new) }
         ensures no_worse { OnOk result (IsNoWorse self.new.best.score self.old.best.score) }
         ensures left { OnOk result (self.new.left ≤ self.old.left) }
     {
         'searches: for search in 0..self.left / PATIENCE + 2 {
-            self.search_once(alloc, league, search)?;
-            if self.is_done() {
+            self.search_once(alloc, league, search, watch)?;
+            if self.is_done() || watch.is_over(self.tried()) {
                 return Ok(());
             }
         }
@@ -134,19 +143,30 @@ impl Walker {
         self.left == 0 || (score.infeasibility == 0 && score.objective == 0)
     }
 
+    /// How many moves were tried.
+    fn tried(&self) -> u64 {
+        self.budget.saturating_sub(self.left)
+    }
+
     /// Looks for games that meet the hard constraints, and from there for better ones: the search with this number.
     ///
     /// # Errors
     /// Only where memory runs out.
-    fn search_once(&mut self, alloc: Global, league: &League, search: u64) -> Result<(), AllocError>
+    fn search_once<W: Watch>(
+        &mut self,
+        alloc: Global,
+        league: &League,
+        search: u64,
+        watch: &W,
+    ) -> Result<(), AllocError>
         requires walker { IsWalkerIn league.now self.old }
         ensures walker { OnOk result (IsWalkerIn league.now self.new) }
         ensures no_worse { OnOk result (IsNoWorse self.new.best.score self.old.best.score) }
         ensures left { OnOk result (self.new.left ≤ self.old.left) }
     {
         self.place(alloc, league, search)?;
-        self.meet_hard(alloc, league, Patience::of(search))?;
-        self.lower_soft(alloc, league)?;
+        self.meet_hard(alloc, league, Patience::of(search), watch)?;
+        self.lower_soft(alloc, league, watch)?;
         Ok(())
     }
 
@@ -187,15 +207,17 @@ impl Walker {
     }
 
     /// Looks for games that meet the hard constraints, in stretches after each of which the weights are adapted, until
-    /// the search has been in vain for long. The best games at the end of a stretch are kept.
+    /// the search has been in vain for long, or the watch ends the walk. The best games at the end of a stretch are
+    /// kept.
     ///
     /// # Errors
     /// Only where memory runs out.
-    fn meet_hard(
+    fn meet_hard<W: Watch>(
         &mut self,
         alloc: Global,
         league: &League,
         patience: Patience,
+        watch: &W,
     ) -> Result<(), AllocError>
         requires walker { IsWalkerIn league.now self.old }
         ensures walker { OnOk result (IsWalkerIn league.now self.new) }
@@ -205,9 +227,9 @@ impl Walker {
         let mut weights = Weights::new(alloc, league)?;
         let mut patience = patience;
         'stretches: for _stretch in 0..self.left / STRETCH + 1 {
-            let sum = self.stretch(alloc, league, &mut weights)?;
+            let sum = self.stretch(alloc, league, &mut weights, watch)?;
             self.keep_lower(alloc, league, sum)?;
-            if sum == 0 || self.left == 0 || patience.ends(sum) {
+            if sum == 0 || self.left == 0 || patience.ends(sum) || watch.is_over(self.tried()) {
                 return Ok(());
             }
         }
@@ -218,11 +240,12 @@ impl Walker {
     ///
     /// # Errors
     /// Only where memory runs out.
-    fn stretch(
+    fn stretch<W: Watch>(
         &mut self,
         alloc: Global,
         league: &League,
         weights: &mut Weights,
+        watch: &W,
     ) -> Result<u128, AllocError>
         requires walker { IsWalkerIn league.now self.old }
         ensures walker { OnOk result (IsWalkerIn league.now self.new) }
@@ -239,6 +262,7 @@ impl Walker {
             weights.parts(),
             &mut tally,
             &mut steps,
+            watch,
         );
         self.left -= tried;
         weights.adapt(&tally);
@@ -269,7 +293,12 @@ impl Walker {
     ///
     /// # Errors
     /// Only where memory runs out.
-    fn lower_soft(&mut self, alloc: Global, league: &League) -> Result<(), AllocError>
+    fn lower_soft<W: Watch>(
+        &mut self,
+        alloc: Global,
+        league: &League,
+        watch: &W,
+    ) -> Result<(), AllocError>
         requires walker { IsWalkerIn league.now self.old }
         ensures walker { OnOk result (IsWalkerIn league.now self.new) }
         ensures no_worse { OnOk result (IsNoWorse self.new.best.score self.old.best.score) }
@@ -288,6 +317,7 @@ impl Walker {
             &mut self.best,
             &mut tally,
             &mut steps,
+            watch,
         );
         self.left -= tried;
         Ok(())
