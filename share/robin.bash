@@ -7,7 +7,7 @@ _robin() {
     fi
     case ${COMP_WORDS[1]} in
         validate) options="" ;;
-        solve) options="--conflicts --moves --patterns --seed --tries" ;;
+        solve) options="--conflicts --moves --patterns --seconds --seed --tries" ;;
         patterns) options="--conflicts" ;;
         explain) options="--conflicts" ;;
         part) options="" ;;
@@ -20,7 +20,7 @@ _robin() {
         values) options="" ;;
         circle) options="" ;;
         make) options="" ;;
-        trial) options="--conflicts --moves --patterns --seed --tries" ;;
+        trial) options="--conflicts --moves --patterns --seconds --seed --tries" ;;
     esac
     case $word in
         -*) COMPREPLY=($(compgen -W "$options --help" -- "$word")) ;;

@@ -1,8 +1,11 @@
-//! A watch by the machine's clock and by the signals that wait.
+//! A watch by the machine's clock and by the signals that wait, which tells a person how the run goes.
 ghost use Rattle.std.specs.Prelude.{◌≡◌, ◌⊎◌, IsSome, true};
 ghost use Rattle.host_watch.specs.Fields.{limit_of, listens};
 
 use crate::signals::{is_blocked, is_waiting};
+use crate::telling::Telling;
+use league::{Game, League};
+use listening::Listener;
 use std::cell::Cell;
 use std::rt::Files;
 use std::time::{Clock, Instant};
@@ -14,22 +17,33 @@ const EACH: u64 = 16;
 /// At least so many milliseconds lie between two looks at the signals.
 const PAUSE: u128 = 100;
 
+/// The best season of which the watch has heard.
+#[derive(Clone, Copy)]
+struct Heard {
+    objective: u128,
+    /// When it came, in milliseconds.
+    at: u128,
+}
+
 /// Ends a run behind so many seconds, where that is asked for, and when SIGHUP, SIGINT or SIGTERM waits, where one of
-/// them was blocked when the watch began. What has ended stays so.
+/// them was blocked when the watch began. What has ended stays so. Writes lines of how the run goes to standard error.
 #[derive(Drop)]
 pub struct HostWatch<R> {
     rt: R,
     start: Option<Instant>,
     seconds: Option<u64>,
     listens: bool,
+    telling: Telling,
     questions: Cell<u64>,
     looked: Cell<u128>,
     over: Cell<bool>,
+    told: Cell<u128>,
+    heard: Cell<Option<Heard>>,
 }
 
-impl<R: Clock + Files> HostWatch<R> {
+impl<R: Clock + Files + Eprint> HostWatch<R> {
     /// The time begins now.
-    pub fn new(rt: R, seconds: Option<u64>) -> HostWatch<R>
+    pub fn new(rt: R, seconds: Option<u64>, telling: Telling) -> HostWatch<R>
         ensures { limit_of result ≡ seconds }
     {
         let start = Instant::now(&rt).ok();
@@ -39,9 +53,12 @@ impl<R: Clock + Files> HostWatch<R> {
             start,
             seconds,
             listens,
+            telling,
             questions: Cell::new(0),
             looked: Cell::new(0),
             over: Cell::new(false),
+            told: Cell::new(0),
+            heard: Cell::new(None),
         }
     }
 
@@ -70,9 +87,63 @@ impl<R: Clock + Files> HostWatch<R> {
         self.looked.set(passed);
         is_waiting(&self.rt)
     }
+
+    /// How many milliseconds have passed, where a line is due.
+    fn due(&self) -> Option<u128> {
+        let pause = self.telling.pause()?;
+        let passed = self.passed();
+        if passed < self.told.get().saturating_add(pause) {
+            return None;
+        }
+        self.told.set(passed);
+        Some(passed)
+    }
+
+    /// Says that no season is found yet. A line that can't be written changes nothing.
+    fn say_unmet(&self, passed: u128, tried: u64, cost: u128) {
+        let (front, end) = self.telling.frame();
+        let seconds = passed / 1000;
+        let _ = eprint!(self.rt; "{front}robin: {seconds} s: no season yet, hard demands missed by {cost}, {tried} moves tried{end}");
+    }
+
+    /// Says what the best season costs that was found.
+    fn say_best(&self, passed: u128, tried: u64, best: Heard) {
+        let (front, end) = self.telling.frame();
+        let seconds = passed / 1000;
+        let at = best.at / 1000;
+        let objective = best.objective;
+        let _ = eprint!(self.rt; "{front}robin: {seconds} s: best objective {objective}, found after {at} s, {tried} moves tried{end}");
+    }
+
+    /// Says how many clauses a search has learnt.
+    fn say_learnt(&self, passed: u128, learnt: u64) {
+        let (front, end) = self.telling.frame();
+        let seconds = passed / 1000;
+        let _ = eprint!(self.rt; "{front}robin: {seconds} s: {learnt} clauses learnt{end}");
+    }
+
+    /// Wipes the line of a terminal, before the answer may come there.
+    fn wipe(&self) {
+        if self.telling == Telling::Terminal && self.told.get() > 0 {
+            let _ = eprint!(self.rt; "\r\x1b[K");
+        }
+    }
+
+    /// Keeps a season's objective, where it is the best of which was heard.
+    fn hear(&self, objective: u128) -> Heard {
+        let at = self.passed();
+        match self.heard.get() {
+            Some(best) if best.objective <= objective => best,
+            _ => {
+                let best = Heard { objective, at };
+                self.heard.set(Some(best));
+                best
+            }
+        }
+    }
 }
 
-impl<R: Clock + Files> Watch for HostWatch<R> {
+impl<R: Clock + Files + Eprint> Watch for HostWatch<R> {
     ghost may_stop = { λ s. IsSome (limit_of s) ⊎ (listens s ≡ true) };
 
     fn is_over(&self, _turns: u64) -> bool {
@@ -92,5 +163,34 @@ impl<R: Clock + Files> Watch for HostWatch<R> {
         over
     }
 
-    fn tell(&self, _news: News) {}
+    fn tell(&self, news: News) {
+        match news {
+            News::Ready => self.wipe(),
+            News::Search { learnt } => {
+                if let Some(passed) = self.due() {
+                    self.say_learnt(passed, learnt);
+                }
+            }
+            News::Hard { tried, cost } => {
+                let best = self.heard.get();
+                match (self.due(), best) {
+                    (Some(passed), None) => self.say_unmet(passed, tried, cost),
+                    (Some(passed), Some(best)) => self.say_best(passed, tried, best),
+                    (None, _) => {}
+                }
+            }
+        }
+    }
+}
+
+impl<R: Clock + Files + Eprint> Listener for HostWatch<R> {
+    fn tell_season(&self, _league: &League, _games: &[Game], objective: u128, tried: u64) {
+        if self.telling == Telling::Nobody {
+            return;
+        }
+        let best = self.hear(objective);
+        if let Some(passed) = self.due() {
+            self.say_best(passed, tried, best);
+        }
+    }
 }

@@ -38,6 +38,7 @@ use circle_answer::circle;
 use command_line::{Words, members, read_words};
 use explain_answer::{explain_file, part_file};
 use help_answer::{help, refuse_words, version};
+use listening::Listener;
 use make_answer::make_league;
 use patterns_answer::patterns_file;
 use prove_answer::prove_file;
@@ -49,7 +50,7 @@ use std::alloc::Global;
 use trial_answer::trial;
 use validate_answer::validate;
 use values_answer::values_file;
-use watching::Watch;
+use watching::News;
 
 /// Writes the part of the league of a file for the numbers of a list.
 fn part_of_list<S: Shelf>(
@@ -81,7 +82,7 @@ fn rows_of_file<S: Shelf>(
 }
 
 /// Follows a command.
-fn follow<S: Shelf, W: Watch>(
+fn follow<S: Shelf, W: Listener>(
     alloc: Global,
     command: Words,
     shelf: &mut S,
@@ -137,7 +138,7 @@ fn follow<S: Shelf, W: Watch>(
 }
 
 /// The answer to the words, or why there is none.
-fn answer<S: Shelf, W: Watch>(
+fn answer<S: Shelf, W: Listener>(
     alloc: Global,
     words: &[String],
     shelf: &mut S,
@@ -207,7 +208,7 @@ fn write_given<K: Sink, T: Sink>(out: &mut K, told: &mut T, given: Result<Given,
 ///
 /// `words` are the words of the command line without the program's name. The whole text is made before its first byte
 /// is written, but for that of `rows`, which is made as it is written. What a person is told of a run that went wrong goes to `told`: no clause says anything of it, and its
-/// faults change nothing.
+/// faults change nothing. The watch may end walks and further tries of `solve` and `trial`, and hears how they go.
 ///
 /// - `answer`: whatever the store, the sink and the files do, an answer to the words is written, and each refusal has
 ///   its cause.
@@ -216,7 +217,7 @@ fn write_given<K: Sink, T: Sink>(out: &mut K, told: &mut T, given: Result<Given,
 ///   store that tells the bytes of the files. A store in memory tells them, that of the machine doesn't.
 /// - `contents` and `untouched`: no file's contents change, and words that need no file leave the store alone.
 /// - `memory`: memory may run out at any time, and then nothing is written. Nothing is said of which files were read.
-pub fn run<S: Shelf, K: Sink, T: Sink, W: Watch>(
+pub fn run<S: Shelf, K: Sink, T: Sink, W: Listener>(
     alloc: Global,
     words: &[String],
     shelf: &mut S,
@@ -248,5 +249,6 @@ pub fn run<S: Shelf, K: Sink, T: Sink, W: Watch>(
     ensures memory { result ≡ Status.Memory → Keeps (K.written out.old) (K.written out.new) }
 {
     let given = answer(alloc, words, shelf, watch);
+    watch.tell(News::Ready);
     write_given(out, told, given)
 }

@@ -16,10 +16,10 @@ use clause_search::{Found, search};
 use decoding::decode;
 use encoding::Encoding;
 use league::League;
+use listening::Listener;
 use log_lines::note_numbers;
 use rows::{Assignment, Lit};
 use std::alloc::{AllocError, Global};
-use watching::Watch;
 
 /// One try: a search that decides these literals first, and a walk by the moves that the seed draws, until the watch
 /// ends it. Where a limit is set to the search it comes first: unless it refutes the league, the walk follows, and the
@@ -28,7 +28,7 @@ use watching::Watch;
 ///
 /// # Errors
 /// Only where memory runs out.
-pub(crate) fn try_both<W: Watch>(
+pub(crate) fn try_both<W: Listener>(
     alloc: Global,
     league: &League,
     encoding: &Encoding,
@@ -50,7 +50,7 @@ pub(crate) fn try_both<W: Watch>(
 ///
 /// # Errors
 /// Only where memory runs out.
-fn search_then_walk<W: Watch>(
+fn search_then_walk<W: Listener>(
     alloc: Global,
     league: &League,
     encoding: &Encoding,
@@ -74,7 +74,7 @@ fn search_then_walk<W: Watch>(
 ///
 /// # Errors
 /// Only where memory runs out.
-fn walk_or_search<W: Watch>(
+fn walk_or_search<W: Listener>(
     alloc: Global,
     league: &League,
     encoding: &Encoding,

@@ -5,9 +5,9 @@ ghost use Rattle.solve.specs.Tried.{IsSeason};
 use crate::lower::{Season, lowered};
 use circle_method::double;
 use league::League;
+use listening::Listener;
 use std::alloc::{AllocError, Global};
 use walk::walk;
-use watching::Watch;
 
 /// How many moves a walk may try for each that a descent may make, and for each that the league has.
 const TRIED: u64 = 100;
@@ -21,7 +21,7 @@ const USUAL: u64 = 10_000;
 ///
 /// # Errors
 /// Only where memory runs out.
-pub(crate) fn try_walk<W: Watch>(
+pub(crate) fn try_walk<W: Listener>(
     alloc: Global,
     league: &League,
     moves: u64,

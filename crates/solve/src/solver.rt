@@ -22,6 +22,7 @@ use crate::tries::{Tried, better, is_refuted, schedule_found, solved_by};
 use budgets::Budgets;
 use encoding::{EncodeFault, Encoding, check_size, encode_small};
 use league::League;
+use listening::Listener;
 use log_lines::note_numbers;
 use pattern_search::{PatternFound, pattern_set};
 use patterns::PatternSet;
@@ -48,7 +49,7 @@ use watching::Watch;
 /// # Errors
 /// `TooLarge` exactly where the league's rows have more than 40,000,000 terms, with their number, before anything
 /// else; else only where memory runs out.
-pub fn solve<W: Watch>(
+pub fn solve<W: Listener>(
     alloc: Global,
     league: &League,
     budgets: Budgets,
@@ -76,7 +77,7 @@ pub fn solve<W: Watch>(
 ///
 /// # Errors
 /// Only where memory runs out.
-fn best_try<W: Watch>(
+fn best_try<W: Listener>(
     alloc: Global,
     league: &League,
     budgets: Budgets,
@@ -100,7 +101,7 @@ fn best_try<W: Watch>(
 ///
 /// # Errors
 /// Only where memory runs out.
-fn best_with_circle<W: Watch>(
+fn best_with_circle<W: Listener>(
     alloc: Global,
     league: &League,
     budgets: Budgets,
@@ -125,7 +126,7 @@ fn best_with_circle<W: Watch>(
 ///
 /// # Errors
 /// Only where memory runs out.
-fn best_from<W: Watch>(
+fn best_from<W: Listener>(
     alloc: Global,
     league: &League,
     encoding: &Encoding,
@@ -154,7 +155,7 @@ fn best_from<W: Watch>(
 ///
 /// # Errors
 /// Only where memory runs out.
-fn try_patterns<W: Watch>(
+fn try_patterns<W: Listener>(
     alloc: Global,
     league: &League,
     encoding: &Encoding,
@@ -182,7 +183,7 @@ fn try_patterns<W: Watch>(
 ///
 /// # Errors
 /// Only where memory runs out.
-fn try_with<W: Watch>(
+fn try_with<W: Listener>(
     alloc: Global,
     league: &League,
     encoding: &Encoding,
@@ -203,7 +204,7 @@ fn try_with<W: Watch>(
 ///
 /// # Errors
 /// Only where memory runs out.
-fn try_without<W: Watch>(
+fn try_without<W: Listener>(
     alloc: Global,
     league: &League,
     encoding: &Encoding,
@@ -224,7 +225,7 @@ fn try_without<W: Watch>(
 ///
 /// # Errors
 /// Only where memory runs out.
-fn later_try<W: Watch>(
+fn later_try<W: Listener>(
     alloc: Global,
     league: &League,
     encoding: &Encoding,

@@ -10,14 +10,14 @@ use answers::{NoValue, Reply, file, league_in, rows_refused};
 use budgets::Budgets;
 use encoding::EncodeFault;
 use league::League;
+use listening::Listener;
 use robin_io::Shelf;
 use robinx_read::INSTANCE_LIMIT;
 use solve::solve;
 use std::alloc::{AllocError, Global};
-use watching::Watch;
 
 /// Finds a schedule of a league, or a log, and answers it.
-fn found_of<W: Watch>(
+fn found_of<W: Listener>(
     alloc: Global,
     league: &League,
     budgets: Budgets,
@@ -38,7 +38,7 @@ fn found_of<W: Watch>(
 ///
 /// # Errors
 /// Where a file is refused, with the reply that says why, and where memory runs out.
-pub fn solve_file<S: Shelf, W: Watch>(
+pub fn solve_file<S: Shelf, W: Listener>(
     alloc: Global,
     shelf: &mut S,
     instance: &str,

@@ -21,17 +21,17 @@ use descent::Descent;
 use encoding::EncodeFault;
 use instance_gen::make;
 use league::{League, Schedule};
+use listening::Listener;
 use solve::{Solved, solve};
 use solve_answer::{first_objective, schedule_text};
 use std::alloc::{AllocError, Global};
-use watching::Watch;
 
 /// Makes the league of n teams, n even and from 2 to 40, and a seed, and finds a schedule of it within budgets, until
 /// the watch ends the run: seven lines say what came of it, and what `solve` writes comes behind them.
 ///
 /// # Errors
 /// Where the rows of the league are too many, with the reply that says so, and where memory runs out.
-pub fn trial<W: Watch>(
+pub fn trial<W: Listener>(
     alloc: Global,
     n: u16,
     seed: u64,
@@ -46,7 +46,7 @@ pub fn trial<W: Watch>(
 }
 
 /// A league that accepts the schedule of the circle method, solved.
-fn solve_made<W: Watch>(
+fn solve_made<W: Listener>(
     alloc: Global,
     league: &League,
     seed: u64,

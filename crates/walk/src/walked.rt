@@ -11,8 +11,8 @@ ghost use Rattle.walk.specs.Walked.{IsSeasonOf, league_score};
 use crate::best::Best;
 use crate::walker::Walker;
 use league::{League, Schedule};
+use listening::Listener;
 use std::alloc::{AllocError, Global};
-use watching::Watch;
 
 /// What a walk gives: the best double round robin that it kept, and how many legal moves it says it tried.
 #[derive(Drop)]
@@ -27,7 +27,7 @@ pub struct Walked {
 ///
 /// # Errors
 /// Only where memory runs out.
-pub fn walk<W: Watch>(
+pub fn walk<W: Listener>(
     alloc: Global,
     league: &League,
     start: &Schedule,

@@ -4,6 +4,9 @@ ghost use Rattle.std.specs.List.{All};
 ghost use Rattle.league.specs.Counts.{counts_of};
 ghost use Rattle.league.specs.Instance.{IsGame};
 ghost use Rattle.league.specs.Structure.{IsRoundRobin};
+ghost use Rattle.cells.specs.Table.{table_counts};
+ghost use Rattle.moves.specs.Round.{round_counts};
+ghost use Rattle.tally.specs.League.{AreRulesOf};
 ghost use Rattle.descent.specs.Score.{IsNoWorse};
 ghost use Rattle.walk.specs.Standing.{IsWalkerIn};
 ghost use Rattle.walk.specs.Walked.{league_score};
@@ -12,19 +15,18 @@ use crate::afresh::random_start;
 use crate::best::Kept;
 use crate::copies::{copy_games, room_for_games};
 use crate::hard::hard_tally;
-use crate::standing::Standing;
+use crate::standing::{Cooling, STRETCH, Standing};
 use crate::weights::Weights;
 use descent::Score;
+use deviation::AnyRule;
 use league::{Game, League, Schedule};
+use listening::Listener;
 use rand_core::SeedableRng;
 use rand_pcg::Pcg32;
-use rule_core::{Plain, Steps};
+use rule_core::{Entries, Plain, Steps};
 use std::alloc::{AllocError, Global};
-use tally::league_tally;
-use watching::Watch;
-
-/// After so many moves tried the weights of the hard constraints are adapted.
-const STRETCH: u64 = 2000;
+use tally::{Tally, league_tally};
+use watching::News;
 
 /// A search ends after so many moves tried that didn't lower what the hard constraints cost.
 const PATIENCE: u64 = 1_600_000;
@@ -117,7 +119,7 @@ impl Walker {
     ///
     /// # Errors
     /// Only where memory runs out.
-    pub(crate) fn search<W: Watch>(
+    pub(crate) fn search<W: Listener>(
         &mut self,
         alloc: Global,
         league: &League,
@@ -152,7 +154,7 @@ impl Walker {
     ///
     /// # Errors
     /// Only where memory runs out.
-    fn search_once<W: Watch>(
+    fn search_once<W: Listener>(
         &mut self,
         alloc: Global,
         league: &League,
@@ -212,7 +214,7 @@ impl Walker {
     ///
     /// # Errors
     /// Only where memory runs out.
-    fn meet_hard<W: Watch>(
+    fn meet_hard<W: Listener>(
         &mut self,
         alloc: Global,
         league: &League,
@@ -229,6 +231,7 @@ impl Walker {
         'stretches: for _stretch in 0..self.left / STRETCH + 1 {
             let sum = self.stretch(alloc, league, &mut weights, watch)?;
             self.keep_lower(alloc, league, sum)?;
+            self.tell(league, watch);
             if sum == 0 || self.left == 0 || patience.ends(sum) || watch.is_over(self.tried()) {
                 return Ok(());
             }
@@ -240,7 +243,7 @@ impl Walker {
     ///
     /// # Errors
     /// Only where memory runs out.
-    fn stretch<W: Watch>(
+    fn stretch<W: Listener>(
         &mut self,
         alloc: Global,
         league: &League,
@@ -293,7 +296,7 @@ impl Walker {
     ///
     /// # Errors
     /// Only where memory runs out.
-    fn lower_soft<W: Watch>(
+    fn lower_soft<W: Listener>(
         &mut self,
         alloc: Global,
         league: &League,
@@ -311,16 +314,63 @@ impl Walker {
         if tally.infeasibility() > 0 {
             return Ok(());
         }
-        let tried = self.standing.improve(
-            &mut self.random,
-            self.left,
-            &mut self.best,
-            &mut tally,
-            &mut steps,
-            watch,
-        );
-        self.left -= tried;
+        self.soften(league, &mut tally, &mut steps, watch);
         Ok(())
+    }
+
+    /// From games that meet the hard constraints, of which the tally is, goes on to better ones, in stretches, until no
+    /// move may be tried any more, nothing is left to lower, or the watch ends the walk.
+    fn soften<W: Listener>(
+        &mut self,
+        league: &League,
+        tally: &mut Tally<AnyRule>,
+        steps: &mut Steps<Plain>,
+        watch: &W,
+    )
+        requires walker { IsWalkerIn league.now self.old }
+        requires rules { AreRulesOf ⟦<AnyRule as Entries>⟧ 1 league.now tally.old.weights }
+        requires teams { tally.old.table.n ≡ league.now.n }
+        requires counts { table_counts tally.old.table ≡ round_counts self.old.standing.board }
+        ensures walker { IsWalkerIn league.now self.new }
+        ensures no_worse { IsNoWorse self.new.best.score self.old.best.score }
+        ensures left { self.new.left ≤ self.old.left }
+    {
+        let whole = self.left;
+        'stretches: for _stretch in 0..whole / STRETCH + 1 {
+            let cooling = Cooling {
+                left: self.left,
+                whole,
+            };
+            let tried = self.standing.improve(
+                &mut self.random,
+                cooling,
+                &mut self.best,
+                tally,
+                steps,
+                watch,
+            );
+            self.left -= tried;
+            self.tell(league, watch);
+            if self.left == 0 || tally.objective() == 0 || watch.is_over(self.tried()) {
+                return;
+            }
+        }
+    }
+
+    /// Tells how far the walk has come.
+    fn tell<W: Listener>(&self, league: &League, watch: &W)
+        requires { IsWalkerIn league.now self.now }
+    {
+        let Score {
+            infeasibility: cost,
+            objective,
+        } = self.best.score();
+        let tried = self.tried();
+        if cost > 0 {
+            watch.tell(News::Hard { tried, cost });
+        } else {
+            watch.tell_season(league, self.best.games(), objective, tried);
+        }
     }
 
     /// How many moves may still be tried.

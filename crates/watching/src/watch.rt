@@ -8,6 +8,8 @@ pub enum News {
     Search { learnt: u64 },
     /// A walk has tried so many moves, and what it found so far misses hard constraints at this cost.
     Hard { tried: u64, cost: u128 },
+    /// The answer is ready, and nothing more is told.
+    Ready,
 }
 
 /// Watches over a run: says whether the run is to end, and hears how it goes. Nothing that it does changes what it is.
