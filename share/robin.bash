@@ -8,7 +8,7 @@ _robin() {
     case ${COMP_WORDS[1]} in
         validate) options="" ;;
         show) options="--form --most --width" ;;
-        solve) options="--conflicts --moves --patterns --seed --tries" ;;
+        solve) options="--conflicts --moves --patterns --seconds --seed --tries" ;;
         patterns) options="--conflicts" ;;
         explain) options="--conflicts" ;;
         part) options="" ;;
@@ -21,7 +21,7 @@ _robin() {
         values) options="" ;;
         circle) options="" ;;
         make) options="" ;;
-        trial) options="--conflicts --moves --patterns --seed --tries" ;;
+        trial) options="--conflicts --moves --patterns --seconds --seed --tries" ;;
     esac
     case $word in
         -*) COMPREPLY=($(compgen -W "$options --help" -- "$word")) ;;

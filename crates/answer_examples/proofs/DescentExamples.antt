@@ -299,13 +299,13 @@ best-none is = true_false (is 1 None (lit< tt))
 abbrev two_tries : Budgets
 two_tries = record { conflicts = None; moves = 0; tries = 2; patterns = 0; seed = 3 }
 
-pub best-tries : IsBestOfTries wishful two_tries (solved.Schedule out 0 resting)
+pub best-tries : IsBestOfTries wishful two_tries ⊥ (solved.Schedule out 0 resting)
 best-tries = record {
   found = Some dear ∷ Some cheap ∷ [];
   each = All-from_recursion (λ (o : Option Season). IfSome o (IsSeason wishful 0)) (Some dear ∷ Some cheap ∷ [])
       (schedule-stopped, (season_out, tt));
   few = λ some. lit≤ tt;
-  all = λ no. lit≤ tt;
+  all = λ no unstopped. lit≤ tt;
   best = record {
     before = Some dear ∷ [];
     after = [];

@@ -6,10 +6,11 @@ use Rattle.command_line.specs.declared.role.Role.TheVariants as role
 
 pub option_role-some : (option_role topic.Solve (codes "--seed") ≡ Some role.Draws)
     × (option_role topic.Trial (codes "--tries") ≡ Some role.Tries)
+    × (option_role topic.Solve (codes "--seconds") ≡ Some role.Seconds)
     × (option_role topic.Explain (codes "--conflicts") ≡ Some role.Conflicts)
     × (option_role topic.Prove (codes "--moves") ≡ None)
     × (option_role topic.Check (codes "--conflicts") ≡ None)
-option_role-some = (refl, refl, refl, refl, refl)
+option_role-some = (refl, refl, refl, refl, refl, refl)
 
 pub fits-some : (fits role.Teams (codes "8") ≡ true)
     × (fits role.Teams (codes "7") ≡ false)

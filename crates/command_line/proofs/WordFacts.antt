@@ -7,7 +7,7 @@ use Rattle.budgets.specs.declared.budgets.Budgets.{Budgets}
 use Rattle.command_line.specs.Words.{arguments_of, budget_in, has_options, is_file_name, is_option, is_shortest}
 use Rattle.command_line.specs.Words.{files_and_number, members_in, members_of, number_above, number_in, one_file}
 use Rattle.command_line.specs.Words.{one_number, reading, rising, said, two_files}
-use Rattle.command_line.specs.Words.{team_count_in, teams_and_seed, tries_in, values_of, words_of, NeedsNoFile}
+use Rattle.command_line.specs.Words.{team_count_in, teams_and_seed, time_limit, tries_in, values_of, words_of, NeedsNoFile}
 use Rattle.command_line.specs.Words.Command.{Audit, Bound, Check, Circle, Explain, Make, Part, Patterns, Prove}
 use Rattle.command_line.specs.Words.Command.{Help, Resume, Rows, Sheet, Show, Solve, Trial, Validate, Values, Version}
 
@@ -78,6 +78,22 @@ solve-patterns = (refl, refl, refl, refl, refl)
 
 pub solve-all : reading (codes "solve" ∷ codes "--seed" ∷ codes "5" ∷ codes "--tries" ∷ codes "100" ∷ codes "a" ∷ codes "--moves" ∷ codes "1" ∷ codes "--conflicts" ∷ codes "0" ∷ []) ≡ Some (Solve (codes "a") (record { conflicts = Some 0; moves = 1; tries = 100; patterns = 500; seed = 5 }))
 solve-all = refl
+
+-- a time limit changes nothing but how many tries are usual
+pub solve-seconds : (reading (codes "solve" ∷ codes "a" ∷ codes "--seconds" ∷ codes "5" ∷ [])
+    ≡ Some (Solve (codes "a") (record usual { tries = 18446744073709551615 })))
+    × (reading (codes "solve" ∷ codes "--seconds" ∷ codes "0" ∷ codes "a" ∷ codes "--tries" ∷ codes "3" ∷ [])
+    ≡ Some (Solve (codes "a") (record usual { tries = 3 })))
+    × (reading (codes "solve" ∷ codes "a" ∷ codes "--seconds" ∷ codes "1.5" ∷ []) ≡ None)
+    × (reading (codes "solve" ∷ codes "a" ∷ codes "--seconds" ∷ codes "1" ∷ codes "--seconds" ∷ codes "2" ∷ []) ≡ None)
+    × (reading (codes "patterns" ∷ codes "a" ∷ codes "--seconds" ∷ codes "5" ∷ []) ≡ None)
+solve-seconds = (refl, refl, refl, refl, refl)
+
+pub time_limit-some : (time_limit (codes "solve" ∷ codes "a" ∷ codes "--seconds" ∷ codes "5" ∷ []) ≡ Some 5)
+    × (time_limit (codes "trial" ∷ codes "--seconds" ∷ codes "0" ∷ codes "8" ∷ codes "7" ∷ []) ≡ Some 0)
+    × (time_limit (codes "solve" ∷ codes "a" ∷ []) ≡ None) × (time_limit [] ≡ None)
+    × (time_limit (codes "solve" ∷ codes "a" ∷ codes "--seconds" ∷ codes "x" ∷ []) ≡ None)
+time_limit-some = (refl, refl, refl, refl, refl)
 
 -- a leading zero, an option twice, its value behind `=`, no try and too many
 pub solve-wrong_values : (reading (codes "solve" ∷ codes "a" ∷ codes "--moves" ∷ codes "01" ∷ []) ≡ None) × (reading (codes "solve" ∷ codes "a" ∷ codes "--moves" ∷ codes "1" ∷ codes "--moves" ∷ codes "2" ∷ []) ≡ None) × (reading (codes "solve" ∷ codes "a" ∷ codes "--moves=1" ∷ []) ≡ None) × (reading (codes "solve" ∷ codes "a" ∷ codes "--tries" ∷ codes "0" ∷ []) ≡ None) × (reading (codes "solve" ∷ codes "a" ∷ codes "--tries" ∷ codes "101" ∷ []) ≡ None) × (reading (codes "solve" ∷ codes "a" ∷ codes "--seed" ∷ codes "all" ∷ []) ≡ None)

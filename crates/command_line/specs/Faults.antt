@@ -8,8 +8,8 @@ use Rattle.command_line.specs.declared.topic.Topic.{Topic}
 use Rattle.command_line.specs.declared.topic.Topic.TheVariants as topic
 use Rattle.command_line.specs.declared.role.Role.{Role}
 use Rattle.command_line.specs.declared.role.Role.TheVariants.{Instance, Solution, Log, Values, Slots, Teams, Seed}
-use Rattle.command_line.specs.declared.role.Role.TheVariants.{Members, Conflicts, Moves, Tries, Patterns, Draws, Bound}
-use Rattle.command_line.specs.declared.role.Role.TheVariants.{Form, Most, Width}
+use Rattle.command_line.specs.declared.role.Role.TheVariants.{Members, Conflicts, Moves, Tries, Patterns, Draws, Seconds}
+use Rattle.command_line.specs.declared.role.Role.TheVariants.{Bound, Form, Most, Width}
 use Rattle.command_line.specs.declared.fault.WordFault.{WordFault}
 use Rattle.command_line.specs.declared.fault.WordFault.TheVariants.{NoWord, NoCommand, NotAlone, NoOption, NoValue, Twice}
 use Rattle.command_line.specs.declared.fault.WordFault.TheVariants.{Beside, Unfit, Missing, Surplus, Other}
@@ -29,6 +29,7 @@ fits Moves word = is_some (number_in word)
 fits Tries word = is_some (tries_in word)
 fits Patterns word = is_some (number_in word)
 fits Draws word = is_some (number_in word)
+fits Seconds word = is_some (number_in word)
 fits Bound word = is_some (number_in word)
 fits Form word = is_some (form_in word)
 fits Most word = is_some (small_in word)
@@ -44,7 +45,8 @@ solve_option word =
     else (if bytes_eq word (codes "--moves") then Some Moves
     else (if bytes_eq word (codes "--tries") then Some Tries
     else (if bytes_eq word (codes "--patterns") then Some Patterns
-    else (if bytes_eq word (codes "--seed") then Some Draws else None))))
+    else (if bytes_eq word (codes "--seed") then Some Draws
+    else (if bytes_eq word (codes "--seconds") then Some Seconds else None)))))
 
 -- of the option of `rows`
 abbrev pub row_option : List ℕ → Option Role

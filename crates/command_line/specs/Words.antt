@@ -1,5 +1,5 @@
 -- What the words of the command line, without the program's name, ask for.
-use Rattle.std.specs.Prelude.{ℕ, ◌^◌, nat_le, nat_lt, ◌==◌, List, [], ◌∷◌, codes, bytes_eq}
+use Rattle.std.specs.Prelude.{ℕ, ◌^◌, ◌-◌, nat_le, nat_lt, ◌==◌, List, [], ◌∷◌, codes, bytes_eq}
 use Rattle.std.specs.Prelude.{Bool, true, false, not, ◌&&◌, if◌then◌else◌, Option, Some, None, option_and_then}
 use Rattle.std.specs.Prelude.{option_map, unwrap_or}
 use Rattle.std.specs.Option.{option_or}
@@ -135,6 +135,26 @@ files_and_number (first ∷ second ∷ rest) =
 abbrev pub conflicts_in : List (List ℕ) → Option (Option ℕ)
 conflicts_in words = said (Some usual_conflicts) budget_in (values_of (codes "--conflicts") words)
 
+-- the time limit that a word writes, in seconds
+abbrev pub limit_in : List ℕ → Option (Option ℕ)
+limit_in word = option_map Some (number_in word)
+
+-- after how many seconds a run is to end: where the words don't say it, it has no such limit
+abbrev pub seconds_in : List (List ℕ) → Option (Option ℕ)
+seconds_in words = said None limit_in (values_of (codes "--seconds") words)
+
+-- The time limit that the words of a command line say. It is no part of the command: what is promised of a run is the
+-- same with it and without.
+abbrev pub time_limit : List (List ℕ) → Option ℕ
+time_limit [] = None
+time_limit (command ∷ words) = unwrap_or (seconds_in words) None
+
+-- how many tries there are where the words don't say it: one, or with a time limit as many as it leaves time for (own
+-- choice)
+abbrev pub usual_tries : Option ℕ → ℕ
+usual_tries None = 1
+usual_tries (Some seconds) = 2 ^ 64 - 1
+
 -- ---- commands with options
 
 infixl 10 ◌>>=◌
@@ -147,7 +167,8 @@ abbrev pub budgets_in : List (List ℕ) → Option Budgets
 budgets_in words = do
   conflicts ← conflicts_in words
   moves ← said 10000 number_in (values_of (codes "--moves") words)
-  tries ← said 1 tries_in (values_of (codes "--tries") words)
+  seconds ← seconds_in words
+  tries ← said (usual_tries seconds) tries_in (values_of (codes "--tries") words)
   patterns ← said 500 number_in (values_of (codes "--patterns") words)
   seed ← said 0 number_in (values_of (codes "--seed") words)
   Some (record { conflicts = conflicts; moves = moves; tries = tries; patterns = patterns; seed = seed })
@@ -157,7 +178,9 @@ abbrev pub search_options : List (List ℕ)
 search_options = codes "--conflicts" ∷ []
 
 abbrev pub solve_options : List (List ℕ)
-solve_options = codes "--conflicts" ∷ codes "--moves" ∷ codes "--tries" ∷ codes "--patterns" ∷ codes "--seed" ∷ []
+solve_options =
+    codes "--conflicts" ∷ codes "--moves" ∷ codes "--tries" ∷ codes "--patterns" ∷ codes "--seed"
+    ∷ codes "--seconds" ∷ []
 
 -- `solve` over one file, with options before, between and behind
 abbrev pub solving : List (List ℕ) → Option Command

@@ -16,4 +16,4 @@ pub use goal::Goal;
 pub use list::members;
 pub use role::Role;
 pub use topic::{Topic, name_of, topic_of};
-pub use words::{Words, read_words};
+pub use words::{Words, read_words, seconds_of};

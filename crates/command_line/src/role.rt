@@ -35,6 +35,8 @@ pub enum Role {
     Patterns,
     /// The value of `--seed`.
     Draws,
+    /// The value of `--seconds`.
+    Seconds,
     /// The value of `--bound`.
     Bound,
     /// The value of `--form`.
@@ -51,8 +53,13 @@ pub(crate) fn fits(role: Role, word: &str) -> bool
 {
     match role {
         Role::Instance | Role::Solution | Role::Log | Role::Values => is_name(word),
-        Role::Slots | Role::Seed | Role::Moves | Role::Patterns | Role::Draws | Role::Bound =>
-            number(word).is_some(),
+        Role::Slots
+        | Role::Seed
+        | Role::Moves
+        | Role::Patterns
+        | Role::Draws
+        | Role::Seconds
+        | Role::Bound => number(word).is_some(),
         Role::Teams => team_count(word).is_some(),
         Role::Members => is_list(word),
         Role::Conflicts => budget(word).is_some(),
@@ -127,6 +134,7 @@ fn solve_option(word: &str) -> Option<Role>
         "--tries" => Some(Role::Tries),
         "--patterns" => Some(Role::Patterns),
         "--seed" => Some(Role::Draws),
+        "--seconds" => Some(Role::Seconds),
         _ => None,
     }
 }

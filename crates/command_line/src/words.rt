@@ -7,11 +7,11 @@ ghost use Rattle.std.specs.Option.{option_copied};
 ghost use Rattle.command_line.specs.Words as options;
 ghost use Rattle.command_line.specs.Words.{arguments_of, asking, auditing, bound_in, bounding, budget_in, budgets_in};
 ghost use Rattle.command_line.specs.Words.{conflicts_in, costing, explaining, lowering};
-ghost use Rattle.command_line.specs.Words.{following, has_options, helping, is_file_name, making, parting};
+ghost use Rattle.command_line.specs.Words.{following, has_options, helping, is_file_name, limit_in, making, parting};
 ghost use Rattle.command_line.specs.Words.{HasTeams, number_in, patterning, plain, proving, reading, resuming, row_options, rowing, said};
 ghost use Rattle.command_line.specs.Words.{form_in, show_options, showing, small_in};
 ghost use Rattle.command_line.specs.Words.{search_options, solve_options, solving, team_count_in, tries_in, trying};
-ghost use Rattle.command_line.specs.Words.{values_of};
+ghost use Rattle.command_line.specs.Words.{seconds_in, time_limit, values_of};
 ghost use Rattle.command_line.specs.Words.Command.{Circle};
 ghost use Rattle.command_line.specs.declared.goal.Goal.TheVariants.{Accepted};
 ghost use Rattle.command_line.specs.SeenWords.{command_of};
@@ -601,13 +601,24 @@ fn number_alone(word: &str, rest: &[String]) -> Option<u64>
     }
 }
 
+/// After how many seconds the run of these words, without the program's name, is to end: None where they don't say it.
+pub fn seconds_of(words: &[String]) -> Option<u64>
+    ensures { result ≡ time_limit (map string_bytes words.now) }
+{
+    match words {
+        [] => None,
+        [_, rest @ ..] => seconds_said(rest).unwrap_or(None),
+    }
+}
+
 /// What the words say of how far `solve` goes.
 fn budgets(words: &[String]) -> Option<Budgets>
     ensures { result ≡ budgets_in (map string_bytes words.now) }
 {
     let conflicts = conflicts_said(words)?;
     let moves = number_said(words, "--moves", USUAL_MOVES)?;
-    let tries = tries_said(words)?;
+    let seconds = seconds_said(words)?;
+    let tries = tries_said(words, usual_tries(seconds))?;
     let patterns = number_said(words, "--patterns", USUAL_PATTERNS)?;
     let seed = number_said(words, "--seed", 0)?;
     Some(Budgets {
@@ -652,6 +663,17 @@ fn form_said(words: &[String]) -> Option<bool>
     }
 }
 
+/// After how many seconds the run is to end, if the words say it.
+fn seconds_said(words: &[String]) -> Option<Option<u64>>
+    ensures { result ≡ seconds_in (map string_bytes words.now) }
+{
+    match value_of(words, "--seconds") {
+        Standing::Never => Some(None),
+        Standing::Once(word) => limit(word),
+        Standing::Often => None,
+    }
+}
+
 /// The number that an option says, below 4,294,967,296, or the usual one where it doesn't stand.
 fn small_said(words: &[String], name: &str, usual: u32) -> Option<u32>
     ensures { result ≡ said usual small_in (values_of name.now (map string_bytes words.now)) }
@@ -663,12 +685,22 @@ fn small_said(words: &[String], name: &str, usual: u32) -> Option<u32>
     }
 }
 
-/// How many tries there are.
-fn tries_said(words: &[String]) -> Option<u64>
-    ensures { result ≡ said 1 tries_in (values_of (codes "--tries") (map string_bytes words.now)) }
+/// How many tries there are where the words don't say it: with a time limit as many as it leaves time for.
+fn usual_tries(seconds: Option<u64>) -> u64
+    ensures { result ≡ options.usual_tries seconds }
+{
+    match seconds {
+        None => 1,
+        Some(_) => u64::MAX,
+    }
+}
+
+/// How many tries there are; the usual number where the words don't say it.
+fn tries_said(words: &[String], usual: u64) -> Option<u64>
+    ensures { result ≡ said usual tries_in (values_of (codes "--tries") (map string_bytes words.now)) }
 {
     match value_of(words, "--tries") {
-        Standing::Never => Some(1),
+        Standing::Never => Some(usual),
         Standing::Once(word) => tries(word),
         Standing::Often => None,
     }
@@ -821,6 +853,7 @@ fn is_solve_option(word: &str) -> bool
         || word == "--tries"
         || word == "--patterns"
         || word == "--seed"
+        || word == "--seconds"
 }
 
 /// Whether a word names an option: it begins with `--`.
@@ -870,6 +903,14 @@ pub(crate) fn small(word: &str) -> Option<u32>
     } else {
         None
     }
+}
+
+/// The time limit that a word writes, in seconds.
+fn limit(word: &str) -> Option<Option<u64>>
+    ensures { result ≡ limit_in word.now }
+{
+    let seconds = number(word)?;
+    Some(Some(seconds))
 }
 
 /// Whether a word is a file's name: a word that begins with `-` is none.

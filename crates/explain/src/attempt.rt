@@ -20,6 +20,7 @@ use parts::{PartFault, part};
 use refutation::Log;
 use solve::{Solved, solve};
 use std::alloc::{AllocError, Global};
+use watching::Unwatched;
 
 /// What a try came to.
 #[derive(Drop)]
@@ -71,7 +72,7 @@ pub(crate) fn searched(
     ensures crowded { are_crowded league.now ≡ true → IfOk result IsRefuted }
     ensures few { are_few league.now ≡ true → IfOk result IsRefuted }
 {
-    match solve(alloc, league, budgets_of(conflicts))? {
+    match solve(alloc, league, budgets_of(conflicts), &Unwatched)? {
         Solved::Schedule {
             schedule,
             objective,

@@ -41,6 +41,7 @@ Options stand before, between or behind the words, each once at most:
   --tries N          tries, from 1 to 100 (1); of solve and trial
   --patterns N       clauses of a search for patterns (500); of solve and trial
   --seed N           what random moves are drawn by (0); of solve and trial
+  --seconds N        a time limit of N seconds; of solve and trial
   --bound B          seasons that cost at most B; of rows
   --objective        a season that costs least; of rows, and not with --bound
   --form text|csv    a text, or values for a spreadsheet (text); of show
@@ -114,7 +115,11 @@ usage: robin solve INSTANCE [OPTIONS]
 Finds a season that the league of the file INSTANCE accepts, and goes on to
 better ones by moves; or writes a log that proves that there is no season.
 
+Use --seconds first: more time never gives a worse season.
 Options stand before or behind the file, each once at most:
+  --seconds N    after N seconds walks end, no further try begins, and the best
+                 season is written; a search ends by its own budget. Without
+                 --tries, tries go on until then
   --conflicts N  each search learns at most N clauses (2000); all in place of
                  N: any number
   --moves N      at most N moves lead to better seasons, and a walk tries at
@@ -124,6 +129,8 @@ Options stand before or behind the file, each once at most:
                  for patterns comes first, which learns at most N clauses (500)
   --seed N       random moves are drawn by N (0)
 N is a number from 0 to 18446744073709551615, where nothing else is said.
+Ctrl-C ends it as a time limit does, a second one nothing more; Ctrl-\\ ends it
+at once, and nothing is written.
 
 Status:  0  a season is found, and written with its objective
          3  the file is refused, or its league is too large
@@ -367,7 +374,7 @@ usage: robin trial N SEED [OPTIONS]
 Makes the league that make writes, and solves it: seven lines say in short what
 is found, and behind them stands what solve writes. N is even, from 2 to 40,
 and SEED a number from 0 to 18446744073709551615. The options are those of
-solve: --conflicts, --moves, --tries, --patterns and --seed.
+solve: --seconds, --conflicts, --moves, --tries, --patterns and --seed.
 
 Status:  0  a season is found, and written
          3  the league is too large

@@ -3,10 +3,13 @@
 #![tactic(auto)]
 
 use answers::{Status, code};
+use command_line::seconds_of;
+use host_watch::{HostWatch, Telling};
 use robin_io::{HostShelf, HostSink};
 use robin_run::run;
 use std::process::ExitCode;
-use std::{env, io};
+use std::io::{self, IsTerminal};
+use std::env;
 
 /// The exit status where the system gives no arguments, or one that isn't UTF-8.
 const NO_ARGUMENTS: u8 = 10;
@@ -34,32 +37,60 @@ fn reason_of(status: u8) -> &'static str {
     }
 }
 
-/// The words of the command line without the program's name, or the exit status where there are none.
-fn words_of(rt: &HostRuntime) -> Result<Vec<String>, u8> {
+/// The word that asks to be told nothing of how a run goes.
+const QUIET: &str = "--quiet";
+
+/// The words of the command line.
+#[derive(Drop)]
+struct Line {
+    /// Those of the command, without the program's name.
+    words: Vec<String>,
+    /// Whether nothing is to be told of how the run goes.
+    quiet: bool,
+}
+
+/// The words of the command line, or the exit status where there are none.
+fn line_of(rt: &HostRuntime) -> Result<Line, u8> {
     let arguments = match env::args(rt) {
         Ok(arguments) => arguments,
         Err(error) => return Err(without_words(&error)),
     };
     let mut words = Vec::new(rt.alloc());
+    let mut quiet = false;
     for word in arguments.skip(1) {
-        if words.push(word).is_err() {
+        if word.as_str() == QUIET {
+            quiet = true;
+        } else if words.push(word).is_err() {
             return Err(code(Status::Memory));
         }
     }
-    Ok(words)
+    Ok(Line { words, quiet })
+}
+
+/// Who is told how a run goes.
+fn telling_of(rt: &HostRuntime, quiet: bool) -> Telling {
+    if quiet {
+        Telling::Nobody
+    } else if rt.stderr().is_terminal() {
+        Telling::Terminal
+    } else {
+        Telling::File
+    }
 }
 
 /// Runs the command over the machine's files, its standard output and its standard error, and gives the exit status.
-fn status_of(rt: &HostRuntime, words: &[String]) -> u8 {
+fn status_of(rt: &HostRuntime, line: &Line) -> u8 {
+    let words = &line.words;
     let mut shelf = HostShelf::new(rt);
     let mut out = HostSink::new(io::writer(rt));
     let mut told = HostSink::new(rt.stderr());
-    code(run(rt.alloc(), words, &mut shelf, &mut out, &mut told))
+    let watch = HostWatch::new(rt, seconds_of(words), telling_of(rt, line.quiet));
+    code(run(rt.alloc(), words, &mut shelf, &mut out, &mut told, &watch))
 }
 
 fn main(rt: HostRuntime) -> ExitCode {
-    match words_of(&rt) {
-        Ok(words) => ExitCode::from(status_of(&rt, &words)),
+    match line_of(&rt) {
+        Ok(line) => ExitCode::from(status_of(&rt, &line)),
         Err(status) => {
             // The status says it too, so it doesn't matter whether this is written.
             let reason = reason_of(status);

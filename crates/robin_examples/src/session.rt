@@ -62,7 +62,7 @@ fn status_of(
     told: &mut MemSink,
 ) -> Result<u8, AllocError> {
     let words = words_of(alloc, line)?;
-    Ok(code(run(alloc, &words, shelf, out, told)))
+    Ok(code(run(alloc, &words, shelf, out, told, &Unwatched)))
 }
 
 /// Runs the command of a line over the files of the machine, and says how it ended and what a person was told.

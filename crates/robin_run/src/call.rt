@@ -23,6 +23,7 @@ use circle_answer::circle;
 use command_line::{Goal, Words, members, read_words};
 use explain_answer::{explain_file, part_file};
 use help_answer::{help, refuse_words, version};
+use listening::Listener;
 use make_answer::make_league;
 use patterns_answer::patterns_file;
 use prove_answer::prove_file;
@@ -35,6 +36,7 @@ use std::alloc::Global;
 use trial_answer::trial;
 use validate_answer::validate;
 use values_answer::values_file;
+use watching::News;
 
 /// Writes the part of the league of a file for the numbers of a list.
 fn part_of_list<S: Shelf>(
@@ -66,7 +68,12 @@ fn rows_of_file<S: Shelf>(
 }
 
 /// Follows a command.
-fn follow<S: Shelf>(alloc: Global, command: Words, shelf: &mut S) -> Result<Given, NoValue>
+fn follow<S: Shelf, W: Listener>(
+    alloc: Global,
+    command: Words,
+    shelf: &mut S,
+    watch: &W,
+) -> Result<Given, NoValue>
     requires { HasTeams (command_of command) }
     ensures answer { Gives (IsAnswer (Some (command_of command.entry))
         (store_between S.Shelf shelf.old shelf.new)) result }
@@ -85,7 +92,9 @@ fn follow<S: Shelf>(alloc: Global, command: Words, shelf: &mut S) -> Result<Give
             give(show(alloc, shelf, instance, solution, Form::Csv))
         }
         Words::Check { instance, log } => give(check(alloc, shelf, instance, log)),
-        Words::Solve { instance, budgets } => give(solve_file(alloc, shelf, instance, budgets)),
+        Words::Solve { instance, budgets } => {
+            give(solve_file(alloc, shelf, instance, budgets, watch))
+        }
         Words::Patterns {
             instance,
             conflicts,
@@ -117,14 +126,19 @@ fn follow<S: Shelf>(alloc: Global, command: Words, shelf: &mut S) -> Result<Give
         Words::Values { instance, values } => give(values_file(alloc, shelf, instance, values)),
         Words::Circle { n } => Ok(Given::Answer(circle(alloc, n)?)),
         Words::Make { n, seed } => Ok(Given::Answer(make_league(alloc, n, seed)?)),
-        Words::Trial { n, seed, budgets } => give(trial(alloc, n, seed, budgets)),
+        Words::Trial { n, seed, budgets } => give(trial(alloc, n, seed, budgets, watch)),
         Words::Help { topic } => Ok(Given::Answer(help(alloc, topic)?)),
         Words::Version => Ok(Given::Answer(version(alloc)?)),
     }
 }
 
 /// The answer to the words, or why there is none.
-fn answer<S: Shelf>(alloc: Global, words: &[String], shelf: &mut S) -> Result<Given, NoValue>
+fn answer<S: Shelf, W: Listener>(
+    alloc: Global,
+    words: &[String],
+    shelf: &mut S,
+    watch: &W,
+) -> Result<Given, NoValue>
     ensures answer { Gives (IsAnswer (reading (map string_bytes words.now))
         (store_between S.Shelf shelf.old shelf.new)) result }
     ensures contents { (n : List ℕ) → S.contents shelf.new n ≡ S.contents shelf.old n }
@@ -132,7 +146,7 @@ fn answer<S: Shelf>(alloc: Global, words: &[String], shelf: &mut S) -> Result<Gi
 {
     match read_words(words) {
         None => Err(NoValue::Refused(refuse_words(alloc, words)?)),
-        Some(command) => follow(alloc, command, shelf),
+        Some(command) => follow(alloc, command, shelf, watch),
     }
 }
 
@@ -189,7 +203,8 @@ fn write_given<K: Sink, T: Sink>(out: &mut K, told: &mut T, given: Result<Given,
 ///
 /// `words` are the words of the command line without the program's name. The whole text is made before its first byte
 /// is written, but for that of `rows`, which is made as it is written. What a person is told of a run that went wrong
-/// goes to `told`: no clause says anything of it, and its faults change nothing.
+/// goes to `told`: no clause says anything of it, and its faults change nothing. The watch may end walks and further
+/// tries of `solve` and `trial`, and hears how they go.
 ///
 /// - `answer`: whatever the store, the sink and the files do, an answer to the words is written, and each refusal has
 ///   its cause.
@@ -199,12 +214,13 @@ fn write_given<K: Sink, T: Sink>(out: &mut K, told: &mut T, given: Result<Given,
 ///   tells them, that of the machine doesn't.
 /// - `contents` and `untouched`: no file's contents change, and words that need no file leave the store alone.
 /// - `memory`: memory may run out at any time, and then nothing is written. Nothing is said of which files were read.
-pub fn run<S: Shelf, K: Sink, T: Sink>(
+pub fn run<S: Shelf, K: Sink, T: Sink, W: Listener>(
     alloc: Global,
     words: &[String],
     shelf: &mut S,
     out: &mut K,
     told: &mut T,
+    watch: &W,
 ) -> Status
     ensures answer { Answered (run_of S.Shelf K.Sink words.now shelf.old shelf.new out.old out.new result) }
     ensures ends { EndsByWords (run_of S.Shelf K.Sink words.now shelf.old shelf.new out.old out.new result) }
@@ -213,6 +229,7 @@ pub fn run<S: Shelf, K: Sink, T: Sink>(
     ensures untouched { NeedsNoFile (reading (map string_bytes words.now)) → shelf.new ≡ shelf.old }
     ensures memory { result ≡ Status.Memory → Keeps (K.written out.old) (K.written out.new) }
 {
-    let given = answer(alloc, words, shelf);
+    let given = answer(alloc, words, shelf, watch);
+    watch.tell(News::Ready);
     write_given(out, told, given)
 }

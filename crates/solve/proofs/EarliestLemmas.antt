@@ -135,13 +135,13 @@ season-is_tried league budgets (tries.Refuted log) is = tt
 season-is_tried league budgets (tries.Spent log) is = tt
 
 -- an answer of one try, where there may be no more
-pub one_try : (league : Instance) (budgets : Budgets) (answer : Solved) → IsSolution league budgets answer
-    → budgets.tries ≤ 1 → IsBestOfTries league budgets answer
-one_try league budgets answer is most = record {
+pub one_try : (league : Instance) (budgets : Budgets) (may_stop : Type 0) (answer : Solved)
+    → IsSolution league budgets answer → budgets.tries ≤ 1 → IsBestOfTries league budgets may_stop answer
+one_try league budgets may_stop answer is most = record {
   found = season_of answer ∷ [];
   each = All-cons (λ o. IfSome o (IsSeason league budgets.moves)) (season_of answer) []
       (season-solved league budgets answer is) (All-nil (λ o. IfSome o (IsSeason league budgets.moves)));
   few = λ more. absurd (omega (arith, more));
-  all = λ goes_on. most;
+  all = λ goes_on unstopped. most;
   best = one-best (season_of answer);
 }

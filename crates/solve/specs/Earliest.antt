@@ -38,10 +38,10 @@ IsBestOf found (Some season) = IsEarliestLeast found season
 IsBestOf found None = All IsNone found
 
 -- an answer is the best of what some tries find, each no schedule or one that the league accepts: of one try or of as
--- many as there may be, and of fewer only where it refutes
-pub record IsBestOfTries (league : Instance) (budgets : Budgets) (answer : Solved) : Type 0 where
+-- many as there may be, and of fewer only where it refutes, or where the run may be stopped
+pub record IsBestOfTries (league : Instance) (budgets : Budgets) (may_stop : Type 0) (answer : Solved) : Type 0 where
   pub found : List (Option Season)
   pub each : All (λ o. IfSome o (IsSeason league budgets.moves)) found
   pub few : 1 < length found → length found ≤ budgets.tries
-  pub all : (IsRefuted answer → ⊥) → budgets.tries ≤ length found
+  pub all : (IsRefuted answer → ⊥) → (may_stop → ⊥) → budgets.tries ≤ length found
   pub best : IsBestOf found (season_of answer)

@@ -16,31 +16,33 @@ use clause_search::{Found, search};
 use decoding::decode;
 use encoding::Encoding;
 use league::League;
+use listening::Listener;
 use log_lines::note_numbers;
 use rows::{Assignment, Lit};
 use std::alloc::{AllocError, Global};
 
-/// One try: a search that decides these literals first, and a walk by the moves that a seed draws. Where a limit is set
-/// to the search it comes first: unless it refutes the league, the walk follows, and the better schedule of both stays.
-/// Where none is set the walk comes first, and the search only if the walk finds no schedule.
+/// One try: a search that decides these literals first, and a walk by the moves that the seed draws, until the watch
+/// ends it. Where a limit is set to the search it comes first: unless it refutes the league, the walk follows, and the
+/// better schedule of both stays. Where none is set the walk comes first, and the search only if the walk finds no
+/// schedule.
 ///
 /// # Errors
 /// Only where memory runs out.
-pub(crate) fn try_both(
+pub(crate) fn try_both<W: Listener>(
     alloc: Global,
     league: &League,
     encoding: &Encoding,
     prefer: &[Lit],
     budgets: Budgets,
-    seed: u64,
+    watch: &W,
 ) -> Result<Tried, AllocError>
     requires league { encoding.now ≡ league.now }
     requires known { All (λ l. l.var ≤ var_count encoding.now) prefer.now }
     ensures { IfOk result (IsTried league.now budgets) }
 {
     match budgets.conflicts {
-        Some(_) => search_then_walk(alloc, league, encoding, prefer, budgets, seed),
-        None => walk_or_search(alloc, league, encoding, prefer, budgets, seed),
+        Some(_) => search_then_walk(alloc, league, encoding, prefer, budgets, watch),
+        None => walk_or_search(alloc, league, encoding, prefer, budgets, watch),
     }
 }
 
@@ -48,13 +50,13 @@ pub(crate) fn try_both(
 ///
 /// # Errors
 /// Only where memory runs out.
-fn search_then_walk(
+fn search_then_walk<W: Listener>(
     alloc: Global,
     league: &League,
     encoding: &Encoding,
     prefer: &[Lit],
     budgets: Budgets,
-    seed: u64,
+    watch: &W,
 ) -> Result<Tried, AllocError>
     requires league { encoding.now ≡ league.now }
     requires known { All (λ l. l.var ≤ var_count encoding.now) prefer.now }
@@ -64,7 +66,7 @@ fn search_then_walk(
     if matches!(found, Tried::Refuted(_)) {
         return Ok(found);
     }
-    let walked = try_walk(alloc, league, budgets.moves, seed)?;
+    let walked = try_walk(alloc, league, budgets.moves, budgets.seed, watch)?;
     Ok(with_walked(found, walked))
 }
 
@@ -72,19 +74,19 @@ fn search_then_walk(
 ///
 /// # Errors
 /// Only where memory runs out.
-fn walk_or_search(
+fn walk_or_search<W: Listener>(
     alloc: Global,
     league: &League,
     encoding: &Encoding,
     prefer: &[Lit],
     budgets: Budgets,
-    seed: u64,
+    watch: &W,
 ) -> Result<Tried, AllocError>
     requires league { encoding.now ≡ league.now }
     requires known { All (λ l. l.var ≤ var_count encoding.now) prefer.now }
     ensures { IfOk result (IsTried league.now budgets) }
 {
-    match try_walk(alloc, league, budgets.moves, seed)? {
+    match try_walk(alloc, league, budgets.moves, budgets.seed, watch)? {
         Some(season) => Ok(Tried::Found(season)),
         None => try_search(alloc, league, encoding, prefer, budgets),
     }

@@ -5,6 +5,7 @@ ghost use Rattle.solve.specs.Tried.{IsSeason};
 use crate::lower::{Season, lowered};
 use circle_method::double;
 use league::League;
+use listening::Listener;
 use std::alloc::{AllocError, Global};
 use walk::walk;
 
@@ -15,15 +16,17 @@ const TRIED: u64 = 100;
 const USUAL: u64 = 10_000;
 
 /// What a descent of at most so many moves makes of the schedule that a walk finds, where the league accepts that. The
-/// walk goes from the schedule of the circle method by the moves that a seed draws. Without moves there is none.
+/// walk goes from the schedule of the circle method by the moves that a seed draws, until the watch ends it. Without
+/// moves there is none.
 ///
 /// # Errors
 /// Only where memory runs out.
-pub(crate) fn try_walk(
+pub(crate) fn try_walk<W: Listener>(
     alloc: Global,
     league: &League,
     moves: u64,
     seed: u64,
+    watch: &W,
 ) -> Result<Option<Season>, AllocError>
     ensures { IfOk result (λ tried. IfSome tried (IsSeason league.now moves)) }
 {
@@ -32,7 +35,7 @@ pub(crate) fn try_walk(
     }
     let n = league.n();
     let start = double(alloc, n)?;
-    let walked = walk(alloc, league, &start, seed, walk_budget(n, moves))?;
+    let walked = walk(alloc, league, &start, seed, walk_budget(n, moves), watch)?;
     if walked.best.score.infeasibility > 0 {
         return Ok(None);
     }

@@ -23,11 +23,13 @@ use crate::tries::{Tried, better, is_refuted, schedule_found, solved_by};
 use budgets::Budgets;
 use encoding::{EncodeFault, Encoding, check_size, encode_small};
 use league::League;
+use listening::Listener;
 use log_lines::note_numbers;
 use pattern_search::{PatternFound, pattern_set};
 use patterns::PatternSet;
 use refutation::Log;
 use std::alloc::{AllocError, Global};
+use watching::Watch;
 
 /// Finds a schedule that the league accepts, or a proof that there is none.
 ///
@@ -40,7 +42,7 @@ use std::alloc::{AllocError, Global};
 /// teams, as often as 10,000 go into the moves of the descent; behind its search, where that is limited, and else
 /// before it, and then a schedule that the walk finds takes the search's place. With a limit of conflicts the search of
 /// a try learns at most so many clauses, and then its log is the answer, with what is known of the patterns; without
-/// one it goes on to the end. From a schedule that is accepted a descent goes on by moves to better ones, at most so
+/// one it goes on to the end. The watch may end each walk, and the tries behind the first. From a schedule that is accepted a descent goes on by moves to better ones, at most so
 /// many moves a try. The schedule of the least objective is the answer, of equal ones the earliest; a refutation is the
 /// answer at once. What a search finds first is not promised, and an objective is the schedule's own, not the least of
 /// all.
@@ -48,7 +50,12 @@ use std::alloc::{AllocError, Global};
 /// # Errors
 /// `TooLarge` exactly where the league's rows have more than 40,000,000 terms, with their number, before anything
 /// else; else only where memory runs out.
-pub fn solve(alloc: Global, league: &League, budgets: Budgets) -> Result<Solved, EncodeFault>
+pub fn solve<W: Listener>(
+    alloc: Global,
+    league: &League,
+    budgets: Budgets,
+    watch: &W,
+) -> Result<Solved, EncodeFault>
     ensures limit { KeepsLimit (encoding_size league.now) (encoding_size league.now) result }
     ensures solution { IfOk result (IsSolution league.now budgets) }
 
@@ -65,7 +72,7 @@ pub fn solve(alloc: Global, league: &League, budgets: Budgets) -> Result<Solved,
     if let Some(log) = count_out(alloc, league)? {
         return Ok(Solved::Refuted(log));
     }
-    let solved = best_try(alloc, league, budgets)?;
+    let solved = best_try(alloc, league, budgets, watch)?;
     Ok(solved)
 }
 
@@ -73,18 +80,23 @@ pub fn solve(alloc: Global, league: &League, budgets: Budgets) -> Result<Solved,
 ///
 /// # Errors
 /// Only where memory runs out.
-fn best_try(alloc: Global, league: &League, budgets: Budgets) -> Result<Solved, AllocError>
+fn best_try<W: Listener>(
+    alloc: Global,
+    league: &League,
+    budgets: Budgets,
+    watch: &W,
+) -> Result<Solved, AllocError>
     requires small { encoding_size league.now ≤ most_terms }
     ensures solution { IfOk result (IsSolution league.now budgets) }
     ensures circle { IsAccepted league.now (counts_of (double_games league.now.n)) → IfOk result HasSchedule }
-    ensures best { IfOk result (IsBestOfTries league.now budgets) }
+    ensures best { IfOk result (IsBestOfTries league.now budgets (W.may_stop watch.now)) }
 {
     if let Some(season) = try_circle(alloc, league, budgets.moves)? {
-        return best_with_circle(alloc, league, budgets, season);
+        return best_with_circle(alloc, league, budgets, season, watch);
     }
     let encoding = encode_small(alloc, league)?;
-    let first = try_patterns(alloc, league, &encoding, budgets)?;
-    best_from(alloc, league, &encoding, budgets, first)
+    let first = try_patterns(alloc, league, &encoding, budgets, watch)?;
+    best_from(alloc, league, &encoding, budgets, first, watch)
 }
 
 /// The best answer of all tries, of which the first starts from the schedule of the circle method: without later ones
@@ -92,49 +104,51 @@ fn best_try(alloc: Global, league: &League, budgets: Budgets) -> Result<Solved, 
 ///
 /// # Errors
 /// Only where memory runs out.
-fn best_with_circle(
+fn best_with_circle<W: Listener>(
     alloc: Global,
     league: &League,
     budgets: Budgets,
     season: Season,
+    watch: &W,
 ) -> Result<Solved, AllocError>
     requires small { encoding_size league.now ≤ most_terms }
     requires season { IsSeason league.now budgets.moves season }
     ensures solution { IfOk result (IsSolution league.now budgets) }
     ensures schedule { IfOk result HasSchedule }
-    ensures best { IfOk result (IsBestOfTries league.now budgets) }
+    ensures best { IfOk result (IsBestOfTries league.now budgets (W.may_stop watch.now)) }
 {
     let first = schedule_found(season);
     if budgets.tries <= 1 {
         return Ok(first);
     }
     let encoding = encode_small(alloc, league)?;
-    best_from(alloc, league, &encoding, budgets, first)
+    best_from(alloc, league, &encoding, budgets, first, watch)
 }
 
 /// The best answer of all tries, of which the first came to this.
 ///
 /// # Errors
 /// Only where memory runs out.
-fn best_from(
+fn best_from<W: Listener>(
     alloc: Global,
     league: &League,
     encoding: &Encoding,
     budgets: Budgets,
     first: Solved,
+    watch: &W,
 ) -> Result<Solved, AllocError>
     requires league { encoding.now ≡ league.now }
     requires first { IsSolution league.now budgets first }
     ensures solution { IfOk result (IsSolution league.now budgets) }
     ensures schedule { HasSchedule first → IfOk result HasSchedule }
-    ensures best { IfOk result (IsBestOfTries league.now budgets) }
+    ensures best { IfOk result (IsBestOfTries league.now budgets (W.may_stop watch.now)) }
 {
     let mut best = first;
     for k in 1..budgets.tries {
-        if is_refuted(&best) {
+        if is_refuted(&best) || watch.is_over(k) {
             return Ok(best);
         }
-        let later = later_try(alloc, league, encoding, budgets, k)?;
+        let later = later_try(alloc, league, encoding, budgets, k, watch)?;
         best = better(best, later);
     }
     Ok(best)
@@ -144,11 +158,12 @@ fn best_from(
 ///
 /// # Errors
 /// Only where memory runs out.
-fn try_patterns(
+fn try_patterns<W: Listener>(
     alloc: Global,
     league: &League,
     encoding: &Encoding,
     budgets: Budgets,
+    watch: &W,
 ) -> Result<Solved, AllocError>
     requires league { encoding.now ≡ league.now }
     ensures { IfOk result (IsSolution league.now budgets) }
@@ -156,12 +171,14 @@ fn try_patterns(
     let _vars = encoding.vars();
     let found = pattern_set(alloc, encoding, Some(budgets.patterns))?;
     match found {
-        PatternFound::Patterns(patterns) => { try_with(alloc, league, encoding, patterns, budgets) }
+        PatternFound::Patterns(patterns) => {
+            try_with(alloc, league, encoding, patterns, budgets, watch)
+        }
         PatternFound::Refuted(log) => {
             note_numbers(&log);
             Ok(Solved::Refuted(log))
         }
-        PatternFound::Spent(log) => try_without(alloc, league, encoding, log, budgets),
+        PatternFound::Spent(log) => try_without(alloc, league, encoding, log, budgets, watch),
     }
 }
 
@@ -169,19 +186,20 @@ fn try_patterns(
 ///
 /// # Errors
 /// Only where memory runs out.
-fn try_with(
+fn try_with<W: Listener>(
     alloc: Global,
     league: &League,
     encoding: &Encoding,
     patterns: PatternSet,
     budgets: Budgets,
+    watch: &W,
 ) -> Result<Solved, AllocError>
     requires league { encoding.now ≡ league.now }
     requires set { IsPatternSet league.now patterns }
     ensures { IfOk result (IsSolution league.now budgets) }
 {
     let prefer = venues(alloc, encoding, &patterns)?;
-    let tried = try_both(alloc, league, encoding, &prefer, budgets, budgets.seed)?;
+    let tried = try_both(alloc, league, encoding, &prefer, budgets, watch)?;
     Ok(solved_by(tried, PatternFound::Patterns(patterns)))
 }
 
@@ -189,19 +207,20 @@ fn try_with(
 ///
 /// # Errors
 /// Only where memory runs out.
-fn try_without(
+fn try_without<W: Listener>(
     alloc: Global,
     league: &League,
     encoding: &Encoding,
     log: Log,
     budgets: Budgets,
+    watch: &W,
 ) -> Result<Solved, AllocError>
     requires league { encoding.now ≡ league.now }
     requires spent { IsPatternSpent league.now (Some budgets.patterns) log }
     ensures { IfOk result (IsSolution league.now budgets) }
 {
     let prefer = preferred(alloc, encoding)?;
-    let tried = try_both(alloc, league, encoding, &prefer, budgets, budgets.seed)?;
+    let tried = try_both(alloc, league, encoding, &prefer, budgets, watch)?;
     Ok(solved_by(tried, PatternFound::Spent(log)))
 }
 
@@ -209,17 +228,18 @@ fn try_without(
 ///
 /// # Errors
 /// Only where memory runs out.
-fn later_try(
+fn later_try<W: Listener>(
     alloc: Global,
     league: &League,
     encoding: &Encoding,
     budgets: Budgets,
     k: u64,
+    watch: &W,
 ) -> Result<Tried, AllocError>
     requires league { encoding.now ≡ league.now }
     ensures { IfOk result (IsTried league.now budgets) }
 {
     let seed = budgets.seed.wrapping_add(k);
     let prefer = shuffled(alloc, encoding, seed)?;
-    try_both(alloc, league, encoding, &prefer, budgets, seed)
+    try_both(alloc, league, encoding, &prefer, Budgets { seed, ..budgets }, watch)
 }

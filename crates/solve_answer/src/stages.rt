@@ -10,16 +10,22 @@ use answers::{NoValue, Reply, file, league_in, rows_refused};
 use budgets::Budgets;
 use encoding::EncodeFault;
 use league::League;
+use listening::Listener;
 use robin_io::Shelf;
 use robinx_read::INSTANCE_LIMIT;
 use solve::solve;
 use std::alloc::{AllocError, Global};
 
 /// Finds a schedule of a league, or a log, and answers it.
-fn found_of(alloc: Global, league: &League, budgets: Budgets) -> Result<Reply, NoValue>
+fn found_of<W: Listener>(
+    alloc: Global,
+    league: &League,
+    budgets: Budgets,
+    watch: &W,
+) -> Result<Reply, NoValue>
     ensures { Answers (encodes league.now (IsFound league.now budgets)) result }
 {
-    match solve(alloc, league, budgets) {
+    match solve(alloc, league, budgets, watch) {
         Ok(solved) => Ok(found_reply(alloc, league, budgets, &solved)?),
         Err(EncodeFault::TooLarge { terms }) => Err(NoValue::Refused(rows_refused(alloc, terms)?)),
         Err(EncodeFault::Mem) => Err(NoValue::Memory),
@@ -27,15 +33,17 @@ fn found_of(alloc: Global, league: &League, budgets: Budgets) -> Result<Reply, N
 }
 
 /// Finds a schedule that the league of a file accepts, with its objective and the descent that led to it, or a log that
-/// refutes the league, within budgets. The log is the answer too where the budget of conflicts is spent.
+/// refutes the league, within budgets, and until the watch ends the run. The log is the answer too where the budget of
+/// conflicts is spent.
 ///
 /// # Errors
 /// Where a file is refused, with the reply that says why, and where memory runs out.
-pub fn solve_file<S: Shelf>(
+pub fn solve_file<S: Shelf, W: Listener>(
     alloc: Global,
     shelf: &mut S,
     instance: &str,
     budgets: Budgets,
+    watch: &W,
 ) -> Result<Reply, NoValue>
     ensures answer { Answers (solved (store_between S.Shelf shelf.old shelf.new)
         instance.now budgets) result }
@@ -43,5 +51,5 @@ pub fn solve_file<S: Shelf>(
 {
     let bytes = file(alloc, shelf, "instance", instance, INSTANCE_LIMIT)?;
     let league = league_in(alloc, instance, &bytes)?;
-    found_of(alloc, &league, budgets)
+    found_of(alloc, &league, budgets, watch)
 }

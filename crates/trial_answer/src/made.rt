@@ -21,29 +21,42 @@ use descent::Descent;
 use encoding::EncodeFault;
 use instance_gen::make;
 use league::{League, Schedule};
+use listening::Listener;
 use solve::{Solved, solve};
 use solve_answer::{first_objective, schedule_text};
 use std::alloc::{AllocError, Global};
 
-/// Makes the league of n teams, n even and from 2 to 40, and a seed, and finds a schedule of it within budgets: seven
-/// lines say what came of it, and what `solve` writes comes behind them.
+/// Makes the league of n teams, n even and from 2 to 40, and a seed, and finds a schedule of it within budgets, until
+/// the watch ends the run: seven lines say what came of it, and what `solve` writes comes behind them.
 ///
 /// # Errors
 /// Where the rows of the league are too many, with the reply that says so, and where memory runs out.
-pub fn trial(alloc: Global, n: u16, seed: u64, budgets: Budgets) -> Result<Reply, NoValue>
+pub fn trial<W: Listener>(
+    alloc: Global,
+    n: u16,
+    seed: u64,
+    budgets: Budgets,
+    watch: &W,
+) -> Result<Reply, NoValue>
     requires teams { IsTeamCount n }
     ensures { Answers (tried n seed budgets) result }
 {
     let league = make(alloc, n, seed)?;
-    solve_made(alloc, &league, seed, budgets)
+    solve_made(alloc, &league, seed, budgets, watch)
 }
 
 /// A league that accepts the schedule of the circle method, solved.
-fn solve_made(alloc: Global, league: &League, seed: u64, budgets: Budgets) -> Result<Reply, NoValue>
+fn solve_made<W: Listener>(
+    alloc: Global,
+    league: &League,
+    seed: u64,
+    budgets: Budgets,
+    watch: &W,
+) -> Result<Reply, NoValue>
     requires circle { IsAccepted league.now (counts_of (double_games league.now.n)) }
     ensures { Answers (encodes league.now (λ rows. IsTrial league.now.n seed league.now budgets.moves)) result }
 {
-    match solve(alloc, league, budgets) {
+    match solve(alloc, league, budgets, watch) {
         Ok(solved) => Ok(found_reply(alloc, league, seed, budgets, &solved)?),
         Err(EncodeFault::TooLarge { terms }) => Err(NoValue::Refused(rows_refused(alloc, terms)?)),
         Err(EncodeFault::Mem) => Err(NoValue::Memory),

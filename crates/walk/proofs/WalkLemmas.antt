@@ -72,6 +72,12 @@ scores-are {R} E league weights are =
     ap (λ (a : ℕ). score_from a (objective_on E m weights)) (infeasibility-league E 1 league weights m are)
     ∙ ap (λ (b : ℕ). score_from (hard_sum 1 league m) b) (objective-league E 1 league weights m are))
 
+-- the same by equal rules
+pub scores-at : {R : Type 0} (E : Ghosts R) (league : Instance) (weights now : List (Weighted R))
+    → AreRulesOf E 1 league weights → now ≡ weights → score_on E now ≡ league_score league
+scores-at {R} E league weights now are same =
+    ap (λ (w : List (Weighted R)). score_on E w) same ∙ scores-are E league weights are
+
 -- ---- accepted games
 
 pub met : (league : Instance) (m : Counts) → (hard_sum 1 league m ≡ 0) ↔ MeetsHard league m
@@ -89,6 +95,14 @@ feasible-is league best is =
       },
       λ accepted. cost ∙ (met league (counts_of best.games)).1 accepted.hard,
     )
+
+-- kept games that miss nothing are accepted
+pub kept-accepted : (league : Instance) (kept : Kept) → IsKept league.n league.phased (league_score league) kept
+    → kept.score.infeasibility ≡ 0 → IsAccepted league (counts_of kept.games.items)
+kept-accepted league kept is zero = record {
+  round_robin = is.round_robin;
+  hard = (met league (counts_of kept.games.items)).0 (sym (ap (λ (s : Score). s.infeasibility) is.score) ∙ zero);
+}
 
 none : (a b c d : ℕ) → (nat_lt c a || ((c == a) && nat_lt d b)) ≡ false → c ≡ 0 → a ≡ 0
 none a b c d no_worse zero = grind (arith, nat_tests)

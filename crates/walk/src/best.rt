@@ -58,6 +58,13 @@ impl Kept {
         }
     }
 
+    /// The games.
+    pub(crate) fn games(&self) -> &[Game]
+        ensures { result.now ≡ self.now.games.items }
+    {
+        &self.games
+    }
+
     /// What the games cost.
     pub(crate) fn score(&self) -> Score
         ensures { result ≡ self.now.score }

@@ -21,6 +21,7 @@ use rand_pcg::Pcg32;
 use rule_core::{Entries, Rule, Steps};
 use std::alloc::{AllocError, Global};
 use tally::Tally;
+use watching::Watch;
 
 /// How many moves are drawn, legal or not, for each that may be tried.
 const DRAWS: u64 = 8;
@@ -30,6 +31,16 @@ const AIMED: u16 = 64;
 
 /// A move of parts of rounds or of teams' games that takes out more games isn't tried: hardly one is ever made.
 const LONGEST: usize = 12;
+
+/// A stretch of a walk has at most so many moves tried.
+pub(crate) const STRETCH: u64 = 2000;
+
+/// How far a walk has come: so many moves are left of a number.
+#[derive(Clone, Copy)]
+pub(crate) struct Cooling {
+    pub(crate) left: u64,
+    pub(crate) whole: u64,
+}
 
 /// A double round robin on a board, and room for the games of a move.
 #[derive(Drop)]
@@ -60,16 +71,17 @@ impl Standing {
         })
     }
 
-    /// Tries moves until so many were legal, or the hard rules cost nothing: each is made where its score passes a
-    /// drawn threshold. A quarter of them is aimed at unmet parts of the hard constraints, of which the tally's rules
-    /// are. Says how many were tried.
-    pub(crate) fn meet<R: Rule<L>, L>(
+    /// Tries moves until so many were legal, the hard rules cost nothing, or the watch ends the walk: each is made where
+    /// its score passes a drawn threshold. A quarter of them is aimed at unmet parts of the hard constraints, of which
+    /// the tally's rules are. Says how many were tried.
+    pub(crate) fn meet<R: Rule<L>, L, W: Watch>(
         &mut self,
         random: &mut Pcg32,
         limit: u64,
         parts: &[Constraint],
         tally: &mut Tally<R>,
         steps: &mut Steps<L>,
+        watch: &W,
     ) -> u64
         requires standing { IsStandingOn tally.old.table.n self.old.board.phased (table_counts tally.old.table)
             self.old }
@@ -79,7 +91,7 @@ impl Standing {
     {
         let mut tried = 0;
         'draws: for _drawn in 0..limit.saturating_mul(DRAWS) {
-            if tried == limit || tally.infeasibility() == 0 {
+            if tried == limit || tally.infeasibility() == 0 || watch.is_over(tried) {
                 return tried;
             }
             let step = self.hard_move(random, parts, tally);
@@ -106,16 +118,17 @@ impl Standing {
         drawn_move(random, self.board.n(), self.board.phased())
     }
 
-    /// Tries moves until so many were legal, or the soft rules cost nothing: each is made where the hard rules cost no
-    /// more, and the soft ones not much more, by a threshold that falls. The best games on the way are kept. Says how
-    /// many moves were tried.
-    pub(crate) fn improve<R: Rule<L>, L>(
+    /// Tries moves until a stretch of them was legal, the soft rules cost nothing, or the watch ends the walk: each is
+    /// made where the hard rules cost no more, and the soft ones not much more, by a threshold that falls. The best
+    /// games on the way are kept. Says how many moves were tried.
+    pub(crate) fn improve<R: Rule<L>, L, W: Watch>(
         &mut self,
         random: &mut Pcg32,
-        limit: u64,
+        cooling: Cooling,
         best: &mut Kept,
         tally: &mut Tally<R>,
         steps: &mut Steps<L>,
+        watch: &W,
     ) -> u64
         requires standing { IsStandingOn tally.old.table.n self.old.board.phased (table_counts tally.old.table)
             self.old }
@@ -123,18 +136,22 @@ impl Standing {
         ensures standing { IsStandingOn tally.old.table.n self.old.board.phased (round_counts self.new.board)
             self.new }
         ensures best { IsKept tally.old.table.n self.old.board.phased (score_on R.Entries tally.old.weights) best.new }
+        ensures weights { tally.new.weights ≡ tally.old.weights }
+        ensures teams { tally.new.table.n ≡ tally.old.table.n }
+        ensures counts { table_counts tally.new.table ≡ round_counts self.new.board }
         ensures no_worse { IsNoWorse best.new.score best.old.score }
-        ensures tried { result ≤ limit }
+        ensures tried { result ≤ cooling.left }
     {
         let n = self.board.n();
         let phased = self.board.phased();
+        let limit = cooling.left.min(STRETCH);
         let mut tried = 0;
         'draws: for _drawn in 0..limit.saturating_mul(DRAWS) {
-            if tried == limit || tally.objective() == 0 {
+            if tried == limit || tally.objective() == 0 || watch.is_over(tried) {
                 return tried;
             }
             let step = drawn_move(random, n, phased);
-            let legal = self.attempt(step, Threshold::soft(limit - tried, limit), tally, steps);
+            let legal = self.attempt(step, Threshold::soft(cooling.left - tried, cooling.whole), tally, steps);
             tried = with_move(tried, limit, legal);
             best.keep(&self.board, Score::of(tally));
         }

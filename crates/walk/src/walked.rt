@@ -11,6 +11,7 @@ ghost use Rattle.walk.specs.Walked.{IsSeasonOf, league_score};
 use crate::best::Best;
 use crate::walker::Walker;
 use league::{League, Schedule};
+use listening::Listener;
 use std::alloc::{AllocError, Global};
 
 /// What a walk gives: the best double round robin that it kept, and how many legal moves it says it tried.
@@ -20,17 +21,19 @@ pub struct Walked {
     pub tried: u64,
 }
 
-/// Walks from a double round robin of a league by the moves that a seed draws, at most so many of which are tried. It
-/// gives the best double round robin that it kept, which isn't worse than the start.
+/// Walks from a double round robin of a league by the moves that a seed draws, at most so many of which are tried, and
+/// fewer where the watch ends the walk. It gives the best double round robin that it kept, which isn't worse than the
+/// start.
 ///
 /// # Errors
 /// Only where memory runs out.
-pub fn walk(
+pub fn walk<W: Listener>(
     alloc: Global,
     league: &League,
     start: &Schedule,
     seed: u64,
     budget: u64,
+    watch: &W,
 ) -> Result<Walked, AllocError>
     requires fit { All (IsGame league.now.n) start.now }
     requires round_robin { IsRoundRobin league.now.n league.now.phased (counts_of start.now) }
@@ -56,7 +59,7 @@ pub fn walk(
     ensures tried { IfOk result (λ walked. walked.tried ≤ budget) }
 {
     let mut walker = Walker::new(alloc, league, start, seed, budget)?;
-    walker.search(alloc, league)?;
+    walker.search(alloc, league, watch)?;
     let tried = budget - walker.left();
     let best = walker.into_kept().into_best(alloc)?;
     Ok(Walked { best, tried })

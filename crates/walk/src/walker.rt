@@ -4,6 +4,9 @@ ghost use Rattle.std.specs.List.{All};
 ghost use Rattle.league.specs.Counts.{counts_of};
 ghost use Rattle.league.specs.Instance.{IsGame};
 ghost use Rattle.league.specs.Structure.{IsRoundRobin};
+ghost use Rattle.cells.specs.Table.{table_counts};
+ghost use Rattle.moves.specs.Round.{round_counts};
+ghost use Rattle.tally.specs.League.{AreRulesOf};
 ghost use Rattle.descent.specs.Score.{IsNoWorse};
 ghost use Rattle.walk.specs.Standing.{IsWalkerIn};
 ghost use Rattle.walk.specs.Walked.{league_score};
@@ -12,18 +15,18 @@ use crate::afresh::random_start;
 use crate::best::Kept;
 use crate::copies::{copy_games, room_for_games};
 use crate::hard::hard_tally;
-use crate::standing::Standing;
+use crate::standing::{Cooling, STRETCH, Standing};
 use crate::weights::Weights;
 use descent::Score;
+use deviation::AnyRule;
 use league::{Game, League, Schedule};
+use listening::Listener;
 use rand_core::SeedableRng;
 use rand_pcg::Pcg32;
-use rule_core::{Plain, Steps};
+use rule_core::{Entries, Plain, Steps};
 use std::alloc::{AllocError, Global};
-use tally::league_tally;
-
-/// After so many moves tried the weights of the hard constraints are adapted.
-const STRETCH: u64 = 2000;
+use tally::{Tally, league_tally};
+use watching::News;
 
 /// A search ends after so many moves tried that didn't lower what the hard constraints cost.
 const PATIENCE: u64 = 1_600_000;
@@ -65,13 +68,15 @@ impl Patience {
     }
 }
 
-/// Where a walk stands, room for a copy of its games, the best games so far, and how many moves may still be tried.
+/// Where a walk stands, room for a copy of its games, the best games so far, how many moves it may try in all, and how
+/// many of them may still be tried.
 #[derive(Drop)]
 pub(crate) struct Walker {
     standing: Standing,
     games: Vec<Game>,
     best: Kept,
     random: Pcg32,
+    budget: u64,
     left: u64,
 }
 
@@ -104,24 +109,30 @@ impl Walker {
             games,
             best,
             random: Pcg32::seed_from_u64(seed),
+            budget,
             left: budget,
         })
     }
 
     /// Searches, from the games where it stands and then each time from a new double round robin, one after another
-    /// until no move may be tried any more, or nothing is left to lower.
+    /// until no move may be tried any more, nothing is left to lower, or the watch ends the walk.
     ///
     /// # Errors
     /// Only where memory runs out.
-    pub(crate) fn search(&mut self, alloc: Global, league: &League) -> Result<(), AllocError>
+    pub(crate) fn search<W: Listener>(
+        &mut self,
+        alloc: Global,
+        league: &League,
+        watch: &W,
+    ) -> Result<(), AllocError>
         requires walker { IsWalkerIn league.now self.old }
         ensures walker { OnOk result (IsWalkerIn league.now self.new) }
         ensures no_worse { OnOk result (IsNoWorse self.new.best.score self.old.best.score) }
         ensures left { OnOk result (self.new.left ≤ self.old.left) }
     {
         'searches: for search in 0..self.left / PATIENCE + 2 {
-            self.search_once(alloc, league, search)?;
-            if self.is_done() {
+            self.search_once(alloc, league, search, watch)?;
+            if self.is_done() || watch.is_over(self.tried()) {
                 return Ok(());
             }
         }
@@ -134,19 +145,30 @@ impl Walker {
         self.left == 0 || (score.infeasibility == 0 && score.objective == 0)
     }
 
+    /// How many moves were tried.
+    fn tried(&self) -> u64 {
+        self.budget.saturating_sub(self.left)
+    }
+
     /// Looks for games that meet the hard constraints, and from there for better ones: the search with this number.
     ///
     /// # Errors
     /// Only where memory runs out.
-    fn search_once(&mut self, alloc: Global, league: &League, search: u64) -> Result<(), AllocError>
+    fn search_once<W: Listener>(
+        &mut self,
+        alloc: Global,
+        league: &League,
+        search: u64,
+        watch: &W,
+    ) -> Result<(), AllocError>
         requires walker { IsWalkerIn league.now self.old }
         ensures walker { OnOk result (IsWalkerIn league.now self.new) }
         ensures no_worse { OnOk result (IsNoWorse self.new.best.score self.old.best.score) }
         ensures left { OnOk result (self.new.left ≤ self.old.left) }
     {
         self.place(alloc, league, search)?;
-        self.meet_hard(alloc, league, Patience::of(search))?;
-        self.lower_soft(alloc, league)?;
+        self.meet_hard(alloc, league, Patience::of(search), watch)?;
+        self.lower_soft(alloc, league, watch)?;
         Ok(())
     }
 
@@ -187,15 +209,17 @@ impl Walker {
     }
 
     /// Looks for games that meet the hard constraints, in stretches after each of which the weights are adapted, until
-    /// the search has been in vain for long. The best games at the end of a stretch are kept.
+    /// the search has been in vain for long, or the watch ends the walk. The best games at the end of a stretch are
+    /// kept.
     ///
     /// # Errors
     /// Only where memory runs out.
-    fn meet_hard(
+    fn meet_hard<W: Listener>(
         &mut self,
         alloc: Global,
         league: &League,
         patience: Patience,
+        watch: &W,
     ) -> Result<(), AllocError>
         requires walker { IsWalkerIn league.now self.old }
         ensures walker { OnOk result (IsWalkerIn league.now self.new) }
@@ -205,9 +229,10 @@ impl Walker {
         let mut weights = Weights::new(alloc, league)?;
         let mut patience = patience;
         'stretches: for _stretch in 0..self.left / STRETCH + 1 {
-            let sum = self.stretch(alloc, league, &mut weights)?;
+            let sum = self.stretch(alloc, league, &mut weights, watch)?;
             self.keep_lower(alloc, league, sum)?;
-            if sum == 0 || self.left == 0 || patience.ends(sum) {
+            self.tell(league, watch);
+            if sum == 0 || self.left == 0 || patience.ends(sum) || watch.is_over(self.tried()) {
                 return Ok(());
             }
         }
@@ -218,11 +243,12 @@ impl Walker {
     ///
     /// # Errors
     /// Only where memory runs out.
-    fn stretch(
+    fn stretch<W: Listener>(
         &mut self,
         alloc: Global,
         league: &League,
         weights: &mut Weights,
+        watch: &W,
     ) -> Result<u128, AllocError>
         requires walker { IsWalkerIn league.now self.old }
         ensures walker { OnOk result (IsWalkerIn league.now self.new) }
@@ -239,6 +265,7 @@ impl Walker {
             weights.parts(),
             &mut tally,
             &mut steps,
+            watch,
         );
         self.left -= tried;
         weights.adapt(&tally);
@@ -269,7 +296,12 @@ impl Walker {
     ///
     /// # Errors
     /// Only where memory runs out.
-    fn lower_soft(&mut self, alloc: Global, league: &League) -> Result<(), AllocError>
+    fn lower_soft<W: Listener>(
+        &mut self,
+        alloc: Global,
+        league: &League,
+        watch: &W,
+    ) -> Result<(), AllocError>
         requires walker { IsWalkerIn league.now self.old }
         ensures walker { OnOk result (IsWalkerIn league.now self.new) }
         ensures no_worse { OnOk result (IsNoWorse self.new.best.score self.old.best.score) }
@@ -282,15 +314,63 @@ impl Walker {
         if tally.infeasibility() > 0 {
             return Ok(());
         }
-        let tried = self.standing.improve(
-            &mut self.random,
-            self.left,
-            &mut self.best,
-            &mut tally,
-            &mut steps,
-        );
-        self.left -= tried;
+        self.soften(league, &mut tally, &mut steps, watch);
         Ok(())
+    }
+
+    /// From games that meet the hard constraints, of which the tally is, goes on to better ones, in stretches, until no
+    /// move may be tried any more, nothing is left to lower, or the watch ends the walk.
+    fn soften<W: Listener>(
+        &mut self,
+        league: &League,
+        tally: &mut Tally<AnyRule>,
+        steps: &mut Steps<Plain>,
+        watch: &W,
+    )
+        requires walker { IsWalkerIn league.now self.old }
+        requires rules { AreRulesOf ⟦<AnyRule as Entries>⟧ 1 league.now tally.old.weights }
+        requires teams { tally.old.table.n ≡ league.now.n }
+        requires counts { table_counts tally.old.table ≡ round_counts self.old.standing.board }
+        ensures walker { IsWalkerIn league.now self.new }
+        ensures no_worse { IsNoWorse self.new.best.score self.old.best.score }
+        ensures left { self.new.left ≤ self.old.left }
+    {
+        let whole = self.left;
+        'stretches: for _stretch in 0..whole / STRETCH + 1 {
+            let cooling = Cooling {
+                left: self.left,
+                whole,
+            };
+            let tried = self.standing.improve(
+                &mut self.random,
+                cooling,
+                &mut self.best,
+                tally,
+                steps,
+                watch,
+            );
+            self.left -= tried;
+            self.tell(league, watch);
+            if self.left == 0 || tally.objective() == 0 || watch.is_over(self.tried()) {
+                return;
+            }
+        }
+    }
+
+    /// Tells how far the walk has come.
+    fn tell<W: Listener>(&self, league: &League, watch: &W)
+        requires { IsWalkerIn league.now self.now }
+    {
+        let Score {
+            infeasibility: cost,
+            objective,
+        } = self.best.score();
+        let tried = self.tried();
+        if cost > 0 {
+            watch.tell(News::Hard { tried, cost });
+        } else {
+            watch.tell_season(league, self.best.games(), objective, tried);
+        }
     }
 
     /// How many moves may still be tried.

@@ -1,4 +1,4 @@
 use Rattle.solve.proofs.attempt.search_then_walk.Goals as goal
 
 pub returns : goal.returns
-returns c = c.with_walked.ensures c.args.league.now c.args.budgets c.in_ok-found.ensures c.in_ok-walked.ensures
+returns g c = c.with_walked.ensures c.args.league.now c.args.budgets c.in_ok-found.ensures c.in_ok-walked.ensures

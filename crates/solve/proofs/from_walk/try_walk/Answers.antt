@@ -7,14 +7,14 @@ use Rattle.league.proofs.RoundRobinLemmas.{any_phases}
 use Rattle.solve.proofs.from_walk.try_walk.Goals as goal
 
 pub walk-requires-clause-fit : goal.walk-requires-clause-fit
-walk-requires-clause-fit c =
+walk-requires-clause-fit g c =
     subst (λ (n : ℕ). All (IsGame n) c.in_ok-start.start) c.n-n.ensures.n c.in_ok-start.ensures.fit
 
 pub walk-requires-clause-round_robin : goal.walk-requires-clause-round_robin
-walk-requires-clause-round_robin c =
+walk-requires-clause-round_robin g c =
     any_phases c.args.league.now.n c.args.league.now.phased (counts_of c.in_ok-start.start)
     (subst (λ (n : ℕ). IsRoundRobin n true (counts_of c.in_ok-start.start)) c.n-n.ensures.n
     c.in_ok-start.ensures.round_robin)
 
 pub lowered-requires-clause-accepted : goal.lowered-requires-clause-accepted
-lowered-requires-clause-accepted c = c.in_ok-walked.ensures.feasible.0 (omega arith)
+lowered-requires-clause-accepted g c = c.in_ok-walked.ensures.feasible.0 (omega arith)

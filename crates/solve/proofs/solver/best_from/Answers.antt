@@ -9,7 +9,7 @@ use Rattle.solve.proofs.EarliestLemmas.{one-best, season-is_tried, season-solved
 use Rattle.solve.proofs.solver.best_from.Goals as goal
 
 pub loop-k-init : goal.loop-k-init
-loop-k-init c =
+loop-k-init g c =
     let P : Option Season → Type 0 = λ o. IfSome o (IsSeason c.args.league.now c.args.budgets.moves) in
     let first : Option Season = season_of c.args.first in
     record {
@@ -24,7 +24,7 @@ loop-k-init c =
     }
 
 pub loop-k-preserved : goal.loop-k-preserved
-loop-k-preserved c =
+loop-k-preserved g c =
     let P : Option Season → Type 0 = λ o. IfSome o (IsSeason c.args.league.now c.args.budgets.moves) in
     let found : List (Option Season) = c.loop-k.invariant.found in
     let later : Option Season = season_tried c.in_ok-later.later in
@@ -43,7 +43,7 @@ loop-k-preserved c =
     }
 
 pub returns-then-is_refuted-clause-best : goal.returns-then-is_refuted-clause-best
-returns-then-is_refuted-clause-best c = record {
+returns-then-is_refuted-clause-best g c = record {
   found = c.loop-k.invariant.found;
   each = c.loop-k.invariant.each;
   few = λ more. omega (arith, c.loop-k.invariant.tried, c.loop-k.invariant.within (omega (arith, more, c.loop-k.invariant.tried)));
@@ -52,10 +52,10 @@ returns-then-is_refuted-clause-best c = record {
 }
 
 pub returns-clause-best : goal.returns-clause-best
-returns-clause-best c = record {
+returns-clause-best g c = record {
   found = c.loop-k.invariant.found;
   each = c.loop-k.invariant.each;
   few = λ more. omega (arith, c.loop-k.invariant.tried, c.loop-k.invariant.within (omega (arith, more, c.loop-k.invariant.tried)));
-  all = λ goes_on. omega (arith, c.loop-k.invariant.tried);
+  all = λ goes_on unstopped. omega (arith, c.loop-k.invariant.tried);
   best = c.loop-k.invariant.best;
 }

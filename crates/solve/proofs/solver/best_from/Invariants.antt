@@ -8,7 +8,7 @@ use Rattle.solve.proofs.solver.best_from.Given as goal
 
 -- the best answer so far
 abbrev pub invariant-loop-k : goal.invariant-loop-k
-invariant-loop-k l = record {
+invariant-loop-k g l = record {
   solution : IsSolution l.league l.budgets l.best;
   found : List (Option Season);
   each : All (λ o. IfSome o (IsSeason l.league l.budgets.moves)) found;

@@ -2,7 +2,7 @@ use Rattle.solve.proofs.EarliestLemmas.{one_try}
 use Rattle.solve.proofs.solver.best_with_circle.Goals as goal
 
 pub returns-then-budgets-le1-clause-best : goal.returns-then-budgets-le1-clause-best
-returns-then-budgets-le1-clause-best c =
-    one_try c.args.league.now c.args.budgets c.schedule_found-first.result
+returns-then-budgets-le1-clause-best g c =
+    one_try c.args.league.now c.args.budgets (g.W.Watch.may_stop c.args.watch.now) c.schedule_found-first.result
     (c.schedule_found-first.ensures.solution c.args.league.now c.args.budgets c.requires.season)
     c.if-budgets-le1.true

@@ -6,7 +6,7 @@ use Rattle.solve.specs.Solutions.{RefutesLeague}
 use Rattle.solve.proofs.solver.solve.Goals as goal
 
 pub returns-in-Some-clause-circle : goal.returns-in-Some-clause-circle
-returns-in-Some-clause-circle c = λ accepted.
+returns-in-Some-clause-circle g c = λ accepted.
     let refutes : RefutesLeague c.args.league.now c.in-Some.log =
     subst (λ (found : Option (List Step)). IfSome found (RefutesLeague c.args.league.now)) c.in-Some.is
     c.in_ok-log.ensures.refuted in

@@ -10,7 +10,7 @@ use Rattle.walk.proofs.WalkLemmas.{accepted-stays, feasible-is}
 use Rattle.walk.proofs.walked.walk.Goals as goal
 
 pub returns-clause-feasible : goal.returns-clause-feasible
-returns-clause-feasible c =
+returns-clause-feasible g c =
     let league = c.args.league.now in
     let season : IsSeasonOf league c.in_ok-best.best =
     c.in_ok-best.ensures.season league
@@ -19,7 +19,7 @@ returns-clause-feasible c =
     feasible-is league c.in_ok-best.best season
 
 pub returns-clause-accepted : goal.returns-clause-accepted
-returns-clause-accepted c accepted =
+returns-clause-accepted g c accepted =
     let league = c.args.league.now in
     let season : IsSeasonOf league c.in_ok-best.best =
     c.in_ok-best.ensures.season league
@@ -34,7 +34,7 @@ returns-clause-accepted c accepted =
     accepted-stays league c.in_ok-best.best (counts_of c.args.start.now) season no_worse accepted
 
 pub returns-clause-few : goal.returns-clause-few
-returns-clause-few c =
+returns-clause-few g c =
     subst (λ (k : ℕ). k ≤ 1600)
     (sym (c.in_ok-best.ensures.few ∙ ap (λ (kept : Kept). length kept.games.items) c.into_kept.ensures))
     c.in_ok-search.ensures.walker.best.few

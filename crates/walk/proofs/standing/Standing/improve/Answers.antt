@@ -32,4 +32,5 @@ draws-preserved g c =
       no_worse = IsNoWorse-both c.keep.new.self.score c.draws.best.score c.args.best.now.score c.keep.ensures.no_worse
           c.draws.invariant.no_worse;
       within = c.with_move-tried.ensures;
+      most = c.draws.invariant.most;
     }

@@ -14,4 +14,5 @@ invariant-draws g l = record {
       l.best;
   no_worse : IsNoWorse l.best.score l.initial.best.score;
   within : l.tried ≤ l.limit;
+  most : l.limit ≤ l.cooling.left;
 }

@@ -8,7 +8,7 @@ use Rattle.walk.proofs.WalkLemmas.{counted-on, IsNoWorse-both, kept-at, kept-in,
 use Rattle.walk.proofs.walker.Walker.lower_soft.Goals as goal
 
 pub returns-then-infeasibility-gt0-clause-walker : goal.returns-then-infeasibility-gt0-clause-walker
-returns-then-infeasibility-gt0-clause-walker c =
+returns-then-infeasibility-gt0-clause-walker g c =
     let n : ℕ = c.args.league.now.n in
     let board = c.args.self.now.standing.board in
     let cost : Counts → Score = league_score c.args.league.now in
@@ -29,7 +29,7 @@ returns-then-infeasibility-gt0-clause-walker c =
     }
 
 pub improve-tried-requires-clause-best : goal.improve-tried-requires-clause-best
-improve-tried-requires-clause-best c =
+improve-tried-requires-clause-best g c =
     let n : ℕ = c.args.league.now.n in
     let board = c.args.self.now.standing.board in
     let cost : Counts → Score = league_score c.args.league.now in
@@ -47,7 +47,7 @@ improve-tried-requires-clause-best c =
     c.requires.walker.best)
 
 pub returns-clause-walker : goal.returns-clause-walker
-returns-clause-walker c =
+returns-clause-walker g c =
     let n : ℕ = c.args.league.now.n in
     let board = c.args.self.now.standing.board in
     let now : Counts = round_counts c.improve-tried.new.self.board in
@@ -64,6 +64,6 @@ returns-clause-walker c =
     }
 
 pub returns-clause-no_worse : goal.returns-clause-no_worse
-returns-clause-no_worse c =
+returns-clause-no_worse g c =
     IsNoWorse-both c.improve-tried.new.best.score c.keep.new.self.score c.args.self.now.best.score
     c.improve-tried.ensures.no_worse c.keep.ensures.no_worse

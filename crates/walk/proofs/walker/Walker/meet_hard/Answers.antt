@@ -6,14 +6,14 @@ use Rattle.walk.proofs.WalkLemmas.{IsNoWorse-both}
 use Rattle.walk.proofs.walker.Walker.meet_hard.Goals as goal
 
 pub stretches-init : goal.stretches-init
-stretches-init c = record {
+stretches-init g c = record {
   walker = c.requires.walker;
   no_worse = IsNoWorse-itself c.args.self.now.best.score;
   left = omega arith;
 }
 
 pub stretches-preserved : goal.stretches-preserved
-stretches-preserved c = record {
+stretches-preserved g c = record {
   walker = c.in_ok-keep_lower.ensures.walker;
   no_worse = IsNoWorse-both c.keep_lower.new.self.best.score c.stretches.self.best.score c.args.self.now.best.score
       (subst (λ (kept : Kept). IsNoWorse c.keep_lower.new.self.best.score kept.score) c.in_ok-sum.ensures.best

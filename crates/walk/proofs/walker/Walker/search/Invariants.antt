@@ -5,7 +5,7 @@ use Rattle.walk.proofs.walker.Walker.search.Given as goal
 
 -- the walk goes on, and its best games aren't worse than at the start
 abbrev pub invariant-searches : goal.invariant-searches
-invariant-searches l = record {
+invariant-searches g l = record {
   walker : IsWalkerIn l.league l.self;
   no_worse : IsNoWorse l.self.best.score l.initial.self.best.score;
   left : l.self.left ≤ l.initial.self.left;

@@ -1,0 +1,51 @@
+use Rattle.std.proofs.Common.{◌≡◌, ℕ, List, arith, refl, subst, sym, ◌∙◌}
+use Rattle.league.specs.Counts.{Counts}
+use Rattle.moves.specs.Round.{round_counts}
+use Rattle.descent.specs.Score.{IsNoWorse, score_on}
+use Rattle.descent.specs.declared.score.Score.{Score}
+use Rattle.descent.proofs.ScoreLemmas.{IsNoWorse-itself}
+use Rattle.walk.specs.Standing.{IsWalkerIn}
+use Rattle.walk.specs.Walked.{league_score}
+use Rattle.walk.proofs.WalkLemmas.{IsNoWorse-both, kept-at, scores-at, standing-at}
+use Rattle.walk.proofs.walker.Walker.soften.Goals as goal
+
+pub stretches-init : goal.stretches-init
+stretches-init g c = record {
+  walker = c.requires.walker;
+  weights = refl;
+  teams = refl;
+  counts = c.requires.counts;
+  no_worse = IsNoWorse-itself c.args.self.now.best.score;
+  left = omega arith;
+}
+
+pub improve-tried-requires-clause-standing : goal.improve-tried-requires-clause-standing
+improve-tried-requires-clause-standing g c =
+    let board = c.stretches.self.standing.board in
+    standing-at c.stretches.tally.table.n c.args.league.now.n board.phased c.args.league.now.phased _ (round_counts board)
+    c.stretches.self.standing (sym (c.stretches.invariant.teams ∙ c.requires.teams))
+    (sym c.stretches.invariant.walker.standing.phases) (sym c.stretches.invariant.counts)
+    c.stretches.invariant.walker.standing
+
+pub improve-tried-requires-clause-best : goal.improve-tried-requires-clause-best
+improve-tried-requires-clause-best g c =
+    let board = c.stretches.self.standing.board in
+    kept-at c.stretches.tally.table.n c.args.league.now.n board.phased c.args.league.now.phased _
+    (league_score c.args.league.now) c.stretches.self.best (sym (c.stretches.invariant.teams ∙ c.requires.teams))
+    (sym c.stretches.invariant.walker.standing.phases)
+    (sym (scores-at _ c.args.league.now c.args.tally.now.weights c.stretches.tally.weights c.requires.rules
+    c.stretches.invariant.weights)) c.stretches.invariant.walker.best
+
+pub tell-requires : goal.tell-requires
+tell-requires g c = walked g c
+
+pub stretches-preserved : goal.stretches-preserved
+stretches-preserved g c = record {
+  walker = walked g c;
+  weights = c.improve-tried.ensures.weights ∙ c.stretches.invariant.weights;
+  teams = c.improve-tried.ensures.teams ∙ c.stretches.invariant.teams;
+  counts = c.improve-tried.ensures.counts;
+  no_worse = IsNoWorse-both c.improve-tried.new.best.score c.stretches.self.best.score c.args.self.now.best.score
+      c.improve-tried.ensures.no_worse c.stretches.invariant.no_worse;
+  left = omega (arith, c.stretches.invariant.left);
+}

@@ -1,0 +1,2 @@
+-- What a reader of a claim must believe:
+pub mod Limits

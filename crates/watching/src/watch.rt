@@ -1,0 +1,30 @@
+//! The trait of what watches over a run.
+ghost use Rattle.std.specs.Prelude.{◌≡◌, ℕ, Bool, true, Option, None, IfSome};
+
+/// How far a run has come. A turn is a clause learnt or a move tried.
+#[derive(Clone, Copy, Debug, PartialEq, Eq)]
+pub enum News {
+    /// A search has learnt so many clauses.
+    Search { learnt: u64 },
+    /// A walk has tried so many moves, and what it found so far misses hard constraints at this cost.
+    Hard { tried: u64, cost: u128 },
+    /// The answer is ready, and nothing more is told.
+    Ready,
+}
+
+/// Watches over a run: says whether the run is to end, and hears how it goes. Nothing that it does changes what it is.
+pub trait Watch {
+    /// It may end a run.
+    ghost may_stop: { Self → Type 0 };
+
+    /// Whether a run ends that has made so many turns, where the watch tells.
+    ghost stops_at: { Self → ℕ → Option Bool } = { λ _ _. None };
+
+    /// Whether a run is to end that has made so many turns.
+    fn is_over(&self, turns: u64) -> bool
+        ensures cause { result ≡ true → may_stop self.now }
+        ensures known { IfSome (stops_at self.now turns) (λ over. result ≡ over) };
+
+    /// Hears how far a run has come. Whether anybody reads it changes nothing.
+    fn tell(&self, news: News);
+}
