@@ -16,14 +16,15 @@ mod best;
 mod copies;
 mod draws;
 mod factors;
+mod found;
 mod hard;
 mod parts;
+mod spots;
 mod standing;
 mod threshold;
 mod walked;
 mod walker;
 mod weights;
-mod windows;
 
 pub use best::Best;
 pub use walked::{Walked, walk};

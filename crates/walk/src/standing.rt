@@ -13,17 +13,21 @@ ghost use Rattle.walk.specs.Standing.{IsKept, IsStandingOn};
 use crate::aims::aim_at;
 use crate::best::Kept;
 use crate::draws::{aimed_move, below, drawn_move};
-use crate::threshold::Threshold;
+use crate::hard::HardParts;
+use crate::threshold::{Threshold, drawn_threshold};
 use descent::Score;
-use league::{Constraint, Schedule, TeamId};
+use league::{Schedule, TeamId};
 use moves::{Board, Edit, Swap, edit_of};
 use rand_pcg::Pcg32;
-use rule_core::{Entries, Rule, Steps};
+use rule_core::{Rule, Steps};
 use std::alloc::{AllocError, Global};
 use tally::Tally;
 
 /// How many moves are drawn, legal or not, for each that may be tried.
 const DRAWS: u64 = 8;
+
+/// The heat of the thresholds of moves that are to meet hard constraints, in units of their weights.
+const HARD_HEAT: u64 = 2;
 
 /// Of 256 moves that are to meet hard constraints, so many are aimed at unmet ones.
 const AIMED: u16 = 64;
@@ -60,14 +64,14 @@ impl Standing {
         })
     }
 
-    /// Tries moves until so many were legal, or the hard rules cost nothing: each is made where its score passes a
-    /// drawn threshold. A quarter of them is aimed at unmet parts of the hard constraints, of which the tally's rules
-    /// are. Says how many were tried.
+    /// Tries moves until so many were legal, or all parts of the hard constraints are met: each is made where they
+    /// weigh no more after it than a drawn threshold allows. A quarter of them is aimed at unmet parts. The tally's
+    /// counts follow the games. Says how many were tried.
     pub(crate) fn meet<R: Rule<L>, L>(
         &mut self,
         random: &mut Pcg32,
         limit: u64,
-        parts: &[Constraint],
+        hard: &mut HardParts,
         tally: &mut Tally<R>,
         steps: &mut Steps<L>,
     ) -> u64
@@ -79,27 +83,23 @@ impl Standing {
     {
         let mut tried = 0;
         'draws: for _drawn in 0..limit.saturating_mul(DRAWS) {
-            if tried == limit || tally.infeasibility() == 0 {
+            if tried == limit || hard.are_met() {
                 return tried;
             }
-            let step = self.hard_move(random, parts, tally);
-            let legal = self.attempt(step, Threshold::hard(random), tally, steps);
+            let step = self.hard_move(random, hard);
+            let more = drawn_threshold(random, HARD_HEAT);
+            let legal = self.attempt_hard(step, more, hard, tally, steps);
             tried = with_move(tried, limit, legal);
         }
         tried
     }
 
     /// A move that is drawn to meet hard constraints.
-    fn hard_move<R: Entries>(
-        &self,
-        random: &mut Pcg32,
-        parts: &[Constraint],
-        tally: &Tally<R>,
-    ) -> Swap
+    fn hard_move(&self, random: &mut Pcg32, hard: &HardParts) -> Swap
         ensures { IsOfLeague self.now.board.n result }
     {
         if below(random, 256) < AIMED
-            && let Some(aim) = aim_at(random, &self.board, parts, tally)
+            && let Some(aim) = aim_at(random, &self.board, hard)
         {
             return aimed_move(random, &self.board, aim);
         }
@@ -139,6 +139,36 @@ impl Standing {
             best.keep(&self.board, Score::of(tally));
         }
         tried
+    }
+
+    /// Tries a move that is to meet hard constraints: makes it where it is legal and their parts weigh at most so much
+    /// more after it. Says whether it is legal and not too long.
+    fn attempt_hard<R: Rule<L>, L>(
+        &mut self,
+        step: Swap,
+        more: u64,
+        hard: &mut HardParts,
+        tally: &mut Tally<R>,
+        steps: &mut Steps<L>,
+    ) -> bool
+        requires league { IsOfLeague self.old.board.n step }
+        requires standing { IsStandingOn tally.old.table.n self.old.board.phased (table_counts tally.old.table)
+            self.old }
+        ensures teams { tally.new.table.n ≡ tally.old.table.n }
+        ensures standing { IsStandingOn tally.old.table.n self.old.board.phased (table_counts tally.new.table)
+            self.new }
+    {
+        if !edit_of(&step, &self.board, &mut self.edit) || self.is_long(&step) {
+            return false;
+        }
+        tally.apply(&self.edit, steps);
+        let follows = hard.follow(&self.edit, tally.cells(), more, steps);
+        if !follows {
+            tally.undo(&self.edit, steps);
+            return true;
+        }
+        self.board.apply(&self.edit);
+        true
     }
 
     /// Tries a move on a tally's games: makes it where it is legal and its score passes the threshold. Says whether it

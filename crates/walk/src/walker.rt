@@ -11,9 +11,8 @@ ghost use Rattle.walk.specs.Walked.{league_score};
 use crate::afresh::random_start;
 use crate::best::Kept;
 use crate::copies::{copy_games, room_for_games};
-use crate::hard::hard_tally;
+use crate::hard::{HardParts, bare_tally};
 use crate::standing::Standing;
-use crate::weights::Weights;
 use descent::Score;
 use league::{Game, League, Schedule};
 use rand_core::SeedableRng;
@@ -202,10 +201,10 @@ impl Walker {
         ensures no_worse { OnOk result (IsNoWorse self.new.best.score self.old.best.score) }
         ensures left { OnOk result (self.new.left ≤ self.old.left) }
     {
-        let mut weights = Weights::new(alloc, league)?;
+        let mut hard = HardParts::new(alloc, league)?;
         let mut patience = patience;
         'stretches: for _stretch in 0..self.left / STRETCH + 1 {
-            let sum = self.stretch(alloc, league, &mut weights)?;
+            let sum = self.stretch(alloc, league, &mut hard)?;
             self.keep_lower(alloc, league, sum)?;
             if sum == 0 || self.left == 0 || patience.ends(sum) {
                 return Ok(());
@@ -222,7 +221,7 @@ impl Walker {
         &mut self,
         alloc: Global,
         league: &League,
-        weights: &mut Weights,
+        hard: &mut HardParts,
     ) -> Result<u128, AllocError>
         requires walker { IsWalkerIn league.now self.old }
         ensures walker { OnOk result (IsWalkerIn league.now self.new) }
@@ -231,18 +230,13 @@ impl Walker {
     {
         copy_games(&self.standing.board, &mut self.games);
         let mut steps = Steps::<Plain>::start();
-        let mut tally = hard_tally(alloc, league, weights, &self.games, &mut steps)?;
+        let mut tally = bare_tally(alloc, league, &self.games, &mut steps)?;
+        hard.count(tally.cells(), &mut steps);
         let limit = self.left.min(STRETCH);
-        let tried = self.standing.meet(
-            &mut self.random,
-            limit,
-            weights.parts(),
-            &mut tally,
-            &mut steps,
-        );
+        let tried = self.standing.meet(&mut self.random, limit, hard, &mut tally, &mut steps);
         self.left -= tried;
-        weights.adapt(&tally);
-        Ok(weights.hard_sum(&tally))
+        hard.adapt();
+        Ok(hard.price())
     }
 
     /// Keeps the games where they are better than the best so far, if their hard sum is said to be lower.
