@@ -5,14 +5,14 @@ ghost use Rattle.league.specs.Counts.{counts_of};
 ghost use Rattle.league.specs.Instance.{IsGame};
 ghost use Rattle.cells.specs.Table.{table_counts};
 
-use crate::found::Found;
+use crate::draws::any_of;
+use crate::number_set::NumberSet;
 use crate::parts::hard_parts;
 use crate::spots::Spots;
 use crate::weights::Weight;
 use deviation::{AnyRule, counted};
 use league::{Constraint, Game, League};
 use moves::Edit;
-use rand_core::utils::NextWord;
 use rand_pcg::Pcg32;
 use rule_core::{Cells, Entries, Rule, Steps};
 use std::alloc::{AllocError, Global};
@@ -34,7 +34,8 @@ pub(crate) struct HardParts {
     rules: Vec<Option<AnyRule>>,
     parts: Vec<Part>,
     spots: Spots,
-    found: Found,
+    found: NumberSet,
+    unmet: NumberSet,
     sum: u64,
 }
 
@@ -56,13 +57,15 @@ impl HardParts {
             })?;
         }
         let spots = Spots::new(alloc, &demands)?;
-        let found = Found::new(alloc, demands.len())?;
+        let found = NumberSet::new(alloc, demands.len())?;
+        let unmet = NumberSet::new(alloc, demands.len())?;
         Ok(HardParts {
             demands,
             rules,
             parts,
             spots,
             found,
+            unmet,
             sum: 0,
         })
     }
@@ -70,9 +73,16 @@ impl HardParts {
     /// Counts all parts on these games.
     pub(crate) fn count<L>(&mut self, cells: &Cells, steps: &mut Steps<L>) {
         self.sum = 0;
-        for (part, rule) in self.parts.iter_mut().zip(self.rules.iter()) {
+        self.unmet.clear();
+        for (number, rule) in self.rules.iter().enumerate() {
+            let Some(part) = self.parts.get_mut(number) else {
+                return;
+            };
             part.deviation = deviation_of(rule, cells, steps);
             self.sum = self.sum.saturating_add(part.weight.weigh(part.deviation));
+            if part.deviation > 0 {
+                self.unmet.add(number);
+            }
         }
     }
 
@@ -125,6 +135,11 @@ impl HardParts {
         for number in self.found.numbers() {
             if let Some(part) = self.parts.get_mut(*number) {
                 part.deviation = part.then;
+                if part.deviation > 0 {
+                    self.unmet.add(*number);
+                } else {
+                    self.unmet.remove(*number);
+                }
             }
         }
     }
@@ -150,29 +165,10 @@ impl HardParts {
         }
     }
 
-    /// What a part demands that isn't met: the first one from a random part on.
+    /// What some part demands that isn't met.
     pub(crate) fn any_unmet(&self, random: &mut Pcg32) -> Option<&Constraint> {
-        let count = self.parts.len();
-        if count == 0 {
-            return None;
-        }
-        let start = random.next_word() as usize % count;
-        match self.first_unmet(start, count) {
-            Some(demand) => Some(demand),
-            None => self.first_unmet(0, start),
-        }
-    }
-
-    /// What the first part from one number up to another demands that isn't met.
-    fn first_unmet(&self, from: usize, to: usize) -> Option<&Constraint> {
-        for number in from..to {
-            if let Some(part) = self.parts.get(number)
-                && part.deviation > 0
-            {
-                return self.demands.get(number);
-            }
-        }
-        None
+        let number = any_of(random, self.unmet.numbers())?;
+        self.demands.get(number)
     }
 }
 

@@ -125,31 +125,29 @@ fn add_windows_of(
     let Class::Ca3 { intp, .. } = &constraint.class else {
         return Ok(());
     };
-    let slots = 2 * u32::from(n.saturating_sub(1));
+    let slots = n.saturating_sub(1).saturating_mul(2);
     for first in 0..slots {
-        let end = first.saturating_add(*intp);
-        if end <= slots {
-            parts.push(window(alloc, constraint, team, first as u16, end as u16)?)?;
+        if u32::from(first).saturating_add(*intp) <= u32::from(slots) {
+            let mut window = SlotSet::new(alloc);
+            for slot in (first..slots).take(*intp as usize) {
+                window.insert(SlotId(slot))?;
+            }
+            parts.push(in_window(alloc, constraint, team, window)?)?;
         }
     }
     Ok(())
 }
 
-/// What a CA3 demands of a team in the slots from one up to another: a CA2.
+/// What a CA3 demands of a team in a window of slots: a CA2.
 ///
 /// # Errors
 /// Only where memory runs out.
-fn window(
+fn in_window(
     alloc: Global,
     constraint: &Constraint,
     team: u16,
-    first: u16,
-    end: u16,
+    slots: SlotSet,
 ) -> Result<Constraint, AllocError> {
-    let mut slots = SlotSet::new(alloc);
-    for slot in first..end {
-        slots.insert(SlotId(slot))?;
-    }
     let part = of_teams(alloc, constraint, &[team])?;
     let class = match part.class {
         Class::Ca3 {

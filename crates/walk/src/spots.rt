@@ -1,14 +1,13 @@
 //! Which parts of the hard constraints a game can change.
-ghost use Rattle.std.specs.Prelude.{◌≤◌};
 
 use league::{Class, Constraint, SlotId, TeamId};
 use std::alloc::{AllocError, Global};
 
 /// The most teams of a league.
-const TEAMS: usize = 40;
+const TEAMS: u16 = 40;
 
 /// The most slots of a season.
-const SLOTS: usize = 78;
+const SLOTS: u16 = 78;
 
 /// The numbers of parts: by team and slot those that a game of the team there can change, and by home and away team
 /// those that the slot of their game can change.
@@ -25,8 +24,8 @@ impl Spots {
     /// Only where memory runs out.
     pub(crate) fn new(alloc: Global, parts: &[Constraint]) -> Result<Spots, AllocError> {
         let mut spots = Spots {
-            cells: empty_lists(alloc, TEAMS * SLOTS)?,
-            meetings: empty_lists(alloc, TEAMS * TEAMS)?,
+            cells: empty_lists(alloc, usize::from(TEAMS * SLOTS))?,
+            meetings: empty_lists(alloc, usize::from(TEAMS * TEAMS))?,
         };
         for (number, part) in parts.iter().enumerate() {
             spots.add(number, &part.class)?;
@@ -115,7 +114,7 @@ impl Spots {
     /// Only where memory runs out.
     fn add_teams(&mut self, number: usize, teams: &[u16]) -> Result<(), AllocError> {
         for team in teams {
-            for slot in 0..SLOTS as u16 {
+            for slot in 0..SLOTS {
                 add_at(&mut self.cells, place(*team, SLOTS, slot), number)?;
             }
         }
@@ -152,10 +151,8 @@ impl Spots {
 }
 
 /// The place of a row and a column in a table with rows of this length.
-fn place(row: u16, length: usize, column: u16) -> usize
-    requires length { length ≤ 100 }
-{
-    row as usize * length + column as usize
+fn place(row: u16, length: u16, column: u16) -> usize {
+    usize::from(row) * usize::from(length) + usize::from(column)
 }
 
 /// So many empty lists.
@@ -178,8 +175,11 @@ fn add_at(lists: &mut [Vec<usize>], place: usize, number: usize) -> Result<(), A
     let Some(list) = lists.get_mut(place) else {
         return Ok(());
     };
-    if list.last() != Some(&number) {
-        list.push(number)?;
+    if let Some(last) = list.last()
+        && *last == number
+    {
+        return Ok(());
     }
+    list.push(number)?;
     Ok(())
 }

@@ -14,14 +14,14 @@ use crate::aims::aim_at;
 use crate::best::Kept;
 use crate::draws::{aimed_move, below, drawn_move};
 use crate::hard::HardParts;
-use crate::threshold::{Threshold, drawn_threshold};
+use crate::threshold::{Cooling, drawn_threshold};
 use descent::Score;
 use league::{Schedule, TeamId};
 use moves::{Board, Edit, Swap, edit_of};
 use rand_pcg::Pcg32;
 use rule_core::{Rule, Steps};
 use std::alloc::{AllocError, Global};
-use tally::Tally;
+use tally::{Sums, Tally};
 
 /// How many moves are drawn, legal or not, for each that may be tried.
 const DRAWS: u64 = 8;
@@ -65,19 +65,19 @@ impl Standing {
     }
 
     /// Tries moves until so many were legal, or all parts of the hard constraints are met: each is made where they
-    /// weigh no more after it than a drawn threshold allows. A quarter of them is aimed at unmet parts. The tally's
-    /// counts follow the games. Says how many were tried.
+    /// weigh no more after it than a drawn threshold allows. A quarter of them is aimed at unmet parts. The counts
+    /// follow the games. Says how many were tried.
     pub(crate) fn meet<R: Rule<L>, L>(
         &mut self,
         random: &mut Pcg32,
         limit: u64,
         hard: &mut HardParts,
-        tally: &mut Tally<R>,
+        counts: &mut Tally<R>,
         steps: &mut Steps<L>,
     ) -> u64
-        requires standing { IsStandingOn tally.old.table.n self.old.board.phased (table_counts tally.old.table)
+        requires standing { IsStandingOn counts.old.table.n self.old.board.phased (table_counts counts.old.table)
             self.old }
-        ensures standing { IsStandingOn tally.old.table.n self.old.board.phased (round_counts self.new.board)
+        ensures standing { IsStandingOn counts.old.table.n self.old.board.phased (round_counts self.new.board)
             self.new }
         ensures tried { result ≤ limit }
     {
@@ -88,7 +88,7 @@ impl Standing {
             }
             let step = self.hard_move(random, hard);
             let more = drawn_threshold(random, HARD_HEAT);
-            let legal = self.attempt_hard(step, more, hard, tally, steps);
+            let legal = self.attempt_hard(step, more, hard, counts, steps);
             tried = with_move(tried, limit, legal);
         }
         tried
@@ -107,12 +107,12 @@ impl Standing {
     }
 
     /// Tries moves until so many were legal, or the soft rules cost nothing: each is made where the hard rules cost no
-    /// more, and the soft ones not much more, by a threshold that falls. The best games on the way are kept. Says how
-    /// many moves were tried.
+    /// more, and the soft ones no more than a drawn threshold allows, which cools down. The best games on the way are
+    /// kept. Says how many moves were tried.
     pub(crate) fn improve<R: Rule<L>, L>(
         &mut self,
         random: &mut Pcg32,
-        limit: u64,
+        cooling: Cooling,
         best: &mut Kept,
         tally: &mut Tally<R>,
         steps: &mut Steps<L>,
@@ -124,17 +124,19 @@ impl Standing {
             self.new }
         ensures best { IsKept tally.old.table.n self.old.board.phased (score_on R.Entries tally.old.weights) best.new }
         ensures no_worse { IsNoWorse best.new.score best.old.score }
-        ensures tried { result ≤ limit }
+        ensures tried { result ≤ cooling.limit }
     {
         let n = self.board.n();
         let phased = self.board.phased();
+        let limit = cooling.limit;
         let mut tried = 0;
         'draws: for _drawn in 0..limit.saturating_mul(DRAWS) {
             if tried == limit || tally.objective() == 0 {
                 return tried;
             }
             let step = drawn_move(random, n, phased);
-            let legal = self.attempt(step, Threshold::soft(limit - tried, limit), tally, steps);
+            let most = cooling.most(random, limit - tried, Score::of(tally));
+            let legal = self.attempt(step, most, tally, steps);
             tried = with_move(tried, limit, legal);
             best.keep(&self.board, Score::of(tally));
         }
@@ -148,35 +150,35 @@ impl Standing {
         step: Swap,
         more: u64,
         hard: &mut HardParts,
-        tally: &mut Tally<R>,
+        counts: &mut Tally<R>,
         steps: &mut Steps<L>,
     ) -> bool
         requires league { IsOfLeague self.old.board.n step }
-        requires standing { IsStandingOn tally.old.table.n self.old.board.phased (table_counts tally.old.table)
+        requires standing { IsStandingOn counts.old.table.n self.old.board.phased (table_counts counts.old.table)
             self.old }
-        ensures teams { tally.new.table.n ≡ tally.old.table.n }
-        ensures standing { IsStandingOn tally.old.table.n self.old.board.phased (table_counts tally.new.table)
+        ensures teams { counts.new.table.n ≡ counts.old.table.n }
+        ensures standing { IsStandingOn counts.old.table.n self.old.board.phased (table_counts counts.new.table)
             self.new }
     {
         if !edit_of(&step, &self.board, &mut self.edit) || self.is_long(&step) {
             return false;
         }
-        tally.apply(&self.edit, steps);
-        let follows = hard.follow(&self.edit, tally.cells(), more, steps);
+        counts.apply(&self.edit, steps);
+        let follows = hard.follow(&self.edit, counts.cells(), more, steps);
         if !follows {
-            tally.undo(&self.edit, steps);
+            counts.undo(&self.edit, steps);
             return true;
         }
         self.board.apply(&self.edit);
         true
     }
 
-    /// Tries a move on a tally's games: makes it where it is legal and its score passes the threshold. Says whether it
+    /// Tries a move on a tally's games: makes it where it is legal and the rules cost at most so much after it. Says whether it
     /// is legal and not too long.
     fn attempt<R: Rule<L>, L>(
         &mut self,
         step: Swap,
-        threshold: Threshold,
+        most: Sums,
         tally: &mut Tally<R>,
         steps: &mut Steps<L>,
     ) -> bool
@@ -191,7 +193,6 @@ impl Standing {
         if !edit_of(&step, &self.board, &mut self.edit) || self.is_long(&step) {
             return false;
         }
-        let most = threshold.most(Score::of(tally));
         let within = tally.weigh_within(&self.edit, most, steps);
         if within.is_none() {
             return true;

@@ -1,39 +1,68 @@
 //! How much worse a move may make a schedule.
+ghost use Rattle.std.specs.Prelude.{◌≡◌};
 
 use descent::Score;
+use league::League;
 use rand_core::utils::NextWord;
 use rand_pcg::Pcg32;
+use std::alloc::{AllocError, Global};
 use tally::Sums;
 
-/// A drawn threshold: so many times the negated logarithm, to the base 2, of a random number below 1.
-pub(crate) fn drawn_threshold(random: &mut Pcg32, heat: u64) -> u64 {
+/// Eight times the negated logarithm, to the base 2, of a random number below 1.
+fn eighths(random: &mut Pcg32) -> u64 {
     let word = random.next_word();
     let zeros = u64::from(word.leading_zeros());
     let rest = u64::from(word).wrapping_shl(word.leading_zeros()) % 2_147_483_648;
-    let eighths = (8 * zeros + 8).saturating_sub(rest / 268_435_456);
-    heat.saturating_mul(eighths) / 8
+    (8 * zeros + 8).saturating_sub(rest / 268_435_456)
 }
 
-/// By how much a move may raise what the soft rules cost.
-#[derive(Clone, Copy)]
-pub(crate) struct Threshold {
-    soft: u128,
+/// A drawn threshold: a heat times the negated logarithm of a random number.
+pub(crate) fn drawn_threshold(random: &mut Pcg32, heat: u64) -> u64 {
+    heat.saturating_mul(eighths(random)) / 8
 }
 
-impl Threshold {
-    /// The threshold of the soft rules where so many of a number of moves are left: it falls from 10 to 0. The hard
-    /// rules cost nothing more.
-    pub(crate) fn soft(left: u64, limit: u64) -> Threshold {
-        Threshold {
-            soft: u128::from(left / (limit / 10 + 1)),
+/// Four times the middle one of the penalties of a league's soft constraints.
+///
+/// # Errors
+/// Only where memory runs out.
+pub(crate) fn soft_heat(alloc: Global, league: &League) -> Result<u64, AllocError> {
+    let mut penalties = Vec::new(alloc);
+    for constraint in league.constraints() {
+        if !constraint.hard {
+            penalties.push(constraint.penalty)?;
         }
     }
+    penalties.sort()?;
+    match penalties.get(penalties.len() / 2) {
+        Some(middle) => Ok(u64::from(*middle) * 4),
+        None => Ok(0),
+    }
+}
 
-    /// The most that the rules may cost after a move that is made from games of a score.
-    pub(crate) fn most(self, before: Score) -> Sums {
+/// A number of moves over which the heat of drawn thresholds falls to 0.
+#[derive(Clone, Copy)]
+pub(crate) struct Cooling {
+    heat: u64,
+    pub(crate) limit: u64,
+}
+
+impl Cooling {
+    /// From a heat on, over so many moves.
+    pub(crate) fn new(heat: u64, limit: u64) -> Cooling
+        ensures limit { result.limit ≡ limit }
+    {
+        Cooling { heat, limit }
+    }
+
+    /// The most that rules may cost after a move that is made from games of a score, where so many of the moves are
+    /// left: the hard rules cost no more, and the soft ones pass a drawn threshold.
+    pub(crate) fn most(self, random: &mut Pcg32, left: u64, before: Score) -> Sums {
+        let heat = u128::from(self.heat).saturating_mul(u128::from(left));
+        let drawn = heat.saturating_mul(u128::from(eighths(random)));
+        let more = drawn / u128::from(self.limit.max(1)).saturating_mul(8).max(1);
         Sums {
             infeasibility: before.infeasibility,
-            objective: before.objective.saturating_add(self.soft),
+            objective: before.objective.saturating_add(more),
         }
     }
 }

@@ -13,6 +13,7 @@ use crate::best::Kept;
 use crate::copies::{copy_games, room_for_games};
 use crate::hard::{HardParts, bare_tally};
 use crate::standing::Standing;
+use crate::threshold::{Cooling, soft_heat};
 use descent::Score;
 use league::{Game, League, Schedule};
 use rand_core::SeedableRng;
@@ -28,7 +29,7 @@ const STRETCH: u64 = 2000;
 const PATIENCE: u64 = 1_600_000;
 
 /// The same for the first search, from the games where the walk starts.
-const FIRST_PATIENCE: u64 = 100_000;
+const FIRST_PATIENCE: u64 = 30_000;
 
 /// How long a search has been in vain, and how long it may be.
 #[derive(Clone, Copy)]
@@ -230,10 +231,10 @@ impl Walker {
     {
         copy_games(&self.standing.board, &mut self.games);
         let mut steps = Steps::<Plain>::start();
-        let mut tally = bare_tally(alloc, league, &self.games, &mut steps)?;
-        hard.count(tally.cells(), &mut steps);
+        let mut counts = bare_tally(alloc, league, &self.games, &mut steps)?;
+        hard.count(counts.cells(), &mut steps);
         let limit = self.left.min(STRETCH);
-        let tried = self.standing.meet(&mut self.random, limit, hard, &mut tally, &mut steps);
+        let tried = self.standing.meet(&mut self.random, limit, hard, &mut counts, &mut steps);
         self.left -= tried;
         hard.adapt();
         Ok(hard.price())
@@ -276,9 +277,10 @@ impl Walker {
         if tally.infeasibility() > 0 {
             return Ok(());
         }
+        let cooling = Cooling::new(soft_heat(alloc, league)?, self.left);
         let tried = self.standing.improve(
             &mut self.random,
-            self.left,
+            cooling,
             &mut self.best,
             &mut tally,
             &mut steps,

@@ -16,7 +16,7 @@ apply-requires-clause-there g c i j s =
 
 pub undo-requires-clause-there : goal.undo-requires-clause-there
 undo-requires-clause-there g c =
-    into_there (table_counts c.args.tally.now.table) (table_counts c.apply.new.self.table) c.edit_of.new.edit
+    into_there (table_counts c.args.counts.now.table) (table_counts c.apply.new.self.table) c.edit_of.new.edit
     c.edit_of.ensures.apart c.apply.ensures.counts
 
 pub apply-requires-2-clause-there : goal.apply-requires-2-clause-there
@@ -37,7 +37,7 @@ returns-then-not-follow-clause-standing g c = record {
   teams = c.requires.standing.teams;
   phases = refl;
   counts = c.requires.standing.counts
-      ∙ sym (undone (table_counts c.args.tally.now.table) (table_counts c.apply.new.self.table)
+      ∙ sym (undone (table_counts c.args.counts.now.table) (table_counts c.apply.new.self.table)
       (table_counts c.undo.new.self.table) c.edit_of.new.edit c.apply.ensures.counts c.undo.ensures.counts);
   edit_for = c.edit_of.ensures.n ∙ c.requires.standing.edit_for;
 }

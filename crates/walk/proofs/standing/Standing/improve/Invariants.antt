@@ -13,5 +13,5 @@ invariant-draws g l = record {
   best : IsKept l.initial.tally.table.n l.initial.self.board.phased (score_on g.R.Entries l.initial.tally.weights)
       l.best;
   no_worse : IsNoWorse l.best.score l.initial.best.score;
-  within : l.tried ≤ l.limit;
+  within : l.tried ≤ l.cooling.limit;
 }
