@@ -7,7 +7,7 @@ ghost use Rattle.cells.specs.Table.{table_counts};
 
 use crate::draws::any_of;
 use crate::number_set::NumberSet;
-use crate::parts::hard_parts;
+use crate::parts::{Demands, hard_demands};
 use crate::spots::Spots;
 use crate::weights::Weight;
 use deviation::{AnyRule, counted};
@@ -45,13 +45,18 @@ impl HardParts {
     /// # Errors
     /// Only where memory runs out.
     pub(crate) fn new(alloc: Global, league: &League) -> Result<HardParts, AllocError> {
-        let demands = hard_parts(alloc, league)?;
+        let Demands {
+            parts: demands,
+            weights,
+        } = hard_demands(alloc, league)?;
         let mut rules = Vec::with_capacity(alloc, demands.len())?;
-        let mut parts = Vec::with_capacity(alloc, demands.len())?;
         for demand in &demands {
             rules.push(rule_of(alloc, league.n(), demand)?)?;
+        }
+        let mut parts = Vec::with_capacity(alloc, weights.len())?;
+        for weight in weights {
             parts.push(Part {
-                weight: Weight::of(demand),
+                weight,
                 deviation: 0,
                 then: 0,
             })?;

@@ -1,29 +1,39 @@
 //! Hard constraints in parts, each of which is weighed by itself: one for each entry of their deviations.
 
+use crate::weights::Weight;
 use league::{Class, Constraint, League, SlotId, SlotSet, Span, TeamId, TeamSet};
 use std::alloc::{AllocError, Global};
 
 /// Up to so many parts, constraints are taken apart.
 const SPLIT: usize = 5000;
 
+/// Hard constraints in parts, each with its weight.
+#[derive(Drop)]
+pub(crate) struct Demands {
+    pub(crate) parts: Vec<Constraint>,
+    pub(crate) weights: Vec<Weight>,
+}
+
 /// The hard constraints of a league in parts: one for each team of CA1, CA2 and BR1, for each team and window of CA3,
 /// for each slot of a CA4 of every slot, for each two teams of FA2 and SE1, and one for each other constraint.
 ///
 /// # Errors
 /// Only where memory runs out.
-pub(crate) fn hard_parts(alloc: Global, league: &League) -> Result<Vec<Constraint>, AllocError> {
+pub(crate) fn hard_demands(alloc: Global, league: &League) -> Result<Demands, AllocError> {
     let mut parts = Vec::new(alloc);
+    let mut weights = Vec::new(alloc);
     for constraint in league.constraints() {
-        if constraint.hard && parts.len() < SPLIT {
+        if constraint.hard {
             add_parts(alloc, league.n(), constraint, &mut parts)?;
-        } else if constraint.hard {
-            parts.push(constraint.copy()?)?;
+        }
+        for _part in weights.len()..parts.len() {
+            weights.push(Weight::of(constraint))?;
         }
     }
-    Ok(parts)
+    Ok(Demands { parts, weights })
 }
 
-/// Adds the parts of a constraint of n teams.
+/// Adds the parts of a constraint of n teams, or behind many parts the constraint as one.
 ///
 /// # Errors
 /// Only where memory runs out.
@@ -33,6 +43,9 @@ fn add_parts(
     constraint: &Constraint,
     parts: &mut Vec<Constraint>,
 ) -> Result<(), AllocError> {
+    if parts.len() >= SPLIT {
+        return add_whole(constraint, parts);
+    }
     match &constraint.class {
         Class::Ca1 { teams, .. } | Class::Br1 { teams, .. } => {
             add_teams(alloc, constraint, teams.numbers(), parts)
