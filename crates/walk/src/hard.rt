@@ -1,29 +1,218 @@
-//! The tally of a league's hard constraints alone, in parts, by weights.
-ghost use Rattle.std.specs.Prelude.{◌≡◌, ◌*◌, ◌<◌, ◌≤◌, ◌^◌, length, IfOk, IsTrue, OnOk};
+//! A league's hard constraints in parts: by how much each isn't met, and what that weighs.
+ghost use Rattle.std.specs.Prelude.{◌≡◌, ◌≤◌, length, IfOk};
 ghost use Rattle.std.specs.List.{All};
 ghost use Rattle.league.specs.Counts.{counts_of};
-ghost use Rattle.league.specs.Instance.{IsGame, class_fits};
+ghost use Rattle.league.specs.Instance.{IsGame};
 ghost use Rattle.cells.specs.Table.{table_counts};
-ghost use Rattle.tally.specs.Tallies.{all_terms};
 
-use crate::weights::Weights;
+use crate::draws::any_of;
+use crate::number_set::NumberSet;
+use crate::parts::{Demands, hard_demands};
+use crate::spots::Spots;
+use crate::weights::Weight;
 use deviation::{AnyRule, counted};
 use league::{Constraint, Game, League};
-use rule_core::{Entries, Steps};
+use moves::Edit;
+use rand_pcg::Pcg32;
+use rule_core::{Cells, Entries, Rule, Steps};
 use std::alloc::{AllocError, Global};
-use tally::{Tally, Weighted};
+use tally::Tally;
 
-/// The most parts that a tally has.
-const MOST: usize = 1_000_000;
+/// What a part weighs, by how much it isn't met, and by how much it wouldn't be after a move.
+#[derive(Clone, Copy)]
+struct Part {
+    weight: Weight,
+    deviation: u64,
+    then: u64,
+}
 
-/// The tally of a league's hard constraints on these games, in parts, each by its weight.
+/// The parts of a league's hard constraints with their weights, and what they cost together on the games that they
+/// follow. A move asks only those parts that its games can change.
+#[derive(Drop)]
+pub(crate) struct HardParts {
+    demands: Vec<Constraint>,
+    rules: Vec<Option<AnyRule>>,
+    parts: Vec<Part>,
+    spots: Spots,
+    found: NumberSet,
+    unmet: NumberSet,
+    sum: u64,
+}
+
+impl HardParts {
+    /// The parts of a league with the weights at the start, of which nothing was counted yet.
+    ///
+    /// # Errors
+    /// Only where memory runs out.
+    pub(crate) fn new(alloc: Global, league: &League) -> Result<HardParts, AllocError> {
+        let Demands {
+            parts: demands,
+            weights,
+        } = hard_demands(alloc, league)?;
+        let mut rules = Vec::with_capacity(alloc, demands.len())?;
+        for demand in &demands {
+            rules.push(rule_of(alloc, league.n(), demand)?)?;
+        }
+        let mut parts = Vec::with_capacity(alloc, weights.len())?;
+        for weight in weights {
+            parts.push(Part {
+                weight,
+                deviation: 0,
+                then: 0,
+            })?;
+        }
+        let spots = Spots::new(alloc, &demands)?;
+        let found = NumberSet::new(alloc, demands.len())?;
+        let unmet = NumberSet::new(alloc, demands.len())?;
+        Ok(HardParts {
+            demands,
+            rules,
+            parts,
+            spots,
+            found,
+            unmet,
+            sum: 0,
+        })
+    }
+
+    /// Counts all parts on these games.
+    pub(crate) fn count<L>(&mut self, cells: &Cells, steps: &mut Steps<L>) {
+        self.sum = 0;
+        self.unmet.clear();
+        for (number, rule) in self.rules.iter().enumerate() {
+            let Some(part) = self.parts.get_mut(number) else {
+                return;
+            };
+            part.deviation = deviation_of(rule, cells, steps);
+            self.sum = self.sum.saturating_add(part.weight.weigh(part.deviation));
+            if part.deviation > 0 {
+                self.unmet.add(number);
+            }
+        }
+    }
+
+    /// Follows an edit that led to these counts, where the parts then cost at most so much more. Says whether they do.
+    pub(crate) fn follow<L>(
+        &mut self,
+        edit: &Edit,
+        cells: &Cells,
+        more: u64,
+        steps: &mut Steps<L>,
+    ) -> bool {
+        for game in edit.out() {
+            self.found.add_all(self.spots.of_cell(game.home, game.slot));
+            self.found.add_all(self.spots.of_cell(game.away, game.slot));
+            self.found.add_all(self.spots.of_meeting(game.home, game.away));
+        }
+        let then = self.weigh(cells, self.sum.saturating_add(more), steps);
+        if let Some(sum) = then {
+            self.keep(sum);
+        }
+        self.found.clear();
+        then.is_some()
+    }
+
+    /// What all parts would weigh where those that were found follow the counts, if that is at most so much.
+    fn weigh<L>(&mut self, cells: &Cells, most: u64, steps: &mut Steps<L>) -> Option<u64> {
+        let mut sum = self.sum;
+        for number in self.found.numbers() {
+            if let Some(part) = self.parts.get(*number) {
+                sum = sum.saturating_sub(part.weight.weigh(part.deviation));
+            }
+        }
+        for number in self.found.numbers() {
+            if let Some(part) = self.parts.get_mut(*number)
+                && let Some(rule) = self.rules.get(*number)
+            {
+                part.then = deviation_of(rule, cells, steps);
+                sum = sum.saturating_add(part.weight.weigh(part.then));
+            }
+            if sum > most {
+                return None;
+            }
+        }
+        Some(sum)
+    }
+
+    /// Takes over what the parts that were found come to.
+    fn keep(&mut self, sum: u64) {
+        self.sum = sum;
+        for number in self.found.numbers() {
+            if let Some(part) = self.parts.get_mut(*number) {
+                part.deviation = part.then;
+                if part.deviation > 0 {
+                    self.unmet.add(*number);
+                } else {
+                    self.unmet.remove(*number);
+                }
+            }
+        }
+    }
+
+    /// Whether all parts are met.
+    pub(crate) fn are_met(&self) -> bool {
+        self.sum == 0
+    }
+
+    /// What the parts cost by their penalties.
+    pub(crate) fn price(&self) -> u128 {
+        let mut sum = 0u128;
+        for part in &self.parts {
+            sum = sum.saturating_add(part.weight.price(part.deviation));
+        }
+        sum
+    }
+
+    /// Makes each weight greater or smaller by whether its part is met.
+    pub(crate) fn adapt(&mut self) {
+        for part in self.parts.iter_mut() {
+            part.weight = part.weight.adapted(part.deviation == 0);
+        }
+    }
+
+    /// What some part demands that isn't met.
+    pub(crate) fn any_unmet(&self, random: &mut Pcg32) -> Option<&Constraint> {
+        let number = any_of(random, self.unmet.numbers())?;
+        self.demands.get(number)
+    }
+}
+
+/// The rule of a part, where it fits a league of n teams.
 ///
 /// # Errors
 /// Only where memory runs out.
-pub(crate) fn hard_tally<L>(
+fn rule_of(alloc: Global, n: u16, part: &Constraint) -> Result<Option<AnyRule>, AllocError>
+    requires at_most { n ≤ 40 }
+{
+    if !part.fits(n) {
+        return Ok(None);
+    }
+    let rule = AnyRule::new(alloc, n, part)?;
+    Ok(Some(rule))
+}
+
+/// The sum of a rule's entries on these counts.
+fn deviation_of<L>(rule: &Option<AnyRule>, cells: &Cells, steps: &mut Steps<L>) -> u64 {
+    let Some(rule) = rule else {
+        return 0;
+    };
+    if rule.teams() != cells.n() {
+        return 0;
+    }
+    let mut sum = 0u64;
+    for key in 0..rule.terms() {
+        sum = sum.saturating_add(rule.term(key, cells, steps));
+    }
+    sum
+}
+
+/// The counts of these games: a tally without rules.
+///
+/// # Errors
+/// Only where memory runs out.
+pub(crate) fn bare_tally<L>(
     alloc: Global,
     league: &League,
-    weights: &Weights,
     games: &[Game],
     steps: &mut Steps<L>,
 ) -> Result<Tally<AnyRule>, AllocError>
@@ -32,78 +221,6 @@ pub(crate) fn hard_tally<L>(
     ensures n { IfOk result (λ tally. tally.table.n ≡ league.now.n) }
     ensures counts { IfOk result (λ tally. table_counts tally.table ≡ counts_of games.now) }
 {
-    let n = league.n();
-    let cells = counted(alloc, n, games)?;
-    let rules = weighted_parts(alloc, n, weights)?;
-    Tally::new(alloc, rules, cells, steps)
-}
-
-/// The rules of the parts, each with its weight, in a league of n teams.
-///
-/// # Errors
-/// Only where memory runs out.
-fn weighted_parts(
-    alloc: Global,
-    n: u16,
-    weights: &Weights,
-) -> Result<Vec<Weighted<AnyRule>>, AllocError>
-    requires at_most { n ≤ 40 }
-    ensures teams { IfOk result (λ rules. All (λ w. ⟦<AnyRule as Entries>⟧.team_count w.rule ≡ n) rules.items) }
-    ensures few { IfOk result (λ rules. all_terms ⟦<AnyRule as Entries>⟧ rules.items < 2 ^ 31) }
-{
-    let mut rules = Vec::new(alloc);
-    for part in weights.parts() {
-        let weight = weights.at(rules.len());
-        add_part(alloc, n, part, weight, &mut rules)?;
-    }
-    Ok(rules)
-}
-
-/// Adds the rule of a part, with its weight, where it fits a league of n teams and there aren't too many.
-///
-/// # Errors
-/// Only where memory runs out.
-fn add_part(
-    alloc: Global,
-    n: u16,
-    part: &Constraint,
-    weight: u32,
-    rules: &mut Vec<Weighted<AnyRule>>,
-) -> Result<(), AllocError>
-    requires at_most { n ≤ 40 }
-    requires teams { All (λ w. ⟦<AnyRule as Entries>⟧.team_count w.rule ≡ n) rules.old.items }
-    requires few { all_terms ⟦<AnyRule as Entries>⟧ rules.old.items ≤ 1600 * length rules.old.items }
-    requires most { length rules.old.items ≤ 1000000 }
-    ensures teams { OnOk result (All (λ w. ⟦<AnyRule as Entries>⟧.team_count w.rule ≡ n) rules.new.items) }
-    ensures few { OnOk result (all_terms ⟦<AnyRule as Entries>⟧ rules.new.items ≤ 1600 * length rules.new.items) }
-    ensures most { OnOk result (length rules.new.items ≤ 1000000) }
-{
-    if rules.len() >= MOST || !part.fits(n) {
-        return Ok(());
-    }
-    let weighted = weighted_part(alloc, n, part, weight)?;
-    rules.push(weighted)?;
-    Ok(())
-}
-
-/// The rule of a part, with its weight, in a league of n teams.
-///
-/// # Errors
-/// Only where memory runs out.
-fn weighted_part(
-    alloc: Global,
-    n: u16,
-    part: &Constraint,
-    weight: u32,
-) -> Result<Weighted<AnyRule>, AllocError>
-    requires at_most { n ≤ 40 }
-    requires fits { IsTrue (class_fits n part.now.class) }
-    ensures teams { IfOk result (λ w. ⟦<AnyRule as Entries>⟧.team_count w.rule ≡ n) }
-    ensures short { IfOk result (λ w. ⟦<AnyRule as Entries>⟧.term_count w.rule ≤ 1600) }
-{
-    Ok(Weighted {
-        rule: AnyRule::new(alloc, n, part)?,
-        hard: true,
-        penalty: weight,
-    })
+    let cells = counted(alloc, league.n(), games)?;
+    Tally::new(alloc, Vec::new(alloc), cells, steps)
 }

@@ -17,13 +17,14 @@ mod copies;
 mod draws;
 mod factors;
 mod hard;
+mod number_set;
 mod parts;
+mod spots;
 mod standing;
 mod threshold;
 mod walked;
 mod walker;
 mod weights;
-mod windows;
 
 pub use best::Best;
 pub use walked::{Walked, walk};

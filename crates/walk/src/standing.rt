@@ -13,18 +13,22 @@ ghost use Rattle.walk.specs.Standing.{IsKept, IsStandingOn};
 use crate::aims::aim_at;
 use crate::best::Kept;
 use crate::draws::{aimed_move, below, drawn_move};
-use crate::threshold::Threshold;
+use crate::hard::HardParts;
+use crate::threshold::{Cooling, drawn_threshold};
 use descent::Score;
-use league::{Constraint, Schedule, TeamId};
+use league::{Schedule, TeamId};
 use moves::{Board, Edit, Swap, edit_of};
 use rand_pcg::Pcg32;
-use rule_core::{Entries, Rule, Steps};
+use rule_core::{Rule, Steps};
 use std::alloc::{AllocError, Global};
-use tally::Tally;
+use tally::{Sums, Tally};
 use watching::Watch;
 
 /// How many moves are drawn, legal or not, for each that may be tried.
 const DRAWS: u64 = 8;
+
+/// The heat of the thresholds of moves that are to meet hard constraints, in units of their weights.
+const HARD_HEAT: u64 = 2;
 
 /// Of 256 moves that are to meet hard constraints, so many are aimed at unmet ones.
 const AIMED: u16 = 64;
@@ -34,13 +38,6 @@ const LONGEST: usize = 12;
 
 /// A stretch of a walk has at most so many moves tried.
 pub(crate) const STRETCH: u64 = 2000;
-
-/// How far a walk has come: so many moves are left of a number.
-#[derive(Clone, Copy)]
-pub(crate) struct Cooling {
-    pub(crate) left: u64,
-    pub(crate) whole: u64,
-}
 
 /// A double round robin on a board, and room for the games of a move.
 #[derive(Drop)]
@@ -71,47 +68,43 @@ impl Standing {
         })
     }
 
-    /// Tries moves until so many were legal, the hard rules cost nothing, or the watch ends the walk: each is made where
-    /// its score passes a drawn threshold. A quarter of them is aimed at unmet parts of the hard constraints, of which
-    /// the tally's rules are. Says how many were tried.
+    /// Tries moves until so many were legal, all parts of the hard constraints are met, or the watch ends the walk: each
+    /// is made where they weigh no more after it than a drawn threshold allows. A quarter of them is aimed at unmet
+    /// parts. The counts follow the games. Says how many were tried.
     pub(crate) fn meet<R: Rule<L>, L, W: Watch>(
         &mut self,
         random: &mut Pcg32,
         limit: u64,
-        parts: &[Constraint],
-        tally: &mut Tally<R>,
+        hard: &mut HardParts,
+        counts: &mut Tally<R>,
         steps: &mut Steps<L>,
         watch: &W,
     ) -> u64
-        requires standing { IsStandingOn tally.old.table.n self.old.board.phased (table_counts tally.old.table)
+        requires standing { IsStandingOn counts.old.table.n self.old.board.phased (table_counts counts.old.table)
             self.old }
-        ensures standing { IsStandingOn tally.old.table.n self.old.board.phased (round_counts self.new.board)
+        ensures standing { IsStandingOn counts.old.table.n self.old.board.phased (round_counts self.new.board)
             self.new }
         ensures tried { result ≤ limit }
     {
         let mut tried = 0;
         'draws: for _drawn in 0..limit.saturating_mul(DRAWS) {
-            if tried == limit || tally.infeasibility() == 0 || watch.is_over(tried) {
+            if tried == limit || hard.are_met() || watch.is_over(tried) {
                 return tried;
             }
-            let step = self.hard_move(random, parts, tally);
-            let legal = self.attempt(step, Threshold::hard(random), tally, steps);
+            let step = self.hard_move(random, hard);
+            let more = drawn_threshold(random, HARD_HEAT);
+            let legal = self.attempt_hard(step, more, hard, counts, steps);
             tried = with_move(tried, limit, legal);
         }
         tried
     }
 
     /// A move that is drawn to meet hard constraints.
-    fn hard_move<R: Entries>(
-        &self,
-        random: &mut Pcg32,
-        parts: &[Constraint],
-        tally: &Tally<R>,
-    ) -> Swap
+    fn hard_move(&self, random: &mut Pcg32, hard: &HardParts) -> Swap
         ensures { IsOfLeague self.now.board.n result }
     {
         if below(random, 256) < AIMED
-            && let Some(aim) = aim_at(random, &self.board, parts, tally)
+            && let Some(aim) = aim_at(random, &self.board, hard)
         {
             return aimed_move(random, &self.board, aim);
         }
@@ -119,8 +112,8 @@ impl Standing {
     }
 
     /// Tries moves until a stretch of them was legal, the soft rules cost nothing, or the watch ends the walk: each is
-    /// made where the hard rules cost no more, and the soft ones not much more, by a threshold that falls. The best
-    /// games on the way are kept. Says how many moves were tried.
+    /// made where the hard rules cost no more, and the soft ones no more than a drawn threshold allows, which cools
+    /// down. The best games on the way are kept. Says how many moves were tried.
     pub(crate) fn improve<R: Rule<L>, L, W: Watch>(
         &mut self,
         random: &mut Pcg32,
@@ -151,19 +144,50 @@ impl Standing {
                 return tried;
             }
             let step = drawn_move(random, n, phased);
-            let legal = self.attempt(step, Threshold::soft(cooling.left - tried, cooling.whole), tally, steps);
+            let most = cooling.most(random, cooling.left - tried, Score::of(tally));
+            let legal = self.attempt(step, most, tally, steps);
             tried = with_move(tried, limit, legal);
             best.keep(&self.board, Score::of(tally));
         }
         tried
     }
 
-    /// Tries a move on a tally's games: makes it where it is legal and its score passes the threshold. Says whether it
+    /// Tries a move that is to meet hard constraints: makes it where it is legal and their parts weigh at most so much
+    /// more after it. Says whether it is legal and not too long.
+    fn attempt_hard<R: Rule<L>, L>(
+        &mut self,
+        step: Swap,
+        more: u64,
+        hard: &mut HardParts,
+        counts: &mut Tally<R>,
+        steps: &mut Steps<L>,
+    ) -> bool
+        requires league { IsOfLeague self.old.board.n step }
+        requires standing { IsStandingOn counts.old.table.n self.old.board.phased (table_counts counts.old.table)
+            self.old }
+        ensures teams { counts.new.table.n ≡ counts.old.table.n }
+        ensures standing { IsStandingOn counts.old.table.n self.old.board.phased (table_counts counts.new.table)
+            self.new }
+    {
+        if !edit_of(&step, &self.board, &mut self.edit) || self.is_long(&step) {
+            return false;
+        }
+        counts.apply(&self.edit, steps);
+        let follows = hard.follow(&self.edit, counts.cells(), more, steps);
+        if !follows {
+            counts.undo(&self.edit, steps);
+            return true;
+        }
+        self.board.apply(&self.edit);
+        true
+    }
+
+    /// Tries a move on a tally's games: makes it where it is legal and the rules cost at most so much after it. Says whether it
     /// is legal and not too long.
     fn attempt<R: Rule<L>, L>(
         &mut self,
         step: Swap,
-        threshold: Threshold,
+        most: Sums,
         tally: &mut Tally<R>,
         steps: &mut Steps<L>,
     ) -> bool
@@ -178,7 +202,6 @@ impl Standing {
         if !edit_of(&step, &self.board, &mut self.edit) || self.is_long(&step) {
             return false;
         }
-        let most = threshold.most(Score::of(tally));
         let within = tally.weigh_within(&self.edit, most, steps);
         if within.is_none() {
             return true;

@@ -14,9 +14,9 @@ ghost use Rattle.walk.specs.Walked.{league_score};
 use crate::afresh::random_start;
 use crate::best::Kept;
 use crate::copies::{copy_games, room_for_games};
-use crate::hard::hard_tally;
-use crate::standing::{Cooling, STRETCH, Standing};
-use crate::weights::Weights;
+use crate::hard::{HardParts, bare_tally};
+use crate::standing::{STRETCH, Standing};
+use crate::threshold::{Cooling, soft_heat};
 use descent::Score;
 use deviation::AnyRule;
 use league::{Game, League, Schedule};
@@ -32,7 +32,7 @@ use watching::News;
 const PATIENCE: u64 = 1_600_000;
 
 /// The same for the first search, from the games where the walk starts.
-const FIRST_PATIENCE: u64 = 100_000;
+const FIRST_PATIENCE: u64 = 30_000;
 
 /// How long a search has been in vain, and how long it may be.
 #[derive(Clone, Copy)]
@@ -226,10 +226,10 @@ impl Walker {
         ensures no_worse { OnOk result (IsNoWorse self.new.best.score self.old.best.score) }
         ensures left { OnOk result (self.new.left ≤ self.old.left) }
     {
-        let mut weights = Weights::new(alloc, league)?;
+        let mut hard = HardParts::new(alloc, league)?;
         let mut patience = patience;
         'stretches: for _stretch in 0..self.left / STRETCH + 1 {
-            let sum = self.stretch(alloc, league, &mut weights, watch)?;
+            let sum = self.stretch(alloc, league, &mut hard, watch)?;
             self.keep_lower(alloc, league, sum)?;
             self.tell(league, watch);
             if sum == 0 || self.left == 0 || patience.ends(sum) || watch.is_over(self.tried()) {
@@ -247,7 +247,7 @@ impl Walker {
         &mut self,
         alloc: Global,
         league: &League,
-        weights: &mut Weights,
+        hard: &mut HardParts,
         watch: &W,
     ) -> Result<u128, AllocError>
         requires walker { IsWalkerIn league.now self.old }
@@ -257,19 +257,20 @@ impl Walker {
     {
         copy_games(&self.standing.board, &mut self.games);
         let mut steps = Steps::<Plain>::start();
-        let mut tally = hard_tally(alloc, league, weights, &self.games, &mut steps)?;
+        let mut counts = bare_tally(alloc, league, &self.games, &mut steps)?;
+        hard.count(counts.cells(), &mut steps);
         let limit = self.left.min(STRETCH);
         let tried = self.standing.meet(
             &mut self.random,
             limit,
-            weights.parts(),
-            &mut tally,
+            hard,
+            &mut counts,
             &mut steps,
             watch,
         );
         self.left -= tried;
-        weights.adapt(&tally);
-        Ok(weights.hard_sum(&tally))
+        hard.adapt();
+        Ok(hard.price())
     }
 
     /// Keeps the games where they are better than the best so far, if their hard sum is said to be lower.
@@ -314,15 +315,18 @@ impl Walker {
         if tally.infeasibility() > 0 {
             return Ok(());
         }
-        self.soften(league, &mut tally, &mut steps, watch);
+        let heat = soft_heat(alloc, league)?;
+        self.soften(league, heat, &mut tally, &mut steps, watch);
         Ok(())
     }
 
     /// From games that meet the hard constraints, of which the tally is, goes on to better ones, in stretches, until no
-    /// move may be tried any more, nothing is left to lower, or the watch ends the walk.
+    /// move may be tried any more, nothing is left to lower, or the watch ends the walk. Thresholds cool down from this
+    /// heat.
     fn soften<W: Listener>(
         &mut self,
         league: &League,
+        heat: u64,
         tally: &mut Tally<AnyRule>,
         steps: &mut Steps<Plain>,
         watch: &W,
@@ -335,15 +339,11 @@ impl Walker {
         ensures no_worse { IsNoWorse self.new.best.score self.old.best.score }
         ensures left { self.new.left ≤ self.old.left }
     {
-        let whole = self.left;
-        'stretches: for _stretch in 0..whole / STRETCH + 1 {
-            let cooling = Cooling {
-                left: self.left,
-                whole,
-            };
+        let cooling = Cooling::new(heat, self.left);
+        'stretches: for _stretch in 0..self.left / STRETCH + 1 {
             let tried = self.standing.improve(
                 &mut self.random,
-                cooling,
+                cooling.at(self.left),
                 &mut self.best,
                 tally,
                 steps,

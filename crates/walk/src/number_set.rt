@@ -1,0 +1,95 @@
+//! Sets of numbers below a bound.
+
+use std::alloc::{AllocError, Global};
+
+/// Numbers below a bound, each once, in room for all.
+#[derive(Drop)]
+pub(crate) struct NumberSet {
+    numbers: Vec<usize>,
+    count: usize,
+    places: Vec<Option<usize>>,
+}
+
+impl NumberSet {
+    /// None of the numbers below a bound.
+    ///
+    /// # Errors
+    /// Only where memory runs out.
+    pub(crate) fn new(alloc: Global, bound: usize) -> Result<NumberSet, AllocError> {
+        Ok(NumberSet {
+            numbers: vec![in alloc; 0; bound]?,
+            count: 0,
+            places: vec![in alloc; None; bound]?,
+        })
+    }
+
+    /// The numbers in it, in no certain order.
+    pub(crate) fn numbers(&self) -> &[usize] {
+        let count = self.count.min(self.numbers.len());
+        &self.numbers[..count]
+    }
+
+    /// Puts in these numbers.
+    pub(crate) fn add_all(&mut self, numbers: &[usize]) {
+        for number in numbers {
+            self.add(*number);
+        }
+    }
+
+    /// Puts in a number.
+    pub(crate) fn add(&mut self, number: usize) {
+        let Some(place) = self.places.get_mut(number) else {
+            return;
+        };
+        if place.is_some() {
+            return;
+        }
+        if let Some(free) = self.numbers.get_mut(self.count) {
+            *free = number;
+            *place = Some(self.count);
+            self.count = self.count.saturating_add(1);
+        }
+    }
+
+    /// Takes out a number: the last one comes to its place.
+    pub(crate) fn remove(&mut self, number: usize) {
+        let Some(place) = self.take_place(number) else {
+            return;
+        };
+        self.count = self.count.saturating_sub(1);
+        let Some(last) = self.numbers.get(self.count).copied() else {
+            return;
+        };
+        if last != number {
+            self.put(last, place);
+        }
+    }
+
+    /// The place of a number, which it has no more.
+    fn take_place(&mut self, number: usize) -> Option<usize> {
+        let entry = self.places.get_mut(number)?;
+        let place = *entry;
+        *entry = None;
+        place
+    }
+
+    /// Gives a number a place.
+    fn put(&mut self, number: usize, place: usize) {
+        if let Some(spot) = self.numbers.get_mut(place) {
+            *spot = number;
+        }
+        if let Some(entry) = self.places.get_mut(number) {
+            *entry = Some(place);
+        }
+    }
+
+    /// Takes out all numbers.
+    pub(crate) fn clear(&mut self) {
+        for number in self.numbers.iter().take(self.count) {
+            if let Some(place) = self.places.get_mut(*number) {
+                *place = None;
+            }
+        }
+        self.count = 0;
+    }
+}

@@ -1,0 +1,185 @@
+//! Which parts of the hard constraints a game can change.
+
+use league::{Class, Constraint, SlotId, TeamId};
+use std::alloc::{AllocError, Global};
+
+/// The most teams of a league.
+const TEAMS: u16 = 40;
+
+/// The most slots of a season.
+const SLOTS: u16 = 78;
+
+/// The numbers of parts: by team and slot those that a game of the team there can change, and by home and away team
+/// those that the slot of their game can change.
+#[derive(Drop)]
+pub(crate) struct Spots {
+    cells: Vec<Vec<usize>>,
+    meetings: Vec<Vec<usize>>,
+}
+
+impl Spots {
+    /// Those of these parts, numbered from 0.
+    ///
+    /// # Errors
+    /// Only where memory runs out.
+    pub(crate) fn new(alloc: Global, parts: &[Constraint]) -> Result<Spots, AllocError> {
+        let mut spots = Spots {
+            cells: empty_lists(alloc, usize::from(TEAMS * SLOTS))?,
+            meetings: empty_lists(alloc, usize::from(TEAMS * TEAMS))?,
+        };
+        for (number, part) in parts.iter().enumerate() {
+            spots.add(number, &part.class)?;
+        }
+        Ok(spots)
+    }
+
+    /// The parts that a game of a team in a slot can change.
+    pub(crate) fn of_cell(&self, team: TeamId, slot: SlotId) -> &[usize] {
+        match self.cells.get(place(team.0, SLOTS, slot.0)) {
+            Some(numbers) => numbers,
+            None => &[],
+        }
+    }
+
+    /// The parts that the slot of a home team's game against another can change.
+    pub(crate) fn of_meeting(&self, home: TeamId, away: TeamId) -> &[usize] {
+        match self.meetings.get(place(home.0, TEAMS, away.0)) {
+            Some(numbers) => numbers,
+            None => &[],
+        }
+    }
+
+    /// Adds a part.
+    ///
+    /// # Errors
+    /// Only where memory runs out.
+    fn add(&mut self, number: usize, class: &Class) -> Result<(), AllocError> {
+        match class {
+            Class::Ca1 { teams, slots, .. } => {
+                self.add_cells(number, teams.numbers(), slots.numbers())
+            }
+            Class::Ca2 { teams1, slots, .. } | Class::Ca4 { teams1, slots, .. } => {
+                self.add_cells(number, teams1.numbers(), slots.numbers())
+            }
+            Class::Br1 { teams, slots, .. } | Class::Br2 { teams, slots, .. } => {
+                self.add_breaks(number, teams.numbers(), slots.numbers())
+            }
+            Class::Ca3 { teams1, .. } => self.add_teams(number, teams1.numbers()),
+            Class::Fa2 { teams, .. } => self.add_teams(number, teams.numbers()),
+            Class::Ga1 { meetings, .. } => self.add_meetings(number, meetings.numbers()),
+            Class::Se1 { teams, .. } => self.add_pairs(number, teams.numbers()),
+        }
+    }
+
+    /// Adds a part that counts games of these teams in these slots.
+    ///
+    /// # Errors
+    /// Only where memory runs out.
+    fn add_cells(
+        &mut self,
+        number: usize,
+        teams: &[u16],
+        slots: &[u16],
+    ) -> Result<(), AllocError> {
+        for team in teams {
+            for slot in slots {
+                add_at(&mut self.cells, place(*team, SLOTS, *slot), number)?;
+            }
+        }
+        Ok(())
+    }
+
+    /// Adds a part that counts breaks of these teams at these slots: they are of the slots before, too.
+    ///
+    /// # Errors
+    /// Only where memory runs out.
+    fn add_breaks(
+        &mut self,
+        number: usize,
+        teams: &[u16],
+        slots: &[u16],
+    ) -> Result<(), AllocError> {
+        for team in teams {
+            for slot in slots {
+                add_at(&mut self.cells, place(*team, SLOTS, slot.saturating_sub(1)), number)?;
+                add_at(&mut self.cells, place(*team, SLOTS, *slot), number)?;
+            }
+        }
+        Ok(())
+    }
+
+    /// Adds a part that counts games of these teams in all slots.
+    ///
+    /// # Errors
+    /// Only where memory runs out.
+    fn add_teams(&mut self, number: usize, teams: &[u16]) -> Result<(), AllocError> {
+        for team in teams {
+            for slot in 0..SLOTS {
+                add_at(&mut self.cells, place(*team, SLOTS, slot), number)?;
+            }
+        }
+        Ok(())
+    }
+
+    /// Adds a part that asks for the slots of these games.
+    ///
+    /// # Errors
+    /// Only where memory runs out.
+    fn add_meetings(
+        &mut self,
+        number: usize,
+        meetings: &[(u16, u16)],
+    ) -> Result<(), AllocError> {
+        for (home, away) in meetings {
+            add_at(&mut self.meetings, place(*home, TEAMS, *away), number)?;
+        }
+        Ok(())
+    }
+
+    /// Adds a part that asks for the slots of the games of each two of these teams.
+    ///
+    /// # Errors
+    /// Only where memory runs out.
+    fn add_pairs(&mut self, number: usize, teams: &[u16]) -> Result<(), AllocError> {
+        for home in teams {
+            for away in teams {
+                add_at(&mut self.meetings, place(*home, TEAMS, *away), number)?;
+            }
+        }
+        Ok(())
+    }
+}
+
+/// The place of a row and a column in a table with rows of this length.
+fn place(row: u16, length: u16, column: u16) -> usize {
+    usize::from(row) * usize::from(length) + usize::from(column)
+}
+
+/// So many empty lists.
+///
+/// # Errors
+/// Only where memory runs out.
+fn empty_lists(alloc: Global, count: usize) -> Result<Vec<Vec<usize>>, AllocError> {
+    let mut lists = Vec::with_capacity(alloc, count)?;
+    for _list in 0..count {
+        lists.push(Vec::new(alloc))?;
+    }
+    Ok(lists)
+}
+
+/// Adds a number to the list at a place, unless it is the last there.
+///
+/// # Errors
+/// Only where memory runs out.
+fn add_at(lists: &mut [Vec<usize>], place: usize, number: usize) -> Result<(), AllocError> {
+    let Some(list) = lists.get_mut(place) else {
+        return Ok(());
+    };
+    if let Some(last) = list.last()
+        && *last == number
+    {
+        return Ok(());
+    }
+    list.push(number)?;
+    Ok(())
+}
