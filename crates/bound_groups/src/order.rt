@@ -1,4 +1,4 @@
-//! The rows that order the units of a group.
+//! The rows that order the units of a group. They break a symmetry: only how many units are true matters.
 ghost use Rattle.std.specs.Prelude.{◌≡◌, ◌+◌, ◌-◌, ◌^◌, ◌<◌, ◌≤◌, ◌++◌, [], ◌∷◌, length, map, OnOk};
 ghost use Rattle.std.specs.List.{range_with_len};
 ghost use Rattle.bound_base.specs.Softening as softening;
