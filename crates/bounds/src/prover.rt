@@ -1,4 +1,5 @@
-//! Whether a schedule can be bettered.
+//! Whether a schedule can be bettered. The search is one step of that of minisat+ for a least objective: the rows ask
+//! for one less.
 ghost use Rattle.std.specs.Prelude.{◌≡◌, ℕ, ◌-◌, ◌^◌, ◌<◌, ◌≤◌, [], length, IfOk, Option};
 ghost use Rattle.std.specs.List.{All};
 ghost use Rattle.league.specs.Accepted.{IsAccepted};
