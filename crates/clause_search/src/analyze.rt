@@ -1,4 +1,6 @@
-//! The analysis of a conflict: down the trail, to the first unique implication point or, at level 0, to its front.
+//! The analysis of a conflict: down the trail, to the first unique implication point or, at level 0, to its front. The
+//! clause at that point is what zChaff learns (Zhang, Madigan, Moskewicz and Malik 2001). It is minimised on the way,
+//! by local minimisation (Sörensson and Biere 2009).
 ghost use Rattle.std.specs.Prelude.{◌≡◌, ◌≢◌, ℕ, ◌+◌, ◌<◌, ◌≤◌, ◌⊎◌, length, true, false};
 ghost use Rattle.std.specs.List.{All};
 ghost use Rattle.propagate.specs.Trails.{NamesConflict, is_decision, values_of};

@@ -1,4 +1,5 @@
-//! The levels of a trail: where its last one begins, to which one a search goes back, and what it takes off then.
+//! The levels of a trail: where its last one begins, to which one a search goes back, and what it takes off then. To go
+//! back past levels that had no part in a conflict is the backjumping of GRASP.
 ghost use Rattle.std.specs.Prelude.{◌≡◌, ℕ, ◌<◌, ◌≤◌, length, false, None, IfSome};
 ghost use Rattle.propagate.specs.Trails.{IsQuietBelow, is_decision};
 ghost use Rattle.clause_search.specs.Marks.{IsBackLevel, IsLastDecision};

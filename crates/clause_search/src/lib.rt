@@ -1,4 +1,5 @@
-//! A search that learns clauses: values that satisfy rows, or a log that refutes them.
+//! A search that learns clauses: values that satisfy rows, or a log that refutes them. It is conflict-driven clause
+//! learning, as in GRASP and Chaff, over pseudo-Boolean rows.
 #![tactic(auto)]
 
 mod analyze;

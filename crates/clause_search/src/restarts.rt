@@ -1,4 +1,4 @@
-//! When a search begins again.
+//! When a search begins again. The restarts go by Luby's sequence (Luby, Sinclair and Zuckerman 1993).
 ghost use Rattle.std.specs.Prelude.{◌≡◌, ◌⊎◌};
 
 /// So many conflicts come between two beginnings, times the next number of the sequence.
