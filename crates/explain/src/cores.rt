@@ -1,4 +1,5 @@
 //! A contradiction made smaller at one go: the constraints whose rows its log uses, if they contradict each other too.
+//! Zhang and Malik (2003) search a core of clauses again in this way.
 ghost use Rattle.std.specs.Prelude.{◌≡◌, ◌<◌, ◌≤◌, length, IfOk, IfSome};
 ghost use Rattle.league.specs.Sets.{is_in};
 ghost use Rattle.explain.specs.Standings.{IsExplained, kept};

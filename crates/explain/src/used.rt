@@ -1,4 +1,4 @@
-//! What a log uses.
+//! What a log uses. It is marked from the last step back (Goldberg and Novikov 2003).
 ghost use Rattle.std.specs.Prelude.{◌≡◌, [], ◌∷◌, ◌≤◌, ◌<◌, length, map, IfOk};
 ghost use Rattle.explain.specs.Used.{AreNoted, IsMarked, named_at};
 
