@@ -1,4 +1,5 @@
-//! Home-away patterns that a league's pattern rows allow, or a proof that there are none.
+//! Home-away patterns that a league's pattern rows allow, or a proof that there are none. Patterns before opponents are
+//! the first phase of Nemhauser and Trick (1998).
 //!
 //! The pattern rows are those of a league's rows that speak of no game: of venues and breaks alone. What refutes them
 //! refutes the league; patterns that satisfy them needn't be those of a schedule. `specs/PatternSets.antt` and
