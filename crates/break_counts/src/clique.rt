@@ -1,4 +1,5 @@
-//! Of some teams, all but one begin a stretch on the other side or have a break that ends their alternation.
+//! The rows that say: all but one of some teams begin a stretch on the other side, or have a break that ends their
+//! alternation.
 ghost use Rattle.std.specs.Prelude.{◌+◌, ◌<◌, ◌≤◌};
 ghost use Rattle.std.specs.List.{All};
 

@@ -20,7 +20,7 @@ pub(crate) fn covers(slots: &[u16], stretches: &[Stretch]) -> bool
     true
 }
 
-/// The same of one stretch.
+/// Whether these slots hold each slot of one stretch at which a break counts.
 fn holds_later(slots: &[u16], stretch: Stretch) -> bool
     requires { stretch.first + stretch.count ≤ 78 }
     ensures { result ≡ list_all (λ s. is_in s slots.now) (later_slots stretch) }

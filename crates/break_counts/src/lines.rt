@@ -26,7 +26,7 @@ pub(crate) fn has_short_lines(log: &Log) -> bool
     true
 }
 
-/// The same of the step at a place.
+/// Whether the step at a place has no more than that, so that its line is short.
 fn is_short(log: &Log, k: usize) -> bool
     requires { k < length log.now }
     ensures { IfSome (slice_get log.now k) (λ step. IsTrue result → IsShort step) }
@@ -37,7 +37,7 @@ fn is_short(log: &Log, k: usize) -> bool
     }
 }
 
-/// The same of a clause step.
+/// Whether the line of a clause step with these literals and hints is short.
 fn is_short_clause(clause: &[Lit], hints: &[u64]) -> bool
     ensures { IsTrue result → IsShort (Clause clause.now hints.now) }
 {
@@ -50,7 +50,7 @@ fn is_short_clause(clause: &[Lit], hints: &[u64]) -> bool
     have_small_variables(clause)
 }
 
-/// The same of a linear step.
+/// Whether the line of a linear step with these parts and this divisor is short.
 fn is_short_sum(parts: &[Part], divisor: u64) -> bool
     ensures { IsTrue result → IsShort (Linear parts.now divisor) }
 {

@@ -1,6 +1,6 @@
 //! Stretches of slots.
 
-/// So many slots from a first one on.
+/// A stretch: a number of slots in a row, from a first one on.
 #[derive(Clone, Copy)]
 pub(crate) struct Stretch {
     pub(crate) first: u16,
