@@ -32,7 +32,7 @@ fn check_piece(
 
 /// Reads the file of a log, judges its steps, and says how many they were.
 ///
-/// It takes the file in pieces of at most the room's length, so that of its text no more than a piece and an unfinished
+/// The file is taken in pieces of at most the room's length, so that of its text no more than a piece and an unfinished
 /// line is held at a time.
 pub(crate) fn check_file<S: Shelf>(
     alloc: Global,
