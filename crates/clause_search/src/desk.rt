@@ -22,7 +22,7 @@ pub(crate) struct Desk {
 }
 
 impl Desk {
-    /// That of a search over so many variables, which decides the preferred literals first.
+    /// The desk of a search over so many variables, which decides the preferred literals first.
     ///
     /// # Errors
     /// Only where memory runs out.

@@ -165,7 +165,7 @@ fn find_root_roles(
     Ok(())
 }
 
-/// So many places, none of which has a part.
+/// Makes the roles those of so many places, none of which has a part.
 fn set_apart(roles: &mut Vec<Role>, len: usize) -> Result<(), AllocError>
     ensures { OnOk result (roles.new.items ≡ replicate len Role.Apart) }
 {

@@ -1,13 +1,13 @@
 //! When a search begins again. The restarts go by Luby's sequence (Luby, Sinclair and Zuckerman 1993).
 ghost use Rattle.std.specs.Prelude.{◌≡◌, ◌⊎◌};
 
-/// So many conflicts come between two beginnings, times the next number of the sequence.
+/// How many conflicts come between two beginnings where the number of the sequence is 1.
 const UNIT: u64 = 32;
 
 /// Counts the conflicts until the search begins again from level 0. The numbers between two beginnings are those of
 /// Luby's sequence 1 1 2 1 1 2 4 .., by the reluctant doubling of Knuth.
 ///
-/// It stands for a choice alone: no clause says when the search begins again.
+/// The count stands for a choice alone: no clause says when the search begins again.
 #[derive(Drop)]
 pub(crate) struct Restarts {
     /// How many numbers of the sequence ended with 1 so far, the present one counted.

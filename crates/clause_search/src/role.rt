@@ -4,11 +4,11 @@ ghost use Rattle.std.specs.Prelude.{◌≡◌, ◌≢◌, true, false};
 /// What an analysis of a conflict does with a literal of the trail.
 #[derive(Clone, Copy, Debug)]
 pub(crate) enum Role {
-    /// Nothing: it plays no part in the conflict.
+    /// The literal plays no part in the conflict.
     Apart,
-    /// Its negation stands in the learnt clause.
+    /// The literal's negation stands in the learnt clause.
     Kept,
-    /// It is resolved: its reason is a hint.
+    /// The literal is resolved: its reason is a hint.
     Used,
 }
 

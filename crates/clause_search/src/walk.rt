@@ -22,10 +22,10 @@ use std::alloc::{AllocError, Global};
 /// Searches for values of so many variables that satisfy every row, or a log that refutes them. With a limit it learns
 /// at most so many clauses.
 ///
-/// It decides the most active free variable, with the sign that it had last: at first the preferred literals, in their
-/// order, then all other variables, to be false. From each conflict above level 0 it learns the clause of the first
-/// unique implication point, and goes back to where this clause forces a literal, or at times to level 0. A conflict at
-/// level 0 refutes the rows, whatever the limit. Without a limit it is never spent.
+/// The search decides the most active free variable, with the sign that it had last: at first the preferred literals,
+/// in their order, then all other variables, to be false. From each conflict above level 0 it learns the clause of the
+/// first unique implication point, and goes back to where this clause forces a literal, or at times to level 0. A
+/// conflict at level 0 refutes the rows, whatever the limit. Without a limit it is never spent.
 ///
 /// # Errors
 /// Only where memory runs out.
