@@ -90,7 +90,7 @@ fn name_of(alloc: Global, encoding: &Encoding, var: u32) -> Result<String, Alloc
     format!(in alloc; "{var}")
 }
 
-/// Of which kind a variable of a team at a slot is, if it is one of its venue and breaks.
+/// The kind of a variable, if it is one of a team's venue and breaks at a slot.
 fn kind_at(encoding: &Encoding, var: u32, team: TeamId, slot: SlotId) -> Option<&'static str>
     requires team { team.0 < encoding.now.n }
     requires slot { slot.0 < slot_count encoding.now.n }

@@ -100,7 +100,7 @@ fn show_store(rt: &(impl AllocGlobal + Print)) -> io::Result<()> {
     Ok(())
 }
 
-/// Of two variables the second is made true.
+/// An assignment of two variables, of which the second is made true.
 fn show_assignment(rt: &(impl AllocGlobal + Print)) -> io::Result<()> {
     let mut assignment = Assignment::new(rt.alloc(), 2)?;
     assignment.set(2, true);

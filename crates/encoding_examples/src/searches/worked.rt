@@ -46,7 +46,7 @@ fn yes(var: u32) -> Lit
     Lit::new(var, true)
 }
 
-/// Its negation.
+/// The negation of a variable.
 fn no(var: u32) -> Lit
     requires low { 1 ≤ var }
     requires high { var ≤ VARS }
