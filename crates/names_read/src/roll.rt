@@ -31,7 +31,7 @@ impl Model for Roll {
         (record { teams = map string_bytes r.teams.items; slots = map string_bytes r.slots.items }) };
 }
 
-/// So many empty names.
+/// A list of so many empty names.
 fn unnamed(alloc: Global, count: u16) -> Result<Vec<String>, AllocError>
     ensures { IfOk result (λ names. map string_bytes names.items ≡ replicate count []) }
 {
