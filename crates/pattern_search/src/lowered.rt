@@ -13,7 +13,7 @@ pub(crate) fn are_of_patterns(terms: &[Term], games: u32) -> bool
     terms.iter().all(|term| games < term.lit.var())
 }
 
-/// These terms, with variables that are so many lower.
+/// The terms with variables that are lower by the number of variables of games.
 ///
 /// # Errors
 /// Only where memory runs out.

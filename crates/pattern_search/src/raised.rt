@@ -35,7 +35,7 @@ pub(crate) fn raised(
     Ok(raised)
 }
 
-/// These literals, with variables that are so many higher.
+/// The literals of a clause with variables that are higher by the number of variables of games.
 fn raised_clause(alloc: Global, clause: &[Lit], games: u32) -> Result<Vec<Lit>, AllocError>
     requires { All (λ l. l.var + games ≤ 2147483647) clause.now }
     ensures { IfOk result (λ raised. raised.items ≡ map (raised_literal games) clause.now) }
