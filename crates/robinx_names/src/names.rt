@@ -33,7 +33,7 @@ impl Model for Names {
 }
 
 impl Names {
-    /// These names, which are empty where there is none.
+    /// Names of teams and slots, each empty where there is none.
     ///
     /// # Errors
     /// Only where memory runs out.
