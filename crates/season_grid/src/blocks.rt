@@ -6,7 +6,7 @@ ghost use Rattle.season_grid.specs.Blocks as blocks;
 use league::slot_count;
 use std::alloc::{AllocError, Global};
 
-/// So many slots from one on.
+/// A block: a number of slots in a row, from one on.
 #[derive(Clone, Copy)]
 pub(crate) struct Block {
     pub first: u16,
