@@ -12,7 +12,7 @@ use walk::walk;
 /// How many moves a walk may try for each that a descent may make, and for each that the league has.
 const TRIED: u64 = 100;
 
-/// As often as a descent may make so many moves, a walk may try each that the league has.
+/// For how many moves of a descent a walk may try `TRIED` moves for each that the league has.
 const USUAL: u64 = 10_000;
 
 /// What a descent of at most so many moves makes of the schedule that a walk finds, where the league accepts that. The

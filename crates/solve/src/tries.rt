@@ -69,7 +69,7 @@ pub(crate) fn better(best: Solved, later: Tried) -> Solved
         → IsTried league budgets later → IsSolution league budgets result }
     ensures schedule { HasSchedule best → HasSchedule result }
 
-    // Of the best of what some tries found, and of one try more, it is the best.
+    // The answer is the best of the best of what some tries found, and of one try more.
     ensures best { (found : List (Option Season)) → (IsRefuted best → ⊥) → IsBestOf found (season_of best)
         → IsBestOf (found ++ season_tried later ∷ []) (season_of result) }
 {
