@@ -9,7 +9,7 @@ use Rattle.answers.specs.Reply.{Answer, read_fault, too_long, malformed}
 use Rattle.answers.specs.declared.status.Status.{Status}
 use Rattle.answers.specs.declared.status.Status.TheVariants.{WriteFault}
 
--- these bytes are a file's, whose bytes are known or not
+-- bytes are those of a file, whose bytes are known or not
 pub record IsFile (known : Option (List ℕ)) (limit : ℕ) (bytes : List ℕ) : Type 0 where
   pub same : IfSome known (λ file. bytes ≡ file)
   pub within : length bytes ≤ limit
