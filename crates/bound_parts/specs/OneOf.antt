@@ -11,7 +11,7 @@ is_by_team (Ca2 teams1 teams2 min max side slots) = true
 is_by_team (Br1 teams intp side slots) = true
 is_by_team _ = false
 
--- such a class with team i alone
+-- a class with team i alone, if it has a part for each team
 abbrev pub of_team : Class → ℕ → Class
 of_team (Ca1 teams min max side slots) i = Ca1 (i ∷ []) min max side slots
 of_team (Ca2 teams1 teams2 min max side slots) i = Ca2 (i ∷ []) teams2 min max side slots
