@@ -63,7 +63,7 @@ allowed_of constraints stretches i =
 abbrev pub allowed_singly : ℕ → List Constraint → List Stretch → ℕ
 allowed_singly n constraints stretches = sum_by (allowed_of constraints stretches) (teams_of n)
 
--- the same where a BR2 that counts all these breaks bounds some of the teams: `intp`, and the others each by its own
+-- all teams together where a BR2 that counts all these breaks bounds some: `intp`, and the others each by its own
 abbrev pub allowed_with : ℕ → List Constraint → List Stretch → Class → ℕ
 allowed_with n constraints stretches (Br2 teams intp slots) =
     if covers slots stretches

@@ -14,7 +14,7 @@ pub record IsTableOn (n : ℕ) (constraints : List Constraint) (stretches : List
   pub count : length table ≡ n
   pub each : (i : ℕ) → i < n → slice_index table i ≡ allowed_on constraints stretches side i
 
--- the same by both sides
+-- what each team is allowed by both sides
 pub record IsTable (n : ℕ) (constraints : List Constraint) (stretches : List Stretch) (table : List ℕ) : Type 0 where
   pub count : length table ≡ n
   pub each : (i : ℕ) → i < n → slice_index table i ≡ allowed_of constraints stretches i
