@@ -25,7 +25,7 @@ pub record ChecksOn
   pub judged : new ≡ fold after_step old steps
   pub counted : count ≡ length steps
 
--- the same of all bytes of a log's file, which are known or not
+-- all bytes of a log's file, which are known or not, were read and their steps judged
 pub record ChecksFile
     (known : Option (List ℕ))
     (before : Place)
