@@ -32,8 +32,8 @@ pub record IsResolved (rows : List Row) (lit : ℕ → Literal) (reason : ℕ �
   pub forces : Forces values row term
   pub literal : term.lit ≡ lit k
 
--- of n literals of a trail, where `before k` are the values before place k: each that is used is resolved, and the row
--- with this number is in conflict behind them all
+-- an analysis of n literals of a trail, where `before k` are the values before place k: each that is used is resolved,
+-- and the row with this number is in conflict behind them all
 pub record IsAnalysis (rows : List Row) (n : ℕ) (lit : ℕ → Literal) (reason : ℕ → ℕ) (role : ℕ → Role)
     (before : ℕ → ℕ → Value) (number : ℕ) : Type 0 where
   pub used : (k : ℕ) → k < n → role k ≡ Used → IsResolved rows lit reason role k (before k)

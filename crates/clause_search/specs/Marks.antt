@@ -14,8 +14,8 @@ use Rattle.clause_search.specs.declared.role.Role.TheVariants.{Apart, Kept, Used
 abbrev pub role_at : List Role → ℕ → Role
 role_at roles k = slice_index_or roles k Apart
 
--- Of the first terms, each whose literal was false before a place has its negation marked. Nothing else changes but
--- from apart to kept, before that place, and `now` is the lowest place from `start` on that was marked, or what it was.
+-- Each of the first terms whose literal was false before a place has its negation marked. Nothing else changes but from
+-- apart to kept, before that place, and `now` is the lowest place from `start` on that was marked, or what it was.
 pub record Marks (entries : List Entry) (terms : List Term) (count limit start lowest : ℕ) (old new : List Role)
     (now : ℕ) : Type 0 where
   pub same_length : length new ≡ length old
@@ -49,7 +49,8 @@ pub record AreResolved (trail : SeenTrail) (conflict : ℕ) (roles : List Role) 
       (before trail.entries (length trail.entries)) conflict row
   pub conflict_is : IsInConflict (before trail.entries (length trail.entries)) row
 
--- The same above level 0, where `lowest` is the lowest place from the last decision on that is marked.
+-- An analysis above level 0 has come down to place k, where `lowest` is the lowest place from the last decision on that
+-- is marked.
 pub record IsWalked (trail : SeenTrail) (conflict start : ℕ) (roles : List Role) (lowest k : ℕ) : Type 0 where
   pub resolved : AreResolved trail conflict roles k
   pub above_start : start ≤ lowest
@@ -58,7 +59,7 @@ pub record IsWalked (trail : SeenTrail) (conflict start : ℕ) (roles : List Rol
   pub apart : (j : ℕ) → start ≤ j → j < lowest → role_at roles j ≡ Apart
   pub alone : (j : ℕ) → k ≤ j → lowest < j → j < length trail.entries → role_at roles j ≢ Kept
 
--- The same at level 0, where nothing is kept.
+-- An analysis at level 0 has come down to place k, and nothing is kept.
 pub record IsTraced (trail : SeenTrail) (conflict : ℕ) (roles : List Role) (k : ℕ) : Type 0 where
   pub resolved : AreResolved trail conflict roles k
   pub none : (j : ℕ) → k ≤ j → j < length trail.entries → role_at roles j ≢ Kept
