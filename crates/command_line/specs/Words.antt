@@ -315,7 +315,7 @@ words_of list = slice_split (λ b. b == byte ";") list
 abbrev pub members_in : List ℕ → Option (List ℕ)
 members_in list = rising 0 (words_of list)
 
--- the same, and none where a text is no such list
+-- the numbers that a text writes as a list, and none where it is no such list
 abbrev pub members_of : List ℕ → List ℕ
 members_of list = unwrap_or (members_in list) []
 
