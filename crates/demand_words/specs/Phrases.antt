@@ -24,7 +24,7 @@ bounds_text low high noun =
     else if low == 0 then codes "at most " ++ many high noun
     else codes "from " ++ (decimal low ++ (codes " to " ++ many high noun))
 
--- the same of what was told before
+-- from low to high of something that was told before
 abbrev pub bare_bounds_text : ℕ → ℕ → List ℕ
 bare_bounds_text low high =
     if nat_lt high low
