@@ -8,20 +8,20 @@ use Rattle.explain.specs.Conflicts.{IsSeason}
 use Rattle.explain.specs.declared.attempt.Attempt.{Attempt}
 use Rattle.explain.specs.declared.attempt.Attempt.TheVariants.{Met, Refuted, Spent}
 
--- it is true of the league, where a search learns at most so many clauses
+-- what a try says is true of the league, where a search learns at most so many clauses
 abbrev pub IsAttempt : Instance → Option ℕ → Attempt → Type 0
 IsAttempt league limit (Met games objective) =
     IsSeason league games × (objective ≡ costs.objective league (counts_of games))
 IsAttempt league limit (Refuted log) = RefutesLeague league log
 IsAttempt league limit (Spent log) = IsSpentOn league limit log
 
--- it is a schedule
+-- a try came to a schedule
 abbrev pub IsMet : Attempt → Type 0
 IsMet (Met games objective) = Unit {0}
 IsMet (Refuted log) = ⊥
 IsMet (Spent log) = ⊥
 
--- it is a log that refutes
+-- a try came to a log that refutes
 abbrev pub IsRefuted : Attempt → Type 0
 IsRefuted (Met games objective) = ⊥
 IsRefuted (Refuted log) = Unit {0}

@@ -9,11 +9,11 @@ use Rattle.explain.specs.Standings.{numbers_of}
 use Rattle.explain.specs.declared.member.Member.{Member}
 use Rattle.explain.specs.declared.cores.Core.{Core}
 
--- those of the members that are named
+-- the numbers of the members that are named
 abbrev pub named_of : List ℕ → List Member → List ℕ
 named_of named members = filter (λ k. is_in k named) (numbers_of members)
 
--- they are fewer, and a log of their own refutes them
+-- the members of a core are fewer, and a log of their own refutes them
 pub record IsCore (league : Instance) (members : List Member) (core : Core) : Type 0 where
   pub fewer : length (named_of core.named.items members) < length members
   pub refuted : RefutesLeague (part_of league (named_of core.named.items members)) core.log

@@ -15,7 +15,7 @@ abbrev pub numbers_named : Step → List ℕ
 numbers_named (Clause clause hints) = hints
 numbers_named (Linear parts divisor) = map (λ part. part.row) parts
 
--- those that the step at a place names, from 0
+-- the numbers that the step at a place names, from 0
 abbrev pub named_at : List Step → ℕ → List ℕ
 named_at log k = option_map_or numbers_named (slice_get log k) []
 
@@ -31,8 +31,8 @@ abbrev pub UsesConstraint : Instance → List Step → ℕ → Type 0
 UsesConstraint league log place =
     (row : ℕ) × IsRowOf league place row × IsUsed (length (rows_of league)) log (row + 1)
 
--- Of the constraints of a league, which have these numbers in turn, those with the named numbers are used by the log,
--- and no others.
+-- The log uses the constraints with the named numbers, and no others, of a league whose constraints have these numbers
+-- in turn.
 pub record AreNamed (league : Instance) (numbers : List ℕ) (log : List Step) (named : List ℕ) : Type 0 where
   pub used : All
       (λ number. (place : ℕ) × ((slice_get numbers place ≡ Some number) × UsesConstraint league log place))
