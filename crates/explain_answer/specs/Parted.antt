@@ -24,7 +24,7 @@ abbrev pub part_answer : Instance → List ℕ → Option ℕ → Answer
 part_answer league members None = record { status = Yes; text = instance_text (part_of league members) }
 part_answer league members (Some k) = unknown_constraint k
 
--- that is the answer, and a league that is written reads back as it
+-- the answer is the part of the league, and a league that is written reads back as that part
 pub record IsPart (league : Instance) (members : List ℕ) (answer : Answer) : Type 0 where
   pub is : answer ≡ part_answer league members (first_unknown league members)
   pub reads_back : answer.status ≡ Yes → instance_of (pieces answer.text) ≡ Ok (part_of league members)
