@@ -15,8 +15,8 @@ use Rattle.answers.specs.declared.status.Status.TheVariants.{Yes}
 abbrev pub made_instance : ℕ → ℕ → Answer
 made_instance n seed = record { status = Yes; text = instance_text (made_league n (seeded seed)) }
 
--- It is written, and reads back as this league, which has n + 17 constraints and accepts the schedule of the circle
--- method.
+-- The made league is written, and reads back as this league, which has n + 17 constraints and accepts the schedule of
+-- the circle method.
 pub record IsMade (n seed : ℕ) (answer : Answer) : Type 0 where
   pub made : answer ≡ made_instance n seed
   pub reads_back : instance_of (pieces answer.text) ≡ Ok (made_league n (seeded seed))
