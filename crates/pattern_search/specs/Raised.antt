@@ -24,7 +24,7 @@ raised_row games row = record { terms = map (raised_term games) row.terms; degre
 abbrev pub IsFromOne : Row → Type 0
 IsFromOne row = All (λ t. 1 ≤ t.lit.var) row.terms
 
--- of the first rows, those that speak of no game, lowered, and their numbers
+-- the ones of the first rows that speak of no game, lowered, and their numbers
 pub record IsPicked (games : ℕ) (rows : List Row) (count : ℕ) (low : List Row) (numbers : List ℕ) : Type 0 where
   pub raised : map (raised_row games) low ≡ filter (is_pattern_row games) (take count rows)
   pub from_one : All IsFromOne low
@@ -38,7 +38,7 @@ abbrev pub renumbered : List ℕ → ℕ → ℕ → ℕ
 renumbered numbers all hint =
     if nat_le hint (length numbers) then slice_index numbers (hint - 1) else hint - length numbers + all
 
--- the same, if there is something of that number where so many steps stand
+-- that number among all rows, if there is something of it where so many steps stand
 abbrev pub number_of : List ℕ → ℕ → ℕ → ℕ → Option ℕ
 number_of numbers all before hint =
     if nat_lt 0 hint && nat_le hint (length numbers + before) then Some (renumbered numbers all hint) else None
