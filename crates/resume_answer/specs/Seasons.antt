@@ -62,7 +62,7 @@ pub record SaySeason
   pub says_league : instance_of (pieces first) ≡ Ok league
   pub says_played : solution_of league.n (pieces second) ≡ Ok played
 
--- such files that are within their limits, where the season has k slots and the resume rows aren't too many
+-- files of a league and its games within their limits, of which the season has k slots and the resume rows are few
 pub record IsWellFormedSeason
     (store : Store)
     (instance solution : List ℕ)
