@@ -10,7 +10,7 @@ pub record Names : Type 0 where
   pub teams : List (List ℕ)
   pub slots : List (List ℕ)
 
--- there are as many as a league of n teams has teams and slots
+-- there are as many names as a league of n teams has teams and slots
 pub record IsNames (n : ℕ) (names : Names) : Type 0 where
   pub teams : length names.teams ≡ n
   pub slots : length names.slots ≡ slot_count n
