@@ -24,7 +24,7 @@ season_tried (tries.Found season) = Some season
 season_tried (tries.Refuted log) = None
 season_tried (tries.Spent log) = None
 
--- of the schedules that tries find, in the order of the tries, this is the earliest of the least objective
+-- the earliest schedule of the least objective, in the order of the tries, of those that tries find
 pub record IsEarliestLeast (found : List (Option Season)) (season : Season) : Type 0 where
   pub before : List (Option Season)
   pub after : List (Option Season)

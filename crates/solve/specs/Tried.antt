@@ -11,7 +11,7 @@ use Rattle.solve.specs.declared.tries.Tried.TheVariants.{Found, Refuted, Spent}
 abbrev pub IsSeason : Instance → ℕ → Season → Type 0
 IsSeason league moves season = IsSchedule league moves season.schedule season.objective season.descent
 
--- such a schedule, a log that refutes the league, or one that is spent at the limit of conflicts
+-- what a try comes to: an accepted schedule, a log that refutes the league, or one spent at the limit of conflicts
 abbrev pub IsTried : Instance → Budgets → Tried → Type 0
 IsTried league budgets (Found season) = IsSeason league budgets.moves season
 IsTried league budgets (Refuted log) = RefutesLeague league log
