@@ -84,7 +84,7 @@ nothing_below n less = omega (arith, less)
 pub better-none : (games : List Game) (n : ℕ) → IsBetter away_first (counts_of one_first) games n → ⊥
 better-none games n is = nothing_below n is.lower
 
--- it doesn't better itself, nor does it cost 1
+-- the season that betters the other doesn't better itself, nor does it cost 1
 not_less : (n : ℕ) → n < n → ⊥
 not_less n less = omega (arith, less)
 
@@ -104,7 +104,7 @@ late_first is = cc
 pub better-order : (n : ℕ) → IsBetter away_first (counts_of zero_first) (game 0 1 1 ∷ game 1 0 0 ∷ []) n → ⊥
 better-order n is = late_first (is.in_order 0 1 (game 0 1 1) (lit< tt) (lit< tt))
 
--- nor are two games of one meeting, or one more in a slot that there isn't, which counts nowhere
+-- two games of one meeting are no answer, nor is or one more in a slot that there isn't, which counts nowhere
 pub better-twice : (m : Counts) (n : ℕ) → IsBetter away_first m (game 1 0 0 ∷ game 1 0 1 ∷ []) n → ⊥
 better-twice m n is = two_none 2 refl is.accepted.round_robin.pairs
   where
@@ -191,7 +191,7 @@ pub never-tail : (drop 27 (bound_rows never_away 6)
     × (bound_vars never_away ≡ 10)
 never-tail = (refl, refl)
 
--- so both units are false, both games at home, and one too many
+-- rows 28 to 30 together: both units are false, both games at home, and one too many
 abbrev at_once : List Step
 at_once = Clause [] (30 ∷ 29 ∷ 28 ∷ []) ∷ []
 

@@ -44,7 +44,8 @@ verdict-four = record {
   holds = λ yes. lower_bound;
 }
 
--- the same steps for 5: at most 4 may be paid, so that row 31 demands nothing and the unit 9 stays open
+-- a certificate of 5 with the steps of the one before: at most 4 may be paid, so that row 31 demands nothing and the
+-- unit 9 stays open
 abbrev five : Certificate
 five = record { bound = 5; log = log }
 
@@ -74,7 +75,7 @@ not_five n four enough = omega (arith, four, enough)
 pub verdict-not_five : (text : List ℕ) → IsBoundVerdict even_soon five (record { status = Yes; text = text }) → ⊥
 verdict-not_five text is = not_five 4 refl (is.holds refl (counts_of zero_first) even-accepted)
 
--- nor is it refused as what proves 4
+-- the certificate that proves 4 isn't refused
 pub verdict-refused : IsBoundVerdict even_soon certificate rejected → ⊥
 verdict-refused is =
     no_yes (ap (λ (answer : Answer). answer.status) (is.verdict ∙ ap (bound_answer 4 2) certificate-proves))
@@ -168,7 +169,7 @@ accepted-line = refl
 pub certified-four : IsCertified even_soon (written_between (Some []) (Some accepted_line))
 certified-four = record { bound = 4; steps = 2; least = lower_bound; written = accepted-line }
 
--- and no other bound than one that holds: that stands at place 15, and is at most 4
+-- a yes names no other bound than one that holds: the bound stands at place 15, and is at most 4
 digit : (n : ℕ) (rest : List ℕ) → n ≤ 4 → get_or (codes "accepted bound " ++ (decimal n ++ rest)) 15 0 ≡ 48 + n
 unfolding digits
 digit zero rest low = refl

@@ -222,7 +222,7 @@ swap-climb = (
   same_counts (counts_of zero_first) (moved 2 (counts_of one_first) swap) zero-moved,
 )
 
--- and nothing is lower than nothing
+-- nothing is lower than a score of nothing
 nothing_lower : (cost : ℕ) → nat_lt cost 0 ≡ true → ⊥
 nothing_lower cost lower = omega (arith, ltb-true cost 0 lower)
 

@@ -168,12 +168,12 @@ greater_less is = cc
 pub conflict-descending : (limit : Option ℕ) → IsConflict league limit (4 ∷ 2 ∷ []) log cases → ⊥
 conflict-descending limit is = greater_less (is.ascending 0 1 0 (lit< tt) (lit< tt))
 
--- and a wish is no member
+-- a wish is no member of a conflict
 pub conflict-wish : (limit : Option ℕ) (steps : List Step) (others : List ℕ) (known : List Case)
     → IsConflict league limit (1 ∷ others) steps known → ⊥
 conflict-wish limit steps others known is = false_true (is.hard 0 0 is.some)
 
--- nor does a log without steps refute them
+-- a log without steps doesn't refute the members
 pub conflict-no_steps : (limit : Option ℕ) (known : List Case) → IsConflict league limit members [] known → ⊥
 conflict-no_steps limit known is = refutes-no_steps (part_of league members) is.refuted
 

@@ -63,7 +63,7 @@ descent-stopped = record {
   spent = λ no. refl;
 }
 
--- nor may it say that it is
+-- a descent that may make no move may not say that it is settled
 pub descent-unsettled : IsDescent wishful 0 home (record { first = home; trail = []; settled = true }) → ⊥
 descent-unsettled is = is.settled.0 refl (home_swap (0, 1)) lowers-home
 
@@ -103,7 +103,7 @@ turned_counts i j s =
     ap₂ (λ (x y : Bool). 0 + cond x 1 0 + cond y 1 0) (exchanged (0 == i) (1 == j) (0 == s))
     (exchanged (1 == i) (0 == j) (1 == s))
 
--- and there are no others
+-- in `out` there are no other games than those of `home` with the venues exchanged
 other_counts : (i j s : ℕ) → is_between 0 1 (game i j s) ≡ false → counts_of out i j s ≡ counts_of home i j s
 other_counts i j s other = grind (arith, nat_tests)
 
@@ -115,7 +115,7 @@ swapped_by false i j s is = other_counts i j s is
 pub swapped_home : counts_of out ≡ moved 2 (counts_of home) (home_swap (0, 1))
 swapped_home = fun_ext (λ i. fun_ext (λ j. fun_ext (λ s. swapped_by (is_between 0 1 (game i j s)) i j s refl)))
 
--- and back
+-- the move leads from `out` back to `home`
 swapped_back : (b : Bool) (i j s : ℕ) → is_between 0 1 (game i j s) ≡ b
     → counts_of home i j s ≡ times (counts_of out) (if b then turned (game i j s) else game i j s)
 swapped_back true i j s is = sym (turned_counts j i s)
@@ -164,7 +164,7 @@ schedule-lowered = record {
 no_move : 1 ≤ 0 → ⊥
 no_move few = omega (arith, few)
 
--- it is none where no move may be made
+-- what a move led to is no descent where no move may be made
 pub descent-no_move : IsDescent wishful 0 out lowered → ⊥
 descent-no_move is = no_move is.few
 
@@ -221,7 +221,7 @@ leaves-patterns = record {
   );
 }
 
--- or, at the budget 0, nothing is known of them
+-- at the budget 0 nothing is known of the patterns
 pub leaves-spent : LeavesOpen one_there 0 (patterns.Spent [])
 leaves-spent = record {
   limited = refl;

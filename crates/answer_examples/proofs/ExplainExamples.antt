@@ -137,7 +137,7 @@ contradiction-more = record {
   minimal = λ more is. absurd (no_yes more is);
 }
 
--- the same may not be said with `minimal yes`
+-- a conflict of which not all members are known to be needed may not be said with `minimal yes`
 pub contradiction-claimed : (old new : Option (List ℕ)) → (is : IsContradiction league (written_between old new))
     → is.members ≡ 2 ∷ 3 ∷ 4 ∷ [] → is.rest ≡ codes "minimal yes\n" → ⊥
 contradiction-claimed old new is named rest =
@@ -150,7 +150,7 @@ others_first is = omega (arith, is)
 pub contradiction-other : IsContradiction league (written_between (Some []) (Some (codes "accepted steps 1\n"))) → ⊥
 contradiction-other is = others_first (ap (λ (bytes : List ℕ). get_or bytes 0 0) is.written)
 
--- nor is there one in a league of wishes
+-- there is no conflict in a league of wishes
 no_demand : (k : ℕ) → is_hard_number (wish ∷ []) k ≡ true → ⊥
 no_demand zero is = false_true is
 no_demand (suc zero) is = false_true is
@@ -159,7 +159,7 @@ no_demand (suc (suc k)) is = false_true is
 pub contradiction-wishes : (old new : Option (List ℕ)) → IsContradiction (phased (wish ∷ [])) (written_between old new) → ⊥
 contradiction-wishes old new is = no_demand (get_or is.members 0 0) (is.hard 0 0 is.some)
 
--- nor in one of constraint 2 alone, which accepts `out`
+-- there is no conflict in a league of constraint 2 alone, which accepts `out`
 abbrev staying : Instance
 staying = phased (stays ∷ [])
 
@@ -464,7 +464,7 @@ open_log_read : log_of open_log.text ≡ Ok []
 unfolding lines_from
 open_log_read = refl
 
--- and that is what is found, though `apart` is a conflict, which needs more steps
+-- a log that is spent so is what is found, though `apart` is a conflict, which needs more steps
 pub spent-apart : IsBudgetSpent apart (Some 0) open_log
 spent-apart = record { steps = []; spent = spent_apart; status = refl; text = refl; reads_back = open_log_read }
 

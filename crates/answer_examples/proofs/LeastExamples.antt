@@ -186,7 +186,7 @@ even_instance = record {
   fit = even_fit;
 }
 
--- so each season costs 4 at least
+-- each season costs 4 at least
 pub lower_bound : IsLowerBound even_soon 4
 lower_bound =
     bounds-from_refuted even_soon 4 even_instance (accepted_logs_refute (bound_rows even_soon 3) 9 log refuted)
@@ -344,7 +344,7 @@ replay-free (hint ∷ hints) ends =
     (row_numbered-holds (λ row. goes_on all_free is_unit row ≡ true) rows hint all-from_nothing)
     (replay rows hints) (replay-free hints) (replay-unit hints) ends
 
--- so the one step isn't the empty clause, or doesn't follow
+-- the one step isn't the empty clause, or doesn't follow
 accepted_parts : (fault : Option (ℕ × Cause)) (ends : Bool) (n : ℕ) → verdict_by fault ends n ≡ Accepted
     → (fault ≡ None) × (ends ≡ true)
 accepted_parts None true n accepted = (refl, refl)

@@ -149,7 +149,7 @@ pub least-misstated : (conflicts : Option ℕ) → IsLeast even_soon conflicts z
 least-misstated conflicts is =
     five_four 53 refl (ap (λ (text : List ℕ). get_or text 6 0) is.text ∙ stated-four is.steps)
 
--- nor is one of another status, or of a schedule that isn't accepted
+-- an answer of another status is none, nor is one of a schedule that isn't accepted
 spent_yes : Spent ≡ Yes → ⊥
 spent_yes is = cc
 
@@ -160,7 +160,7 @@ least-status conflicts text is = spent_yes is.status
 pub least-twice : (conflicts : Option ℕ) (answer : Answer) → IsLeast even_soon conflicts twice answer → ⊥
 least-twice conflicts answer is = refused is.accepted
 
--- nor is a season that isn't least
+-- a season that isn't least is no answer
 none_below : (n : ℕ) → n ≡ 3 → n ≤ 0 → ⊥
 none_below n three none = omega (arith, three, none)
 

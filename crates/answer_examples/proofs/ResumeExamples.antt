@@ -61,7 +61,7 @@ accepted_out = record {
 abbrev pub first : List Game
 first = game 1 0 0 ∷ []
 
--- its other game isn't in slot 0
+-- the other game of `home` isn't in slot 0
 later_game : (i j s : ℕ) → s < 1 → ((0 == i) && (1 == j) && (1 == s)) ≡ false
 later_game i j s within = grind (arith, nat_tests)
 
@@ -86,7 +86,7 @@ season-home = record {
 true_false : true ≡ false → ⊥
 true_false is = cc
 
--- it isn't free
+-- the season that keeps what was played isn't free
 free_four : ◌≡◌ {A = ℕ} 0 4 → ⊥
 free_four is = omega (arith, is)
 
@@ -163,7 +163,7 @@ accepted_unknown is = cc
 pub refutes-free : (limit : Option ℕ) → RefutesResuming league crowded 0 limit log → ⊥
 refutes-free limit is = accepted_unknown is.refutes.accepted
 
--- and with the limit 0 no log of two steps is an answer
+-- with the limit 0 no log of two steps is an answer
 too_long : (before : List Step) (last : Step) (steps : List Step) → length steps ≡ 2 → steps ≡ before ++ last ∷ []
     → length before ≤ 0 → ⊥
 too_long before last steps two is few = omega (arith, two, ap length is, length-append before (last ∷ []), few)
@@ -283,7 +283,7 @@ none_some bytes is = cc
 pub say-unknown : (played : List Game) → SaySeason (store_of contents nowhere) (codes "league") (codes "later") league played → ⊥
 say-unknown played is = none_some is.second is.second_known
 
--- and the file that is known says that a game was played
+-- the file whose bytes are known says that a game was played
 some_same : (a b : List ℕ) → Some a ≡ Some b → a ≡ b
 some_same a b is = cc
 

@@ -93,7 +93,7 @@ excluded-crowded = record {
   reads_back = reads_back;
 }
 
--- nor is excluded what a season keeps
+-- what a season keeps isn't excluded
 pub excluded-first : (conflicts : Option ℕ) (answer : Answer) → IsExcluded league first 1 conflicts answer → ⊥
 excluded-first conflicts answer is = is.refutes.none home season-home.resumes
 

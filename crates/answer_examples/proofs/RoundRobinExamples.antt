@@ -72,7 +72,7 @@ single-twice is = two_one 2 refl (is.pairs 0 1 (lit< tt) (lit< tt))
 pub single-behind : IsSingleRoundRobin 2 (game 0 1 0 ∷ game 1 0 1 ∷ []) → ⊥
 single-behind is = one_below 1 refl (is.fit 1 (game 0 1 0) (lit< tt)).slot
 
--- its patterns are H and A, which differ, with no break
+-- the patterns of the game of two teams are H and A, which differ, with no break
 home_away : H ∷ [] ≡ A ∷ [] → ⊥
 home_away is = cc
 
@@ -97,7 +97,7 @@ four_two n four two = omega (arith, four, two)
 pub few-four : HasFewBreaks 4 (counts_of many) → ⊥
 few-four is = four_two 4 refl is.first
 
--- the same three slots later
+-- the games of the four teams three slots later
 abbrev later : List Game
 later = game 3 0 3 ∷ game 1 2 3 ∷ game 3 1 4 ∷ game 2 0 4 ∷ game 3 2 5 ∷ game 0 1 5 ∷ []
 

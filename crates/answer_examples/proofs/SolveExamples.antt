@@ -114,7 +114,7 @@ accepted_out = record {
 
 -- ---- refuted: team 0 is to be at home in both slots
 
--- its row is row 29, and row 26 says that team 0 is at home in one slot at most
+-- the demand's row is row 29, and row 26 says that team 0 is at home in one slot at most
 abbrev pub homes : Instance
 homes = two_with (hard (Ca1 (0 ∷ []) 2 2 H (0 ∷ 1 ∷ [])) ∷ [])
 
@@ -308,7 +308,7 @@ spent-homes limit is =
     let quiet : IsQuiet is.spent.quiet.0 (rows_of homes) = is.spent.quiet.1 in
     never_quiet is.spent.quiet.0 (quiet 28 (at_least 0 []) (lit< tt)) (quiet 25 (at_least 0 []) (lit< tt))
 
--- nor is one spent at another limit, or one of as many steps as 3 to the 8
+-- no log is spent at another limit, or one of as many steps as 3 to the 8
 some_one : ◌≡◌ {A = Option ℕ} (Some 1) (Some 0) → ⊥
 some_one is = let same : ◌≡◌ {A = ℕ} 1 0 = cc in omega (arith, same)
 
@@ -321,7 +321,7 @@ too_many steps many few = omega (arith, many, few)
 pub spent-many : (limit : Option ℕ) (steps : List Step) → 6561 ≤ length steps → IsSpentOn one_there limit steps → ⊥
 spent-many limit steps many is = too_many (length steps) many is.few
 
--- nor one that speaks of a ninth variable
+-- no log is spent that speaks of a ninth variable
 nine_eight : 9 ≤ 8 → ⊥
 nine_eight is = omega (arith, is)
 

@@ -91,7 +91,7 @@ pub season-repeated : (score : Score)
     → IsSeasonOf demanding (record { games = game 0 1 0 ∷ game 0 1 1 ∷ []; score = score }) → ⊥
 season-repeated score is = two_left is.round_robin.pairs
 
--- nor are games out of order what it gives
+-- a walk gives no games out of order
 not_first : IsTrue (is_le (game_cmp (game 0 1 1) (game 1 0 0))) → ⊥
 not_first is = cc
 
