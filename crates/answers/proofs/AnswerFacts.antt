@@ -35,7 +35,11 @@ kind_word-tags = (refl, refl, refl, refl, refl)
 pub kind_word-elements : (kind_word BadNesting ≡ codes "BadNesting") × (kind_word MissingElement ≡ codes "MissingElement") × (kind_word RepeatedElement ≡ codes "RepeatedElement") × (kind_word MissingAttribute ≡ codes "MissingAttribute")
 kind_word-elements = (refl, refl, refl, refl)
 
-pub kind_word-values : (kind_word BadNumber ≡ codes "BadNumber") × (kind_word NumberTooLarge ≡ codes "NumberTooLarge") × (kind_word UnknownTeam ≡ codes "UnknownTeam") × (kind_word UnknownSlot ≡ codes "UnknownSlot") × (kind_word SameTeam ≡ codes "SameTeam") × (kind_word BadChoice ≡ codes "BadChoice") × (kind_word UnsupportedClass ≡ codes "UnsupportedClass") × (kind_word WrongCounts ≡ codes "WrongCounts") × (kind_word TooMany ≡ codes "TooMany")
+pub kind_word-values : (kind_word BadNumber ≡ codes "BadNumber") × (kind_word NumberTooLarge ≡ codes "NumberTooLarge")
+    × (kind_word UnknownTeam ≡ codes "UnknownTeam") × (kind_word UnknownSlot ≡ codes "UnknownSlot")
+    × (kind_word SameTeam ≡ codes "SameTeam") × (kind_word BadChoice ≡ codes "BadChoice")
+    × (kind_word UnsupportedClass ≡ codes "UnsupportedClass") × (kind_word WrongCounts ≡ codes "WrongCounts")
+    × (kind_word TooMany ≡ codes "TooMany")
 kind_word-values = (refl, refl, refl, refl, refl, refl, refl, refl, refl)
 
 -- faults of a log
@@ -59,7 +63,7 @@ file-whole = record { same = refl; within = omega arith }
 pub file-others : (IsFile (Some (7 ∷ 8 ∷ [])) 9 (7 ∷ []) → ⊥) × (IsFile (Some (7 ∷ 8 ∷ [])) 1 (7 ∷ 8 ∷ []) → ⊥) × (IsFile None 1 (7 ∷ 8 ∷ []) → ⊥)
 file-others = (λ h. cut 7 8 h.same, λ h. past h.within, λ h. past h.within)
 
--- it isn't read where it has more bytes than the limit, or where the store failed
+-- a file isn't read where it has more bytes than the limit, or where the store failed
 pub unread-long : (answer : Answer) → IsUnread (codes "instance") (Some (7 ∷ 8 ∷ [])) 1 (Unit {0}) ⊥ answer → answer ≡ too_long (codes "instance") 1
 unread-long answer (inl h) = h.2
 unread-long answer (inr h) = absurd h.0
