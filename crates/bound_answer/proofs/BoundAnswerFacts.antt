@@ -39,6 +39,6 @@ two-five = refl
 pub two-six : bound_verdict two 6 one_step ≡ Rejected 1 NoConflict
 two-six = refl
 
--- that no objective is below 0 needs no step, and none is looked at
+-- no step is needed, and none is looked at, for: no objective is below 0
 pub two-none : (bound_verdict two 0 [] ≡ Accepted) × (bound_verdict two 0 one_step ≡ Accepted)
 two-none = (refl, refl)
