@@ -92,7 +92,7 @@ same_parts n min p several order =
     (λ u. same_part n p.0 p.1 (min + 1 - u) several order) (range_with_len 1 min)
     ∙ sym (sum_by-map (part_size n) (part 0 1) (range_with_len 1 min))
 
--- so the parts of all pairs have as many times those of one as there are pairs
+-- the parts of all pairs have as many times the terms of one pair as there are pairs
 pub pairs_size : (n min : ℕ) (pairs : List (ℕ × ℕ)) → 2 ≤ n → All (λ p. p.0 < p.1) pairs
     → sum_by (λ p. parts_size n (se1_parts min p)) pairs ≡ length pairs * parts_size n (se1_parts min (0, 1))
 pairs_size n min pairs several orders =
