@@ -60,8 +60,8 @@ says_league : instance_of (pieces league_file) ≡ Ok homeless
 unfolding attributes_at pieces_from walk
 says_league = refl
 
--- it has 8 variables, 32 rows and few terms: rows 31 and 32 are the constraint's, and row 23 wants a team at home in
--- slot 0
+-- the league has 8 variables, 32 rows and few terms: rows 31 and 32 are the constraint's, and row 23 wants a team at
+-- home in slot 0
 vars-is : var_count homeless ≡ 8
 vars-is = refl
 
@@ -136,7 +136,7 @@ pub checked-good : (answer : Answer) → checked store (codes "league") (codes "
 checked-good answer given =
     (checked-well_formed store (codes "league") (codes "good") homeless good_steps answer good-formed nothing_fails given).verdict ∙ ap (verdict_answer 1) good-verdict ∙ accepted-one
 
--- and to `check league bad`: the fault of form, though a step before it is rejected
+-- where nothing fails, the one answer to `check league bad`: the fault of form, though a step before it is rejected
 pub checked-bad : (answer : Answer) → checked store (codes "league") (codes "bad") answer → answer ≡ log_malformed BadLine 3
 checked-bad answer given =
     let told = checked-at_log store (codes "league") (codes "bad") league_file bad_log homeless answer refl refl (omega arith) (omega arith) says_league small (λ h. h) (λ h. h) given in

@@ -113,7 +113,7 @@ log-ended old bytes now new count checked ended =
     ∙ ap whole (checked.read [] ∙ ap (after checked.steps) ended)
     ∙ ap Ok (append-nil checked.steps)
 
--- and where one is
+-- what the whole text says, where a fault is left at its end
 pub log-faulty : (old : Judged) (bytes : List ℕ) (now : Place) (new : Judged) (count : ℕ) (kind : LogKind) (line : ℕ) → ChecksOn start old bytes now new count → log_from now [] ≡ no_steps_but kind line → log_of bytes ≡ Err (kind, line)
 log-faulty old bytes now new count kind line checked fault =
     ap (λ (l : List ℕ). log_of l) (sym (append-nil bytes))
@@ -169,7 +169,7 @@ under_way-then known between left taken_before taken_between taken_now a b c s t
   line = omega (arith, so_far.line);
 }
 
--- the same of a piece that stands at the front of a room
+-- one more piece, which stands at the front of a room, was taken and checked
 pub under_way-next : (known between left : Option (List ℕ)) (taken_before taken_between taken_now : ℕ) (a b c : Place) (s t u : Judged) (m n bytes count : ℕ) (room rest : List ℕ) → count ≤ length room
     → IsUnderWay known between taken_before taken_between a s b t m bytes → Consumes between left (take count room) → taken_now ≡ raised taken_between count → bytes + count ≤ most_log_bytes
     → ChecksOn b t (take count (room ++ rest)) c u n → c.line ≤ b.line + length (take count (room ++ rest)) → IsUnderWay known left taken_before taken_now a s c u (m + n) (bytes + count)
@@ -185,7 +185,10 @@ nothing [] none = refl
 nothing (b ∷ piece) none = absurd (omega arith)
 
 -- the file is at its end: the last piece is empty
-pub under_way-whole : (known between left : Option (List ℕ)) (taken_before taken_now : ℕ) (before now : Place) (old new : Judged) (count bytes : ℕ) (piece : List ℕ) → length piece ≡ 0 → IsUnderWay known between taken_before taken_now before old now new count bytes → Consumes between left piece → IsAtEnd left → ChecksFile known before old now new count
+pub under_way-whole : (known between left : Option (List ℕ)) (taken_before taken_now : ℕ) (before now : Place) (old new
+    : Judged) (count bytes : ℕ) (piece : List ℕ) → length piece ≡ 0
+    → IsUnderWay known between taken_before taken_now before old now new count bytes → Consumes between left piece
+    → IsAtEnd left → ChecksFile known before old now new count
 under_way-whole known between left taken_before taken_now before now old new count bytes piece none so_far consumed ended =
     let all : so_far.bytes ++ piece ≡ so_far.bytes = ap (λ (p : List ℕ). so_far.bytes ++ p) (nothing piece none) ∙ append-nil so_far.bytes in
     let whole : Consumes known left so_far.bytes = subst (λ (l : List ℕ). Consumes known left l) all (consumes-then known between left so_far.bytes piece so_far.consumed consumed) in

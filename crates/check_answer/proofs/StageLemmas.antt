@@ -38,12 +38,12 @@ after-league : (store : Store) (instance log first : List ℕ) (league : Instanc
 after-league store instance log first league is_first says_league answer rest =
     inl (first, is_first, says-value (codes "instance") (instance_of (pieces first)) league (λ l. encodes l (λ rows. takes (codes "log") (store.contents log) most_log_bytes (store.took_more (length first + most_log_bytes)) (store.failed log) (λ bytes. says_log (log_of bytes) (IsVerdict l rows)))) answer says_league rest)
 
--- its rows are too many
+-- the league's rows are too many
 pub checked-large : (store : Store) (instance log first : List ℕ) (league : Instance) → IsFile (store.contents instance) INSTANCE_LIMIT first → instance_of (pieces first) ≡ Ok league
     → (answer : Answer) → (most_terms < encoding_size league) × (answer ≡ too_large (encoding_size league)) → checked store instance log answer
 checked-large store instance log first league is_first says_league answer large = after-league store instance log first league is_first says_league answer (inr large)
 
--- they aren't: the rest is the answer to the log
+-- the league's rows aren't too many: the rest is the answer to the log
 pub checked-log : (store : Store) (instance log first : List ℕ) (league : Instance) → IsFile (store.contents instance) INSTANCE_LIMIT first → instance_of (pieces first) ≡ Ok league → encoding_size league ≤ most_terms
     → (answer : Answer) → takes (codes "log") (store.contents log) most_log_bytes (store.took_more (length first + most_log_bytes)) (store.failed log) (λ bytes. says_log (log_of bytes) (IsVerdict league (rows_of league))) answer → checked store instance log answer
 checked-log store instance log first league is_first says_league small answer rest = after-league store instance log first league is_first says_league answer (inl (small, rest))
@@ -118,7 +118,7 @@ ended-verdict rows vars bytes now new count verdict answer checked ended said is
     (log-ended (no_step_of rows vars) bytes now new count checked ended)
     (is ∙ ap (λ n. verdict_answer n verdict) checked.counted ∙ ap (verdict_answer (length steps)) judged)
 
--- or with one
+-- the log ends with a fault
 pub faulty-log : (rows : List Row) (vars : ℕ) (bytes : List ℕ) (now : Place) (new : Judged) (count : ℕ)
     (kind : LogKind) (line : ℕ) (answer : Answer) → ChecksOn start (no_step_of rows vars) bytes now new count
     → log_from now [] ≡ no_steps_but kind line → answer ≡ log_malformed kind line
