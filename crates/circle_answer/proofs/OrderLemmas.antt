@@ -181,7 +181,7 @@ occurrences-in_order : (x : Game) (games : List Game) → occurrences x (in_orde
 occurrences-in_order x [] = refl
 occurrences-in_order x (g ∷ games) = occurrences-with_game x g (in_order games) ∙ ap (λ (n : ℕ). one_if (is_eq (game_cmp x g)) + n) (occurrences-in_order x games) ∙ sym (occurrences-cons x g games)
 
--- the same games in order are one list: that of `in_order`
+-- games in order are one list: that of `in_order`
 pub in_order_unique : (games ordered : List Game) → IsPermutation games ordered → IsInOrder ordered → ordered ≡ in_order games
 in_order_unique games ordered same up =
     same_games ordered (in_order games) (Ascends-from_order ordered up) (Ascends-in_order games) (λ x. sum_by-IsPermutation (λ h. one_if (is_eq (game_cmp x h))) games ordered same ∙ sym (occurrences-in_order x games))
