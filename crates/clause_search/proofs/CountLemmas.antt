@@ -97,7 +97,7 @@ none_false : (b : Bool) → (b ≡ true → ⊥) → b ≡ false
 none_false true never = absurd (never refl)
 none_false false never = refl
 
--- so no literal stands beside its negation
+-- no literal of a clause of different variables stands beside its negation
 no_opposites : (c : List Literal) → Differ c → has_opposites c ≡ false
 no_opposites [] differ = refl
 no_opposites (x ∷ c) differ =

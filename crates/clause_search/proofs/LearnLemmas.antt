@@ -51,7 +51,7 @@ resolved_follows t conflict roles lawful is =
     (resolved_analysis t conflict roles is) (trail_fresh t.vars t.entries (news t.rows t.vars t.entries lawful))
     (λ j inside. (lawful j no_entry inside).new.known)
 
--- and tidy
+-- what is kept, and what was resolved with the row in conflict, is a tidy step
 resolved_tidy : (t : SeenTrail) (conflict : ℕ) (roles : List Role) → AreLawful t.rows t.vars t.entries
     → length t.entries ≤ t.vars → AreResolved t conflict roles 0
     → IsTidy t.vars (Clause (clause_below (lit_at t.entries) (role_at roles) (length t.entries))
@@ -75,7 +75,7 @@ alone_from t conflict start roles lowest walked j from inside kept =
       ]
     ]
 
--- and its clause is empowering
+-- the clause of a walk that came to the trail's front is empowering
 pub walked_empowers : (t : SeenTrail) (conflict start : ℕ) (roles : List Role) (lowest : ℕ)
     → AreLawful t.rows t.vars t.entries → IsLastDecision t start → IsWalked t conflict start roles lowest 0
     → IsEmpowering t.rows (clause_below (lit_at t.entries) (role_at roles) (length t.entries))
@@ -103,7 +103,7 @@ none_kept lit role (suc k) none =
     ap (λ (ls : List Literal). clause_below lit role k ++ ls) (nothing_of (lit k) (role k) (none k (omega arith)))
     ∙ append-nil (clause_below lit role k) ∙ none_kept lit role k (λ j below. none j (omega (arith, below)))
 
--- so the empty clause follows
+-- the empty clause follows at level 0
 pub closes : (t : SeenTrail) (conflict : ℕ) (roles : List Role) (hints : List ℕ) (steps more : List Step)
     → AreLawful t.rows t.vars t.entries
     → length t.entries ≤ t.vars → IsTraced t conflict roles 0
@@ -159,7 +159,7 @@ walked_tidy t conflict start roles clause hints lawful few analyzed clause_is hi
     IsTidy t.vars (Clause (clause_below (lit_at t.entries) (role_at roles) (length t.entries)) hs)) (sym hints_are)
     (resolved_tidy t conflict roles lawful few analyzed.walked.resolved))
 
--- it leaves the levels quiet to which the search goes back
+-- the clause of a walk leaves the levels quiet to which the search goes back
 pub walked_learnable : (t : SeenTrail) (conflict start level : ℕ) (roles : List Role) (clause : List Literal)
     (hints : List ℕ) → AreLawful t.rows t.vars t.entries → length t.entries ≤ t.vars
     → IsLastDecision t start → IsAnalyzed t conflict start roles → IsBackLevel t.entries roles start level

@@ -82,7 +82,7 @@ stands_false vars es k l each within stands =
     subst (λ (x : Literal). value_of (before es k) x ≡ False) (ap negate stands.2 ∙ negate-twice l)
     (negate_false (before es k) (lit_at es stands.0) (trail_true vars es stands.0 k each stands.1 within))
 
--- and no other place has its variable
+-- no other place than that of its negation has a literal's variable
 same_place : (vars : ℕ) (es : List Entry) (k p : ℕ) (l : Literal) → EachEntry (IsNew vars) es → k ≤ length es
     → p < length es → (lit_at es p).var ≡ l.var → (stands : StandsBefore es k l) → p ≡ stands.0
 same_place vars es k p l each within inside same stands =
@@ -269,7 +269,7 @@ place_stands vars es l p each inside same is =
     false_stands vars es (length es) l each (omega arith) (at_end es l False is) in
     ap (λ (k : ℕ). lit_at es k) (same_place vars es (length es) p l each (omega arith) inside same stands) ∙ stands.2
 
--- it became false before a limit only where that place is before it
+-- a literal became false before a limit only if the place of its variable is before the limit
 pub place_early : (vars : ℕ) (es : List Entry) (l : Literal) (p limit : ℕ) → EachEntry (IsNew vars) es → p < length es
     → (lit_at es p).var ≡ l.var → limit ≤ length es → value_of (before es limit) l ≡ False → p < limit
 place_early vars es l p limit each inside same within is =

@@ -68,7 +68,7 @@ alone : (other : Literal) → Contains (no 4 ∷ []) other → other ≢ no 4 �
 alone other (zero, within, is) differs = absurd (differs (sym is))
 alone other (suc k, within, is) differs = absurd (omega (arith, within))
 
--- so the first step is news
+-- the first step is news
 pub news-first : IsNews six 7 first
 news-first = record { follows = refl; empowering = (all_free, no 4, six_quiet, (0, lit< tt, refl), refl, alone) }
 

@@ -67,7 +67,7 @@ filled_more values vars k xs new b w l l_is w_is says inside new_is is = record 
       ];
 }
 
--- and they satisfy the rows
+-- the filled values satisfy the rows
 pub filled_answer : (t : SeenTrail) (vars : ℕ) (filled : List Bool) → t.vars ≡ vars → All IsRow t.rows
     → All (KnowsVariables t.vars) t.rows → AreLawful t.rows t.vars t.entries
     → IsQuiet (values_of t.entries) t.rows → NoneFree (values_of t.entries) vars

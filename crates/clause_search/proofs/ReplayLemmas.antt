@@ -70,7 +70,7 @@ all_set-true values (l ∷ ls) m differ there free =
 abbrev pub AreApart : List Term → Type 0
 AreApart terms = AllPairs (λ t u. t.lit.var ≢ u.lit.var) terms
 
--- those of some terms that pass a test, made true in turn
+-- the literals of some terms that pass a test, made true in turn
 abbrev pub passing_set : (Term → Bool) → (ℕ → Value) → List Term → ℕ → Value
 passing_set test values terms = all_set values (map (λ t. t.lit) (filter test terms))
 
@@ -142,7 +142,7 @@ sum_by-pointwise f g (x ∷ xs) below =
       sum_by-pointwise f g xs (λ y there. below y (suc there.0, omega (arith, there.1), there.2)),
     )
 
--- and less by what one element loses
+-- a sum of no larger terms is less by what one element loses
 pub sum_by-less : {X : Type 0} (f g : X → ℕ) (xs : List X) (y : X) (k lost : ℕ)
     → ((x : X) → Contains xs x → f x ≤ g x) → k < length xs → get_or xs k y ≡ y
     → f y + lost ≤ g y → sum_by f xs + lost ≤ sum_by g xs
@@ -201,7 +201,7 @@ open_lost coef v w false_now was_free =
           was_free,
     )
 
--- and less by a coefficient whose literal was free and is false
+-- the reach is less by a coefficient whose literal was free and is false
 pub reach-lost : (old new : ℕ → Value) (terms : List Term) (t : Term) → Falls old new terms → Contains terms t
     → value_of old t.lit ≡ Free → value_of new t.lit ≡ False
     → reach new terms + t.coef ≤ reach old terms

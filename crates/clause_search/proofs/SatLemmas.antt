@@ -138,7 +138,7 @@ reach_one values assigned vars (x ∷ terms) none agree apart known =
           (All-tail (λ (t : Term). t.lit.var ≤ vars) x terms known) (omega (arith, past)))
     ]
 
--- so a quiet row is satisfied where every variable has a value
+-- a quiet row is satisfied where every variable has a value
 pub satisfies-full : (values : ℕ → Value) (assigned : ℕ → Bool) (vars : ℕ) (row : Row) → values 0
     ≡ Free → Agree values assigned vars
     → IsRow row → KnowsVariables vars row → IsQuietRow values row → Satisfies assigned row

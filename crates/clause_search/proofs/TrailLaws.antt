@@ -40,7 +40,7 @@ free_down vars es j each within (suc gap) k at =
     (ap (λ (w : ℕ → Value). value_of w (lit_at es j)) (sym (before-more es k there))
     ∙ free_down vars es j each within gap (k + 1) (omega (arith, at)))
 
--- and before any earlier place
+-- a literal is free before any place earlier than its own
 pub trail_free : (vars : ℕ) (es : List Entry) (j k : ℕ) → EachEntry (IsNew vars) es → k ≤ j → j < length es
     → value_of (before es k) (lit_at es j) ≡ Free
 trail_free vars es j k each earlier within = free_down vars es j each within (j - k) k (omega (arith, earlier))
@@ -66,7 +66,7 @@ pub trail_true : (vars : ℕ) (es : List Entry) (j k : ℕ) → EachEntry (IsNew
     → value_of (before es k) (lit_at es j) ≡ True
 trail_true vars es j k each earlier within = true_up vars es j each (k - (j + 1)) k (omega (arith, earlier)) within
 
--- so the literals have different variables
+-- the literals of a trail have different variables
 pub trail_fresh : (vars : ℕ) (es : List Entry) → EachEntry (IsNew vars) es → AreFresh (length es) (lit_at es)
 trail_fresh vars es each = λ j k earlier within same.
     let set : value_of (before es k) (lit_at es j) ≡ True =

@@ -400,7 +400,7 @@ trace_start t conflict start lowest roles new now terms row proper numbered in_c
 pub entry_is : (es : List Entry) (k : ℕ) (e : Entry) → slice_get es k ≡ Some e → entry_at es k ≡ e
 entry_is es k e read = get_or_from_slice_get es k e no_entry read
 
--- its reason forces it
+-- the reason of the entry that was read forces it
 pub reason_forces : (t : SeenTrail) (k number : ℕ) (e : Entry) → AreLawful t.rows t.vars t.entries
     → slice_get t.entries k ≡ Some e → e.reason ≡ Some number
     → IsForcedBy t.rows (take k t.entries) (lit_at t.entries k) number
