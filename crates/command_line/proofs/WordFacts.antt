@@ -39,7 +39,12 @@ pub check-names : (reading (codes "check" ∷ codes "a" ∷ codes "" ∷ []) ≡
 check-names = (refl, refl)
 
 -- one file or three, an option in place of a file's name, another spelling
-pub check-none : (reading (codes "check" ∷ codes "a" ∷ []) ≡ None) × (reading (codes "check" ∷ codes "a" ∷ codes "b" ∷ codes "c" ∷ []) ≡ None) × (reading (codes "check" ∷ codes "a" ∷ codes "-" ∷ []) ≡ None) × (reading (codes "check" ∷ codes "-a" ∷ codes "b" ∷ []) ≡ None) × (reading (codes "Check" ∷ codes "a" ∷ codes "b" ∷ []) ≡ None) × (reading (codes "checks" ∷ codes "a" ∷ codes "b" ∷ []) ≡ None)
+pub check-none : (reading (codes "check" ∷ codes "a" ∷ []) ≡ None)
+    × (reading (codes "check" ∷ codes "a" ∷ codes "b" ∷ codes "c" ∷ []) ≡ None)
+    × (reading (codes "check" ∷ codes "a" ∷ codes "-" ∷ []) ≡ None)
+    × (reading (codes "check" ∷ codes "-a" ∷ codes "b" ∷ []) ≡ None)
+    × (reading (codes "Check" ∷ codes "a" ∷ codes "b" ∷ []) ≡ None)
+    × (reading (codes "checks" ∷ codes "a" ∷ codes "b" ∷ []) ≡ None)
 check-none = (refl, refl, refl, refl, refl, refl)
 
 pub circle-teams : (reading (codes "circle" ∷ codes "2" ∷ []) ≡ Some (Circle 2)) × (reading (codes "circle" ∷ codes "40" ∷ []) ≡ Some (Circle 40))
@@ -96,11 +101,26 @@ pub time_limit-some : (time_limit (codes "solve" ∷ codes "a" ∷ codes "--seco
 time_limit-some = (refl, refl, refl, refl, refl)
 
 -- a leading zero, an option twice, its value behind `=`, no try and too many
-pub solve-wrong_values : (reading (codes "solve" ∷ codes "a" ∷ codes "--moves" ∷ codes "01" ∷ []) ≡ None) × (reading (codes "solve" ∷ codes "a" ∷ codes "--moves" ∷ codes "1" ∷ codes "--moves" ∷ codes "2" ∷ []) ≡ None) × (reading (codes "solve" ∷ codes "a" ∷ codes "--moves=1" ∷ []) ≡ None) × (reading (codes "solve" ∷ codes "a" ∷ codes "--tries" ∷ codes "0" ∷ []) ≡ None) × (reading (codes "solve" ∷ codes "a" ∷ codes "--tries" ∷ codes "101" ∷ []) ≡ None) × (reading (codes "solve" ∷ codes "a" ∷ codes "--seed" ∷ codes "all" ∷ []) ≡ None)
+pub solve-wrong_values : (reading (codes "solve" ∷ codes "a" ∷ codes "--moves" ∷ codes "01" ∷ []) ≡ None)
+    × (reading (codes "solve" ∷ codes "a" ∷ codes "--moves" ∷ codes "1" ∷ codes "--moves" ∷ codes "2" ∷ []) ≡ None)
+    × (reading (codes "solve" ∷ codes "a" ∷ codes "--moves=1" ∷ []) ≡ None)
+    × (reading (codes "solve" ∷ codes "a" ∷ codes "--tries" ∷ codes "0" ∷ []) ≡ None)
+    × (reading (codes "solve" ∷ codes "a" ∷ codes "--tries" ∷ codes "101" ∷ []) ≡ None)
+    × (reading (codes "solve" ∷ codes "a" ∷ codes "--seed" ∷ codes "all" ∷ []) ≡ None)
 solve-wrong_values = (refl, refl, refl, refl, refl, refl)
 
 -- no file or two, an option alone, twice, without its value or with a wrong one, another option, another command
-pub solve-none : (reading (codes "solve" ∷ []) ≡ None) × (reading (codes "solve" ∷ codes "a" ∷ codes "b" ∷ []) ≡ None) × (reading (codes "solve" ∷ codes "--conflicts" ∷ codes "7" ∷ []) ≡ None) × (reading (codes "solve" ∷ codes "--conflicts" ∷ codes "7" ∷ codes "--conflicts" ∷ codes "7" ∷ codes "a" ∷ []) ≡ None) × (reading (codes "solve" ∷ codes "a" ∷ codes "--conflicts" ∷ []) ≡ None) × (reading (codes "solve" ∷ codes "--conflicts" ∷ codes "07" ∷ codes "a" ∷ []) ≡ None) × (reading (codes "solve" ∷ codes "--conflicts" ∷ codes "7" ∷ codes "-a" ∷ []) ≡ None) × (reading (codes "solve" ∷ codes "--conflicts" ∷ codes "--conflicts" ∷ codes "7" ∷ []) ≡ None) × (reading (codes "solve" ∷ codes "--conflict" ∷ codes "7" ∷ codes "a" ∷ []) ≡ None) × (reading (codes "solve" ∷ codes "a" ∷ codes "b" ∷ codes "c" ∷ []) ≡ None) × (reading (codes "circle" ∷ codes "--conflicts" ∷ codes "7" ∷ codes "4" ∷ []) ≡ None) × (reading (codes "solve" ∷ codes "-a" ∷ []) ≡ None)
+pub solve-none : (reading (codes "solve" ∷ []) ≡ None) × (reading (codes "solve" ∷ codes "a" ∷ codes "b" ∷ []) ≡ None)
+    × (reading (codes "solve" ∷ codes "--conflicts" ∷ codes "7" ∷ []) ≡ None) × (reading (codes "solve" ∷ codes
+    "--conflicts" ∷ codes "7" ∷ codes "--conflicts" ∷ codes "7" ∷ codes "a" ∷ []) ≡ None)
+    × (reading (codes "solve" ∷ codes "a" ∷ codes "--conflicts" ∷ []) ≡ None)
+    × (reading (codes "solve" ∷ codes "--conflicts" ∷ codes "07" ∷ codes "a" ∷ []) ≡ None)
+    × (reading (codes "solve" ∷ codes "--conflicts" ∷ codes "7" ∷ codes "-a" ∷ []) ≡ None)
+    × (reading (codes "solve" ∷ codes "--conflicts" ∷ codes "--conflicts" ∷ codes "7" ∷ []) ≡ None)
+    × (reading (codes "solve" ∷ codes "--conflict" ∷ codes "7" ∷ codes "a" ∷ []) ≡ None)
+    × (reading (codes "solve" ∷ codes "a" ∷ codes "b" ∷ codes "c" ∷ []) ≡ None)
+    × (reading (codes "circle" ∷ codes "--conflicts" ∷ codes "7" ∷ codes "4" ∷ []) ≡ None)
+    × (reading (codes "solve" ∷ codes "-a" ∷ []) ≡ None)
 solve-none = (refl, refl, refl, refl, refl, refl, refl, refl, refl, refl, refl, refl)
 
 -- ---- words with options: `--` begins the name of one, and the next word is its value, whatever that is
@@ -130,27 +150,46 @@ pub one_file-some : (one_file (codes "a" ∷ []) ≡ Some (codes "a")) × (one_f
 one_file-some = (refl, refl, refl, refl)
 
 -- no words, one, too few or too many for a command, an option, another command
-pub reading-none : (reading [] ≡ None) × (reading (codes "circle" ∷ []) ≡ None) × (reading (codes "circle" ∷ codes "4" ∷ codes "4" ∷ []) ≡ None) × (reading (codes "validate" ∷ codes "a" ∷ []) ≡ None) × (reading (codes "validate" ∷ codes "a" ∷ codes "--b" ∷ []) ≡ None) × (reading (codes "validate" ∷ codes "-a" ∷ codes "b" ∷ []) ≡ None) × (reading (codes "Validate" ∷ codes "a" ∷ codes "b" ∷ []) ≡ None) × (reading (codes "Circle" ∷ codes "4" ∷ []) ≡ None)
+pub reading-none : (reading [] ≡ None) × (reading (codes "circle" ∷ []) ≡ None)
+    × (reading (codes "circle" ∷ codes "4" ∷ codes "4" ∷ []) ≡ None)
+    × (reading (codes "validate" ∷ codes "a" ∷ []) ≡ None)
+    × (reading (codes "validate" ∷ codes "a" ∷ codes "--b" ∷ []) ≡ None)
+    × (reading (codes "validate" ∷ codes "-a" ∷ codes "b" ∷ []) ≡ None)
+    × (reading (codes "Validate" ∷ codes "a" ∷ codes "b" ∷ []) ≡ None)
+    × (reading (codes "Circle" ∷ codes "4" ∷ []) ≡ None)
 reading-none = (refl, refl, refl, refl, refl, refl, refl, refl)
 
 -- a fourth word and a fifth, of which the first three are a command, and a third of which the first two are one
-pub reading-longer : (reading (codes "validate" ∷ codes "a" ∷ codes "b" ∷ codes "c" ∷ []) ≡ None) × (reading (codes "validate" ∷ codes "a" ∷ codes "b" ∷ [] ∷ []) ≡ None) × (reading (codes "validate" ∷ codes "a" ∷ codes "b" ∷ codes "c" ∷ codes "d" ∷ []) ≡ None) × (reading (codes "circle" ∷ codes "4" ∷ [] ∷ []) ≡ None)
+pub reading-longer : (reading (codes "validate" ∷ codes "a" ∷ codes "b" ∷ codes "c" ∷ []) ≡ None)
+    × (reading (codes "validate" ∷ codes "a" ∷ codes "b" ∷ [] ∷ []) ≡ None)
+    × (reading (codes "validate" ∷ codes "a" ∷ codes "b" ∷ codes "c" ∷ codes "d" ∷ []) ≡ None)
+    × (reading (codes "circle" ∷ codes "4" ∷ [] ∷ []) ≡ None)
 reading-longer = (refl, refl, refl, refl)
 
 -- ---- `patterns` and `make`
 
-pub patterns-some : (reading (codes "patterns" ∷ codes "a" ∷ []) ≡ Some (Patterns (codes "a") (Some 2000))) × (reading (codes "patterns" ∷ codes "--conflicts" ∷ codes "7" ∷ codes "a" ∷ []) ≡ Some (Patterns (codes "a") (Some 7))) × (reading (codes "patterns" ∷ codes "a" ∷ codes "--conflicts" ∷ codes "all" ∷ []) ≡ Some (Patterns (codes "a") None))
+pub patterns-some : (reading (codes "patterns" ∷ codes "a" ∷ []) ≡ Some (Patterns (codes "a") (Some 2000))) × (reading
+    (codes "patterns" ∷ codes "--conflicts" ∷ codes "7" ∷ codes "a" ∷ []) ≡ Some (Patterns (codes "a") (Some 7))) ×
+    (reading (codes "patterns" ∷ codes "a" ∷ codes "--conflicts" ∷ codes "all" ∷ []) ≡ Some (Patterns (codes "a") None))
 patterns-some = (refl, refl, refl)
 
 -- an option of `solve` alone, no file or two, the option twice or without its value
-pub patterns-none : (reading (codes "patterns" ∷ codes "a" ∷ codes "--moves" ∷ codes "1" ∷ []) ≡ None) × (reading (codes "patterns" ∷ []) ≡ None) × (reading (codes "patterns" ∷ codes "a" ∷ codes "b" ∷ []) ≡ None) × (reading (codes "patterns" ∷ codes "--conflicts" ∷ codes "7" ∷ codes "--conflicts" ∷ codes "7" ∷ codes "a" ∷ []) ≡ None) × (reading (codes "patterns" ∷ codes "a" ∷ codes "--conflicts" ∷ []) ≡ None)
+pub patterns-none : (reading (codes "patterns" ∷ codes "a" ∷ codes "--moves" ∷ codes "1" ∷ []) ≡ None)
+    × (reading (codes "patterns" ∷ []) ≡ None) × (reading (codes "patterns" ∷ codes "a" ∷ codes "b" ∷ []) ≡ None) ×
+    (reading (codes "patterns" ∷ codes "--conflicts" ∷ codes "7" ∷ codes "--conflicts" ∷ codes "7" ∷ codes "a" ∷ []) ≡
+    None) × (reading (codes "patterns" ∷ codes "a" ∷ codes "--conflicts" ∷ []) ≡ None)
 patterns-none = (refl, refl, refl, refl, refl)
 
 pub make-some : (reading (codes "make" ∷ codes "2" ∷ codes "0" ∷ []) ≡ Some (Make 2 0)) × (reading (codes "make" ∷ codes "40" ∷ codes "18446744073709551615" ∷ []) ≡ Some (Make 40 18446744073709551615))
 make-some = (refl, refl)
 
 -- no seed or two, an odd number of teams, a seed with a leading zero, with a sign, or past 64 bits
-pub make-none : (reading (codes "make" ∷ codes "4" ∷ []) ≡ None) × (reading (codes "make" ∷ codes "4" ∷ codes "1" ∷ codes "1" ∷ []) ≡ None) × (reading (codes "make" ∷ codes "5" ∷ codes "1" ∷ []) ≡ None) × (reading (codes "make" ∷ codes "4" ∷ codes "01" ∷ []) ≡ None) × (reading (codes "make" ∷ codes "4" ∷ codes "-1" ∷ []) ≡ None) × (reading (codes "make" ∷ codes "4" ∷ codes "18446744073709551616" ∷ []) ≡ None)
+pub make-none : (reading (codes "make" ∷ codes "4" ∷ []) ≡ None)
+    × (reading (codes "make" ∷ codes "4" ∷ codes "1" ∷ codes "1" ∷ []) ≡ None)
+    × (reading (codes "make" ∷ codes "5" ∷ codes "1" ∷ []) ≡ None)
+    × (reading (codes "make" ∷ codes "4" ∷ codes "01" ∷ []) ≡ None)
+    × (reading (codes "make" ∷ codes "4" ∷ codes "-1" ∷ []) ≡ None)
+    × (reading (codes "make" ∷ codes "4" ∷ codes "18446744073709551616" ∷ []) ≡ None)
 make-none = (refl, refl, refl, refl, refl, refl)
 
 -- ---- `trial`
