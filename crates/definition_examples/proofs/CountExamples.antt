@@ -61,7 +61,7 @@ named = record {
 pub named-fewer : AreNamed (rows_of short) (map once (23 ∷ 31 ∷ [])) short_rows → ⊥
 named-fewer is = omega (arith, ap length is.numbers)
 
--- and none is taken twice, by a factor
+-- no row is taken twice, by a factor
 pub twice : AreNamed (rows_of short) (record { factor = 2; row = 23 } ∷ []) (at_least 1 (yes 5 ∷ yes 7 ∷ []) ∷ []) → ⊥
 twice is = omega (arith, is.once 0 (once 1) (lit< tt))
 

@@ -118,7 +118,7 @@ no_teams = (refl, refl, refl)
 abbrev played : ℕ → Bool
 played = assigned (false ∷ true ∷ true ∷ false ∷ false ∷ true ∷ true ∷ false ∷ [])
 
--- the same with team 0 at home in slot 0 too
+-- the values of (1,0,0) and (0,1,1) with team 0 at home in slot 0 too
 abbrev misplaced : ℕ → Bool
 misplaced = assigned (false ∷ true ∷ true ∷ false ∷ true ∷ true ∷ true ∷ false ∷ [])
 
@@ -252,7 +252,7 @@ pub shadow-no_breaks : IsShadow 2 true twice
     → ⊥
 shadow-no_breaks shadow = false_true (shadow.home_breaks refl 0 1 (lit< tt) (lit< tt) (lit< tt))
 
--- and so has 12; and a game that takes place has its variable true
+-- 12 has to be true as well; and a game that takes place has its variable true
 pub shadow-others : (IsShadow 2 true twice
     (assigned (true ∷ true ∷ false ∷ false ∷ true ∷ true ∷ false ∷ false ∷ true ∷ [])) → ⊥)
     × (IsShadow 2 false turns (assigned (false ∷ false ∷ true ∷ false ∷ false ∷ true ∷ true ∷ [])) → ⊥)

@@ -66,7 +66,7 @@ league_instance = record {
   fit = league_fit;
 }
 
--- so each accepted season costs 2 at least
+-- each accepted season costs 2 at least
 pub lower-two : IsLowerBound league 2
 lower-two = bounds-from_refuted league 2 league_instance
     (accepted_logs_refute (bound_rows league 1) (bound_vars league) log refuted)

@@ -204,7 +204,7 @@ not_empowering patterns l k within there (values, m, quiet, contains, free, othe
     in_unit values l (subst (IsQuietRow values) there (quiet k (clause_row []) within))
     (subst (λ (m : Literal). value_of values m ≡ Free) (sym (only l m contains)) free)
 
--- so the first step again isn't; nor is the second before the first, by whose row it follows
+-- the first step again isn't news; nor is the second before the first, by whose row it follows
 pub are_news-again : ArePatternNews 0 3 four four (one ∷ one ∷ []) → ⊥
 are_news-again news = not_empowering five (yes 1) 4 (lit< tt) refl news.1.0.empowering
 
@@ -231,7 +231,7 @@ not_five = Clause (no 5 ∷ []) (29 ∷ [])
 pub tell-none : TellOfPatterns two [] × TellOfPatterns away_first []
 tell-none = (tt, tt)
 
--- it follows, and isn't news
+-- a step that says not 5 follows, and isn't news
 pub tell-found : (judged (rows_of away_first) 8 not_five ≡ Ok (clause_row (no 5 ∷ [])))
     × (TellOfPatterns away_first (not_five ∷ []) → ⊥)
 tell-found = (refl, λ tell. not_empowering (pattern_rows away_first) (no 5) 8 (lit< tt) refl tell.0.empowering)
@@ -321,7 +321,7 @@ wants hard penalty p slot = record { hard = hard; penalty = penalty; class = Ga1
 abbrev league : Instance
 league = record { n = 2; phased = true; constraints = wants false 5 (1, 0) 1 ∷ wants true 0 (0, 1) 0 ∷ [] }
 
--- that game alone is no season, and costs 5
+-- the game of slot 0 alone is no season, and costs 5
 pub meets : MeetsHard league (counts_of (game 0 1 0 ∷ [])) × (objective league (counts_of (game 0 1 0 ∷ [])) ≡ 5)
     × (IsAccepted league (counts_of (game 0 1 0 ∷ [])) → ⊥)
 meets = (
@@ -332,7 +332,7 @@ meets = (
   λ accepted. let wrong : ◌≡◌ {A = ℕ} 1 0 = accepted.round_robin.pairs in omega (arith, wrong),
 )
 
--- nor does a season meet them without it, though its infeasibility is 0
+-- a season without that game doesn't meet the hard constraints, though its infeasibility is 0
 pub not_met : (infeasibility league (counts_of season) ≡ 0) × (MeetsHard league (counts_of season) → ⊥)
 not_met = (
   refl,

@@ -59,7 +59,7 @@ resumes = record {
   keeps = keeps_slot;
 }
 
--- so that it isn't so that none resumes
+-- some season resumes
 pub some_resume : NoneResumes (wants 1) (counts_of played) 1 → ⊥
 some_resume none = none season resumes
 
@@ -69,7 +69,7 @@ satisfiable =
     let values : ℕ → Bool = assigned (false ∷ true ∷ true ∷ false ∷ false ∷ true ∷ true ∷ false ∷ []) in
     (values, SatisfiesAll-from_true values (resume_rows (wants 1) (counts_of played) 1) refl)
 
--- the same games in the other order of slots are accepted by the league without demands, and don't keep
+-- the games in the other order of slots are accepted by the league without demands, and don't keep
 abbrev free : Instance
 free = record { n = 2; phased = true; constraints = [] }
 
@@ -119,7 +119,7 @@ wants_instance = record {
 pub none_resumes : NoneResumes (wants 0) (counts_of played) 1
 none_resumes = accepted_logs_exclude (wants 0) played 1 log wants_instance (lit≤ tt) refuted
 
--- nor are the rows satisfiable: the game of 0 at home to 1 in slot 0 would take place and not take place
+-- the rows aren't satisfiable: the game of 0 at home to 1 in slot 0 would take place and not take place
 pub unsatisfiable : IsSatisfiable (resume_rows (wants 0) (counts_of played) 1) → ⊥
 unsatisfiable found =
     accepted_logs_refute (resume_rows (wants 0) (counts_of played) 1) (var_count (wants 0)) log refuted found.0 found.1

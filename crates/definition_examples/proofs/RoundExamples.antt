@@ -151,7 +151,8 @@ games_of = (
   record { fits = fits_there; of = refl; there = lit≤ tt },
 )
 
--- it isn't one of slot 1; one that isn't played is none; nor is one of a slot that there isn't, though it were played
+-- a game of slot 0 isn't one of slot 1; one that isn't played is none; nor is one of a slot that there isn't, though it
+-- were played
 pub no_games_of : (IsGameOf 2 home_away 0 1 (game 0 1 0) → ⊥) × (IsGameOf 2 home_away 0 0 (game 1 0 0) → ⊥)
     × (IsGameOf 2 (counts_of (game 0 1 2 ∷ [])) 0 2 (game 0 1 2) → ⊥)
 no_games_of = (

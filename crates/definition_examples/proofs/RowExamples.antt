@@ -153,7 +153,7 @@ not_there l five (suc (suc zero), within, is) = omega (arith, five, ap (λ (t : 
 not_there l five (suc (suc (suc zero)), within, is) = omega (arith, five, ap (λ (t : Term). t.lit.var) is)
 not_there l five (suc (suc (suc (suc k))), within, is) = omega (arith, within)
 
--- nor does a row force what isn't in it
+-- a row doesn't force what isn't in it
 pub forces-other : Forces two_true row (term 4 (yes 5)) → ⊥
 forces-other forces = not_there (yes 5) refl forces.there
 

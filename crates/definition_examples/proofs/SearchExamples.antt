@@ -83,7 +83,7 @@ spent-at_one = record {
   );
 }
 
--- the same step again forces nothing new: its literal is free in no quiet values
+-- a step that comes again forces nothing new: its literal is free in no quiet values
 one_free : (values : ℕ → Value) → IsQuietRow values (clause_row (yes 1 ∷ [])) → value_of values (yes 1) ≡ Free
     → reach values (clause_row (yes 1 ∷ [])).terms ≡ 1 → ⊥
 one_free values quiet free reached = omega (arith, quiet.none_forced 0 (record { coef = 1; lit = yes 1 }) (lit< tt) free, reached)
@@ -139,7 +139,7 @@ forced_both = (
   },
 )
 
--- and then row 2 is in conflict
+-- with both literals of row 1 forced, row 2 is in conflict
 pub conflict : NamesConflict four (values_of all) (record { row = 2 })
 conflict = record {
   row = at_least 1 (no 1 ∷ no 2 ∷ []);
@@ -161,7 +161,7 @@ news-twice (first_is, (empowering, others)) =
     let (values, l, quiet, there, free, alone) = empowering.empowering in
     again values l (quiet 2 (clause_row []) (lit< tt)) there free
 
--- nor is what doesn't follow: where 2 is false, row 1 asks for 1, and row 2 is met
+-- what doesn't follow is no news: where 2 is false, row 1 asks for 1, and row 2 is met
 err_ok : {r : Row} → Err NoConflict ≡ Ok r → ⊥
 err_ok is = cc
 
@@ -243,7 +243,7 @@ pub unspent : (IsSpentAt two 2 None (one ∷ []) → ⊥)
     × ((rows : List Row) (step : Step) → IsSpentAt rows 0 (Some 1) (step ∷ []) → ⊥)
 unspent = (λ is. none_some is.limited, λ rows step is. omega (arith, is.few))
 
--- nor is one where a row is in conflict at once, nor one with a step that isn't tidy
+-- no log is spent where a row is in conflict at once, nor one with a step that isn't tidy
 pub unspent-steps : (IsSpentAt (at_least 1 [] ∷ []) 2 (Some 0) [] → ⊥)
     × (IsSpentAt two 2 (Some 1) (Clause (yes 1 ∷ yes 1 ∷ []) (1 ∷ 2 ∷ []) ∷ []) → ⊥)
 unspent-steps = (
@@ -304,7 +304,7 @@ pub refutes-none : (Refutes closed 3 (Some 1) (one ∷ []) → ⊥)
     × (Refutes closed 3 (Some 1) (one ∷ Clause [] (5 ∷ 3 ∷ 4 ∷ 4 ∷ 4 ∷ []) ∷ []) → ⊥)
 refutes-none = (λ refutes. rejected refutes.accepted, λ refutes. omega (arith, (refutes.tidy 1 one (lit< tt)).few))
 
--- nor where the first step stands twice: the second time it is no news
+-- a log doesn't refute where the first step stands twice: the second time it is no news
 twice_before : (before : List Step) (hints : List ℕ) → one ∷ one ∷ falsum ∷ [] ≡ before ++ Clause [] hints ∷ []
     → AreNews closed 3 before → ⊥
 twice_before [] hints is news = omega (arith, ap length is)

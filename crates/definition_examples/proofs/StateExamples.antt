@@ -135,7 +135,7 @@ crossed-not_lawful are =
     let same : either ≡ reason.row = ap row_in reason.numbered.there in
     forced_none reason.term (subst (λ (row : Row). Forces (values_of []) row reason.term) (sym same) reason.forces)
 
--- nor is a decision whose level doesn't count it
+-- a decision whose level doesn't count it isn't lawful
 pub decided-not_lawful : AreLawful rows 2 (entry_of (no 1) 0 (Some 1) ∷ entry_of (yes 2) 0 None ∷ []) → ⊥
 decided-not_lawful are =
     let level : ◌≡◌ {A = ℕ} 0 1 = (are 1 (entry_of (no 1) 0 None) (lit< tt)).new.level in

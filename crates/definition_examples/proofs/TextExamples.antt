@@ -94,7 +94,7 @@ behind_end = record { line = 4; text = []; version = Some One; ended = true; fau
 pub reads-within : ReadsOn behind_heading [] (codes "-6 0") within_line []
 reads-within = record { added = []; steps = refl; read = λ rest. refl }
 
--- that is in line 2 still
+-- a fault behind bytes without LF is in line 2 still
 abbrev line_of_fault : Option Fault → ℕ
 line_of_fault None = 0
 line_of_fault (Some (kind, line)) = line
