@@ -267,7 +267,7 @@ whole_accepts league m accepted =
 
 -- ---- the part of no constraint
 
--- it accepts the schedule of the circle method
+-- the part of no constraint accepts the schedule of the circle method
 pub none_accepts : (league : Instance) → IsTeamCount league.n
     → IsAccepted (part_of league []) (counts_of (double_games league.n))
 none_accepts league teams = record {

@@ -199,7 +199,7 @@ shorter-less members smaller shorter =
 
 -- ---- some of the numbers, of which the league is tried
 
--- they are as they were made, of the members as they are seen
+-- the numbers that are tried are as they were made, of the members as they are seen
 pub of_members : (keep : ℕ → Bool) (seen members : List Member) (made given : List ℕ) → seen ≡ members
     → made ≡ filter keep (numbers_of seen) → given ≡ made → given ≡ filter keep (numbers_of members)
 of_members keep seen members made given same are is =

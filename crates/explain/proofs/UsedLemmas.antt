@@ -296,7 +296,7 @@ marking-pass rows log from k flags is next unused = record {
       ];
 }
 
--- the same, with the steps counted that are gone through
+-- a step that is used, with the steps counted that are gone through
 pub marked-used : (rows : ℕ) (log : List Step) (steps done k : ℕ) (flags new : List Bool)
     → IsMarking rows log (steps - done) flags → steps ≡ length log → done < steps → k ≡ steps - 1 - done
     → get_or flags (rows + k) false ≡ true → AreNoted (rows + k) (named_at log k) flags new
