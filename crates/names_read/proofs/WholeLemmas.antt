@@ -35,7 +35,7 @@ bind_ok {A} {B} {F} read others x y is next = ap (λ (r : Result A F). r >>= oth
 on_line_ok : {A : Type 0} (line : ℕ) (read : Result A FormKind) (x : A) → read ≡ Ok x → on_line line read ≡ Ok x
 on_line_ok {A} line read x is = ap (λ (r : Result A FormKind). on_line line r) is
 
--- the same place of a walk, with something else that was read
+-- a place of a walk, with something else that was read
 abbrev beside : {A B : Type 0} → B → Position A → Position B
 beside read at = record { inner = at.inner; outer = at.outer; passing = at.passing; read = read }
 
@@ -179,7 +179,7 @@ names_whole n found league h =
     let start : Position Draft = record { inner = record { element = InstanceFile; line = 0; seen = []; text = [] }; outer = []; passing = None; read = nothing } in
     walk_whole instance_meaning names_meaning starts_named (λ element value draft now names h. (names, refl)) found.items found.last start draft.0 (nameless n) draft.1.0
 
--- so there is no fault but want of memory
+-- a file that says a league has no fault but want of memory
 pub fault_is : {A : Type 0} (said : Result A Fault) (x : A) (result : Result A ReadFault) → said ≡ Ok x → Says said result → IfErr result (λ fault. fault ≡ faults.Mem)
 fault_is said x (Ok y) is says = tt
 fault_is said x (Err (faults.Form fault)) is says = absurd (err_isnt (fault.kind, fault.line) x (says_err is says)) where
