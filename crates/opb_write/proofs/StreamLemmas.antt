@@ -31,7 +31,7 @@ joined taken rest more waits waited first second one two =
     ∙ ap (λ (xs : List ℕ). xs ++ second) one
     ∙ append_assoc waited first second
 
--- the same where the second was cut
+-- what two texts put together are, where the second was cut
 cut_later : (taken rest waited first second : List ℕ) (n : ℕ) → taken ++ rest ≡ waited ++ first
     → take (length taken + n) (waited ++ (first ++ second)) ≡ taken ++ take n (rest ++ second)
 cut_later taken rest waited first second n one =
@@ -174,7 +174,7 @@ module _ {K : Type 0} (shown : sink.Ghosts K) where
     cause = record { later = one.cause.later; fault = one.cause.fault };
   }
 
-  -- the same, where the fault is handed on
+  -- a text was cut, and the fault is handed on
   pub Sends-exit : (k l : K) (waited rest waits first second : List ℕ) (e : Failed) (result : Result (Unit {0}) Failed)
       (f : Failed) → result ≡ Err f → Sends shown k l waited rest first (Err e)
       → Sends shown k l waited waits (first ++ second) result
