@@ -108,7 +108,7 @@ all_hard constraints (k ∷ members) none =
     (all_hard constraints members
     (none-later (is_hard_number constraints k) k (first_other constraints members) none))
 
--- and the other way round
+-- where all numbers are those of hard constraints, none is another's
 pub none_other : (constraints : List Constraint) (members : List ℕ)
     → All (λ k. is_hard_number constraints k ≡ true) members → first_other constraints members ≡ None
 none_other constraints [] hard = refl
