@@ -69,7 +69,7 @@ not_throughout is =
     (is.say.venues 0 1 (lit< tt) (lit< tt))
     (is.met 5 (at_least 0 []) (lit< tt))
 
--- nor does a team have a pattern too many
+-- no pattern is too many
 pub not_more : (third : List Side) → IsPatternSet two (taking_turns ++ third ∷ []) → ⊥
 not_more third is = omega (arith, is.teams)
 

@@ -250,7 +250,7 @@ satisfied league low numbers found patterns picked instance met are =
     (SatisfiesAll-raised (x_count league.n) (lowered (x_count league.n) found) (assigned found)
     (lowered-raises (x_count league.n) (assigned found)) low met)))
 
--- the same with the number of games' variables that was read
+-- what the search found of the lowered rows, with the number of games' variables that was read
 pub satisfied_here : (league : Instance) (games : ℕ) (low : List Row) (numbers : List ℕ) (found : List Bool)
     (patterns : List (List Side)) → IsPicked games (rows_of league) (length (rows_of league)) low numbers
     → games ≡ x_count league.n → IsInstance league → SatisfiesAll (assigned found) low

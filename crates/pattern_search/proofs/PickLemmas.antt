@@ -111,7 +111,7 @@ passed_over games rows low numbers k terms b there picked are tested fails =
     picked_same games rows low numbers k (get_or rows k no_demand) picked at
     (sym (tested ∙ ap (λ (ts : List Term). list_all (λ t. nat_lt games t.lit.var) ts) terms_are) ∙ fails)
 
--- it doesn't
+-- the next row speaks of no game
 pub picked_more : (games : ℕ) (rows low low' : List Row) (numbers numbers' : List ℕ) (k : ℕ) (terms : List Term)
     (row : Row) → IsPicked games rows k low numbers → slice_get rows k ≡ Some row → is_pattern_row games row ≡ true
     → map (raised_term games) terms ≡ row.terms → All (λ t. 1 ≤ t.lit.var) terms
@@ -197,7 +197,7 @@ picked_known games vars rows low numbers picked known =
     (subst (λ (row : Row). IsKnown vars row) (get_or-map (raised_row games) low k d (raised_row games d) within)
     (high k (raised_row games d) (omega (arith, within, length-map low (raised_row games)))))
 
--- the same of the rows and the number of variables that were read
+-- the variables of the rows, lowered, with the number of variables that was read
 pub known_here : (league : Instance) (games vars : ℕ) (rows low : List Row) (numbers : List ℕ)
     → rows ≡ rows_of league → vars ≡ var_count league → IsPicked games rows (length rows) low numbers
     → AreKnown (var_count league) (rows_of league) → All (KnowsVariables (vars - games)) low

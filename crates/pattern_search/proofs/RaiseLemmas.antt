@@ -43,7 +43,7 @@ above v x some = grind (arith, nat_tests)
 abbrev pub Raises : ℕ → (ℕ → Value) → (ℕ → Value) → Type 0
 Raises x over under = (v : ℕ) → over (v + x) ≡ under v
 
--- the same of truth values
+-- `over` gives a raised variable the truth value that `under` gives the variable
 abbrev pub RaisesTruth : ℕ → (ℕ → Bool) → (ℕ → Bool) → Type 0
 RaisesTruth x over under = (v : ℕ) → over (v + x) ≡ under v
 
