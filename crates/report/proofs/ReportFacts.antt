@@ -65,7 +65,9 @@ demanding = record {
 }
 
 -- the parts in their order, each number where it belongs
-pub lines_text-some : lines_text demanding 9 (record { pairs_wrong = 1; cells_wrong = 2; phases_wrong = 3 }) ((4 ∷ 5 ∷ []) ∷ (6 ∷ []) ∷ []) 10 11 true ≡ codes "teams 2\nslots 2\nmode P\ngames 9\nstructure pairs 1 cells 2 phases 3\nconstraint 1 CA1 HARD penalty 5 sum 9 entries 4 5\nconstraint 2 GA1 SOFT penalty 7 sum 6 entries 6\ninfeasibility 10\nobjective 11\nfeasible yes\n"
+pub lines_text-some : lines_text demanding 9 (record { pairs_wrong = 1; cells_wrong = 2; phases_wrong = 3 }) ((4 ∷ 5 ∷
+    []) ∷ (6 ∷ []) ∷ []) 10 11 true ≡ codes
+    "teams 2\nslots 2\nmode P\ngames 9\nstructure pairs 1 cells 2 phases 3\nconstraint 1 CA1 HARD penalty 5 sum 9 entries 4 5\nconstraint 2 GA1 SOFT penalty 7 sum 6 entries 6\ninfeasibility 10\nobjective 11\nfeasible yes\n"
 unfolding digits
 lines_text-some = refl
 
