@@ -3,6 +3,6 @@ use Rattle.std.specs.List.{All}
 use Rattle.encoding_base.specs.Variables.{x_count}
 use Rattle.resume.proofs.plan.preferred.Given as goal
 
--- those so far
+-- the literals of the games so far
 abbrev pub invariant-loop-game : goal.invariant-loop-game
 invariant-loop-game l = All (λ m. m.var ≤ x_count l.n) l.lits.items
