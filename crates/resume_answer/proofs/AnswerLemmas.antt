@@ -98,7 +98,7 @@ audited-well_formed store instance solution k log league played steps answer goo
 
 -- ---- an answer that isn't a refusal
 
--- its status is that of no refusal
+-- an answer has a status that is that of no refusal
 abbrev IsAnswered : Answer → Type 0
 IsAnswered answer = (answer.status ≡ File → ⊥) × (answer.status ≡ ReadFault → ⊥)
 
@@ -260,7 +260,7 @@ resumed-excluded store instance solution k conflicts league played answer say en
     (of_known store instance solution k next league played answer say
     (plays-answered store instance solution k next answer answered given)).1
 
--- and where the verdict on a log says yes
+-- where the verdict on a log says yes, no accepted schedule keeps the played games
 pub audited-excluded : (store : Store)
     (instance solution : List ℕ) (k : ℕ) (log : List ℕ) (league : Instance) (played : List Game)
     (answer : Answer) → SaySeason store instance solution league played → answer.status ≡ Yes

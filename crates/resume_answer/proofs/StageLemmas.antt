@@ -95,7 +95,7 @@ module _ (store : Store)
       answer → plays store instance solution k next answer
   plays-unread answer unread = inr unread
 
-  -- it says no league
+  -- the instance file says no league
   pub plays-malformed : (first : List ℕ) → IsFile (store.contents instance) INSTANCE_LIMIT first → (answer : Answer)
       → IsMalformed (codes "instance") (instance_of (pieces first)) answer
       → plays store instance solution k next answer
@@ -109,7 +109,7 @@ module _ (store : Store)
             (sym said) is,
       )
 
-  -- it says a league
+  -- the instance file says a league
   plays-league : (first : List ℕ) (league : Instance) → IsFile (store.contents instance) INSTANCE_LIMIT first
       → instance_of (pieces first) ≡ Ok league → (answer : Answer)
       → after_league store solution (length first) k next league answer
@@ -151,7 +151,7 @@ module _ (store : Store)
   plays-second_unread first league is_file says_league slots small answer unread =
       plays-size first league is_file says_league slots small answer (inr unread)
 
-  -- it says no games
+  -- the solution file says no games
   pub plays-second_malformed : (first second : List ℕ) (league : Instance)
       → IsFile (store.contents instance) INSTANCE_LIMIT first → instance_of (pieces first) ≡ Ok league
       → k ≤ slot_count league.n → resume_size league k ≤ most_terms

@@ -73,7 +73,7 @@ returns-in_err-second-clause-season g c =
     c.in_ok-slots.ensures.2)
     c.from_residual-in_err-second.result (search rules)
 
--- it says no games
+-- the solution file says no games
 pub returns-in_err-played-clause-season : goal.returns-in_err-played-clause-season
 returns-in_err-played-clause-season g c =
     let store : Store = store_between g.S.Shelf c.args.shelf.now c.file-2.new.shelf in
