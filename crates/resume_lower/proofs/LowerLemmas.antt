@@ -32,7 +32,7 @@ pub ordered-fit : (n k : ℕ) (start end merged : List Game) → IsPermutation (
 ordered-fit n k start end merged same fit more =
     All-permutation (IsGame n) (merged_games k start end) merged same (merged-fit n k start end fit more)
 
--- and they keep the games of the first list
+-- merged games keep the games of the first list, in any order
 pub ordered-keeps : (k : ℕ) (start end merged : List Game) → IsPermutation (merged_games k start end) merged
     → Keeps (counts_of start) k (counts_of merged)
 ordered-keeps k start end merged same = λ i j s slot.
