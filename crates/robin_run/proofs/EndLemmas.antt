@@ -489,7 +489,7 @@ tried-ends Ends file ends_yes n seed budgets answer given =
 
 -- ---- a run
 
--- that a run with these words may end so
+-- a run with these words may end with this status
 abbrev EndsBy : Option Command → Status → Type 0
 EndsBy words status = may_end words status ≡ true
 

@@ -30,7 +30,7 @@ given-gives outcome (Err (without.Refused refusal)) given is holds =
 given-gives outcome (Err without.Memory) given is holds =
     subst (λ (g : Result Given NoValue). Gives outcome g) (sym is) holds
 
--- its answer is written, unless memory ran out
+-- the answer of a reply is written, unless memory ran out
 pub answered-by : (run : Run) (given : Result Given NoValue) → Gives (IsAnswer run.command run.store) given
     → IsFolded given run.ended run.output → Answered run
 answered-by run (Ok given) answer written memory = (given_answer given, answer, written)
