@@ -66,7 +66,9 @@ abbrev pub cut_block : ℕ → ℕ → ℕ → ℕ → Block
 cut_block first slots width k = record { first = first + k * width; slots = min width (slots - k * width) }
 
 -- one block more
-pub block_added : (first slots width k : ℕ) (old found now : List Block) (block : Block) → found ≡ old ++ map (cut_block first slots width) (range_with_len 0 k) → now ≡ found ++ block ∷ [] → block ≡ cut_block first slots width k → now ≡ old ++ map (cut_block first slots width) (range_with_len 0 (k + 1))
+pub block_added : (first slots width k : ℕ) (old found now : List Block) (block : Block)
+    → found ≡ old ++ map (cut_block first slots width) (range_with_len 0 k) → now ≡ found ++ block ∷ []
+    → block ≡ cut_block first slots width k → now ≡ old ++ map (cut_block first slots width) (range_with_len 0 (k + 1))
 block_added first slots width k old found now block so_far added is =
     let before = map (cut_block first slots width) (range_with_len 0 k) in
     added
