@@ -71,7 +71,7 @@ all-none n =
     sum-zeros n (λ i. team_games n (counts_of []) i)
     (λ i. sum-zeros (slot_count n) (λ s. home_games n (counts_of []) i s) (λ s. home_games-none n i s))
 
--- so the games of a list are its home games
+-- the games of a list are as many as its home games
 length-home_games : (n : ℕ) (games : List Game) → All (IsGame n) games
     → length games ≡ all_home_games n (counts_of games)
 length-home_games n [] fit = omega (arith, all-none n)

@@ -39,7 +39,7 @@ pub record Descends (n : ℕ) (phased : Bool) (score : Counts → Score) (start 
   pub settled : IsTrue descent.settled ↔ IsSettled n phased score end
   pub spent : descent.settled ≡ false → length descent.trail ≡ moves
 
--- the same by equal numbers and scores
+-- what a descent says of its counts, by equal numbers and scores
 pub Descends-same : (n k : ℕ) (phased said : Bool) (score other : Counts → Score) (start begin end : Counts) (moves : ℕ)
     (descent : Descended) → n ≡ k → phased ≡ said → score ≡ other → start ≡ begin
     → Descends n phased score start end moves descent → Descends k said other begin end moves descent
@@ -52,7 +52,7 @@ Descends-same n k phased said score other start begin end moves descent same_n s
 abbrev score_from : ℕ → ℕ → Score
 score_from a b = record { infeasibility = a; objective = b }
 
--- and so is the objective
+-- the objective is that of the league
 pub cost-is : {R : Type 0} (E : Ghosts R) (league : Instance) (weights now : List (Weighted R)) (m : Counts)
     → AreRulesOf E 1 league weights → now ≡ weights → objective_on E m now ≡ objective league m
 cost-is {R} E league weights now m are same =
@@ -68,7 +68,7 @@ end-accepted league start end moves descent is accepted = record {
       ((met league start).1 accepted.hard) is.trail).0;
 }
 
--- its games are an answer
+-- the games at the end of a descent are an answer
 pub IsSchedule-of : (league : Instance) (start end : Counts) (moves : ℕ) (descent : Descended) (games : List Game)
     (cost : ℕ) → Descends league.n league.phased (league_score league) start end moves descent → IsAccepted league start
     → counts_of games ≡ end → All (IsGame league.n) games → IsInOrder games → cost ≡ objective league end

@@ -80,7 +80,7 @@ settled-two step lowers =
     nothing_lower (league_score two (moved 2 (counts_of both_games) step)).infeasibility
     (league_score two (moved 2 (counts_of both_games) step)).objective lowers.lower
 
--- they are an answer, and cost nothing
+-- both games are an answer, and cost nothing
 pub solved-two : IsSchedule two 0 both_games 0 still
 solved-two = record {
   accepted = accepted-two;
@@ -107,7 +107,7 @@ costs_nothing objective some is = dear_two objective some is.cost
 none_made : (made : ℕ) → made ≡ 0 → made ≡ 1 → ⊥
 none_made made none one = omega (arith, none, one)
 
--- that it isn't settled is no answer, where it may make a move
+-- a descent that isn't settled is no answer, where it may make a move
 pub settles : IsSchedule two 1 both_games 0 (record { first = both_games; trail = []; settled = false }) → ⊥
 settles is = none_made 0 refl (is.descends.spent refl)
 

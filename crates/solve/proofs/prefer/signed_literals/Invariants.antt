@@ -2,6 +2,6 @@ use Rattle.std.proofs.Common.{◌≤◌}
 use Rattle.std.specs.List.{All}
 use Rattle.solve.proofs.prefer.signed_literals.Given as goal
 
--- those so far
+-- the literals of the variables so far
 abbrev pub invariant-loop-before : goal.invariant-loop-before
 invariant-loop-before l = All (λ m. m.var ≤ l.vars) l.lits.items
