@@ -99,7 +99,7 @@ solve-no_schedule budgets answer given ended =
 abbrev unlimited : Budgets
 unlimited = record { conflicts = None; moves = 0; tries = 1; patterns = 0; seed = 0 }
 
--- and without a budget it is refuted
+-- without a budget `solve homeless` refutes the league
 pub solve-refuted : (answer : Answer) → solved store (codes "homeless") unlimited answer → answer.status ≡ Refuted
 solve-refuted answer given =
     let told : IsFound homeless unlimited (rows_of homeless) answer = solved-well_formed store (codes "homeless") unlimited homeless answer homeless-formed (nothing_fails (codes "homeless" ∷ [])) given in
@@ -149,7 +149,11 @@ pub descent_text-none : descent_text 0 (record { first = []; trail = []; settled
 unfolding digits
 descent_text-none = refl
 
-pub move_line-each : (move_line (RoundSwap (record { 0 = 2 }) (record { 0 = 3 })) ≡ codes "<!-- move RoundSwap 2 3 -->\n") × (move_line (TeamSwap (record { 0 = 1 }) (record { 0 = 2 })) ≡ codes "<!-- move TeamSwap 1 2 -->\n") × (move_line (PartRoundSwap (record { 0 = 0 }) (record { 0 = 1 }) (record { 0 = 4 })) ≡ codes "<!-- move PartRoundSwap 0 1 4 -->\n")
+pub move_line-each : (move_line (RoundSwap (record { 0 = 2 }) (record { 0 = 3 })) ≡ codes
+    "<!-- move RoundSwap 2 3 -->\n")
+    × (move_line (TeamSwap (record { 0 = 1 }) (record { 0 = 2 })) ≡ codes "<!-- move TeamSwap 1 2 -->\n") × (move_line
+    (PartRoundSwap (record { 0 = 0 }) (record { 0 = 1 }) (record { 0 = 4 })) ≡ codes
+    "<!-- move PartRoundSwap 0 1 4 -->\n")
 unfolding digits
 move_line-each = (refl, refl, refl)
 
