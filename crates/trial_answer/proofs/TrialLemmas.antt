@@ -54,7 +54,7 @@ trial-told seed league moves games objective descent answer teams schedule statu
           schedule.cost;
     }
 
--- the same of a reply, unless memory ran out
+-- the lines before a reply, unless memory ran out
 pub replied-trial : {E : Type 0} (seed : ℕ) (league : Instance) (moves : ℕ) (games : List Game) (objective : ℕ)
     (descent : Descended) (result : Result Reply E) → IsTeamCount league.n
     → solutions.IsSchedule league moves games objective descent
