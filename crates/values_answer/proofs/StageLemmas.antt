@@ -34,7 +34,7 @@ after-league store instance values first league is_first says_league answer rest
           (values_stages store values (length first)) answer says_league rest,
     )
 
--- its rows have too many terms
+-- the league's rows have too many terms
 pub valued-large : (store : Store) (instance values first : List ℕ) (league : Instance)
     → IsFile (store.contents instance) INSTANCE_LIMIT first → instance_of (pieces first) ≡ Ok league → (answer : Answer)
     → (most_terms < encoding_size league) × (answer ≡ too_large (encoding_size league))
@@ -52,7 +52,7 @@ pub valued-unread : (store : Store) (instance values first : List ℕ) (league :
 valued-unread store instance values first league is_first says_league small answer unread =
     after-league store instance values first league is_first says_league answer (inl (small, inr unread))
 
--- it is: the rest is the answer to what it says
+-- the file of values is read: the rest is the answer to what it says
 pub valued-last : (store : Store) (instance values first second : List ℕ) (league : Instance)
     → IsFile (store.contents instance) INSTANCE_LIMIT first → instance_of (pieces first) ≡ Ok league
     → encoding_size league ≤ most_terms → IsFile (store.contents values) most_log_bytes second → (answer : Answer)
