@@ -36,7 +36,13 @@ use Rattle.encoding.specs.Limit.{most_terms}
 after-league : (store : Store) (instance log first : List ℕ) (league : Instance) → IsFile (store.contents instance) INSTANCE_LIMIT first → instance_of (pieces first) ≡ Ok league
     → (answer : Answer) → encodes league (λ rows. takes (codes "log") (store.contents log) most_log_bytes (store.took_more (length first + most_log_bytes)) (store.failed log) (λ bytes. says_log (log_of bytes) (IsVerdict league rows))) answer → checked store instance log answer
 after-league store instance log first league is_first says_league answer rest =
-    inl (first, is_first, says-value (codes "instance") (instance_of (pieces first)) league (λ l. encodes l (λ rows. takes (codes "log") (store.contents log) most_log_bytes (store.took_more (length first + most_log_bytes)) (store.failed log) (λ bytes. says_log (log_of bytes) (IsVerdict l rows)))) answer says_league rest)
+    inl (
+      first,
+      is_first,
+      says-value (codes "instance") (instance_of (pieces first)) league (λ l. encodes l (λ rows.
+          takes (codes "log") (store.contents log) most_log_bytes (store.took_more (length first + most_log_bytes))
+          (store.failed log) (λ bytes. says_log (log_of bytes) (IsVerdict l rows)))) answer says_league rest,
+    )
 
 -- the league's rows are too many
 pub checked-large : (store : Store) (instance log first : List ℕ) (league : Instance) → IsFile (store.contents instance) INSTANCE_LIMIT first → instance_of (pieces first) ≡ Ok league

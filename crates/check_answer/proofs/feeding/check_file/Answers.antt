@@ -29,7 +29,10 @@ returns-then-count-bytes-clause-too_long g c l is =
 pub overflow_add-steps : goal.overflow_add-steps
 overflow_add-steps g c =
     let within : c.pieces.bytes + c.in_ok-count.count ≤ most_log_bytes = omega (arith, c.pieces.invariant.under_way.within) in
-    let next = under_way-next (g.S.Shelf.contents c.args.shelf.now c.args.name.now) (g.S.Shelf.left c.pieces.shelf) (g.S.Shelf.left c.take.new.self) (g.S.Shelf.taken c.args.shelf.now) (g.S.Shelf.taken c.pieces.shelf) (g.S.Shelf.taken c.take.new.self) c.args.feed.now c.pieces.feed c.check_piece.new.feed c.args.checker.now c.pieces.checker c.check_piece.new.checker c.pieces.steps c.in_ok-steps.field-0 c.pieces.bytes c.in_ok-count.count
+    let next = under_way-next (g.S.Shelf.contents c.args.shelf.now c.args.name.now) (g.S.Shelf.left c.pieces.shelf)
+    (g.S.Shelf.left c.take.new.self) (g.S.Shelf.taken c.args.shelf.now) (g.S.Shelf.taken c.pieces.shelf)
+    (g.S.Shelf.taken c.take.new.self) c.args.feed.now c.pieces.feed c.check_piece.new.feed c.args.checker.now
+    c.pieces.checker c.check_piece.new.checker c.pieces.steps c.in_ok-steps.field-0 c.pieces.bytes c.in_ok-count.count
     c.take.new.room (drop c.min-most.result c.pieces.room) c.in_ok-count.ensures.count c.pieces.invariant.under_way c.in_ok-count.ensures.bytes c.in_ok-count.ensures.taken within c.in_ok-steps.ensures.checked c.in_ok-steps.ensures.line in
     let few : c.pieces.steps + c.in_ok-steps.field-0 ≤ c.pieces.bytes + c.in_ok-count.count + 1 = under_way-few _ _ _ _ _ _ _ _ _ _ c.requires.start next in
     omega (arith, few, within)
@@ -39,7 +42,11 @@ pub pieces-preserved : goal.pieces-preserved
 pieces-preserved g c =
     let within : c.pieces.bytes + c.in_ok-count.count ≤ most_log_bytes = omega (arith, c.pieces.invariant.under_way.within) in
     record {
-      under_way = under_way-next (g.S.Shelf.contents c.args.shelf.now c.args.name.now) (g.S.Shelf.left c.pieces.shelf) (g.S.Shelf.left c.take.new.self) (g.S.Shelf.taken c.args.shelf.now) (g.S.Shelf.taken c.pieces.shelf) (g.S.Shelf.taken c.take.new.self) c.args.feed.now c.pieces.feed c.check_piece.new.feed c.args.checker.now c.pieces.checker c.check_piece.new.checker c.pieces.steps c.in_ok-steps.field-0 c.pieces.bytes c.in_ok-count.count
+      under_way = under_way-next (g.S.Shelf.contents c.args.shelf.now c.args.name.now) (g.S.Shelf.left c.pieces.shelf)
+          (g.S.Shelf.left c.take.new.self) (g.S.Shelf.taken c.args.shelf.now) (g.S.Shelf.taken c.pieces.shelf)
+          (g.S.Shelf.taken c.take.new.self) c.args.feed.now c.pieces.feed c.check_piece.new.feed c.args.checker.now
+          c.pieces.checker c.check_piece.new.checker c.pieces.steps c.in_ok-steps.field-0 c.pieces.bytes
+          c.in_ok-count.count
           c.take.new.room (drop c.min-most.result c.pieces.room) c.in_ok-count.ensures.count c.pieces.invariant.under_way c.in_ok-count.ensures.bytes c.in_ok-count.ensures.taken within c.in_ok-steps.ensures.checked c.in_ok-steps.ensures.line;
       started = c.in_ok-count.ensures.started;
       contents = λ n. c.in_ok-count.ensures.contents n ∙ c.pieces.invariant.contents n;
