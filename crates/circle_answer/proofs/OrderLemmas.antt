@@ -107,7 +107,9 @@ by_first : (x y : Game) (xs ys : List Game) (o : Ordering) → game_cmp x y ≡ 
 by_first x y xs ys Less is up_xs up_ys same rest = absurd (absent_first x y xs ys is up_ys.0 (same x))
 by_first x y xs ys Equal is up_xs up_ys same rest =
     let first : x ≡ y = game_cmp-equal x y is in
-    let same_rest : (g : Game) → occurrences g xs ≡ occurrences g ys = λ g. cancel (one_if (is_eq (game_cmp g y))) (occurrences g xs) (occurrences g ys) (ap (λ (z : Game). one_if (is_eq (game_cmp g z)) + occurrences g xs) (sym first) ∙ sym (occurrences-cons g x xs) ∙ same g ∙ occurrences-cons g y ys) in
+    let same_rest : (g : Game) → occurrences g xs ≡ occurrences g ys = λ g. cancel (one_if (is_eq (game_cmp g y)))
+    (occurrences g xs) (occurrences g ys) (ap (λ (z : Game). one_if (is_eq (game_cmp g z)) + occurrences g xs)
+    (sym first) ∙ sym (occurrences-cons g x xs) ∙ same g ∙ occurrences-cons g y ys) in
     ap (λ (z : Game). z ∷ xs) first ∙ ap (λ (l : List Game). y ∷ l) (rest same_rest)
 by_first x y xs ys Greater is up_xs up_ys same rest = absurd (absent_first y x ys xs (game_cmp-total.antisymm y x ∙ ap ordering_reverse is) up_xs.0 (sym (same y)))
 
@@ -173,7 +175,10 @@ occurrences-with_game : (x g : Game) (games : List Game) → occurrences x (with
 occurrences-with_game x g [] = occurrences-cons x g []
 occurrences-with_game x g (h ∷ games) =
     elim (is_lt (game_cmp h g)) as (λ (b : Bool). occurrences x (if b then h ∷ with_game g games else g ∷ h ∷ games) ≡ one_if (is_eq (game_cmp x g)) + occurrences x (h ∷ games)) [
-      | true ↦ occurrences-cons x h (with_game g games) ∙ ap (λ (n : ℕ). one_if (is_eq (game_cmp x h)) + n) (occurrences-with_game x g games) ∙ exchanged (one_if (is_eq (game_cmp x h))) (one_if (is_eq (game_cmp x g))) (occurrences x games) ∙ ap (λ (n : ℕ). one_if (is_eq (game_cmp x g)) + n) (sym (occurrences-cons x h games))
+      | true ↦
+          occurrences-cons x h (with_game g games) ∙ ap (λ (n : ℕ). one_if (is_eq (game_cmp x h)) + n)
+          (occurrences-with_game x g games) ∙ exchanged (one_if (is_eq (game_cmp x h))) (one_if (is_eq (game_cmp x g)))
+          (occurrences x games) ∙ ap (λ (n : ℕ). one_if (is_eq (game_cmp x g)) + n) (sym (occurrences-cons x h games))
       | false ↦ occurrences-cons x g (h ∷ games)
     ]
 
