@@ -188,7 +188,7 @@ denied-more lit role k =
     (map-append negate (clause_below lit role k) (literal_of (lit k) (role k)))
     ∙ fold-append set_true all_free (map negate (clause_below lit role k)) (map negate (literal_of (lit k) (role k)))
 
--- of one place more, by the part that it plays
+-- the values at which the clause of one place more is false, by the part that the place plays
 one_stays : (values : ℕ → Value) (l m : Literal) (r : Role) → value_of values m
     ≡ True → value_of (all_set values (map negate (literal_of l r))) m ≡ True
 one_stays values l m Apart is = is

@@ -40,7 +40,7 @@ same_lit l m var sign =
     ap (λ (v : ℕ). let x : Literal = record { var = v; positive = l.positive } in x) var
     ∙ ap (λ (s : Bool). let x : Literal = record { var = m.var; positive = s } in x) sign
 
--- of the literal that was made true last
+-- a literal that became false by the literal made true last is its negation
 false_last : (values : ℕ → Value) (m l : Literal) → value_of values m
     ≡ Free → l.var ≡ m.var → value_of (set_true values m) l ≡ False → m ≡ negate l
 false_last values m l free same is =
