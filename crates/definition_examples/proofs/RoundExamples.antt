@@ -144,7 +144,7 @@ fits_there = record { home = lit< tt; away = lit< tt; differ = zero_one; slot = 
 fits_back : IsGame 2 (game 1 0 1)
 fits_back = record { home = lit< tt; away = lit< tt; differ = one_zero; slot = lit< tt }
 
--- of the home team and of the away team
+-- a game is one of its home team and of its away team
 pub games_of : IsGameOf 2 home_away 0 0 (game 0 1 0) × IsGameOf 2 home_away 1 0 (game 0 1 0)
 games_of = (
   record { fits = fits_there; of = refl; there = lit≤ tt },
