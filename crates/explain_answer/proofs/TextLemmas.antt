@@ -22,7 +22,7 @@ cases-push (j ∷ members) (c ∷ cases) k case same =
     ap (λ (text : List ℕ). case_text j c ++ text) (cases-push members cases k case (omega (arith, same)))
     ∙ sym (append_assoc (case_text j c) (cases_text members cases) (case_text k case))
 
--- one more
+-- the text of one case more, as it is written
 pub cases-more : (members : List ℕ) (cases : List Case) (i k : ℕ) (case : Case) (whole old new : List ℕ)
     → slice_get members i ≡ Some k → slice_get cases i ≡ Some case → new ≡ old ++ case_text k case
     → old ≡ whole ++ cases_text (take i members) (take i cases)
