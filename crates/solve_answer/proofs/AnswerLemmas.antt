@@ -23,7 +23,10 @@ pub solved-well_formed : (store : Store) (instance : List ℕ) (budgets : Budget
 solved-well_formed store instance budgets league answer good works given =
     encodes-small league (IsFound league budgets) answer good.small
     (says-known (codes "instance") (instance_of (pieces good.bytes)) league (λ l. encodes l (IsFound l budgets)) answer good.says_league
-    (takes-known (codes "instance") (store.contents instance) INSTANCE_LIMIT (store.took_more INSTANCE_LIMIT) (store.failed instance) (λ bytes. says (codes "instance") (instance_of (pieces bytes)) (λ l. encodes l (IsFound l budgets))) answer good.bytes good.known good.within (first-works store instance [] works) given))
+    (takes-known (codes "instance") (store.contents instance) INSTANCE_LIMIT (store.took_more INSTANCE_LIMIT)
+    (store.failed instance)
+    (λ bytes. says (codes "instance") (instance_of (pieces bytes)) (λ l. encodes l (IsFound l budgets))) answer
+    good.bytes good.known good.within (first-works store instance [] works) given))
 
 found-refuted : (league : Instance) (budgets : Budgets) (rows : List Row) (answer : Answer) → answer.status ≡ Refuted → IsFound league budgets rows answer → NoneAccepted league
 found-refuted league budgets rows answer ended found =
