@@ -14,7 +14,7 @@ pub fn note_numbers(log: &Log)
     }
 }
 
-/// Reads those of the step at a place.
+/// Reads the hints of the step at a place.
 fn note_hints(log: &Log, k: usize)
     requires { k < length log.now }
     ensures { IfSome (slice_get log.now k) (λ step. All (λ hint. hint < 2 ^ 64) (hints_of step)) }
@@ -24,7 +24,7 @@ fn note_hints(log: &Log, k: usize)
     }
 }
 
-/// Reads these.
+/// Reads some hints.
 fn note_all(hints: &[u64])
     ensures { All (λ hint. hint < 2 ^ 64) hints.now }
 {
