@@ -28,7 +28,7 @@ pub(crate) fn merged(
     Ok(games)
 }
 
-/// Adds those of some games that take place before slot k.
+/// Adds the ones of some games that take place before slot k.
 ///
 /// # Errors
 /// Only where memory runs out.
@@ -41,7 +41,7 @@ fn add_all_before(merged: &mut Schedule, games: &[Game], k: u16) -> Result<(), A
     Ok(())
 }
 
-/// Adds those that take place from slot k on.
+/// Adds the ones of some games that take place from slot k on.
 ///
 /// # Errors
 /// Only where memory runs out.
