@@ -70,7 +70,7 @@ pub(crate) fn venues(
     Ok(lits)
 }
 
-/// Adds those of a team.
+/// Adds the literals of a team's venues.
 ///
 /// # Errors
 /// Only where memory runs out.
