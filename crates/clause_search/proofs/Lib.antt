@@ -2,19 +2,17 @@
 -- log that closes is accepted, and the search ends. The idea: an analysis gives each place of the trail a role. A kept
 -- literal's negation stands in the clause, a used literal's reason is a hint, all others stand apart (`IsAnalysis`).
 -- That the step follows: make the clause false, so that the kept literals are true, and replay the hints in the trail's
--- order. Each used literal becomes true behind its reason, until the row in conflict is reached (`analysis_replay`,
--- `analysis_follows`). That it is empowering: before the last decision the rows were quiet, and of the kept literals
--- all were true there but one, which was free (`analysis_empowers`). `TrailLaws` says what values stand before each
--- place (`trail_free`, `trail_true`). `MarkLemmas` and `WalkLemmas` follow the code down the trail: `false_stands`,
--- `Marks-mark`, `walk_start`, `walk_pass`, `walk_use`; at level 0 `trace_start`, `trace_pass`, `trace_use`.
--- `walked_news` and `walked_tidy` take the step from the walk, and `closes` the empty clause at level 0. `kept_calm`
--- and `calm_below` say that the clause leaves the levels quiet to which the search goes back (`walked_learnable`).
--- `fewer_steps`: no clause is learnt twice (`no_copy`, `not_again`), so a log of news has fewer steps than 3 to the
--- number of variables. So the search ends (`left_learnt`, `left_decided`). `filled_satisfies` is for the answer with
--- values, `verdict_of-refuted` for a log that refutes, and `answer_spent` for one that is spent.
+-- order. Each used literal becomes true, until the row in conflict is reached (`analysis_replay`, `analysis_follows`).
+-- That it is empowering: before the last decision the rows were quiet, and of the kept literals all were true there but
+-- one, which was free (`analysis_empowers`). The code goes down the trail by `false_stands`, `Marks-mark`,
+-- `walk_start`, `walk_pass` and `walk_use`, at level 0 by `trace_start`, `trace_pass` and `trace_use`. `walked_news`
+-- takes the step from that, and `closes` the empty clause. `walked_learnable` says that the levels to which the search
+-- goes back stay quiet (`kept_calm`, `calm_below`). No clause is learnt twice (`no_copy`, `not_again`), so a log of
+-- news has fewer steps than 3 to the number of variables (`fewer_steps`), and the search ends (`left_learnt`,
+-- `left_decided`). `filled_satisfies`, `verdict_of-refuted` and `answer_spent` are for the three answers.
 -- The difficulty: reasons aren't clauses. A row forces by its slack, so all its literals that were false at that place
 -- take part (`Resolves`), and in the replay other values stand. There what was false is false again, so the slack is no
--- greater and the row forces what it forced, or is in conflict already (`reach-falls`, `reach-lost`,
+-- greater, and the row forces what it forced or is in conflict already (`reach-falls`, `reach-lost`,
 -- `with_forced-true`). And one literal alone may be kept from the last decision on: `IsWalked` carries down the trail
 -- which is the lowest that is marked.
 
