@@ -1,6 +1,7 @@
 -- What a walk knows, said at equal numbers, rules and counts; and scores compared.
 use Rattle.std.proofs.Common.{◌≡◌, ◌↔◌, ℕ, Bool, false, ◌&&◌, ◌||◌, ◌==◌, nat_lt, Option, Some, List, refl, arith, ap, sym, subst, ◌∙◌}
-use Rattle.std.specs.Prelude.{IfSome}
+use Rattle.std.specs.Prelude.{◌*◌, ◌≤◌, IfSome, vec_capacity}
+use Rattle.moves.specs.Round.{round_counts}
 use Rattle.std.proofs.Math.Path.{fun_ext}
 use Rattle.std.proofs.lemmas.Bool.Decides.{nat_tests}
 use Rattle.league.specs.Accepted.{IsAccepted, MeetsHard, objective}
@@ -15,11 +16,12 @@ use Rattle.tally.specs.declared.weighted.Weighted.{Weighted}
 use Rattle.tally.proofs.LeagueLemmas.{hard_sum-met, infeasibility-league, objective-league}
 use Rattle.descent.specs.Score.{IsNoWorse, score_on}
 use Rattle.descent.specs.declared.score.Score.{Score}
-use Rattle.walk.specs.Standing.{IsKept, IsStandingOn}
+use Rattle.walk.specs.Standing.{IsKept, IsStandingOn, IsWalkerIn}
 use Rattle.walk.specs.Walked.{IsSeasonOf, league_score}
 use Rattle.walk.specs.declared.best.Best.{Best}
 use Rattle.walk.specs.declared.best.Kept.{Kept}
 use Rattle.walk.specs.declared.standing.Standing.{Standing}
+use Rattle.walk.specs.declared.walker.Walker.{Walker}
 
 both : (a b c d e f : ℕ) → (nat_lt c a || ((c == a) && nat_lt d b)) ≡ false
     → (nat_lt e c || ((e == c) && nat_lt f d)) ≡ false → (nat_lt e a || ((e == a) && nat_lt f b)) ≡ false
@@ -77,6 +79,19 @@ pub scores-at : {R : Type 0} (E : Ghosts R) (league : Instance) (weights now : L
     → AreRulesOf E 1 league weights → now ≡ weights → score_on E now ≡ league_score league
 scores-at {R} E league weights now are same =
     ap (λ (w : List (Weighted R)). score_on E w) same ∙ scores-are E league weights are
+
+-- where a walk stands and what it kept, said of a tally of the league's rules
+pub walker-in : (league : Instance) (n : ℕ) (phased : Bool) (cost : Counts → Score) (walker : Walker) → n ≡ league.n
+    → phased ≡ league.phased → cost ≡ league_score league
+    → IsStandingOn n phased (round_counts walker.standing.board) walker.standing
+    → league.n * league.n ≤ vec_capacity walker.games → IsKept n phased cost walker.best → IsWalkerIn league walker
+walker-in league n phased cost walker same_n same_phased same_cost stands room kept = record {
+  standing = standing-at league.n n league.phased phased (round_counts walker.standing.board)
+      (round_counts walker.standing.board) walker.standing same_n same_phased refl stands;
+  room = room;
+  best = kept-at league.n n league.phased phased (league_score league) cost walker.best same_n same_phased same_cost
+      kept;
+}
 
 -- ---- accepted games
 

@@ -21,7 +21,7 @@ pub(crate) fn drawn_threshold(random: &mut Pcg32, heat: u64) -> u64 {
     heat.saturating_mul(eighths(random)) / 8
 }
 
-/// Four times the middle one of the penalties of a league's soft constraints.
+/// Twice the middle one of the penalties of a league's soft constraints.
 ///
 /// # Errors
 /// Only where memory runs out.
@@ -34,7 +34,7 @@ pub(crate) fn soft_heat(alloc: Global, league: &League) -> Result<u64, AllocErro
     }
     penalties.sort()?;
     match penalties.get(penalties.len() / 2) {
-        Some(middle) => Ok(u64::from(*middle) * 4),
+        Some(middle) => Ok(u64::from(*middle) * 2),
         None => Ok(0),
     }
 }

@@ -32,8 +32,8 @@ apply-requires-2-clause-round_robin g c =
     (sym (edited-is m (moved n m c.args.step) c.edit_of.new.edit (c.edit_of.ensures.edit legal)))
     (c.edit_of.ensures.legal.0 legal).round_robin
 
-pub returns-then-not-follow-clause-standing : goal.returns-then-not-follow-clause-standing
-returns-then-not-follow-clause-standing g c = record {
+pub returns-then-not-follows-clause-standing : goal.returns-then-not-follows-clause-standing
+returns-then-not-follows-clause-standing g c = record {
   teams = c.requires.standing.teams;
   phases = refl;
   counts = c.requires.standing.counts

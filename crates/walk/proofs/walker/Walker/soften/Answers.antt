@@ -1,12 +1,8 @@
-use Rattle.std.proofs.Common.{◌≡◌, ℕ, List, arith, refl, subst, sym, ◌∙◌}
-use Rattle.league.specs.Counts.{Counts}
+use Rattle.std.proofs.Common.{◌≡◌, arith, refl, sym, ◌∙◌}
 use Rattle.moves.specs.Round.{round_counts}
-use Rattle.descent.specs.Score.{IsNoWorse, score_on}
-use Rattle.descent.specs.declared.score.Score.{Score}
 use Rattle.descent.proofs.ScoreLemmas.{IsNoWorse-itself}
-use Rattle.walk.specs.Standing.{IsWalkerIn}
 use Rattle.walk.specs.Walked.{league_score}
-use Rattle.walk.proofs.WalkLemmas.{IsNoWorse-both, kept-at, scores-at, standing-at}
+use Rattle.walk.proofs.WalkLemmas.{IsNoWorse-both, kept-at, scores-at, standing-at, walker-in}
 use Rattle.walk.proofs.walker.Walker.soften.Goals as goal
 
 pub stretches-init : goal.stretches-init
@@ -37,11 +33,28 @@ improve-tried-requires-clause-best g c =
     c.stretches.invariant.weights)) c.stretches.invariant.walker.best
 
 pub tell-requires : goal.tell-requires
-tell-requires g c = walked g c
+tell-requires g c =
+    walker-in c.args.league.now c.stretches.tally.table.n c.stretches.self.standing.board.phased _ _
+    (c.stretches.invariant.teams ∙ c.requires.teams) c.stretches.invariant.walker.standing.phases
+    (scores-at _ c.args.league.now c.args.tally.now.weights c.stretches.tally.weights c.requires.rules
+    c.stretches.invariant.weights) c.improve-tried.ensures.standing c.stretches.invariant.walker.room
+    c.improve-tried.ensures.best
+
+pub returns-then-self-eq0-clause-walker : goal.returns-then-self-eq0-clause-walker
+returns-then-self-eq0-clause-walker g c =
+    walker-in c.args.league.now c.stretches.tally.table.n c.stretches.self.standing.board.phased _ _
+    (c.stretches.invariant.teams ∙ c.requires.teams) c.stretches.invariant.walker.standing.phases
+    (scores-at _ c.args.league.now c.args.tally.now.weights c.stretches.tally.weights c.requires.rules
+    c.stretches.invariant.weights) c.improve-tried.ensures.standing c.stretches.invariant.walker.room
+    c.improve-tried.ensures.best
 
 pub stretches-preserved : goal.stretches-preserved
 stretches-preserved g c = record {
-  walker = walked g c;
+  walker = walker-in c.args.league.now c.stretches.tally.table.n c.stretches.self.standing.board.phased _ _
+      (c.stretches.invariant.teams ∙ c.requires.teams) c.stretches.invariant.walker.standing.phases
+      (scores-at _ c.args.league.now c.args.tally.now.weights c.stretches.tally.weights c.requires.rules
+      c.stretches.invariant.weights) c.improve-tried.ensures.standing c.stretches.invariant.walker.room
+      c.improve-tried.ensures.best;
   weights = c.improve-tried.ensures.weights ∙ c.stretches.invariant.weights;
   teams = c.improve-tried.ensures.teams ∙ c.stretches.invariant.teams;
   counts = c.improve-tried.ensures.counts;
