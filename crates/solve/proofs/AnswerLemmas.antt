@@ -25,7 +25,9 @@ use Rattle.pattern_search.specs.PatternLogs.{RefutesPatterns}
 use Rattle.pattern_search.specs.PatternRows.{pattern_rows}
 use Rattle.pattern_search.specs.declared.found.PatternFound.{PatternFound}
 use Rattle.pattern_search.proofs.NewsLemmas.{news-clauses, pattern_news-clauses}
+use Rattle.break_counts.proofs.SearchLemmas.{refuting}
 use Rattle.solve.specs.Solutions.{IsSpentOn, IsWritable, RefutesLeague}
+use Rattle.solve.proofs.CountingLemmas.{refuted_by}
 
 -- ---- steps that are news are no sums
 
@@ -45,15 +47,7 @@ pub refuted : (league : Instance) (limit : Option ℕ) (steps : List Step) → I
     → var_count league ≤ 130960 → Refutes (rows_of league) (var_count league) limit steps
     → All (λ step. All (λ hint. hint < 2 ^ 64) (hints_of step)) steps → RefutesLeague league steps
 refuted league limit steps instance most is small =
-    let clauses : All (λ step. is_linear step ≡ false) steps =
-    subst (λ (ss : List Step). All (λ step. is_linear step ≡ false) ss) (sym is.last)
-    (All-push (λ step. is_linear step ≡ false) is.before (Clause [] is.hints)
-    (news-clauses (rows_of league) (var_count league) is.before is.news) refl) in
-    record {
-      accepted = is.accepted;
-      none = accepted_logs_exclude league steps instance is.accepted;
-      writable = writable (var_count league) steps most is.tidy clauses small;
-    }
+    refuted_by league steps instance (refuting league limit steps most is small)
 
 pub spent : (league : Instance) (limit : Option ℕ) (steps : List Step) → var_count league ≤ 130960
     → IsSpentAt (rows_of league) (var_count league) limit steps

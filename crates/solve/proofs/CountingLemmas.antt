@@ -1,4 +1,4 @@
--- What venue counts that refute say of a league.
+-- What counts that refute say of a league.
 use Rattle.std.proofs.Common.{◌≡◌, Bool, true, false, List, Option, Some, None, ◌↔◌}
 use Rattle.std.specs.Prelude.{IfSome, IsSome}
 use Rattle.std.proofs.lemmas.Bool.{false_from_ne_true}

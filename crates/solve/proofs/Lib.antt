@@ -4,7 +4,7 @@ mod CircleLemmas
 pub mod FewLemmas
 -- What a descent makes of an accepted schedule:
 pub mod LowerLemmas
--- What venue counts say:
+-- What counts say:
 pub mod CountingLemmas
 -- Which of several tries is the best:
 pub mod EarliestLemmas

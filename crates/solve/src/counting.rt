@@ -24,12 +24,27 @@ pub(crate) fn count_out(alloc: Global, league: &League) -> Result<Option<Log>, A
     ensures few { result ≡ Ok None → are_few league.now ≡ false }
 {
     let _n = league.n();
-    if let Some(log) = venue_count(alloc, league)? {
-        return Ok(Some(log));
-    }
-    if let Some(log) = venue_count_low(alloc, league)? {
+    if let Some(log) = count_venues(alloc, league)? {
         return Ok(Some(log));
     }
     let few = break_count(alloc, league)?;
     Ok(few)
+}
+
+/// The log that refutes a league whose venue counts are short, or crowded.
+///
+/// # Errors
+/// Only where memory runs out.
+fn count_venues(alloc: Global, league: &League) -> Result<Option<Log>, AllocError>
+    requires small { encoding_size league.now ≤ most_terms }
+    ensures refuted { IfOk result (λ found. IfSome found (RefutesLeague league.now)) }
+    ensures short { result ≡ Ok None → are_short league.now ≡ false }
+    ensures crowded { result ≡ Ok None → are_crowded league.now ≡ false }
+{
+    let _n = league.n();
+    if let Some(log) = venue_count(alloc, league)? {
+        return Ok(Some(log));
+    }
+    let crowded = venue_count_low(alloc, league)?;
+    Ok(crowded)
 }
