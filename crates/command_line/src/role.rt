@@ -150,10 +150,9 @@ pub(crate) fn role_at(command: Topic, before: usize) -> Option<Role>
         (Topic::Make | Topic::Trial, 1) => Some(Role::Seed),
         (Topic::Check | Topic::Bound, 1) => Some(Role::Log),
         (Topic::Values, 1) => Some(Role::Values),
-        (
-            Topic::Validate | Topic::Show | Topic::Prove | Topic::Resume | Topic::Audit,
-            1,
-        ) => Some(Role::Solution),
+        (Topic::Validate | Topic::Show | Topic::Prove | Topic::Resume | Topic::Audit, 1) => Some(
+            Role::Solution,
+        ),
         (Topic::Resume | Topic::Audit, 2) => Some(Role::Slots),
         (Topic::Audit, 3) => Some(Role::Log),
         _ => None,

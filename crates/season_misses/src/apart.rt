@@ -66,8 +66,7 @@ fn apart_line(
     let count = count_text(alloc, fewer.games.len() as u64)?;
     let slots = slots_of_games(alloc, more.games)?;
     let too = played_too(alloc, other, fewer.games)?;
-    format!(
-        in alloc;
+    format!(in alloc;
         "after slot {slot} {who} has {games} and {other} {count}, {apart} apart, {much} too many: {who} in {slots}{too}"
     )
 }
@@ -121,8 +120,7 @@ pub(crate) fn gap_text(
             let few = min.saturating_sub(u32::from(between));
             let slots = many(alloc, u64::from(between), "slot")?;
             let list = games_text(alloc, names, &[*earlier, *later])?;
-            format!(
-                in alloc;
+            format!(in alloc;
                 "{who} and {other} meet in slots {first} and {second}, {slots} between, {few} too few: {list}"
             )
         }

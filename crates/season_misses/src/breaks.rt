@@ -133,11 +133,7 @@ fn push_slot(alloc: Global, text: &mut String, found: &Break) -> Result<(), Allo
 }
 
 /// Adds breaks by their later slots, each after another, of a team alone.
-fn push_slots(
-    alloc: Global,
-    text: &mut String,
-    others: &[&Break],
-) -> Result<(), AllocError>
+fn push_slots(alloc: Global, text: &mut String, others: &[&Break]) -> Result<(), AllocError>
     ensures { OnOk result (string_bytes text.new
         ≡ string_bytes text.old ++ flat_map lines.next_break_slot (map (λ b. b.now) others.now)) }
 {

@@ -79,7 +79,7 @@ fn window_line(
     bounds: Bounds,
     windows: Windows<'_>,
 ) -> Result<String, AllocError>
-    requires { windows.entry.n ≤ 40 }
+    requires { windows.n ≤ 40 }
     ensures { IfOk result (λ text. string_bytes text
         ≡ lines.window_line windows.entry.n names.now who.now bounds.min bounds.max windows.entry.intp
         (row_of windows.entry.row)) }
@@ -96,12 +96,7 @@ fn window_line(
 }
 
 /// The slot of a CA4 that bounds each slot by itself.
-fn span_place(
-    alloc: Global,
-    span: Span,
-    slots: &[u16],
-    key: usize,
-) -> Result<String, AllocError>
+fn span_place(alloc: Global, span: Span, slots: &[u16], key: usize) -> Result<String, AllocError>
     ensures { IfOk result (λ text. string_bytes text ≡ lines.span_place span slots.now key) }
 {
     match span {
@@ -163,18 +158,36 @@ fn team_line(
     let key = row.reason.key;
     match class {
         Class::Ca1 {
-            teams, min, max, ..
+            teams,
+            min,
+            max,
+            ..
         } => {
             let (min, max) = (*min, *max);
             let who = name_at(names, number_at(teams.numbers(), key));
-            has_line(alloc, names, who, Bounds { min, max }, games_told(&row.reason.cause))
+            has_line(
+                alloc,
+                names,
+                who,
+                Bounds { min, max },
+                games_told(&row.reason.cause),
+            )
         }
         Class::Ca2 {
-            teams1, min, max, ..
+            teams1,
+            min,
+            max,
+            ..
         } => {
             let (min, max) = (*min, *max);
             let who = name_at(names, number_at(teams1.numbers(), key));
-            has_line(alloc, names, who, Bounds { min, max }, games_told(&row.reason.cause))
+            has_line(
+                alloc,
+                names,
+                who,
+                Bounds { min, max },
+                games_told(&row.reason.cause),
+            )
         }
         Class::Ca3 {
             teams1,
@@ -185,7 +198,13 @@ fn team_line(
         } => {
             let (min, max, intp) = (*min, *max, *intp);
             let who = name_at(names, number_at(teams1.numbers(), key));
-            window_line(alloc, names, who, Bounds { min, max }, Windows { n, intp, row })
+            window_line(
+                alloc,
+                names,
+                who,
+                Bounds { min, max },
+                Windows { n, intp, row },
+            )
         }
         _ => unreachable!(),
     }

@@ -181,12 +181,8 @@ fn numbers_below(alloc: Global, count: u16) -> Result<Vec<u16>, AllocError>
 }
 
 /// All lines, of a league that is phased or not.
-fn lines_of(
-    alloc: Global,
-    phased: bool,
-    season: Named<'_>,
-) -> Result<Vec<Label>, AllocError>
-    requires { season.entry.n ≤ 40 }
+fn lines_of(alloc: Global, phased: bool, season: Named<'_>) -> Result<Vec<Label>, AllocError>
+    requires { season.n ≤ 40 }
     ensures { IfOk result (λ lines. lines.items
         ≡ lacks.lacks season.entry.n phased season.entry.names.now season.entry.games.now) }
 {

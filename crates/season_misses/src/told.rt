@@ -192,11 +192,7 @@ fn push_told(text: &mut String, season: &Told<'_>, miss: Miss) -> Result<(), All
 }
 
 /// Adds these constraints that are missed, with their lines.
-fn push_each_told(
-    text: &mut String,
-    season: &Told<'_>,
-    order: &[Miss],
-) -> Result<(), AllocError>
+fn push_each_told(text: &mut String, season: &Told<'_>, order: &[Miss]) -> Result<(), AllocError>
     requires { IsTold season.now }
     ensures { OnOk result (string_bytes text.new ≡ string_bytes text.old
         ++ flat_map (misses.told season.now.league.now season.now.names.now season.now.most season.now.games.now)
@@ -225,11 +221,7 @@ fn push_counts(text: &mut String, constraints: usize, order: &[Miss]) -> Result<
 ///
 /// # Errors
 /// Only where memory runs out.
-pub fn misses(
-    alloc: Global,
-    season: &Told<'_>,
-    vectors: &Vectors,
-) -> Result<String, AllocError>
+pub fn misses(alloc: Global, season: &Told<'_>, vectors: &Vectors) -> Result<String, AllocError>
     requires season { IsTold season.now }
     requires vectors { vectors.now ≡ map (λ c. vector_of season.now.league.now.n (counts_of season.now.games.now)
         c.class) season.now.league.now.constraints }

@@ -1,0 +1,2 @@
+-- Lemmas on the stages:
+mod StageLemmas

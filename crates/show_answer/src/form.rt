@@ -4,10 +4,7 @@
 #[derive(Clone, Copy)]
 pub enum Form {
     /// As a grid on a page of a width, and in words: `most` constraints, and `most` lines of each.
-    Text {
-        most: u32,
-        width: u32,
-    },
+    Text { most: u32, width: u32 },
     /// As comma-separated values.
     Csv,
 }

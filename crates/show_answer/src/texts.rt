@@ -50,11 +50,7 @@ fn totals(alloc: Global, assessed: &Assessment) -> Result<String, AllocError>
 }
 
 /// What stands below the grid.
-fn words_below(
-    alloc: Global,
-    told: &Told<'_>,
-    assessed: &Assessment,
-) -> Result<String, AllocError>
+fn words_below(alloc: Global, told: &Told<'_>, assessed: &Assessment) -> Result<String, AllocError>
     requires told { IsTold told.now }
     requires vectors { assessed.now.vectors ≡ map (λ c. vector_of told.now.league.now.n (counts_of told.now.games.now)
         c.class) told.now.league.now.constraints }
@@ -139,7 +135,14 @@ pub(crate) fn form_text(
 {
     match form {
         Form::Text { most, width } => {
-            shown_text(alloc, league, names, schedule, assessed, Page { most, width })
+            shown_text(
+                alloc,
+                league,
+                names,
+                schedule,
+                assessed,
+                Page { most, width },
+            )
         }
         Form::Csv => season_csv(alloc, names, schedule.games()),
     }
