@@ -16,6 +16,8 @@ use Rattle.budgets.specs.declared.budgets.Budgets.{Budgets}
 use Rattle.command_line.specs.Words.{Command}
 use Rattle.command_line.specs.Words.Command.{Audit, Bound, Check, Circle, Explain, Make, Part, Patterns, Prove, Resume}
 use Rattle.command_line.specs.Words.Command.{Help, Rows, Sheet, Show, Solve, Trial, Validate, Values, Version}
+use Rattle.command_line.specs.declared.goal.Goal.{Goal}
+use Rattle.command_line.specs.declared.goal.Goal.TheVariants.{Accepted, AtMost, Least}
 use Rattle.answers.specs.Reply.{Answer}
 use Rattle.answers.specs.Stages.{IsWritten, Outcome, says, takes}
 use Rattle.answers.specs.declared.status.Status.{Status}
@@ -55,7 +57,7 @@ use Rattle.resume_answer.specs.Seasons.{has_size, has_slots}
 use Rattle.instance_gen.specs.Draws.{seeded}
 use Rattle.instance_gen.specs.Made.{made_league}
 use Rattle.trial_answer.specs.Trial.{IsTrial, tried}
-use Rattle.rows_answer.specs.Rowed.{bound_system, league_rows, league_system, rowed, rows_answer}
+use Rattle.rows_answer.specs.Rowed.{league_rows, rowed, rows_answer, system_of}
 use Rattle.values_read.specs.Values.{values_of}
 use Rattle.values_answer.specs.Valued.{IsValued, found_of, missed_from, says_values, valued}
 use Rattle.robin_run.specs.Answer.{IsAnswer}
@@ -431,21 +433,24 @@ audited-ends Ends file fault ends_yes ends_no store instance solution k log answ
 
 -- ---- `rows` and `values`
 
-rows-ends : (Ends : Status → Type 0) → Ends File → Ends Yes → (league : Instance) (bound : Option ℕ) (answer : Answer)
-    → league_rows bound league answer → Ends answer.status
-rows-ends Ends file ends_yes league None answer given =
-    encodes-ends Ends file league (λ rows a. a ≡ rows_answer (league_system league)) answer
+rows-ends : (Ends : Status → Type 0) → Ends File → Ends Yes → (league : Instance) (goal : Goal) (answer : Answer)
+    → league_rows goal league answer → Ends answer.status
+rows-ends Ends file ends_yes league Accepted answer given =
+    encodes-ends Ends file league (λ rows a. a ≡ rows_answer (system_of Accepted league)) answer
     (λ rows is. ends-as Ends answer _ is ends_yes) given
-rows-ends Ends file ends_yes league (Some bound) answer given =
-    few-ends Ends file league (λ few a. a ≡ rows_answer (bound_system league bound)) answer
+rows-ends Ends file ends_yes league (AtMost bound) answer given =
+    few-ends Ends file league (λ few a. a ≡ rows_answer (system_of (AtMost bound) league)) answer
+    (λ is. ends-as Ends answer _ is ends_yes) given
+rows-ends Ends file ends_yes league Least answer given =
+    few-ends Ends file league (λ few a. a ≡ rows_answer (system_of Least league)) answer
     (λ is. ends-as Ends answer _ is ends_yes) given
 
 rowed-ends : (Ends : Status → Type 0) → Ends File → Ends ReadFault → Ends Yes → (store : Store) (instance : List ℕ)
-    (bound : Option ℕ) (answer : Answer) → rowed store instance bound answer → Ends answer.status
-rowed-ends Ends file fault ends_yes store instance bound answer given =
+    (goal : Goal) (answer : Answer) → rowed store instance goal answer → Ends answer.status
+rowed-ends Ends file fault ends_yes store instance goal answer given =
     league-ends Ends file fault (store.contents instance) (store.took_more INSTANCE_LIMIT) (store.failed instance)
-    (λ bytes. league_rows bound) answer
-    (λ bytes league at_league. rows-ends Ends file ends_yes league bound answer at_league) given
+    (λ bytes. league_rows goal) answer
+    (λ bytes league at_league. rows-ends Ends file ends_yes league goal answer at_league) given
 
 found-ends : (Ends : Status → Type 0) → Ends Yes → Ends No → (league : Instance) (values : ℕ → Bool)
     (missed : Option ℕ) (answer : Answer) → found_of league values missed answer → Ends answer.status
@@ -530,8 +535,8 @@ answer-ends (Some (Resume instance solution k conflicts)) store answer given =
 answer-ends (Some (Audit instance solution k log)) store answer given =
     audited-ends (EndsBy (Some (Audit instance solution k log))) refl refl refl refl store instance
     solution k log answer given
-answer-ends (Some (Rows instance bound)) store answer given =
-    rowed-ends (EndsBy (Some (Rows instance bound))) refl refl refl store instance bound answer given
+answer-ends (Some (Rows instance goal)) store answer given =
+    rowed-ends (EndsBy (Some (Rows instance goal))) refl refl refl store instance goal answer given
 answer-ends (Some (Values instance values)) store answer given =
     valued-ends (EndsBy (Some (Values instance values))) refl refl refl refl store instance values answer given
 answer-ends (Some (Circle n)) store answer given =
@@ -569,7 +574,7 @@ no_memory (Some (Prove instance solution conflicts)) = refl
 no_memory (Some (Bound instance log)) = refl
 no_memory (Some (Resume instance solution k conflicts)) = refl
 no_memory (Some (Audit instance solution k log)) = refl
-no_memory (Some (Rows instance bound)) = refl
+no_memory (Some (Rows instance goal)) = refl
 no_memory (Some (Values instance values)) = refl
 no_memory (Some (Circle n)) = refl
 no_memory (Some (Make n seed)) = refl

@@ -9,6 +9,8 @@ use Rattle.robinx_form.specs.InstanceFile.{instance_of}
 use Rattle.robinx_read.specs.declared.instance.TheConstants.{INSTANCE_LIMIT}
 use Rattle.league.specs.Instance.{Instance}
 use Rattle.command_line.specs.Words.Command.{Rows, Values}
+use Rattle.command_line.specs.declared.goal.Goal.{Goal}
+use Rattle.command_line.specs.declared.goal.Goal.TheVariants.{Accepted, AtMost, Least}
 use Rattle.rows.specs.Literals.{Literal}
 use Rattle.rows.specs.Rows.{Row}
 use Rattle.rows.specs.Values.{assigned}
@@ -22,10 +24,10 @@ use Rattle.check_answer.specs.Check.{encodes, most_log_bytes}
 use Rattle.solve_answer.specs.Solve.{IsWellFormedInstance}
 use Rattle.encoding_base.specs.Shadow.{decoded}
 use Rattle.opb_write.specs.Texts.{opb_text}
-use Rattle.rows_answer.specs.Rowed.{league_rows, rows_answer}
+use Rattle.rows_answer.specs.Rowed.{league_rows, rows_answer, system_of}
 use Rattle.values_read.specs.Values.{values_of}
 use Rattle.values_answer.specs.Valued.{IsSeason, IsValued, found_of, missed_from, says_values, valued}
-use Rattle.robin_run.specs.Rows.{WritesRows, system_of}
+use Rattle.robin_run.specs.Rows.{WritesRows}
 use Rattle.robin_run.specs.Run.{Answered, Run}
 use Rattle.robin_run.specs.Values.{IsAcceptedSeason, JudgesValues, SaysLiterals}
 use Rattle.robin_run.proofs.RunLemmas.{writes, writes-as}
@@ -64,27 +66,30 @@ league-yes store instance bytes league next answer known says_league ended given
 
 -- ---- `rows`
 
-rows-yes : (league : Instance) (bound : Option ℕ) (answer : Answer) → answer.status ≡ Yes
-    → league_rows bound league answer → answer ≡ rows_answer (system_of bound league)
-rows-yes league None answer ended (inl h) = h.1
-rows-yes league None answer ended (inr h) =
+rows-yes : (league : Instance) (goal : Goal) (answer : Answer) → answer.status ≡ Yes
+    → league_rows goal league answer → answer ≡ rows_answer (system_of goal league)
+rows-yes league Accepted answer ended (inl h) = h.1
+rows-yes league Accepted answer ended (inr h) =
     let same : File ≡ Yes = sym (ap (λ (a : Answer). a.status) h.1) ∙ ended in absurd (cc)
-rows-yes league (Some bound) answer ended (inl h) = h.1
-rows-yes league (Some bound) answer ended (inr h) =
+rows-yes league (AtMost bound) answer ended (inl h) = h.1
+rows-yes league (AtMost bound) answer ended (inr h) =
+    let same : File ≡ Yes = sym (ap (λ (a : Answer). a.status) h.1) ∙ ended in absurd (cc)
+rows-yes league Least answer ended (inl h) = h.1
+rows-yes league Least answer ended (inr h) =
     let same : File ≡ Yes = sym (ap (λ (a : Answer). a.status) h.1) ∙ ended in absurd (cc)
 
 pub writes-rows : (run : Run) → Answered run → WritesRows run
-writes-rows run answered instance bound is = record {
+writes-rows run answered instance goal is = record {
   rowed = λ league said within works.
-      writes run (instance ∷ []) (Rows instance bound) (league_rows bound league) answered is works
-      (λ answer given. league-known run.store instance said.bytes league (λ bytes. league_rows bound) answer said.known
+      writes run (instance ∷ []) (Rows instance goal) (league_rows goal league) answered is works
+      (λ answer given. league-known run.store instance said.bytes league (λ bytes. league_rows goal) answer said.known
       within said.says_league (first-works run.store instance [] works.store) given);
   whole = λ league said ended.
-      let whole = writes-as run (Rows instance bound) Yes answered is ended (λ same. cc) (λ same. cc) in
-      let text : whole.answer.text ≡ opb_text (system_of bound league) =
+      let whole = writes-as run (Rows instance goal) Yes answered is ended (λ same. cc) (λ same. cc) in
+      let text : whole.answer.text ≡ opb_text (system_of goal league) =
       ap (λ (a : Answer). a.text)
-      (rows-yes league bound whole.answer whole.status_is
-      (league-yes run.store instance said.bytes league (λ bytes. league_rows bound) whole.answer said.known
+      (rows-yes league goal whole.answer whole.status_is
+      (league-yes run.store instance said.bytes league (λ bytes. league_rows goal) whole.answer said.known
       said.says_league whole.status_is whole.given)) in
       subst (λ (t : List ℕ). Appends run.output.before run.output.after t) text whole.written;
 }

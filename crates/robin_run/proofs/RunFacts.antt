@@ -7,6 +7,7 @@ use Rattle.answers.specs.declared.status.Status.TheVariants.{Memory, Better}
 use Rattle.check_answer.proofs.CheckFacts as checks
 use Rattle.check_answer.proofs.CheckFacts.{checked-bad, checked-good}
 use Rattle.circle_answer.specs.Circle.{circle_season}
+use Rattle.command_line.specs.declared.goal.Goal.TheVariants as goal
 use Rattle.command_line.specs.Words.Command.{Audit, Bound, Check, Circle, Make, Prove, Resume, Rows, Validate, Values}
 use Rattle.make_answer.specs.MadeInstance.{made_instance}
 use Rattle.refutation.specs.declared.fault.LogKind.TheVariants.{BadLine}
@@ -58,8 +59,8 @@ pub ends-others : (may_end (Some (Bound (codes "a") (codes "b"))) Better ≡ fal
     × (may_end (Some (Audit (codes "a") (codes "b") 3 (codes "c"))) WriteFault ≡ false)
 ends-others = (refl, refl, refl, refl, refl)
 
-pub ends-rows : (may_end (Some (Rows (codes "a") None)) Yes ≡ true)
-    × (may_end (Some (Rows (codes "a") (Some 7))) No ≡ false)
+pub ends-rows : (may_end (Some (Rows (codes "a") goal.Accepted)) Yes ≡ true)
+    × (may_end (Some (Rows (codes "a") (goal.AtMost 7))) No ≡ false)
     × (may_end (Some (Values (codes "a") (codes "b"))) No ≡ true)
     × (may_end (Some (Values (codes "a") (codes "b"))) ReadFault ≡ true)
     × (may_end (Some (Values (codes "a") (codes "b"))) Refuted ≡ false)
