@@ -10,6 +10,7 @@ use robin_io::{Failed, Shelf};
 
 /// The texts of four files, whose names are `1`, `2`, `3` and `4`. Any other name is that of an empty file.
 #[repr(C)]
+#[derive(Drop)]
 pub struct Files<'a> {
     pub first: &'a [u8],
     pub second: &'a [u8],
