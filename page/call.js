@@ -2,15 +2,17 @@
 // the answer. A slice crosses as an address and a length, both BigInts; a `Global` as nothing; `Files` and `Lengths` as the address of their numbers of 8 bytes.
 const ROOM = 64 << 20; // bytes that the texts of a run may have
 const FILES = 4;
+const MEMORY = 8 * 2 ** 30; // bytes that the module's memory may have
 
 function callOf(instance) {
-  const {memory, page_take, page_give, page_run} = instance.exports;
+  const {memory, page_limit, page_take, page_give, page_run} = instance.exports;
   const encoder = new TextEncoder();
   // The buffer anew each time: it is another one when the memory has grown.
   const bytesAt = (at, length) => new Uint8Array(memory.buffer, Number(at), length);
   const numbersAt = (at, count) => new BigUint64Array(memory.buffer, Number(at), count);
 
-  return (words, files) => {
+  return (words, files, limit) => {
+    page_limit(BigInt(limit || MEMORY));
     const taken = [];
     const take = length => {
       const at = page_take(BigInt(Math.max(length, 1)));

@@ -20,8 +20,9 @@ class Runs {
     return worker;
   }
 
-  // Starts a run. `answer` is a promise of {status, text, told, memory, milliseconds}; `stop` ends it with the error 'stopped'.
-  start(words, files) {
+  // Starts a run, with a limit of memory in bytes where one is given. `answer` is a promise of {status, text, told, memory, milliseconds}; `stop` ends it with the
+  // error 'stopped'.
+  start(words, files, limit) {
     let stop;
     const answer = new Promise((done, fail) => {
       let worker = null, isOver = false;
@@ -47,7 +48,7 @@ class Runs {
           this.warm();
           done(data);
         };
-        worker.postMessage({words, files});
+        worker.postMessage({words, files, limit});
       })().catch(over);
     });
     return {answer, stop};

@@ -7,7 +7,7 @@ onmessage = async ({data}) => {
       return;
     }
     const began = performance.now();
-    const answer = call(data.words, data.files);
+    const answer = call(data.words, data.files, data.limit);
     postMessage({...answer, milliseconds: performance.now() - began}, [answer.text.buffer, answer.told.buffer]);
   } catch (error) {
     postMessage({error: String(error)});

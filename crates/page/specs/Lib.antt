@@ -1,1 +1,3 @@
-pub mod Answered
+-- What a reader of a claim must believe:
+pub mod Ran
+pub mod Shown

@@ -4,6 +4,10 @@
 //! pointer stands here, so no proof is written by hand for one.
 #![tactic(auto)]
 
+ghost use Rattle.std.specs.Prelude.{◌≡◌, ◌<◌, ◌≤◌, ◌⊎◌, length, map, string_bytes, take};
+ghost use Rattle.command_line.specs.Words.{reading};
+ghost use Rattle.page.specs.Shown.{HasRun, IsAnswered, IsCut, IsShown};
+
 use answers::{Status, code};
 use page_io::{Files, PageShelf, PageSink, words_of};
 use robin_run::run;
@@ -20,19 +24,39 @@ pub struct Lengths {
 /// The status where the words aren't UTF-8.
 const UNREAD_WORDS: u8 = 10;
 
-/// Puts a text to the front of the room, and behind it as much as fits of what a person is told. It answers false where
-/// the room is too small for the text, and changes nothing then.
-fn show(text: &[u8], told: &[u8], room: &mut [u8], lengths: &mut Lengths) -> bool {
-    if text.len() > room.len() {
-        return false;
-    }
+/// Puts a text to the front of the room, and behind it as much as fits of what a person is told.
+fn put(text: &[u8], told: &[u8], room: &mut [u8], lengths: &mut Lengths)
+    requires { length text.now ≤ length room.old }
+    ensures length { lengths.new.text ≡ length text.now }
+    ensures text { take lengths.new.text room.new ≡ text.now }
+{
     let (front, rest) = room.split_at_mut(text.len());
     front.copy_from_slice(text);
     let count = told.len().min(rest.len());
     rest[..count].copy_from_slice(&told[..count]);
     lengths.text = text.len();
     lengths.told = count;
-    true
+}
+
+/// Shows what a run left, unless memory for the text ran out or the room is too small for it.
+fn show(
+    ended: Status,
+    faults: u64,
+    text: &[u8],
+    told: &[u8],
+    room: &mut [u8],
+    lengths: &mut Lengths,
+) -> u8
+    ensures { IsShown ended text.now faults result lengths.new.text room.new
+        ⊎ IsCut text.now faults result lengths.new.text room.new }
+{
+    if faults > 0 || text.len() > room.len() {
+        lengths.text = 0;
+        lengths.told = 0;
+        return code(Status::WriteFault);
+    }
+    put(text, told, room, lengths);
+    code(ended)
 }
 
 /// Runs the command of these words over these files.
@@ -42,15 +66,21 @@ fn run_words(
     files: &Files,
     room: &mut [u8],
     lengths: &mut Lengths,
-) -> u8 {
+) -> u8
+    ensures { HasRun (reading (map string_bytes words.now)) files.now result lengths.new.text room.new }
+{
     let mut shelf = PageShelf::new(files);
     let mut out = PageSink::new(alloc);
     let mut told = PageSink::new(alloc);
     let ended = run(alloc, words, &mut shelf, &mut out, &mut told);
-    if out.faults() == 0 && show(out.text(), told.text(), room, lengths) {
-        return code(ended);
-    }
-    code(Status::WriteFault)
+    show(
+        ended,
+        out.faults(),
+        out.text(),
+        told.text(),
+        room,
+        lengths,
+    )
 }
 
 /// Runs the command that the words name, which stand one on a line, over files that are named `1` to `4`. The text goes to
@@ -64,7 +94,9 @@ pub extern "C" fn page_run(
     files: &Files,
     room: &mut [u8],
     lengths: &mut Lengths,
-) -> u8 {
+) -> u8
+    ensures { IsAnswered words.now files.now result lengths.new.text room.new }
+{
     lengths.text = 0;
     lengths.told = 0;
     let Ok(text) = str::from_utf8(words) else {
