@@ -81,8 +81,8 @@ function spokenOf(constraint) {
   const slots = constraint.hasAttribute('slots') ? new Set(numbersIn(attribute('slots'))) : null;
   const isSlot = slot => !slots || slots.has(slot);
   if (constraint.hasAttribute('meetings')) {
-    const meetings = new Set(attribute('meetings').split(';').map(it => it.trim()));
-    return (team, slot, games) => isSlot(slot) && games.some(game => meetings.has(`${game.home},${game.away}`));
+    const teams = new Set(attribute('meetings').split(/[;,]/).filter(it => it.trim()).map(Number));
+    return (team, slot) => isSlot(slot) && teams.has(team);
   }
   const teams = new Set(numbersIn(attribute('teams') ?? attribute('teams1')));
   return (team, slot) => teams.has(team) && isSlot(slot);

@@ -3,7 +3,7 @@ const $ = id => document.getElementById(id);
 const isAble = isAbleToRun();
 const runs = isAble ? new Runs(moduleOf(MODULE), WORKER) : null;
 const EMPTY_SEASON = new TextEncoder().encode('<Solution><Games></Games></Solution>');
-const state = {league: null, season: null, view: null, games: null, played: 0, text: '', textName: '', light: null, hasShow: false, search: null};
+const state = {league: null, season: null, view: null, games: null, played: 0, text: '', textName: '', light: null, hasShow: false, search: null, names: {}};
 
 // A run that is waited for, with its texts read.
 async function robin(words, files) {
@@ -70,16 +70,18 @@ function pickDemand(it, button) {
   for (const other of $('demands').querySelectorAll('[aria-pressed=true]')) other.setAttribute('aria-pressed', 'false');
   button.setAttribute('aria-pressed', String(on));
   if (!state.light) return;
-  const constraint = state.view.constraints[it.number - 1];
-  state.light(!on ? null : it.reasons.length ? namedBy(state.view, it.reasons) : spokenOf(constraint));
+  // Where no game counts, as of a game that is lacking, the cells that the demand speaks of are lit.
+  const byReasons = on && it.reasons.length ? state.light(namedBy(state.view, it.reasons)) : 0;
+  if (byReasons === 0) state.light(on ? spokenOf(state.view.constraints[it.number - 1]) : null);
+  $('grid').querySelector('td.lit')?.scrollIntoView({block: 'nearest', inline: 'center'});
 }
 
 function listDemands(report) {
   const missed = report.constraints.filter(it => it.sum > 0n), met = report.constraints.filter(it => it.sum === 0n);
   const items = list => inOrder(list).map(it => itemOf(state.view, it, pickDemand));
   $('demands').hidden = report.constraints.length === 0;
-  $('demands-said').textContent = missed.length ? `${missed.length} of ${report.constraints.length} demands are missed. A click shows ${state.hasShow ? 'the games that do it' : 'the teams and slots that one names'}.`
-    : `All ${report.constraints.length} demands are met.`;
+  $('demands-said').textContent = missed.length ? `${missed.length} of ${report.constraints.length} demands are missed.` : `All ${report.constraints.length} demands are met.`;
+  $('demands-how').textContent = missed.length ? `A click shows ${state.hasShow ? 'the games that do it' : 'the teams and slots that one names'}.` : '';
   $('missed').replaceChildren(...items(missed));
   $('met').replaceChildren(...items(met));
   $('met-box').hidden = met.length === 0;
@@ -138,7 +140,7 @@ async function judge(said) {
 }
 
 function setSeason(bytes, said) {
-  state.season = bytes;
+  setFile(bytes, 'season', 'made here');
   return judge(said);
 }
 
@@ -148,30 +150,31 @@ function setSeason(bytes, said) {
 const isLeague = bytes => /<(Instance|Solution)\b/.exec(decoder.decode(bytes).replace(/<!--[\s\S]*?-->/g, ''))?.[1] === 'Instance';
 
 async function takeFiles(blobs, kind) {
-  const names = [];
   for (const blob of [...blobs].slice(0, 2)) {
     const bytes = new Uint8Array(await blob.arrayBuffer());
-    setFile(bytes, kind || (isLeague(bytes) ? 'league' : 'season'));
-    names.push(blob.name);
+    setFile(bytes, kind || (isLeague(bytes) ? 'league' : 'season'), blob.name);
   }
-  if (names.length) $('files-said').textContent = `Taken: ${names.join(', ')}.`;
   await judge();
 }
 
-function setFile(bytes, kind) {
+// Takes a file, and says which files the page holds.
+function setFile(bytes, kind, name) {
   if (kind === 'league') {
     if (state.search) state.search.stop();
     state.played = 0;
   }
   state[kind] = bytes;
+  state.names[kind] = name;
+  $('files-said').textContent = ['league', 'season'].filter(it => state.names[it]).map(it => `${it === 'league' ? 'League' : 'Season'}: ${state.names[it]}`).join('. ');
 }
 
 function readGiven(kind) {
   const it = $(`given-${kind}`);
   if (!it) return null;
   const bytesOf = text => Uint8Array.from(atob(text), letter => letter.charCodeAt(0));
-  setFile(bytesOf(it.textContent.trim()), kind);
-  return decoder.decode(bytesOf(it.dataset.name || ''));
+  const name = decoder.decode(bytesOf(it.dataset.name || ''));
+  setFile(bytesOf(it.textContent.trim()), kind, name);
+  return name;
 }
 
 // ---- searches: at most one at a time, beside which a season may be judged
@@ -285,8 +288,8 @@ async function resumeSeason(own) {
 async function makeLeague(own) {
   const seed = String(Math.floor(Math.random() * 1e6)), answer = await own.robin(['make', '8', seed], []);
   if (answer.status !== 0) return '';
-  Object.assign(state, {league: answer.bytes, season: null, played: 0});
-  $('files-said').textContent = `A made league: eight teams, seed ${seed}.`;
+  Object.assign(state, {season: null, names: {}, search: null});
+  setFile(answer.bytes, 'league', `made here, eight teams, seed ${seed}`);
   await judge();
   return '';
 }
@@ -336,7 +339,6 @@ async function begin() {
     return;
   }
   const names = ['league', 'season'].map(readGiven).filter(name => name !== null);
-  if (names.length) $('files-said').textContent = `In this page: ${names.join(', ')}.`;
   try {
     state.hasShow = (await robin(['show', '--help'], [])).status === 0;
   } catch (error) {

@@ -9,7 +9,7 @@ use Rattle.answers.specs.declared.status.Status.TheVariants.{Memory}
 use Rattle.page_io.specs.Files.{file_named}
 use Rattle.page_io.specs.declared.files.Files.{Files}
 use Rattle.robin_run.specs.Run.{NothingFails, Run}
-use Rattle.page.specs.Ran.{Keeps, Ran, page_run}
+use Rattle.page.specs.Ran.{IsPromised, Ran, page_run}
 
 -- the run from a store that gave so many bytes before, and a sink that held some and failed so often
 pub run_from : Option Command → Files → ℕ → ℕ → List ℕ → List ℕ → ℕ → ℕ → Status → Run
@@ -25,14 +25,14 @@ run_from command files given taken first text was faults ended = record {
 }
 
 -- where both were new it is the run of a page
-keeps-from-new : (command : Option Command) (files held : Files) (given taken : ℕ) (first text : List ℕ) (was faults : ℕ) (ended : Status)
+promised-from-new : (command : Option Command) (files held : Files) (given taken : ℕ) (first text : List ℕ) (was faults : ℕ) (ended : Status)
     → held ≡ files → given ≡ 0 → first ≡ [] → was ≡ 0
-    → Keeps (run_from command held given taken first text was faults ended) → Keeps (page_run command files taken text faults ended)
-keeps-from-new command files held given taken first text was faults ended same none empty well keeps =
-    subst (λ w. Keeps (run_from command files 0 taken [] text w faults ended)) well
-    (subst (λ f. Keeps (run_from command files 0 taken f text was faults ended)) empty
-    (subst (λ g. Keeps (run_from command files g taken first text was faults ended)) none
-    (subst (λ h. Keeps (run_from command h given taken first text was faults ended)) same keeps)))
+    → IsPromised (run_from command held given taken first text was faults ended) → IsPromised (page_run command files taken text faults ended)
+promised-from-new command files held given taken first text was faults ended same none empty well promised =
+    subst (λ w. IsPromised (run_from command files 0 taken [] text w faults ended)) well
+    (subst (λ f. IsPromised (run_from command files 0 taken f text was faults ended)) empty
+    (subst (λ g. IsPromised (run_from command files g taken first text was faults ended)) none
+    (subst (λ h. IsPromised (run_from command h given taken first text was faults ended)) same promised)))
 
 never : Rose 0 0 → ⊥
 never rose = omega (arith, rose)
@@ -52,9 +52,9 @@ works command files taken text faults ended memory none names = record {
 
 pub ran : (command : Option Command) (files held : Files) (given taken : ℕ) (first text : List ℕ) (was faults : ℕ) (ended : Status)
     → held ≡ files → given ≡ 0 → first ≡ [] → was ≡ 0
-    → Keeps (run_from command held given taken first text was faults ended) → Ran command files text faults ended
-ran command files held given taken first text was faults ended same none empty well keeps = record {
+    → IsPromised (run_from command held given taken first text was faults ended) → Ran command files text faults ended
+ran command files held given taken first text was faults ended same none empty well promised = record {
   taken = taken;
-  keeps = keeps-from-new command files held given taken first text was faults ended same none empty well keeps;
+  promised = promised-from-new command files held given taken first text was faults ended same none empty well promised;
   works = works command files taken text faults ended;
 }

@@ -1,5 +1,6 @@
 -- A run over files that lie in memory, and what holds of it.
 use Rattle.std.specs.Prelude.{◌≡◌, ◌≢◌, ℕ, List, [], Option, Some}
+use Rattle.std.specs.Io.KnownBytes.{Keeps}
 use Rattle.robin_io.specs.Counts.{Rose, TookMore}
 use Rattle.command_line.specs.Words.{Command}
 use Rattle.answers.specs.declared.status.Status.{Status}
@@ -25,15 +26,17 @@ page_run command files taken text faults ended = record {
 }
 
 -- what `run` promises of a run
-pub record Keeps (run : Run) : Type 0 where
+pub record IsPromised (run : Run) : Type 0 where
   pub answered : Answered run
   pub ends : EndsByWords run
   pub commands : KeepsPromises run
+  -- Where memory ran out nothing was written.
+  pub memory : run.ended ≡ Memory → Keeps run.output.before run.output.after
 
 -- A run of this command over these files put this text into its sink, which failed so often, and ended so.
 pub record Ran (command : Option Command) (files : Files) (text : List ℕ) (faults : ℕ) (ended : Status) : Type 0 where
   -- how many bytes of the files were taken
   pub taken : ℕ
-  pub keeps : Keeps (page_run command files taken text faults ended)
+  pub promised : IsPromised (page_run command files taken text faults ended)
   -- Unless memory ran out, nothing failed.
   pub works : ended ≢ Memory → faults ≡ 0 → (names : List (List ℕ)) → NothingFails (page_run command files taken text faults ended) names
