@@ -1,0 +1,3 @@
+-- What a reader of a claim must believe:
+pub mod Ran
+pub mod Shown
