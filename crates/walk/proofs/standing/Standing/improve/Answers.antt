@@ -20,8 +20,8 @@ draws-preserved g c =
     let stands : IsStandingOn n phased now c.attempt-legal.new.self =
     standing-at n c.draws.tally.table.n phased c.draws.self.board.phased now now c.attempt-legal.new.self
     c.draws.invariant.teams c.draws.invariant.standing.phases refl c.attempt-legal.ensures.standing in
-    let same : c.of-2.result ≡ cost (round_counts c.attempt-legal.new.self.board) =
-    c.of-2.ensures ∙ ap (λ (w : List (Weighted g.row.R.Denot)). score_on g.R.Entries w now) rules
+    let same : c.of-in-draws.result ≡ cost (round_counts c.attempt-legal.new.self.board) =
+    c.of-in-draws.ensures ∙ ap (λ (w : List (Weighted g.row.R.Denot)). score_on g.R.Entries w now) rules
     ∙ ap (λ (m : Counts). cost m) (sym stands.counts) in
     record {
       weights = rules;
