@@ -57,9 +57,22 @@ function attributesOf(league, constraint) {
   return parts.join('; ');
 }
 
-// The test of a cell that lights what the reasons of `show` name: games as `HOME - AWAY (SLOT)`, and for BR2 and FA2 a team's slots behind its name.
-function namedBy(league, reasons) {
-  const text = reasons.join('\n');
+// The games that a text names as `HOME - AWAY (SLOT)`. Where one such name ends with another, the longer one stands there.
+function gamesTold(league, games, text) {
+  const byEnd = new Map();
+  for (const game of games) {
+    const name = `${league.labels[game.home]} - ${league.labels[game.away]} (${game.slot})`;
+    for (let at = text.indexOf(name); at >= 0; at = text.indexOf(name, at + 1)) {
+      const end = at + name.length;
+      if (!byEnd.has(end) || at < byEnd.get(end).at) byEnd.set(end, {at, game});
+    }
+  }
+  return new Set([...byEnd.values()].map(it => it.game));
+}
+
+// The test of a cell that lights what the reasons of `show` name: games, and for BR2 and FA2 a team's slots behind its name.
+function namedBy(league, games, reasons) {
+  const told = gamesTold(league, games, reasons.join('\n'));
   const slotsOfTeam = league.labels.map(label => {
     const slots = new Set();
     for (const line of reasons) {
@@ -71,8 +84,7 @@ function namedBy(league, reasons) {
     }
     return slots;
   });
-  return (team, slot, games) => slotsOfTeam[team].has(slot)
-    || games.some(game => text.includes(`${league.labels[game.home]} - ${league.labels[game.away]} (${slot})`));
+  return (team, slot, here) => slotsOfTeam[team].has(slot) || here.some(game => told.has(game));
 }
 
 // The test of a cell that lights the teams and slots that a demand's line names.
