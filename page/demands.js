@@ -1,5 +1,7 @@
 // The demands of a league, as the module's texts say them: each number stands in the report of `validate`, and the sentences and reasons in the text of `show`.
 
+const MOST_REASONS = 20; // lines of a demand that are written out
+
 // The lines `constraint` of a report, and its totals.
 function reportOf(text) {
   const report = {constraints: [], structure: [0, 0, 0]};
@@ -114,7 +116,8 @@ function itemOf(league, it, onPick) {
   if (it.sum > 0n) button.append(element('span', it.isHard ? `hard, missed by ${it.sum}` : `costs ${it.cost}`, 'cost'));
   button.append(element('b', `${it.number} ${it.tag} ${it.isHard ? 'hard' : 'soft'}`));
   button.append(element('span', it.asks || attributesOf(league, league.constraints[it.number - 1]), 'asks'));
-  for (const reason of it.reasons) button.append(element('span', reason.trim(), 'reason'));
+  for (const reason of it.reasons.slice(0, MOST_REASONS)) button.append(element('span', reason.trim(), 'reason'));
+  if (it.reasons.length > MOST_REASONS) button.append(element('span', `and ${it.reasons.length - MOST_REASONS} more, which a click shows too`, 'reason'));
   button.onclick = () => onPick(it, button);
   li.append(button);
   return li;
