@@ -1,5 +1,7 @@
 // The demands of a league, as the module's texts say them: each number stands in the report of `validate`, and the sentences and reasons in the text of `show`.
 
+const MOST_REASONS = 20; // lines of a demand that are written out
+
 // The lines `constraint` of a report, and its totals.
 function reportOf(text) {
   const report = {constraints: [], structure: [0, 0, 0]};
@@ -57,9 +59,22 @@ function attributesOf(league, constraint) {
   return parts.join('; ');
 }
 
-// The test of a cell that lights what the reasons of `show` name: games as `HOME - AWAY (SLOT)`, and for BR2 and FA2 a team's slots behind its name.
-function namedBy(league, reasons) {
-  const text = reasons.join('\n');
+// The games that a text names as `HOME - AWAY (SLOT)`. Where one such name ends with another, the longer one stands there.
+function gamesTold(league, games, text) {
+  const byEnd = new Map();
+  for (const game of games) {
+    const name = `${league.labels[game.home]} - ${league.labels[game.away]} (${game.slot})`;
+    for (let at = text.indexOf(name); at >= 0; at = text.indexOf(name, at + 1)) {
+      const end = at + name.length;
+      if (!byEnd.has(end) || at < byEnd.get(end).at) byEnd.set(end, {at, game});
+    }
+  }
+  return new Set([...byEnd.values()].map(it => it.game));
+}
+
+// The test of a cell that lights what the reasons of `show` name: games, and for BR2 and FA2 a team's slots behind its name.
+function namedBy(league, games, reasons) {
+  const told = gamesTold(league, games, reasons.join('\n'));
   const slotsOfTeam = league.labels.map(label => {
     const slots = new Set();
     for (const line of reasons) {
@@ -71,8 +86,7 @@ function namedBy(league, reasons) {
     }
     return slots;
   });
-  return (team, slot, games) => slotsOfTeam[team].has(slot)
-    || games.some(game => text.includes(`${league.labels[game.home]} - ${league.labels[game.away]} (${slot})`));
+  return (team, slot, here) => slotsOfTeam[team].has(slot) || here.some(game => told.has(game));
 }
 
 // The test of a cell that lights the teams and slots that a demand's line names.
@@ -102,7 +116,8 @@ function itemOf(league, it, onPick) {
   if (it.sum > 0n) button.append(element('span', it.isHard ? `hard, missed by ${it.sum}` : `costs ${it.cost}`, 'cost'));
   button.append(element('b', `${it.number} ${it.tag} ${it.isHard ? 'hard' : 'soft'}`));
   button.append(element('span', it.asks || attributesOf(league, league.constraints[it.number - 1]), 'asks'));
-  for (const reason of it.reasons) button.append(element('span', reason.trim(), 'reason'));
+  for (const reason of it.reasons.slice(0, MOST_REASONS)) button.append(element('span', reason.trim(), 'reason'));
+  if (it.reasons.length > MOST_REASONS) button.append(element('span', `and ${it.reasons.length - MOST_REASONS} more, which a click shows too`, 'reason'));
   button.onclick = () => onPick(it, button);
   li.append(button);
   return li;

@@ -5,12 +5,11 @@ const runs = isAble ? new Runs(moduleOf(MODULE), WORKER) : null;
 const EMPTY_SEASON = new TextEncoder().encode('<Solution><Games></Games></Solution>');
 const state = {league: null, season: null, view: null, games: null, played: 0, text: '', textName: '', light: null, hasShow: false, search: null, names: {}};
 
-// A run that is waited for, with its texts read.
-async function robin(words, files) {
-  const run = runs.start(words, files);
-  const answer = await run.answer;
-  return {...answer, text: decoder.decode(answer.text), told: decoder.decode(answer.told), bytes: answer.text};
-}
+// An answer with its texts read.
+const withTexts = answer => ({...answer, bytes: answer.text, text: decoder.decode(answer.text), told: decoder.decode(answer.told)});
+
+// A run that is waited for.
+const robin = async (words, files) => withTexts(await runs.start(words, files).answer);
 
 const filesNow = () => [state.league, state.season];
 
@@ -71,7 +70,7 @@ function pickDemand(it, button) {
   button.setAttribute('aria-pressed', String(on));
   if (!state.light) return;
   // Where no game counts, as of a game that is lacking, the cells that the demand speaks of are lit.
-  const byReasons = on && it.reasons.length ? state.light(namedBy(state.view, it.reasons)) : 0;
+  const byReasons = on && it.reasons.length ? state.light(namedBy(state.view, state.games, it.reasons)) : 0;
   if (byReasons === 0) state.light(on ? spokenOf(state.view.constraints[it.number - 1]) : null);
   $('grid').querySelector('td.lit')?.scrollIntoView({block: 'nearest', inline: 'center'});
 }
@@ -111,7 +110,7 @@ async function judge(said) {
     return;
   }
   try {
-    const asked = state.season && state.hasShow ? robin(['show', '1', '2', '--most', 'all'], files).catch(() => null) : null;
+    const asked = state.season && state.hasShow ? robin(['show', '1', '2', '--most', '20000'], files).catch(() => null) : null;
     const answer = await robin(['validate', '1', '2'], files);
     if (mine !== turn) return;
     state.view = null;
@@ -187,8 +186,7 @@ async function search(what, work) {
   };
   own.robin = async (words, files) => {
     own.run = runs.start(words, files);
-    const answer = await own.run.answer;
-    return {...answer, text: decoder.decode(answer.text), told: decoder.decode(answer.told), bytes: answer.text};
+    return withTexts(await own.run.answer);
   };
   state.search = own;
   renew();
@@ -294,6 +292,12 @@ async function makeLeague(own) {
   return '';
 }
 
+// Saves the table that the module writes, or the same made here where it has none.
+async function saveTable() {
+  const answer = state.hasShow ? await robin(['show', '1', '2', '--form', 'csv'], filesNow()).catch(() => null) : null;
+  save('season.csv', 'text/csv', answer && answer.status < 2 ? answer.bytes : csvOf(state.view, state.games));
+}
+
 // ---- the page's parts
 
 function connect() {
@@ -321,7 +325,7 @@ function connect() {
   $('resume').onclick = () => search('Planning the rest', resumeSeason);
   $('stop').onclick = () => state.search && state.search.stop();
   $('save-xml').onclick = () => save('season.xml', 'application/xml', state.season);
-  $('save-csv').onclick = () => save('season.csv', 'text/csv', csvOf(state.view, state.games));
+  $('save-csv').onclick = saveTable;
   $('save-text').onclick = () => save(state.textName, 'text/plain', state.text);
   $('save-calendar').onclick = () => {
     const team = $('calendar-team').value, first = $('calendar-first').value;

@@ -11,19 +11,22 @@ function documentOf(bytes) {
   return again.querySelector('parsererror') ? null : again;
 }
 
-// A name that may be shown: in one line, of at most 40 characters, without characters that control how text is set.
+// Characters that aren't shown, as the module's texts have it: controls, marks of direction, joiners, selectors, tags, private planes, and U+FFFD.
+const UNPRINTED = /[\0-\x1f\x7f-\x9f\xad\u061c\u180b-\u180f\u200b-\u200f\u2028-\u202e\u2060-\u206f\ufe00-\ufe0f\ufeff\ufff0-\uffff\u{1d173}-\u{1d17a}\u{e0000}-\u{10ffff}]/gu;
+
+// A name that may be shown, as the module's texts have it: in one line, of at most 40 characters.
 function plainName(name) {
-  const clean = (name || '').trim().replace(/[\p{Cc}\p{Cf}\p{Co}\u180b-\u180f\ufe00-\ufe0f\ufffd]/gu, '?');
+  const clean = (name || '').replace(/^[ \t\r\n]+|[ \t\r\n]+$/g, '').replace(/[\t\r\n]/g, ' ').replace(UNPRINTED, '?');
   const letters = [...clean];
   return letters.length > 40 ? letters.slice(0, 37).join('') + '...' : clean;
 }
 
-// Names by the numbers that the file gives.
-function namesIn(document, tag, count) {
+// The value of the first of these attributes that isn't empty, by the numbers that the file gives.
+function namesIn(document, tag, count, attributes) {
   const names = Array(count).fill('');
   for (const it of document.querySelectorAll(tag)) {
     const id = Number(it.getAttribute('id'));
-    if (id < count) names[id] = plainName(it.getAttribute('name'));
+    if (id < count) names[id] = attributes.map(name => plainName(it.getAttribute(name))).find(name => name) || '';
   }
   return names;
 }
@@ -34,9 +37,9 @@ function labelsOf(names) {
   return new Set(shown).size === shown.length ? shown : shown.map((name, i) => `#${i} ${name}`);
 }
 
-// A short code for each team: the name where each is short, else letters of its words, else the number.
-function codesOf(names) {
-  if (names.every(name => name && name.length <= 4) && new Set(names).size === names.length) return names;
+// A short code for each team: a short name where each has one, else letters of the name's words, else the number.
+function codesOf(names, shortNames) {
+  if (shortNames.every(name => name && name.length <= 4) && new Set(shortNames).size === shortNames.length) return shortNames;
   const codes = names.map(name => {
     const words = name.split(/[^\p{L}\p{N}]+/u).filter(word => word);
     return words.length > 1 ? words[0].slice(0, 2) + words[words.length - 1].slice(0, 1) : name.slice(0, 3);
@@ -51,10 +54,11 @@ function leagueOf(bytes) {
   const document = documentOf(bytes);
   if (!document || document.documentElement.tagName !== 'Instance') return null;
   const n = document.querySelectorAll('Resources > Teams > team').length;
-  const names = namesIn(document, 'Resources > Teams > team', n), slots = namesIn(document, 'Resources > Slots > slot', 2 * (n - 1));
+  const teams = 'Resources > Teams > team', names = namesIn(document, teams, n, ['publicName', 'name']);
+  const slots = namesIn(document, 'Resources > Slots > slot', 2 * (n - 1), ['publicName', 'name']);
   const constraints = [...document.querySelectorAll('Constraints *')].filter(it => CLASSES.has(it.tagName));
   const mode = document.querySelector('Format > gameMode');
-  return {n, names, labels: labelsOf(names), codes: codesOf(names), slots, constraints, isPhased: !!mode && mode.textContent.trim() === 'P'};
+  return {n, names, labels: labelsOf(names), codes: codesOf(names, namesIn(document, teams, n, ['name'])), slots, constraints, isPhased: !!mode && mode.textContent.trim() === 'P'};
 }
 
 // The games of a season's file, in order: slot, home team, away team.
