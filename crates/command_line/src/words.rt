@@ -1,6 +1,6 @@
 //! The words of the command line.
 ghost use Rattle.std.specs.Prelude.{◌≡◌, ◌==◌, if◌then◌else◌, [], ◌∷◌, None, Some, map, length, codes};
-ghost use Rattle.std.specs.Prelude.{string_bytes, bytes_eq};
+ghost use Rattle.std.specs.Prelude.{false, string_bytes, bytes_eq};
 ghost use Rattle.std.specs.Prelude.{option_map, IfSome};
 ghost use Rattle.std.specs.List.{list_any};
 ghost use Rattle.std.specs.Option.{option_copied};
