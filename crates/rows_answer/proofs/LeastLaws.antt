@@ -1,18 +1,18 @@
 -- The least sum over the rows is the least objective of an accepted schedule.
-use Rattle.std.proofs.Common.{◌≡◌, ℕ, ◌+◌, ◌*◌, ◌≤◌, zero, suc, Bool, true, false, cond, List, [], ◌∷◌, ◌++◌, map}
-use Rattle.std.proofs.Common.{refl, arith, ap, sym, ◌∙◌}
+use Rattle.std.proofs.Common.{◌≡◌, ℕ, ◌+◌, ◌-◌, ◌*◌, ◌≤◌, zero, suc, Bool, true, false, cond, List, [], ◌∷◌, ◌++◌, map}
+use Rattle.std.proofs.Common.{refl, arith, ap}
 use Rattle.std.proofs.Math.Nat.{mul-add}
 use Rattle.std.proofs.lemmas.List.Elements.{All-append, All-cons, All-head, All-nil}
 use Rattle.std.proofs.lemmas.List.Sums.{sum_by-append, sum_by-cons}
-use Rattle.league.specs.Accepted.{IsAccepted, objective}
-use Rattle.league.specs.Counts.{Counts}
+use Rattle.league.specs.Accepted.{objective}
 use Rattle.league.specs.Instance.{Instance}
-use Rattle.rows.specs.Literals.{Literal, no, yes}
+use Rattle.rows.specs.Literals.{Literal, yes}
 use Rattle.rows.specs.Rows.{Row, Satisfies, SatisfiesAll, is_true, weight}
 use Rattle.rows.specs.Tests.{true_count}
 use Rattle.rows.specs.declared.lit.Term.{Term}
 use Rattle.bound_base.specs.BoundRows.{base_rows, bound_rows, first_unit, league_groups}
-use Rattle.bound_base.specs.Softening.{Group, costs, costs_from, objective_row, order_rows, softened_rows, units_from}
+use Rattle.bound_base.specs.Softening.{Group, costs, costs_from, objective_row, order_rows, softened_rows, total_cost}
+use Rattle.bound_base.specs.Softening.{units_from}
 use Rattle.bound_laws.specs.Units.{paid}
 use Rattle.bound_laws.proofs.Faithful.{bounded-from_rows, values-from_bounded}
 use Rattle.bound_laws.proofs.SoftLaws.{costs-paid}
@@ -23,8 +23,8 @@ use Rattle.rows_answer.specs.Rowed.{greatest_bound, prices, turned}
 -- ---- the sum
 
 map-append : {X Y : Type 0} (f : X → Y) (xs ys : List X) → map f (xs ++ ys) ≡ map f xs ++ map f ys
-map-append f [] ys = refl
-map-append f (x ∷ xs) ys = ap (λ (zs : List Y). f x ∷ zs) (map-append f xs ys)
+map-append {X} {Y} f [] ys = refl
+map-append {X} {Y} f (x ∷ xs) ys = ap (λ (zs : List Y). f x ∷ zs) (map-append f xs ys)
 
 one_unit : (b : Bool) (penalty : ℕ) → cond b penalty 0 ≡ penalty * cond b 1 0
 one_unit true penalty = omega arith
@@ -66,40 +66,61 @@ prices-paid values first (g ∷ groups) =
 
 -- ---- rows of another bound
 
-module _ (league : Instance) (values : ℕ → Bool) where
-  first : ℕ
-  first = first_unit league
+-- the rows before the objective row
+abbrev before : Instance → List Row
+before league = base_rows league ++ softened_rows (first_unit league) (league_groups league)
 
-  groups : List Group
-  groups = league_groups league
+-- the objective row, alone
+abbrev bounding : Instance → ℕ → List Row
+bounding league bound = objective_row (first_unit league) (league_groups league) bound ∷ []
 
-  before : List Row
-  before = base_rows league ++ softened_rows first groups
+-- those behind it
+abbrev orders : Instance → List Row
+orders league = order_rows (first_unit league) (league_groups league)
 
-  met : Row → Type 0
-  met = Satisfies values
+to_objective : (league : Instance) (values : ℕ → Bool) (bound : ℕ) → SatisfiesAll values (bound_rows league bound)
+    → SatisfiesAll values (before league ++ bounding league bound)
+to_objective league values bound all =
+    All-front (Satisfies values) (before league ++ bounding league bound) (orders league) all
 
-  to_objective : (bound : ℕ) → SatisfiesAll values (bound_rows league bound)
-      → SatisfiesAll values (before ++ objective_row first groups bound ∷ [])
-  to_objective bound all = All-front met (before ++ objective_row first groups bound ∷ []) (order_rows first groups) all
+-- what is paid and what isn't are all
+sums : (league : Instance) (values : ℕ → Bool)
+    → weight values (costs (first_unit league) (league_groups league)) + weight values (prices league)
+    ≡ total_cost (league_groups league)
+sums league values =
+    omega (
+      arith,
+      costs-paid values (first_unit league) (league_groups league),
+      prices-paid values (first_unit league) (league_groups league),
+    )
 
-  pub sum_within : (bound : ℕ) → SatisfiesAll values (bound_rows league bound) → weight values (prices league) ≤ bound
-  sum_within bound all =
-      let row : Row = objective_row first groups bound in
-      let here = All-head met row [] (All-back met before (row ∷ []) (to_objective bound all)) in
-      omega (arith, here, costs-paid values first groups, prices-paid values first groups)
+at_most : (total bound left sum : ℕ) → left + sum ≡ total → total - bound ≤ left → sum ≤ bound
+at_most total bound left sum all enough = omega (arith, all, enough)
 
-  pub with_bound : (bound other : ℕ) → SatisfiesAll values (bound_rows league bound)
-      → weight values (prices league) ≤ other → SatisfiesAll values (bound_rows league other)
-  with_bound bound other all enough =
-      let old : Row = objective_row first groups bound in
-      let new : Row = objective_row first groups other in
-      let row : met new =
-      omega (arith, enough, costs-paid values first groups, prices-paid values first groups) in
-      All-append met (before ++ new ∷ []) (order_rows first groups)
-      (All-append met before (new ∷ []) (All-front met before (old ∷ []) (to_objective bound all))
-      (All-cons met new [] row (All-nil met)))
-      (All-back met (before ++ old ∷ []) (order_rows first groups) all)
+at_least : (total bound left sum : ℕ) → left + sum ≡ total → sum ≤ bound → total - bound ≤ left
+at_least total bound left sum all few = omega (arith, all, few)
+
+sum_within : (league : Instance) (values : ℕ → Bool) (bound : ℕ) → SatisfiesAll values (bound_rows league bound)
+    → weight values (prices league) ≤ bound
+sum_within league values bound all =
+    at_most (total_cost (league_groups league)) bound (weight values (costs (first_unit league) (league_groups league)))
+    (weight values (prices league)) (sums league values)
+    (All-head (Satisfies values) (objective_row (first_unit league) (league_groups league) bound) []
+    (All-back (Satisfies values) (before league) (bounding league bound) (to_objective league values bound all)))
+
+with_bound : (league : Instance) (values : ℕ → Bool) (bound other : ℕ) → SatisfiesAll values (bound_rows league bound)
+    → weight values (prices league) ≤ other → SatisfiesAll values (bound_rows league other)
+with_bound league values bound other all few =
+    let met : Row → Type 0 = Satisfies values in
+    All-append met (before league ++ bounding league other) (orders league)
+    (All-append met (before league) (bounding league other)
+    (All-front met (before league) (bounding league bound) (to_objective league values bound all))
+    (All-cons met (objective_row (first_unit league) (league_groups league) other) []
+    (at_least (total_cost (league_groups league)) other
+    (weight values (costs (first_unit league) (league_groups league))) (weight values (prices league))
+    (sums league values) few)
+    (All-nil met)))
+    (All-back met (before league ++ bounding league bound) (orders league) all)
 
 -- ---- both ways
 

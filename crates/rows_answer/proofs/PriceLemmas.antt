@@ -1,10 +1,10 @@
 -- The objective row is the last row that doesn't begin with a positive literal.
 use Rattle.std.proofs.Common.{◌≡◌, ℕ, ◌+◌, ◌-◌, ◌<◌, ◌≤◌, zero, suc, true, false, List, [], ◌∷◌, ◌++◌, map, length}
-use Rattle.std.proofs.Common.{refl, arith, ap, subst, sym, ◌∙◌}
+use Rattle.std.proofs.Common.{length-append, refl, arith, ap, subst, sym, ◌∙◌}
 use Rattle.std.proofs.lemmas.List.Elements.{All-append, All-head, All-map, All-nil, All-tail}
 use Rattle.std.specs.List.{All, range_with_len, slice_get}
 use Rattle.std.specs.Prelude.{IfSome}
-use Rattle.rows.specs.Rows.{Row}
+use Rattle.rows.specs.Rows.{IsRow, Row}
 use Rattle.rows.specs.declared.lit.Term.{Term}
 use Rattle.league.specs.Instance.{Instance}
 use Rattle.bound_base.specs.BoundRows.{base_rows, bound_rows, first_unit, league_groups}
@@ -118,3 +118,20 @@ rows-enough league bound rows are =
       length-append (before ++ row) (order_rows first groups),
       length-append before row,
     )
+
+-- terms at one place are one
+pub same-at : (rows : List Row) (k : ℕ) (terms others : List Term) → k < length rows → AreAt rows k terms
+    → AreAt rows k others → terms ≡ others
+same-at [] k terms others within got again = absurd (omega arith)
+same-at (row ∷ rows) zero terms others within got again = got ∙ sym again
+same-at (row ∷ rows) (suc k) terms others within got again =
+    same-at rows k terms others (omega (arith, within)) got again
+
+-- their coefficients are from 1
+pub coefs-at : (rows : List Row) (k : ℕ) (terms : List Term) → All IsRow rows → k < length rows → AreAt rows k terms
+    → All (λ t. 1 ≤ t.coef) terms
+coefs-at [] k terms all within got = absurd (omega arith)
+coefs-at (row ∷ rows) zero terms all within got =
+    subst (λ (ts : List Term). All (λ t. 1 ≤ t.coef) ts) (sym got) (All-head IsRow row rows all).coefs
+coefs-at (row ∷ rows) (suc k) terms all within got =
+    coefs-at rows k terms (All-tail IsRow row rows all) (omega (arith, within)) got

@@ -1,4 +1,4 @@
-use Rattle.std.proofs.Common.{◌≡◌, List, Some, inl, ap, ◌∙◌}
+use Rattle.std.proofs.Common.{List, Some, inl, ap, ◌∙◌}
 use Rattle.rows.specs.declared.lit.Term.{Term}
 use Rattle.bound_base.specs.BoundRows.{bound_rows, bound_vars}
 use Rattle.bound_rows.specs.Bounded.{Bounded}
