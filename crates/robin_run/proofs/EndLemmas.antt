@@ -145,25 +145,26 @@ validated-ends Ends file fault ends_yes ends_no store instance solution answer g
 
 -- ---- `show`
 
+-- the stages behind the names
+abbrev read_next : Store → List ℕ → Form → List ℕ → Instance → Names → Outcome
+read_next store solution form first league names =
+    takes (codes "solution") (store.contents solution) SOLUTION_LIMIT (store.took_more (length first + SOLUTION_LIMIT))
+    (store.failed solution)
+    (λ second. says (codes "solution") (solution_of league.n (pieces second))
+    (showing.IsShown league (form_text form league names)))
+
 shown-ends : (Ends : Status → Type 0) → Ends File → Ends ReadFault → Ends Yes → Ends No → (store : Store)
     (instance solution : List ℕ) (form : Form) (answer : Answer) → showing.shown store instance solution form answer
     → Ends answer.status
 shown-ends Ends file fault ends_yes ends_no store instance solution form answer given =
     league-ends Ends file fault (store.contents instance) (store.took_more INSTANCE_LIMIT) (store.failed instance)
-    (λ first league. says (codes "instance") (names_of league.n (pieces first)) (read_next first league)) answer
+    (λ first league. says (codes "instance") (names_of league.n (pieces first)) (read_next store solution form first league)) answer
     (λ first league at_league. said-ends Ends file (codes "instance") (names_of league.n (pieces first))
-    (read_next first league) answer (λ names at_names. games-ends Ends file fault league.n (store.contents solution)
+    (read_next store solution form first league) answer (λ names at_names. games-ends Ends file fault league.n (store.contents solution)
     (store.took_more (length first + SOLUTION_LIMIT)) (store.failed solution)
     (λ second. showing.IsShown league (form_text form league names)) answer
     (λ second games shown. ends-with Ends answer _ shown.status (feasible-ends Ends ends_yes ends_no shown.feasible))
     at_names) at_league) given
-  where
-    abbrev read_next : List ℕ → Instance → Names → Outcome
-    read_next first league names =
-        takes (codes "solution") (store.contents solution) SOLUTION_LIMIT
-        (store.took_more (length first + SOLUTION_LIMIT)) (store.failed solution)
-        (λ second. says (codes "solution") (solution_of league.n (pieces second))
-        (showing.IsShown league (form_text form league names)))
 
 -- ---- `check`, and logs
 

@@ -1,2 +1,8 @@
--- The rows of reasons:
+-- Texts by their parts, the rows of reasons, lists that are gone through, and the constraints that are missed:
+mod PartLemmas
 mod RowLemmas
+mod WalkLemmas
+mod MissLemmas
+-- Worked examples, so that a wrong definition does not check:
+pub mod LineFacts
+pub mod MissFacts

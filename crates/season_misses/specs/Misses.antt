@@ -1,5 +1,5 @@
 -- What a season misses: the constraints that it doesn't meet, the gravest first, each with its lines.
-use Rattle.std.specs.Prelude.{ℕ, ◌+◌, ◌-◌, ◌*◌, Bool, not, ◌==◌, nat_le, nat_lt, if◌then◌else◌, List, [], ◌∷◌, ◌++◌}
+use Rattle.std.specs.Prelude.{ℕ, ◌+◌, ◌-◌, ◌*◌, Bool, not, ◌&&◌, ◌||◌, ◌==◌, nat_le, nat_lt, if◌then◌else◌, List, [], ◌∷◌, ◌++◌}
 use Rattle.std.specs.Prelude.{length, map, sum, take, codes, decimal, Option, Some, None, slice_get}
 use Rattle.std.specs.List.{count_by, flat_map, fold, insert, position_or_len}
 use Rattle.league.specs.Counts.{counts_of}
@@ -85,12 +85,13 @@ abbrev pub misses_of : Instance → List Game → List Miss
 misses_of league games =
     misses_from 0 league.constraints (map (λ c. vector_of league.n (counts_of games) c.class) league.constraints)
 
--- whether one is told before another: hard ones first, then what costs more, then what stands earlier in the file
+-- whether one costs more than another, or as much and stands earlier in the file
+abbrev pub is_graver : Miss → Miss → Bool
+is_graver a b = if a.cost == b.cost then nat_lt a.place b.place else nat_lt b.cost a.cost
+
+-- whether one is told before another: hard ones before soft ones, and then the graver first
 abbrev pub is_before : Miss → Miss → Bool
-is_before a b =
-    if a.hard == b.hard
-    then (if a.cost == b.cost then nat_lt a.place b.place else nat_lt b.cost a.cost)
-    else a.hard
+is_before a b = if a.hard then not b.hard || is_graver a b else not b.hard && is_graver a b
 
 -- with one more, put before the first that it is told before
 abbrev pub with_miss : List Miss → Miss → List Miss

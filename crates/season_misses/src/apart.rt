@@ -3,7 +3,7 @@ ghost use Rattle.std.specs.Prelude.{◌≡◌, map, decimal, IfOk, string_bytes}
 ghost use Rattle.season_misses.specs.Lines as lines;
 
 use crate::amounts::count_text;
-use crate::games::games_text;
+use crate::game_words::games_text;
 use demand_words::{Label, listed, many};
 use league::Game;
 use reasons::Cause;
@@ -71,6 +71,24 @@ fn apart_line(
     )
 }
 
+/// The line on two teams too far apart after a slot.
+fn lead_line(
+    alloc: Global,
+    intp: u32,
+    slot: u16,
+    one: AtHome<'_>,
+    two: AtHome<'_>,
+) -> Result<String, AllocError>
+    ensures { IfOk result (λ text. string_bytes text ≡ lines.lead_line intp slot one.entry.who.now two.entry.who.now
+        one.entry.games.now two.entry.games.now) }
+{
+    if two.games.len() < one.games.len() {
+        apart_line(alloc, intp, slot, one, two)
+    } else {
+        apart_line(alloc, intp, slot, two, one)
+    }
+}
+
 /// The line of an FA2.
 pub(crate) fn lead_text(
     alloc: Global,
@@ -88,14 +106,13 @@ pub(crate) fn lead_text(
             second,
         } => {
             let games = first.games();
+            let others = second.games();
             let one = AtHome { who, games };
-            let games = second.games();
-            let two = AtHome { who: other, games };
-            if two.games.len() < one.games.len() {
-                apart_line(alloc, intp, slot.0, one, two)
-            } else {
-                apart_line(alloc, intp, slot.0, two, one)
-            }
+            let two = AtHome {
+                who: other,
+                games: others,
+            };
+            lead_line(alloc, intp, slot.0, one, two)
         }
         _ => Ok(String::new(alloc)),
     }

@@ -7,13 +7,13 @@
 
 mod amounts;
 mod apart;
-mod breaks;
+mod break_lines;
 mod cut;
-mod games;
+mod game_words;
 mod gravest;
 mod lines;
 mod miss;
-mod rows;
+mod row;
 mod structure;
 mod told;
 

@@ -7,9 +7,9 @@ ghost use Rattle.season_misses.specs.SeenRow.{row_of};
 
 use crate::amounts::{beyond_text, count_text, stretch_text, there_text, windows_text};
 use crate::apart::{gap_text, lead_text};
-use crate::breaks::{all_breaks_line, breaks_line, breaks_told};
-use crate::games::{games_after, name_at};
-use crate::rows::Row;
+use crate::break_lines::{all_breaks_line, breaks_line, breaks_told};
+use crate::game_words::{games_after, name_at};
+use crate::row::Row;
 use demand_words::Label;
 use keys::Pairs;
 use league::{Bounds, Class, Game, Span, TeamId, TeamSet};

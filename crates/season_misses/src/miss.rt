@@ -55,7 +55,8 @@ pub(crate) fn misses_of(
 {
     let mut found = Vec::new(alloc);
     for (place, constraint) in constraints.iter().enumerate() {
-        push_miss(&mut found, place, constraint, vectors.vector(place))?;
+        let vector = vectors.vector(place);
+        push_miss(&mut found, place, constraint, vector)?;
     }
     Ok(found)
 }

@@ -4,7 +4,7 @@ ghost use Rattle.std.specs.List.{filter, flat_map, range_with_len};
 ghost use Rattle.season_misses.specs.Lacks as lacks;
 
 use crate::cut::push_cut;
-use crate::games::{games_text, name_at};
+use crate::game_words::{games_text, name_at};
 use demand_words::Label;
 use league::{Game, League, Wrongs, slot_count};
 use std::alloc::{AllocError, Global};
@@ -177,7 +177,11 @@ fn push_teams(
 fn numbers_below(alloc: Global, count: u16) -> Result<Vec<u16>, AllocError>
     ensures { IfOk result (λ numbers. numbers.items ≡ range_with_len 0 count) }
 {
-    (0..count).collect(alloc)
+    let mut numbers = Vec::new(alloc);
+    for number in 0..count {
+        numbers.push(number)?;
+    }
+    Ok(numbers)
 }
 
 /// All lines, of a league that is phased or not.

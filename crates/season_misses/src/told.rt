@@ -8,12 +8,12 @@ ghost use Rattle.season_misses.specs.Misses as misses;
 ghost use Rattle.season_misses.specs.SeenRow.{row_of};
 ghost use Rattle.season_misses.specs.SeenTold.{IsTold};
 
-use crate::breaks::{all_breaks_line, breaks_by_team, breaks_told};
+use crate::break_lines::{all_breaks_line, breaks_by_team, breaks_told};
 use crate::cut::{front_of, push_cut, push_line, push_more};
 use crate::gravest::gravest_first;
 use crate::lines::line_of;
 use crate::miss::{Miss, misses_of};
-use crate::rows::{Row, rows_of};
+use crate::row::{Row, rows_of};
 use demand_words::{Label, constraint_words, many};
 use deviation::Vectors;
 use league::{Class, Constraint, Game, League, TeamSet};
@@ -149,6 +149,25 @@ pub struct Told<'a> {
     pub cells: &'a Cells,
 }
 
+/// What a constraint that is missed demands, by how much it is missed, and what that costs.
+fn head_text(
+    alloc: Global,
+    names: &[Label],
+    constraint: &Constraint,
+    miss: Miss,
+) -> Result<String, AllocError>
+    requires few { length names.now ≤ 40 }
+    requires fits { IsTrue (class_fits (length names.now) constraint.now.class) }
+    requires place { miss.place ≤ 20000 }
+    ensures { IfOk result (λ text. string_bytes text
+        ≡ misses.head_text (length names.now) names.now constraint.now miss) }
+{
+    let words = constraint_words(alloc, names, miss.place + 1, constraint)?;
+    let deviation = miss.deviation;
+    let cost = miss.cost;
+    format!(in alloc; "{words}; missed by {deviation}, costs {cost}\n")
+}
+
 /// Adds a constraint that is missed, with its lines.
 fn push_miss(
     text: &mut String,
@@ -164,19 +183,13 @@ fn push_miss(
         constraint.now miss) }
 {
     let alloc = *text.allocator();
-    let words = constraint_words(alloc, season.names, miss.place + 1, constraint)?;
-    let deviation = miss.deviation;
-    let cost = miss.cost;
-    write!(text, "{words}; missed by {deviation}, costs {cost}\n")?;
+    let n = season.league.n();
+    let head = head_text(alloc, season.names, constraint, miss)?;
     let found = reasons(alloc, &constraint.class, season.cells, season.games)?;
-    push_reasons(
-        text,
-        season.league.n(),
-        season.names,
-        season.most,
-        &constraint.class,
-        &found,
-    )
+    let line = head.as_str();
+    text.push_str(line)?;
+    let list = found.as_slice();
+    push_reasons(text, n, season.names, season.most, &constraint.class, list)
 }
 
 /// Adds the constraint at the place of a miss, with its lines.
@@ -185,10 +198,12 @@ fn push_told(text: &mut String, season: &Told<'_>, miss: Miss) -> Result<(), All
     ensures { OnOk result (string_bytes text.new ≡ string_bytes text.old
         ++ misses.told season.now.league.now season.now.names.now season.now.most season.now.games.now miss) }
 {
-    match season.league.constraints().get(miss.place) {
-        Some(constraint) => push_miss(text, season, constraint, miss),
-        None => Ok(()),
+    let _teams = season.league.n();
+    let constraints = season.league.constraints();
+    if miss.place >= constraints.len() {
+        return Ok(());
     }
+    push_miss(text, season, &constraints[miss.place], miss)
 }
 
 /// Adds these constraints that are missed, with their lines.
@@ -228,6 +243,7 @@ pub fn misses(alloc: Global, season: &Told<'_>, vectors: &Vectors) -> Result<Str
     ensures { IfOk result (λ text. string_bytes text ≡ misses.misses_text season.now.league.now season.now.names.now
         season.now.most season.now.games.now) }
 {
+    let _teams = season.league.n();
     let constraints = season.league.constraints();
     let found = misses_of(alloc, constraints, vectors)?;
     let order = gravest_first(alloc, &found)?;

@@ -1,2 +1,3 @@
--- Lemmas on the stages:
+-- Lemmas on the stages and on the text:
 mod StageLemmas
+mod TextLemmas

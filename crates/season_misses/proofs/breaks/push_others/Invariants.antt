@@ -1,8 +1,0 @@
-use Rattle.std.proofs.Common.{◌≡◌, ◌++◌, drop, string_bytes}
-use Rattle.std.specs.List.{flat_map}
-use Rattle.season_misses.specs.Lines.{next_break}
-use Rattle.season_misses.proofs.breaks.push_others.Given as goal
-
--- the text so far, and then what is left, is the whole
-abbrev pub invariant-loop-found : goal.invariant-loop-found
-invariant-loop-found l = string_bytes l.text ++ flat_map (next_break l.names) (drop l.found-index l.others) ≡ string_bytes l.fn.text ++ flat_map (next_break l.names) l.others
