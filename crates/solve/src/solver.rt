@@ -42,10 +42,10 @@ use watching::Watch;
 /// teams, as often as 10,000 go into the moves of the descent; behind its search, where that is limited, and else
 /// before it, and then a schedule that the walk finds takes the search's place. With a limit of conflicts the search of
 /// a try learns at most so many clauses, and then its log is the answer, with what is known of the patterns; without
-/// one it goes on to the end. The watch may end each walk, and the tries behind the first. From a schedule that is accepted a descent goes on by moves to better ones, at most so
-/// many moves a try. The schedule of the least objective is the answer, of equal ones the earliest; a refutation is the
-/// answer at once. What a search finds first is not promised, and an objective is the schedule's own, not the least of
-/// all.
+/// one it goes on to the end. The watch may end each walk, and the tries behind the first. From a schedule that is
+/// accepted a descent goes on by moves to better ones, at most so many moves a try. The schedule of the least objective
+/// is the answer, of equal ones the earliest; a refutation is the answer at once. What a search finds first is not
+/// promised, and an objective is the schedule's own, not the least of all.
 ///
 /// # Errors
 /// `TooLarge` exactly where the league's rows have more than 40,000,000 terms, with their number, before anything
@@ -145,7 +145,10 @@ fn best_from<W: Listener>(
 {
     let mut best = first;
     for k in 1..budgets.tries {
-        if is_refuted(&best) || watch.is_over(k) {
+        if is_refuted(&best) {
+            return Ok(best);
+        }
+        if watch.is_over(k) {
             return Ok(best);
         }
         let later = later_try(alloc, league, encoding, budgets, k, watch)?;

@@ -47,7 +47,16 @@ returns-then-is_refuted-clause-best g c = record {
   found = c.loop-k.invariant.found;
   each = c.loop-k.invariant.each;
   few = λ more. omega (arith, c.loop-k.invariant.tried, c.loop-k.invariant.within (omega (arith, more, c.loop-k.invariant.tried)));
-  all = λ goes_on. absurd (goes_on (c.is_refuted.ensures.0 c.if-is_refuted.true));
+  all = λ goes_on unstopped. absurd (goes_on (c.is_refuted.ensures.0 c.if-is_refuted.true));
+  best = c.loop-k.invariant.best;
+}
+
+pub returns-then-is_over-clause-best : goal.returns-then-is_over-clause-best
+returns-then-is_over-clause-best g c = record {
+  found = c.loop-k.invariant.found;
+  each = c.loop-k.invariant.each;
+  few = λ more. omega (arith, c.loop-k.invariant.tried, c.loop-k.invariant.within (omega (arith, more, c.loop-k.invariant.tried)));
+  all = λ goes_on unstopped. absurd (unstopped (c.if-is_over.ensures.cause refl));
   best = c.loop-k.invariant.best;
 }
 
