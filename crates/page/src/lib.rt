@@ -12,6 +12,7 @@ use answers::{Status, code};
 use page_io::{Files, PageShelf, PageSink, words_of};
 use robin_run::run;
 use std::alloc::{AllocError, Global};
+use watching::Unwatched;
 
 /// How many bytes of the room the texts of a run take: the answer at the front, and behind it what a person is told.
 #[repr(C)]
@@ -72,7 +73,9 @@ fn run_words(
     let mut shelf = PageShelf::new(files);
     let mut out = PageSink::new(alloc);
     let mut told = PageSink::new(alloc);
-    let ended = run(alloc, words, &mut shelf, &mut out, &mut told);
+    let ended = run(
+        alloc, words, &mut shelf, &mut out, &mut told, &Unwatched,
+    );
     show(
         ended,
         out.faults(),
