@@ -1,6 +1,6 @@
 -- Lists that are gone through from the front.
-use Rattle.std.proofs.Common.{◌≡◌, ◌≢◌, ℕ, suc, zero, ◌+◌, ◌-◌, ◌<◌, ◌≤◌, Bool, true, false, not, ◌&&◌, cond, List, [], ◌∷◌, ◌++◌, length, drop, get_or, refl, arith, ap, sym, ◌∙◌, add-one, append_assoc, append-nil, zero-add}
-use Rattle.std.proofs.Math.Seq.{drop-cons}
+use Rattle.std.proofs.Common.{◌≡◌, ◌≢◌, ℕ, suc, zero, ◌+◌, ◌-◌, ◌<◌, ◌≤◌, Bool, true, false, not, ◌&&◌, cond, List, [], ◌∷◌, ◌++◌, length, drop, get_or, refl, arith, ap, sym, ◌∙◌, add-one, append_assoc, append-nil, zero-add, take, length-drop}
+use Rattle.std.proofs.Math.Seq.{drop-cons, take-length}
 use Rattle.std.proofs.lemmas.List.{at_drop_all}
 use Rattle.std.specs.List.{position_or_len, range_with_len}
 use Rattle.league.proofs.RangeLemmas.{range_with_len-more}
@@ -18,6 +18,10 @@ cut_at {X} xs k x within is =
 pub numbers_more : (k : ℕ) (before after : List ℕ) → before ≡ range_with_len 0 k → after ≡ before ++ k ∷ [] → after ≡ range_with_len 0 (k + 1)
 numbers_more k before after so_far more =
     more ∙ ap (λ (l : List ℕ). l ++ k ∷ []) so_far ∙ ap (λ (j : ℕ). range_with_len 0 k ++ j ∷ []) (sym (zero-add k)) ∙ sym (range_with_len-more 0 k)
+
+-- the rest of a list is whole
+pub rest_whole : {X : Type 0} (xs : List X) (k : ℕ) → take (length xs - k) (drop k xs) ≡ drop k xs
+rest_whole {X} xs k = ap (λ (n : ℕ). take n (drop k xs)) (sym (length-drop k xs)) ∙ take-length (drop k xs)
 
 -- ---- the first item that passes a test
 

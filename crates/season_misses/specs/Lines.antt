@@ -129,15 +129,23 @@ abbrev pub played_too : List ℕ → List Game → List ℕ
 played_too who [] = []
 played_too who (g ∷ games) = codes "; " ++ (who ++ (codes " in " ++ slots_of_games (g ∷ games)))
 
--- two teams too far apart after a slot, the one with more home games first: `after slot 1 Dam has 2 home games and Club
--- none, 2 apart, 1 too many: Dam in 0 and 1`
+-- how many home games two teams have after a slot: `after slot 1 Dam has 2 home games and Club none`
+abbrev pub apart_front : ℕ → List ℕ → List Game → List ℕ → List Game → List ℕ
+apart_front slot who games other fewer =
+    codes "after slot " ++ (decimal slot ++ (codes " " ++ (who ++ (codes " has " ++ (many (length games) (codes "home game")
+    ++ (codes " and " ++ (other ++ (codes " " ++ count_text (length fewer)))))))))
+
+-- how far they are apart, and in which slots the games are: `2 apart, 1 too many: Dam in 0 and 1`
+abbrev pub apart_back : ℕ → List ℕ → List Game → List ℕ → List Game → List ℕ
+apart_back intp who games other fewer =
+    decimal (excess (length games) (length fewer))
+    ++ (codes " apart, " ++ (decimal (excess (excess (length games) (length fewer)) intp)
+    ++ (codes " too many: " ++ (who ++ (codes " in " ++ (slots_of_games games ++ played_too other fewer))))))
+
+-- two teams too far apart after a slot, the one with more home games first
 abbrev pub apart_line : ℕ → ℕ → List ℕ → List Game → List ℕ → List Game → List ℕ
 apart_line intp slot who games other fewer =
-    codes "after slot " ++ (decimal slot ++ (codes " " ++ (who ++ (codes " has " ++ (many (length games) (codes "home game")
-    ++ (codes " and " ++ (other ++ (codes " " ++ (count_text (length fewer)
-    ++ (codes ", " ++ (decimal (excess (length games) (length fewer))
-    ++ (codes " apart, " ++ (decimal (excess (excess (length games) (length fewer)) intp)
-    ++ (codes " too many: " ++ (who ++ (codes " in " ++ (slots_of_games games ++ played_too other fewer)))))))))))))))))
+    apart_front slot who games other fewer ++ (codes ", " ++ apart_back intp who games other fewer)
 
 abbrev pub lead_line : ℕ → ℕ → List ℕ → List ℕ → List Game → List Game → List ℕ
 lead_line intp slot who other first second =
@@ -151,14 +159,23 @@ lead_text intp who other _ = []
 
 -- ---- SE1
 
--- two teams that meet again too soon: `Ajax and Club meet in slots 2 and 4, 1 slot between, 1 too few: ..`
+-- two teams that meet again: `Ajax and Club meet in slots 2 and 4`
+abbrev pub gap_front : List ℕ → List ℕ → Game → Game → List ℕ
+gap_front who other earlier later =
+    who ++ (codes " and " ++ (other ++ (codes " meet in slots " ++ (decimal earlier.slot.0
+    ++ (codes " and " ++ decimal later.slot.0)))))
+
+-- how many slots are between, and by which games: `1 slot between, 1 too few: ..`
+abbrev pub gap_back : List (List ℕ) → ℕ → Game → Game → List ℕ
+gap_back names min earlier later =
+    let between = slots_between earlier.slot.0 later.slot.0 in
+    many between (codes "slot") ++ (codes " between, " ++ (decimal (excess min between)
+    ++ (codes " too few: " ++ games_text names (earlier ∷ later ∷ []))))
+
+-- two teams that meet again too soon
 abbrev pub gap_line : List (List ℕ) → ℕ → List ℕ → List ℕ → Game → Game → List ℕ
 gap_line names min who other earlier later =
-    let between = slots_between earlier.slot.0 later.slot.0 in
-    who ++ (codes " and " ++ (other ++ (codes " meet in slots " ++ (decimal earlier.slot.0
-    ++ (codes " and " ++ (decimal later.slot.0 ++ (codes ", " ++ (many between (codes "slot")
-    ++ (codes " between, " ++ (decimal (excess min between)
-    ++ (codes " too few: " ++ games_text names (earlier ∷ later ∷ []))))))))))))
+    gap_front who other earlier later ++ (codes ", " ++ gap_back names min earlier later)
 
 abbrev pub gap_text : List (List ℕ) → ℕ → List ℕ → List ℕ → Cause → List ℕ
 gap_text names min who other (Gap earlier later) = gap_line names min who other earlier later

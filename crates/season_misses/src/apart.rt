@@ -1,5 +1,6 @@
 //! The lines of FA2 and SE1.
 ghost use Rattle.std.specs.Prelude.{◌≡◌, map, decimal, IfOk, string_bytes};
+ghost use Rattle.league.specs.Separation as separation;
 ghost use Rattle.season_misses.specs.Lines as lines;
 
 use crate::amounts::count_text;
@@ -47,6 +48,41 @@ struct AtHome<'a> {
     games: &'a [Game],
 }
 
+/// How many home games two teams have after a slot.
+fn apart_front(
+    alloc: Global,
+    slot: u16,
+    more: AtHome<'_>,
+    fewer: AtHome<'_>,
+) -> Result<String, AllocError>
+    ensures { IfOk result (λ text. string_bytes text ≡ lines.apart_front slot more.entry.who.now
+        more.entry.games.now fewer.entry.who.now fewer.entry.games.now) }
+{
+    let who = more.who;
+    let other = fewer.who;
+    let games = many(alloc, more.games.len() as u64, "home game")?;
+    let count = count_text(alloc, fewer.games.len() as u64)?;
+    format!(in alloc; "after slot {slot} {who} has {games} and {other} {count}")
+}
+
+/// How far two teams are apart, and in which slots their home games are.
+fn apart_back(
+    alloc: Global,
+    intp: u32,
+    more: AtHome<'_>,
+    fewer: AtHome<'_>,
+) -> Result<String, AllocError>
+    ensures { IfOk result (λ text. string_bytes text ≡ lines.apart_back intp more.entry.who.now
+        more.entry.games.now fewer.entry.who.now fewer.entry.games.now) }
+{
+    let who = more.who;
+    let apart = (more.games.len() as u64).saturating_sub(fewer.games.len() as u64);
+    let much = apart.saturating_sub(u64::from(intp));
+    let slots = slots_of_games(alloc, more.games)?;
+    let too = played_too(alloc, fewer.who, fewer.games)?;
+    format!(in alloc; "{apart} apart, {much} too many: {who} in {slots}{too}")
+}
+
 /// Two teams too far apart after a slot, the one with more home games first.
 fn apart_line(
     alloc: Global,
@@ -58,17 +94,9 @@ fn apart_line(
     ensures { IfOk result (λ text. string_bytes text ≡ lines.apart_line intp slot more.entry.who.now
         more.entry.games.now fewer.entry.who.now fewer.entry.games.now) }
 {
-    let who = more.who;
-    let other = fewer.who;
-    let apart = (more.games.len() as u64).saturating_sub(fewer.games.len() as u64);
-    let much = apart.saturating_sub(u64::from(intp));
-    let games = many(alloc, more.games.len() as u64, "home game")?;
-    let count = count_text(alloc, fewer.games.len() as u64)?;
-    let slots = slots_of_games(alloc, more.games)?;
-    let too = played_too(alloc, other, fewer.games)?;
-    format!(in alloc;
-        "after slot {slot} {who} has {games} and {other} {count}, {apart} apart, {much} too many: {who} in {slots}{too}"
-    )
+    let front = apart_front(alloc, slot, more, fewer)?;
+    let back = apart_back(alloc, intp, more, fewer)?;
+    format!(in alloc; "{front}, {back}")
 }
 
 /// The line on two teams too far apart after a slot.
@@ -118,6 +146,46 @@ pub(crate) fn lead_text(
     }
 }
 
+/// How many slots there are between two games.
+fn slots_between(earlier: Game, later: Game) -> u32
+    ensures { result ≡ separation.slots_between earlier.slot.0 later.slot.0 }
+{
+    let apart = later.slot.0.saturating_sub(earlier.slot.0);
+    u32::from(apart.saturating_sub(1))
+}
+
+/// Two teams that meet again.
+fn gap_front(
+    alloc: Global,
+    who: &str,
+    other: &str,
+    earlier: Game,
+    later: Game,
+) -> Result<String, AllocError>
+    ensures { IfOk result (λ text. string_bytes text ≡ lines.gap_front who.now other.now earlier later) }
+{
+    let first = earlier.slot.0;
+    let second = later.slot.0;
+    format!(in alloc; "{who} and {other} meet in slots {first} and {second}")
+}
+
+/// How many slots are between two games, which are too few.
+fn gap_back(
+    alloc: Global,
+    names: &[Label],
+    min: u32,
+    earlier: Game,
+    later: Game,
+) -> Result<String, AllocError>
+    ensures { IfOk result (λ text. string_bytes text ≡ lines.gap_back names.now min earlier later) }
+{
+    let between = slots_between(earlier, later);
+    let few = min.saturating_sub(between);
+    let slots = many(alloc, u64::from(between), "slot")?;
+    let list = games_text(alloc, names, &[earlier, later])?;
+    format!(in alloc; "{slots} between, {few} too few: {list}")
+}
+
 /// The line of an SE1: two teams that meet again too soon.
 pub(crate) fn gap_text(
     alloc: Global,
@@ -131,15 +199,9 @@ pub(crate) fn gap_text(
 {
     match cause {
         Cause::Gap { earlier, later } => {
-            let first = earlier.slot.0;
-            let second = later.slot.0;
-            let between = second.saturating_sub(first).saturating_sub(1);
-            let few = min.saturating_sub(u32::from(between));
-            let slots = many(alloc, u64::from(between), "slot")?;
-            let list = games_text(alloc, names, &[*earlier, *later])?;
-            format!(in alloc;
-                "{who} and {other} meet in slots {first} and {second}, {slots} between, {few} too few: {list}"
-            )
+            let front = gap_front(alloc, who, other, *earlier, *later)?;
+            let back = gap_back(alloc, names, min, *earlier, *later)?;
+            format!(in alloc; "{front}, {back}")
         }
         _ => Ok(String::new(alloc)),
     }

@@ -1,5 +1,5 @@
 -- How the stages of `show` make an answer.
-use Rattle.std.proofs.Common.{◌≡◌, ℕ, ◌+◌, List, length, Ok, codes, inl, inr}
+use Rattle.std.proofs.Common.{◌≡◌, ℕ, ◌+◌, List, length, Result, Ok, codes, inl, inr, subst, sym}
 use Rattle.robin_io.specs.Outside.{Store}
 use Rattle.league.specs.Instance.{Instance}
 use Rattle.robinx_tags.specs.Pieces.{pieces}
@@ -8,7 +8,9 @@ use Rattle.robinx_form.specs.SolutionFile.{solution_of}
 use Rattle.robinx_names.specs.Names.{Names}
 use Rattle.names_read.specs.NamesFile.{names_of}
 use Rattle.robinx_read.specs.declared.instance.TheConstants.{INSTANCE_LIMIT, SOLUTION_LIMIT}
+use Rattle.robinx_form.specs.Walk.{Fault}
 use Rattle.answers.specs.Reply.{Answer}
+use Rattle.answers.specs.SeenReply.{IsMalformed}
 use Rattle.answers.specs.Stages.{IsFile, IsUnread, Outcome, says, takes}
 use Rattle.answers.proofs.StageLemmas.{says-value}
 use Rattle.show_answer.specs.Show.{IsShown, form_text, shown}
@@ -63,3 +65,12 @@ pub shown-last : (store : Store) (instance solution first second : List ℕ) (fo
     → (answer : Answer) → shown_from form league names second answer → shown store instance solution form answer
 shown-last store instance solution first second form league names is_first says_league says_names is_second answer last =
     after-names store instance solution first form league names is_first says_league says_names answer (inl (second, is_second, last))
+
+-- the names have a fault
+pub shown-nameless : (store : Store) (instance solution first : List ℕ) (form : Form) (league : Instance)
+    → IsFile (store.contents instance) INSTANCE_LIMIT first → instance_of (pieces first) ≡ Ok league
+    → (answer : Answer) → IsMalformed (codes "instance") (names_of league.n (pieces first)) answer
+    → shown store instance solution form answer
+shown-nameless store instance solution first form league is_first says_league answer faulty =
+    after-league store instance solution first form league is_first says_league answer
+    (subst (λ (said : Result Names Fault). says (codes "instance") said (read_from store solution form first league) answer) (sym faulty.1) faulty.2)

@@ -72,8 +72,10 @@ pub fn show<S: Shelf>(
     ensures contents { (n : List ℕ) → S.contents shelf.new n ≡ S.contents shelf.old n }
 {
     let first = file(alloc, shelf, "instance", instance, INSTANCE_LIMIT)?;
-    let league = league_in(alloc, instance, &first)?;
-    let names = names_in(alloc, instance, &first, &league)?;
+    let bytes = first.as_slice();
+    let league = league_in(alloc, instance, bytes)?;
+    let names = names_in(alloc, instance, bytes, &league)?;
     let second = file(alloc, shelf, "solution", solution, SOLUTION_LIMIT)?;
-    show_file(alloc, solution, &second, &league, &names, form)
+    let season = second.as_slice();
+    show_file(alloc, solution, season, &league, &names, form)
 }

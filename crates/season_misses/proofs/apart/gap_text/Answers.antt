@@ -1,21 +1,14 @@
-use Rattle.std.proofs.Common.{◌≡◌, ◌-◌, ◌++◌, ℕ, List, [], ◌∷◌, IfOk, codes, decimal, string_bytes, subst, ap, ◌∙◌, arith}
-use Rattle.demand_words.specs.Phrases.{many}
-use Rattle.season_misses.specs.Games.{games_text}
-use Rattle.season_misses.proofs.PartLemmas.{three_parts}
+use Rattle.std.proofs.Common.{◌≡◌, ◌++◌, List, ℕ, IfOk, codes, string_bytes, subst}
+use Rattle.season_misses.specs.Lines.{gap_back, gap_front}
+use Rattle.season_misses.proofs.PartLemmas.{two_parts}
 use Rattle.season_misses.proofs.apart.gap_text.Goals as goal
 
-pub returns-in_ok-list-in-Gap : goal.returns-in_ok-list-in-Gap
-returns-in_ok-list-in-Gap c =
-    let first = c.in-Gap.earlier.now.slot.0 in
-    let second = c.in-Gap.later.now.slot.0 in
-    let between : ℕ = c.saturating_sub-between.result in
-    let is : between ≡ second - first - 1 = omega (arith, c.saturating_sub-between.ensures, c.saturating_sub.ensures) in
-    let few : c.saturating_sub-few.result ≡ c.args.min - (second - first - 1) = omega (arith, is, c.saturating_sub-few.ensures, c.from.ensures) in
-    subst (λ (t : List ℕ). IfOk c.format.result (λ text. string_bytes text ≡ t))
-    (three_parts
-    (λ (slots few list : List ℕ). c.args.who.now ++ (codes " and " ++ (c.args.other.now ++ (codes " meet in slots " ++ (decimal first
-    ++ (codes " and " ++ (decimal second ++ (codes ", " ++ (slots ++ (codes " between, " ++ (few ++ (codes " too few: " ++ list))))))))))))
-    (string_bytes c.in_ok-slots.slots) (decimal c.saturating_sub-few.result) (string_bytes c.in_ok-list-in-Gap.list)
-    (many (second - first - 1) (codes "slot")) (decimal (c.args.min - (second - first - 1))) (games_text c.args.names.now (c.in-Gap.earlier.now ∷ c.in-Gap.later.now ∷ []))
-    ? (ap decimal few) ?)
-    c.format.ensures.ok
+pub returns-in_ok-back-in-Gap : goal.returns-in_ok-back-in-Gap
+returns-in_ok-back-in-Gap c =
+    rw c.in-Gap.is
+    (subst (λ (t : List ℕ). IfOk c.format.result (λ text. string_bytes text ≡ t))
+    (two_parts (λ (front back : List ℕ). front ++ (codes ", " ++ back))
+    (string_bytes c.in_ok-front-in-Gap.front) (string_bytes c.in_ok-back-in-Gap.back)
+    (gap_front c.args.who.now c.args.other.now c.in-Gap.earlier c.in-Gap.later) (gap_back c.args.names.now c.args.min c.in-Gap.earlier c.in-Gap.later)
+    c.in_ok-front-in-Gap.ensures c.in_ok-back-in-Gap.ensures)
+    c.format.ensures.ok)

@@ -18,7 +18,7 @@ returns c =
     (string_bytes c.in_ok-count.count) (string_bytes c.in_ok-stretch.stretch) (string_bytes c.in_ok-beyond.beyond) (string_bytes c.in_ok-runs.runs) (string_bytes c.in_ok-after.after)
     (count_text (length games)) (stretch_text windows.n (slot_told cause) (windows.row.more + windows.intp)) (beyond_text c.args.bounds.min c.args.bounds.max (length games)) (windows_text windows.row.more windows.intp) (games_after c.args.names.now games)
     (c.in_ok-count.ensures ∙ ap (λ (l : List Game). count_text (length l)) is_games)
-    (c.in_ok-stretch.ensures ∙ ap (λ (k : ℕ). stretch_text windows.n k (windows.row.more + windows.intp)) c.slot_told.ensures)
+    (c.in_ok-stretch.ensures ∙ ap (λ (k : ℕ). stretch_text windows.n c.slot_told.result (windows.row.more + k)) c.from.ensures ∙ ap (λ (k : ℕ). stretch_text windows.n k (windows.row.more + windows.intp)) c.slot_told.ensures)
     (c.in_ok-beyond.ensures ∙ ap (λ (l : List Game). beyond_text c.args.bounds.min c.args.bounds.max (length l)) is_games)
     c.in_ok-runs.ensures
     (c.in_ok-after.ensures ∙ ap (games_after c.args.names.now) is_games))

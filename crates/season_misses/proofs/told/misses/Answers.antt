@@ -7,4 +7,4 @@ use Rattle.season_misses.proofs.told.misses.Goals as goal
 pub misses_of-requires-clause-short : goal.misses_of-requires-clause-short
 misses_of-requires-clause-short c =
     subst (λ (vectors : List (List ℕ)). All (λ vector. length vector ≤ 1600) vectors) (sym c.requires.vectors)
-    (vectors-short c.args.season.now.league.now (counts_of c.args.season.now.games.now) c.n-_teams.ensures.instance)
+    (vectors-short c.args.season.now.league.now (counts_of c.args.season.now.games.now) c.n-teams.ensures.instance)

@@ -1,6 +1,6 @@
-use Rattle.std.proofs.Common.{◌≡◌, List, ℕ, OnOk, codes, length, map, take, string_bytes, subst, ap, sym, ◌∙◌, length-map}
+use Rattle.std.proofs.Common.{◌≡◌, List, ℕ, OnOk, codes, length, map, take, string_bytes, subst, ap, sym, ◌∙◌}
 use Rattle.std.specs.List.{flat_map}
-use Rattle.std.proofs.lemmas.List.{take-map}
+use Rattle.std.proofs.lemmas.List.{length-map, take-map}
 use Rattle.season_misses.specs.Misses.{more_text, row_line}
 use Rattle.season_misses.specs.SeenRow.{row_of}
 use Rattle.season_misses.specs.declared.row.Row.{Row}
