@@ -69,14 +69,14 @@ form_text (Text most width) league names games feasible = shown_text league name
 form_text Csv league names games feasible = csv_text names games
 
 -- the answer to a season by the text of its games in order: yes exactly if the league accepts it
-pub record IsShown (league : Instance) (text : List Game → Bool → List ℕ) (games : List Game) (answer : Answer) : Type 0 where
+pub record IsShown (league : Instance) (text_of : List Game → Bool → List ℕ) (games : List Game) (answer : Answer) : Type 0 where
   pub feasible : Bool
   pub accepted : IsTrue feasible ↔ IsAccepted league (counts_of games)
   pub ordered : List Game
   pub same : IsPermutation games ordered
   pub in_order : IsInOrder ordered
   pub status : answer.status ≡ (if feasible then Yes else No)
-  pub text : answer.text ≡ text ordered feasible
+  pub text : answer.text ≡ text_of ordered feasible
 
 -- `show`, over what a store shows; the names are known where the league is
 abbrev pub shown : Store → List ℕ → List ℕ → Form → Outcome

@@ -7,7 +7,7 @@ use Rattle.show_answer.proofs.texts.labels_of.Goals as goal
 pub loop-team-preserved : goal.loop-team-preserved
 loop-team-preserved c =
     c.in_ok-push.ensures.items
-    ∙ part_more (label c.args.names.now) c.loop-team.team c.loop-team.labels.items _ c.loop-team.invariant (c.new.ensures ∙ c.in_ok-from_str.ensures ∙ c.label-name.ensures)
+    ∙ part_more (label c.args.names.now) c.loop-team.team c.loop-team.labels.items _ c.loop-team.invariant (c.new.ensures ∙ c.in_ok-from_str.ensures.ok ∙ c.label-name.ensures)
 
 pub returns : goal.returns
 returns c =
