@@ -28,7 +28,7 @@ use Rattle.circle_method.specs.Circle.{double_games}
 use Rattle.patterns.specs.Pattern.{IsPattern}
 use Rattle.answers.specs.Reply.{Answer}
 use Rattle.answers.specs.declared.status.Status.TheVariants.{Yes, No, Refuted, Spent}
-use Rattle.report.specs.Report.{report_text}
+use Rattle.validate_answer.specs.Report.{report_text}
 use Rattle.validate_answer.specs.Validate.{IsJudgement}
 use Rattle.rows.specs.Literals.{Literal}
 use Rattle.rows.specs.Values.{assigned, valued}

@@ -28,7 +28,7 @@ use Rattle.refutation.specs.declared.version.Version.TheVariants.{One}
 use Rattle.clause_search.specs.News.{IsTidy}
 use Rattle.season_check.specs.Excluded.{NoneAccepted}
 use Rattle.season_check.proofs.SeasonLemmas.{accepted_logs_exclude}
-use Rattle.parts.specs.Parts.{is_hard_number, part_of, without}
+use Rattle.explain.specs.Parts.{is_hard_number, part_of, without}
 use Rattle.solve.specs.Solutions.{IsSpentOn, IsWritable, RefutesLeague}
 use Rattle.explain.specs.Cases.{is_decided}
 use Rattle.explain.specs.Conflicts.{AreDecided, HasConflict, HasSchedule, IsAmple, IsCase, IsConflict, IsDecided}

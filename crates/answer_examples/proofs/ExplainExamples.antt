@@ -42,7 +42,7 @@ use Rattle.refutation.specs.Steps.Step.{Clause}
 use Rattle.clause_search.specs.News.{IsTidy}
 use Rattle.season_check.specs.Excluded.{NoneAccepted}
 use Rattle.season_check.proofs.SeasonLemmas.{accepted_logs_exclude}
-use Rattle.parts.specs.Parts.{first_unknown, is_hard_number, part_of}
+use Rattle.explain.specs.Parts.{first_unknown, is_hard_number, part_of}
 use Rattle.solve.specs.Solutions.{IsSpentOn}
 use Rattle.explain.specs.Conflicts.{IsIrreducible}
 use Rattle.explain.specs.declared.cases.Case.TheVariants.{Without, Undecided}

@@ -40,7 +40,7 @@ use Rattle.solve_answer.specs.Solve.{IsSchedule, descent_text}
 use Rattle.instance_gen.specs.Draws.{next, seeded, word}
 use Rattle.instance_gen.specs.Made.{made_league}
 use Rattle.make_answer.specs.MadeInstance.{IsMade}
-use Rattle.trial_answer.specs.Trial.{IsTrial, summary}
+use Rattle.make_answer.specs.Trial.{IsTrial, summary}
 use Rattle.answer_examples.proofs.LeastExamples.{one-fit}
 use Rattle.answer_examples.proofs.LeastExamples.{one-in_order, one_first}
 use Rattle.answer_examples.proofs.CommandExamples.{budgets, false_true, home_last, no_true, none}

@@ -21,7 +21,7 @@ use Rattle.robinx_form.specs.Walk.{walk}
 use Rattle.answers.specs.Reply.{Answer}
 use Rattle.answers.specs.declared.status.Status.{Status}
 use Rattle.answers.specs.declared.status.Status.TheVariants.{Yes, No, Spent, Better}
-use Rattle.report.specs.Report.{report_text}
+use Rattle.validate_answer.specs.Report.{report_text}
 use Rattle.validate_answer.specs.Validate.{IsWellFormedPair}
 use Rattle.refutation.specs.Logs.{lines_from, log_of}
 use Rattle.refutation.specs.Steps.{Step}

@@ -2,3 +2,7 @@
 pub mod StageLemmas
 -- Worked examples, so that a wrong definition does not check:
 mod AnswerFacts
+-- What is printable:
+mod PrintableFacts
+-- Lemmas on printable text:
+pub mod PrintableLemmas

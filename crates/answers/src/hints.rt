@@ -1,6 +1,6 @@
 //! What a person is told of a file that is refused.
 
-use advice::Advice;
+use crate::Advice;
 use refutation::LogKind;
 use robinx_read::FormKind;
 use std::alloc::{AllocError, Global};

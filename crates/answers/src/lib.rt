@@ -4,7 +4,9 @@
 //! A contract sees an answer as its status and its bytes. `specs/Stages.antt` says what a stage before the answer is.
 #![tactic(auto)]
 
+mod advice;
 mod hints;
+mod items;
 mod refusal;
 mod reply;
 mod stages;
@@ -14,3 +16,4 @@ pub use refusal::{Refusal, log_refused, malformed, past_limit, rows_refused, unr
 pub use reply::{NoValue, Reply, words_refused};
 pub use stages::{file, league_in, schedule_in, write_answer};
 pub use status::{Status, code};
+pub use advice::Advice;

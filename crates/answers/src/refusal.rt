@@ -8,7 +8,7 @@ use crate::hints;
 use crate::reply::{
     Reply, log_reply, malformed_reply, past_limit_reply, rows_reply, unreadable_reply,
 };
-use advice::Advice;
+use crate::Advice;
 use refutation::LogKind;
 use robinx_read::FormKind;
 use std::alloc::{AllocError, Global};

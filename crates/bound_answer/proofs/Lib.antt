@@ -4,3 +4,5 @@ pub mod StageLemmas
 pub mod AnswerLemmas
 -- Worked examples, so that a wrong definition does not check:
 pub mod BoundAnswerFacts
+-- What an accepted certificate shows:
+pub mod CheckLemmas

@@ -4,7 +4,9 @@
 //! over bound rows.
 #![tactic(auto)]
 
+mod checked;
 mod replies;
 mod stages;
 
 pub use stages::{bound_file, few_terms};
+pub use checked::check_bound;

@@ -7,7 +7,7 @@ ghost use Rattle.bound_answer.specs.Bound as texts;
 ghost use Rattle.bound_answer.specs.Bound.{IsBoundVerdict, bound_verdict};
 
 use answers::{Reply, Status};
-use bound_check::check_bound;
+use crate::check_bound;
 use certificates::Certificate;
 use check_answer::verdict_reply;
 use league::League;

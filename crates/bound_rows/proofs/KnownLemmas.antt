@@ -23,7 +23,7 @@ use Rattle.bound_base.specs.BoundRows.{base_rows, base_vars, bound_rows, bound_v
 use Rattle.bound_base.specs.BoundRows.{league_groups, needs_breaks}
 use Rattle.bound_base.specs.Softening.{Group, costs, objective_row, one_before, order_rows, soften, softened_rows}
 use Rattle.bound_base.specs.Softening.{units_from}
-use Rattle.bound_groups.proofs.RowLemmas.{costs_ascend, var_of}
+use Rattle.bound_rows.proofs.RowLemmas.{costs_ascend, var_of}
 use Rattle.bound_rows.specs.Drafts.{units_in}
 use Rattle.bound_rows.proofs.DraftLemmas.{All-back, All-front}
 use Rattle.bound_rows.proofs.RoomLemmas.{groups_within, with_breaks}

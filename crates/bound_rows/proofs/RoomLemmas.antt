@@ -24,9 +24,9 @@ use Rattle.bound_base.specs.BoundRows.{base_vars, bound_size, first_unit, group_
 use Rattle.bound_base.specs.BoundRows.{league_groups, needs_breaks, paid_of}
 use Rattle.bound_base.specs.Parts.{ca3_parts, parts_of, se1_parts}
 use Rattle.bound_base.specs.Softening.{Group}
-use Rattle.bound_groups.specs.Bare.{bare, bare_groups, unit_total}
-use Rattle.bound_groups.specs.declared.units.Units.{Units}
-use Rattle.bound_parts.proofs.FitParts.{fits-parts}
+use Rattle.bound_rows.specs.Bare.{bare, bare_groups, unit_total}
+use Rattle.bound_rows.specs.declared.units.Units.{Units}
+use Rattle.bound_rows.proofs.FitParts.{fits-parts}
 use Rattle.bound_rows.specs.Drafts.{AreBefore, HasRoom, stripped, units_in}
 use Rattle.bound_rows.specs.declared.draft.Draft.{Draft}
 use Rattle.bound_rows.proofs.SizeLemmas.{bound_size-groups, rows_in-le, units_in-le}

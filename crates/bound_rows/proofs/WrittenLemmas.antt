@@ -8,8 +8,8 @@ use Rattle.rows.specs.declared.lit.Term.{Term}
 use Rattle.bound_base.specs.BoundRows.{base_rows, bound_rows, first_unit, league_groups}
 use Rattle.bound_base.specs.Softening.{Group, costs, costs_from, objective_row, one_before, order_rows, softened_rows}
 use Rattle.bound_base.specs.Softening.{total_cost}
-use Rattle.bound_groups.specs.Bare.{bare_groups}
-use Rattle.bound_groups.specs.declared.units.Units.{Units}
+use Rattle.bound_rows.specs.Bare.{bare_groups}
+use Rattle.bound_rows.specs.declared.units.Units.{Units}
 use Rattle.bound_rows.specs.Drafts.{stripped}
 
 costs-stripped : (first : ℕ) (groups : List Group) → costs first (map stripped groups) ≡ costs first groups

@@ -3,7 +3,7 @@ use Rattle.std.specs.Prelude.{◌≡◌, ℕ, ◌+◌, ◌^◌, ◌<◌, ◌≤�
 use Rattle.std.specs.List.{All, sum_by}
 use Rattle.rows.specs.Rows.{Row}
 use Rattle.bound_base.specs.Softening.{Group, softened_rows}
-use Rattle.bound_groups.specs.Bare.{bare_groups}
+use Rattle.bound_rows.specs.Bare.{bare_groups}
 use Rattle.bound_rows.specs.declared.draft.Draft.{Draft}
 
 -- a group without its rows

@@ -8,3 +8,5 @@ pub mod Bounded
 pub mod Sizes
 -- Groups that are written one after another:
 pub mod Drafts
+pub mod OneOf
+pub mod Bare

@@ -7,8 +7,8 @@ ghost use Rattle.bound_base.specs.Parts as parts;
 ghost use Rattle.bound_rows.specs.Drafts.{Extends, HasRoom};
 
 use bound_base::is_paid;
-use bound_groups::{Units, add_softened, unit_count};
-use bound_parts::parts_of;
+use crate::{Units, add_softened, unit_count};
+use crate::parts_of;
 use encoding_rows::{Season, write_class};
 use league::{Class, Constraint};
 use rows::RowStore;

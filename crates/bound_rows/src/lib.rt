@@ -4,10 +4,23 @@
 mod count;
 mod draft;
 mod groups;
+mod makers;
+mod objective;
+mod order;
+mod parts;
 mod separation;
+mod sets;
 mod sizes;
+mod softened;
 mod system;
+mod units;
 mod written;
 
 pub use count::bound_terms;
 pub use system::{BoundSystem, bound_system};
+pub use makers::se1_part;
+pub use parts::parts_of;
+pub use objective::push_objective;
+pub use order::push_orders;
+pub use softened::add_softened;
+pub use units::{Units, unit_count};

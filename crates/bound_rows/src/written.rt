@@ -3,13 +3,13 @@ ghost use Rattle.std.specs.Prelude.{◌≡◌, ◌+◌, ◌^◌, ◌<◌, ◌≤
 ghost use Rattle.std.specs.List.{All};
 ghost use Rattle.bound_base.specs.BoundRows as bounds;
 ghost use Rattle.bound_base.specs.Softening.{objective_row, order_rows, softened_rows};
-ghost use Rattle.bound_groups.specs.Bare.{bare_groups, unit_total};
+ghost use Rattle.bound_rows.specs.Bare.{bare_groups, unit_total};
 ghost use Rattle.bound_rows.specs.Drafts.{rows_in, stripped, units_in};
 ghost use Rattle.encoding.specs.Limit.{most_terms};
 
 use crate::draft::{Draft, add_paid};
 use bound_base::{base_vars, needs_breaks};
-use bound_groups::{push_objective, push_orders};
+use crate::{push_objective, push_orders};
 use encoding_rows::{Season, write_rows_with};
 use league::League;
 use rows::RowStore;

@@ -21,7 +21,7 @@ use Rattle.refutation_check.proofs.SoundLemmas.{accepted_logs_refute}
 use Rattle.refutation.specs.Steps.{NamesRows, Step, is_linear}
 use Rattle.clause_search.specs.Answers.{IsAnswer, IsSpentAt, Refutes}
 use Rattle.clause_search.specs.declared.found.Found.{Found}
-use Rattle.log_lines.proofs.LineLemmas.{step_named}
+use Rattle.clause_search.proofs.LineLemmas.{step_named}
 use Rattle.pattern_search.proofs.LogLemmas.{refuted-clauses}
 use Rattle.pattern_search.proofs.NewsLemmas.{news-clauses}
 use Rattle.descent.specs.Descended.{Descended}

@@ -14,7 +14,7 @@ use Rattle.refutation.specs.Steps.{Step, hints_of, is_linear}
 use Rattle.refutation.specs.Steps.Step.{Clause}
 use Rattle.refutation.specs.Texts.{version_of}
 use Rattle.clause_search.specs.Answers.{Refutes}
-use Rattle.log_lines.proofs.LineLemmas.{step_named, step_short}
+use Rattle.clause_search.proofs.LineLemmas.{step_named, step_short}
 use Rattle.pattern_search.proofs.NewsLemmas.{news-clauses}
 use Rattle.venue_counts.specs.CountLogs.{IsRefuting}
 use Rattle.break_counts.specs.BreakCounts.{are_few}

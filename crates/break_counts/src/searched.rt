@@ -3,9 +3,8 @@ ghost use Rattle.std.specs.Prelude.{◌≡◌, true, IfOk};
 ghost use Rattle.venue_counts.specs.CountLogs.{IsRefuting};
 ghost use Rattle.break_counts.specs.BreakCounts.{are_few};
 
-use clause_search::{Found, search};
+use clause_search::{Found, note_numbers, search};
 use encoding::Encoding;
-use log_lines::note_numbers;
 use refutation::Log;
 use std::alloc::{AllocError, Global};
 

@@ -39,3 +39,5 @@ pub mod SatLemmas
 pub mod PickLemmas
 -- Worked examples, so that a wrong definition does not check:
 pub mod NewsFacts
+-- How long the lines of a log are:
+pub mod LineLemmas

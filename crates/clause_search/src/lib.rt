@@ -8,12 +8,16 @@ mod found;
 mod learn;
 mod levels;
 mod mark;
+mod numbers;
 mod order;
 mod pick;
 mod restarts;
 mod role;
+mod text;
 mod turn;
 mod walk;
 
 pub use found::Found;
 pub use walk::search;
+pub use numbers::note_numbers;
+pub use text::tidy_text;

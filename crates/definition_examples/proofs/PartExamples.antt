@@ -20,7 +20,7 @@ use Rattle.refutation.specs.Verdict.{verdict_of}
 use Rattle.refutation.specs.declared.verdict.Verdict.TheVariants.{Accepted}
 use Rattle.season_check.specs.Excluded.{NoneAccepted}
 use Rattle.season_check.proofs.SeasonLemmas.{accepted_logs_exclude}
-use Rattle.parts.specs.Parts.{first_unknown, hard_numbers, is_hard_number, part_of, without}
+use Rattle.explain.specs.Parts.{first_unknown, hard_numbers, is_hard_number, part_of, without}
 
 abbrev hard : Class → Constraint
 hard class = record { hard = true; penalty = 0; class = class }

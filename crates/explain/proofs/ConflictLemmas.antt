@@ -10,7 +10,7 @@ use Rattle.league.specs.Instance.{Instance, IsInstance}
 use Rattle.league.specs.declared.game.Game.{Game}
 use Rattle.circle_method.specs.Circle.{double_games}
 use Rattle.encoding_base.specs.Variables.{var_count}
-use Rattle.parts.specs.Parts.{part_of, without}
+use Rattle.explain.specs.Parts.{part_of, without}
 use Rattle.refutation.specs.Steps.{Step}
 use Rattle.solve.specs.Solutions.{IsSpentOn, RefutesLeague}
 use Rattle.explain.specs.Cases.{is_decided}

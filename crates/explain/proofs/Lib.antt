@@ -9,3 +9,7 @@ mod UsedLemmas
 mod NamedLemmas
 -- Worked conflicts:
 mod ConflictFacts
+-- Laws of parts and of the numbers of constraints:
+pub mod PartLemmas
+-- Worked parts:
+mod PartFacts

@@ -10,7 +10,7 @@ use Rattle.league.specs.Instance.{Instance}
 use Rattle.league.specs.declared.class.Constraint.{Constraint}
 use Rattle.encoding_base.specs.Encoding.{rows_of}
 use Rattle.encoding_base.specs.RowRanges.{first_row}
-use Rattle.parts.specs.Parts.{is_hard, is_hard_number, constraint_numbered, listed, numbered}
+use Rattle.explain.specs.Parts.{is_hard, is_hard_number, constraint_numbered, listed, numbered}
 use Rattle.refutation.specs.Steps.{Step}
 use Rattle.explain.specs.Used.{AreNamed, IsMarked, IsUsed, UsesConstraint}
 

@@ -20,8 +20,8 @@ use Rattle.circle_method.proofs.RoundRobinLemmas.{IsRoundRobin-double_games}
 use Rattle.encoding_base.specs.Encoding.{class_rows, constraint_rows, encoding_size, rows_of, season_rows}
 use Rattle.encoding_base.specs.Season.{break_rows}
 use Rattle.encoding_base.specs.Variables.{bounds_breaks, has_breaks, hb_count, h_count, var_count, x_count}
-use Rattle.parts.specs.Parts.{constraint_numbered, hard_numbers, listed, numbered, part_of, without}
-use Rattle.parts.proofs.PartLemmas.{numbered-hard_numbers}
+use Rattle.explain.specs.Parts.{constraint_numbered, hard_numbers, listed, numbered, part_of, without}
+use Rattle.explain.proofs.PartLemmas.{numbered-hard_numbers}
 
 -- ---- the hard constraints with some numbers, number by number
 

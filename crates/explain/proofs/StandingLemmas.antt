@@ -20,8 +20,8 @@ use Rattle.league.specs.Sets.{IsAscending, is_in}
 use Rattle.rows.specs.Rows.{Row, size_of}
 use Rattle.encoding_base.specs.Encoding.{encoding_size, rows_of}
 use Rattle.encoding_base.specs.Variables.{var_count}
-use Rattle.parts.specs.Parts.{hard_numbers, is_hard_number, part_of, without}
-use Rattle.parts.proofs.PartLemmas.{hard_numbers-ascending, hard_numbers-hard}
+use Rattle.explain.specs.Parts.{hard_numbers, is_hard_number, part_of, without}
+use Rattle.explain.proofs.PartLemmas.{hard_numbers-ascending, hard_numbers-hard}
 use Rattle.refutation.specs.Steps.{Step}
 use Rattle.refutation.specs.Verdict.{verdict_of}
 use Rattle.solve.specs.Solutions.{RefutesLeague}

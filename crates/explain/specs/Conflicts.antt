@@ -10,7 +10,7 @@ use Rattle.league.specs.Instance.{Instance, IsGame}
 use Rattle.league.specs.Order.{IsInOrder}
 use Rattle.league.specs.Sets.{IsAscending}
 use Rattle.league.specs.declared.game.Game.{Game}
-use Rattle.parts.specs.Parts.{is_hard_number, part_of, without}
+use Rattle.explain.specs.Parts.{is_hard_number, part_of, without}
 use Rattle.refutation.specs.Steps.{Step}
 use Rattle.season_check.specs.Excluded.{NoneAccepted}
 use Rattle.solve.specs.Solutions.{IsSpentOn, RefutesLeague}

@@ -3,7 +3,7 @@ use Rattle.std.specs.Prelude.{◌<◌, ℕ, List, length}
 use Rattle.std.specs.List.{filter}
 use Rattle.league.specs.Instance.{Instance}
 use Rattle.league.specs.Sets.{is_in}
-use Rattle.parts.specs.Parts.{part_of}
+use Rattle.explain.specs.Parts.{part_of}
 use Rattle.solve.specs.Solutions.{RefutesLeague}
 use Rattle.explain.specs.Standings.{numbers_of}
 use Rattle.explain.specs.declared.member.Member.{Member}

@@ -3,6 +3,7 @@
 -- What a conflict is, with its cases, and what each answer says of a league:
 pub mod Cases
 pub mod Conflicts
+pub mod Parts
 -- Kept inside (laws, and how fields are seen):
 --
 -- What a try of a league came to:

@@ -8,7 +8,7 @@ use Rattle.league.specs.Instance.{Instance}
 use Rattle.league.specs.Sets.{IsAscending}
 use Rattle.encoding_base.specs.Encoding.{encoding_size}
 use Rattle.encoding_base.specs.Variables.{var_count}
-use Rattle.parts.specs.Parts.{is_hard_number, part_of}
+use Rattle.explain.specs.Parts.{is_hard_number, part_of}
 use Rattle.refutation.specs.Steps.{Step}
 use Rattle.solve.specs.Solutions.{RefutesLeague}
 use Rattle.explain.specs.Conflicts.{IsCase}

@@ -2,13 +2,13 @@
 ghost use Rattle.std.specs.Prelude.{◌≡◌, ◌<◌, ◌==◌, not, true, None, Some, length, map, slice_set, IfOk, IfSome};
 ghost use Rattle.std.specs.List.{filter};
 ghost use Rattle.league.specs.Sets.{is_in};
-ghost use Rattle.parts.specs.Parts as parts;
+ghost use Rattle.explain.specs.Parts as parts;
 ghost use Rattle.explain.specs.Standings as standings;
 ghost use Rattle.explain.specs.Standings.{AreClosed, IsOpenAt, kept, loosened};
 
 use crate::cases::Case;
 use league::League;
-use parts::hard_numbers;
+use crate::hard_numbers;
 use refutation::Log;
 use std::alloc::{AllocError, Global};
 

@@ -1,7 +1,7 @@
 //! A contradiction made as small as tries show it. Its members are left out one after another: the deletion filter
 //! (Chinneck and Dravnieks 1991).
 ghost use Rattle.std.specs.Prelude.{◌≡◌, ◌==◌, ◌<◌, not, IfOk};
-ghost use Rattle.parts.specs.Parts.{part_of, without};
+ghost use Rattle.explain.specs.Parts.{part_of, without};
 ghost use Rattle.explain.specs.Attempts.{IsAttempt};
 ghost use Rattle.explain.specs.Standings.{AreClosed, IsExplained, IsOpenAt, kept, numbers_of, work};
 

@@ -9,7 +9,7 @@ use Rattle.robinx_read.specs.declared.instance.TheConstants.{INSTANCE_LIMIT}
 use Rattle.answers.specs.Reply.{Answer}
 use Rattle.answers.specs.Stages.{◌>>=◌, Outcome, reads, says}
 use Rattle.answers.specs.declared.status.Status.TheVariants.{Yes, File}
-use Rattle.parts.specs.Parts.{first_unknown, part_of}
+use Rattle.explain.specs.Parts.{first_unknown, part_of}
 
 -- no hard constraint has this number
 abbrev pub unknown_constraint : ℕ → Answer

@@ -2,7 +2,7 @@
 //! other with a case for each.
 //!
 //! A contract sees the answers by the stages of `specs/Parted.antt` and `specs/Explained.antt`, and what is found by
-//! the definitions of `parts` and `explain`.
+//! the definitions of `explain` and `explain`.
 #![tactic(auto)]
 
 mod parted;

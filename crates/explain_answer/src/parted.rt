@@ -11,10 +11,9 @@ ghost use Rattle.answers.specs.SeenReply.{answer_of, Answers};
 ghost use Rattle.answers.specs.declared.status.Status.TheVariants.{Yes};
 ghost use Rattle.explain_answer.specs.Parted.{IsPart, parted, unknown_constraint};
 
-use advice::Advice;
-use answers::{NoValue, Refusal, Reply, Status, file, league_in};
+use answers::{Advice, NoValue, Refusal, Reply, Status, file, league_in};
 use league::League;
-use parts::{PartFault, part};
+use explain::{PartFault, part};
 use robin_io::Shelf;
 use robinx_read::INSTANCE_LIMIT;
 use robinx_write::instance_text;

@@ -4,8 +4,7 @@ ghost use Rattle.answers.specs.Reply.{refused_words};
 ghost use Rattle.answers.specs.SeenRefusal.{refused_with};
 
 use crate::pages;
-use advice::Advice;
-use answers::{Refusal, words_refused};
+use answers::{Advice, Refusal, words_refused};
 use command_line::{Role, Topic, WordFault, name_of, why_refused};
 use std::alloc::{AllocError, Global};
 

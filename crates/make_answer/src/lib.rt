@@ -4,5 +4,10 @@
 #![tactic(auto)]
 
 mod instance;
+mod made;
+mod season;
+mod summary;
 
 pub use instance::make_league;
+pub use season::circle;
+pub use made::trial;

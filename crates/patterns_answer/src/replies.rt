@@ -13,7 +13,7 @@ ghost use Rattle.patterns_answer.specs.Patterns.{AreFound};
 use crate::lines::patterns_text;
 use answers::{Reply, Status};
 use encoding::Encoding;
-use log_lines::tidy_text;
+use clause_search::tidy_text;
 use pattern_search::{PatternFound, pattern_set};
 use patterns::PatternSet;
 use refutation::Log;

@@ -2,3 +2,9 @@
 pub mod AnswerLemmas
 -- The games whose variables are true, gone through by slot and meeting:
 pub mod SeasonLemmas
+-- Games of one list in the first slots, and of another from there on:
+mod MergeLemmas
+-- A better schedule keeps what was played:
+mod LowerLemmas
+-- Worked seasons:
+mod MergeFacts

@@ -6,3 +6,4 @@ pub mod Answers
 --
 -- What a search found:
 pub mod Found
+pub mod Merged

@@ -4,7 +4,11 @@
 //! `specs/Answers.antt` says what each answer promises; `resume_rows` has the rows that a log is over.
 #![tactic(auto)]
 
+mod bettered;
 mod checked;
+mod fixed;
+mod lower;
+mod merge;
 mod plan;
 mod resumed;
 mod resumer;
@@ -14,3 +18,4 @@ pub use checked::{check_resume, checker_of};
 pub use resume_rows::{ResumeSystem, resume_size, resume_system};
 pub use resumed::Resumed;
 pub use resumer::resume;
+pub use bettered::resume_lowered;

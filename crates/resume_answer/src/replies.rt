@@ -15,7 +15,7 @@ ghost use Rattle.resume_answer.specs.Resumed.{IsFound};
 
 use answers::{Reply, Status};
 use league::{League, Schedule};
-use log_lines::tidy_text;
+use clause_search::tidy_text;
 use refutation::Log;
 use resume::Resumed;
 use robinx_write::solution_text;

@@ -14,7 +14,7 @@ use crate::season::season_in;
 use answers::{NoValue, Reply};
 use encoding::EncodeFault;
 use league::{League, Schedule};
-use resume_lower::resume_lowered;
+use resume::resume_lowered;
 use robin_io::Shelf;
 use std::alloc::{AllocError, Global};
 

@@ -13,8 +13,7 @@ ghost use Rattle.resume_answer.specs.Seasons.{has_size, has_slots, plays};
 ghost use Rattle.resume_answer.specs.SeenSeason.{IsSaid};
 ghost use Rattle.encoding.specs.Limit.{most_terms};
 
-use advice::Advice;
-use answers::{NoValue, Refusal, Reply, Status, file, league_in, rows_refused, schedule_in};
+use answers::{Advice, NoValue, Refusal, Reply, Status, file, league_in, rows_refused, schedule_in};
 use encoding::MOST_TERMS;
 use league::{League, Schedule, slot_count};
 use resume::resume_size;

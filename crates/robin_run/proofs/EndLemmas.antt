@@ -34,7 +34,7 @@ use Rattle.certificates.specs.Certificates.{certificate_of}
 use Rattle.certificates.specs.declared.certificate.Certificate.{Certificate}
 use Rattle.validate_answer.specs.Validate.{IsJudgement, validated}
 use Rattle.robinx_names.specs.Names.{Names}
-use Rattle.names_read.specs.NamesFile.{names_of}
+use Rattle.robinx_names.specs.NamesFile.{names_of}
 use Rattle.show_answer.specs.Show as showing
 use Rattle.show_answer.specs.Show.{form_text}
 use Rattle.show_answer.specs.declared.form.Form.{Form}
@@ -45,7 +45,7 @@ use Rattle.solve_answer.specs.Solve.{IsFound, solved}
 use Rattle.explain_answer.specs.Explained as explaining
 use Rattle.explain_answer.specs.Explained.{explained}
 use Rattle.explain_answer.specs.Parted.{IsPart, part_answer, parted}
-use Rattle.parts.specs.Parts.{first_unknown}
+use Rattle.explain.specs.Parts.{first_unknown}
 use Rattle.bound_answer.specs.Bound.{IsBoundVerdict, bound_answer, bound_verdict, bounded, has_few_terms}
 use Rattle.bound_answer.specs.Bound.{says_certificate}
 use Rattle.prove_answer.specs.Prove.{IsShown, proved}
@@ -56,7 +56,7 @@ use Rattle.resume_answer.specs.Resumed.{resumed}
 use Rattle.resume_answer.specs.Seasons.{has_size, has_slots}
 use Rattle.instance_gen.specs.Draws.{seeded}
 use Rattle.instance_gen.specs.Made.{made_league}
-use Rattle.trial_answer.specs.Trial.{IsTrial, tried}
+use Rattle.make_answer.specs.Trial.{IsTrial, tried}
 use Rattle.rows_answer.specs.Rowed.{league_rows, rowed, rows_answer, system_of}
 use Rattle.values_read.specs.Values.{values_of}
 use Rattle.values_answer.specs.Valued.{IsValued, found_of, missed_from, says_values, valued}

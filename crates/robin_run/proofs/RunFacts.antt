@@ -6,7 +6,7 @@ use Rattle.answers.specs.declared.status.Status.TheVariants.{Yes, No, Words, Fil
 use Rattle.answers.specs.declared.status.Status.TheVariants.{Memory, Better}
 use Rattle.check_answer.proofs.CheckFacts as checks
 use Rattle.check_answer.proofs.CheckFacts.{checked-bad, checked-good}
-use Rattle.circle_answer.specs.Circle.{circle_season}
+use Rattle.make_answer.specs.Circle.{circle_season}
 use Rattle.command_line.specs.declared.goal.Goal.TheVariants as goal
 use Rattle.command_line.specs.Words.Command.{Audit, Bound, Check, Circle, Make, Prove, Resume, Rows, Validate, Values}
 use Rattle.make_answer.specs.MadeInstance.{made_instance}

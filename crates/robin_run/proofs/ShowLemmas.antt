@@ -8,8 +8,8 @@ use Rattle.robinx_read.specs.declared.instance.TheConstants.{INSTANCE_LIMIT, SOL
 use Rattle.league.specs.Instance.{Instance}
 use Rattle.league.specs.declared.game.Game.{Game}
 use Rattle.robinx_names.specs.Names.{Names}
-use Rattle.names_read.specs.NamesFile.{names_of}
-use Rattle.names_read.proofs.WholeLemmas.{names_whole}
+use Rattle.robinx_names.specs.NamesFile.{names_of}
+use Rattle.robinx_names.proofs.WholeLemmas.{names_whole}
 use Rattle.command_line.specs.Words.Command.{Sheet, Show}
 use Rattle.answers.specs.Reply.{Answer}
 use Rattle.answers.specs.Stages.{NoneFails, Outcome, says, takes}

@@ -5,7 +5,7 @@ use Rattle.answers.specs.Reply.{refused_words}
 use Rattle.answers.specs.Stages.{Outcome}
 use Rattle.bound_answer.specs.Bound.{bounded}
 use Rattle.check_answer.specs.Check.{checked}
-use Rattle.circle_answer.specs.Circle.{circle_season}
+use Rattle.make_answer.specs.Circle.{circle_season}
 use Rattle.command_line.specs.Words.{Command}
 use Rattle.command_line.specs.Words.Command.{Validate, Show, Sheet, Check, Solve, Patterns, Explain, Part, Prove}
 use Rattle.command_line.specs.Words.Command.{Bound, Resume, Audit, Rows, Values, Circle, Make, Trial, Help, Version}
@@ -21,7 +21,7 @@ use Rattle.rows_answer.specs.Rowed.{rowed}
 use Rattle.show_answer.specs.Show.{shown}
 use Rattle.show_answer.specs.declared.form.Form.TheVariants.{Text, Csv}
 use Rattle.solve_answer.specs.Solve.{solved}
-use Rattle.trial_answer.specs.Trial.{tried}
+use Rattle.make_answer.specs.Trial.{tried}
 use Rattle.validate_answer.specs.Validate.{validated}
 use Rattle.values_answer.specs.Valued.{valued}
 

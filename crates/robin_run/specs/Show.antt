@@ -4,7 +4,7 @@ use Rattle.robinx_tags.specs.Pieces.{pieces}
 use Rattle.league.specs.Instance.{Instance}
 use Rattle.league.specs.declared.game.Game.{Game}
 use Rattle.robinx_names.specs.Names.{Names}
-use Rattle.names_read.specs.NamesFile.{names_of}
+use Rattle.robinx_names.specs.NamesFile.{names_of}
 use Rattle.command_line.specs.Words.{Command}
 use Rattle.answers.specs.Reply.{Answer}
 use Rattle.validate_answer.specs.Validate.{IsWellFormedPair}

@@ -7,6 +7,9 @@
 mod labels;
 mod names;
 mod plain;
+mod read;
+mod roll;
 
 pub use names::Names;
 pub use plain::plain_name;
+pub use read::read_names;

@@ -6,7 +6,7 @@ use Rattle.robinx_tags.specs.Pieces.{pieces}
 use Rattle.robinx_form.specs.InstanceFile.{instance_of}
 use Rattle.robinx_form.specs.SolutionFile.{solution_of}
 use Rattle.robinx_names.specs.Names.{Names}
-use Rattle.names_read.specs.NamesFile.{names_of}
+use Rattle.robinx_names.specs.NamesFile.{names_of}
 use Rattle.robinx_read.specs.declared.instance.TheConstants.{INSTANCE_LIMIT, SOLUTION_LIMIT}
 use Rattle.robinx_form.specs.Walk.{Fault}
 use Rattle.answers.specs.Reply.{Answer}

@@ -15,12 +15,12 @@ use Rattle.robinx_form.specs.InstanceFile.{instance_of}
 use Rattle.robinx_form.specs.SolutionFile.{solution_of}
 use Rattle.robinx_read.specs.declared.instance.TheConstants.{INSTANCE_LIMIT, SOLUTION_LIMIT}
 use Rattle.robinx_names.specs.Names.{Names, label}
-use Rattle.names_read.specs.NamesFile.{names_of}
+use Rattle.robinx_names.specs.NamesFile.{names_of}
 use Rattle.season_csv.specs.Csv.{csv_text}
 use Rattle.season_grid.specs.Grid.{grid_text}
 use Rattle.season_misses.specs.Lacks.{lacks_text}
 use Rattle.season_misses.specs.Misses.{misses_text}
-use Rattle.report.specs.Report.{structure_text, verdict_text}
+use Rattle.validate_answer.specs.Report.{structure_text, verdict_text}
 use Rattle.answers.specs.Reply.{Answer}
 use Rattle.answers.specs.Stages.{◌>>=◌, Outcome, reads, says}
 use Rattle.answers.specs.declared.status.Status.TheVariants.{Yes, No}

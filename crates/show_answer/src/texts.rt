@@ -14,7 +14,7 @@ use crate::form::Form;
 use demand_words::Label;
 use deviation::{Assessment, counted};
 use league::{League, Schedule, TeamId};
-use report::{structure_line, verdict};
+use validate_answer::{structure_line, verdict};
 use robinx_names::Names;
 use season_csv::season_csv;
 use season_grid::{Season, season_grid};

@@ -19,7 +19,7 @@ use Rattle.refutation.specs.Texts.{version_of}
 use Rattle.season_check.proofs.SeasonLemmas.{accepted_logs_exclude}
 use Rattle.clause_search.specs.Answers.{IsSpentAt, Refutes}
 use Rattle.clause_search.specs.News.{IsTidy}
-use Rattle.log_lines.proofs.LineLemmas.{step_named, step_short}
+use Rattle.clause_search.proofs.LineLemmas.{step_named, step_short}
 use Rattle.pattern_search.specs.Answers.{IsPatternAnswer}
 use Rattle.pattern_search.specs.PatternLogs.{RefutesPatterns}
 use Rattle.pattern_search.specs.PatternRows.{pattern_rows}

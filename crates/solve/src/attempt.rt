@@ -12,12 +12,11 @@ use crate::from_walk::try_walk;
 use crate::lower::{Season, lowered};
 use crate::tries::{Tried, with_walked};
 use budgets::Budgets;
-use clause_search::{Found, search};
+use clause_search::{Found, note_numbers, search};
 use decoding::decode;
 use encoding::Encoding;
 use league::League;
 use listening::Listener;
-use log_lines::note_numbers;
 use rows::{Assignment, Lit};
 use std::alloc::{AllocError, Global};
 

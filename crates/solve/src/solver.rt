@@ -24,7 +24,7 @@ use budgets::Budgets;
 use encoding::{EncodeFault, Encoding, check_size, encode_small};
 use league::League;
 use listening::Listener;
-use log_lines::note_numbers;
+use clause_search::note_numbers;
 use pattern_search::{PatternFound, pattern_set};
 use patterns::PatternSet;
 use refutation::Log;

@@ -3,3 +3,7 @@ mod ReportLemmas
 mod StageLemmas
 -- Worked examples, so that a wrong definition does not check:
 pub mod ValidateFacts
+-- Lemmas on texts:
+mod TextLemmas
+-- Worked examples, so that a wrong definition does not check:
+pub mod ReportFacts

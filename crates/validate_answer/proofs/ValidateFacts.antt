@@ -17,8 +17,8 @@ use Rattle.answers.specs.Reply.{Answer, malformed}
 use Rattle.answers.specs.Stages.{Outcome, says, takes}
 use Rattle.answers.specs.declared.status.Status.{Status}
 use Rattle.answers.specs.declared.status.Status.TheVariants.{Yes, No}
-use Rattle.report.specs.Report.{report_text}
-use Rattle.report.proofs.ReportFacts.{demanding, report_text-thrice, thrice, thrice_report}
+use Rattle.validate_answer.specs.Report.{report_text}
+use Rattle.validate_answer.proofs.ReportFacts.{demanding, report_text-thrice, thrice, thrice_report}
 use Rattle.validate_answer.specs.Validate.{IsJudgement, IsWellFormedPair, validated}
 
 -- a store of two files

@@ -1,5 +1,6 @@
 -- What a reader of a claim must believe:
 pub mod Validate
+pub mod Report
 -- Kept inside (laws, and how fields are seen):
 --
 -- What a schedule was assessed to be:

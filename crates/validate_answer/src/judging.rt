@@ -3,14 +3,14 @@ ghost use Rattle.std.specs.Prelude.{◌≡◌, ◌≤◌, ◌++◌, length, IfOk
 ghost use Rattle.std.specs.List.{All};
 ghost use Rattle.league.specs.Instance.{IsGame};
 ghost use Rattle.answers.specs.SeenReply.{answer_of};
-ghost use Rattle.report.specs.Report.{constraints_text, lines_text};
+ghost use Rattle.validate_answer.specs.Report.{constraints_text, lines_text};
 ghost use Rattle.validate_answer.specs.Assessed.{IsAssessmentOf};
 ghost use Rattle.validate_answer.specs.Validate.{IsJudgement};
 
 use answers::{Reply, Status};
 use deviation::{Assessment, Vectors, assess, total};
 use league::{Constraint, League, Schedule};
-use report::{head, push_constraint, structure_line, verdict};
+use crate::{head, push_constraint, structure_line, verdict};
 use std::alloc::{AllocError, Global};
 
 /// Adds the lines of constraints with their vectors, numbered from 1.

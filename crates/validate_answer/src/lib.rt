@@ -4,7 +4,9 @@
 #![tactic(auto)]
 
 mod judging;
+mod lines;
 mod stages;
 
 pub use judging::{judge, judgement};
 pub use stages::validate;
+pub use lines::{head, push_constraint, structure_line, verdict};

@@ -9,8 +9,7 @@ ghost use Rattle.values_answer.specs.Valued as valued;
 ghost use Rattle.values_answer.specs.Valued.{IsSeason, IsValued};
 
 use crate::met::missed_row;
-use advice::Advice;
-use answers::{Refusal, Reply, Status};
+use answers::{Advice, Refusal, Reply, Status};
 use decoding::decode;
 use deviation::assess;
 use encoding::Encoding;

@@ -1,7 +1,7 @@
 use Rattle.std.proofs.Common.{◌≡◌, ◌∙◌, ap, sym, ℕ, None, Some, Option, Err, Result}
 use Rattle.league.specs.Instance.{Instance}
-use Rattle.parts.specs.declared.fault.PartFault.{PartFault}
-use Rattle.parts.proofs.PartLemmas.{none_other}
+use Rattle.explain.specs.declared.fault.PartFault.{PartFault}
+use Rattle.explain.proofs.PartLemmas.{none_other}
 use Rattle.explain.proofs.attempt.known_part.Goals as goal
 
 none_some : (number : ℕ) → ◌≡◌ {A = Option ℕ} None (Some number) → ⊥

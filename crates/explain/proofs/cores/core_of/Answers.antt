@@ -1,6 +1,6 @@
 use Rattle.std.proofs.Common.{◌≡◌, ◌<◌, ◌∙◌, ap, List, ℕ, length, subst, arith}
 use Rattle.league.specs.Sets.{is_in}
-use Rattle.parts.specs.Parts.{part_of}
+use Rattle.explain.specs.Parts.{part_of}
 use Rattle.explain.specs.Attempts.{IsAttempt}
 use Rattle.explain.specs.Cores.{named_of}
 use Rattle.explain.specs.Standings.{numbers_of}

@@ -1,5 +1,5 @@
 use Rattle.std.proofs.Common.{◌≡◌, take}
-use Rattle.parts.specs.Parts.{without}
+use Rattle.explain.specs.Parts.{without}
 use Rattle.explain.specs.Standings.{numbers_of}
 use Rattle.explain.proofs.member.others.Given as goal
 

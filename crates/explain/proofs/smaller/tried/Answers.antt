@@ -1,5 +1,5 @@
 use Rattle.std.proofs.Common.{subst}
-use Rattle.parts.specs.Parts.{part_of, without}
+use Rattle.explain.specs.Parts.{part_of, without}
 use Rattle.explain.specs.Attempts.{IsAttempt}
 use Rattle.explain.specs.declared.attempt.Attempt.{Attempt}
 use Rattle.explain.specs.Standings.{numbers_of}

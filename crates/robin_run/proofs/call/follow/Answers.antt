@@ -11,7 +11,7 @@ use Rattle.resume_answer.specs.Resumed.{resumed}
 use Rattle.show_answer.specs.Show.{shown}
 use Rattle.show_answer.specs.declared.form.Form.TheVariants.{Text, Csv}
 use Rattle.solve_answer.specs.Solve.{solved}
-use Rattle.trial_answer.specs.Trial.{tried}
+use Rattle.make_answer.specs.Trial.{tried}
 use Rattle.validate_answer.specs.Validate.{validated}
 use Rattle.values_answer.specs.Valued.{valued}
 use Rattle.robin_run.proofs.RunLemmas.{given-gives}

@@ -1,5 +1,5 @@
 use Rattle.std.proofs.Common.{◌≡◌, ◌+◌, ◌++◌, drop, string_bytes}
-use Rattle.report.specs.Report.{constraints_text}
+use Rattle.validate_answer.specs.Report.{constraints_text}
 use Rattle.validate_answer.proofs.judging.push_constraints.Given as goal
 
 -- the text so far, and then the lines of the constraints that are left, is the whole

@@ -1,4 +1,0 @@
--- What is printable:
-mod PrintableFacts
--- Lemmas on printable text:
-pub mod PrintableLemmas

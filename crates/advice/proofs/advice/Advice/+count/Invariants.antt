@@ -1,4 +1,0 @@
-use Rattle.advice.proofs.advice.Advice.+count.Given as goal
-
-abbrev pub decreases-count : goal.decreases-count
-decreases-count l = l.number

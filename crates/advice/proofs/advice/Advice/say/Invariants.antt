@@ -1,5 +1,0 @@
-use Rattle.std.specs.Prelude.{length}
-use Rattle.advice.proofs.advice.Advice.say.Given as goal
-
-abbrev pub decreases-items : goal.decreases-items
-decreases-items l = length l.rest

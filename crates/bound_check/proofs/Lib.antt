@@ -1,2 +1,0 @@
--- What an accepted certificate shows:
-pub mod CheckLemmas

@@ -1,3 +1,0 @@
--- What a reader of a claim must believe:
---
--- Nothing beside the definitions of the crates below: `bound_base` has bound rows, `bound_laws` what they say.

@@ -1,7 +1,0 @@
-use Rattle.std.proofs.Common.{◌≡◌, ◌++◌, map}
-use Rattle.rows.specs.Cardinality.{unit}
-use Rattle.bound_base.specs.Softening.{units_from}
-use Rattle.bound_groups.proofs.units.add_units.Given as goal
-
-abbrev pub invariant-loop-k : goal.invariant-loop-k
-invariant-loop-k l = l.terms.items ≡ l.fn.terms.items ++ map unit (units_from l.first l.k)

@@ -1,0 +1,11 @@
+use Rattle.std.proofs.Common.{◌≡◌, ◌+◌, ◌≤◌, ◌++◌, length, take}
+use Rattle.bound_base.specs.Softening as softening
+use Rattle.bound_rows.specs.Bare.{bare_groups, unit_total}
+use Rattle.bound_rows.proofs.order.push_orders.Given as goal
+
+abbrev pub invariant-loop-group : goal.invariant-loop-group
+invariant-loop-group l = record {
+  so_far : l.rows ≡ l.fn.rows ++ softening.order_rows l.first (bare_groups (take l.group-index l.groups));
+  place : l.next ≡ l.first + unit_total (take l.group-index l.groups);
+  few : length l.rows ≤ length l.fn.rows + unit_total (take l.group-index l.groups);
+}

@@ -1,2 +1,0 @@
--- How long the lines of a log are:
-pub mod LineLemmas

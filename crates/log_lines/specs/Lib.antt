@@ -1,4 +1,0 @@
--- What a reader of a claim must believe:
---
--- Nothing here: the clauses cite `clause_search` and `refutation`.
--- Kept inside (laws, and how fields are seen):

@@ -1,4 +1,0 @@
--- Lemmas on texts:
-mod TextLemmas
--- Worked examples, so that a wrong definition does not check:
-pub mod ReportFacts
