@@ -20,7 +20,7 @@ use crate::{PartFault, part};
 use refutation::Log;
 use solve::{Solved, solve};
 use std::alloc::{AllocError, Global};
-use watching::Unwatched;
+use robin_watch::Unwatched;
 
 /// What a try came to.
 #[derive(Drop)]

@@ -12,7 +12,7 @@ use answers::{Status, code};
 use page_io::{Files, PageShelf, PageSink, words_of};
 use robin_run::run;
 use std::alloc::{AllocError, Global};
-use watching::Unwatched;
+use robin_watch::Unwatched;
 
 /// How many bytes of the room the texts of a run take: the answer at the front, and behind it what a person is told.
 #[repr(C)]

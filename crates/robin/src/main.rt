@@ -4,7 +4,7 @@
 
 use answers::{Status, code};
 use command_line::seconds_of;
-use host_watch::{HostWatch, Telling};
+use robin_clock::{HostWatch, Telling};
 use robin_io::{HostShelf, HostSink};
 use robin_run::run;
 use std::process::ExitCode;

@@ -17,16 +17,16 @@ use Rattle.answers.proofs.StageLemmas.{takes-yes, says-known}
 use Rattle.refutation.specs.Logs.{Fault}
 use Rattle.refutation.specs.declared.verdict.Verdict.{Verdict}
 use Rattle.refutation.specs.declared.verdict.Verdict.TheVariants.{Accepted, Rejected}
-use Rattle.check_answer.specs.Check.{most_log_bytes}
+use Rattle.command_check.specs.Check.{most_log_bytes}
 use Rattle.certificates.specs.Certificates.{certificate_of}
 use Rattle.certificates.specs.declared.certificate.Certificate.{Certificate}
-use Rattle.bound_answer.specs.Bound.{IsBoundVerdict, bound_answer, bound_verdict}
-use Rattle.bound_answer.specs.Bound.{bounded, has_few_terms, says_certificate}
-use Rattle.bound_answer.proofs.AnswerLemmas.{bounded-well_formed}
-use Rattle.prove_answer.specs.Prove as proving
-use Rattle.prove_answer.specs.Prove.{IsLeast, IsShown, proved}
-use Rattle.prove_answer.proofs.AnswerLemmas.{proved-known, proved-well_formed}
-use Rattle.resume_answer.specs.Seasons.{SaySeason}
+use Rattle.command_bound.specs.Bound.{IsBoundVerdict, bound_answer, bound_verdict}
+use Rattle.command_bound.specs.Bound.{bounded, has_few_terms, says_certificate}
+use Rattle.command_bound.proofs.AnswerLemmas.{bounded-well_formed}
+use Rattle.command_prove.specs.Prove as proving
+use Rattle.command_prove.specs.Prove.{IsLeast, IsShown, proved}
+use Rattle.command_prove.proofs.AnswerLemmas.{proved-known, proved-well_formed}
+use Rattle.command_resume.specs.Seasons.{SaySeason}
 use Rattle.robin_run.specs.Bound.{Bounds, IsCertified}
 use Rattle.robin_run.specs.Prove.{IsBettered, IsUnbettered, Proves}
 use Rattle.robin_run.specs.Run.{Answered, Run}

@@ -3,8 +3,8 @@ use Rattle.std.proofs.Common.{[], ◌∷◌}
 use Rattle.command_line.specs.Words.Command.{Check}
 use Rattle.answers.specs.declared.status.Status.TheVariants.{Yes}
 use Rattle.encoding.specs.Encoding.{rows_of}
-use Rattle.check_answer.specs.Check.{IsVerdict}
-use Rattle.check_answer.proofs.AnswerLemmas.{checked-well_formed, checked-yes}
+use Rattle.command_check.specs.Check.{IsVerdict}
+use Rattle.command_check.proofs.AnswerLemmas.{checked-well_formed, checked-yes}
 use Rattle.robin_run.specs.Check.{Checks}
 use Rattle.robin_run.specs.Run.{Answered, Run}
 use Rattle.robin_run.proofs.RunLemmas.{writes, writes-as}

@@ -32,34 +32,34 @@ use Rattle.refutation.specs.declared.verdict.Verdict.{Verdict}
 use Rattle.refutation.specs.declared.verdict.Verdict.TheVariants.{Accepted, Rejected}
 use Rattle.certificates.specs.Certificates.{certificate_of}
 use Rattle.certificates.specs.declared.certificate.Certificate.{Certificate}
-use Rattle.validate_answer.specs.Validate.{IsJudgement, validated}
+use Rattle.command_validate.specs.Validate.{IsJudgement, validated}
 use Rattle.robinx_names.specs.Names.{Names}
 use Rattle.robinx_names.specs.NamesFile.{names_of}
-use Rattle.show_answer.specs.Show as showing
-use Rattle.show_answer.specs.Show.{form_text}
-use Rattle.show_answer.specs.declared.form.Form.{Form}
-use Rattle.show_answer.specs.declared.form.Form.TheVariants.{Text, Csv}
-use Rattle.check_answer.specs.Check.{IsVerdict, checked, encodes, most_log_bytes, says_log, verdict_answer}
-use Rattle.patterns_answer.specs.Patterns.{AreFound, patterned}
-use Rattle.solve_answer.specs.Solve.{IsFound, solved}
-use Rattle.explain_answer.specs.Explained as explaining
-use Rattle.explain_answer.specs.Explained.{explained}
-use Rattle.explain_answer.specs.Parted.{IsPart, part_answer, parted}
+use Rattle.command_show.specs.Show as showing
+use Rattle.command_show.specs.Show.{form_text}
+use Rattle.command_show.specs.declared.form.Form.{Form}
+use Rattle.command_show.specs.declared.form.Form.TheVariants.{Text, Csv}
+use Rattle.command_check.specs.Check.{IsVerdict, checked, encodes, most_log_bytes, says_log, verdict_answer}
+use Rattle.command_patterns.specs.Patterns.{AreFound, patterned}
+use Rattle.command_solve.specs.Solve.{IsFound, solved}
+use Rattle.command_explain.specs.Explained as explaining
+use Rattle.command_explain.specs.Explained.{explained}
+use Rattle.command_explain.specs.Parted.{IsPart, part_answer, parted}
 use Rattle.explain.specs.Parts.{first_unknown}
-use Rattle.bound_answer.specs.Bound.{IsBoundVerdict, bound_answer, bound_verdict, bounded, has_few_terms}
-use Rattle.bound_answer.specs.Bound.{says_certificate}
-use Rattle.prove_answer.specs.Prove.{IsShown, proved}
-use Rattle.resume_answer.specs.Audited as auditing
-use Rattle.resume_answer.specs.Audited.{audited}
-use Rattle.resume_answer.specs.Resumed as resuming
-use Rattle.resume_answer.specs.Resumed.{resumed}
-use Rattle.resume_answer.specs.Seasons.{has_size, has_slots}
+use Rattle.command_bound.specs.Bound.{IsBoundVerdict, bound_answer, bound_verdict, bounded, has_few_terms}
+use Rattle.command_bound.specs.Bound.{says_certificate}
+use Rattle.command_prove.specs.Prove.{IsShown, proved}
+use Rattle.command_resume.specs.Audited as auditing
+use Rattle.command_resume.specs.Audited.{audited}
+use Rattle.command_resume.specs.Resumed as resuming
+use Rattle.command_resume.specs.Resumed.{resumed}
+use Rattle.command_resume.specs.Seasons.{has_size, has_slots}
 use Rattle.instance_gen.specs.Draws.{seeded}
 use Rattle.instance_gen.specs.Made.{made_league}
-use Rattle.make_answer.specs.Trial.{IsTrial, tried}
-use Rattle.rows_answer.specs.Rowed.{league_rows, rowed, rows_answer, system_of}
+use Rattle.command_make.specs.Trial.{IsTrial, tried}
+use Rattle.command_rows.specs.Rowed.{league_rows, rowed, rows_answer, system_of}
 use Rattle.values_read.specs.Values.{values_of}
-use Rattle.values_answer.specs.Valued.{IsValued, found_of, missed_from, says_values, valued}
+use Rattle.command_values.specs.Valued.{IsValued, found_of, missed_from, says_values, valued}
 use Rattle.robin_run.specs.Answer.{IsAnswer}
 use Rattle.robin_run.specs.Ends.{EndsByWords, may_end}
 use Rattle.robin_run.specs.Run.{Answered, Run}

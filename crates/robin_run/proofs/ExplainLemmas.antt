@@ -15,15 +15,15 @@ use Rattle.answers.specs.Reply.{Answer}
 use Rattle.answers.specs.Stages.{Outcome, says}
 use Rattle.answers.specs.declared.status.Status.TheVariants.{Yes, File, Refuted, Spent}
 use Rattle.answers.proofs.StageLemmas.{first-works, says-known, takes-known, takes-refuted}
-use Rattle.check_answer.specs.Check.{encodes}
-use Rattle.check_answer.proofs.AnswerLemmas.{encodes-small}
+use Rattle.command_check.specs.Check.{encodes}
+use Rattle.command_check.proofs.AnswerLemmas.{encodes-small}
 use Rattle.explain.specs.Cases.{is_decided}
 use Rattle.explain.specs.Conflicts.{AreDecided}
 use Rattle.explain.specs.declared.cases.Case.{Case}
-use Rattle.explain_answer.specs.Explained.{IsFound, IsNamed, explained}
-use Rattle.explain_answer.specs.Parted.{IsPart, parted}
-use Rattle.explain_answer.specs.Texts.{cases_text, log_text, minimal_line}
-use Rattle.solve_answer.specs.Solve.{IsWellFormedInstance}
+use Rattle.command_explain.specs.Explained.{IsFound, IsNamed, explained}
+use Rattle.command_explain.specs.Parted.{IsPart, parted}
+use Rattle.command_explain.specs.Texts.{cases_text, log_text, minimal_line}
+use Rattle.command_solve.specs.Solve.{IsWellFormedInstance}
 use Rattle.robin_run.specs.Explain.{Explains, IsContradiction}
 use Rattle.robin_run.specs.Part.{Parts}
 use Rattle.robin_run.specs.Run.{Answered, Run}

@@ -4,13 +4,13 @@ use Rattle.budgets.specs.declared.budgets.Budgets.{Budgets}
 use Rattle.command_line.specs.Words.Command.{Circle, Help, Make, Trial, Version}
 use Rattle.answers.specs.Reply.{Answer}
 use Rattle.answers.specs.declared.status.Status.TheVariants.{Yes, File, Refuted, Spent}
-use Rattle.check_answer.proofs.AnswerLemmas.{encodes-small}
-use Rattle.make_answer.specs.Circle.{circle_season}
-use Rattle.help_answer.specs.Help.{help_answer, version_answer}
+use Rattle.command_check.proofs.AnswerLemmas.{encodes-small}
+use Rattle.command_make.specs.Circle.{circle_season}
+use Rattle.command_help.specs.Help.{help_answer, version_answer}
 use Rattle.instance_gen.specs.Draws.{seeded}
 use Rattle.instance_gen.specs.Made.{made_league}
-use Rattle.make_answer.specs.MadeInstance.{IsMade}
-use Rattle.make_answer.specs.Trial.{IsTrial, tried}
+use Rattle.command_make.specs.MadeInstance.{IsMade}
+use Rattle.command_make.specs.Trial.{IsTrial, tried}
 use Rattle.robin_run.specs.Circle.{WritesCircle}
 use Rattle.robin_run.specs.Help.{Helps, TellsVersion}
 use Rattle.robin_run.specs.Make.{Makes}

@@ -7,10 +7,10 @@ use Rattle.league.specs.declared.game.Game.{Game}
 use Rattle.command_line.specs.Words.Command.{Audit, Resume}
 use Rattle.answers.specs.Reply.{Answer}
 use Rattle.answers.specs.declared.status.Status.TheVariants.{Yes, Refuted}
-use Rattle.resume_answer.specs.Audited.{IsVerdict}
-use Rattle.resume_answer.specs.Resumed.{IsFound, IsKeptSeason, IsPlanned}
-use Rattle.resume_answer.proofs.AnswerLemmas.{audited-excluded, audited-well_formed, resumed-excluded, resumed-planned}
-use Rattle.resume_answer.proofs.AnswerLemmas.{resumed-well_formed}
+use Rattle.command_resume.specs.Audited.{IsVerdict}
+use Rattle.command_resume.specs.Resumed.{IsFound, IsKeptSeason, IsPlanned}
+use Rattle.command_resume.proofs.AnswerLemmas.{audited-excluded, audited-well_formed, resumed-excluded, resumed-planned}
+use Rattle.command_resume.proofs.AnswerLemmas.{resumed-well_formed}
 use Rattle.robin_run.specs.Audit.{Audits}
 use Rattle.robin_run.specs.Resume.{Resumes}
 use Rattle.robin_run.specs.Run.{Answered, Run}

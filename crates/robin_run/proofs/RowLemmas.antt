@@ -20,13 +20,13 @@ use Rattle.answers.specs.declared.status.Status.TheVariants.{Yes, No, File}
 use Rattle.answers.proofs.StageLemmas.{first-works, says-known, second-works, takes-known, takes-yes}
 use Rattle.encoding.specs.Encoding.{encoding_size, rows_of}
 use Rattle.encoding.specs.Limit.{most_terms}
-use Rattle.check_answer.specs.Check.{encodes, most_log_bytes}
-use Rattle.solve_answer.specs.Solve.{IsWellFormedInstance}
+use Rattle.command_check.specs.Check.{encodes, most_log_bytes}
+use Rattle.command_solve.specs.Solve.{IsWellFormedInstance}
 use Rattle.encoding_base.specs.Shadow.{decoded}
 use Rattle.opb_write.specs.Texts.{opb_text}
-use Rattle.rows_answer.specs.Rowed.{league_rows, rows_answer, system_of}
+use Rattle.command_rows.specs.Rowed.{league_rows, rows_answer, system_of}
 use Rattle.values_read.specs.Values.{values_of}
-use Rattle.values_answer.specs.Valued.{IsSeason, IsValued, found_of, missed_from, says_values, valued}
+use Rattle.command_values.specs.Valued.{IsSeason, IsValued, found_of, missed_from, says_values, valued}
 use Rattle.robin_run.specs.Rows.{WritesRows}
 use Rattle.robin_run.specs.Run.{Answered, Run}
 use Rattle.robin_run.specs.Values.{IsAcceptedSeason, JudgesValues, SaysLiterals}

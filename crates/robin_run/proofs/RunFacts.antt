@@ -4,17 +4,17 @@ use Rattle.robinx_tags.specs.declared.fault.FormKind.TheVariants.{BadNesting}
 use Rattle.answers.specs.Reply.{Answer, log_malformed, malformed, refused_words}
 use Rattle.answers.specs.declared.status.Status.TheVariants.{Yes, No, Words, File, Refuted, Spent, ReadFault, WriteFault}
 use Rattle.answers.specs.declared.status.Status.TheVariants.{Memory, Better}
-use Rattle.check_answer.proofs.CheckFacts as checks
-use Rattle.check_answer.proofs.CheckFacts.{checked-bad, checked-good}
-use Rattle.make_answer.specs.Circle.{circle_season}
+use Rattle.command_check.proofs.CheckFacts as checks
+use Rattle.command_check.proofs.CheckFacts.{checked-bad, checked-good}
+use Rattle.command_make.specs.Circle.{circle_season}
 use Rattle.command_line.specs.declared.goal.Goal.TheVariants as goal
 use Rattle.command_line.specs.Words.Command.{Audit, Bound, Check, Circle, Make, Prove, Resume, Rows, Validate, Values}
-use Rattle.make_answer.specs.MadeInstance.{made_instance}
+use Rattle.command_make.specs.MadeInstance.{made_instance}
 use Rattle.refutation.specs.declared.fault.LogKind.TheVariants.{BadLine}
 use Rattle.robin_run.specs.Answer.{IsAnswer}
 use Rattle.robin_run.specs.Ends.{may_end}
-use Rattle.validate_answer.proofs.ValidateFacts as judged
-use Rattle.validate_answer.proofs.ValidateFacts.{the_answer, validated-fault, validated-one}
+use Rattle.command_validate.proofs.ValidateFacts as judged
+use Rattle.command_validate.proofs.ValidateFacts.{the_answer, validated-fault, validated-one}
 
 -- where nothing fails, the judgement is the one answer to `validate league season`
 pub validate-one : (answer : Answer) → IsAnswer (Some (Validate (codes "league") (codes "season"))) judged.store answer → answer ≡ the_answer

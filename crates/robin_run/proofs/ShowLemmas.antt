@@ -14,10 +14,10 @@ use Rattle.command_line.specs.Words.Command.{Sheet, Show}
 use Rattle.answers.specs.Reply.{Answer}
 use Rattle.answers.specs.Stages.{NoneFails, Outcome, says, takes}
 use Rattle.answers.proofs.StageLemmas.{first-works, says-known, second-works, takes-known}
-use Rattle.validate_answer.specs.Validate.{IsWellFormedPair}
-use Rattle.show_answer.specs.Show.{IsShown, form_text, shown}
-use Rattle.show_answer.specs.declared.form.Form.{Form}
-use Rattle.show_answer.specs.declared.form.Form.TheVariants.{Text, Csv}
+use Rattle.command_validate.specs.Validate.{IsWellFormedPair}
+use Rattle.command_show.specs.Show.{IsShown, form_text, shown}
+use Rattle.command_show.specs.declared.form.Form.{Form}
+use Rattle.command_show.specs.declared.form.Form.TheVariants.{Text, Csv}
 use Rattle.robin_run.specs.Run.{Answered, Run}
 use Rattle.robin_run.specs.Show.{IsShownNamed, Shows}
 use Rattle.robin_run.proofs.RunLemmas.{writes}

@@ -3,8 +3,8 @@ use Rattle.std.proofs.Common.{[], ◌∷◌}
 use Rattle.command_line.specs.Words.Command.{Solve}
 use Rattle.answers.specs.declared.status.Status.TheVariants.{Refuted}
 use Rattle.encoding.specs.Encoding.{rows_of}
-use Rattle.solve_answer.specs.Solve.{IsFound}
-use Rattle.solve_answer.proofs.AnswerLemmas.{solved-refuted, solved-well_formed}
+use Rattle.command_solve.specs.Solve.{IsFound}
+use Rattle.command_solve.proofs.AnswerLemmas.{solved-refuted, solved-well_formed}
 use Rattle.robin_run.specs.Run.{Answered, Run}
 use Rattle.robin_run.specs.Solve.{Solves}
 use Rattle.robin_run.proofs.RunLemmas.{writes, writes-as}

@@ -3,27 +3,27 @@ use Rattle.std.specs.Prelude.{◌≡◌, Option, None, Some}
 use Rattle.robin_io.specs.Outside.{Store}
 use Rattle.answers.specs.Reply.{refused_words}
 use Rattle.answers.specs.Stages.{Outcome}
-use Rattle.bound_answer.specs.Bound.{bounded}
-use Rattle.check_answer.specs.Check.{checked}
-use Rattle.make_answer.specs.Circle.{circle_season}
+use Rattle.command_bound.specs.Bound.{bounded}
+use Rattle.command_check.specs.Check.{checked}
+use Rattle.command_make.specs.Circle.{circle_season}
 use Rattle.command_line.specs.Words.{Command}
 use Rattle.command_line.specs.Words.Command.{Validate, Show, Sheet, Check, Solve, Patterns, Explain, Part, Prove}
 use Rattle.command_line.specs.Words.Command.{Bound, Resume, Audit, Rows, Values, Circle, Make, Trial, Help, Version}
-use Rattle.explain_answer.specs.Explained.{explained}
-use Rattle.explain_answer.specs.Parted.{parted}
-use Rattle.help_answer.specs.Help.{help_answer, version_answer}
-use Rattle.make_answer.specs.MadeInstance.{IsMade}
-use Rattle.patterns_answer.specs.Patterns.{patterned}
-use Rattle.prove_answer.specs.Prove.{proved}
-use Rattle.resume_answer.specs.Audited.{audited}
-use Rattle.resume_answer.specs.Resumed.{resumed}
-use Rattle.rows_answer.specs.Rowed.{rowed}
-use Rattle.show_answer.specs.Show.{shown}
-use Rattle.show_answer.specs.declared.form.Form.TheVariants.{Text, Csv}
-use Rattle.solve_answer.specs.Solve.{solved}
-use Rattle.make_answer.specs.Trial.{tried}
-use Rattle.validate_answer.specs.Validate.{validated}
-use Rattle.values_answer.specs.Valued.{valued}
+use Rattle.command_explain.specs.Explained.{explained}
+use Rattle.command_explain.specs.Parted.{parted}
+use Rattle.command_help.specs.Help.{help_answer, version_answer}
+use Rattle.command_make.specs.MadeInstance.{IsMade}
+use Rattle.command_patterns.specs.Patterns.{patterned}
+use Rattle.command_prove.specs.Prove.{proved}
+use Rattle.command_resume.specs.Audited.{audited}
+use Rattle.command_resume.specs.Resumed.{resumed}
+use Rattle.command_rows.specs.Rowed.{rowed}
+use Rattle.command_show.specs.Show.{shown}
+use Rattle.command_show.specs.declared.form.Form.TheVariants.{Text, Csv}
+use Rattle.command_solve.specs.Solve.{solved}
+use Rattle.command_make.specs.Trial.{tried}
+use Rattle.command_validate.specs.Validate.{validated}
+use Rattle.command_values.specs.Valued.{valued}
 
 -- the answer to the words
 abbrev pub IsAnswer : Option Command → Store → Outcome

@@ -7,8 +7,8 @@ use Rattle.command_line.specs.Words.{Command}
 use Rattle.answers.specs.declared.status.Status.TheVariants.{Yes}
 use Rattle.refutation.specs.Steps.{Step}
 use Rattle.resume_rows.specs.Resumable.{NoneResumes}
-use Rattle.resume_answer.specs.Audited.{IsVerdict, IsWellFormedAudit}
-use Rattle.resume_answer.specs.Seasons.{SaySeason}
+use Rattle.command_resume.specs.Audited.{IsVerdict, IsWellFormedAudit}
+use Rattle.command_resume.specs.Seasons.{SaySeason}
 use Rattle.robin_run.specs.Run.{NothingFails, Run, Writes}
 
 pub record Promise (run : Run) (instance solution : List ℕ) (k : ℕ) (log : List ℕ) : Type 0 where

@@ -6,7 +6,7 @@ use Rattle.answers.specs.declared.status.Status.TheVariants.{Yes}
 use Rattle.encoding.specs.Encoding.{rows_of}
 use Rattle.refutation.specs.Steps.{Step}
 use Rattle.season_check.specs.Excluded.{NoneAccepted}
-use Rattle.check_answer.specs.Check.{IsVerdict, IsWellFormedLog}
+use Rattle.command_check.specs.Check.{IsVerdict, IsWellFormedLog}
 use Rattle.robin_run.specs.Said.{SaysLeague}
 use Rattle.robin_run.specs.Run.{NothingFails, Run, Writes}
 

@@ -10,10 +10,10 @@ use Rattle.explain.specs.Parts.{is_hard_number, part_of}
 use Rattle.command_line.specs.Words.{Command}
 use Rattle.answers.specs.declared.status.Status.TheVariants.{Refuted}
 use Rattle.season_check.specs.Excluded.{NoneAccepted}
-use Rattle.solve_answer.specs.Solve.{IsWellFormedInstance}
+use Rattle.command_solve.specs.Solve.{IsWellFormedInstance}
 use Rattle.explain.specs.Conflicts.{IsIrreducible}
-use Rattle.explain_answer.specs.Explained.{IsFound}
-use Rattle.explain_answer.specs.Texts.{members_line}
+use Rattle.command_explain.specs.Explained.{IsFound}
+use Rattle.command_explain.specs.Texts.{members_line}
 use Rattle.robin_run.specs.Said.{SaysLeague}
 use Rattle.robin_run.specs.Run.{NothingFails, Run, Writes}
 

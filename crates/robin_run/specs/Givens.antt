@@ -5,7 +5,7 @@ use Rattle.answers.specs.SeenReply.{MatchStage, answer_of}
 use Rattle.answers.specs.Stages.{Outcome}
 use Rattle.answers.specs.declared.reply.NoValue.{NoValue}
 use Rattle.answers.specs.declared.reply.Reply.{Reply}
-use Rattle.rows_answer.specs.Rowed.{rows_answer}
+use Rattle.command_rows.specs.Rowed.{rows_answer}
 use Rattle.robin_run.specs.declared.given.Given.{Given}
 use Rattle.robin_run.specs.declared.given.Given.TheVariants as given
 

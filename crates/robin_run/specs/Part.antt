@@ -3,7 +3,7 @@ use Rattle.std.specs.Prelude.{◌≡◌, ℕ, ◌≤◌, List, [], ◌∷◌, le
 use Rattle.league.specs.Instance.{Instance}
 use Rattle.robinx_read.specs.declared.instance.TheConstants.{INSTANCE_LIMIT}
 use Rattle.command_line.specs.Words.{Command}
-use Rattle.explain_answer.specs.Parted.{IsPart}
+use Rattle.command_explain.specs.Parted.{IsPart}
 use Rattle.robin_run.specs.Said.{SaysLeague}
 use Rattle.robin_run.specs.Run.{NothingFails, Run, Writes}
 

@@ -4,8 +4,8 @@ use Rattle.league.specs.Instance.{Instance}
 use Rattle.command_line.specs.Words.{Command}
 use Rattle.answers.specs.declared.status.Status.TheVariants.{Refuted}
 use Rattle.season_check.specs.Excluded.{NoneAccepted}
-use Rattle.solve_answer.specs.Solve.{IsWellFormedInstance}
-use Rattle.patterns_answer.specs.Patterns.{AreFound}
+use Rattle.command_solve.specs.Solve.{IsWellFormedInstance}
+use Rattle.command_patterns.specs.Patterns.{AreFound}
 use Rattle.robin_run.specs.Said.{SaysLeague}
 use Rattle.robin_run.specs.Run.{NothingFails, Run, Writes}
 

@@ -13,10 +13,10 @@ use Rattle.refutation.specs.Steps.{Step}
 use Rattle.refutation.specs.declared.verdict.Verdict.TheVariants.{Accepted}
 use Rattle.robinx_form.specs.Texts.{solution_text}
 use Rattle.bound_laws.specs.Faithful.{IsLowerBound}
-use Rattle.bound_answer.specs.Bound.{bound_verdict}
+use Rattle.command_bound.specs.Bound.{bound_verdict}
 use Rattle.certificates.specs.Certificates.{certificate_text}
-use Rattle.prove_answer.specs.Prove.{IsShown, IsWellFormedCase}
-use Rattle.resume_answer.specs.Seasons.{SaySeason}
+use Rattle.command_prove.specs.Prove.{IsShown, IsWellFormedCase}
+use Rattle.command_resume.specs.Seasons.{SaySeason}
 use Rattle.robin_run.specs.Run.{NothingFails, Run, Writes}
 
 -- The games are accepted, and no accepted schedule has a lower objective. The certificate that is written states their

@@ -6,8 +6,8 @@ use Rattle.league.specs.declared.game.Game.{Game}
 use Rattle.command_line.specs.Words.{Command}
 use Rattle.answers.specs.declared.status.Status.TheVariants.{Refuted, Yes}
 use Rattle.resume_rows.specs.Resumable.{NoneResumes}
-use Rattle.resume_answer.specs.Resumed.{IsFound, IsKeptSeason}
-use Rattle.resume_answer.specs.Seasons.{IsWellFormedSeason, SaySeason}
+use Rattle.command_resume.specs.Resumed.{IsFound, IsKeptSeason}
+use Rattle.command_resume.specs.Seasons.{IsWellFormedSeason, SaySeason}
 use Rattle.robin_run.specs.Run.{NothingFails, Run, Writes}
 
 pub record Promise (run : Run) (instance solution : List ℕ) (k : ℕ) (conflicts : Option ℕ) : Type 0 where

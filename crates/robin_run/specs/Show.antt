@@ -7,10 +7,10 @@ use Rattle.robinx_names.specs.Names.{Names}
 use Rattle.robinx_names.specs.NamesFile.{names_of}
 use Rattle.command_line.specs.Words.{Command}
 use Rattle.answers.specs.Reply.{Answer}
-use Rattle.validate_answer.specs.Validate.{IsWellFormedPair}
-use Rattle.show_answer.specs.Show.{IsShown, form_text}
-use Rattle.show_answer.specs.declared.form.Form.{Form}
-use Rattle.show_answer.specs.declared.form.Form.TheVariants.{Text, Csv}
+use Rattle.command_validate.specs.Validate.{IsWellFormedPair}
+use Rattle.command_show.specs.Show.{IsShown, form_text}
+use Rattle.command_show.specs.declared.form.Form.{Form}
+use Rattle.command_show.specs.declared.form.Form.TheVariants.{Text, Csv}
 use Rattle.robin_run.specs.Run.{NothingFails, Run, Writes}
 
 -- an answer that shows these games of a league in a form, with the names that the bytes of an instance file give

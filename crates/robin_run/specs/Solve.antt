@@ -6,7 +6,7 @@ use Rattle.command_line.specs.Words.{Command}
 use Rattle.answers.specs.declared.status.Status.TheVariants.{Refuted}
 use Rattle.encoding.specs.Encoding.{rows_of}
 use Rattle.season_check.specs.Excluded.{NoneAccepted}
-use Rattle.solve_answer.specs.Solve.{IsFound, IsWellFormedInstance}
+use Rattle.command_solve.specs.Solve.{IsFound, IsWellFormedInstance}
 use Rattle.robin_run.specs.Said.{SaysLeague}
 use Rattle.robin_run.specs.Run.{NothingFails, Run, Writes}
 

@@ -11,10 +11,10 @@ use Rattle.command_line.specs.Words.{Command}
 use Rattle.answers.specs.declared.status.Status.TheVariants.{Yes}
 use Rattle.rows.specs.Literals.{Literal}
 use Rattle.encoding.specs.Encoding.{rows_of}
-use Rattle.check_answer.specs.Check.{most_log_bytes}
-use Rattle.solve_answer.specs.Solve.{IsWellFormedInstance}
+use Rattle.command_check.specs.Check.{most_log_bytes}
+use Rattle.command_solve.specs.Solve.{IsWellFormedInstance}
 use Rattle.values_read.specs.Values.{values_of}
-use Rattle.values_answer.specs.Valued.{IsValued}
+use Rattle.command_values.specs.Valued.{IsValued}
 use Rattle.robin_run.specs.Said.{SaysLeague}
 use Rattle.robin_run.specs.Run.{NothingFails, Run, Writes}
 

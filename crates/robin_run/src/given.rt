@@ -3,7 +3,7 @@ ghost use Rattle.std.specs.Prelude.{◌≡◌};
 ghost use Rattle.robin_run.specs.Givens.{IsGiven};
 
 use answers::{NoValue, Reply};
-use rows_answer::ReadyRows;
+use command_rows::ReadyRows;
 
 /// What a command gives: an answer, or rows that are ready to be written.
 #[derive(Drop)]

@@ -16,7 +16,7 @@ use clause_search::{Found, note_numbers, search};
 use decoding::decode;
 use encoding::Encoding;
 use league::League;
-use listening::Listener;
+use robin_news::Listener;
 use rows::{Assignment, Lit};
 use std::alloc::{AllocError, Global};
 

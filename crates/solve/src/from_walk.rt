@@ -5,7 +5,7 @@ ghost use Rattle.solve.specs.Tried.{IsSeason};
 use crate::lower::{Season, lowered};
 use circle_method::double;
 use league::League;
-use listening::Listener;
+use robin_news::Listener;
 use std::alloc::{AllocError, Global};
 use walk::walk;
 

@@ -23,13 +23,13 @@ use crate::tries::{Tried, better, is_refuted, schedule_found, solved_by};
 use budgets::Budgets;
 use encoding::{EncodeFault, Encoding, check_size, encode_small};
 use league::League;
-use listening::Listener;
+use robin_news::Listener;
 use clause_search::note_numbers;
 use pattern_search::{PatternFound, pattern_set};
 use patterns::PatternSet;
 use refutation::Log;
 use std::alloc::{AllocError, Global};
-use watching::Watch;
+use robin_watch::Watch;
 
 /// Finds a schedule that the league accepts, or a proof that there is none.
 ///

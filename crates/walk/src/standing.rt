@@ -22,7 +22,7 @@ use rand_pcg::Pcg32;
 use rule_core::{Rule, Steps};
 use std::alloc::{AllocError, Global};
 use tally::{Sums, Tally};
-use watching::Watch;
+use robin_watch::Watch;
 
 /// How many moves are drawn, legal or not, for each that may be tried.
 const DRAWS: u64 = 8;

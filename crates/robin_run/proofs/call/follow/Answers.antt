@@ -1,19 +1,19 @@
 use Rattle.robin_io.specs.Outside.{store_between}
 use Rattle.command_line.specs.Words.{members_of}
-use Rattle.bound_answer.specs.Bound.{bounded}
-use Rattle.check_answer.specs.Check.{checked}
-use Rattle.explain_answer.specs.Explained.{explained}
-use Rattle.explain_answer.specs.Parted.{parted}
-use Rattle.patterns_answer.specs.Patterns.{patterned}
-use Rattle.prove_answer.specs.Prove.{proved}
-use Rattle.resume_answer.specs.Audited.{audited}
-use Rattle.resume_answer.specs.Resumed.{resumed}
-use Rattle.show_answer.specs.Show.{shown}
-use Rattle.show_answer.specs.declared.form.Form.TheVariants.{Text, Csv}
-use Rattle.solve_answer.specs.Solve.{solved}
-use Rattle.make_answer.specs.Trial.{tried}
-use Rattle.validate_answer.specs.Validate.{validated}
-use Rattle.values_answer.specs.Valued.{valued}
+use Rattle.command_bound.specs.Bound.{bounded}
+use Rattle.command_check.specs.Check.{checked}
+use Rattle.command_explain.specs.Explained.{explained}
+use Rattle.command_explain.specs.Parted.{parted}
+use Rattle.command_patterns.specs.Patterns.{patterned}
+use Rattle.command_prove.specs.Prove.{proved}
+use Rattle.command_resume.specs.Audited.{audited}
+use Rattle.command_resume.specs.Resumed.{resumed}
+use Rattle.command_show.specs.Show.{shown}
+use Rattle.command_show.specs.declared.form.Form.TheVariants.{Text, Csv}
+use Rattle.command_solve.specs.Solve.{solved}
+use Rattle.command_make.specs.Trial.{tried}
+use Rattle.command_validate.specs.Validate.{validated}
+use Rattle.command_values.specs.Valued.{valued}
 use Rattle.robin_run.proofs.RunLemmas.{given-gives}
 use Rattle.robin_run.proofs.call.follow.Goals as goal
 

@@ -1,0 +1,80 @@
+//! The answers of `bound`.
+ghost use Rattle.std.specs.Prelude.{◌≡◌, IfOk, Ok};
+ghost use Rattle.answers.specs.SeenReply.{answer_of};
+ghost use Rattle.bound_laws.specs.Faithful.{IsLowerBound};
+ghost use Rattle.bound_rows.specs.Bounded.{IsCounted};
+ghost use Rattle.command_bound.specs.Bound as texts;
+ghost use Rattle.command_bound.specs.Bound.{IsBoundVerdict, bound_verdict};
+
+use answers::{Reply, Status};
+use crate::check_bound;
+use certificates::Certificate;
+use command_check::verdict_reply;
+use league::League;
+use refutation::Verdict;
+use std::alloc::{AllocError, Global};
+
+/// The verdict on a certificate. If it is accepted, every schedule that the league accepts has an objective of at least
+/// the bound.
+///
+/// # Errors
+/// Only where memory runs out.
+fn verdict_on(
+    alloc: Global,
+    league: &League,
+    certificate: &Certificate,
+    terms: u64,
+) -> Result<Verdict, AllocError>
+    requires { IsCounted league.now terms }
+    ensures verdict { IfOk result (λ verdict.
+        verdict ≡ bound_verdict league.now certificate.now.bound certificate.now.log) }
+    ensures holds { result ≡ Ok Verdict.Accepted → IsLowerBound league.now certificate.now.bound }
+{
+    if certificate.bound == 0 {
+        return Ok(Verdict::Accepted);
+    }
+    let verdict = check_bound(alloc, league, certificate.bound, &certificate.log, terms)?;
+    Ok(verdict)
+}
+
+/// The answer to a certificate of `steps` steps that is accepted.
+fn accepted(alloc: Global, bound: u64, steps: usize) -> Result<Reply, AllocError>
+    ensures { IfOk result (λ reply. answer_of reply ≡ texts.bound_answer bound steps Verdict.Accepted) }
+{
+    let text = format!(in alloc; "accepted bound {bound} steps {steps}\n")?;
+    Ok(Reply {
+        status: Status::Yes,
+        text: text.into_bytes(),
+    })
+}
+
+/// The answer that tells the verdict on a certificate of `steps` steps.
+fn bound_reply(
+    alloc: Global,
+    bound: u64,
+    steps: usize,
+    verdict: Verdict,
+) -> Result<Reply, AllocError>
+    ensures { IfOk result (λ reply. answer_of reply ≡ texts.bound_answer bound steps verdict) }
+{
+    match verdict {
+        Verdict::Accepted => accepted(alloc, bound, steps),
+        Verdict::Rejected { step, cause } => {
+            verdict_reply(alloc, steps, Verdict::Rejected { step, cause })
+        }
+    }
+}
+
+/// The answer to a certificate of a league.
+pub(crate) fn judge(
+    alloc: Global,
+    league: &League,
+    certificate: &Certificate,
+    terms: u64,
+) -> Result<Reply, AllocError>
+    requires { IsCounted league.now terms }
+    ensures { IfOk result (λ reply. IsBoundVerdict league.now certificate.now (answer_of reply)) }
+{
+    let verdict = verdict_on(alloc, league, certificate, terms)?;
+    bound_reply(alloc, certificate.bound, certificate.log.len(), verdict)
+}

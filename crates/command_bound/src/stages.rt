@@ -1,0 +1,92 @@
+//! The stages of `bound`.
+ghost use Rattle.std.specs.Prelude.{◌≡◌, ◌<◌, ℕ, List, Ok};
+ghost use Rattle.robin_io.specs.Outside.{store_between};
+ghost use Rattle.answers.specs.Reply.{too_large};
+ghost use Rattle.answers.specs.SeenReply.{Answers, MatchStage};
+ghost use Rattle.bound_base.specs.BoundRows.{bound_size};
+ghost use Rattle.bound_rows.specs.Bounded.{IsCounted};
+ghost use Rattle.encoding.specs.Capped.{capped};
+ghost use Rattle.certificates.specs.Certificates.{certificate_of};
+ghost use Rattle.command_bound.specs.Bound.{IsBoundVerdict, bounded, says_certificate};
+ghost use Rattle.command_bound.specs.Faults.{IsMalformed};
+ghost use Rattle.encoding.specs.Limit.{most_terms};
+
+use crate::replies::judge;
+use answers::{NoValue, Reply, file, league_in, log_refused, rows_refused};
+use bound_rows::bound_terms;
+use certificates::{Certificate, read_certificate};
+use command_check::LOG_LIMIT;
+use encoding::MOST_TERMS;
+use league::League;
+use refutation::LogFault;
+use robin_io::Shelf;
+use robinx_read::INSTANCE_LIMIT;
+use std::alloc::{AllocError, Global};
+
+/// How many terms the bound rows of a league have, if these aren't too many.
+///
+/// # Errors
+/// If they have more than 40,000,000, with the reply that says how many, or if memory runs out.
+pub fn few_terms(alloc: Global, league: &League) -> Result<u64, NoValue>
+    ensures { MatchStage result
+        (IsCounted league.now)
+        (λ answer. (most_terms < bound_size league.now)
+        × (answer ≡ too_large (capped (bound_size league.now)))) }
+{
+    let terms = bound_terms(league);
+    if terms > MOST_TERMS {
+        return Err(NoValue::Refused(rows_refused(alloc, terms)?));
+    }
+    Ok(terms)
+}
+
+/// The certificate that a text writes.
+fn certificate_in(alloc: Global, name: &str, bytes: &[u8]) -> Result<Certificate, NoValue>
+    ensures { MatchStage result
+        (λ certificate. certificate_of bytes.now ≡ Ok certificate)
+        (IsMalformed (certificate_of bytes.now)) }
+{
+    match read_certificate(alloc, bytes) {
+        Ok(certificate) => Ok(certificate),
+        Err(LogFault::Form { kind, line }) => {
+            Err(NoValue::Refused(log_refused(alloc, name, kind, line)?))
+        }
+        Err(LogFault::Mem) => Err(NoValue::Memory),
+    }
+}
+
+/// Judges the certificate that a text writes.
+fn judge_text(
+    alloc: Global,
+    name: &str,
+    bytes: &[u8],
+    league: &League,
+    terms: u64,
+) -> Result<Reply, NoValue>
+    requires { IsCounted league.now terms }
+    ensures { Answers (says_certificate (certificate_of bytes.now) (IsBoundVerdict league.now)) result }
+{
+    let certificate = certificate_in(alloc, name, bytes)?;
+    Ok(judge(alloc, league, &certificate, terms)?)
+}
+
+/// Checks the certificate of one file over the bound rows of the league of the other.
+///
+/// # Errors
+/// Where a file is refused, with the reply that says why, and where memory runs out.
+pub fn bound_file<S: Shelf>(
+    alloc: Global,
+    shelf: &mut S,
+    instance: &str,
+    log: &str,
+) -> Result<Reply, NoValue>
+    ensures answer { Answers (bounded (store_between S.Shelf shelf.old shelf.new)
+        instance.now log.now) result }
+    ensures contents { (n : List ℕ) → S.contents shelf.new n ≡ S.contents shelf.old n }
+{
+    let first = file(alloc, shelf, "instance", instance, INSTANCE_LIMIT)?;
+    let league = league_in(alloc, instance, &first)?;
+    let terms = few_terms(alloc, &league)?;
+    let second = file(alloc, shelf, "log", log, LOG_LIMIT)?;
+    judge_text(alloc, log, &second, &league, terms)
+}

@@ -1,0 +1,27 @@
+use Rattle.std.proofs.Common.{subst}
+use Rattle.robin_io.specs.Outside.{Store, store_between}
+use Rattle.refutation.specs.Logs.{log_of}
+use Rattle.refutation.specs.Places.{Place, start}
+use Rattle.refutation_check.specs.Judged.{Judged, no_step_of}
+use Rattle.answers.proofs.StageLemmas.{Answers-wider}
+use Rattle.command_check.specs.Check.{IsVerdictOver, most_log_bytes, says_log}
+use Rattle.command_check.specs.Feeding.{ChecksOn}
+use Rattle.command_check.proofs.StageLemmas.{log-file}
+use Rattle.command_check.proofs.stages.judge_log.Goals as goal
+
+-- the reader began in front of the log, and the checker with no step
+pub returns-clause-answer : goal.returns-clause-answer
+returns-clause-answer g c = λ rows vars none.
+    let store : Store = store_between g.S.Shelf c.args.shelf.now c.log_in.new.shelf in
+    let file = c.in_ok-steps.ensures.stage in
+    let now = c.log_in.new.feed in
+    let new = c.log_in.new.checker in
+    let from_start : ChecksOn start c.args.checker.now file.bytes now new c.in_ok-steps.steps =
+    subst (λ (at : Place). ChecksOn at c.args.checker.now file.bytes now new c.in_ok-steps.steps) c.new-feed.ensures
+    file.checked in
+    let from_none : ChecksOn start (no_step_of rows vars) file.bytes now new c.in_ok-steps.steps =
+    subst (λ (s : Judged). ChecksOn start s file.bytes now new c.in_ok-steps.steps) none from_start in
+    Answers-wider _ _
+    (log-file (store.contents c.args.name.now) (store.took_more most_log_bytes) (store.failed c.args.name.now)
+    (λ bytes. says_log (log_of bytes) (IsVerdictOver rows vars)) file.bytes file.file)
+    c.verdict_on.result (c.verdict_on.ensures rows vars file.bytes from_none)

@@ -1,0 +1,162 @@
+//! The stages of `check`.
+ghost use Rattle.std.specs.Prelude.{◌≡◌, ◌<◌, ◌≤◌, ℕ, List, IfOk, codes, vec_len};
+ghost use Rattle.robin_io.specs.Outside.{store_between};
+ghost use Rattle.rows.specs.Rows.{Row};
+ghost use Rattle.encoding.specs.Encoding.{encoding_size, rows_of};
+ghost use Rattle.refutation.specs.Logs.{log_of};
+ghost use Rattle.refutation.specs.Places.{start};
+ghost use Rattle.refutation_check.specs.Judged.{no_step_of};
+ghost use Rattle.answers.specs.Reply.{too_large};
+ghost use Rattle.answers.specs.SeenReply.{Answers, MatchStage};
+ghost use Rattle.answers.specs.Stages.{IsUnread, reads};
+ghost use Rattle.command_check.specs.Check.{IsVerdict, IsVerdictOver, checked, most_log_bytes};
+ghost use Rattle.command_check.specs.Check.{says_log};
+ghost use Rattle.command_check.specs.Feeding.{ChecksFile, ChecksOn};
+ghost use Rattle.encoding.specs.Limit.{most_terms};
+
+use crate::feeding::{LOG_LIMIT, check_file};
+use crate::replies::verdict_reply;
+use answers::{NoValue, Reply, file, league_in, log_refused, past_limit, rows_refused, unreadable};
+use encoding::{EncodeFault, Encoding, encode};
+use league::League;
+use refutation::{LogFault, LogFeed};
+use refutation_check::Checker;
+use robin_io::{Shelf, TakeFault};
+use robinx_read::INSTANCE_LIMIT;
+use season_check::checker_of;
+use std::alloc::{AllocError, Global};
+
+/// The rows of a league, or why there are none.
+fn encoding_of(alloc: Global, league: &League) -> Result<Encoding, NoValue>
+    ensures stage { MatchStage result
+        (λ encoding. (encoding ≡ league.now) × (encoding_size league.now ≤ most_terms))
+        (λ answer. (most_terms < encoding_size league.now) × (answer ≡ too_large (encoding_size league.now))) }
+{
+    match encode(alloc, league) {
+        Ok(encoding) => Ok(encoding),
+        Err(EncodeFault::TooLarge { terms }) => Err(NoValue::Refused(rows_refused(alloc, terms)?)),
+        Err(EncodeFault::Mem) => Err(NoValue::Memory),
+    }
+}
+
+/// How many bytes of a log one take asks for at most.
+const PIECE: usize = 65_536;
+
+/// Room for so many bytes.
+fn room_of(alloc: Global, len: usize) -> Result<Vec<u8>, AllocError>
+    ensures { IfOk result (λ room. vec_len room ≡ len) }
+{
+    vec![in alloc; 0u8; len]
+}
+
+/// Reads the log and judges its steps, or answers why it can't be read.
+fn log_in<S: Shelf>(
+    alloc: Global,
+    shelf: &mut S,
+    name: &str,
+    feed: &mut LogFeed,
+    checker: &mut Checker,
+) -> Result<usize, NoValue>
+    requires { feed.old ≡ start }
+    ensures stage { let store = store_between S.Shelf shelf.old shelf.new in MatchStage result
+        (ChecksFile (store.contents name.now) feed.old checker.old feed.new checker.new)
+        (IsUnread (codes "log") (store.contents name.now) most_log_bytes (store.took_more most_log_bytes)
+        (store.failed name.now)) }
+    ensures contents { (n : List ℕ) → S.contents shelf.new n ≡ S.contents shelf.old n }
+{
+    let mut room = room_of(alloc, PIECE)?;
+    match check_file(alloc, shelf, name, &mut room, feed, checker) {
+        Ok(steps) => Ok(steps),
+        Err(TakeFault::Failed) => Err(NoValue::Refused(unreadable(
+            alloc,
+            "log",
+            name,
+            shelf.reason(),
+        )?)),
+        Err(TakeFault::TooLong { .. }) => {
+            Err(NoValue::Refused(past_limit(alloc, "log", name, LOG_LIMIT)?))
+        }
+        Err(TakeFault::Mem) => Err(NoValue::Memory),
+    }
+}
+
+/// The answer at the end of the log, whose steps the checker has judged.
+fn verdict_on(
+    alloc: Global,
+    name: &str,
+    feed: LogFeed,
+    checker: &Checker,
+    steps: usize,
+) -> Result<Reply, NoValue>
+    ensures { (rows : List Row) (vars : ℕ) (bytes : List ℕ)
+        → ChecksOn start (no_step_of rows vars) bytes feed checker.now steps
+        → Answers (says_log (log_of bytes) (IsVerdictOver rows vars)) result }
+{
+    match feed.finish() {
+        Ok(()) => Ok(verdict_reply(alloc, steps, checker.verdict())?),
+        Err(LogFault::Form { kind, line }) => {
+            Err(NoValue::Refused(log_refused(alloc, name, kind, line)?))
+        }
+        Err(LogFault::Mem) => Err(NoValue::Memory),
+    }
+}
+
+/// Reads the log of a file and answers with the verdict on it, over the rows of a checker that was given no step yet.
+/// The log is read in pieces and its steps are judged as they come; it is read to its end before the answer.
+///
+/// # Errors
+/// Where the file is refused, with the reply that says why, and where memory runs out.
+pub fn judge_log<S: Shelf>(
+    alloc: Global,
+    shelf: &mut S,
+    name: &str,
+    checker: &mut Checker,
+) -> Result<Reply, NoValue>
+    ensures answer { (rows : List Row) (vars : ℕ) → checker.old ≡ no_step_of rows vars
+        → Answers (reads (store_between S.Shelf shelf.old shelf.new) (codes "log") name.now most_log_bytes 0
+        (λ bytes. says_log (log_of bytes) (IsVerdictOver rows vars))) result }
+    ensures contents { (n : List ℕ) → S.contents shelf.new n ≡ S.contents shelf.old n }
+{
+    let mut feed = LogFeed::new(alloc);
+    let steps = log_in(alloc, shelf, name, &mut feed, checker)?;
+    verdict_on(alloc, name, feed, checker, steps)
+}
+
+/// Checks a log over the rows of a league.
+fn check_log<S: Shelf>(
+    alloc: Global,
+    shelf: &mut S,
+    name: &str,
+    encoding: &Encoding,
+) -> Result<Reply, NoValue>
+    ensures answer { Answers (reads (store_between S.Shelf shelf.old shelf.new) (codes "log") name.now most_log_bytes 0
+        (λ bytes. says_log (log_of bytes) (IsVerdict encoding.now (rows_of encoding.now)))) result }
+    ensures contents { (n : List ℕ) → S.contents shelf.new n ≡ S.contents shelf.old n }
+{
+    // For its contract: what is encoded is a league, of which accepted logs exclude every schedule.
+    let _vars = encoding.vars();
+    let mut checker = checker_of(alloc, encoding)?;
+    judge_log(alloc, shelf, name, &mut checker)
+}
+
+/// Checks the log of one file over the rows of the league of the other.
+///
+/// The log is read in pieces and its steps are judged as they come; it is read to its end before the answer.
+///
+/// # Errors
+/// Where a file is refused, with the reply that says why, and where memory runs out.
+pub fn check<S: Shelf>(
+    alloc: Global,
+    shelf: &mut S,
+    instance: &str,
+    log: &str,
+) -> Result<Reply, NoValue>
+    ensures answer { Answers (checked (store_between S.Shelf shelf.old shelf.new)
+        instance.now log.now) result }
+    ensures contents { (n : List ℕ) → S.contents shelf.new n ≡ S.contents shelf.old n }
+{
+    let first = file(alloc, shelf, "instance", instance, INSTANCE_LIMIT)?;
+    let league = league_in(alloc, instance, &first)?;
+    let encoding = encoding_of(alloc, &league)?;
+    check_log(alloc, shelf, log, &encoding)
+}

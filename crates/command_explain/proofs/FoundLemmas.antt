@@ -1,0 +1,139 @@
+-- What is found of a league, answered.
+use Rattle.std.proofs.Common.{◌≡◌, ℕ, true, List, [], ◌∷◌, length, Option, Some, Result, Ok, Err, arith, ap}
+use Rattle.std.proofs.Common.{inl, inr, sym, ◌∙◌}
+use Rattle.std.specs.Prelude.{IfOk}
+use Rattle.std.specs.List.{All, AllZip}
+use Rattle.std.proofs.lemmas.List.Elements.{All-cons, All-nil}
+use Rattle.league.specs.Accepted.{IsAccepted}
+use Rattle.league.specs.Accepted as costs
+use Rattle.league.specs.Counts.{counts_of}
+use Rattle.league.specs.Instance.{Instance}
+use Rattle.league.specs.declared.game.Game.{Game}
+use Rattle.circle_method.specs.Circle.{double_games}
+use Rattle.robinx_form.specs.Texts.{solution_text}
+use Rattle.encoding_base.specs.Variables.{var_count}
+use Rattle.refutation.specs.Steps.{Step}
+use Rattle.refutation.specs.Logs.{log_of}
+use Rattle.refutation.specs.Texts.{log_text}
+use Rattle.answers.specs.SeenReply.{answer_of}
+use Rattle.answers.specs.declared.reply.Reply.{Reply}
+use Rattle.answers.specs.declared.status.Status.{Status}
+use Rattle.answers.specs.declared.status.Status.TheVariants.{Yes, Refuted, Spent}
+use Rattle.solve.specs.Solutions.{IsSpentOn}
+use Rattle.venue_counts.specs.VenueCounts.{are_crowded, are_short}
+use Rattle.break_counts.specs.BreakCounts.{are_few}
+use Rattle.explain.specs.Conflicts.{AreDecided, IsAmple, IsCase, IsConflict, IsIrreducible, IsSeason}
+use Rattle.explain.specs.declared.cases.Case.{Case}
+use Rattle.explain.specs.declared.cases.Case.TheVariants.{Without, Undecided}
+use Rattle.command_explain.specs.Explained.{IsFound}
+use Rattle.command_explain.specs.Texts.{IsWritableCase, conflict_text}
+
+-- ---- a conflict can be written
+
+each_writable : (league : Instance) (limit : Option ℕ) (whole members : List ℕ) (cases : List Case)
+    → AllZip (IsCase league limit whole) members cases → All IsWritableCase cases
+each_writable league limit whole [] [] each = All-nil IsWritableCase
+each_writable league limit whole [] (case ∷ cases) each = absurd each
+each_writable league limit whole (k ∷ members) [] each = absurd each
+each_writable league limit whole (k ∷ members) (Without games ∷ cases) each =
+    All-cons IsWritableCase (Without games) cases tt (each_writable league limit whole members cases each.1)
+each_writable league limit whole (k ∷ members) (Undecided log ∷ cases) each =
+    All-cons IsWritableCase (Undecided log) cases each.0.writable
+    (each_writable league limit whole members cases each.1)
+
+same_length : (league : Instance) (limit : Option ℕ) (whole members : List ℕ) (cases : List Case)
+    → AllZip (IsCase league limit whole) members cases → length cases ≡ length members
+same_length league limit whole [] [] each = omega arith
+same_length league limit whole [] (case ∷ cases) each = absurd each
+same_length league limit whole (k ∷ members) [] each = absurd each
+same_length league limit whole (k ∷ members) (case ∷ cases) each =
+    omega (arith, same_length league limit whole members cases each.1)
+
+pub conflict-writable : (league : Instance) (limit : Option ℕ) (members : List ℕ) (log : List Step)
+    (cases : List Case) → IsConflict league limit members log cases → All IsWritableCase cases
+conflict-writable league limit members log cases is = each_writable league limit members members cases is.each
+
+pub conflict-each : (league : Instance) (limit : Option ℕ) (members : List ℕ) (log : List Step) (cases : List Case)
+    → IsConflict league limit members log cases → length cases ≡ length members
+conflict-each league limit members log cases is = same_length league limit members members cases is.each
+
+-- ---- replies, unless memory ran out
+
+not_spent : (status : Status) → status ≡ Yes → status ≡ Spent → ⊥
+not_spent status is ended = let same : Yes ≡ Spent = sym is ∙ ended in cc
+
+not_spent_either : (status : Status) → status ≡ Refuted → status ≡ Spent → ⊥
+not_spent_either status is ended = let same : Refuted ≡ Spent = sym is ∙ ended in cc
+
+pub replied-met : {E : Type 0} (league : Instance) (conflicts : Option ℕ) (games : List Game) (objective : ℕ)
+    (result : Result Reply E) → IsSeason league games × (objective ≡ costs.objective league (counts_of games))
+    → (are_short league ≡ true → ⊥) → (are_crowded league ≡ true → ⊥) → (are_few league ≡ true → ⊥)
+    → IfOk result (λ reply. (answer_of reply).status ≡ Yes)
+    → IfOk result (λ reply. (answer_of reply).text ≡ solution_text games (Some (0, objective)))
+    → IfOk result (λ reply. IsFound league conflicts (answer_of reply))
+replied-met {E} league conflicts games objective (Ok reply) is not_short not_crowded enough status text = record {
+  found = inl (record {
+    games = games;
+    season = is.0;
+    status = status;
+    text = text ∙ ap (λ (cost : ℕ). solution_text games (Some (0, cost))) is.1;
+  });
+  ample = λ ample ended. not_spent (answer_of reply).status status ended;
+  circle = λ accepted. status;
+  short = λ short. absurd (not_short short);
+  crowded = λ crowded. absurd (not_crowded crowded);
+  few = λ is. absurd (enough is);
+}
+replied-met {E} league conflicts games objective (Err error) is not_short not_crowded enough status text = tt
+
+pub replied-conflict : {E : Type 0} (league : Instance) (conflicts : Option ℕ) (members : List ℕ) (log : List Step)
+    (cases : List Case) (result : Result Reply E) → IsConflict league conflicts members log cases
+    → (AreDecided cases → IsIrreducible league members) → (IsAmple (var_count league) conflicts → AreDecided cases)
+    → (IsAccepted league (counts_of (double_games league.n)) → ⊥)
+    → IfOk result (λ reply. (answer_of reply).status ≡ Refuted)
+    → IfOk result (λ reply. (answer_of reply).text ≡ conflict_text members log cases)
+    → IfOk result (λ reply. IsFound league conflicts (answer_of reply))
+replied-conflict {E} league conflicts members log cases (Ok reply) is irreducible decided no_circle status text =
+    record {
+      found = inr (inl (record {
+        members = members;
+        log = log;
+        cases = cases;
+        conflict = is;
+        irreducible = irreducible;
+        decided = decided;
+        status = status;
+        text = text;
+      }));
+      ample = λ ample ended. not_spent_either (answer_of reply).status status ended;
+      circle = λ accepted. absurd (no_circle accepted);
+      short = λ short. status;
+      crowded = λ crowded. status;
+      few = λ is. status;
+    }
+replied-conflict {E} league conflicts members log cases (Err error) is irreducible decided no_circle status text = tt
+
+pub replied-spent : {E : Type 0} (league : Instance) (conflicts : Option ℕ) (steps : List Step)
+    (result : Result Reply E) → IsSpentOn league conflicts steps → (IsAmple (var_count league) conflicts → ⊥)
+    → (IsAccepted league (counts_of (double_games league.n)) → ⊥) → (are_short league ≡ true → ⊥)
+    → (are_crowded league ≡ true → ⊥) → (are_few league ≡ true → ⊥) → IfOk result (λ reply. (answer_of reply).status ≡ Spent)
+    → IfOk result (λ reply. (answer_of reply).text ≡ log_text steps)
+    → IfOk result (λ reply. log_of (answer_of reply).text ≡ Ok steps)
+    → IfOk result (λ reply. IsFound league conflicts (answer_of reply))
+replied-spent {E} league conflicts steps (Ok reply) spent not_ample no_circle not_short not_crowded enough status text back =
+    record {
+      found = inr (inr (record {
+        steps = steps;
+        spent = spent;
+        status = status;
+        text = text;
+        reads_back = back;
+      }));
+      ample = λ ample ended. not_ample ample;
+      circle = λ accepted. absurd (no_circle accepted);
+      short = λ short. absurd (not_short short);
+      crowded = λ crowded. absurd (not_crowded crowded);
+      few = λ is. absurd (enough is);
+    }
+replied-spent {E} league conflicts steps (Err error) spent not_ample no_circle not_short not_crowded enough status text back =
+    tt

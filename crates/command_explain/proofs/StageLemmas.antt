@@ -1,0 +1,40 @@
+-- How the stages of `part` and `explain` make an answer.
+use Rattle.std.proofs.Common.{◌≡◌, ℕ, List, Option, Ok, codes, inl}
+use Rattle.robin_io.specs.Outside.{Store}
+use Rattle.league.specs.Instance.{Instance}
+use Rattle.robinx_tags.specs.Pieces.{pieces}
+use Rattle.robinx_form.specs.InstanceFile.{instance_of}
+use Rattle.robinx_read.specs.declared.instance.TheConstants.{INSTANCE_LIMIT}
+use Rattle.answers.specs.Reply.{Answer}
+use Rattle.answers.specs.Stages.{IsFile}
+use Rattle.answers.proofs.StageLemmas.{says-value}
+use Rattle.command_check.specs.Check.{encodes}
+use Rattle.command_explain.specs.Explained.{IsFound, explained}
+use Rattle.command_explain.specs.Parted.{IsPart, parted}
+
+-- the instance file is read and says a league: its part is the answer
+pub parted-league : (store : Store)
+    (instance bytes : List ℕ) (members : List ℕ) (league : Instance)
+    → IsFile (store.contents instance) INSTANCE_LIMIT bytes → instance_of (pieces bytes) ≡ Ok league → (answer : Answer)
+    → IsPart league members answer → parted store instance members answer
+parted-league store instance bytes members league is_file says_league answer rest =
+    inl (
+      bytes,
+      is_file,
+      says-value (codes "instance") (instance_of (pieces bytes)) league (λ l. IsPart l members) answer says_league
+          rest,
+    )
+
+-- what its rows come to is the answer
+pub explained-league : (store : Store)
+    (instance bytes : List ℕ) (conflicts : Option ℕ) (league : Instance)
+    → IsFile (store.contents instance) INSTANCE_LIMIT bytes → instance_of (pieces bytes) ≡ Ok league → (answer : Answer)
+    → encodes league (λ rows. IsFound league conflicts) answer
+    → explained store instance conflicts answer
+explained-league store instance bytes conflicts league is_file says_league answer rest =
+    inl (
+      bytes,
+      is_file,
+      says-value (codes "instance") (instance_of (pieces bytes)) league
+          (λ l. encodes l (λ rows. IsFound l conflicts)) answer says_league rest,
+    )

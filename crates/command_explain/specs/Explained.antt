@@ -1,0 +1,77 @@
+-- What `explain` answers: its stages in their order, and what is found of a league.
+use Rattle.std.specs.Prelude.{◌≡◌, ℕ, ◌⊎◌, true, List, codes, Option, Some, Ok}
+use Rattle.robin_io.specs.Outside.{Store}
+use Rattle.league.specs.Accepted.{IsAccepted, objective}
+use Rattle.league.specs.Counts.{counts_of}
+use Rattle.league.specs.Instance.{Instance}
+use Rattle.league.specs.declared.game.Game.{Game}
+use Rattle.circle_method.specs.Circle.{double_games}
+use Rattle.robinx_tags.specs.Pieces.{pieces}
+use Rattle.robinx_form.specs.InstanceFile.{instance_of}
+use Rattle.robinx_form.specs.Texts.{solution_text}
+use Rattle.robinx_read.specs.declared.instance.TheConstants.{INSTANCE_LIMIT}
+use Rattle.answers.specs.Reply.{Answer}
+use Rattle.answers.specs.Stages.{◌>>=◌, Outcome, reads, says}
+use Rattle.answers.specs.declared.status.Status.TheVariants.{Yes, Refuted, Spent}
+use Rattle.encoding_base.specs.Variables.{var_count}
+use Rattle.refutation.specs.Steps.{Step}
+use Rattle.refutation.specs.Logs.{log_of}
+use Rattle.refutation.specs.Texts.{log_text}
+use Rattle.solve.specs.Solutions.{IsSpentOn}
+use Rattle.venue_counts.specs.VenueCounts.{are_crowded, are_short}
+use Rattle.break_counts.specs.BreakCounts.{are_few}
+use Rattle.command_check.specs.Check.{encodes}
+use Rattle.explain.specs.Conflicts.{AreDecided, IsAmple, IsConflict, IsIrreducible, IsSeason}
+use Rattle.explain.specs.declared.cases.Case.{Case}
+use Rattle.command_explain.specs.Texts.{conflict_text}
+
+-- ---- what is found
+
+-- a schedule that the league accepts is written, with its objective
+pub record IsMet (league : Instance) (answer : Answer) : Type 0 where
+  pub games : List Game
+  pub season : IsSeason league games
+  pub status : answer.status ≡ Yes
+  pub text : answer.text ≡ solution_text games (Some (0, objective league (counts_of games)))
+
+-- Hard constraints that contradict each other are written, the log that refutes the league of these alone, and for each
+-- a schedule that the league of the others accepts, or a log that is spent over its rows. Where each has a schedule, no
+-- schedule meets the named constraints and without any one of them there is one; with an ample budget each has.
+pub record IsNamed (league : Instance) (conflicts : Option ℕ) (answer : Answer) : Type 0 where
+  pub members : List ℕ
+  pub log : List Step
+  pub cases : List Case
+  pub conflict : IsConflict league conflicts members log cases
+  pub irreducible : AreDecided cases → IsIrreducible league members
+  pub decided : IsAmple (var_count league) conflicts → AreDecided cases
+  pub status : answer.status ≡ Refuted
+  pub text : answer.text ≡ conflict_text members log cases
+
+-- a log that is spent at the budget over the league's rows is written, and reads back as it
+pub record IsBudgetSpent (league : Instance) (conflicts : Option ℕ) (answer : Answer) : Type 0 where
+  pub steps : List Step
+  pub spent : IsSpentOn league conflicts steps
+  pub status : answer.status ≡ Spent
+  pub text : answer.text ≡ log_text steps
+  pub reads_back : log_of answer.text ≡ Ok steps
+
+-- What is found of a league, within a budget of conflicts a search. Where the league accepts the schedule of the circle
+-- method, a schedule is; where its venue counts are short, or crowded, or it allows its teams too few breaks, a conflict
+-- is, whatever the budget; and an ample budget isn't spent.
+pub record IsFound (league : Instance) (conflicts : Option ℕ) (answer : Answer) : Type 0 where
+  pub found : IsMet league answer ⊎ (IsNamed league conflicts answer ⊎ IsBudgetSpent league conflicts answer)
+  pub ample : IsAmple (var_count league) conflicts → answer.status ≡ Spent → ⊥
+  pub circle : IsAccepted league (counts_of (double_games league.n)) → answer.status ≡ Yes
+  pub short : are_short league ≡ true → answer.status ≡ Refuted
+  pub crowded : are_crowded league ≡ true → answer.status ≡ Refuted
+  pub few : are_few league ≡ true → answer.status ≡ Refuted
+
+-- ---- stages
+
+-- `explain`, over what a store shows
+abbrev pub explained : Store → List ℕ → Option ℕ → Outcome
+explained store instance conflicts = do
+  bytes ← reads store (codes "instance") instance INSTANCE_LIMIT 0
+  league ← says (codes "instance") (instance_of (pieces bytes))
+  rows ← encodes league
+  IsFound league conflicts

@@ -1,0 +1,174 @@
+-- What follows from an answer of `prove`.
+use Rattle.std.proofs.Common.{◌∷◌, [], ◌≡◌, ℕ, ◌+◌, List, length, Option, Some, Ok, codes, ap, true, inl, inr, sym, subst, ◌∙◌}
+use Rattle.std.proofs.Common.{Bool, false, if◌then◌else◌}
+use Rattle.std.specs.Prelude.{IfSome, IsTrue}
+use Rattle.robin_io.specs.Outside.{Store}
+use Rattle.league.specs.Accepted.{IsAccepted}
+use Rattle.league.specs.Counts.{counts_of}
+use Rattle.league.specs.Instance.{Instance}
+use Rattle.league.specs.declared.game.Game.{Game}
+use Rattle.robinx_tags.specs.Pieces.{pieces}
+use Rattle.robinx_form.specs.InstanceFile.{instance_of}
+use Rattle.robinx_form.specs.SolutionFile.{solution_of}
+use Rattle.robinx_read.specs.declared.instance.TheConstants.{INSTANCE_LIMIT, SOLUTION_LIMIT}
+use Rattle.answers.specs.Reply.{Answer}
+use Rattle.answers.specs.Stages.{NoneFails, Outcome, says, takes}
+use Rattle.answers.specs.declared.status.Status.{Status}
+use Rattle.answers.specs.declared.status.Status.TheVariants.{Yes, No, File, Spent, ReadFault, Better}
+use Rattle.answers.proofs.StageLemmas.{first-works, says-known, second-works, takes-known}
+use Rattle.command_bound.proofs.AnswerLemmas.{few-small, few-yes}
+use Rattle.command_prove.specs.Prove.{IsBettered, IsLeast, IsShown, IsWellFormedCase, proved}
+use Rattle.command_prove.proofs.StageLemmas.{solution_stages}
+
+-- ---- what is shown
+
+-- a well-formed case at which nothing fails is shown something
+pub proved-well_formed : (store : Store)
+    (instance solution : List ℕ) (league : Instance) (games : List Game) (conflicts : Option ℕ) (answer : Answer)
+    → IsWellFormedCase store instance solution league games → NoneFails store (instance ∷ solution ∷ [])
+    → proved store instance solution conflicts answer → IsShown league conflicts games answer
+proved-well_formed store instance solution league games conflicts answer good works given =
+    let pair = good.pair in
+    let front : ℕ = length pair.first in
+    let next : List ℕ → Outcome = λ first. says (codes "instance") (instance_of (pieces first))
+    (solution_stages store solution conflicts (length first)) in
+    let at_instance : next pair.first answer =
+    takes-known (codes "instance") (store.contents instance) INSTANCE_LIMIT (store.took_more INSTANCE_LIMIT) (store.failed instance) next
+    answer pair.first pair.first_known pair.first_within (first-works store instance (solution ∷ []) works) given in
+    let at_league : solution_stages store solution conflicts front league answer =
+    says-known (codes "instance") (instance_of (pieces pair.first)) league
+    (solution_stages store solution conflicts front) answer pair.says_league at_instance in
+    let shown : List ℕ → Outcome = λ bytes. says (codes "solution") (solution_of league.n (pieces bytes))
+    (IsShown league conflicts) in
+    let at_solution : takes (codes "solution") (store.contents solution) SOLUTION_LIMIT (store.took_more (front + SOLUTION_LIMIT))
+    (store.failed solution) shown answer =
+    few-small league (λ few. takes (codes "solution") (store.contents solution) SOLUTION_LIMIT
+    (store.took_more (front + SOLUTION_LIMIT)) (store.failed solution) shown) answer good.small at_league in
+    let at_games : shown pair.second answer =
+    takes-known (codes "solution") (store.contents solution) SOLUTION_LIMIT (store.took_more (front + SOLUTION_LIMIT))
+    (store.failed solution) shown answer pair.second pair.second_known pair.second_within (second-works store instance solution [] works) at_solution in
+    says-known (codes "solution") (solution_of league.n (pieces pair.second)) games (IsShown league conflicts) answer
+    pair.says_games at_games
+
+-- a file that wasn't refused was read
+reads-goes : (which : List ℕ) (known : Option (List ℕ)) (limit : ℕ) (long failed : Type 0) (next : List ℕ → Outcome)
+    (answer : Answer) (file : List ℕ) → known ≡ Some file → (answer.status ≡ File → ⊥)
+    → (answer.status ≡ ReadFault → ⊥) → takes which known limit long failed next answer → next file answer
+reads-goes which known limit long failed next answer file is no_file no_fault (inl read) =
+    let same : read.0 ≡ file = subst (λ (k : Option (List ℕ)). IfSome k (λ bytes. read.0 ≡ bytes)) is read.1.same in
+    subst (λ (b : List ℕ). next b answer) same read.2
+reads-goes which known limit long failed next answer file is no_file no_fault (inr (inl h)) =
+    absurd (no_file (ap (λ (a : Answer). a.status) h.2))
+reads-goes which known limit long failed next answer file is no_file no_fault (inr (inr h)) =
+    absurd (no_fault (ap (λ (a : Answer). a.status) h.1))
+
+-- files that are known, where none is refused
+proved-goes : (store : Store)
+    (instance solution first second : List ℕ) (league : Instance) (games : List Game) (conflicts : Option ℕ)
+    (answer : Answer) → store.contents instance ≡ Some first → store.contents solution ≡ Some second
+    → instance_of (pieces first) ≡ Ok league → solution_of league.n (pieces second) ≡ Ok games
+    → (answer.status ≡ File → ⊥) → (answer.status ≡ ReadFault → ⊥)
+    → proved store instance solution conflicts answer → IsShown league conflicts games answer
+proved-goes store instance solution first second league games conflicts answer first_known
+    second_known says_league says_games no_file no_fault given =
+    let front : ℕ = length first in
+    let next : List ℕ → Outcome = λ bytes. says (codes "instance") (instance_of (pieces bytes))
+    (solution_stages store solution conflicts (length bytes)) in
+    let at_instance : next first answer =
+    reads-goes (codes "instance") (store.contents instance) INSTANCE_LIMIT (store.took_more INSTANCE_LIMIT) (store.failed instance) next
+    answer first first_known no_file no_fault given in
+    let at_league : solution_stages store solution conflicts front league answer =
+    says-known (codes "instance") (instance_of (pieces first)) league
+    (solution_stages store solution conflicts front) answer says_league at_instance in
+    let shown : List ℕ → Outcome = λ bytes. says (codes "solution") (solution_of league.n (pieces bytes))
+    (IsShown league conflicts) in
+    let at_solution : takes (codes "solution") (store.contents solution) SOLUTION_LIMIT (store.took_more (front + SOLUTION_LIMIT))
+    (store.failed solution) shown answer =
+    few-yes league (λ few. takes (codes "solution") (store.contents solution) SOLUTION_LIMIT
+    (store.took_more (front + SOLUTION_LIMIT)) (store.failed solution) shown) answer no_file at_league in
+    let at_games : shown second answer =
+    reads-goes (codes "solution") (store.contents solution) SOLUTION_LIMIT (store.took_more (front + SOLUTION_LIMIT))
+    (store.failed solution) shown answer second second_known no_file no_fault at_solution in
+    says-known (codes "solution") (solution_of league.n (pieces second)) games (IsShown league conflicts) answer
+    says_games at_games
+
+-- ---- statuses
+
+other : (a b : Status) (answer : Answer) → answer.status ≡ a → answer.status ≡ b → a ≡ b
+other a b answer first second = sym first ∙ second
+
+pub shown-yes : (league : Instance) (conflicts : Option ℕ) (games : List Game) (answer : Answer)
+    → IsShown league conflicts games answer → answer.status ≡ Yes → IsLeast league conflicts games answer
+shown-yes league conflicts games answer (inl h) is = let same : No ≡ Yes = other No Yes answer h.status is in cc
+shown-yes league conflicts games answer (inr (inl h)) is = h
+shown-yes league conflicts games answer (inr (inr (inl h))) is =
+    let same : Better ≡ Yes = other Better Yes answer h.status is in cc
+shown-yes league conflicts games answer (inr (inr (inr h))) is =
+    let same : Spent ≡ Yes = other Spent Yes answer h.status is in cc
+
+pub shown-better : (league : Instance) (conflicts : Option ℕ) (games : List Game) (answer : Answer)
+    → IsShown league conflicts games answer → answer.status ≡ Better → IsBettered league games answer
+shown-better league conflicts games answer (inl h) is =
+    let same : No ≡ Better = other No Better answer h.status is in cc
+shown-better league conflicts games answer (inr (inl h)) is =
+    let same : Yes ≡ Better = other Yes Better answer h.status is in cc
+shown-better league conflicts games answer (inr (inr (inl h))) is = h
+shown-better league conflicts games answer (inr (inr (inr h))) is =
+    let same : Spent ≡ Better = other Spent Better answer h.status is in cc
+
+no-feasible : (feasible : Bool) (status : Status) → status ≡ No → status ≡ (if feasible then Yes else No)
+    → IsTrue feasible → ⊥
+no-feasible true status ended is passes = let same : No ≡ Yes = sym ended ∙ is in cc
+no-feasible false status ended is passes = cc
+
+-- the answer is no exactly where the league doesn't accept the schedule
+pub shown-no : (league : Instance) (conflicts : Option ℕ) (games : List Game) (answer : Answer)
+    → IsShown league conflicts games answer → answer.status ≡ No → IsAccepted league (counts_of games) → ⊥
+shown-no league conflicts games answer (inl h) is accepted =
+    no-feasible h.judgement.feasible answer.status is h.judgement.status (h.judgement.accepted.1 accepted)
+shown-no league conflicts games answer (inr (inl h)) is accepted =
+    let same : Yes ≡ No = other Yes No answer h.status is in cc
+shown-no league conflicts games answer (inr (inr (inl h))) is accepted =
+    let same : Better ≡ No = other Better No answer h.status is in cc
+shown-no league conflicts games answer (inr (inr (inr h))) is accepted =
+    let same : Spent ≡ No = other Spent No answer h.status is in cc
+
+pub shown-refused : (league : Instance) (conflicts : Option ℕ) (games : List Game) (answer : Answer)
+    → (IsAccepted league (counts_of games) → ⊥) → IsShown league conflicts games answer → answer.status ≡ No
+shown-refused league conflicts games answer fails (inl h) = h.status
+shown-refused league conflicts games answer fails (inr (inl h)) = absurd (fails h.accepted)
+shown-refused league conflicts games answer fails (inr (inr (inl h))) = absurd (fails h.accepted)
+shown-refused league conflicts games answer fails (inr (inr (inr h))) = absurd (fails h.accepted)
+
+-- ---- files that are known
+
+yes-no_file : (answer : Answer) → answer.status ≡ Yes → answer.status ≡ File → ⊥
+yes-no_file answer is refused = let same : Yes ≡ File = other Yes File answer is refused in cc
+
+yes-no_fault : (answer : Answer) → answer.status ≡ Yes → answer.status ≡ ReadFault → ⊥
+yes-no_fault answer is refused = let same : Yes ≡ ReadFault = other Yes ReadFault answer is refused in cc
+
+better-no_file : (answer : Answer) → answer.status ≡ Better → answer.status ≡ File → ⊥
+better-no_file answer is refused = let same : Better ≡ File = other Better File answer is refused in cc
+
+better-no_fault : (answer : Answer) → answer.status ≡ Better → answer.status ≡ ReadFault → ⊥
+better-no_fault answer is refused = let same : Better ≡ ReadFault = other Better ReadFault answer is refused in cc
+
+-- where the answer is yes, the schedule's objective is the least; where it is a better schedule, the league accepts
+-- that
+pub proved-known : (store : Store)
+    (instance solution first second : List ℕ) (league : Instance) (games : List Game) (conflicts : Option ℕ)
+    (answer : Answer) → store.contents instance ≡ Some first → store.contents solution ≡ Some second
+    → instance_of (pieces first) ≡ Ok league → solution_of league.n (pieces second) ≡ Ok games
+    → proved store instance solution conflicts answer
+    → (answer.status ≡ Yes → IsLeast league conflicts games answer) × (answer.status ≡ Better → IsBettered league games answer)
+proved-known store instance solution first second league games conflicts answer first_known
+    second_known says_league says_games given = (
+      λ is. shown-yes league conflicts games answer
+          (proved-goes store instance solution first second league games conflicts answer
+          first_known second_known says_league says_games (yes-no_file answer is) (yes-no_fault answer is) given) is,
+      λ is. shown-better league conflicts games answer
+          (proved-goes store instance solution first second league games conflicts answer
+          first_known second_known says_league says_games (better-no_file answer is) (better-no_fault answer is) given)
+          is,
+    )

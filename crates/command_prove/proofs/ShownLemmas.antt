@@ -1,0 +1,153 @@
+-- What is shown of a schedule, answered.
+use Rattle.std.proofs.Common.{◌≡◌, ℕ, ◌-◌, ◌+◌, ◌<◌, ◌≤◌, ◌==◌, Bool, true, false, if◌then◌else◌, List, [], ◌∷◌, length, Option, Some, None}
+use Rattle.std.proofs.Common.{Result, Ok, Err, refl, arith, ap, subst, ◌∙◌, inl, inr}
+use Rattle.std.specs.Prelude.{IfOk, IfSome, IsTrue}
+use Rattle.std.proofs.lemmas.List.{length-append}
+use Rattle.std.proofs.lemmas.Bool.Decides.{nat_tests}
+use Rattle.league.specs.Accepted.{IsAccepted, objective}
+use Rattle.league.specs.Counts.{Counts, counts_of}
+use Rattle.league.specs.Instance.{Instance, IsTeamCount}
+use Rattle.league.specs.declared.game.Game.{Game}
+use Rattle.robinx_tags.specs.Pieces.{pieces}
+use Rattle.robinx_form.specs.SolutionFile.{solution_of}
+use Rattle.robinx_form.specs.Texts.{solution_text}
+use Rattle.robinx_write.proofs.SolutionLemmas.{solution-reads_back}
+use Rattle.solve.proofs.FewLemmas.{round_robin-few}
+use Rattle.answers.specs.Reply.{Answer}
+use Rattle.answers.specs.SeenReply.{answer_of}
+use Rattle.answers.specs.declared.reply.Reply.{Reply}
+use Rattle.answers.specs.declared.status.Status.{Status}
+use Rattle.answers.specs.declared.status.Status.TheVariants.{Yes, No}
+use Rattle.refutation.specs.Logs.{Fault}
+use Rattle.rows.specs.Rows.{Row}
+use Rattle.refutation.specs.Steps.{Step}
+use Rattle.refutation.specs.Steps.Step.{Clause}
+use Rattle.refutation.specs.Verdict.{verdict_of}
+use Rattle.refutation.specs.declared.verdict.Verdict.TheVariants.{Accepted}
+use Rattle.clause_search.specs.Answers.{Refutes}
+use Rattle.bound_base.specs.BoundRows.{bound_rows, bound_vars}
+use Rattle.bound_laws.specs.Faithful.{IsLowerBound}
+use Rattle.certificates.specs.Certificates.{certificate_text}
+use Rattle.certificates.specs.declared.certificate.Certificate.{Certificate}
+use Rattle.bounds.specs.Proofs as proofs
+use Rattle.bounds.specs.declared.proved.Proved.{Proved}
+use Rattle.bounds.specs.declared.proved.Proved.TheVariants.{Least, Better, Spent}
+use Rattle.command_validate.specs.Validate.{IsJudgement}
+use Rattle.command_bound.specs.Bound.{bound_verdict}
+use Rattle.command_prove.specs.Prove.{IsShown}
+use Rattle.command_prove.specs.Told.{CanBeWritten, Tells}
+
+-- ---- what a test says
+
+pub failed : (b : Bool) → b ≡ false → IsTrue b → ⊥
+failed b is passes = cc
+
+-- ---- a schedule that isn't accepted
+
+rejected-status : (feasible : Bool) (status : Status) → (IsTrue feasible → ⊥)
+    → status ≡ (if feasible then Yes else No) → status ≡ No
+rejected-status true status fails is = absurd (fails refl)
+rejected-status false status fails is = is
+
+pub shown-rejected : (league : Instance) (conflicts : Option ℕ) (games : List Game) (answer : Answer)
+    → (IsAccepted league (counts_of games) → ⊥) → IsJudgement league games answer
+    → IsShown league conflicts games answer
+shown-rejected league conflicts games answer fails judged = inl (record {
+  judgement = judged;
+  status = rejected-status judged.feasible answer.status (λ is. fails (judged.accepted.0 is)) judged.status;
+})
+
+-- ---- one that is
+
+least-by : (league : Instance) (limit : Option ℕ) (cost : ℕ) (steps : List Step) (test : Bool) → (cost == 0) ≡ test
+    → (1 ≤ cost → Refutes (bound_rows league (cost - 1)) (bound_vars league) limit steps)
+    → (if test then Accepted else verdict_of (bound_rows league (cost - 1)) (bound_vars league) steps) ≡ Accepted
+least-by league limit cost steps true is refutes = refl
+least-by league limit cost steps false is refutes =
+    let some : 1 ≤ cost = grind (arith, nat_tests) in
+    (refutes some).accepted
+
+pub least-verdict : (league : Instance) (limit : Option ℕ) (cost : ℕ) (steps : List Step)
+    → (1 ≤ cost → Refutes (bound_rows league (cost - 1)) (bound_vars league) limit steps)
+    → bound_verdict league cost steps ≡ Accepted
+least-verdict league limit cost steps refutes = least-by league limit cost steps (cost == 0) refl refutes
+
+least-within : (rows : List Row) (vars : ℕ) (limit : Option ℕ) (steps : List Step) → Refutes rows vars limit steps
+    → IfSome limit (λ most. length steps ≤ most + 1)
+least-within rows vars None steps is = tt
+least-within rows vars (Some most) steps is =
+    omega (
+      arith,
+      is.within,
+      ap (λ (ss : List Step). length ss) is.last,
+      length-append is.before (Clause [] is.hints ∷ []),
+    )
+
+abbrev certificate_said : List Step → ℕ → Result Certificate Fault
+certificate_said log cost = Ok (record { bound = cost; log = log })
+
+pub shown-told : (league : Instance) (limit : Option ℕ) (games : List Game) (proved : Proved) (answer : Answer)
+    → IsTeamCount league.n → IsAccepted league (counts_of games)
+    → proofs.IsProved league (counts_of games) limit proved → Tells proved answer → IsShown league limit games answer
+shown-told league limit games (Least cost log) answer teams accepted is told = inr (inl (record {
+  steps = log;
+  accepted = accepted;
+  least = subst (λ (c : ℕ). IsLowerBound league c) is.cost is.least;
+  proves = subst (λ (c : ℕ). bound_verdict league c log ≡ Accepted) is.cost
+      (least-verdict league limit cost log is.refutes);
+  within = λ some. least-within (bound_rows league (cost - 1)) (bound_vars league) limit log
+      (is.refutes (omega (arith, some, is.cost)));
+  status = told.status;
+  text = told.text ∙ ap (λ (c : ℕ). certificate_text c log) is.cost;
+  reads_back = λ short. told.reads_back short is.nothing ∙ ap (certificate_said log) is.cost;
+}))
+shown-told league limit games (Better better cost) answer teams accepted is told = inr (inr (inl (record {
+  better = better;
+  accepted = accepted;
+  better_accepted = is.accepted;
+  fit = is.fit;
+  in_order = is.in_order;
+  lower = subst (λ (c : ℕ). c < objective league (counts_of games)) is.cost is.lower;
+  status = told.0;
+  text = told.1 ∙ ap (λ (c : ℕ). solution_text better (Some (0, c))) is.cost;
+  reads_back = ap (λ (written : List ℕ). solution_of league.n (pieces written)) told.1
+      ∙ solution-reads_back league.n better (Some (0, cost)) teams.at_most
+      (round_robin-few league.n league.phased better teams is.fit is.accepted.round_robin) is.fit;
+})))
+shown-told league limit games (Spent log) answer teams accepted is told = inr (inr (inr (record {
+  steps = log;
+  accepted = accepted;
+  some = is.some;
+  settled = is.settled;
+  budget = is.spent.limited;
+  spent = is.spent.spent;
+  few = is.spent.few;
+  status = told.status;
+  text = told.text;
+  reads_back = told.reads_back;
+})))
+
+pub proved-written : (league : Instance) (m : Counts) (limit : Option ℕ) (proved : Proved)
+    → proofs.IsProved league m limit proved → CanBeWritten proved
+proved-written league m limit (Least cost log) is = is.named
+proved-written league m limit (Better better cost) is = tt
+proved-written league m limit (Spent log) is = is.named
+
+-- ---- the same of a reply, unless memory ran out
+
+pub replied-rejected : {E : Type 0} (league : Instance) (conflicts : Option ℕ) (games : List Game)
+    (result : Result Reply E) → (IsAccepted league (counts_of games) → ⊥)
+    → IfOk result (λ reply. IsJudgement league games (answer_of reply))
+    → IfOk result (λ reply. IsShown league conflicts games (answer_of reply))
+replied-rejected league conflicts games (Ok reply) fails judged =
+    shown-rejected league conflicts games (answer_of reply) fails judged
+replied-rejected league conflicts games (Err error) fails judged = tt
+
+pub replied-told : {E : Type 0} (league : Instance) (limit : Option ℕ) (games : List Game) (proved : Proved)
+    (result : Result Reply E) → IsTeamCount league.n → IsAccepted league (counts_of games)
+    → proofs.IsProved league (counts_of games) limit proved
+    → IfOk result (λ reply. Tells proved (answer_of reply))
+    → IfOk result (λ reply. IsShown league limit games (answer_of reply))
+replied-told league limit games proved (Ok reply) teams accepted is told =
+    shown-told league limit games proved (answer_of reply) teams accepted is told
+replied-told league limit games proved (Err error) teams accepted is told = tt

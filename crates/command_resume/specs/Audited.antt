@@ -1,0 +1,50 @@
+-- What `audit` answers: its stages in their order, and the verdict on a log over resume rows.
+use Rattle.std.specs.Prelude.{◌≡◌, ℕ, ◌+◌, ◌≤◌, List, length, codes, Some, Ok}
+use Rattle.robin_io.specs.Outside.{Store}
+use Rattle.league.specs.Counts.{counts_of}
+use Rattle.league.specs.Instance.{Instance}
+use Rattle.league.specs.declared.game.Game.{Game}
+use Rattle.answers.specs.Reply.{Answer}
+use Rattle.answers.specs.Stages.{◌>>=◌, Outcome, reads}
+use Rattle.answers.specs.declared.status.Status.TheVariants.{Yes}
+use Rattle.encoding_base.specs.Variables.{var_count}
+use Rattle.refutation.specs.Steps.{Step}
+use Rattle.refutation.specs.Logs.{log_of}
+use Rattle.command_check.specs.Check.{IsVerdictOver, most_log_bytes, says_log}
+use Rattle.resume_rows.specs.Kept.{resume_rows}
+use Rattle.resume_rows.specs.Resumable.{NoneResumes}
+use Rattle.command_resume.specs.Seasons.{IsWellFormedSeason, plays}
+
+-- The verdict on a log over the resume rows. Where it says yes, no schedule that the league accepts keeps the played
+-- games.
+pub record IsVerdict (league : Instance) (played : List Game) (k : ℕ) (steps : List Step) (answer : Answer) : Type 0
+  where
+    pub verdict : IsVerdictOver (resume_rows league (counts_of played) k) (var_count league) steps answer
+    pub none : answer.status ≡ Yes → NoneResumes league (counts_of played) k
+
+-- `audit`, over what a store shows: the whole log is read before it is judged, so a fault of form comes before any verdict
+abbrev pub audited : Store → List ℕ → List ℕ → ℕ → List ℕ
+    → Outcome
+audited store instance solution k log = do
+  season ← plays store instance solution k
+  third ← reads store (codes "log") log most_log_bytes season.bytes
+  steps ← says_log (log_of third)
+  IsVerdict season.league season.played k steps
+
+-- ---- a run
+
+-- a well-formed season, and the file of a log whose bytes are known, within its limit, and which says these steps
+pub record IsWellFormedAudit
+    (store : Store)
+    (instance solution : List ℕ)
+    (k : ℕ)
+    (log : List ℕ)
+    (league : Instance)
+    (played : List Game)
+    (steps : List Step)
+    : Type 0 where
+  pub season : IsWellFormedSeason store instance solution k league played
+  pub third : List ℕ
+  pub known : store.contents log ≡ Some third
+  pub within : length third ≤ most_log_bytes
+  pub says_steps : log_of third ≡ Ok steps

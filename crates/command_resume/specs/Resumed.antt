@@ -1,0 +1,84 @@
+-- What `resume` answers: its stages in their order, and what is found of a league whose first slots are played.
+use Rattle.std.specs.Prelude.{◌≡◌, ℕ, ◌⊎◌, List, Option, Some, Ok}
+use Rattle.std.specs.Io.KnownBytes.{Appends}
+use Rattle.robin_io.specs.Outside.{Output, Store}
+use Rattle.league.specs.Accepted.{IsAccepted, objective}
+use Rattle.league.specs.Counts.{counts_of}
+use Rattle.league.specs.Instance.{Instance}
+use Rattle.league.specs.Order.{IsInOrder}
+use Rattle.league.specs.declared.game.Game.{Game}
+use Rattle.robinx_form.specs.Texts.{solution_text}
+use Rattle.answers.specs.Reply.{Answer}
+use Rattle.answers.specs.Stages.{◌>>=◌, Outcome}
+use Rattle.answers.specs.declared.status.Status.TheVariants.{Yes, Refuted, Spent}
+use Rattle.encoding_base.specs.Variables.{var_count}
+use Rattle.refutation.specs.Steps.{Step}
+use Rattle.refutation.specs.Logs.{log_of}
+use Rattle.refutation.specs.Texts.{log_text}
+use Rattle.clause_search.specs.Answers.{IsSpentAt}
+use Rattle.resume_rows.specs.Kept.{resume_rows}
+use Rattle.resume.specs.Answers.{IsResumedSeason, RefutesResuming}
+use Rattle.command_resume.specs.Seasons.{plays}
+
+-- ---- what is found
+
+-- a schedule that the league accepts and that keeps the played games is written, in order, with its objective
+pub record IsPlanned (league : Instance) (played : List Game) (k : ℕ) (answer : Answer) : Type 0 where
+  pub games : List Game
+  pub season : IsResumedSeason league played k games (objective league (counts_of games))
+  pub status : answer.status ≡ Yes
+  pub text : answer.text ≡ solution_text games (Some (0, objective league (counts_of games)))
+
+-- A log that refutes the resume rows is written, and reads back as it: so no schedule that the league accepts keeps the
+-- played games.
+pub record IsExcluded (league : Instance) (played : List Game) (k : ℕ) (conflicts : Option ℕ) (answer : Answer)
+    : Type 0 where
+  pub steps : List Step
+  pub refutes : RefutesResuming league played k conflicts steps
+  pub status : answer.status ≡ Refuted
+  pub text : answer.text ≡ log_text steps
+  pub reads_back : log_of answer.text ≡ Ok steps
+
+-- A log that is spent at the budget over the resume rows is written, and reads back as it. The budget is below 3 to the
+-- number of variables, so a greater one, or none, is never spent.
+pub record IsBudgetSpent (league : Instance) (played : List Game) (k : ℕ) (conflicts : Option ℕ) (answer : Answer)
+    : Type 0 where
+  pub steps : List Step
+  pub spent : IsSpentAt (resume_rows league (counts_of played) k) (var_count league) conflicts steps
+  pub status : answer.status ≡ Spent
+  pub text : answer.text ≡ log_text steps
+  pub reads_back : log_of answer.text ≡ Ok steps
+
+-- just the games of the old plan are written, in order
+pub record IsOldPlan (league : Instance) (played : List Game) (answer : Answer) : Type 0 where
+  pub games : List Game
+  pub same : counts_of games ≡ counts_of played
+  pub in_order : IsInOrder games
+  pub status : answer.status ≡ Yes
+  pub text : answer.text ≡ solution_text games (Some (0, objective league (counts_of games)))
+
+-- What is found of a league whose first k slots are played, within a budget of conflicts. Where the league accepts all
+-- games of the played list as they are, these are the answer.
+pub record IsFound (league : Instance) (played : List Game) (k : ℕ) (conflicts : Option ℕ) (answer : Answer)
+    : Type 0 where
+  pub found :
+      IsPlanned league played k answer
+      ⊎ (IsExcluded league played k conflicts answer ⊎ IsBudgetSpent league played k conflicts answer)
+  pub plan : IsAccepted league (counts_of played) → IsOldPlan league played answer
+
+-- ---- stages
+
+-- `resume`, over what a store shows
+abbrev pub resumed : Store → List ℕ → List ℕ → ℕ → Option ℕ
+    → Outcome
+resumed store instance solution k conflicts = do
+  season ← plays store instance solution k
+  IsFound season.league season.played k conflicts
+
+-- ---- a run
+
+-- a schedule that the league accepts and that keeps the played games is written whole, in order, with its objective
+pub record IsKeptSeason (league : Instance) (played : List Game) (k : ℕ) (output : Output) : Type 0 where
+  pub games : List Game
+  pub season : IsResumedSeason league played k games (objective league (counts_of games))
+  pub written : Appends output.before output.after (solution_text games (Some (0, objective league (counts_of games))))

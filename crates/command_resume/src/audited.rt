@@ -1,0 +1,83 @@
+//! The stages of `audit`.
+ghost use Rattle.std.specs.Prelude.{◌≡◌, ◌≤◌, ℕ, List, IfOk, codes, length};
+ghost use Rattle.std.specs.List.{All};
+ghost use Rattle.robin_io.specs.Outside.{store_between};
+ghost use Rattle.league.specs.Counts as counts;
+ghost use Rattle.league.specs.Instance.{IsGame};
+ghost use Rattle.refutation.specs.Logs.{log_of};
+ghost use Rattle.answers.specs.SeenReply.{Answers};
+ghost use Rattle.answers.specs.Stages.{reads};
+ghost use Rattle.command_check.specs.Check.{most_log_bytes, says_log};
+ghost use Rattle.resume_rows.specs.Kept as kept;
+ghost use Rattle.command_resume.specs.Audited.{IsVerdict, audited};
+ghost use Rattle.encoding.specs.Limit.{most_terms};
+
+use crate::season::season_in;
+use answers::{NoValue, Reply};
+use command_check::judge_log;
+use encoding::EncodeFault;
+use league::{League, Schedule};
+use resume::{ResumeSystem, checker_of, resume_system};
+use robin_io::Shelf;
+use std::alloc::{AllocError, Global};
+
+/// The resume rows, which are few enough.
+fn system_of(
+    alloc: Global,
+    league: &League,
+    played: &Schedule,
+    k: u16,
+) -> Result<ResumeSystem, AllocError>
+    requires few { length played.now ≤ 10000 }
+    requires fit { All (IsGame league.now.n) played.now }
+    requires slots { k ≤ counts.slot_count league.now.n }
+    requires small { kept.resume_size league.now k ≤ most_terms }
+    ensures { IfOk result (λ system.
+        system ≡ record { league = league.now; played = played.now; k = k }) }
+{
+    match resume_system(alloc, league, played, k) {
+        Ok(system) => Ok(system),
+        Err(EncodeFault::TooLarge { .. }) => unreachable!(),
+        Err(EncodeFault::Mem) => Err(AllocError),
+    }
+}
+
+/// Checks the log of a file over resume rows.
+fn audit_log<S: Shelf>(
+    alloc: Global,
+    shelf: &mut S,
+    name: &str,
+    system: &ResumeSystem,
+) -> Result<Reply, NoValue>
+    requires slots { system.now.k ≤ counts.slot_count system.now.league.n }
+    ensures answer { Answers (reads (store_between S.Shelf shelf.old shelf.new) (codes "log") name.now most_log_bytes 0
+        (λ bytes. says_log (log_of bytes) (IsVerdict system.now.league system.now.played system.now.k))) result }
+    ensures contents { (n : List ℕ) → S.contents shelf.new n ≡ S.contents shelf.old n }
+{
+    // For its contract: accepted logs over the rows of a league exclude every schedule that keeps the played games.
+    let _vars = system.vars();
+    let mut checker = checker_of(alloc, system)?;
+    judge_log(alloc, shelf, name, &mut checker)
+}
+
+/// Checks the log of a file over the resume rows of a league, of which the first k slots are played as a solution file
+/// says. The log is read in pieces and its steps are judged as they come; it is read to its end before the answer.
+///
+/// # Errors
+/// Where a file is refused, with the reply that says why, and where memory runs out.
+pub fn audit_file<S: Shelf>(
+    alloc: Global,
+    shelf: &mut S,
+    instance: &str,
+    solution: &str,
+    k: u64,
+    log: &str,
+) -> Result<Reply, NoValue>
+    ensures answer { Answers (audited (store_between S.Shelf shelf.old shelf.new)
+        instance.now solution.now k log.now) result }
+    ensures contents { (n : List ℕ) → S.contents shelf.new n ≡ S.contents shelf.old n }
+{
+    let season = season_in(alloc, shelf, instance, solution, k)?;
+    let system = system_of(alloc, &season.league, &season.played, season.slots)?;
+    audit_log(alloc, shelf, log, &system)
+}

@@ -1,0 +1,158 @@
+-- What is found of a league, answered.
+use Rattle.std.proofs.Common.{◌≡◌, ℕ, ◌++◌, true, List, Some, Result, Ok, Err, ap, inl, inr, ◌∙◌}
+use Rattle.std.specs.Prelude.{IfOk}
+use Rattle.budgets.specs.declared.budgets.Budgets.{Budgets}
+use Rattle.league.specs.Accepted as costs
+use Rattle.league.specs.Accepted.{IsAccepted}
+use Rattle.league.specs.Counts.{counts_of}
+use Rattle.league.specs.Instance.{Instance, IsTeamCount}
+use Rattle.league.specs.declared.game.Game.{Game}
+use Rattle.circle_method.specs.Circle.{double_games}
+use Rattle.robinx_tags.specs.Pieces.{pieces}
+use Rattle.robinx_form.specs.SolutionFile.{solution_of}
+use Rattle.robinx_form.specs.Texts.{solution_text}
+use Rattle.encoding_base.specs.Encoding.{rows_of}
+use Rattle.refutation.specs.Steps.{Step}
+use Rattle.refutation.specs.Logs.{log_of}
+use Rattle.refutation.specs.Texts.{log_text}
+use Rattle.answers.specs.Reply.{Answer}
+use Rattle.answers.specs.SeenReply.{answer_of}
+use Rattle.answers.specs.declared.reply.Reply.{Reply}
+use Rattle.answers.specs.declared.status.Status.TheVariants.{Yes, Refuted, Spent}
+use Rattle.pattern_search.specs.declared.found.PatternFound.{PatternFound}
+use Rattle.solve.specs.Solutions.{IsSpentOn, LeavesOpen, RefutesLeague}
+use Rattle.solve.specs.Solutions as solutions
+use Rattle.solve.proofs.FewLemmas.{round_robin-few}
+use Rattle.solve.proofs.LowerLemmas.{IsDescent-climbs, IsDescent-settles}
+use Rattle.descent.specs.Descended.{Descended}
+use Rattle.venue_counts.specs.VenueCounts.{are_crowded, are_short}
+use Rattle.break_counts.specs.BreakCounts.{are_few}
+use Rattle.command_solve.specs.Solve.{IsFound, IsSchedule, descent_text}
+use Rattle.command_solve.proofs.ReadingLemmas.{schedule-reads_back}
+
+-- a schedule that is written
+abbrev pub schedule-told : (league : Instance) (moves : ℕ) (games : List Game) (objective : ℕ) (descent : Descended)
+    (answer : Answer) → IsTeamCount league.n → solutions.IsSchedule league moves games objective descent
+    → answer.status ≡ Yes
+    → answer.text
+    ≡ solution_text games (Some (0, objective))
+    ++ descent_text (costs.objective league (counts_of descent.first)) descent
+    → IsSchedule league moves answer
+schedule-told league moves games objective descent answer teams schedule status text = record {
+  games = games;
+  descent = descent;
+  accepted = schedule.accepted;
+  fit = schedule.fit;
+  in_order = schedule.in_order;
+  descends = schedule.descends;
+  climbs = IsDescent-climbs league moves games descent schedule.descends;
+  settles = IsDescent-settles league moves games descent schedule.descends;
+  status = status;
+  text = text
+      ∙ ap
+      (λ (cost : ℕ). solution_text games (Some (0, cost))
+      ++ descent_text (costs.objective league (counts_of descent.first)) descent)
+      schedule.cost;
+  reads_back = ap (λ (written : List ℕ). solution_of league.n (pieces written)) text
+      ∙ schedule-reads_back league.n games objective (costs.objective league (counts_of descent.first)) descent
+      teams.at_most
+      (round_robin-few league.n league.phased games teams schedule.fit schedule.accepted.round_robin) schedule.fit;
+}
+
+pub found-schedule : (league : Instance) (budgets : Budgets) (games : List Game) (objective : ℕ) (descent : Descended)
+    (answer : Answer) → IsTeamCount league.n → solutions.IsSchedule league budgets.moves games objective descent
+    → (are_short league ≡ true → ⊥) → (are_crowded league ≡ true → ⊥) → (are_few league ≡ true → ⊥) → answer.status ≡ Yes
+    → answer.text
+    ≡ solution_text games (Some (0, objective))
+    ++ descent_text (costs.objective league (counts_of descent.first)) descent
+    → IsFound league budgets (rows_of league) answer
+found-schedule league budgets games objective descent answer teams schedule not_short not_crowded enough status text = record {
+  found = inl (schedule-told league budgets.moves games objective descent answer teams schedule status text);
+  circle = λ accepted. status;
+  short = λ is. absurd (not_short is);
+  crowded = λ is. absurd (not_crowded is);
+  few = λ is. absurd (enough is);
+}
+
+pub found-refuted : (league : Instance) (budgets : Budgets) (steps : List Step) (answer : Answer)
+    → RefutesLeague league steps → (IsAccepted league (counts_of (double_games league.n)) → ⊥)
+    → answer.status ≡ Refuted → answer.text ≡ log_text steps → log_of answer.text ≡ Ok steps
+    → IsFound league budgets (rows_of league) answer
+found-refuted league budgets steps answer refutes no_circle status text reads_back = record {
+  found = inr (inl (record {
+    steps = steps;
+    accepted = refutes.accepted;
+    none = refutes.none;
+    status = status;
+    text = text;
+    reads_back = reads_back;
+  }));
+  circle = λ accepted. absurd (no_circle accepted);
+  short = λ is. status;
+  crowded = λ is. status;
+  few = λ is. status;
+}
+
+pub found-spent : (league : Instance) (budgets : Budgets) (steps : List Step) (patterns : PatternFound)
+    (answer : Answer) → IsSpentOn league budgets.conflicts steps → LeavesOpen league budgets.patterns patterns
+    → (IsAccepted league (counts_of (double_games league.n)) → ⊥) → (are_short league ≡ true → ⊥)
+    → (are_crowded league ≡ true → ⊥) → (are_few league ≡ true → ⊥) → answer.status ≡ Spent → answer.text ≡ log_text steps
+    → log_of answer.text ≡ Ok steps → IsFound league budgets (rows_of league) answer
+found-spent league budgets steps patterns answer spent leaves no_circle not_short not_crowded enough status text reads_back =
+    record {
+      found = inr (inr (record {
+        steps = steps;
+        patterns = patterns;
+        budget = spent.limited;
+        spent = spent.spent;
+        few = spent.few;
+        pattern_rows = leaves;
+        status = status;
+        text = text;
+        reads_back = reads_back;
+      }));
+      circle = λ accepted. absurd (no_circle accepted);
+      short = λ is. absurd (not_short is);
+      crowded = λ is. absurd (not_crowded is);
+      few = λ is. absurd (enough is);
+    }
+
+-- ---- the same of a reply, unless memory ran out
+
+pub replied-schedule : {E : Type 0} (league : Instance) (budgets : Budgets) (games : List Game) (objective : ℕ)
+    (descent : Descended) (result : Result Reply E) → IsTeamCount league.n
+    → solutions.IsSchedule league budgets.moves games objective descent → (are_short league ≡ true → ⊥)
+    → (are_crowded league ≡ true → ⊥) → (are_few league ≡ true → ⊥) → IfOk result (λ reply. (answer_of reply).status ≡ Yes)
+    → IfOk result (λ reply. (answer_of reply).text
+    ≡ solution_text games (Some (0, objective))
+    ++ descent_text (costs.objective league (counts_of descent.first)) descent)
+    → IfOk result (λ reply. IsFound league budgets (rows_of league) (answer_of reply))
+replied-schedule league budgets games objective descent (Ok reply) teams schedule not_short not_crowded enough status text =
+    found-schedule league budgets games objective descent (answer_of reply) teams schedule not_short not_crowded enough status
+    text
+replied-schedule league budgets games objective descent (Err error) teams schedule not_short not_crowded enough status text =
+    tt
+
+pub replied-refuted : {E : Type 0} (league : Instance) (budgets : Budgets) (steps : List Step)
+    (result : Result Reply E) → RefutesLeague league steps
+    → (IsAccepted league (counts_of (double_games league.n)) → ⊥)
+    → IfOk result (λ reply. (answer_of reply).status ≡ Refuted)
+    → IfOk result (λ reply. (answer_of reply).text ≡ log_text steps)
+    → IfOk result (λ reply. log_of (answer_of reply).text ≡ Ok steps)
+    → IfOk result (λ reply. IsFound league budgets (rows_of league) (answer_of reply))
+replied-refuted league budgets steps (Ok reply) refutes no_circle status text reads_back =
+    found-refuted league budgets steps (answer_of reply) refutes no_circle status text reads_back
+replied-refuted league budgets steps (Err error) refutes no_circle status text reads_back = tt
+
+pub replied-spent : {E : Type 0} (league : Instance) (budgets : Budgets) (steps : List Step) (patterns : PatternFound)
+    (result : Result Reply E) → IsSpentOn league budgets.conflicts steps × LeavesOpen league budgets.patterns patterns
+    → (IsAccepted league (counts_of (double_games league.n)) → ⊥) → (are_short league ≡ true → ⊥)
+    → (are_crowded league ≡ true → ⊥) → (are_few league ≡ true → ⊥) → IfOk result (λ reply. (answer_of reply).status ≡ Spent)
+    → IfOk result (λ reply. (answer_of reply).text ≡ log_text steps)
+    → IfOk result (λ reply. log_of (answer_of reply).text ≡ Ok steps)
+    → IfOk result (λ reply. IsFound league budgets (rows_of league) (answer_of reply))
+replied-spent league budgets steps patterns (Ok reply) spent no_circle not_short not_crowded enough status text reads_back =
+    found-spent league budgets steps patterns (answer_of reply) spent.0 spent.1 no_circle not_short not_crowded enough status
+    text reads_back
+replied-spent league budgets steps patterns (Err error) spent no_circle not_short not_crowded enough status text reads_back =
+    tt

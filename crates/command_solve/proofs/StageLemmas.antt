@@ -1,0 +1,19 @@
+-- How the stages of `solve` make an answer.
+use Rattle.std.proofs.Common.{◌≡◌, ℕ, List, Ok, codes, inl}
+use Rattle.robin_io.specs.Outside.{Store}
+use Rattle.budgets.specs.declared.budgets.Budgets.{Budgets}
+use Rattle.league.specs.Instance.{Instance}
+use Rattle.robinx_tags.specs.Pieces.{pieces}
+use Rattle.robinx_form.specs.InstanceFile.{instance_of}
+use Rattle.robinx_read.specs.declared.instance.TheConstants.{INSTANCE_LIMIT}
+use Rattle.answers.specs.Reply.{Answer}
+use Rattle.answers.specs.Stages.{IsFile}
+use Rattle.answers.proofs.StageLemmas.{says-value}
+use Rattle.command_check.specs.Check.{encodes}
+use Rattle.command_solve.specs.Solve.{IsFound, solved}
+
+-- the instance file is read and says a league: what its rows come to is the answer
+pub solved-league : (store : Store) (instance bytes : List ℕ) (budgets : Budgets) (league : Instance) → IsFile (store.contents instance) INSTANCE_LIMIT bytes → instance_of (pieces bytes) ≡ Ok league
+    → (answer : Answer) → encodes league (IsFound league budgets) answer → solved store instance budgets answer
+solved-league store instance bytes budgets league is_file says_league answer rest =
+    inl (bytes, is_file, says-value (codes "instance") (instance_of (pieces bytes)) league (λ l. encodes l (IsFound l budgets)) answer says_league rest)

@@ -1,0 +1,35 @@
+use Rattle.solve.proofs.FewLemmas.{round_robin-few}
+use Rattle.command_solve.proofs.FoundLemmas.{replied-refuted, replied-schedule, replied-spent}
+use Rattle.command_solve.proofs.replies.found_reply.Goals as goal
+
+pub returns-in-Schedule : goal.returns-in-Schedule
+returns-in-Schedule c =
+    replied-schedule c.args.league.now c.args.budgets c.in-Schedule.schedule c.in-Schedule.objective
+    c.in-Schedule.descent c.schedule_reply.result c.n-n.ensures.instance.teams
+    (rw c.in-Schedule.is at c.requires.solution) (λ is. rw c.in-Schedule.is at c.requires.short is)
+    (λ is. rw c.in-Schedule.is at c.requires.crowded is)
+    (λ is. rw c.in-Schedule.is at c.requires.few is)
+    c.schedule_reply.ensures.status c.schedule_reply.ensures.text
+
+pub returns-in-Refuted : goal.returns-in-Refuted
+returns-in-Refuted c =
+    replied-refuted c.args.league.now c.args.budgets c.in-Refuted.log c.log_reply.result
+    (rw c.in-Refuted.is at c.requires.solution) (λ accepted. rw c.in-Refuted.is at c.requires.circle accepted)
+    c.log_reply.ensures.status c.log_reply.ensures.text c.log_reply.ensures.reads_back
+
+pub returns-in-Spent : goal.returns-in-Spent
+returns-in-Spent c =
+    replied-spent c.args.league.now c.args.budgets c.in-Spent.log c.in-Spent.patterns c.log_reply-in-Spent.result
+    (rw c.in-Spent.is at c.requires.solution) (λ accepted. rw c.in-Spent.is at c.requires.circle accepted)
+    (λ is. rw c.in-Spent.is at c.requires.short is) (λ is. rw c.in-Spent.is at c.requires.crowded is)
+    (λ is. rw c.in-Spent.is at c.requires.few is)
+    c.log_reply-in-Spent.ensures.status c.log_reply-in-Spent.ensures.text c.log_reply-in-Spent.ensures.reads_back
+
+pub schedule_reply-requires-clause-fit : goal.schedule_reply-requires-clause-fit
+schedule_reply-requires-clause-fit c = (rw c.in-Schedule.is at c.requires.solution).descends.fit
+
+pub schedule_reply-requires-clause-few : goal.schedule_reply-requires-clause-few
+schedule_reply-requires-clause-few c =
+    let descends = (rw c.in-Schedule.is at c.requires.solution).descends in
+    round_robin-few c.args.league.now.n c.args.league.now.phased c.in-Schedule.descent.first
+    c.n-n.ensures.instance.teams descends.fit descends.first.round_robin

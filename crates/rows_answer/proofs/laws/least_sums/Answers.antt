@@ -1,9 +1,0 @@
--- Each law is a theorem about the definitions.
-use Rattle.rows_answer.proofs.LeastLaws.{seasons-from_sums, sums-from_seasons}
-use Rattle.rows_answer.proofs.laws.least_sums.Goals as goal
-
-pub returns-clause-enough : goal.returns-clause-enough
-returns-clause-enough c = seasons-from_sums
-
-pub returns-clause-reached : goal.returns-clause-reached
-returns-clause-reached c = sums-from_seasons

@@ -1,8 +1,0 @@
-use Rattle.std.proofs.Common.{ℕ, ◌++◌, List, ap, ◌∙◌}
-use Rattle.solve_answer.specs.Solve.{descent_text}
-use Rattle.solve_answer.proofs.schedules.schedule_text.Goals as goal
-
-pub returns : goal.returns
-returns c =
-    c.in_ok-add_descent.ensures
-    ∙ ap (λ (text : List ℕ). text ++ descent_text c.args.first c.args.descent.now) c.in_ok-text.ensures.text

@@ -1,5 +1,0 @@
-use Rattle.std.proofs.Common.{rules}
-use Rattle.values_answer.proofs.stages.values_in.Goals as goal
-
-pub returns-in_ok-values_refused-in-Err-Form : goal.returns-in_ok-values_refused-in-Err-Form
-returns-in_ok-values_refused-in-Err-Form c = (c.in-Err-Form.line, search rules, search rules)
