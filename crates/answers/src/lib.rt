@@ -12,8 +12,8 @@ mod reply;
 mod stages;
 mod status;
 
+pub use advice::Advice;
 pub use refusal::{Refusal, log_refused, malformed, past_limit, rows_refused, unreadable};
 pub use reply::{NoValue, Reply, words_refused};
 pub use stages::{file, league_in, schedule_in, write_answer};
 pub use status::{Status, code};
-pub use advice::Advice;

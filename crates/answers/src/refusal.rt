@@ -4,11 +4,10 @@ ghost use Rattle.answers.specs.Reply as refusals;
 ghost use Rattle.answers.specs.SeenReply.{answer_of};
 ghost use Rattle.answers.specs.SeenRefusal.{refused_with};
 
-use crate::hints;
 use crate::reply::{
     Reply, log_reply, malformed_reply, past_limit_reply, rows_reply, unreadable_reply,
 };
-use crate::Advice;
+use crate::{Advice, hints};
 use refutation::LogKind;
 use robinx_read::FormKind;
 use std::alloc::{AllocError, Global};

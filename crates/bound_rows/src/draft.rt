@@ -6,9 +6,8 @@ ghost use Rattle.bound_base.specs.BoundRows.{group_of, groups_of};
 ghost use Rattle.bound_base.specs.Parts as parts;
 ghost use Rattle.bound_rows.specs.Drafts.{Extends, HasRoom};
 
+use crate::{Units, add_softened, parts_of, unit_count};
 use bound_base::is_paid;
-use crate::{Units, add_softened, unit_count};
-use crate::parts_of;
 use encoding_rows::{Season, write_class};
 use league::{Class, Constraint};
 use rows::RowStore;

@@ -17,10 +17,10 @@ mod units;
 mod written;
 
 pub use count::bound_terms;
-pub use system::{BoundSystem, bound_system};
 pub use makers::se1_part;
-pub use parts::parts_of;
 pub use objective::push_objective;
 pub use order::push_orders;
+pub use parts::parts_of;
 pub use softened::add_softened;
+pub use system::{BoundSystem, bound_system};
 pub use units::{Units, unit_count};

@@ -8,8 +8,8 @@ ghost use Rattle.bound_rows.specs.Drafts.{rows_in, stripped, units_in};
 ghost use Rattle.encoding.specs.Limit.{most_terms};
 
 use crate::draft::{Draft, add_paid};
-use bound_base::{base_vars, needs_breaks};
 use crate::{push_objective, push_orders};
+use bound_base::{base_vars, needs_breaks};
 use encoding_rows::{Season, write_rows_with};
 use league::League;
 use rows::RowStore;

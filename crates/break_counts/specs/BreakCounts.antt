@@ -1,6 +1,6 @@
 -- Break counts (own): in a stretch of slots in which each two teams meet, all teams but two have a break after its first
 -- slot (de Werra). Hard constraints BR1 and BR2 may leave the teams fewer breaks than that.
-use Rattle.std.specs.Prelude.{◌≡◌, ℕ, ◌+◌, ◌-◌, ◌*◌, Bool, true, not, ◌&&◌, nat_lt, min as smaller}
+use Rattle.std.specs.Prelude.{◌≡◌, ℕ, ◌+◌, ◌-◌, ◌*◌, Bool, true, false, not, ◌&&◌, nat_lt, min as smaller}
 use Rattle.std.specs.Prelude.{if◌then◌else◌, List, [], ◌∷◌, length}
 use Rattle.std.specs.List.{filter, fold, list_all, list_any, range_with_len, sum_by}
 use Rattle.league.specs.Accepted.{IsAccepted, hard_of}

@@ -18,6 +18,6 @@ mod turn;
 mod walk;
 
 pub use found::Found;
-pub use walk::search;
 pub use numbers::note_numbers;
 pub use text::tidy_text;
+pub use walk::search;

@@ -8,5 +8,5 @@ mod checked;
 mod replies;
 mod stages;
 
-pub use stages::{bound_file, few_terms};
 pub use checked::check_bound;
+pub use stages::{bound_file, few_terms};

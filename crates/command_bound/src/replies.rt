@@ -6,8 +6,8 @@ ghost use Rattle.bound_rows.specs.Bounded.{IsCounted};
 ghost use Rattle.command_bound.specs.Bound as texts;
 ghost use Rattle.command_bound.specs.Bound.{IsBoundVerdict, bound_verdict};
 
-use answers::{Reply, Status};
 use crate::check_bound;
+use answers::{Reply, Status};
 use certificates::Certificate;
 use command_check::verdict_reply;
 use league::League;

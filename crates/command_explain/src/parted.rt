@@ -12,8 +12,8 @@ ghost use Rattle.answers.specs.declared.status.Status.TheVariants.{Yes};
 ghost use Rattle.command_explain.specs.Parted.{IsPart, parted, unknown_constraint};
 
 use answers::{Advice, NoValue, Refusal, Reply, Status, file, league_in};
-use league::League;
 use explain::{PartFault, part};
+use league::League;
 use robin_io::Shelf;
 use robinx_read::INSTANCE_LIMIT;
 use robinx_write::instance_text;

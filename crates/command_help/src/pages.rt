@@ -115,7 +115,7 @@ usage: robin solve INSTANCE [OPTIONS]
 Finds a season that the league of the file INSTANCE accepts, and goes on to
 better ones by moves; or writes a log that proves that there is no season.
 
-Use --seconds first: more time never gives a worse season.
+Use --seconds first: tries go on until then, and the best season is written.
 Options stand before or behind the file, each once at most:
   --seconds N    after N seconds walks end, no further try begins, and the best
                  season is written; a search ends by its own budget. Without

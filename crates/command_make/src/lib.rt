@@ -9,5 +9,5 @@ mod season;
 mod summary;
 
 pub use instance::make_league;
-pub use season::circle;
 pub use made::trial;
+pub use season::circle;

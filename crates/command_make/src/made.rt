@@ -17,13 +17,13 @@ ghost use Rattle.command_make.specs.Trial.{IsTrial, found_lines, league_lines, t
 use crate::summary::{found_lines, league_lines};
 use answers::{NoValue, Reply, Status, rows_refused};
 use budgets::Budgets;
+use command_solve::{first_objective, schedule_text};
 use descent::Descent;
 use encoding::EncodeFault;
 use instance_gen::make;
 use league::{League, Schedule};
 use robin_news::Listener;
 use solve::{Solved, solve};
-use command_solve::{first_objective, schedule_text};
 use std::alloc::{AllocError, Global};
 
 /// Makes the league of n teams, n even and from 2 to 40, and a seed, and finds a schedule of it within budgets, until

@@ -12,8 +12,8 @@ ghost use Rattle.command_patterns.specs.Patterns.{AreFound};
 
 use crate::lines::patterns_text;
 use answers::{Reply, Status};
-use encoding::Encoding;
 use clause_search::tidy_text;
+use encoding::Encoding;
 use pattern_search::{PatternFound, pattern_set};
 use patterns::PatternSet;
 use refutation::Log;

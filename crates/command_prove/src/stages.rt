@@ -12,14 +12,14 @@ ghost use Rattle.command_prove.specs.Prove.{IsShown, proved};
 
 use crate::replies::proof_reply;
 use answers::{NoValue, Reply, file, league_in, schedule_in};
-use command_bound::few_terms;
 use bounds::prove;
+use command_bound::few_terms;
+use command_validate::judgement;
 use deviation::assess;
 use league::{League, Schedule};
 use robin_io::Shelf;
 use robinx_read::{INSTANCE_LIMIT, SOLUTION_LIMIT};
 use std::alloc::{AllocError, Global};
-use command_validate::judgement;
 
 /// Answers what is shown of a schedule. It is assessed once.
 fn show(

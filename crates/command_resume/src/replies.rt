@@ -14,8 +14,8 @@ ghost use Rattle.resume.specs.Answers.{IsPlan, IsResumed};
 ghost use Rattle.command_resume.specs.Resumed.{IsFound};
 
 use answers::{Reply, Status};
-use league::{League, Schedule};
 use clause_search::tidy_text;
+use league::{League, Schedule};
 use refutation::Log;
 use resume::Resumed;
 use robinx_write::solution_text;

@@ -13,7 +13,9 @@ ghost use Rattle.command_resume.specs.Seasons.{has_size, has_slots, plays};
 ghost use Rattle.command_resume.specs.SeenSeason.{IsSaid};
 ghost use Rattle.encoding.specs.Limit.{most_terms};
 
-use answers::{Advice, NoValue, Refusal, Reply, Status, file, league_in, rows_refused, schedule_in};
+use answers::{
+    Advice, NoValue, Refusal, Reply, Status, file, league_in, rows_refused, schedule_in,
+};
 use encoding::MOST_TERMS;
 use league::{League, Schedule, slot_count};
 use resume::resume_size;

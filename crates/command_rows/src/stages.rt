@@ -8,8 +8,8 @@ ghost use Rattle.command_rows.specs.Rowed.{AreRowsOf, league_rows, rowed, rows_a
 use crate::prices::prices;
 use crate::written::ReadyRows;
 use answers::{NoValue, file, league_in, rows_refused};
-use command_bound::few_terms;
 use bound_rows::bound_system;
+use command_bound::few_terms;
 use command_line::Goal;
 use encoding::{EncodeFault, encode};
 use league::League;

@@ -90,7 +90,10 @@ impl ReadyRows {
     ) -> Result<ReadyRows, AllocError>
         requires { All (λ t. 1 ≤ t.coef) prices.items }
         ensures { IfOk result (λ ready. ready ≡ record {
-            vars = bound_vars system.league; least = Some prices.items; rows = bound_rows system.league system.bound }) }
+          vars = bound_vars system.league;
+          least = Some prices.items;
+          rows = bound_rows system.league system.bound;
+        }) }
     {
         Ok(ReadyRows {
             kept: Kept::Least { system, prices },

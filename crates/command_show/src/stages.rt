@@ -14,8 +14,8 @@ use crate::form::Form;
 use crate::judged::shown_reply;
 use answers::{NoValue, Reply, file, league_in, malformed, schedule_in};
 use league::League;
-use robinx_names::{Names, read_names};
 use robin_io::Shelf;
+use robinx_names::{Names, read_names};
 use robinx_read::{INSTANCE_LIMIT, ReadFault, SOLUTION_LIMIT};
 use std::alloc::Global;
 

@@ -11,10 +11,10 @@ ghost use Rattle.season_misses.specs.SeenTold.{IsTold};
 ghost use Rattle.command_show.specs.Show as show;
 
 use crate::form::Form;
+use command_validate::{structure_line, verdict};
 use demand_words::Label;
 use deviation::{Assessment, counted};
 use league::{League, Schedule, TeamId};
-use command_validate::{structure_line, verdict};
 use robinx_names::Names;
 use season_csv::season_csv;
 use season_grid::{Season, season_grid};

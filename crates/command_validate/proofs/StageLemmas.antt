@@ -15,10 +15,14 @@ use Rattle.command_validate.specs.Validate.{IsJudgement, validated}
 after-first : (store : Store) (instance solution first : List ℕ) (league : Instance) → IsFile (store.contents instance) INSTANCE_LIMIT first → instance_of (pieces first) ≡ Ok league
     → (answer : Answer) → takes (codes "solution") (store.contents solution) SOLUTION_LIMIT (store.took_more (length first + SOLUTION_LIMIT)) (store.failed solution) (λ bytes. says (codes "solution") (solution_of league.n (pieces bytes)) (IsJudgement league)) answer → validated store instance solution answer
 after-first store instance solution first league is_first says_league answer rest =
-    inl (first, is_first, says-value (codes "instance") (instance_of (pieces first)) league (λ l. takes
-    (codes "solution") (store.contents solution) SOLUTION_LIMIT (store.took_more (length first + SOLUTION_LIMIT))
-    (store.failed solution) (λ bytes. says (codes "solution") (solution_of l.n (pieces bytes)) (IsJudgement l))) answer
-    says_league rest)
+    inl (
+      first,
+      is_first,
+      says-value (codes "instance") (instance_of (pieces first)) league (λ l. takes
+          (codes "solution") (store.contents solution) SOLUTION_LIMIT (store.took_more (length first + SOLUTION_LIMIT))
+          (store.failed solution) (λ bytes. says (codes "solution") (solution_of l.n (pieces bytes)) (IsJudgement l))) answer
+          says_league rest,
+    )
 
 -- the second file isn't read
 pub validated-unread : (store : Store) (instance solution first : List ℕ) (league : Instance) → IsFile (store.contents instance) INSTANCE_LIMIT first → instance_of (pieces first) ≡ Ok league

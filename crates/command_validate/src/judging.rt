@@ -7,10 +7,10 @@ ghost use Rattle.command_validate.specs.Report.{constraints_text, lines_text};
 ghost use Rattle.command_validate.specs.Assessed.{IsAssessmentOf};
 ghost use Rattle.command_validate.specs.Validate.{IsJudgement};
 
+use crate::{head, push_constraint, structure_line, verdict};
 use answers::{Reply, Status};
 use deviation::{Assessment, Vectors, assess, total};
 use league::{Constraint, League, Schedule};
-use crate::{head, push_constraint, structure_line, verdict};
 use std::alloc::{AllocError, Global};
 
 /// Adds the lines of constraints with their vectors, numbered from 1.

@@ -8,5 +8,5 @@ mod lines;
 mod stages;
 
 pub use judging::{judge, judgement};
-pub use stages::validate;
 pub use lines::{head, push_constraint, structure_line, verdict};
+pub use stages::validate;

@@ -46,7 +46,10 @@ fn show_files(
 
 /// The bytes of a counter of steps, of which proofs alone know anything.
 fn show_counter(rt: &impl Print) -> io::Result<()> {
-    println!(rt; "bytes of a counter of steps: {}", size_of::<Steps<Plain>>())
+    println!(rt;
+        "bytes of a counter of steps: {}",
+        size_of::<Steps<Plain>>()
+    )
 }
 
 /// An instance file and a solution file of one byte more than they may have.

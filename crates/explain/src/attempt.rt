@@ -13,14 +13,14 @@ ghost use Rattle.break_counts.specs.BreakCounts.{are_few};
 ghost use Rattle.explain.specs.Attempts.{IsAttempt, IsMet, IsRefuted};
 ghost use Rattle.encoding.specs.Limit.{KeepsLimit, most_terms};
 
+use crate::{PartFault, part};
 use budgets::Budgets;
 use encoding::EncodeFault;
 use league::{League, Schedule};
-use crate::{PartFault, part};
 use refutation::Log;
+use robin_watch::Unwatched;
 use solve::{Solved, solve};
 use std::alloc::{AllocError, Global};
-use robin_watch::Unwatched;
 
 /// What a try came to.
 #[derive(Drop)]

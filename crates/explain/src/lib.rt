@@ -22,7 +22,7 @@ mod used;
 pub use cases::{Case, Cases};
 pub use explained::Explained;
 pub use explainer::explain;
-pub use members::Members;
 pub use fault::PartFault;
 pub use hard::{hard_numbers, is_hard_number};
 pub use maker::{is_ascending, part};
+pub use members::Members;

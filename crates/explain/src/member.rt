@@ -7,8 +7,8 @@ ghost use Rattle.explain.specs.Standings as standings;
 ghost use Rattle.explain.specs.Standings.{AreClosed, IsOpenAt, kept, loosened};
 
 use crate::cases::Case;
-use league::League;
 use crate::hard_numbers;
+use league::League;
 use refutation::Log;
 use std::alloc::{AllocError, Global};
 

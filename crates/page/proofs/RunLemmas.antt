@@ -1,15 +1,16 @@
 -- A run over a store and a sink that were new.
-use Rattle.std.proofs.Common.{◌≡◌, ◌≢◌, ◌≤◌, ℕ, List, [], ◌∷◌, Option, Some, subst, sym, arith}
-use Rattle.std.specs.List.{All}
+use Rattle.std.proofs.Common.{◌≡◌, ◌≢◌, ◌≤◌, ◌==◌, ℕ, List, [], ◌∷◌, Option, Some, subst, sym, inr, arith}
+use Rattle.std.specs.List.{All, slice_split}
 use Rattle.std.proofs.lemmas.List.Elements.{All-nil, All-cons}
 use Rattle.robin_io.specs.Counts.{Rose, TookMore}
-use Rattle.command_line.specs.Words.{Command}
+use Rattle.command_line.specs.Words.{Command, reading}
 use Rattle.answers.specs.declared.status.Status.{Status}
 use Rattle.answers.specs.declared.status.Status.TheVariants.{Memory}
 use Rattle.page_io.specs.Files.{file_named}
 use Rattle.page_io.specs.declared.files.Files.{Files}
 use Rattle.robin_run.specs.Run.{NothingFails, Run}
 use Rattle.page.specs.Ran.{IsPromised, Ran, page_run}
+use Rattle.page.specs.Shown.{HasRun, IsAnswered}
 
 -- the run from a store that gave so many bytes before, and a sink that held some and failed so often
 pub run_from : Option Command → Files → ℕ → ℕ → List ℕ → List ℕ → ℕ → ℕ → Status → Run
@@ -50,11 +51,23 @@ works command files taken text faults ended memory none names = record {
   store = fails-at-none names;
 }
 
+-- what is shown of the sink is what it holds
 pub ran : (command : Option Command) (files held : Files) (given taken : ℕ) (first text : List ℕ) (was faults : ℕ) (ended : Status)
     → held ≡ files → given ≡ 0 → first ≡ [] → was ≡ 0
-    → IsPromised (run_from command held given taken first text was faults ended) → Ran command files text faults ended
-ran command files held given taken first text was faults ended same none empty well promised = record {
-  taken = taken;
-  promised = promised-from-new command files held given taken first text was faults ended same none empty well promised;
-  works = works command files taken text faults ended;
-}
+    → IsPromised (run_from command held given taken first text was faults ended)
+    → (seen : List ℕ) (counted : ℕ) → seen ≡ text → counted ≡ faults → Ran command files seen counted ended
+ran command files held given taken first text was faults ended same none empty well promised seen counted is_text is_count =
+    let plain : Ran command files text faults ended = record {
+      taken = taken;
+      promised = promised-from-new command files held given taken first text was faults ended same none empty well promised;
+      works = works command files taken text faults ended;
+    } in
+    subst (λ t. Ran command files t counted ended) (sym is_text) (subst (λ f. Ran command files text f ended) (sym is_count) plain)
+
+-- the words of a text that is the words' bytes
+pub answered : (words text : List ℕ) (cut : List (List ℕ)) (files : Files) (status written : ℕ) (room : List ℕ)
+    → text ≡ words → cut ≡ slice_split (λ b. b == 10) text → HasRun (reading cut) files status written room
+    → IsAnswered words files status written room
+answered words text cut files status written room same is_cut has =
+    inr (inr (subst (λ w. HasRun (reading (slice_split (λ b. b == 10) w)) files status written room) same
+    (subst (λ c. HasRun (reading c) files status written room) is_cut has)))

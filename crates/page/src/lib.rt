@@ -11,8 +11,8 @@ ghost use Rattle.page.specs.Shown.{HasRun, IsAnswered, IsCut, IsShown};
 use answers::{Status, code};
 use page_io::{Files, PageShelf, PageSink, words_of};
 use robin_run::run;
-use std::alloc::{AllocError, Global};
 use robin_watch::Unwatched;
+use std::alloc::{AllocError, Global};
 
 /// How many bytes of the room the texts of a run take: the answer at the front, and behind it what a person is told.
 #[repr(C)]
@@ -73,17 +73,8 @@ fn run_words(
     let mut shelf = PageShelf::new(files);
     let mut out = PageSink::new(alloc);
     let mut told = PageSink::new(alloc);
-    let ended = run(
-        alloc, words, &mut shelf, &mut out, &mut told, &Unwatched,
-    );
-    show(
-        ended,
-        out.faults(),
-        out.text(),
-        told.text(),
-        room,
-        lengths,
-    )
+    let ended = run(alloc, words, &mut shelf, &mut out, &mut told, &Unwatched);
+    show(ended, out.faults(), out.text(), told.text(), room, lengths)
 }
 
 /// Runs the command that the words name, which stand one on a line, over files that are named `1` to `4`. The text goes to

@@ -11,10 +11,10 @@ ghost use Rattle.resume.specs.Answers.{IsPlan, IsResumed, IsResumedSeason};
 ghost use Rattle.encoding.specs.Limit.{KeepsLimit};
 
 use crate::lower::{MOST_GAMES, Season, lowered};
+use crate::{Resumed, resume};
 use deviation::assess;
 use encoding::EncodeFault;
 use league::{League, Schedule};
-use crate::{Resumed, resume};
 use std::alloc::{AllocError, Global};
 
 /// Resumes a season as `resume` does. Where that answers with a schedule, and not with the old plan as it is, the

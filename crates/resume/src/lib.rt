@@ -14,8 +14,8 @@ mod resumed;
 mod resumer;
 mod season;
 
+pub use bettered::resume_lowered;
 pub use checked::{check_resume, checker_of};
 pub use resume_rows::{ResumeSystem, resume_size, resume_system};
 pub use resumed::Resumed;
 pub use resumer::resume;
-pub use bettered::resume_lowered;

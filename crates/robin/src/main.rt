@@ -7,9 +7,9 @@ use command_line::seconds_of;
 use robin_clock::{HostWatch, Telling};
 use robin_io::{HostShelf, HostSink};
 use robin_run::run;
-use std::process::ExitCode;
-use std::io::{self, IsTerminal};
 use std::env;
+use std::io::{self, IsTerminal};
+use std::process::ExitCode;
 
 /// The exit status where the system gives no arguments, or one that isn't UTF-8.
 const NO_ARGUMENTS: u8 = 10;

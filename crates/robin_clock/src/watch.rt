@@ -6,10 +6,10 @@ use crate::signals::{is_blocked, is_waiting};
 use crate::telling::Telling;
 use league::{Game, League};
 use robin_news::Listener;
+use robin_watch::{News, Watch};
 use std::cell::Cell;
 use std::rt::Files;
 use std::time::{Clock, Instant};
-use robin_watch::{News, Watch};
 
 /// Of so many questions whether the run is to end one looks at the clock.
 const EACH: u64 = 16;
@@ -103,7 +103,9 @@ impl<R: Clock + Files + Eprint> HostWatch<R> {
     fn say_unmet(&self, passed: u128, tried: u64, cost: u128) {
         let (front, end) = self.telling.frame();
         let seconds = passed / 1000;
-        let _ = eprint!(self.rt; "{front}robin: {seconds} s: no season yet, hard demands missed by {cost}, {tried} moves tried{end}");
+        let _ = eprint!(self.rt;
+            "{front}robin: {seconds} s: no season yet, hard demands missed by {cost}, {tried} moves tried{end}"
+        );
     }
 
     /// Says what the best season costs that was found.
@@ -112,7 +114,9 @@ impl<R: Clock + Files + Eprint> HostWatch<R> {
         let seconds = passed / 1000;
         let at = best.at / 1000;
         let objective = best.objective;
-        let _ = eprint!(self.rt; "{front}robin: {seconds} s: best objective {objective}, found after {at} s, {tried} moves tried{end}");
+        let _ = eprint!(self.rt;
+            "{front}robin: {seconds} s: best objective {objective}, found after {at} s, {tried} moves tried{end}"
+        );
     }
 
     /// Says how many clauses a search has learnt.

@@ -19,22 +19,22 @@ use crate::given::{Given, give};
 use answers::{NoValue, Reply, Status, write_answer};
 use command_bound::bound_file;
 use command_check::check;
-use command_make::{circle, make_league, trial};
-use command_line::{Goal, Words, members, read_words};
 use command_explain::{explain_file, part_file};
 use command_help::{help, refuse_words, version};
-use robin_news::Listener;
+use command_line::{Goal, Words, members, read_words};
+use command_make::{circle, make_league, trial};
 use command_patterns::patterns_file;
 use command_prove::prove_file;
 use command_resume::{audit_file, resume_file};
-use robin_io::{Shelf, Sink, put_all};
 use command_rows::{ReadyRows, rows_file, write_rows};
 use command_show::{Form, show};
 use command_solve::solve_file;
-use std::alloc::Global;
 use command_validate::validate;
 use command_values::values_file;
+use robin_io::{Shelf, Sink, put_all};
+use robin_news::Listener;
 use robin_watch::News;
+use std::alloc::Global;
 
 /// Writes the part of the league of a file for the numbers of a list.
 fn part_of_list<S: Shelf>(

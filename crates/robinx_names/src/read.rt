@@ -9,10 +9,10 @@ ghost use Rattle.robinx_form.specs.Walk.{reading};
 ghost use Rattle.robinx_form.specs.declared.element.Element.TheVariants.{InstanceFile};
 ghost use Rattle.robinx_names.specs.NamesFile.{names_meaning, names_of};
 
+use crate::Names;
 use crate::roll::Roll;
 use league::League;
 use robinx_form::Element;
-use crate::Names;
 use robinx_read::{INSTANCE_LIMIT, ReadFault, read_file};
 use robinx_tags::TagReader;
 use std::alloc::{AllocError, Global};

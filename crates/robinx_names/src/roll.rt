@@ -4,9 +4,9 @@ ghost use Rattle.robinx_names.specs.Plain.{IsPlain};
 ghost use Rattle.robinx_names.specs.NamesFile as file;
 ghost use Rattle.robinx_read.specs.Answers.{Changes};
 
+use crate::{Names, plain_name};
 use league::slot_count;
 use robinx_form::Element;
-use crate::{Names, plain_name};
 use robinx_read::{Reads, number_in};
 use robinx_tags::{Attrs, Stop};
 use std::alloc::{AllocError, Global};

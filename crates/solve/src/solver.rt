@@ -21,15 +21,15 @@ use crate::prefer::{preferred, shuffled, venues};
 use crate::solved::Solved;
 use crate::tries::{Tried, better, is_refuted, schedule_found, solved_by};
 use budgets::Budgets;
+use clause_search::note_numbers;
 use encoding::{EncodeFault, Encoding, check_size, encode_small};
 use league::League;
-use robin_news::Listener;
-use clause_search::note_numbers;
 use pattern_search::{PatternFound, pattern_set};
 use patterns::PatternSet;
 use refutation::Log;
-use std::alloc::{AllocError, Global};
+use robin_news::Listener;
 use robin_watch::Watch;
+use std::alloc::{AllocError, Global};
 
 /// Finds a schedule that the league accepts, or a proof that there is none.
 ///
@@ -244,5 +244,12 @@ fn later_try<W: Listener>(
 {
     let seed = budgets.seed.wrapping_add(k);
     let prefer = shuffled(alloc, encoding, seed)?;
-    try_both(alloc, league, encoding, &prefer, Budgets { seed, ..budgets }, watch)
+    try_both(
+        alloc,
+        league,
+        encoding,
+        &prefer,
+        Budgets { seed, ..budgets },
+        watch,
+    )
 }

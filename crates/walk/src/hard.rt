@@ -102,7 +102,8 @@ impl HardParts {
         for game in edit.out() {
             self.found.add_all(self.spots.of_cell(game.home, game.slot));
             self.found.add_all(self.spots.of_cell(game.away, game.slot));
-            self.found.add_all(self.spots.of_meeting(game.home, game.away));
+            self.found
+                .add_all(self.spots.of_meeting(game.home, game.away));
         }
         let then = self.weigh(cells, self.sum.saturating_add(more), steps);
         if let Some(sum) = then {

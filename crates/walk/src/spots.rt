@@ -75,12 +75,7 @@ impl Spots {
     ///
     /// # Errors
     /// Only where memory runs out.
-    fn add_cells(
-        &mut self,
-        number: usize,
-        teams: &[u16],
-        slots: &[u16],
-    ) -> Result<(), AllocError> {
+    fn add_cells(&mut self, number: usize, teams: &[u16], slots: &[u16]) -> Result<(), AllocError> {
         for team in teams {
             for slot in slots {
                 add_at(&mut self.cells, place(*team, SLOTS, *slot), number)?;
@@ -101,7 +96,11 @@ impl Spots {
     ) -> Result<(), AllocError> {
         for team in teams {
             for slot in slots {
-                add_at(&mut self.cells, place(*team, SLOTS, slot.saturating_sub(1)), number)?;
+                add_at(
+                    &mut self.cells,
+                    place(*team, SLOTS, slot.saturating_sub(1)),
+                    number,
+                )?;
                 add_at(&mut self.cells, place(*team, SLOTS, *slot), number)?;
             }
         }
@@ -125,11 +124,7 @@ impl Spots {
     ///
     /// # Errors
     /// Only where memory runs out.
-    fn add_meetings(
-        &mut self,
-        number: usize,
-        meetings: &[(u16, u16)],
-    ) -> Result<(), AllocError> {
+    fn add_meetings(&mut self, number: usize, meetings: &[(u16, u16)]) -> Result<(), AllocError> {
         for (home, away) in meetings {
             add_at(&mut self.meetings, place(*home, TEAMS, *away), number)?;
         }

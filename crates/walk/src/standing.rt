@@ -19,10 +19,10 @@ use descent::Score;
 use league::{Schedule, TeamId};
 use moves::{Board, Edit, Swap, edit_of};
 use rand_pcg::Pcg32;
+use robin_watch::Watch;
 use rule_core::{Rule, Steps};
 use std::alloc::{AllocError, Global};
 use tally::{Sums, Tally};
-use robin_watch::Watch;
 
 /// How many moves are drawn, legal or not, for each that may be tried.
 const DRAWS: u64 = 8;

@@ -20,13 +20,13 @@ use crate::threshold::{Cooling, soft_heat};
 use descent::Score;
 use deviation::AnyRule;
 use league::{Game, League, Schedule};
-use robin_news::Listener;
 use rand_core::SeedableRng;
 use rand_pcg::Pcg32;
+use robin_news::Listener;
+use robin_watch::News;
 use rule_core::{Entries, Plain, Steps};
 use std::alloc::{AllocError, Global};
 use tally::{Tally, league_tally};
-use robin_watch::News;
 
 /// A search ends after so many moves tried that didn't lower what the hard constraints cost.
 const PATIENCE: u64 = 1_600_000;
