@@ -153,10 +153,10 @@ read_next store solution form first league names =
     (λ second. says (codes "solution") (solution_of league.n (pieces second))
     (showing.IsShown league (form_text form league names)))
 
-shown-ends : (Ends : Status → Type 0) → Ends File → Ends ReadFault → Ends Yes → Ends No → (store : Store)
+seen-ends : (Ends : Status → Type 0) → Ends File → Ends ReadFault → Ends Yes → Ends No → (store : Store)
     (instance solution : List ℕ) (form : Form) (answer : Answer) → showing.shown store instance solution form answer
     → Ends answer.status
-shown-ends Ends file fault ends_yes ends_no store instance solution form answer given =
+seen-ends Ends file fault ends_yes ends_no store instance solution form answer given =
     league-ends Ends file fault (store.contents instance) (store.took_more INSTANCE_LIMIT) (store.failed instance)
     (λ first league. says (codes "instance") (names_of league.n (pieces first)) (read_next store solution form first league)) answer
     (λ first league at_league. said-ends Ends file (codes "instance") (names_of league.n (pieces first))
@@ -506,10 +506,10 @@ answer-ends (Some (Validate instance solution)) store answer given =
     validated-ends (EndsBy (Some (Validate instance solution))) refl refl refl refl store instance
     solution answer given
 answer-ends (Some (Show instance solution most width)) store answer given =
-    shown-ends (EndsBy (Some (Show instance solution most width))) refl refl refl refl store instance
+    seen-ends (EndsBy (Some (Show instance solution most width))) refl refl refl refl store instance
     solution (Text most width) answer given
 answer-ends (Some (Sheet instance solution)) store answer given =
-    shown-ends (EndsBy (Some (Sheet instance solution))) refl refl refl refl store instance
+    seen-ends (EndsBy (Some (Sheet instance solution))) refl refl refl refl store instance
     solution Csv answer given
 answer-ends (Some (Check instance log)) store answer given =
     checked-ends (EndsBy (Some (Check instance log))) refl refl refl refl store instance log answer
