@@ -1,3 +1,0 @@
--- What a reader of a claim must believe:
-pub mod Ran
-pub mod Shown
