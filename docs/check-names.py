@@ -19,7 +19,7 @@ def lacking(page, paths, words):
         text = it.read()
     blocks = "".join(re.findall(r"^```.*?^```$", text, re.M | re.S))
     for name in sorted(set(re.findall(r"`([^`\n]+)`", re.sub(r"^```.*?^```$", "", text, flags=re.M | re.S)))):
-        if re.search(r"\b(NAME|FILE|TYPE|CRATE|SEED|X\w+s|Name)\b|name_answer", name) or name in blocks or "/out/" in name:
+        if re.search(r"\b(NAME|FILE|TYPE|CRATE|SEED|X\w+s|Name)\b|command_name", name) or name in blocks or "/out/" in name:
             continue
         if PATH.match(name):
             wanted = re.compile("(.*/)?" + re.escape(name.removeprefix("./").rstrip("/")).replace(r"\*", "[^/]*") + r"(\.antt)?(/.*)?$")
