@@ -4,6 +4,7 @@ ghost use Rattle.std.specs.Prelude.{◌≤◌, vec_len};
 use answers::code;
 use robin_io::{HostShelf, HostSink, MemShelf, MemSink, Shelf, Sink, put_all, read_all};
 use robin_run::run;
+use robin_watch::Unwatched;
 use robinx_read::INSTANCE_LIMIT;
 use std::alloc::{AllocError, Global};
 use std::io;
