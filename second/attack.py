@@ -319,7 +319,7 @@ SHIM = r"""
 extern void *__libc_malloc(size_t); extern void *__libc_realloc(void *, size_t);
 typedef int entry(int, char **, char **);
 struct { long at[4], from[4], most, seconds, bytes, more; } ask;
-static long *counts; static int is_child; static entry *whole;
+static long *counts; static int is_child; static entry *whole; static int aside = -1;
 static int fails(int k) {
     if (!is_child) return 0;
     long now = ++counts[k];
@@ -330,11 +330,16 @@ void *malloc(size_t size) { if (fails(0)) { errno = ENOMEM; return 0; } return _
 void *realloc(void *old, size_t size) { if (fails(0)) { errno = ENOMEM; return 0; } return __libc_realloc(old, size); }
 int open(const char *path, int flags, ...) {
     va_list rest; va_start(rest, flags); int mode = va_arg(rest, int); va_end(rest);
-    if (fails(1)) { errno = EIO; return -1; }
-    return syscall(SYS_openat, AT_FDCWD, path, flags, mode);
+    /* The process's own status, in which waiting signals stand, is no file of a command: it is neither counted nor fails. */
+    int is_aside = !strncmp(path, "/proc/", 6);
+    if (!is_aside && fails(1)) { errno = EIO; return -1; }
+    int file = syscall(SYS_openat, AT_FDCWD, path, flags, mode);
+    if (is_aside) aside = file;
+    else if (file == aside) aside = -1;
+    return file;
 }
 ssize_t read(int file, void *room, size_t size) {
-    if (fails(2)) { errno = EIO; return -1; }
+    if (file != aside && fails(2)) { errno = EIO; return -1; }
     return syscall(SYS_read, file, room, few(size));
 }
 static ssize_t put(int file, const void *bytes, size_t size) {
