@@ -47,7 +47,7 @@ objective_row first groups bound = record { terms = costs first groups; degree =
 abbrev pub one_before : ℕ → Row
 one_before v = at_least 1 (yes v ∷ no (v + 1) ∷ [])
 
--- of the unit variables of each group the first ones are true
+-- the first unit variables of each group are true, and no others
 abbrev pub order_rows : ℕ → List Group → List Row
 order_rows first [] = []
 order_rows first (g ∷ groups) =

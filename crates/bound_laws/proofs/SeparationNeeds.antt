@@ -117,7 +117,7 @@ module _ (n : ℕ) (m : Counts) (values : ℕ → Bool) (mirrors : Mirrors n m v
       list_all-range (λ s. nat_lt s (slot_count n)) a k
       (λ s from within. lt-ltb s (slot_count n) (omega arith))
 
-  -- so each row of SE1 lacks at most one
+  -- each row of SE1 lacks at most one
   lacks-le : (i j a k : ℕ) → i < n → j < n → a + k ≤ slot_count n
       → shortfall values (at_most 1 (games_in n (meetings_with Both i (j ∷ [])) (range_with_len a k))) ≤ 1
   lacks-le i j a k first second inside =

@@ -18,14 +18,14 @@ abbrev pub BoundedHaveValues : Type 0
 BoundedHaveValues = (league : Instance) (bound : ℕ) (m : Counts) → IsInstance league → IsAccepted league m →
     objective league m ≤ bound → (values : ℕ → Bool) × SatisfiesAll values (bound_rows league bound)
 
--- what satisfies them decodes to one
+-- values that satisfy the bound rows decode to an accepted schedule with an objective of at most the bound
 abbrev pub AnswersAreBounded : Type 0
 AnswersAreBounded = (league : Instance) (bound : ℕ) (values : ℕ → Bool) → IsInstance league →
     SatisfiesAll values (bound_rows league bound) →
     IsAccepted league (counts_of (decoded league.n values))
     × (objective league (counts_of (decoded league.n values)) ≤ bound)
 
--- so where the rows of one less have no solution, each accepted schedule has at least this objective
+-- where the bound rows of one less have no solution, each accepted schedule has at least this objective
 abbrev pub RefutedBoundsHold : Type 0
 RefutedBoundsHold = (league : Instance) (least : ℕ) → IsInstance league →
     HaveNoSolution (bound_rows league (least - 1)) → IsLowerBound league least

@@ -50,7 +50,7 @@ one_more_set others bits x small below =
     ap count_ones (low_bits others x bits below) in
     omega (arith, ap count_ones split, ones_cat x (bit_and high 1) (bit_and low bits) both_below, one, rest)
 
--- they are below each place that comes later
+-- some bits and one above them are below each place that comes later
 pub below_later : (bits x y : ℕ) → x < 128 → bits < 2 ^ x → x < y → bit_or bits (1 * 2 ^ x % 2 ^ 128) < 2 ^ y
 below_later bits x y small below order =
     let positive : 0 < 2 = omega arith in

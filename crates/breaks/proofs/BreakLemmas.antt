@@ -41,7 +41,7 @@ twice_set played games season (suc s) within told =
     ∙ sym (ap (λ (b : Bool). one_if (b && nat_lt 0 (games s) && nat_lt 0 (games (suc s)))) (is_later s))
     ∙ sym (ap (λ (k : ℕ). one_if (nat_lt 0 (suc s) && nat_lt 0 (games k) && nat_lt 0 (games (suc s)))) before)
 
--- the same, as it is computed, over some slots
+-- the slots with games twice in a row, as they are computed, over some slots
 pub twice_counted : (played : ℕ) (games : ℕ → ℕ) (season : ℕ) (slots : List ℕ) → played < 2 ^ 78
     → All (λ s. s < season) slots → ((s : ℕ) → s < season → bit_at played s ≡ one_if (nat_lt 0 (games s)))
     → sum_by (bit_at (bit_and played (played * 2 ^ 1 % 2 ^ 128))) slots

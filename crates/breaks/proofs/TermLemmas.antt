@@ -11,7 +11,10 @@ use Rattle.breaks.specs.declared.br1.Br1.{Br1}
 use Rattle.breaks.specs.declared.br2.Br2.{Br2}
 
 -- the entry of a BR1, by the breaks of the team that was read
-pub br1_term : (r : Br1) (m : Counts) (key teams team : ℕ) (slots : List ℕ) (breaks bound result : ℕ) → key < entry_count (br1.class_of r) → teams ≡ r.n → team ≡ get_or r.scope.teams key 0 → slots ≡ r.scope.slots → breaks ≡ breaks_among teams m r.side slots team → bound ≡ r.intp → result ≡ breaks - bound → result ≡ entry_of r.n m (br1.class_of r) key
+pub br1_term : (r : Br1) (m : Counts) (key teams team : ℕ) (slots : List ℕ) (breaks bound result : ℕ)
+    → key < entry_count (br1.class_of r) → teams ≡ r.n → team ≡ get_or r.scope.teams key 0 → slots ≡ r.scope.slots
+    → breaks ≡ breaks_among teams m r.side slots team → bound ≡ r.intp → result ≡ breaks - bound
+    → result ≡ entry_of r.n m (br1.class_of r) key
 br1_term r m key teams team slots breaks bound result inside same is_team are_slots summed is_bound less =
     less
     ∙ ap (λ (b : ℕ). breaks - b) is_bound
@@ -28,7 +31,10 @@ only_entry r m zero inside = refl
 only_entry r m (suc key) inside = absurd (omega arith)
 
 -- the entry of a BR2, by the breaks of all the teams
-pub br2_term : (r : Br2) (m : Counts) (key teams : ℕ) (listed slots : List ℕ) (breaks bound result : ℕ) → key < entry_count (br2.class_of r) → teams ≡ r.n → listed ≡ r.scope.teams → slots ≡ r.scope.slots → breaks ≡ all_breaks teams m listed slots → bound ≡ r.intp → result ≡ breaks - bound → result ≡ entry_of r.n m (br2.class_of r) key
+pub br2_term : (r : Br2) (m : Counts) (key teams : ℕ) (listed slots : List ℕ) (breaks bound result : ℕ)
+    → key < entry_count (br2.class_of r) → teams ≡ r.n → listed ≡ r.scope.teams → slots ≡ r.scope.slots
+    → breaks ≡ all_breaks teams m listed slots → bound ≡ r.intp → result ≡ breaks - bound
+    → result ≡ entry_of r.n m (br2.class_of r) key
 br2_term r m key teams listed slots breaks bound result inside same are_teams are_slots summed is_bound less =
     less
     ∙ ap (λ (b : ℕ). breaks - b) is_bound

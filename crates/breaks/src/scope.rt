@@ -21,7 +21,7 @@ pub(crate) struct Scope {
 }
 
 impl Scope {
-    /// These teams and slots of a league of n teams.
+    /// The scope of these teams and slots in a league of n teams.
     pub(crate) fn of(
         alloc: Global,
         n: u16,

@@ -38,7 +38,9 @@ AreBefore-none m meetings = record {
 }
 
 -- with one slot more
-pub AreBefore-more : (m : Counts) (meetings : List (ℕ × ℕ)) (slot next total games : ℕ) (before : List ℕ) → slot < 78 → next ≡ slot + 1 → total ≡ get_or before slot 0 + games → games ≡ games_of m meetings (slot ∷ []) → games ≤ 1560000 → AreBefore m meetings slot before → AreBefore m meetings (slot + 1) (set before next total)
+pub AreBefore-more : (m : Counts) (meetings : List (ℕ × ℕ)) (slot next total games : ℕ) (before : List ℕ) → slot < 78
+    → next ≡ slot + 1 → total ≡ get_or before slot 0 + games → games ≡ games_of m meetings (slot ∷ []) → games ≤ 1560000
+    → AreBefore m meetings slot before → AreBefore m meetings (slot + 1) (set before next total)
 AreBefore-more m meetings slot next total games before small one is counted few are =
     let inside : next < length before = omega (arith, are.size) in
     record {
@@ -63,11 +65,18 @@ pub outside-le : (low high count : ℕ) → outside low high count ≤ low + cou
 outside-le low high count = omega arith
 
 -- the games in a window, by those before its end and before its first slot
-window : (n : ℕ) (m : Counts) (meetings : List (ℕ × ℕ)) (intp : ℕ) (before : List ℕ) → ((t : ℕ) → t ≤ slot_count n → get_or before t 0 ≡ games_of m meetings (range_with_len 0 t)) → (p first : ℕ) → p < slot_count n + 1 - intp → first ≡ 0 + p → get_or before (first + intp) 0 - get_or before first 0 ≡ games_of m meetings (range_with_len first intp)
+window : (n : ℕ) (m : Counts) (meetings : List (ℕ × ℕ)) (intp : ℕ) (before : List ℕ)
+    → ((t : ℕ) → t ≤ slot_count n → get_or before t 0 ≡ games_of m meetings (range_with_len 0 t)) → (p first : ℕ)
+    → p < slot_count n + 1 - intp → first ≡ 0 + p
+    → get_or before (first + intp) 0 - get_or before first 0 ≡ games_of m meetings (range_with_len first intp)
 window n m meetings intp before games p first small is = omega (arith, games (first + intp) (omega arith), games first (omega arith), games_of-window m meetings first intp)
 
 -- the entry of a CA3, by the games before each slot
-pub ca3_term : (r : Ca3) (m : Counts) (key teams : ℕ) (before : List ℕ) (slots result : ℕ) → key < entry_count (class_of r) → teams ≡ r.n → slots ≡ slot_count teams → ((t : ℕ) → t ≤ slot_count teams → get_or before t 0 ≡ games_of m (meetings_with r.opponents.side (get_or r.opponents.teams1 key 0) r.opponents.teams2) (range_with_len 0 t)) → result ≡ sum_by (λ first. outside r.min r.max (get_or before (first + r.intp) 0 - get_or before first 0)) (range_with_len 0 (slots + 1 - r.intp)) → result ≡ entry_of r.n m (class_of r) key
+pub ca3_term : (r : Ca3) (m : Counts) (key teams : ℕ) (before : List ℕ) (slots result : ℕ)
+    → key < entry_count (class_of r) → teams ≡ r.n → slots ≡ slot_count teams → ((t : ℕ) → t ≤ slot_count teams → get_or
+    before t 0 ≡ games_of m (meetings_with r.opponents.side (get_or r.opponents.teams1 key 0) r.opponents.teams2)
+    (range_with_len 0 t)) → result ≡ sum_by (λ first. outside r.min r.max (get_or before (first + r.intp) 0 - get_or
+    before first 0)) (range_with_len 0 (slots + 1 - r.intp)) → result ≡ entry_of r.n m (class_of r) key
 ca3_term r m key teams before slots result inside same are_slots games summed =
     let i : ℕ = get_or r.opponents.teams1 key 0 in
     let others : List ℕ = r.opponents.teams2 in

@@ -144,7 +144,7 @@ module _ (m : Counts) (side : Side) (teams1 teams2 : List ℕ) (s : ℕ) where
       ap (λ (x : ℕ). counted side teams1 teams2 i o * x) once ∙ omega arith in
       is ∙ sym here ∙ sym (only_one (at_home_to i) o n none below) ∙ sym (games_by_guest n i)
 
-  -- and one that is at home to none
+  -- a home team that is at home to none in the slot
   pub games_no_guest : (n i : ℕ) → ((j : ℕ) → m i j s ≡ 0)
       → 0 ≡ games_of m (filter test (meetings_at_home n i)) (s ∷ [])
   games_no_guest n i none =

@@ -23,7 +23,10 @@ use Rattle.capacity.specs.declared.ca2.Ca2.{Ca2}
 use Rattle.capacity.specs.declared.ca4.Ca4.{Ca4}
 
 -- the entry of a CA1, by the games of the team that was read
-pub ca1_term : (r : Ca1) (m : Counts) (key teams team : ℕ) (slots : List ℕ) (games result : ℕ) → key < entry_count (ca1.class_of r) → teams ≡ r.n → team ≡ get_or r.teams key 0 → slots ≡ r.slots → games ≡ sum_by (λ s. games_on teams m r.side team s) slots → result ≡ outside r.min r.max games → result ≡ entry_of r.n m (ca1.class_of r) key
+pub ca1_term : (r : Ca1) (m : Counts) (key teams team : ℕ) (slots : List ℕ) (games result : ℕ)
+    → key < entry_count (ca1.class_of r) → teams ≡ r.n → team ≡ get_or r.teams key 0 → slots ≡ r.slots
+    → games ≡ sum_by (λ s. games_on teams m r.side team s) slots → result ≡ outside r.min r.max games
+    → result ≡ entry_of r.n m (ca1.class_of r) key
 ca1_term r m key teams team slots games result inside same is_team are_slots summed less =
     less
     ∙ ap (outside r.min r.max)
@@ -34,7 +37,10 @@ ca1_term r m key teams team slots games result inside same is_team are_slots sum
     ∙ sym (get_or-map (ca1_entry r.n m r.min r.max r.side r.slots) r.teams key 0 0 inside)
 
 -- the entry of a CA2, by the games of the team in the slots that were read
-pub ca2_term : (r : Ca2) (m : Counts) (key : ℕ) (slots : List ℕ) (games result : ℕ) → key < entry_count (ca2.class_of r) → slots ≡ r.slots → games ≡ games_of m (meetings_with r.opponents.side (get_or r.opponents.teams1 key 0) r.opponents.teams2) slots → result ≡ outside r.min r.max games → result ≡ entry_of r.n m (ca2.class_of r) key
+pub ca2_term : (r : Ca2) (m : Counts) (key : ℕ) (slots : List ℕ) (games result : ℕ) → key < entry_count (ca2.class_of r)
+    → slots ≡ r.slots
+    → games ≡ games_of m (meetings_with r.opponents.side (get_or r.opponents.teams1 key 0) r.opponents.teams2) slots
+    → result ≡ outside r.min r.max games → result ≡ entry_of r.n m (ca2.class_of r) key
 ca2_term r m key slots games result inside are_slots counted less =
     less
     ∙ ap (outside r.min r.max) (counted ∙ ap (λ (xs : List ℕ). games_of m (meetings_with r.opponents.side (get_or r.opponents.teams1 key 0) r.opponents.teams2) xs) are_slots)

@@ -43,7 +43,7 @@ none_where b t teams fails =
     ap (λ (c : Bool). keys_where (λ x. (x == t) && c) teams) fails ∙ keys_where-none (λ x. (x == t) && false) teams (λ k d lt. with_false (get_or teams k d == t))
 
 module _ (teams others : List ℕ) (g : Game) where
-  -- of a side that is this one
+  -- the keys that a game touches on a side, by an equal side
   of_side : (side other : Side) (keys : List ℕ) → side ≡ other → keys ≡ keys_where (plays_against other others g) teams → keys ≡ keys_where (plays_against side others g) teams
   of_side side other keys same is = is ∙ ap (λ (s : Side). keys_where (plays_against s others g) teams) (sym same)
 

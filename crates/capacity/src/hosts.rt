@@ -30,7 +30,7 @@ impl Opponents {
         games
     }
 
-    /// The same in one slot.
+    /// The games of the meetings in one slot.
     fn games_in_slot(&self, cells: &Cells, hosts: &[u16], slot: SlotId) -> u64
         requires few { cells.now.n ≤ 40 }
         requires hosts { hosts.now
@@ -48,7 +48,7 @@ impl Opponents {
         games
     }
 
-    /// Those of one home team.
+    /// The games of the meetings of one home team in one slot.
     fn games_at_home(&self, cells: &Cells, host: TeamId, slot: SlotId) -> u32
         requires few { cells.now.n ≤ 40 }
         requires host { host.0 < cells.now.n }
@@ -90,7 +90,7 @@ impl Opponents {
         }
     }
 
-    /// Those of one home team, looked up for each guest.
+    /// The games of the meetings of one home team in one slot, looked up for each guest.
     fn games_with_each(&self, cells: &Cells, host: TeamId, slot: SlotId) -> u32
         requires few { cells.now.n ≤ 40 }
         requires host { host.0 < cells.now.n }

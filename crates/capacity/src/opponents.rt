@@ -22,7 +22,7 @@ pub(crate) struct Opponents {
 }
 
 impl Opponents {
-    /// These teams and the others of a league of n teams.
+    /// Opponents of these sets of teams in a league of n teams.
     pub(crate) fn of(
         alloc: Global,
         n: u16,

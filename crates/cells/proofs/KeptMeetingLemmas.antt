@@ -49,7 +49,10 @@ pub place_in : (n home away place : ℕ) (listed : List Bool) → length listed 
 place_in n home away place listed size in_home in_away is = omega (arith, mul-add-lt home n away n in_home in_away)
 
 -- the table with the next meeting
-pub IsTableOf-more : (n : ℕ) (xs : List (ℕ × ℕ)) (listed : List Bool) (k place : ℕ) → k < length xs → (get_or xs k (0, 0)).0 < n → (get_or xs k (0, 0)).1 < n → place ≡ (get_or xs k (0, 0)).0 * n + (get_or xs k (0, 0)).1 → IsTableOf n (take k xs) listed → IsTableOf n (take (k + 1) xs) (set listed place true)
+pub IsTableOf-more : (n : ℕ) (xs : List (ℕ × ℕ)) (listed : List Bool) (k place : ℕ) → k < length xs
+    → (get_or xs k (0, 0)).0 < n → (get_or xs k (0, 0)).1 < n
+    → place ≡ (get_or xs k (0, 0)).0 * n + (get_or xs k (0, 0)).1 → IsTableOf n (take k xs) listed
+    → IsTableOf n (take (k + 1) xs) (set listed place true)
 IsTableOf-more n xs listed k place lt in_home in_away is table =
     let p : ℕ × ℕ = get_or xs k (0, 0) in
     let inside : place < length listed = place_in n p.0 p.1 place listed table.size in_home in_away is in

@@ -52,7 +52,7 @@ place_within n w i j s home away slot =
           (n * n) w,
     )
 
--- and beyond
+-- a place beyond the table
 place_beyond : (n w i j s : ℕ) → n ≤ i → n * n * w ≤ (i * n + j) * w + s
 place_beyond n w i j s past =
     omega (arith, mul-le (n * n) w (i * n + j) w (omega (arith, mul-le n n i n past (omega arith))) (omega arith))

@@ -30,7 +30,7 @@ pub kept_counts-each : map (λ s. kept_counts 2 two_teams turned_twice 0 1 s) (0
     (λ s. kept_counts 2 two_teams turned_twice 1 0 s) (0 ∷ 1 ∷ 2 ∷ []) ≡ 1 ∷ 0 ∷ 0 ∷ 2 ∷ 0 ∷ 0 ∷ []
 kept_counts-each = refl
 
--- so team 1 has two home games and an away game there
+-- team 1 has two home games and an away game in slot 0
 pub venues-each : home_games 2 (kept_counts 2 two_teams turned_twice) 1 0 ∷ away_games 2
     (kept_counts 2 two_teams turned_twice) 1 0 ∷ [] ≡ 2 ∷ 1 ∷ []
 venues-each = refl

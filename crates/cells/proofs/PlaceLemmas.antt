@@ -20,7 +20,7 @@ pub place_at-inside : (slots : ℕ) (places : List Place) (i s : ℕ) → s < sl
     → place_at slots places i s ≡ get_or places (i * slots + s) Free
 place_at-inside slots places i s h = grind (arith, nat_tests)
 
--- and in one that there isn't
+-- a place in a slot that there isn't
 pub place_at-outside : (slots : ℕ) (places : List Place) (i s : ℕ) → slots ≤ s → place_at slots places i s ≡ Free
 place_at-outside slots places i s h = grind (arith, nat_tests)
 
@@ -85,7 +85,7 @@ IsPut-written g before after home_free away_free written =
           written.others;
     }
 
--- and taken off
+-- a game is taken off
 pub IsPut-cleared : (g : Game) (before after : ℕ → ℕ → Place) → before g.home.0 g.slot.0 ≡ Home g.away
     → before g.away.0 g.slot.0 ≡ Away g.home → AreWritten g Free Free before after → IsPut g after before
 IsPut-cleared g before after home away written =

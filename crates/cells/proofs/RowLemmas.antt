@@ -7,7 +7,11 @@ use Rattle.cells.specs.Tables.{IsOneMore}
 use Rattle.cells.specs.declared.counters.Counters.{Counters}
 
 -- counters in which one more was written
-pub IsOneMore-set_more : (before after : Counters) (row column read value : ℕ) → after.columns ≡ before.columns → after.numbers.items ≡ set before.numbers.items (row * before.columns + column) value → column < before.columns → row * before.columns + column < length before.numbers.items → read ≡ get_or before.numbers.items (row * before.columns + column) read → value ≡ read + 1 → IsOneMore row column before after
+pub IsOneMore-set_more : (before after : Counters) (row column read value : ℕ) → after.columns ≡ before.columns
+    → after.numbers.items ≡ set before.numbers.items (row * before.columns + column) value → column < before.columns
+    → row * before.columns + column < length before.numbers.items
+    → read ≡ get_or before.numbers.items (row * before.columns + column) read → value ≡ read + 1
+    → IsOneMore row column before after
 IsOneMore-set_more before after row column read value wide items inside within was is =
     let xs = before.numbers.items in
     let place : ℕ = row * before.columns + column in
@@ -19,7 +23,11 @@ IsOneMore-set_more before after row column read value wide items inside within w
     }
 
 -- counters in which one less was written
-pub IsOneMore-set_less : (before after : Counters) (row column read value : ℕ) → before.columns ≡ after.columns → before.numbers.items ≡ set after.numbers.items (row * after.columns + column) value → column < after.columns → row * after.columns + column < length after.numbers.items → read ≡ get_or after.numbers.items (row * after.columns + column) read → value ≡ read - 1 → 0 < number after.columns after.numbers.items row column → IsOneMore row column before after
+pub IsOneMore-set_less : (before after : Counters) (row column read value : ℕ) → before.columns ≡ after.columns
+    → before.numbers.items ≡ set after.numbers.items (row * after.columns + column) value → column < after.columns
+    → row * after.columns + column < length after.numbers.items
+    → read ≡ get_or after.numbers.items (row * after.columns + column) read → value ≡ read - 1
+    → 0 < number after.columns after.numbers.items row column → IsOneMore row column before after
 IsOneMore-set_less before after row column read value wide items inside within was is there =
     let xs = after.numbers.items in
     let place : ℕ = row * after.columns + column in

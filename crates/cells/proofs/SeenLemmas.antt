@@ -114,7 +114,7 @@ module _ (n games : ℕ) (ps : List Place) (xs : List ℕ) (h a : Counters) (kep
         | inr ge ↦ kept.table.counted.within j i s (inl ge)
       ]
 
-  -- the same, as contracts see the counts
+  -- a team with as many home games as its place has no spare one, as contracts see the counts
   pub settled_home : (t : Table) → table_of n (kept_counts n ps xs) ≡ t
       → home_games t.n (table_counts t) i s ≡ one_if (is_home (place_at (slot_count n) ps i s)) → (j : ℕ)
       → spare_counts xs i j s ≡ 0
@@ -236,7 +236,7 @@ module _ (n games : ℕ) (ps : List Place) (xs : List ℕ) (h a : Counters) (kep
       settled_away n games ps xs h a kept i s t is
       (sym are ∙ same ∙ is_placed ∙ ap (λ (q : Place). one_if (is_away q)) place_is)
 
-  -- and one whose place doesn't
+  -- a team whose place doesn't tell all its home games
   pub more_home : (homes placed : ℕ) → homes ≡ home_games t.n (table_counts t) i s → placed ≡ one_if (is_home p)
       → homes ≢ placed → 0 < home_games t.n (table_counts t) i s
   more_home homes placed are is_placed differ =
@@ -321,7 +321,7 @@ module _ (n games : ℕ) (ps : List Place) (xs : List ℕ) (h a : Counters) (kep
       (sum_by-same (λ j. one_if (hosts (at j) i)) (λ j. one_if (visits (at i) j))
       (λ j. ap one_if (kept.table.mirrored.same j i s)) others ∙ visits_any_sum (at i) others ascending)
 
-  -- they are few
+  -- the games of a team against some others in a slot are few
   pub at_home-le : length others ≤ 78 → games_of (table_counts t) (meetings_with H i others) (s ∷ []) ≤ 780000
   at_home-le few =
       omega (

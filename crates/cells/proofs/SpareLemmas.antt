@@ -76,7 +76,7 @@ zero_more (x ∷ xs) (suc k) = zero_more xs k
 
 -- the counts of a game of at most 40 teams
 module _ (xs : List ℕ) (g : Game) (home : g.home.0 < 40) (away : g.away.0 < 40) where
-  -- as it is read, and past the end
+  -- a count as it is read, within the list and past its end
   pub read_inside : (place read : ℕ) → place ≡ spare_place g.home.0 g.away.0 g.slot.0 → place < length xs
       → read ≡ get_or xs place read → read ≡ spare_counts xs g.home.0 g.away.0 g.slot.0
   read_inside place read is inside was =

@@ -17,8 +17,8 @@ table_counts-inside = refl
 pub table_counts-no_slot : map (λ s. table_counts two_teams 0 1 s) (2 ∷ 3 ∷ []) ≡ 0 ∷ 0 ∷ []
 table_counts-no_slot = refl
 
--- nor is there a team 2, whose row at home to 0 would be past the end, and whose row away to 0 would be that of 1 at
--- home to 0
+-- there is no team 2, whose row at home to 0 would be past the end, and whose row away to 0 would be that of 1 at home
+-- to 0
 pub table_counts-no_team : table_counts two_teams 2 0 1 + table_counts two_teams 0 2 1 ≡ 0
 table_counts-no_team = refl
 

@@ -69,14 +69,14 @@ home_more n m more g fits same i s =
     sum_by-same (λ j. more i j s) (λ j. one_more m g i j s) (λ j. same i j s) (teams_of n) ∙ home_games-one_more n m
     g i s fits
 
--- and the away games
+-- the away games with one game more
 away_more : (n : ℕ) (m more : Counts) (g : Game) → IsGame n g → ((i j s : ℕ) → more i j s ≡ one_more m g i j s)
     → (i s : ℕ) → away_games n more i s ≡ away_games n m i s + one_if ((g.away.0 == i) && (g.slot.0 == s))
 away_more n m more g fits same i s =
     sum_by-same (λ j. more j i s) (λ j. one_more m g j i s) (λ j. same j i s) (teams_of n) ∙ away_games-one_more n m
     g i s fits
 
--- and the sum of the table
+-- the sum of the table with one game more
 pub sum_more : (n : ℕ) (m more : Counts) (g : Game) → IsGame n g → ((i j s : ℕ) → more i j s ≡ one_more m g i j s)
     → sum (listed n more) ≡ sum (listed n m) + 1
 sum_more n m more g fits same = ap (λ (k : Counts). sum (listed n k)) (same_counts more (one_more m g) same) ∙
@@ -117,7 +117,7 @@ AreKept-more n games g ps qs xs ys h a h1 a1 fits room one table same kept =
       away = λ i s. omega (arith, one.by_away.each i s, kept.away i s, away_more n m more g fits same i s);
     }
 
--- and with one game less
+-- all is kept with one game less
 pub AreKept-less : (n games : ℕ) (g : Game) (ps qs : List Place) (xs ys : List ℕ) (h a h1 a1 : Counters)
     → IsGame n g → AreOneMore g h a h1 a1 → AreOpponents n ps xs
     → ((i j s : ℕ) → kept_counts n qs ys i j s ≡ one_more (kept_counts n ps xs) g i j s)
@@ -162,7 +162,7 @@ AreOpponents-none n places spare free none =
       counted = AreSpare-none n spare none;
     }
 
--- they count nothing
+-- new tables count nothing
 pub kept-none : (n : ℕ) (places : List Place) (spare : List ℕ) → places ≡ replicate (n * slot_count n) Free
     → spare ≡ [] → kept_counts n places spare ≡ counts_of []
 kept-none n places spare free none =
@@ -172,7 +172,7 @@ kept-none n places spare free none =
     free ∙ new_place (slot_count n) (n * slot_count n) i s in
     omega (arith, ap (λ (p : Place). one_if (hosts p j)) at, no_counts spare none i j s))
 
--- nor do those of no games add up to any
+-- the counts of no games add up to nothing
 sum-none : (n : ℕ) → sum (listed n (counts_of [])) ≡ 0
 sum-none n = sum-map (λ p. 0) (range_with_len 0 (n * n * slot_count n)) ∙ sum_of_none (λ p. 0) (λ p. refl)
     (range_with_len 0 (n * n * slot_count n))
@@ -216,7 +216,7 @@ get_or-le-sum [] place = omega arith
 get_or-le-sum (x ∷ xs) zero = omega (arith, sum_by-cons (λ y. y) x xs)
 get_or-le-sum (x ∷ xs) (suc place) = omega (arith, sum_by-cons (λ y. y) x xs, get_or-le-sum xs place)
 
--- so each in rows is
+-- each number in rows is at most their sum
 number-le-sum : (columns : ℕ) (xs : List ℕ) (row column : ℕ) → number columns xs row column ≤ sum xs
 number-le-sum columns xs row column =
     cond_both (nat_lt column columns) (get_or xs (row * columns + column) 0) 0 (λ x. x ≤ sum xs)
@@ -240,7 +240,7 @@ kept-le n games ps xs h a kept i j s =
       kept.few,
     )
 
--- so a team has at most n times as many at home in a slot, and away
+-- a team has at most n times as many at home in a slot, and away
 pub kept-home-le : (n games : ℕ) (ps : List Place) (xs : List ℕ) (h a : Counters) → AreKept n games ps xs h a
     → (i s : ℕ) → number h.columns h.numbers.items i s ≤ 400000
 kept-home-le n games ps xs h a kept i s =

@@ -20,7 +20,7 @@ pub record IsOneMore (row column : ℕ) (before after : Counters) : Type 0 where
   pub each : (i k : ℕ) → number after.columns after.numbers.items i k
       ≡ number before.columns before.numbers.items i k + (if (row == i) && (column == k) then 1 else 0)
 
--- of each row, the columns below 78 whose number isn't 0 are set
+-- in each row the columns below 78 whose number isn't 0 are set
 pub record AreMarked (counters : Counters) : Type 0 where
   pub small : (i : ℕ) → slice_index counters.marks.items i < 2 ^ 78
   pub each : (i k : ℕ) → k < 78 → bit_at (slice_index counters.marks.items i) k

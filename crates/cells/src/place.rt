@@ -11,11 +11,11 @@ use league::{Game, SlotId, TeamId};
 /// What a team does in a slot in which it has at most one game.
 #[derive(Clone, Copy, Debug, PartialEq, Eq)]
 pub enum Place {
-    /// It plays no game.
+    /// The team plays no game.
     Free,
-    /// It is at home to this team.
+    /// The team is at home to this one.
     Home(TeamId),
-    /// It is away at this team.
+    /// The team is away at this one.
     Away(TeamId),
 }
 

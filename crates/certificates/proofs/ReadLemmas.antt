@@ -77,7 +77,7 @@ end-cons b bytes false is =
     let parts = split-parts is_line_feed bytes in
     ap (end_from 2) (slice_split-cons_no is_line_feed b bytes is) ∙ rw parts.are refl
 
--- or something
+-- something is behind it
 pub nothing_behind-some : (bytes : List ℕ) → (bytes ≡ [] → ⊥) → nothing_behind (lines_of bytes) ≡ Err (BadLine, 2)
 nothing_behind-some [] some = absurd (some refl)
 nothing_behind-some (b ∷ bytes) some = ap whole (end-cons b bytes (is_line_feed b) refl)

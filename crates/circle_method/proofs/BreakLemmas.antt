@@ -248,7 +248,7 @@ HasFewBreaks-double_games n size =
       second = sum_by-range_same (breaks_among n (counts_of (double_games n)) Both (range_with_len n (n - 2))) (λ i. one_if (nat_lt i (n - 2))) 0 n (λ i low high. team-second n i size (omega arith)) ∙ teams_below n size.at_least;
     }
 
--- the same of a list of games that is this one
+-- the law of the breaks, of a list of games that is the double circle schedule
 pub breaks_of : (n : ℕ) (games : List Game) → IsTeamCount n → games ≡ double_games n → HasFewBreaks n (counts_of games)
 breaks_of n games size is =
     let P : List Game → Type 0 = λ xs. HasFewBreaks n (counts_of xs) in

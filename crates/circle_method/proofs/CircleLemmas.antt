@@ -126,7 +126,7 @@ place-back m s i d slot team some half far =
           ((λ e. omega arith), (λ e. omega arith));
     }
 
--- the same with another name of whether it is at home
+-- the place of a team with another name of whether it is at home
 place-same : (m s i k : ℕ) (b c : Bool) → b ≡ c → IsPlace m s i k c → IsPlace m s i k b
 place-same m s i k b c same place = let P : Bool → Type 0 = λ x. IsPlace m s i k x in subst P (sym same) place
 
@@ -223,7 +223,7 @@ AreMet-slot m i j s k t l odd a b = one_slot m (i + j) s t odd a.slot b.slot (Ar
 one_step : (m s i j k l on back on_too back_too : ℕ) → s < m → 0 < k → 0 < l → k + k < m → l + l < m → AreReached m s k on back → AreReached m s l on_too back_too → ((on ≡ i) × (back ≡ j)) ⊎ ((on ≡ j) × (back ≡ i)) → ((on_too ≡ i) × (back_too ≡ j)) ⊎ ((on_too ≡ j) × (back_too ≡ i)) → k ≡ l
 one_step m s i j k l on back on_too back_too slot some some_too half half_too r q here here_too = omega arith
 
--- and there at one step
+-- two teams meet at one step of a slot
 pub AreMet-step : (m i j s k l : ℕ) → AreMet m i j s k → AreMet m i j s l → k ≡ l
 AreMet-step m i j s k l a b =
     let first : k + k < m = a.half in

@@ -12,7 +12,10 @@ use Rattle.circle_method.proofs.CircleLemmas.{AreReached, are_reached, on_isnt_b
 use Rattle.league.proofs.OneTermLemmas.{All-range, All-flat_map}
 
 -- a slot's games with one more
-pub slot_games-more : (n s k : ℕ) (start before after : List Game) (game : Game) → 1 ≤ k → before ≡ start ++ last_team_game n s ∷ map (circle_game n s) (range_with_len 1 (k - 1)) → game ≡ circle_game n s k → after ≡ before ++ game ∷ [] → after ≡ start ++ last_team_game n s ∷ map (circle_game n s) (range_with_len 1 (k + 1 - 1))
+pub slot_games-more : (n s k : ℕ) (start before after : List Game) (game : Game) → 1 ≤ k
+    → before ≡ start ++ last_team_game n s ∷ map (circle_game n s) (range_with_len 1 (k - 1)) → game ≡ circle_game n s k
+    → after ≡ before ++ game ∷ []
+    → after ≡ start ++ last_team_game n s ∷ map (circle_game n s) (range_with_len 1 (k + 1 - 1))
 slot_games-more n s k start before after game some so_far next is =
     let pairs : ℕ → List Game = λ l. map (circle_game n s) (range_with_len 1 l) in
     let first : Game = last_team_game n s in
@@ -87,7 +90,10 @@ early_read n k games later g size is within read =
     (let early : IsEarly n g = subst P same (IsEarly-single_games n size k g within) in early.slot)
 
 -- the first half and its return games so far, with one more
-pub double_games-more : (n k : ℕ) (before after : List Game) (g returned : Game) → before ≡ single_games n ++ map (return_game n) (take k (single_games n)) → k < length (single_games n) → slice_get before k ≡ Some g → returned ≡ return_game n g → after ≡ before ++ returned ∷ [] → after ≡ single_games n ++ map (return_game n) (take (k + 1) (single_games n))
+pub double_games-more : (n k : ℕ) (before after : List Game) (g returned : Game)
+    → before ≡ single_games n ++ map (return_game n) (take k (single_games n)) → k < length (single_games n)
+    → slice_get before k ≡ Some g → returned ≡ return_game n g → after ≡ before ++ returned ∷ []
+    → after ≡ single_games n ++ map (return_game n) (take (k + 1) (single_games n))
 double_games-more n k before after g returned so_far within read next is =
     let same : get_or (single_games n) k g ≡ g = slice_get-front (single_games n) (map (return_game n) (take k (single_games n))) k g within (ap (λ (ys : List Game). slice_get ys k) (sym so_far) ∙ read) in
     let longer : take (k + 1) (single_games n) ≡ take k (single_games n) ++ g ∷ [] = take_more (single_games n) k g within ∙ ap (λ (x : Game). take k (single_games n) ++ x ∷ []) same in

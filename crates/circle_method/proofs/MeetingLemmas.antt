@@ -20,7 +20,7 @@ use Rattle.circle_method.proofs.VenueLemmas.{circle_none, circle_one, sum_by-dou
 abbrev pub is_meeting : ℕ → ℕ → Game → ℕ
 is_meeting i j g = one_if ((g.home.0 == i) && (g.away.0 == j))
 
--- or one of them at either's venue
+-- how often a game is one of teams i and j, at either's venue
 abbrev pub is_between : ℕ → ℕ → Game → ℕ
 is_between i j g = is_meeting i j g + is_meeting j i g
 
@@ -64,7 +64,7 @@ last-meets n i j s size earlier last slot here =
     let first : is_between j i (last_team_game n s) ≡ 1 = between-one (s % 2 == 0) (n - 1) s s j i (λ e. omega arith) (sym last) here in
     omega (arith, sum_by-slot_games (is_between i j) n s, first, last-none n i j s size last slot)
 
--- and in no other
+-- the last team meets team i in no other slot
 last-meets_not : (n i j s : ℕ) → IsTeamCount n → i < j → j ≡ n - 1 → s < n - 1 → s ≢ i → between_in n i j s ≡ 0
 last-meets_not n i j s size earlier last slot other =
     let first : is_between i j (last_team_game n s) ≡ 0 = between-none (s % 2 == 0) (n - 1) s s i j (λ e f. omega arith) (λ e f. other f) in
@@ -89,7 +89,7 @@ at_met n i j s k differ met =
       | inr h ↦ between-swap i j (circle_game n s k) ∙ between-one (k % 2 == 1) (steps_on (n - 1) s k) (steps_back (n - 1) s k) s j i (λ e. differ (sym e)) h.0 h.1
     ]
 
--- and do once where they are
+-- teams of the circle meet once where they are met
 circle-meets : (n i j s k : ℕ) → IsTeamCount n → i < j → j < n - 1 → AreMet (n - 1) i j s k → between_in n i j s ≡ 1
 circle-meets n i j s k size earlier inside met =
     let slot : s < n - 1 = met.slot in

@@ -68,7 +68,9 @@ cells n size =
 
 phases : (n : ℕ) → IsTeamCount n → phases_wrong n true (counts_of (double_games n)) ≡ 0
 phases n size =
-    count_by-pairs_none (λ p. isnt_one (games_of (counts_of (double_games n)) (p ∷ (p.1, p.0) ∷ []) (first_half n))) 0 n (λ i j low order high. isnt_one-no (games_of (counts_of (double_games n)) ((i, j) ∷ (j, i) ∷ []) (first_half n)) (half-once n i j size (omega arith) (omega arith) (λ e. omega arith)))
+    count_by-pairs_none (λ p. isnt_one (games_of (counts_of (double_games n)) (p ∷ (p.1, p.0) ∷ []) (first_half n))) 0 n
+    (λ i j low order high. isnt_one-no (games_of (counts_of (double_games n)) ((i, j) ∷ (j, i) ∷ []) (first_half n))
+    (half-once n i j size (omega arith) (omega arith) (λ e. omega arith)))
 
 -- the law of the double round robin
 pub IsRoundRobin-double_games : (n : ℕ) → IsTeamCount n → IsRoundRobin n true (counts_of (double_games n))
@@ -96,7 +98,7 @@ length-double_games n size =
     let whole : length (double_games n) ≡ length (single_games n) + length (single_games n) = omega (arith, length-append (single_games n) (map (return_game n) (single_games n)), length-map (single_games n) (return_game n)) in
     whole ∙ twice n (n - 1) (n / 2) (length (single_games n)) halves (length-single_games n size)
 
--- the same of a list of games that is this one
+-- the laws of a list of games that is the double circle schedule
 pub round_robin_of : (n : ℕ) (games : List Game) → IsTeamCount n → games ≡ double_games n → IsRoundRobin n true (counts_of games)
 round_robin_of n games size is =
     let P : List Game → Type 0 = λ xs. IsRoundRobin n true (counts_of xs) in

@@ -29,7 +29,7 @@ count-first n i j s early =
     sum_by-all_none (λ g. Unit {0}) (λ g. f (return_game n g)) (λ g _. not_in_slot ((g.away.0 == i) && (g.home.0 == j)) (g.slot.0 + (n - 1)) s (λ e. omega arith)) (single_games n) (λ k d _. tt) in
     omega (arith, sum_by-double_games f n, later)
 
--- so each team plays at the same venues
+-- in the first half each team plays at the same venues by both schedules
 home_games-single : (n i s : ℕ) → s < n - 1 → home_games n (counts_of (double_games n)) i s ≡ home_games n (counts_of (single_games n)) i s
 home_games-single n i s early = sum_by-same (λ j. counts_of (double_games n) i j s) (λ j. counts_of (single_games n) i j s) (λ j. count-first n i j s early) (teams_of n)
 
@@ -50,7 +50,7 @@ cells n i s size team slot = omega (arith, home_games-single n i s slot, away_ga
 IsSingleGame-early : (n : ℕ) (g : Game) → IsEarly n g → IsSingleGame n g
 IsSingleGame-early n g early = record { home = early.game.home; away = early.game.away; differ = early.game.differ; slot = early.slot }
 
--- it is a single round robin
+-- the single circle schedule is a single round robin
 IsSingleRoundRobin-single_games : (n : ℕ) → IsTeamCount n → IsSingleRoundRobin n (single_games n)
 IsSingleRoundRobin-single_games n size = record {
   fit = All-weaker (IsEarly n) (IsSingleGame n) (IsSingleGame-early n) (single_games n) (IsEarly-single_games n size);
@@ -74,7 +74,7 @@ breaks_at-single n i s early =
       twice-same (away_games n double i) (away_games n single i) s (away_games-single n i (s - 1) before) (away_games-single n i s early),
     )
 
--- with n - 2 breaks
+-- the single circle schedule has n - 2 breaks
 breaks : (n : ℕ) → IsTeamCount n → all_breaks n (counts_of (single_games n)) (teams_of n) (first_half n) ≡ n - 2
 breaks n size =
     let each : all_breaks n (counts_of (double_games n)) (teams_of n) (first_half n) ≡ all_breaks n (counts_of (single_games n)) (teams_of n) (first_half n) =
@@ -82,7 +82,7 @@ breaks n size =
     (λ i. sum_by-range_same (λ t. breaks_at n (counts_of (double_games n)) Both i t) (λ t. breaks_at n (counts_of (single_games n)) Both i t) 0 (n - 1) (λ t low high. breaks_at-single n i t (omega arith))) (teams_of n) in
     omega (arith, each, (HasFewBreaks-double_games n size).first)
 
--- the same of a list of games that is this one
+-- the laws of a list of games that is the single circle schedule
 pub single_round_robin_of : (n : ℕ) (games : List Game) → IsTeamCount n → games ≡ single_games n → IsSingleRoundRobin n games
 single_round_robin_of n games size is =
     let P : List Game → Type 0 = λ xs. IsSingleRoundRobin n xs in

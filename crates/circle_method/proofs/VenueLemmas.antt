@@ -68,7 +68,7 @@ circle_one f n s k size some half none =
     let even : n % 2 ≡ 0 = size.even in
     sum_by-range_one (λ x. f (circle_game n s x)) 1 (n / 2 - 1) k (omega arith) (omega arith) (λ x low high other. none x (omega arith) (omega arith) other)
 
--- and with none
+-- a sum over the circle's games of a slot without a term
 pub circle_none : (f : Game → ℕ) (n s : ℕ) → IsTeamCount n → ((x : ℕ) → 0 < x → x + x < n - 1 → f (circle_game n s x) ≡ 0) → sum_by (λ x. f (circle_game n s x)) (range_with_len 1 (n / 2 - 1)) ≡ 0
 circle_none f n s size none =
     let even : n % 2 ≡ 0 = size.even in
@@ -169,7 +169,7 @@ single-in_slot p n s early =
     ∙ sum_by-range_one (λ t. sum_by f (slot_games n t)) 0 (n - 1) s (omega arith) (omega arith) (λ t low high other. sum_by-all_none (λ g. g.slot.0 ≡ t) f (λ g e. not_in_slot (p g) g.slot.0 s (λ same. other (sym e ∙ same))) (slot_games n t) (slot-slot_games n t))
     ∙ sum_by-all_same (λ g. g.slot.0 ≡ s) f (λ g. one_if (p g)) (λ g e. in_slot (p g) g.slot.0 s e) (slot_games n s) (slot-slot_games n s)
 
--- and in a later one
+-- games of the single round robin in a slot behind its last one
 single-in_later : (p : Game → Bool) (n s : ℕ) → IsTeamCount n → n - 1 ≤ s → sum_by (λ g. one_if (p g && (g.slot.0 == s))) (single_games n) ≡ 0
 single-in_later p n s size late =
     sum_by-all_none (IsEarly n) (λ g. one_if (p g && (g.slot.0 == s))) (λ g early. not_in_slot (p g) g.slot.0 s (λ same. let below : g.slot.0 < n - 1 = early.slot in omega arith)) (single_games n) (IsEarly-single_games n size)
@@ -189,7 +189,7 @@ double-in_first p n s early =
 same_shifted : (b : Bool) (x s m : ℕ) → one_if (b && (x + m == s + m)) ≡ one_if (b && (x == s))
 same_shifted b x s m = grind (arith, nat_tests)
 
--- and of the second
+-- games of the double round robin in a slot of the second half
 double-in_second : (p : Game → Bool) (n s : ℕ) → IsTeamCount n → s < n - 1 → sum_by (λ g. one_if (p g && (g.slot.0 == s + (n - 1)))) (double_games n) ≡ sum_by (λ g. one_if (p (return_game n g))) (slot_games n s)
 double-in_second p n s size early =
     let f : Game → ℕ = λ g. one_if (p g && (g.slot.0 == s + (n - 1))) in
@@ -217,7 +217,7 @@ home_games-counts_of n i s games fit =
     (λ g fits. sum_by-range_one (λ j. one_if (is_game i j s g)) 0 n g.away.0 (omega arith) (omega (arith, fits.away)) (λ j low high other. other_team (g.home.0 == i) (g.slot.0 == s) g.away.0 j other) ∙ one_team (g.home.0 == i) (g.slot.0 == s) g.away.0)
     games fit
 
--- and away games
+-- away games of a team in a slot, game by game
 away_games-counts_of : (n i s : ℕ) (games : List Game) → All (IsGame n) games → away_games n (counts_of games) i s ≡ sum_by (λ g. one_if ((g.away.0 == i) && (g.slot.0 == s))) games
 away_games-counts_of n i s games fit =
     sum_by-swap (λ j g. one_if (is_game j i s g)) (teams_of n) games

@@ -34,7 +34,7 @@ slot_games n s = last_team_game n s ∷ map (circle_game n s) (range_with_len 1 
 abbrev pub single_games : ℕ → List Game
 single_games n = flat_map (slot_games n) (range_with_len 0 (n - 1))
 
--- the same meeting at the other team's venue, n - 1 slots later
+-- the return game: the meeting of a game at the other team's venue, n - 1 slots later
 abbrev pub return_game : ℕ → Game → Game
 return_game n g = record { home = g.away; away = g.home; slot = record { 0 = g.slot.0 + (n - 1) } }
 

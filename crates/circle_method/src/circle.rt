@@ -1,4 +1,4 @@
-//! The circle method.
+//! The circle method. It goes back to Kirkman (1847), and the venues with few breaks to de Werra (1981).
 ghost use Rattle.std.specs.Prelude.{true, ◌≡◌, ◌<◌, ◌≤◌, ◌-◌, ◌*◌, ◌/◌, ◌++◌, length, OnOk, IfOk};
 ghost use Rattle.circle_method.specs.Breaks.{HasFewBreaks};
 ghost use Rattle.circle_method.specs.Circle.{game_of, last_team_game, circle_game, slot_games, single_games};
@@ -59,7 +59,7 @@ fn add_slot(schedule: &mut Schedule, n: u16, slot: u16) -> Result<(), AllocError
     Ok(())
 }
 
-/// The same meeting at the other team's venue, in the second half.
+/// The return game of a game of the first half: at the other team's venue, in the second half.
 fn returned(n: u16, game: Game) -> Game
     requires few { n ≤ 40 }
     requires some { 0 < n }
@@ -83,11 +83,11 @@ pub fn single(alloc: Global, n: u16) -> Result<Schedule, AllocError>
     requires teams { IsTeamCount n }
     ensures games { IfOk result (λ games. games ≡ single_games n) }
 
-    // It is a single round robin, and nothing else.
+    // The games are a single round robin, and nothing else.
     ensures round_robin { IfOk result (λ games. IsSingleRoundRobin n games) }
     ensures count { IfOk result (λ games. length games ≡ (n - 1) * (n / 2)) }
 
-    // It has n - 2 breaks: no single round robin has fewer.
+    // The games have n - 2 breaks: no single round robin has fewer.
     ensures breaks { IfOk result (λ games. all_breaks n (counts_of games) (teams_of n) (first_half n) ≡ n - 2) }
 {
     let mut schedule = Schedule::new(alloc);
@@ -107,7 +107,7 @@ pub fn double(alloc: Global, n: u16) -> Result<Schedule, AllocError>
     requires teams { IsTeamCount n }
     ensures games { IfOk result (λ games. games ≡ double_games n) }
 
-    // It is a double round robin in two phases, and nothing else.
+    // The games are a double round robin in two phases, and nothing else.
     ensures round_robin { IfOk result (λ games. IsRoundRobin n true (counts_of games)) }
     ensures fit { IfOk result (λ games. All (IsGame n) games) }
     ensures count { IfOk result (λ games. length games ≡ n * (n - 1)) }

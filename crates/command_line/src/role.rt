@@ -92,7 +92,7 @@ pub(crate) fn option_role(command: Topic, word: &str) -> Option<Role>
     }
 }
 
-/// The same of a command that searches.
+/// What the value of an option of a command that searches is to be.
 fn search_option(word: &str) -> Option<Role>
     ensures { result ≡ faults.search_option word.now }
 {

@@ -144,7 +144,7 @@ first_or_passes s true pass = grind (arith, nat_tests)
 first_or_passes zero false pass = grind (arith, nat_tests)
 first_or_passes (suc s) false pass = absurd (false≢true (pass (omega arith)))
 
--- and where they are the breaks, it is satisfied
+-- where hb and ab are the breaks, group 7 is satisfied
 pub break_rows-met : (n : ℕ) (m : Counts) (values : ℕ → Bool) → Mirrors n m values → MirrorsBreaks n m values →
     all_satisfied values (break_rows n true) ≡ true
 break_rows-met n m values mirrors breaks =

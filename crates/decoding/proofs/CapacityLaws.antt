@@ -67,7 +67,7 @@ module _ (n : ℕ) (m : Counts) (values : ℕ → Bool) (mirrors : Mirrors n m v
       (λ window fit. units_needed-ca2 teams2 min max side window i team teams_fit fit) (windows_of n intp)
       (windows_of-fit n intp)
 
-  -- and so all are satisfied where the entry is 0
+  -- CA3: all rows of the windows are satisfied exactly where the entry is 0
   pub satisfied-ca3 : (teams2 : List ℕ) (min max intp : ℕ) (side : Side) (i : ℕ) → i < n → all_below n teams2 ≡ true
       → all_satisfied values (ca3_rows n teams2 min max intp side i) ≡ (ca3_entry n m teams2 min max intp side i == 0)
   satisfied-ca3 teams2 min max intp side i team teams_fit =

@@ -64,14 +64,14 @@ rows-from_accepted league m values is accepted shadow =
     (constraints_law n m values season.mirrors league.constraints season.break_values
     (all_fit league is.fit) ∙ meets_hard-true league m accepted.hard))
 
--- and each has one
+-- each accepted schedule has a shadow
 pub shadow-from_accepted : AcceptedHaveShadows
 shadow-from_accepted league m is accepted =
     let values = shadow_values league.n m in
     let shadow = some_shadow league.n m (has_breaks league.constraints) in
     (values, shadow, rows-from_accepted league m values is accepted shadow)
 
--- there and back
+-- the shadow of a schedule decodes to its games
 pub decoded-shadow : ShadowsDecode
 decoded-shadow n breaks m values is cells i j s home away differ slot =
     counts_of-decoded_game n values i j s home away differ slot ∙ MirrorsGames-from_shadow n breaks m values is cells

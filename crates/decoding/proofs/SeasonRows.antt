@@ -168,7 +168,7 @@ mirrored-from_shadow n phased breaks m values is round_robin =
       break_values = λ has. record { home = is.home_breaks has; away = is.away_breaks has };
     }
 
--- and satisfies the rows of a season
+-- the shadow of a round robin satisfies the rows of a season
 pub season_rows-met : (n : ℕ) (phased breaks : Bool) (m : Counts) (values : ℕ → Bool) → IsShadow n breaks m values →
     IsRoundRobin n phased m → all_satisfied values (season_rows n phased) ≡ true
 season_rows-met n phased breaks m values is round_robin =

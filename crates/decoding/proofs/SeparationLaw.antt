@@ -39,7 +39,7 @@ module _ (n : ℕ) (m : Counts) (values : ℕ → Bool) (mirrors : Mirrors n m v
   one_game i s team slot =
       omega (arith, mirrors.home i s team slot, mirrors.away i s team slot, home_or_away (values (h_var n i s)))
 
-  -- so two teams have at most one game with each other in a slot, and a team none with itself
+  -- two teams have at most one game with each other in a slot, and a team none with itself
   pub mutual-le : (i j s : ℕ) → i < n → j < n → s < slot_count n → m i j s + m j i s ≤ 1
   mutual-le i j s first second slot =
       omega (arith, one_game i s first slot, term-le (λ k. m i k s) n j second, term-le (λ k. m k i s) n j second)

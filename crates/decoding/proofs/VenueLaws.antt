@@ -77,7 +77,7 @@ sum_by-others_of n i team =
       counted_itself i n team,
     )
 
--- it has so many games at home that can be in a slot
+-- a team has so many games at home that can be in a slot
 length-home_games_in : (n i s : ℕ) → i < n → length (home_games_in n i s) + 1 ≡ n
 length-home_games_in n i s team =
     let literal : ℕ × ℕ → Literal = λ p. yes (x_var n p.0 p.1 s) in
@@ -91,7 +91,7 @@ length-home_games_in n i s team =
       sum_by-others_of n i team,
     )
 
--- of its home games in a slot one is true where it has one
+-- one of a team's home games in a slot is true where it has one
 true_count-home_games_in : (n : ℕ) (m : Counts) (values : ℕ → Bool) (i s : ℕ) → MirrorsGames n m values →
     PlaysOthers n m → i < n → s < slot_count n → true_count values (home_games_in n i s) ≡ home_games n m i s
 true_count-home_games_in n m values i s mirrors others team slot =

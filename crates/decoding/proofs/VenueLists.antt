@@ -81,7 +81,7 @@ break_from_one : (later break value : Bool) (a b : Bool) → break ≡ (later &&
 break_from_one true break value a b is same = ap one_if (same refl)
 break_from_one false break value a b is same = ap one_if (sym is)
 
--- so variables that say where there are games twice in a row are true as often as there are
+-- variables that say where there are games twice in a row are true as often as there are
 breaks_from_one : (n : ℕ) (values : ℕ → Bool) (var games : ℕ → ℕ) (slots : List ℕ)
     → ((s : ℕ) → 0 < s → s < slot_count n → values (var s) ≡ twice_in_a_row games s)
     → all_below (slot_count n) slots ≡ true

@@ -10,7 +10,7 @@ abbrev pub MirrorsGames : ℕ → Counts → (ℕ → Bool) → Type 0
 MirrorsGames n m values =
     (i j s : ℕ) → i < n → j < n → i ≢ j → s < slot_count n → (if values (x_var n i j s) then 1 else 0) ≡ m i j s
 
--- beside this, each team has one game in each slot, at home or away as its variable says
+-- the values mirror the games, and each team has one game in each slot, at home or away as its variable says
 pub record Mirrors (n : ℕ) (m : Counts) (values : ℕ → Bool) : Type 0 where
   pub games : MirrorsGames n m values
   pub home : (i s : ℕ) → i < n → s < slot_count n → (if values (h_var n i s) then 1 else 0) ≡ home_games n m i s

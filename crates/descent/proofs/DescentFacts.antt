@@ -52,14 +52,14 @@ home_swap-lowers = record {
 pub home_swap-score : score_on one_entry weights (moved 4 four (home_swap (0, 3))) ≡ score 0 0
 home_swap-score = refl
 
--- so the season isn't settled, and this move is a trail
+-- the season isn't settled, and the home swap is a trail
 pub four-not_settled : IsSettled 4 true (score_on one_entry weights) four → ⊥
 four-not_settled settled = settled (home_swap (0, 3)) home_swap-lowers
 
 pub home_swap-trail : IsTrail 4 true (score_on one_entry weights) four (home_swap (0, 3) ∷ []) (moved 4 four (home_swap (0, 3)))
 home_swap-trail = (home_swap-lowers, refl)
 
--- the same move once more raises the score, and leads to a season in which it can be made again
+-- the home swap once more raises the score, and leads to a season in which it can be made again
 pub home_swap-climbs : IsClimb 4 true (score_on one_entry weights) (moved 4 four (home_swap (0, 3))) (home_swap (0, 3) ∷ []) (moved 4 (moved 4 four (home_swap (0, 3))) (home_swap (0, 3)))
 home_swap-climbs = (record { own = lit< tt; round_robin = record { pairs = refl; cells = refl; phases = refl } }, refl, refl)
 

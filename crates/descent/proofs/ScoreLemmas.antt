@@ -34,7 +34,7 @@ pub bounds-infeasible : (before : Score) → AreBoundsBelow (record { infeasibil
 bounds-infeasible before after down =
     (λ _. at_most after.infeasibility after.objective before.infeasibility before.objective down, λ h. absurd (omega (arith, h)))
 
--- and where it is 0, a lower objective
+-- where the infeasibility is 0, a lower score has a lower objective
 pub bounds-feasible : (before : Score) → before.infeasibility ≡ 0
     → AreBoundsBelow (record { infeasibility = 0; objective = before.objective - 1 }) before
 bounds-feasible before none after down = (

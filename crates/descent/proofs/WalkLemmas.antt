@@ -56,7 +56,7 @@ found-at {R} E n phased rules now m moves edit place e within same lowers full =
   full = λ d. subst (λ (step : Swap). IsFullEdit n m step edit) (get_or_default moves place e d within) full;
 }
 
--- one more that doesn't
+-- one more of the moves doesn't lower the score
 pub none-more : {R : Type 0} (E : Ghosts R) (n : ℕ) (phased : Bool) (rules now : List (Weighted R)) (m : Counts)
     (moves : List Swap) (place : ℕ) (e : Swap) → place < length moves → now ≡ rules
     → AllWithin (λ step. IsLowering n phased (score_on E rules) m step → ⊥) moves 0 place

@@ -92,7 +92,8 @@ pub fn descend<R: Rule<L>, L>(
         (table_counts tally.old.table) descent.trail (table_counts tally.new.table)) }
     ensures few { IfOk result (λ descent. length descent.trail ≤ limit) }
 
-    // It is settled exactly where no legal move of any kind lowers the score, and not settled only at the limit.
+    // The descent is settled exactly where no legal move of any kind lowers the score, and not settled only at the
+    // limit.
     ensures settled { IfOk result (λ descent. IsTrue descent.settled ↔ IsSettled tally.old.table.n phased
         (score_on R.Entries tally.old.weights) (table_counts tally.new.table)) }
     ensures spent { IfOk result (λ descent. descent.settled ≡ false → length descent.trail ≡ limit) }

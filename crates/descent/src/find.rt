@@ -86,7 +86,9 @@ pub(crate) fn first_lowering<R: Rule<L>, L>(
     None
 }
 
-/// The same of one round of these moves that begins at a place.
+/// The place of the first of these moves, in one round of them that begins at a place, that is legal and lowers the
+/// score of a tally's games, which stand on a board. Then the edit is that of the move. The tally has the same games as
+/// before.
 pub(crate) fn next_lowering<R: Rule<L>, L>(
     moves: &[Swap],
     start: usize,

@@ -1,4 +1,4 @@
-//! A walk over all moves, which goes on from where it stands.
+//! A walk over all moves, which goes on from where it stands. It is hill climbing by first improvement.
 ghost use Rattle.std.specs.Prelude.{◌≡◌, ◌<◌, ◌≤◌, ◌↔◌, ◌++◌, [], ◌∷◌, false, length, MatchOption, IfOk, IfSome, IsTrue};
 ghost use Rattle.std.specs.List.{All};
 ghost use Rattle.league.specs.Counts.{counts_of};

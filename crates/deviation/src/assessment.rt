@@ -22,7 +22,7 @@ pub struct Assessment {
     pub vectors: Vectors,
     /// Penalty times deviation, over the hard constraints.
     pub infeasibility: u128,
-    /// The same over the soft constraints.
+    /// Penalty times deviation, over the soft constraints.
     pub objective: u128,
     /// Whether the league accepts it.
     pub feasible: bool,

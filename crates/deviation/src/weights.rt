@@ -22,7 +22,7 @@ pub struct Weights {
     pub vectors: Vec<Vec<u64>>,
     /// Penalty times deviation, over the hard constraints.
     pub infeasibility: u128,
-    /// The same over the soft constraints.
+    /// Penalty times deviation, over the soft constraints.
     pub objective: u128,
     /// The deviation of the hard constraints, whatever their penalty.
     pub hard_deviation: u128,

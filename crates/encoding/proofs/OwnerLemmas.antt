@@ -28,7 +28,7 @@ starts-order league starts are i j d order within =
     let later : get_or starts j d ≡ first_row league j = starts-at league starts j d are (omega (arith, within, long)) in
     omega (arith, first, later, first_row-order league i j order)
 
--- as the league is seen
+-- the beginnings of the rows, as the league is seen
 pub starts-seen : (inside seen : Instance) (starts : List ℕ) → starts ≡ first_rows inside → inside ≡ seen
     → starts ≡ first_rows seen
 starts-seen inside seen starts are same = are ∙ ap (λ (league : Instance). first_rows league) same

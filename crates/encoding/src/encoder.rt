@@ -17,7 +17,7 @@ pub const MOST_TERMS: u64 = 40_000_000;
 /// Why a league has no encoding.
 #[derive(Debug, Drop, Error)]
 pub enum EncodeFault {
-    /// Its rows have so many terms, more than 40,000,000.
+    /// The league's rows have so many terms, more than 40,000,000.
     #[error("the encoding has {terms} terms, more than 40000000")]
     TooLarge { terms: u64 },
     /// Memory ran out.

@@ -17,6 +17,6 @@ filter-flat_map p f (x ∷ xs) =
 pub key_rows : {K : Type 0} (f : K → List Row) (keys : List K) → filter demands (flat_map (λ rows. rows) (map f keys)) ≡ flat_map (λ k. filter demands (f k)) keys
 key_rows f keys = ap (filter demands) (flat_map-map (λ (rows : List Row). rows) f keys) ∙ filter-flat_map demands f keys
 
--- those of one key
+-- the rows of one key that demand something
 pub one_key_rows : (rows : List Row) → filter demands (flat_map (λ rows. rows) (rows ∷ [])) ≡ filter demands rows
 one_key_rows rows = ap (filter demands) (append-nil rows)

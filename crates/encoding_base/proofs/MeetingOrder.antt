@@ -126,7 +126,7 @@ AreMeetings-both n i j before within =
       );
     }
 
--- the same of two teams and no more
+-- the meetings of two teams and no more
 pub meetings_with-both : (i j : ℕ) → i ≢ j → meetings_with Both i (j ∷ []) ≡ (i, j) ∷ (j, i) ∷ []
 meetings_with-both i j differ =
     let other : not (j == i) ≡ true = grind (arith, nat_tests) in

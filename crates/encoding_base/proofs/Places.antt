@@ -44,7 +44,7 @@ three_factors n p w q s row column = omega (arith, mul-add-lt q w s (p * n) row 
 two_factors : (n w i s : ℕ) → i < n → s < w → i * w + s < n * w
 two_factors n w i s row column = omega (arith, mul-add-lt i w s n row column)
 
--- they are below their numbers
+-- the places are below the numbers of games, of teams in slots, and of breaks
 pub x_place-below : (n i j s : ℕ) → i < n → j < n → i ≢ j → s < slot_count n → x_place n i j s < x_count n
 x_place-below n i j s home away differ slot =
     three_factors n (n - 1) (slot_count n) (i * (n - 1) + place_beside i j) s

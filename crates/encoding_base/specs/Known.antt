@@ -7,6 +7,6 @@ use Rattle.rows.specs.Rows.{Row}
 abbrev pub IsKnown : ℕ → Row → Type 0
 IsKnown vars row = All (λ t. (1 ≤ t.lit.var) × (t.lit.var ≤ vars)) row.terms
 
--- the same of each of the rows
+-- every variable of each of the rows is from 1 to vars
 abbrev pub AreKnown : ℕ → List Row → Type 0
 AreKnown vars rows = All (IsKnown vars) rows

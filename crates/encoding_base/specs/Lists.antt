@@ -38,7 +38,7 @@ venues_in Both n i slots = []
 abbrev pub slots_up_to : ℕ → List ℕ
 slots_up_to s = range_with_len 0 (s + 1)
 
--- those of some slots that have a slot before them
+-- the ones of some slots that have a slot before them
 abbrev pub after_first : List ℕ → List ℕ
 after_first slots = filter (λ s. nat_lt 0 s) slots
 

@@ -55,14 +55,14 @@ grown f old now next more xs k d lt so_far is same =
     ∙ flat_map_more f old (take k xs) (get_or xs k d)
     ∙ ap (λ ys. old ++ flat_map f ys) (sym (take_more xs k d lt))
 
--- of lists that are equal at the elements
+-- joined lists that are equal at the elements
 flat_map-same_at : {X Y : Type 0} (f g : X → List Y) (xs : List X) → All (λ x. f x ≡ g x) xs → flat_map f xs ≡ flat_map g xs
 flat_map-same_at f g [] same = refl
 flat_map-same_at f g (x ∷ xs) same =
     ap (λ ys. ys ++ flat_map f xs) (All-head (λ y. f y ≡ g y) x xs same)
     ∙ ap (λ ys. g x ++ ys) (flat_map-same_at f g xs (All-tail (λ y. f y ≡ g y) x xs same))
 
--- of no elements each
+-- joined lists of no elements each
 flat_map-none : {X Y : Type 0} (xs : List X) → flat_map (λ x. let none : List Y = [] in none) xs ≡ []
 flat_map-none [] = refl
 flat_map-none (x ∷ xs) = flat_map-none xs
@@ -88,7 +88,9 @@ firsts_few n window firsts small some are =
 
 -- ---- capacity
 
-pub ca1_listed : (n : ℕ) (class : Class) (bounds : Bounds) (min max : ℕ) (side : Side) (ts ss teams slots : List ℕ) → class ≡ Ca1 teams min max side slots → bounds ≡ bounds_of class → ts ≡ teams → ss ≡ slots → flat_map (λ i. filter demands (ca1_rows n bounds.min bounds.max side ss i)) ts ≡ class_rows n class
+pub ca1_listed : (n : ℕ) (class : Class) (bounds : Bounds) (min max : ℕ) (side : Side) (ts ss teams slots : List ℕ)
+    → class ≡ Ca1 teams min max side slots → bounds ≡ bounds_of class → ts ≡ teams → ss ≡ slots
+    → flat_map (λ i. filter demands (ca1_rows n bounds.min bounds.max side ss i)) ts ≡ class_rows n class
 ca1_listed n class bounds min max side ts ss teams slots is bounds_are same_teams same_slots =
     ap (λ (b : Bounds). flat_map (λ i. filter demands (ca1_rows n b.min b.max side ss i)) ts) (bounds_are ∙ ap bounds_of is)
     ∙ ap (λ (xs : List ℕ). flat_map (λ i. filter demands (ca1_rows n min max side ss i)) xs) same_teams
@@ -96,7 +98,10 @@ ca1_listed n class bounds min max side ts ss teams slots is bounds_are same_team
     ∙ sym (key_rows (ca1_rows n min max side slots) teams)
     ∙ ap (class_rows n) (sym is)
 
-pub ca2_listed : (n : ℕ) (class : Class) (bounds : Bounds) (min max : ℕ) (side : Side) (ts us ss teams1 teams2 slots : List ℕ) → class ≡ Ca2 teams1 teams2 min max side slots → bounds ≡ bounds_of class → ts ≡ teams1 → us ≡ teams2 → ss ≡ slots → flat_map (λ i. filter demands (ca2_rows n us bounds.min bounds.max side ss i)) ts ≡ class_rows n class
+pub ca2_listed : (n : ℕ) (class : Class) (bounds : Bounds) (min max : ℕ) (side : Side) (ts us ss teams1 teams2 slots :
+    List ℕ) → class ≡ Ca2 teams1 teams2 min max side slots → bounds ≡ bounds_of class → ts ≡ teams1 → us ≡ teams2
+    → ss ≡ slots
+    → flat_map (λ i. filter demands (ca2_rows n us bounds.min bounds.max side ss i)) ts ≡ class_rows n class
 ca2_listed n class bounds min max side ts us ss teams1 teams2 slots is bounds_are same1 same2 same_slots =
     ap (λ (b : Bounds). flat_map (λ i. filter demands (ca2_rows n us b.min b.max side ss i)) ts) (bounds_are ∙ ap bounds_of is)
     ∙ ap (λ (xs : List ℕ). flat_map (λ i. filter demands (ca2_rows n us min max side ss i)) xs) same1
@@ -117,9 +122,15 @@ windows_rows n min max side window firsts us ts =
 
 all_windows : (n min max intp : ℕ) (side : Side) (teams1 teams2 : List ℕ) → windows_rows n min max side intp (range_with_len 0 (slot_count n + 1 - intp)) teams2 teams1 ≡ class_rows n (Ca3 teams1 teams2 min max intp side)
 all_windows n min max intp side teams1 teams2 =
-    sym (key_rows (ca3_rows n teams2 min max intp side) teams1 ∙ flat_map-same (λ i. filter demands (ca3_rows n teams2 min max intp side i)) (λ i. flat_map (λ first. filter demands (ca2_rows n teams2 min max side (range_with_len first intp) i)) (range_with_len 0 (slot_count n + 1 - intp))) (windows_listed n min max intp side teams2) teams1)
+    sym (key_rows (ca3_rows n teams2 min max intp side) teams1 ∙ flat_map-same
+    (λ i. filter demands (ca3_rows n teams2 min max intp side i)) (λ i. flat_map
+    (λ first. filter demands (ca2_rows n teams2 min max side (range_with_len first intp) i))
+    (range_with_len 0 (slot_count n + 1 - intp))) (windows_listed n min max intp side teams2) teams1)
 
-pub ca3_listed : (n : ℕ) (class : Class) (bounds : Bounds) (min max intp window : ℕ) (side : Side) (firsts ts us teams1 teams2 : List ℕ) → class ≡ Ca3 teams1 teams2 min max intp side → bounds ≡ bounds_of class → window ≡ intp → firsts ≡ range_with_len 0 (slot_count n + 1 - window) → ts ≡ teams1 → us ≡ teams2 → windows_rows n bounds.min bounds.max side window firsts us ts ≡ class_rows n class
+pub ca3_listed : (n : ℕ) (class : Class) (bounds : Bounds) (min max intp window : ℕ) (side : Side) (firsts ts us teams1
+    teams2 : List ℕ) → class ≡ Ca3 teams1 teams2 min max intp side → bounds ≡ bounds_of class → window ≡ intp
+    → firsts ≡ range_with_len 0 (slot_count n + 1 - window) → ts ≡ teams1 → us ≡ teams2
+    → windows_rows n bounds.min bounds.max side window firsts us ts ≡ class_rows n class
 ca3_listed n class bounds min max intp window side firsts ts us teams1 teams2 is bounds_are long are same1 same2 =
     ap (λ (b : Bounds). windows_rows n b.min b.max side window firsts us ts) (bounds_are ∙ ap bounds_of is)
     ∙ ap (λ (xs : List ℕ). windows_rows n min max side window xs us ts) are
@@ -136,7 +147,10 @@ ca3_no_window n class min max intp side rows teams1 teams2 is longer =
     sym (append-nil rows)
     ∙ ap (λ (more : List Row). rows ++ more) (sym (flat_map-none teams1) ∙ ap (λ (k : ℕ). windows_rows n min max side intp (range_with_len 0 k) teams2 teams1) (sym none) ∙ all_windows n min max intp side teams1 teams2 ∙ ap (class_rows n) (sym is))
 
-pub ca4_global_listed : (n : ℕ) (class : Class) (bounds : Bounds) (min max : ℕ) (side : Side) (span : Span) (meetings : List (ℕ × ℕ)) (ss teams1 teams2 slots : List ℕ) → class ≡ Ca4 teams1 teams2 min max side span slots → span ≡ Global → bounds ≡ bounds_of class → meetings ≡ filter (is_between side teams1 teams2) (meetings_of n) → ss ≡ slots → filter demands (between bounds.min bounds.max (games_in n meetings ss)) ≡ class_rows n class
+pub ca4_global_listed : (n : ℕ) (class : Class) (bounds : Bounds) (min max : ℕ) (side : Side) (span : Span) (meetings :
+    List (ℕ × ℕ)) (ss teams1 teams2 slots : List ℕ) → class ≡ Ca4 teams1 teams2 min max side span slots → span ≡ Global
+    → bounds ≡ bounds_of class → meetings ≡ filter (is_between side teams1 teams2) (meetings_of n) → ss ≡ slots
+    → filter demands (between bounds.min bounds.max (games_in n meetings ss)) ≡ class_rows n class
 ca4_global_listed n class bounds min max side span meetings ss teams1 teams2 slots is global bounds_are are same_slots =
     ap (λ (b : Bounds). filter demands (between b.min b.max (games_in n meetings ss))) (bounds_are ∙ ap bounds_of is)
     ∙ ap (λ (ps : List (ℕ × ℕ)). filter demands (between min max (games_in n ps ss))) are
@@ -145,7 +159,11 @@ ca4_global_listed n class bounds min max side span meetings ss teams1 teams2 slo
     ∙ ap (λ (spans : Span). class_rows n (Ca4 teams1 teams2 min max side spans slots)) (sym global)
     ∙ ap (class_rows n) (sym is)
 
-pub ca4_every_listed : (n : ℕ) (class : Class) (bounds : Bounds) (min max : ℕ) (side : Side) (span : Span) (meetings : List (ℕ × ℕ)) (ss teams1 teams2 slots : List ℕ) → class ≡ Ca4 teams1 teams2 min max side span slots → span ≡ Every → bounds ≡ bounds_of class → meetings ≡ filter (is_between side teams1 teams2) (meetings_of n) → ss ≡ slots → flat_map (λ s. filter demands (between bounds.min bounds.max (games_in n meetings (s ∷ [])))) ss ≡ class_rows n class
+pub ca4_every_listed : (n : ℕ) (class : Class) (bounds : Bounds) (min max : ℕ) (side : Side) (span : Span) (meetings :
+    List (ℕ × ℕ)) (ss teams1 teams2 slots : List ℕ) → class ≡ Ca4 teams1 teams2 min max side span slots → span ≡ Every
+    → bounds ≡ bounds_of class → meetings ≡ filter (is_between side teams1 teams2) (meetings_of n) → ss ≡ slots
+    → flat_map (λ s. filter demands (between bounds.min bounds.max (games_in n meetings (s ∷ [])))) ss
+    ≡ class_rows n class
 ca4_every_listed n class bounds min max side span meetings ss teams1 teams2 slots is every bounds_are are same_slots =
     ap (λ (b : Bounds). flat_map (λ s. filter demands (between b.min b.max (games_in n meetings (s ∷ [])))) ss) (bounds_are ∙ ap bounds_of is)
     ∙ ap (λ (ps : List (ℕ × ℕ)). flat_map (λ s. filter demands (between min max (games_in n ps (s ∷ [])))) ss) are
@@ -156,7 +174,9 @@ ca4_every_listed n class bounds min max side span meetings ss teams1 teams2 slot
 
 -- ---- games
 
-pub ga1_listed : (n : ℕ) (class : Class) (bounds : Bounds) (min max : ℕ) (ps meetings : List (ℕ × ℕ)) (ss slots : List ℕ) → class ≡ Ga1 meetings min max slots → bounds ≡ bounds_of class → ps ≡ meetings → ss ≡ slots → filter demands (between bounds.min bounds.max (games_in n ps ss)) ≡ class_rows n class
+pub ga1_listed : (n : ℕ) (class : Class) (bounds : Bounds) (min max : ℕ) (ps meetings : List (ℕ × ℕ)) (ss slots : List
+    ℕ) → class ≡ Ga1 meetings min max slots → bounds ≡ bounds_of class → ps ≡ meetings → ss ≡ slots
+    → filter demands (between bounds.min bounds.max (games_in n ps ss)) ≡ class_rows n class
 ga1_listed n class bounds min max ps meetings ss slots is bounds_are same same_slots =
     ap (λ (b : Bounds). filter demands (between b.min b.max (games_in n ps ss))) (bounds_are ∙ ap bounds_of is)
     ∙ ap (λ (qs : List (ℕ × ℕ)). filter demands (ga1_rows n qs min max ss)) same
@@ -173,7 +193,10 @@ br1_listed n class intp side ts ss teams slots is same_teams same_slots =
     ∙ sym (key_rows (br1_rows n intp side slots) teams)
     ∙ ap (class_rows n) (sym is)
 
-pub br2_listed : (n : ℕ) (class : Class) (intp : ℕ) (literals : List Literal) (ts ss teams slots : List ℕ) → class ≡ Br2 teams intp slots → literals ≡ flat_map (λ i. home_breaks_at n i ss) ts ++ flat_map (λ i. away_breaks_at n i ss) ts → ts ≡ teams → ss ≡ slots → filter demands (at_most intp literals ∷ []) ≡ class_rows n class
+pub br2_listed : (n : ℕ) (class : Class) (intp : ℕ) (literals : List Literal) (ts ss teams slots : List ℕ)
+    → class ≡ Br2 teams intp slots
+    → literals ≡ flat_map (λ i. home_breaks_at n i ss) ts ++ flat_map (λ i. away_breaks_at n i ss) ts → ts ≡ teams
+    → ss ≡ slots → filter demands (at_most intp literals ∷ []) ≡ class_rows n class
 br2_listed n class intp literals ts ss teams slots is are same_teams same_slots =
     ap (λ (ls : List Literal). filter demands (at_most intp ls ∷ [])) are
     ∙ ap (λ (xs : List ℕ). filter demands (br2_rows n xs intp ss)) same_teams
@@ -191,7 +214,11 @@ abbrev lag_row : ℕ → ℕ → ℕ → ℕ → List ℕ → Row
 lag_row n i j degree slots = at_least degree (at_home_in n i slots ++ away_in n j slots)
 
 -- both rows of two teams at a slot
-pub leads_listed : (n m intp degree i j slot : ℕ) (slots : List ℕ) (old mid next : List Row) → m ≡ n → degree ≡ slot + 1 - intp → slots ≡ range_with_len 0 (slot + 1) → mid ≡ old ++ filter demands (lead_row m i j degree slots ∷ []) → next ≡ mid ++ filter demands (lag_row m i j degree slots ∷ []) → next ≡ old ++ filter demands (fa2_rows_at n intp (i, j) slot)
+pub leads_listed : (n m intp degree i j slot : ℕ) (slots : List ℕ) (old mid next : List Row) → m ≡ n
+    → degree ≡ slot + 1 - intp → slots ≡ range_with_len 0 (slot + 1)
+    → mid ≡ old ++ filter demands (lead_row m i j degree slots ∷ [])
+    → next ≡ mid ++ filter demands (lag_row m i j degree slots ∷ [])
+    → next ≡ old ++ filter demands (fa2_rows_at n intp (i, j) slot)
 leads_listed n m intp degree i j slot slots old mid next same degree_is slots_are first second =
     let rows : ℕ → ℕ → List ℕ → List Row = λ k d ss. old ++ filter demands (lead_row k i j d ss ∷ lag_row k i j d ss ∷ []) in
     second
@@ -225,7 +252,10 @@ pair_listed n min p is =
     ∙ sym (flat_map-map (λ (window : List ℕ). filter demands (row (meetings_with Both p.0 (p.1 ∷ [])) window ∷ [])) (λ first. range_with_len first long) firsts)
     ∙ sym (filter-map (row (meetings_with Both p.0 (p.1 ∷ []))) (separation_windows n min))
 
-pub se1_listed : (n : ℕ) (class : Class) (min window : ℕ) (pairs : List (ℕ × ℕ)) (firsts teams : List ℕ) → class ≡ Se1 teams min → window ≡ smaller (min + 1) (slot_count n) → firsts ≡ range_with_len 0 (slot_count n + 1 - window) → pairs ≡ pairs_of teams → All (IsPair n) pairs → flat_map (parted_rows n window firsts) pairs ≡ class_rows n class
+pub se1_listed : (n : ℕ) (class : Class) (min window : ℕ) (pairs : List (ℕ × ℕ)) (firsts teams : List ℕ)
+    → class ≡ Se1 teams min → window ≡ smaller (min + 1) (slot_count n)
+    → firsts ≡ range_with_len 0 (slot_count n + 1 - window) → pairs ≡ pairs_of teams → All (IsPair n) pairs
+    → flat_map (parted_rows n window firsts) pairs ≡ class_rows n class
 se1_listed n class min window pairs firsts teams is long are same order =
     ap (λ (xs : List ℕ). flat_map (parted_rows n window xs) pairs) are
     ∙ ap (λ (k : ℕ). flat_map (parted_rows n k (range_with_len 0 (slot_count n + 1 - k))) pairs) long

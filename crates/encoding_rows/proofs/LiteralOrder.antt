@@ -187,7 +187,7 @@ away_breaks_ascend n i slots are =
     (AscendsBy-shift (λ s. s - 1) base (0 - 1) (after_first slots) (slot_count n - 1)
     (earlier_ascend 0 slots (slot_count n) are)))))
 
--- of a team
+-- the literals of a team's breaks ascend
 pub breaks_ascend : (n : ℕ) (side : Side) (i : ℕ) (slots : List ℕ) → i < n → AreSlots n slots
     → AscendsBy (λ l. l.var) (home_break_base n 0) (breaks_in side n i slots) (away_break_base n n)
 breaks_ascend n H i slots within are =

@@ -28,7 +28,7 @@ pub(crate) fn add_break_rows(
     Ok(())
 }
 
-/// Adds these of each team.
+/// Adds the rows of each team's breaks.
 fn add_rows_of_teams(draft: &mut Draft, season: &Season) -> Result<(), AllocError>
     requires room { length draft.old.rows + 18720 < 2 ^ 32 }
     ensures rows { OnOk result (draft.new.rows ≡ draft.old.rows
@@ -44,7 +44,7 @@ fn add_rows_of_teams(draft: &mut Draft, season: &Season) -> Result<(), AllocErro
     Ok(())
 }
 
-/// Adds those of a team.
+/// Adds the rows of a team's breaks.
 fn add_rows_of_slots(draft: &mut Draft, season: &Season, team: u16) -> Result<(), AllocError>
     requires team { team < season.now }
     requires room { length draft.old.rows + 468 < 2 ^ 32 }
@@ -61,7 +61,7 @@ fn add_rows_of_slots(draft: &mut Draft, season: &Season, team: u16) -> Result<()
     Ok(())
 }
 
-/// Adds those of a team and a slot.
+/// Adds the rows of a team's breaks at a slot.
 fn add_rows_at(draft: &mut Draft, season: &Season, team: u16, slot: u16) -> Result<(), AllocError>
     requires team { team < season.now }
     requires later { 0 < slot }

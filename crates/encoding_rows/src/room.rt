@@ -30,7 +30,8 @@ fn asks_for_games(class: &Class) -> bool {
     }
 }
 
-/// Those of groups 1 to 7: three for each meeting, ten for each team and slot, two for each team and for each slot.
+/// At least as many rows as groups 1 to 7 have: three for each meeting, ten for each team and slot, two for each team
+/// and for each slot.
 fn season_rows_at_most(n: u16) -> u64
     requires { n ≤ 40 }
 {
@@ -39,7 +40,7 @@ fn season_rows_at_most(n: u16) -> u64
     3 * teams * teams + 10 * teams * slots + 2 * teams + 2 * slots
 }
 
-/// Those of a class: two for each of its keys, and of CA3 and SE1 for each window.
+/// At least as many rows as a class has: two for each of its keys, and for each window of CA3 and SE1.
 fn class_rows_at_most(n: u16, class: &Class) -> u64
     requires { n ≤ 40 }
 {

@@ -1,4 +1,4 @@
-//! The rows that tie the venues to the games.
+//! The rows that tie the venues to the games. One row with a coefficient of n - 1 stands in place of n - 1 clauses.
 ghost use Rattle.std.specs.Prelude.{◌≡◌, ◌+◌, ◌-◌, ◌^◌, ◌<◌, ◌≤◌, ◌++◌, [], ◌∷◌, length, map, OnOk};
 ghost use Rattle.std.specs.List.{flat_map};
 ghost use Rattle.league.specs.Capacity.{meetings_with};
@@ -34,7 +34,7 @@ pub(crate) fn add_venue_rows(
     Ok(())
 }
 
-/// Adds these of a team, where its home meetings are listed.
+/// Adds the rows of a team's venues, where its home meetings are listed.
 fn add_venue_rows_of(
     draft: &mut Draft,
     season: &Season,
@@ -56,7 +56,7 @@ fn add_venue_rows_of(
     Ok(())
 }
 
-/// Adds those of a team and a slot.
+/// Adds the rows of a team's venue in a slot.
 fn tie(
     draft: &mut Draft,
     season: &Season,

@@ -116,7 +116,9 @@ against_all f n games teams1 teams2 ascend =
     ∙ ap (λ (k : ℕ). count_by (is_among teams2) teams1 * measure (length teams2 - 1) + k * measure (length teams2)) rest
 
 -- in so many windows
-pub windows_against : (f : ℕ → ℕ) (n windows games among : ℕ) (teams1 teams2 : List ℕ) → AreTeams n teams2 → among ≡ count_by (is_among teams2) teams1 → windows * sum_by (λ i. f (length (others i teams2) * games)) teams1 ≡ windows * among * f ((length teams2 - 1) * games) + windows * (length teams1 - among) * f (length teams2 * games)
+pub windows_against : (f : ℕ → ℕ) (n windows games among : ℕ) (teams1 teams2 : List ℕ) → AreTeams n teams2
+    → among ≡ count_by (is_among teams2) teams1 → windows * sum_by (λ i. f (length (others i teams2) * games)) teams1
+    ≡ windows * among * f ((length teams2 - 1) * games) + windows * (length teams1 - among) * f (length teams2 * games)
 windows_against f n windows games among teams1 teams2 ascend is =
     ap (λ (k : ℕ). windows * k) (against_all f n games teams1 teams2 ascend)
     ∙ ap (λ (k : ℕ). windows * (k * f ((length teams2 - 1) * games) + (length teams1 - k) * f (length teams2 * games))) (sym is)
@@ -208,7 +210,10 @@ slots_against f games games' teams1 teams2 same =
     ∙ once (with_games games')
 
 -- CA3
-pub windows_in : (f : ℕ → ℕ) (n intp window sides beyond games : ℕ) (teams1 teams2 : List ℕ) → window ≡ smaller intp beyond → beyond ≡ slot_count n + 1 → games ≡ sides * window → sum_by f (flat_map (λ i. map (λ part. length (others i teams2) * (sides * length part)) (windows_of n intp)) teams1) ≡ (beyond - window) * sum_by (λ i. f (length (others i teams2) * games)) teams1
+pub windows_in : (f : ℕ → ℕ) (n intp window sides beyond games : ℕ) (teams1 teams2 : List ℕ)
+    → window ≡ smaller intp beyond → beyond ≡ slot_count n + 1 → games ≡ sides * window → sum_by f (flat_map (λ i. map
+    (λ part. length (others i teams2) * (sides * length part)) (windows_of n intp)) teams1)
+    ≡ (beyond - window) * sum_by (λ i. f (length (others i teams2) * games)) teams1
 windows_in f n intp window sides beyond games teams1 teams2 is season same =
     let with_games : ℕ → ℕ = λ g. sum_by (λ i. f (length (others i teams2) * g)) teams1 in
     all_windows f n intp sides teams1 teams2

@@ -213,7 +213,7 @@ size_of-breaks n =
 
 -- ---- all of a season
 
--- as it is computed
+-- the number of terms of all of a season, as it is computed
 abbrev pub season_terms : ℕ → Bool → ℕ
 season_terms n phased =
     n * (n - 1) * (2 * slot_count n) + n * (slot_count n * (4 * (n - 1))) +

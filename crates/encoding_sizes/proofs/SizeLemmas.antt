@@ -24,7 +24,7 @@ use Rattle.encoding_base.proofs.KeyRowLemmas.{key_rows, one_key_rows}
 
 -- ---- sums
 
--- the same number for each element
+-- a sum of the same number for each element
 pub sum_by-constant : {X : Type 0} (k : ℕ) (xs : List X) → sum_by (λ x. k) xs ≡ length xs * k
 sum_by-constant k [] = omega arith
 sum_by-constant k (x ∷ xs) = omega (arith, sum_by-cons (λ y. k) x xs, sum_by-constant k xs, suc-mul (length xs) k)

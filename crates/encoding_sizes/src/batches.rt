@@ -89,7 +89,7 @@ pub fn batches_of(n: u16, class: &Class) -> Batches
     }
 }
 
-/// Those of a CA2: a list for each of its teams.
+/// The lists of literals of a CA2: one for each of its teams.
 fn ca2_batches(n: u16, class: &Class) -> Batches
     requires n { n ≤ 40 }
     requires class { name_of class.now ≡ ClassName.Ca2 }
@@ -113,7 +113,7 @@ fn ca2_batches(n: u16, class: &Class) -> Batches
     against(n, teams1, teams2, 1, games)
 }
 
-/// Those of a CA3: a list for each of its teams and each window.
+/// The lists of literals of a CA3: one for each of its teams and each window.
 fn ca3_batches(n: u16, class: &Class) -> Batches
     requires n { n ≤ 40 }
     requires class { name_of class.now ≡ ClassName.Ca3 }
@@ -139,7 +139,7 @@ fn ca3_batches(n: u16, class: &Class) -> Batches
     against(n, teams1, teams2, beyond - window, games)
 }
 
-/// Those of a CA4: a list for all its slots, or for each.
+/// The lists of literals of a CA4: one for all its slots, or for each.
 fn ca4_batches(n: u16, class: &Class) -> Batches
     requires n { n ≤ 40 }
     requires class { name_of class.now ≡ ClassName.Ca4 }

@@ -63,7 +63,7 @@ pub(crate) fn later_total(n: u16, slots: &SlotSet) -> u64
     later_count(slot_numbers(n, slots))
 }
 
-/// The same of their numbers.
+/// How many of some slots, by their numbers, have a slot before them.
 fn later_count(slots: &[u16]) -> u64
     ensures count { result ≡ length (after_first slots.now) }
     ensures few { result ≤ length slots.now }

@@ -28,7 +28,7 @@ pub(crate) fn class_terms(n: u16, class: &Class) -> u64
     }
 }
 
-/// Those of a class that counts games or breaks.
+/// How many terms the rows of a class have that counts games or breaks.
 fn counted_terms(n: u16, class: &Class) -> u64
     requires n { IsTeamCount n }
     requires bounds { IsTrue (has_bounds class.now) }
@@ -41,7 +41,7 @@ fn counted_terms(n: u16, class: &Class) -> u64
     batch_terms(bounds, batches.first) + batch_terms(bounds, batches.second)
 }
 
-/// Those of one batch.
+/// How many terms the rows of one batch have.
 fn batch_terms(bounds: Bounds, batch: Batch) -> u64
     requires few { batch.lists * batch.literals ≤ 20000000 }
     requires short { batch.literals ≤ 124800 }
@@ -51,7 +51,7 @@ fn batch_terms(bounds: Bounds, batch: Batch) -> u64
     batch.lists * between_terms(bounds.min, bounds.max, batch.literals)
 }
 
-/// Those of an FA2.
+/// How many terms the rows of an FA2 have.
 fn fa2_terms(n: u16, class: &Class) -> u64
     requires n { n ≤ 40 }
     requires class { name_of class.now ≡ ClassName.Fa2 }
@@ -75,7 +75,7 @@ fn lead_terms_of(n: u16, intp: u32, slots: &SlotSet) -> u64
     lead_terms(intp, slot_numbers(n, slots))
 }
 
-/// The same of their numbers.
+/// The terms of the rows of an FA2's two teams, by the numbers of its slots.
 fn lead_terms(intp: u32, slots: &[u16]) -> u64
     requires few { length slots.now ≤ 78 }
     requires below { All (λ s. s < 78) slots.now }
@@ -103,7 +103,7 @@ fn lead_terms_at(intp: u32, slot: u16) -> u64
     }
 }
 
-/// Those of an SE1.
+/// How many terms the rows of an SE1 have.
 fn se1_terms(n: u16, class: &Class) -> u64
     requires n { IsTeamCount n }
     requires class { name_of class.now ≡ ClassName.Se1 }

@@ -24,7 +24,7 @@ pub fn encoding_size(league: &League) -> u64
     season + breaks + hard
 }
 
-/// Those of groups 1 to 6.
+/// How many terms the rows of groups 1 to 6 have.
 fn season_terms(n: u64, phased: bool) -> u64
     requires { IsTeamCount n }
     ensures terms { result ≡ size_of (encoding.season_rows n phased) }
@@ -38,7 +38,7 @@ fn season_terms(n: u64, phased: bool) -> u64
     meetings + cells + half_terms(n, phased) + venues + balance
 }
 
-/// Those of group 3.
+/// How many terms the rows of group 3 have.
 fn half_terms(n: u64, phased: bool) -> u64
     requires { IsTeamCount n }
     ensures terms { result ≡ size_of (season_rows.half_rows n phased) }
@@ -51,7 +51,7 @@ fn half_terms(n: u64, phased: bool) -> u64
     }
 }
 
-/// Those of group 7.
+/// How many terms the rows of group 7 have.
 fn break_terms(n: u64, breaks: bool) -> u64
     requires { IsTeamCount n }
     ensures terms { result ≡ size_of (season_rows.break_rows n breaks) }
@@ -65,7 +65,7 @@ fn break_terms(n: u64, breaks: bool) -> u64
     }
 }
 
-/// Those of the hard constraints.
+/// How many terms the rows of the hard constraints have.
 fn hard_terms(n: u16, constraints: &[Constraint]) -> u64
     requires n { IsTeamCount n }
     requires fit { All (λ c. IsTrue (class_fits n c.class)) constraints.now }

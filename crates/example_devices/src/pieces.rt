@@ -129,7 +129,7 @@ fn show_first(rt: &(impl AllocGlobal + Print), bytes: &[u8]) -> io::Result<()> {
     }
 }
 
-/// The same of this tag.
+/// The attributes of a tag.
 fn show_tag(rt: &impl Print, tag: &Tag) -> io::Result<()> {
     let count = tag.attrs.as_slice().len();
     println!(rt; "attributes: {count}, wanted 64")?;
@@ -178,7 +178,7 @@ fn pieces_of(alloc: Global, bytes: &[u8]) -> Result<String, AllocError> {
     Ok(out)
 }
 
-/// The same of a reader, of which so many pieces are asked for at most.
+/// The pieces of a reader, of which so many are asked for at most, then the line of the end or the fault.
 fn put_pieces(
     out: &mut String,
     alloc: Global,

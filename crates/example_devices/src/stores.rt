@@ -61,7 +61,7 @@ fn show_planned(rt: &(impl AllocGlobal + Print), call: u64) -> io::Result<()> {
     read_twice(rt, &mut shelf, call < 4)
 }
 
-/// The same store, planned to fail at a call.
+/// The store of one file, planned to fail at a call.
 fn failing_shelf(alloc: Global, call: u64) -> Result<MemShelf, AllocError> {
     let mut shelf = shelf_of(alloc)?;
     shelf.fail_at(call)?;

@@ -14,11 +14,11 @@ use std::alloc::{AllocError, Global};
 /// What came of a move.
 #[derive(Clone, Copy, PartialEq, Eq)]
 pub enum Trial {
-    /// It is not legal.
+    /// The move is not legal.
     Refused,
-    /// It is legal, the season after it is a double round robin, and the same move leads back.
+    /// The move is legal, the season after it is a double round robin, and the same move leads back.
     Made,
-    /// It is legal, and the season after it is none, or the same move doesn't lead back.
+    /// The move is legal, and the season after it is no double round robin, or the same move doesn't lead back.
     Astray,
 }
 

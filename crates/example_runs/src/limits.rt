@@ -60,7 +60,7 @@ fn show_long_files(rt: &(impl AllocGlobal + Print), league: &[u8]) -> io::Result
     judge(rt, "a solution of 1048577 bytes", league, &long, SOUND)
 }
 
-/// So many spaces.
+/// A text of so many spaces.
 fn spaces(alloc: Global, count: usize) -> Result<Vec<u8>, AllocError> {
     vec![in alloc; b' '; count]
 }

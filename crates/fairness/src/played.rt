@@ -29,7 +29,7 @@ pub(crate) fn fill_played(cells: &Cells, teams: &[u16], slots: &[u16], played: &
     }
 }
 
-/// The same for one team.
+/// Writes the home games that a team has played after each of these slots into its row of the table.
 fn fill_row(cells: &Cells, team: TeamId, slots: &[u16], played: &mut [u32; 3120])
     requires team { team.0 < cells.now.n }
     requires few { cells.now.n ≤ 40 }

@@ -136,7 +136,7 @@ other_guest o j differ = grind (arith, nat_tests)
 once_itself : (o : ℕ) → cond {A = ℕ} (o == o) 1 0 ≡ 1
 once_itself o = grind (arith, nat_tests)
 
--- that meets one other team alone in the slot
+-- a home team that meets one other team alone in the slot
 pub listed_one_guest : (n : ℕ) (m : Counts) (meetings : List (ℕ × ℕ)) (s i o games : ℕ) → o < n
     → ((j : ℕ) → m i j s ≡ cond {A = ℕ} (o == j) 1 0) → games ≡ listed meetings i o
     → games ≡ listed_games n m meetings s i
@@ -148,7 +148,7 @@ listed_one_guest n m meetings s i o games below each is =
     let here : f o ≡ listed meetings i o = ap (λ (x : ℕ). listed meetings i o * x) once ∙ omega arith in
     is ∙ sym here ∙ sym (only_one f o n none below)
 
--- and that is at home to none
+-- a home team that is at home to none in the slot
 pub listed_no_guest : (n : ℕ) (m : Counts) (meetings : List (ℕ × ℕ)) (s i : ℕ) → ((j : ℕ) → m i j s ≡ 0)
     → 0 ≡ listed_games n m meetings s i
 listed_no_guest n m meetings s i none =

@@ -17,7 +17,7 @@ meetings_ascend r =
     IsAscending-ascends pair_cmp r.meetings.list
     (and_parts (list_all (is_meeting r.meetings.n) r.meetings.list) (ascends pair_cmp r.meetings.list) (meetings_fit r)).1
 
--- they are of teams of the league
+-- the meetings are of teams of the league
 pub meetings_inside : (r : Ga1) → All (λ p. (p.0 < r.meetings.n) × (p.1 < r.meetings.n)) r.meetings.list
 meetings_inside r =
     meetings-teams r.meetings.n r.meetings.list

@@ -28,7 +28,7 @@ pub(crate) fn games_by_slot(meetings: &Meetings, cells: &Cells, slots: &[u16]) -
     games
 }
 
-/// The same in one slot.
+/// The games of a set of meetings in one slot.
 fn games_in_slot(meetings: &Meetings, cells: &Cells, slot: SlotId) -> u64
     requires teams { cells.now.n ≡ meetings.now.n }
     requires few { cells.now.n ≤ 40 }
@@ -45,7 +45,7 @@ fn games_in_slot(meetings: &Meetings, cells: &Cells, slot: SlotId) -> u64
     games
 }
 
-/// Those of one home team.
+/// The games of the meetings of one home team in one slot.
 fn games_at_home(meetings: &Meetings, cells: &Cells, host: TeamId, slot: SlotId) -> u32
     requires teams { cells.now.n ≡ meetings.now.n }
     requires few { cells.now.n ≤ 40 }
@@ -85,7 +85,7 @@ fn one_game(meetings: &Meetings, host: TeamId, guest: TeamId) -> u32
     if meetings.has(host, guest) { 1 } else { 0 }
 }
 
-/// Those of one home team, looked up for each guest.
+/// The games of the meetings of one home team in one slot, looked up for each guest.
 fn games_with_each(meetings: &Meetings, cells: &Cells, host: TeamId, slot: SlotId) -> u32
     requires teams { cells.now.n ≡ meetings.now.n }
     requires few { cells.now.n ≤ 40 }

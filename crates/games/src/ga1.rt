@@ -12,7 +12,7 @@ use std::alloc::{AllocError, Global};
 #[derive(Drop)]
 pub struct Ga1 {
     meetings: Meetings,
-    /// Whether they are more than the teams, so that a slot is sooner gone over by its home teams.
+    /// Whether the meetings are more than the teams, so that a slot is sooner gone over by its home teams.
     are_many: bool,
     min: u32,
     max: u32,

@@ -86,7 +86,7 @@ game-once n k s d size within slot =
     omega (arith, meeting-once n g.home.0 g.away.0 size fits.home fits.away fits.differ) in
     omega (arith, once_in_two f (slot_count n) g.slot.0 s fits.slot slot season (counted (double_games n) k d within))
 
--- the same meeting at the other venue
+-- a meeting at the other venue
 return-tests : (a b : Bool) (x s m : ℕ) → one_if (b && a && (x + m == s + m)) ≡ one_if (a && b && (x == s))
 return-tests a b x s m = grind (arith, nat_tests)
 

@@ -44,8 +44,8 @@ pub ca1-home : made_ca1 4 (seeded 1) ≡ hard (Ca1 (2 ∷ []) 0 2 H (1 ∷ 2 ∷
 unfolding seeded word next pcg32_seed u32_at word_bytes
 ca1-home = refl
 
--- those of seed 9 are 3429093174, 673120095, 3444530991, 1995233291 and 868955038: team 2, side 1, slots 3, 5 and 4;
--- the team is away in slot 3
+-- words 0 to 4 of seed 9 are 3429093174, 673120095, 3444530991, 1995233291 and 868955038: team 2, side 1, slots 3, 5
+-- and 4; the team is away in slot 3
 pub ca1-away : made_ca1 4 (seeded 9) ≡ hard (Ca1 (2 ∷ []) 0 1 A (3 ∷ 4 ∷ 5 ∷ []))
 unfolding seeded word next pcg32_seed u32_at word_bytes
 ca1-away = refl

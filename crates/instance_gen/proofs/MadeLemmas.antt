@@ -46,7 +46,7 @@ after-next words k g now next so_far is =
     let more : words + words * k ≡ words * (k + 1) = omega arith in
     is ∙ ap (after words) so_far ∙ after-add words (words * k) g ∙ ap (λ (l : ℕ). after l g) more
 
--- and stands at the end
+-- one constraint more stands at the end
 pub made_list-next : (make : Lcg → Constraint) (words k : ℕ) (g now : Lcg) (start before after_it : List Constraint)
     (made : Constraint) → before ≡ start ++ made_list make words k g → now ≡ after (words * k) g → made ≡ make now
     → after_it ≡ before ++ made ∷ [] → after_it ≡ start ++ made_list make words (k + 1) g

@@ -55,7 +55,7 @@ side_of drawn = if drawn == 0 then H else A
 abbrev pub ca1_with : ℕ → ℕ → Side → List ℕ → Constraint
 ca1_with n team side slots = hard (Ca1 (team ∷ []) 0 (circle_games n team side slots) side slots)
 
--- of five words: a team, a side, three slots
+-- the CA1 of five words: a team, a side, three slots
 abbrev pub made_ca1 : ℕ → Lcg → Constraint
 made_ca1 n g =
     ca1_with n (draw g 0 n) (side_of (draw g 1 2))
@@ -65,7 +65,7 @@ made_ca1 n g =
 abbrev pub ca2_with : ℕ → ℕ → List ℕ → ℕ → Class
 ca2_with n team teams first = Ca2 (team ∷ []) teams 0 1 Both (range_with_len first (n / 2))
 
--- of five words: a team, two opponents, the first slot, the penalty
+-- the CA2 of five words: a team, two opponents, the first slot, the penalty
 abbrev pub made_ca2 : ℕ → Lcg → Constraint
 made_ca2 n g =
     soft_drawn (draw g 4 10)
@@ -79,7 +79,7 @@ ca3_on n side = soft 5 (Ca3 (teams_of n) (teams_of n) 0 2 3 side)
 abbrev pub ca4_with : ℕ → List ℕ → List ℕ → ℕ → Class
 ca4_with n teams1 teams2 max = Ca4 teams1 teams2 0 max H Global (first_half n)
 
--- of six words: two teams, two opponents, the bound, the penalty
+-- the CA4 of six words: two teams, two opponents, the bound, the penalty
 abbrev pub made_ca4 : ℕ → Lcg → Constraint
 made_ca4 n g =
     soft_drawn (draw g 5 10)
@@ -89,7 +89,7 @@ made_ca4 n g =
 abbrev pub ga1_with : Game → ℕ → Constraint
 ga1_with game slot = hard (Ga1 ((game.home.0, game.away.0) ∷ []) 1 1 (set_of (game.slot.0 ∷ slot ∷ [])))
 
--- of two words: the game's place, a slot
+-- the GA1 of two words: the game's place, a slot
 abbrev pub made_ga1 : ℕ → Lcg → Constraint
 made_ga1 n g = ga1_with (game_at n (draw g 0 (n * (n - 1)))) (draw g 1 (slot_count n))
 
@@ -97,7 +97,7 @@ made_ga1 n g = ga1_with (game_at n (draw g 0 (n * (n - 1)))) (draw g 1 (slot_cou
 abbrev pub br1_with : ℕ → ℕ → ℕ → Class
 br1_with n team intp = Br1 (team ∷ []) intp Both (slots_of n)
 
--- of three words: a team, the bound, the penalty
+-- the BR1 of three words: a team, the bound, the penalty
 abbrev pub made_br1 : ℕ → Lcg → Constraint
 made_br1 n g = soft_drawn (draw g 2 10) (br1_with n (draw g 0 n) (draw g 1 3))
 

@@ -1,4 +1,4 @@
-//! Draws from the generator of a seed.
+//! Draws from the generator of a seed. The generator is PCG32 (O'Neill 2014).
 ghost use Rattle.std.specs.Prelude.{◌≡◌, ◌<◌};
 ghost use Rattle.instance_gen.specs.Draws.{draw, next, seeded};
 ghost use Rattle.instance_gen.specs.Made.{side_of};

@@ -104,7 +104,7 @@ pub(crate) fn push_first(
     Ok(())
 }
 
-/// Adds those that speak of all teams over the whole season.
+/// Adds the constraints that speak of all teams over the whole season.
 pub(crate) fn push_last(
     alloc: Global,
     circle: &Circle,

@@ -43,7 +43,7 @@ pub(crate) fn drawn(
     }
 }
 
-/// As many games of a team on a side in up to three slots as in the double circle schedule.
+/// A CA1: a team has as many games on a side in up to three slots as in the double circle schedule.
 fn ca1(alloc: Global, circle: &Circle, rng: &mut Pcg32) -> Result<Constraint, AllocError>
     ensures made { IfOk result (λ constraint. constraint ≡ made_ca1 circle.now.n rng.old) }
     ensures rest { rng.new ≡ after 5 rng.old }

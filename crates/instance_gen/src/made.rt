@@ -35,7 +35,7 @@ pub fn make(alloc: Global, n: u16, seed: u64) -> Result<League, AllocError>
     Ok(League::new(n, true, constraints))
 }
 
-/// Its constraints in file order.
+/// The constraints of a made league in file order.
 fn constraints_of(alloc: Global, circle: &Circle, seed: u64) -> Result<Vec<Constraint>, AllocError>
     ensures { IfOk result (λ constraints. constraints.items ≡ made_constraints circle.now.n (seeded seed)) }
 {

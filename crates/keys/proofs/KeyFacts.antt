@@ -18,11 +18,11 @@ keys_where-each = (refl, refl, refl)
 pub ArePlaces-not_empty : ArePlaces 1 (2 ∷ []) (replicate 78 0) → ⊥
 ArePlaces-not_empty are = absurd (omega (arith, are.there 0 (omega arith)))
 
--- nor is one in which 3 comes before 2
+-- a table in which 3 comes before 2 isn't that of the list
 pub ArePlaces-not_exchanged : ArePlaces 2 (2 ∷ 3 ∷ []) (0 ∷ 0 ∷ 2 ∷ 1 ∷ replicate 74 0) → ⊥
 ArePlaces-not_exchanged are = absurd (omega (arith, are.there 0 (omega arith)))
 
--- nor one in which 5, which isn't in the list, has the place of 2
+-- a table in which 5, which isn't in the list, has the place of 2 isn't that of the list
 pub ArePlaces-not_another : ArePlaces 1 (2 ∷ []) (0 ∷ 0 ∷ 1 ∷ 0 ∷ 0 ∷ 1 ∷ replicate 72 0) → ⊥
 ArePlaces-not_another are = absurd (omega (arith, are.here 5 (omega arith)))
 

@@ -49,7 +49,7 @@ places_from-all start test (x ∷ xs) all =
     taken (test x) start (places_from (start + 1) test xs) (all 0 x (omega arith))
     ∙ ap (λ (ks : List ℕ). start ∷ ks) (places_from-all (start + 1) test xs (λ k d lt. all (suc k) d (omega arith)))
 
--- they are below the length
+-- the places of what passes are below the length
 pub places_from-below : {X : Type 0} (start : ℕ) (test : X → Bool) (xs : List X) → All (λ k. k < start + length xs) (places_from start test xs)
 places_from-below start test [] = λ k d lt. absurd (omega arith)
 places_from-below start test (x ∷ xs) =
@@ -60,7 +60,7 @@ places_from-below start test (x ∷ xs) =
       | inr fails ↦ subst (λ (ks : List ℕ). All P ks) (sym (skipped (test x) start (places_from (start + 1) test xs) fails)) rest
     ]
 
--- and at least the start
+-- the places of what passes are at least the start
 places_from-least : {X : Type 0} (start : ℕ) (test : X → Bool) (xs : List X) → All (λ k. start ≤ k) (places_from start test xs)
 places_from-least start test [] = λ k d lt. absurd (omega arith)
 places_from-least start test (x ∷ xs) =
@@ -77,7 +77,7 @@ increasing-cons x ks least rest (suc k) lt =
     let next : suc (k + 1) ≡ suc k + 1 = omega arith in
     subst (λ (p : ℕ). get_or ks k 0 < get_or (x ∷ ks) p 0) next (rest k (omega arith))
 
--- they ascend
+-- the places of what passes ascend
 pub places_from-ascending : {X : Type 0} (start : ℕ) (test : X → Bool) (xs : List X) → IsStrictlyIncreasing (places_from start test xs)
 places_from-ascending start test [] = λ k lt. absurd (omega arith)
 places_from-ascending start test (x ∷ xs) =
@@ -105,7 +105,7 @@ places_from-has start test (x ∷ xs) (suc k) d inside passes =
       | inr head ↦ subst (λ (ls : List ℕ). Contains ls (start + suc k)) (sym (skipped (test x) start ks head)) later
     ]
 
--- so what has no place among them fails the test
+-- what has no place among the places of what passes fails the test
 pub places_from-lacks : {X : Type 0} (test : X → Bool) (xs : List X) (k : ℕ) (d : X) → k < length xs → (Contains (places_from 0 test xs) k → ⊥) → test (get_or xs k d) ≡ false
 places_from-lacks test xs k d inside lacks =
     elim (cases_Bool (test (get_or xs k d))) [
@@ -153,7 +153,7 @@ places_from-same start test other (x ∷ xs) same =
 pub keys_where-below : {X : Type 0} (test : X → Bool) (xs : List X) → All (λ k. k < length xs) (keys_where test xs)
 keys_where-below test xs = λ k d lt. omega (arith, places_from-below 0 test xs k d lt)
 
--- they ascend
+-- the keys of what passes ascend
 pub keys_where-ascending : {X : Type 0} (test : X → Bool) (xs : List X) → IsStrictlyIncreasing (keys_where test xs)
 keys_where-ascending test xs = places_from-ascending 0 test xs
 
@@ -255,7 +255,7 @@ two_more keys now new one other both first second joined =
     ∙ ap (λ (k : KeyList). record { list = k.list ++ other; room = k.room }) first
     ∙ ap (λ (ks : List ℕ). record { list = ks; room = keys.room }) (append_assoc keys.list one other ∙ ap (λ (ks : List ℕ). keys.list ++ ks) joined)
 
--- and where that was one at most, there is room for one more
+-- where one key at most was added, there is room for one more
 pub room_left : (keys now : KeyList) (one : List ℕ) → now ≡ record { list = keys.list ++ one; room = keys.room } → length keys.list + 2 ≤ keys.room → length one ≤ 1 → length now.list + 1 ≤ now.room
 room_left keys now one first spare few =
     omega (arith, ap (λ (k : KeyList). length k.list) first, ap (λ (k : KeyList). k.room) first, length-append keys.list one)

@@ -39,7 +39,7 @@ pub has_key : (xs : List ℕ) (t : ℕ) (key : Option ℕ) → IsKeyOf xs t key 
 has_key xs t (Some k) is = sym (is_in-yes t xs k is.0 is.1)
 has_key xs t None none = sym (is_in-no t xs none)
 
--- and it is the only one
+-- the key of a number is the only one
 pub key_is : (xs : List ℕ) (t : ℕ) (key : Option ℕ) → IsAscending nat_cmp xs → IsKeyOf xs t key → option_to_list key ≡ keys_where (λ x. x == t) xs
 key_is xs t (Some k) ascending is =
     ap (λ (p : ℕ). p ∷ []) (sym (zero-add k)) ∙ sym (one_passes 0 (λ x. x == t) xs t k ascending is.0 is.1 (equal t) (λ x differ. unequal x t differ))
@@ -103,7 +103,7 @@ ordered start t u (x ∷ xs) before ascending =
       ]
     ]
 
--- so those of two numbers are in order where the smaller comes first
+-- the keys of two numbers are in order where the smaller comes first
 pub keys_sorted : (xs : List ℕ) (one other : ℕ) (first second : Option ℕ) → IsAscending nat_cmp xs → one ≢ other → IsKeyOf xs (min one other) first → IsKeyOf xs (max one other) second → option_to_list first ++ option_to_list second ≡ keys_where (λ x. (x == one) || (x == other)) xs
 keys_sorted xs one other first second ascending differ is_first is_second =
     let t : ℕ = min one other in

@@ -190,7 +190,7 @@ key_between-before teams t u i j ascending apart before inside is_first is_secon
     one_pair (both t u) t u (both_in t u) (λ x differ. not_second t u x apart differ) (λ v x first second. lacks_first t u v x first second) (λ v x first second. lacks_both t u v x apart first second) 0 teams i j ascending before inside is_first is_second
     ∙ ap (λ (k : ℕ). k ∷ []) (zero-add (key_at teams i j))
 
--- and where it stands after it
+-- the key of two teams, where the first stands after the second
 pub key_between-after : (teams : List ℕ) (t u i j : ℕ) → IsAscending nat_cmp teams → t ≢ u → j < i → i < length teams → get_or teams i 0 ≡ t → get_or teams j 0 ≡ u → key_between teams t u ≡ key_at teams j i ∷ []
 key_between-after teams t u i j ascending apart before inside is_first is_second =
     one_pair (both t u) u t (both_turned t u) (λ x differ. not_second_turned t u x apart differ) (λ v x first second. lacks_second t u v x first second) (λ v x first second. lacks_both t u v x apart second first) 0 teams j i ascending before inside is_second is_first
@@ -223,7 +223,11 @@ key_between-few teams t u ascending apart =
 -- ---- the loops over the teams
 
 -- keys so far, with that of an earlier team
-pub earlier_more : (teams : List ℕ) (place i : ℕ) (before whole : List ℕ) → IsAscending nat_cmp teams → place < length teams → i < place → before ++ places_from (first_key teams i) (has_team (get_or teams place 0)) (pairs_of (drop i teams)) ≡ whole → (before ++ key_at teams i place ∷ []) ++ places_from (first_key teams (i + 1)) (has_team (get_or teams place 0)) (pairs_of (drop (i + 1) teams)) ≡ whole
+pub earlier_more : (teams : List ℕ) (place i : ℕ) (before whole : List ℕ) → IsAscending nat_cmp teams
+    → place < length teams → i < place
+    → before ++ places_from (first_key teams i) (has_team (get_or teams place 0)) (pairs_of (drop i teams)) ≡ whole →
+    (before ++ key_at teams i place ∷ []) ++ places_from (first_key teams (i + 1)) (has_team (get_or teams place 0))
+    (pairs_of (drop (i + 1) teams)) ≡ whole
 earlier_more teams place i before whole ascending inside earlier so_far =
     let t : ℕ = get_or teams place 0 in
     let v : ℕ = get_or teams i 0 in
@@ -243,8 +247,11 @@ earlier_more teams place i before whole ascending inside earlier so_far =
     ∙ ap (λ (xs : List ℕ). before ++ places_from (first_key teams i) (has_team t) (pairs_of xs)) (sym here)
     ∙ so_far
 
--- then those with the later teams are left
-pub later_left : (teams : List ℕ) (place i : ℕ) (before whole : List ℕ) → IsAscending nat_cmp teams → place < length teams → i ≡ place → before ++ places_from (first_key teams i) (has_team (get_or teams place 0)) (pairs_of (drop i teams)) ≡ whole → before ++ range_with_len (key_at teams place (place + 1)) (length teams - (place + 1)) ≡ whole
+-- the keys with the later teams are left behind those of the earlier ones
+pub later_left : (teams : List ℕ) (place i : ℕ) (before whole : List ℕ) → IsAscending nat_cmp teams
+    → place < length teams → i ≡ place
+    → before ++ places_from (first_key teams i) (has_team (get_or teams place 0)) (pairs_of (drop i teams)) ≡ whole
+    → before ++ range_with_len (key_at teams place (place + 1)) (length teams - (place + 1)) ≡ whole
 later_left teams place i before whole ascending inside done so_far =
     let t : ℕ = get_or teams place 0 in
     let rest : List ℕ = drop (place + 1) teams in
@@ -277,7 +284,10 @@ later_done a size before whole none so_far =
 -- ---- what is kept
 
 -- the key as it is computed
-pub key_computed : (teams : List ℕ) (pairs : List (ℕ × ℕ)) (now : List ℕ) → ArePairs teams pairs → teams ≡ now → (count total i j : ℕ) → count ≡ length teams → total ≡ length pairs → i < j → j < length now → ((count - i) * (count - i - 1) / 2 ≤ total) × (total - (count - i) * (count - i - 1) / 2 + (j - i - 1) ≡ key_at now i j)
+pub key_computed : (teams : List ℕ) (pairs : List (ℕ × ℕ)) (now : List ℕ) → ArePairs teams pairs → teams ≡ now
+    → (count total i j : ℕ) → count ≡ length teams → total ≡ length pairs → i < j → j < length now
+    → ((count - i) * (count - i - 1) / 2 ≤ total)
+    × (total - (count - i) * (count - i - 1) / 2 + (j - i - 1) ≡ key_at now i j)
 key_computed teams pairs now are seen count total i j teams_counted pairs_counted before inside =
     let here : ArePairs now pairs = subst (λ (xs : List ℕ). ArePairs xs pairs) seen are in
     let size : length teams ≡ length now = ap (λ (xs : List ℕ). length xs) seen in

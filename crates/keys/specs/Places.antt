@@ -4,7 +4,7 @@ use Rattle.std.specs.Prelude.{Option, Some, None}
 use Rattle.std.specs.Ordering.{nat_cmp}
 use Rattle.league.specs.Sets.{IsAscending}
 
--- of each number below 78, its place among the first so many of the list xs, counted from 1, or 0 where it isn't there
+-- the place of each number below 78 among the first so many of the list xs, counted from 1, or 0 where it isn't there
 pub record ArePlaces (count : ℕ) (xs places : List ℕ) : Type 0 where
   pub size : length places ≡ 78
   pub there : (k : ℕ) → k < count → slice_index places (slice_index xs k) ≡ k + 1

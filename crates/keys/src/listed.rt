@@ -58,7 +58,7 @@ impl Listed {
         Listed::of(alloc, slots.numbers())
     }
 
-    /// These numbers.
+    /// A list of these numbers.
     pub(crate) fn of(alloc: Global, numbers: &[u16]) -> Result<Listed, AllocError>
         requires ascending { IsAscending nat_cmp numbers.now }
         requires below { All (λ x. x < 78) numbers.now }

@@ -21,7 +21,7 @@ MeetsHard-from_sum league m h =
     let none = All-from_sum_zero (λ c. deviation_of league.n m c.class) (hard_of league.constraints) h in
     λ k d lt. All-from_sum_zero (λ x. x) (vector_of league.n m (get_or (hard_of league.constraints) k d).class) (none k d lt)
 
--- and only there
+-- a schedule meets the hard constraints only where their deviations add up to 0
 pub sum-from_MeetsHard : (league : Instance) (m : Counts) → MeetsHard league m → sum_by (λ c. deviation_of league.n m c.class) (hard_of league.constraints) ≡ 0
 sum-from_MeetsHard league m h =
     sum_zero-from_All (λ c. deviation_of league.n m c.class) (hard_of league.constraints)

@@ -67,7 +67,7 @@ and_not_below b x k h = grind (arith, nat_tests)
 pub games_of-push_in : (games : List Game) (g : Game) (i j k : ℕ) → g.slot.0 < k → games_of (counts_of (games ++ g ∷ [])) ((i, j) ∷ []) (range_with_len 0 k) ≡ games_of (counts_of games) ((i, j) ∷ []) (range_with_len 0 k) + one_if ((g.home.0 == i) && (g.away.0 == j))
 games_of-push_in games g i j k h = omega (arith, games_of-push games g i j k, and_below ((g.home.0 == i) && (g.away.0 == j)) g.slot.0 k h)
 
--- the same where it is in a later one
+-- games of a meeting in the first k slots, where the game is in a later one
 pub games_of-push_out : (games : List Game) (g : Game) (i j k : ℕ) → k ≤ g.slot.0 → games_of (counts_of (games ++ g ∷ [])) ((i, j) ∷ []) (range_with_len 0 k) ≡ games_of (counts_of games) ((i, j) ∷ []) (range_with_len 0 k)
 games_of-push_out games g i j k h = omega (arith, games_of-push games g i j k, and_not_below ((g.home.0 == i) && (g.away.0 == j)) g.slot.0 k h)
 
@@ -88,7 +88,7 @@ away_games-one_more n m g i s fits =
       and_below ((g.away.0 == i) && (g.slot.0 == s)) g.home.0 n fits.home,
     )
 
--- the same in a list with the game at its end
+-- home games and away games of a team in a slot, in a list with a game at its end
 pub home_games-push : (n : ℕ) (games : List Game) (g : Game) (i s : ℕ) → IsGame n g → home_games n (counts_of (games ++ g ∷ [])) i s ≡ home_games n (counts_of games) i s + one_if ((g.home.0 == i) && (g.slot.0 == s))
 home_games-push n games g i s fits =
     sum_by-same (λ j. counts_of (games ++ g ∷ []) i j s) (λ j. one_more (counts_of games) g i j s) (λ j. counts_of-push games g i j s) (teams_of n) ∙ home_games-one_more n (counts_of games) g i s fits

@@ -35,7 +35,7 @@ count_by-pairs_of : (p : ℕ × ℕ → Bool) (i : ℕ) (later : List ℕ) → c
 count_by-pairs_of p i later =
     omega (arith, sum_by-append (λ m. cond (p m) 1 0) (map (λ j. (i, j)) later) (pairs_of later), sum_by-map (λ m. cond (p m) 1 0) (λ j. (i, j)) later)
 
--- the same in the range from i to n
+-- how many pairs in the range from i to n pass a test: those of i with a later team, and those of the later ones
 pub count_by-pairs_from : (p : ℕ × ℕ → Bool) (i n : ℕ) → i < n → count_by p (pairs_of (range_with_len i (n - i))) ≡ count_by (λ j. p (i, j)) (range_with_len (i + 1) (n - (i + 1))) + count_by p (pairs_of (range_with_len (i + 1) (n - (i + 1))))
 count_by-pairs_from p i n h =
     let length_is : n - i ≡ suc (n - (i + 1)) = omega arith in

@@ -18,7 +18,7 @@ is_in-yes i xs k within is = list_any-from_Any (λ t. t == i) xs (k, i, within, 
   itself : (a : ℕ) → (a == a) ≡ true
   itself a = grind (arith, nat_tests)
 
--- and one that fails the test is none of them
+-- a number that fails the test is none of these
 pub is_in-lacks : (i : ℕ) (xs : List ℕ) → is_in i xs ≡ false → All (λ t. t ≢ i) xs
 is_in-lacks i xs out k d lt same =
     let at : is_in i xs ≡ true = is_in-yes i xs k lt (get_or_default xs k 0 d lt ∙ same) in

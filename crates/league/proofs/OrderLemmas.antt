@@ -35,5 +35,8 @@ abbrev key_cmp : ℕ × ℕ × ℕ → ℕ × ℕ × ℕ → Ordering
 key_cmp k l = ordering_then (ordering_then (nat_cmp k.0 l.0) (nat_cmp k.1 l.1)) (nat_cmp k.2 l.2)
 
 -- from what a sort by that key ensures
-pub IsInOrder-from_sort_by_key : {F : Type 0} {g : Mut F (Bor Game × Unit {0}) (ℕ × ℕ × ℕ)} {f : F} (games : List Game) → ((key : Game → ℕ × ℕ × ℕ) → ComputesKey g key f → IsSortedByKey key key_cmp games) → ((f : F) (a : Bor Game × Unit {0}) (r : ℕ × ℕ × ℕ) (f' : F) → Called g f a r f' → r ≡ key_of a.0.now) → IsInOrder games
+pub IsInOrder-from_sort_by_key : {F : Type 0} {g : Mut F (Bor Game × Unit {0}) (ℕ × ℕ × ℕ)} {f : F} (games : List Game)
+    → ((key : Game → ℕ × ℕ × ℕ) → ComputesKey g key f → IsSortedByKey key key_cmp games)
+    → ((f : F) (a : Bor Game × Unit {0}) (r : ℕ × ℕ × ℕ) (f' : F) → Called g f a r f' → r ≡ key_of a.0.now)
+    → IsInOrder games
 IsInOrder-from_sort_by_key {g = g} {f = f} games sorted computes = IsInOrder-from_sorted games (sorted key_of (answers_always g (λ a r. r ≡ key_of a.0.now) f computes))

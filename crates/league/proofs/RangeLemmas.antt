@@ -9,7 +9,7 @@ use Rattle.std.specs.List.{count_by, range_with_len, sum_by}
 abbrev pub one_if : Bool → ℕ
 one_if b = if b then 1 else 0
 
--- it is at most 1
+-- the number of a test is at most 1
 pub one_if-le : (b : Bool) → one_if b ≤ 1
 one_if-le true = omega arith
 one_if-le false = omega arith

@@ -24,7 +24,7 @@ no_term f a k none =
     sum_zero-from_All f (range_with_len a k)
     (λ i d lt. let within : i < k = omega (arith, length-range_with_len a k) in ap f (get_or-range_with_len a k i d within) ∙ none i within)
 
--- the same from 0 on
+-- each term of a sum over a range from 0 on is 0 where the sum is
 each_below : (f : ℕ → ℕ) (k i : ℕ) → sum_by f (range_with_len 0 k) ≡ 0 → i < k → f i ≡ 0
 each_below f k i none lt = let from_zero : 0 + i ≡ i = omega arith in sym (ap f from_zero) ∙ each_term f 0 k i none lt
 

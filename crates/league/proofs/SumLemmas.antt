@@ -8,7 +8,7 @@ pub sum_by-same : {X : Type 0} (f g : X → ℕ) → ((x : X) → f x ≡ g x) �
 sum_by-same f g same [] = refl
 sum_by-same f g same (x ∷ xs) = omega (arith, sum_by-cons f x xs, sum_by-cons g x xs, same x, sum_by-same f g same xs)
 
--- the same where the terms are equal at the elements
+-- the sum of terms that are equal at the elements
 pub sum_by-same_in : {X : Type 0} (f g : X → ℕ) (xs : List X) → All (λ x. f x ≡ g x) xs → sum_by f xs ≡ sum_by g xs
 sum_by-same_in f g [] same = refl
 sum_by-same_in f g (x ∷ xs) same =

@@ -23,7 +23,7 @@ number-replicate columns size row column =
 pub number-inside : (columns : ℕ) (xs : List ℕ) (row column : ℕ) → column < columns → number columns xs row column ≡ get_or xs (row * columns + column) 0
 number-inside columns xs row column h = grind (arith, nat_tests)
 
--- and in one that there isn't
+-- a number that is read in a column that there isn't
 pub number-outside : (columns : ℕ) (xs : List ℕ) (row column : ℕ) → columns ≤ column → number columns xs row column ≡ 0
 number-outside columns xs row column h = grind (arith, nat_tests)
 
@@ -38,7 +38,10 @@ second_fails : (a b c d : ℕ) → c ≢ d → one_if ((a == b) && (c == d)) ≡
 second_fails a b c d differ = grind (arith, nat_tests)
 
 -- two lists that agree at all places but one, where the second has one more
-pub number-one_more : (columns : ℕ) (xs ys : List ℕ) (row column : ℕ) → column < columns → ((q : ℕ) → q ≢ row * columns + column → get_or ys q 0 ≡ get_or xs q 0) → get_or ys (row * columns + column) 0 ≡ get_or xs (row * columns + column) 0 + 1 → (i k : ℕ) → number columns ys i k ≡ number columns xs i k + one_if ((row == i) && (column == k))
+pub number-one_more : (columns : ℕ) (xs ys : List ℕ) (row column : ℕ) → column < columns
+    → ((q : ℕ) → q ≢ row * columns + column → get_or ys q 0 ≡ get_or xs q 0)
+    → get_or ys (row * columns + column) 0 ≡ get_or xs (row * columns + column) 0 + 1 → (i k : ℕ)
+    → number columns ys i k ≡ number columns xs i k + one_if ((row == i) && (column == k))
 number-one_more columns xs ys row column inside other here i k =
     elim (cases_lt k columns) [
       | inl lt ↦
@@ -64,13 +67,19 @@ number-one_more columns xs ys row column inside other here i k =
     ]
 
 -- a list with one more at a place
-pub number-set_more : (columns : ℕ) (xs : List ℕ) (row column value : ℕ) → column < columns → row * columns + column < length xs → value ≡ get_or xs (row * columns + column) 0 + 1 → (i k : ℕ) → number columns (set xs (row * columns + column) value) i k ≡ number columns xs i k + one_if ((row == i) && (column == k))
+pub number-set_more : (columns : ℕ) (xs : List ℕ) (row column value : ℕ) → column < columns
+    → row * columns + column < length xs → value ≡ get_or xs (row * columns + column) 0 + 1 → (i k : ℕ)
+    → number columns (set xs (row * columns + column) value) i k
+    ≡ number columns xs i k + one_if ((row == i) && (column == k))
 number-set_more columns xs row column value inside within is =
     number-one_more columns xs (set xs (row * columns + column) value) row column inside (λ q differ. get_or-set_other xs (row * columns + column) q value 0 differ)
     (get_or-set_same xs (row * columns + column) value 0 within ∙ is)
 
 -- a list with one less at a place
-pub number-set_less : (columns : ℕ) (xs : List ℕ) (row column value : ℕ) → column < columns → row * columns + column < length xs → value + 1 ≡ get_or xs (row * columns + column) 0 → (i k : ℕ) → number columns xs i k ≡ number columns (set xs (row * columns + column) value) i k + one_if ((row == i) && (column == k))
+pub number-set_less : (columns : ℕ) (xs : List ℕ) (row column value : ℕ) → column < columns
+    → row * columns + column < length xs → value + 1 ≡ get_or xs (row * columns + column) 0 → (i k : ℕ)
+    → number columns xs i k
+    ≡ number columns (set xs (row * columns + column) value) i k + one_if ((row == i) && (column == k))
 number-set_less columns xs row column value inside within is =
     number-one_more columns (set xs (row * columns + column) value) xs row column inside (λ q differ. omega (arith, get_or-set_other xs (row * columns + column) q value 0 differ))
     (omega (arith, get_or-set_same xs (row * columns + column) value 0 within, is))

@@ -20,7 +20,7 @@ pub from_bool-is : (b : Bool) → from_bool b ≡ one_if b
 from_bool-is true = refl
 from_bool-is false = refl
 
--- it is at most 1
+-- the number that a test makes is at most 1
 pub from_bool-le : (b : Bool) (found : ℕ) → found ≡ from_bool b → found ≤ 1
 from_bool-le b found e = omega (arith, from_bool-is b, one_if-le b)
 
@@ -32,7 +32,7 @@ isnt_one-read read x found e is = is ∙ from_bool-is (isnt_one read) ∙ ap (λ
 pub when_different : (home away : ℕ) (b : Bool) → away ≢ home → one_if b ≡ one_if (not (away == home) && b)
 when_different home away b h = grind (arith, nat_tests)
 
--- the same where they are one team
+-- a test under one that two teams differ, where they are one team
 pub when_same : (home away : ℕ) (b : Bool) → away ≡ home → 0 ≡ one_if (not (away == home) && b)
 when_same home away b h = grind (arith, nat_tests)
 
@@ -70,6 +70,9 @@ cells_wrong-read n k games listed tables count same_n same_games are is =
     is ∙ cells_counted k listed tables are ∙ ap (λ (x : ℕ). cells_wrong x (counts_of listed)) same_n ∙ ap (λ (xs : List Game). cells_wrong n (counts_of xs)) same_games
 
 -- wrong pairs in the first half, in the same way
-pub phases_wrong-read : (n k : ℕ) (phased said : Bool) (games listed : List Game) (tables : Tables) (count : ℕ) → k ≡ n → said ≡ phased → listed ≡ games → AreTablesOf k listed tables → count ≡ (if said then count_by (λ p. isnt_one (entry tables.halves p.0 p.1 + entry tables.halves p.1 p.0)) (pairs_of (teams_of k)) else 0) → count ≡ phases_wrong n phased (counts_of games)
+pub phases_wrong-read : (n k : ℕ) (phased said : Bool) (games listed : List Game) (tables : Tables) (count : ℕ) → k ≡ n
+    → said ≡ phased → listed ≡ games → AreTablesOf k listed tables → count ≡ (if said then count_by (λ p. isnt_one
+    (entry tables.halves p.0 p.1 + entry tables.halves p.1 p.0)) (pairs_of (teams_of k)) else 0)
+    → count ≡ phases_wrong n phased (counts_of games)
 phases_wrong-read n k phased said games listed tables count same_n same_phased same_games are is =
     is ∙ halves_counted k said listed tables are ∙ ap (λ (x : ℕ). phases_wrong x said (counts_of listed)) same_n ∙ ap (λ (b : Bool). phases_wrong n b (counts_of listed)) same_phased ∙ ap (λ (xs : List Game). phases_wrong n phased (counts_of xs)) same_games

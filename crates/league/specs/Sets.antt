@@ -9,7 +9,7 @@ use Rattle.std.specs.declared.cmp.Ordering.TheVariants.{Less}
 abbrev pub IsAscending : {X : Type 0} → (X → X → Ordering) → List X → Type 0
 IsAscending cmp xs = AllPairs (λ a b. cmp a b ≡ Less) xs
 
--- the same as a test
+-- whether each element comes before all later ones, as a test
 abbrev pub ascends : {X : Type 0} → (X → X → Ordering) → List X → Bool
 ascends cmp [] = true
 ascends cmp (x ∷ xs) = list_all (λ y. is_lt (cmp x y)) xs && ascends cmp xs

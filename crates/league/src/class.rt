@@ -84,7 +84,7 @@ pub enum Class {
         side: Side,
         slots: SlotSet,
     },
-    /// The same in each window of `intp` consecutive slots.
+    /// From `min` to `max` games of each of `teams1` against `teams2` in each window of `intp` consecutive slots.
     Ca3 {
         teams1: TeamSet,
         teams2: TeamSet,

@@ -22,7 +22,7 @@ pub struct Wrongs {
     pub pairs_wrong: u32,
     /// The teams and slots in which the team doesn't have exactly one game.
     pub cells_wrong: u32,
-    /// Of a phased league, the unordered pairs that don't have exactly one game in the first half; else 0.
+    /// The unordered pairs that don't have exactly one game in the first half, if the league is phased; else 0.
     pub phases_wrong: u32,
 }
 
@@ -168,7 +168,7 @@ impl Grid {
         wrong
     }
 
-    /// The same for the pairs of a team and a later one.
+    /// For how many pairs of a team and a later one the two numbers, in either order, don't add up to 1.
     fn phases_wrong_at(&self, team: u16, n: u16) -> u16
         requires team { team < n }
         requires at_most { n ≤ 40 }

@@ -105,7 +105,10 @@ dropped true x y none e = absurd (cc)
 dropped false x y none e = e
 
 -- the games of two teams, and those with the teams exchanged
-traded_apart : (n : ℕ) (phased : Bool) (m : Counts) (i j a b q : ℕ) → IsPlayed n phased m → IsWithin n m → i < n → j < n → q < slot_count n → i ≢ j → (m i j q ≡ 0) × (m j i q ≡ 0) → (((a == i) || (b == i)) || ((a == j) || (b == j))) ≡ true → (m a b q ≡ 0) ⊎ (m (exchange i j a) (exchange i j b) q ≡ 0)
+traded_apart : (n : ℕ) (phased : Bool) (m : Counts) (i j a b q : ℕ) → IsPlayed n phased m → IsWithin n m → i < n → j < n
+    → q < slot_count n → i ≢ j → (m i j q ≡ 0) × (m j i q ≡ 0)
+    → (((a == i) || (b == i)) || ((a == j) || (b == j))) ≡ true
+    → (m a b q ≡ 0) ⊎ (m (exchange i j a) (exchange i j b) q ≡ 0)
 traded_apart n phased m i j a b q is within lt_i lt_j lt_q ne apart touched =
     let c : ℕ = exchange i j a in
     let d : ℕ = exchange i j b in

@@ -26,7 +26,10 @@ wider n le g fits = record {
 pub fit-wider : (n : ℕ) (games : List Game) → n ≤ 40 → All (IsGame n) games → All (IsGame 40) games
 fit-wider n games le fit = All-weaker (IsGame n) (IsGame 40) (wider n le) games fit
 
-pub IsBoard-new : (n : ℕ) (phased : Bool) (schedule old new : List Game) (old_slots new_slots : List ℕ) → IsTeamCount n → All (IsGame n) schedule → IsRoundRobin n phased (counts_of schedule) → ArePlaced schedule old new old_slots new_slots → length old ≡ 3120 → length old_slots ≡ 1600 → IsBoard n phased (counts_of schedule) new new_slots
+pub IsBoard-new : (n : ℕ) (phased : Bool) (schedule old new : List Game) (old_slots new_slots : List ℕ) → IsTeamCount n
+    → All (IsGame n) schedule → IsRoundRobin n phased (counts_of schedule)
+    → ArePlaced schedule old new old_slots new_slots → length old ≡ 3120 → length old_slots ≡ 1600
+    → IsBoard n phased (counts_of schedule) new new_slots
 IsBoard-new n phased schedule old new old_slots new_slots teams fit is placed long slots_long =
     let none : Counts = λ a b s. 0 in
     let edit : Edits = record { n = n; out = []; into = schedule } in
@@ -56,7 +59,11 @@ pub record IsMayApply (r : Round) (edit : Edits) : Type 0 where
   pub fit : All (IsGame r.n) edit.into
   pub is : IsRoundRobin r.n r.phased (edited (round_counts r) edit)
 
-pub IsBoard-applied : (r : Round) (slots : List ℕ) (edit : Edits) (new : List Game) (new_slots : List ℕ) → IsRound r → IsSlotTable r.n (round_counts r) slots → ((i j s : ℕ) → counts_of edit.out i j s ≤ round_counts r i j s) → All (IsGame r.n) edit.into → IsRoundRobin r.n r.phased (edited (round_counts r) edit) → ArePlaced edit.into r.games new slots new_slots → IsBoard r.n r.phased (edited (round_counts r) edit) new new_slots
+pub IsBoard-applied : (r : Round) (slots : List ℕ) (edit : Edits) (new : List Game) (new_slots : List ℕ) → IsRound r
+    → IsSlotTable r.n (round_counts r) slots → ((i j s : ℕ) → counts_of edit.out i j s ≤ round_counts r i j s)
+    → All (IsGame r.n) edit.into → IsRoundRobin r.n r.phased (edited (round_counts r) edit)
+    → ArePlaced edit.into r.games new slots new_slots
+    → IsBoard r.n r.phased (edited (round_counts r) edit) new new_slots
 IsBoard-applied r slots edit new new_slots round table there fit is placed =
     let m : Counts = round_counts r in
     IsBoard-placed r.n r.phased m (edited m edit) edit r.games new slots new_slots round.teams

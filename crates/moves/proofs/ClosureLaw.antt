@@ -104,7 +104,10 @@ closures-least next k x lt = record {
 }
 
 -- two relations have the same closure where each is closed under the other
-pub closures-same : (next other : ℕ → ℕ → Bool) (k x : ℕ) → x < k → ((a b : ℕ) → b < k → is_in a (closure next k x) ≡ true → other a b ≡ true → is_in b (closure next k x) ≡ true) → ((a b : ℕ) → b < k → is_in a (closure other k x) ≡ true → is_in a (closure next k x) ≡ true → next a b ≡ true → is_in b (closure other k x) ≡ true) → (a : ℕ) → is_in a (closure next k x) ≡ is_in a (closure other k x)
+pub closures-same : (next other : ℕ → ℕ → Bool) (k x : ℕ) → x < k
+    → ((a b : ℕ) → b < k → is_in a (closure next k x) ≡ true → other a b ≡ true → is_in b (closure next k x) ≡ true) →
+    ((a b : ℕ) → b < k → is_in a (closure other k x) ≡ true → is_in a (closure next k x) ≡ true → next a b ≡ true →
+    is_in b (closure other k x) ≡ true) → (a : ℕ) → is_in a (closure next k x) ≡ is_in a (closure other k x)
 closures-same next other k x lt mine its a =
     let within : (a : ℕ) → is_in a (closure other k x) ≡ true → is_in a (closure next k x) ≡ true =
     closure-least other k x (λ a. is_in a (closure next k x)) (closure-start next k x lt) mine in

@@ -17,7 +17,10 @@ use Rattle.moves.proofs.RoundLemmas.{IsWithin, IsWithin-of}
 use Rattle.moves.proofs.SumLemmas.{exchange-first, exchange-other, exchange-second}
 
 -- a step of a list of the games to be taken out
-out_step : (a k r s t : ℕ) (in_a in_k : Bool) (x xs xt before : ℕ) → s ≢ t → (a ≡ k → in_a ≡ in_k) → (r ≡ s → x ≡ xs) → (r ≡ t → x ≡ xt) → in_k ≡ true → before ≡ (if nat_lt a k && in_a && ((r == s) || (r == t)) then x else 0) → before + (if (a == k) && (r == s) then xs else 0) + (if (a == k) && (r == t) then xt else 0) ≡ (if nat_lt a (k + 1) && in_a && ((r == s) || (r == t)) then x else 0)
+out_step : (a k r s t : ℕ) (in_a in_k : Bool) (x xs xt before : ℕ) → s ≢ t → (a ≡ k → in_a ≡ in_k) → (r ≡ s → x ≡ xs)
+    → (r ≡ t → x ≡ xt) → in_k ≡ true → before ≡ (if nat_lt a k && in_a && ((r == s) || (r == t)) then x else 0)
+    → before + (if (a == k) && (r == s) then xs else 0) + (if (a == k) && (r == t) then xt else 0)
+    ≡ (if nat_lt a (k + 1) && in_a && ((r == s) || (r == t)) then x else 0)
 out_step a k r s t in_a in_k x xs xt before ne same first second yes_k h = grind (arith, nat_tests)
 
 skip_step : (a k : ℕ) (in_a in_k y : Bool) (x before : ℕ) → (a ≡ k → in_a ≡ in_k) → in_k ≡ false → before ≡ (if nat_lt a k && in_a && y then x else 0) → before ≡ (if nat_lt a (k + 1) && in_a && y then x else 0)
@@ -137,7 +140,7 @@ fit-of n phased before after edit is played within =
     let there : 1 ≤ after g.home.0 g.away.0 g.slot.0 = omega (arith, some, is.moves g.home.0 g.away.0 g.slot.0, is.there g.home.0 g.away.0 g.slot.0) in
     IsGame-of n phased after g played within there)
 
--- and so are those taken out, on a board, where no edit is made too
+-- the games taken out of a board are of the league, where no edit is made too
 pub out_fit-of : (r : Round) (after : Counts) (result : Bool) (edit : Edits) → IsRound r → (result ≡ true → IsEdit (round_counts r) after edit) → (result ≡ false → (edit.out ≡ []) × (edit.into ≡ [])) → All (IsGame r.n) edit.out
 out_fit-of r after true edit round change none =
     let is : IsEdit (round_counts r) after edit = change refl in
@@ -155,7 +158,10 @@ pub record IsTrade (m : Counts) (i j k : ℕ) (old new : Edits) : Type 0 where
   pub out_length : length new.out ≤ length old.out + 1
   pub into_length : length new.into ≤ length old.into + 1
 
-trade_step : (r k : ℕ) (in_r in_k p q : Bool) (x xk before : ℕ) → (r ≡ k → in_r ≡ in_k) → (r ≡ k → x ≡ xk) → in_k ≡ true → (r ≡ k → p ≡ true → q ≡ true → x ≡ 0) → before ≡ (if nat_lt r k && in_r && (p || q) then x else 0) → before + (if (r == k) && p then xk else 0) + (if (r == k) && q then xk else 0) ≡ (if nat_lt r (k + 1) && in_r && (p || q) then x else 0)
+trade_step : (r k : ℕ) (in_r in_k p q : Bool) (x xk before : ℕ) → (r ≡ k → in_r ≡ in_k) → (r ≡ k → x ≡ xk) → in_k ≡ true
+    → (r ≡ k → p ≡ true → q ≡ true → x ≡ 0) → before ≡ (if nat_lt r k && in_r && (p || q) then x else 0)
+    → before + (if (r == k) && p then xk else 0) + (if (r == k) && q then xk else 0)
+    ≡ (if nat_lt r (k + 1) && in_r && (p || q) then x else 0)
 trade_step r k in_r in_k p q x xk before same value in_set both h = grind (arith, nat_tests)
 
 second_is : (a b i j : ℕ) → a ≡ i → i ≢ j → ((a == j) || (b == j)) ≡ true → b ≡ j

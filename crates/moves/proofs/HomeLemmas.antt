@@ -55,7 +55,11 @@ pub record IsTurn (m : Counts) (home away : ℕ) (old new : Edits) : Type 0 wher
   pub out : (a b r : ℕ) → counts_of new.out a b r ≡ counts_of old.out a b r + (if (a == home) && (b == away) then m home away r else 0)
   pub into : (a b r : ℕ) → counts_of new.into a b r ≡ counts_of old.into a b r + (if (a == away) && (b == home) then m home away r else 0)
 
-turned_counts : (a b i j x y p q out into : ℕ) → i ≢ j → (a ≡ i → b ≡ j → (x ≡ p) × (y ≡ q)) → (a ≡ j → b ≡ i → (x ≡ q) × (y ≡ p)) → out ≡ (if (a == i) && (b == j) then p else 0) + (if (a == j) && (b == i) then q else 0) → into ≡ (if (a == j) && (b == i) then p else 0) + (if (a == i) && (b == j) then q else 0) → (if ((a == i) && (b == j)) || ((a == j) && (b == i)) then y else x) + out ≡ x + into
+turned_counts : (a b i j x y p q out into : ℕ) → i ≢ j → (a ≡ i → b ≡ j → (x ≡ p) × (y ≡ q))
+    → (a ≡ j → b ≡ i → (x ≡ q) × (y ≡ p))
+    → out ≡ (if (a == i) && (b == j) then p else 0) + (if (a == j) && (b == i) then q else 0)
+    → into ≡ (if (a == j) && (b == i) then p else 0) + (if (a == i) && (b == j) then q else 0)
+    → (if ((a == i) && (b == j)) || ((a == j) && (b == i)) then y else x) + out ≡ x + into
 turned_counts a b i j x y p q out into ne first second e f = grind (arith, nat_tests)
 
 turned_there : (a b i j x p q out : ℕ) → i ≢ j → (a ≡ i → b ≡ j → x ≡ p) → (a ≡ j → b ≡ i → x ≡ q) → out ≡ (if (a == i) && (b == j) then p else 0) + (if (a == j) && (b == i) then q else 0) → out ≤ x
@@ -106,7 +110,10 @@ AreApart-venues n phased m i j mid new is within lt last first second a b r =
     (let e = first.out a b r in let f = second.out a b r in omega arith)
     (let e = first.into a b r in let f = second.into a b r in omega arith)
 
-pub home_swap-done : (r : Round) (i j : ℕ) (old mid new : Edits) → IsRound r → i < j → j < r.n → old ≡ record { n = r.n; out = []; into = [] } → new.n ≡ r.n → IsTurn (round_counts r) i j old mid → IsTurn (round_counts r) j i mid new → IsEditOf r.n r.phased (round_counts r) (HomeSwap (record { 0 = i }) (record { 0 = j })) true new
+pub home_swap-done : (r : Round) (i j : ℕ) (old mid new : Edits) → IsRound r → i < j → j < r.n
+    → old ≡ record { n = r.n; out = []; into = [] } → new.n ≡ r.n → IsTurn (round_counts r) i j old mid
+    → IsTurn (round_counts r) j i mid new
+    → IsEditOf r.n r.phased (round_counts r) (HomeSwap (record { 0 = i }) (record { 0 = j })) true new
 home_swap-done r i j old mid new round lt last empty same first second =
     let m : Counts = round_counts r in
     let P : Edits → Type 0 = λ old. IsTurn m i j old mid in

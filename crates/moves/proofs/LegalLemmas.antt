@@ -101,13 +101,19 @@ pub edited-is : (m after : Counts) (edit : Edits) → IsEdit m after edit → ed
 edited-is m after edit is = fun_ext (λ i. fun_ext (λ j. fun_ext (λ s. omega (arith, is.moves i j s, is.there i j s))))
 
 -- exchanging two slots, refused and done
-pub slots-refused : (r : Round) (set : ℕ → Bool) (s t : ℕ) (edit : Edits) → IsRound r → s < t → t < slot_count r.n → IsClosedTeams r.n (round_counts r) s t set → edit ≡ record { n = r.n; out = []; into = [] } → (AreExchangeable r.n r.phased (round_counts r) s t set → ⊥) → IsOutcome r.n r.phased (round_counts r) (slots_exchanged set s t (round_counts r)) false edit
+pub slots-refused : (r : Round) (set : ℕ → Bool) (s t : ℕ) (edit : Edits) → IsRound r → s < t → t < slot_count r.n
+    → IsClosedTeams r.n (round_counts r) s t set → edit ≡ record { n = r.n; out = []; into = [] }
+    → (AreExchangeable r.n r.phased (round_counts r) s t set → ⊥)
+    → IsOutcome r.n r.phased (round_counts r) (slots_exchanged set s t (round_counts r)) false edit
 slots-refused r set s t edit round lt last closed empty no_way =
     let m : Counts = round_counts r in
     IsOutcome-refused r.n r.phased m (slots_exchanged set s t m) edit empty
     (λ is. no_way (AreExchangeable-of r.n r.phased m set s t (played r.n r.phased m round.round_robin) lt last closed (played r.n r.phased (slots_exchanged set s t m) is)))
 
-pub slots-done : (r : Round) (set : ℕ → Bool) (s t : ℕ) (edit : Edits) → IsRound r → s < t → t < slot_count r.n → IsClosedTeams r.n (round_counts r) s t set → edit.n ≡ r.n → AreExchangeable r.n r.phased (round_counts r) s t set → IsEdit (round_counts r) (slots_exchanged set s t (round_counts r)) edit → AreApart edit → IsOutcome r.n r.phased (round_counts r) (slots_exchanged set s t (round_counts r)) true edit
+pub slots-done : (r : Round) (set : ℕ → Bool) (s t : ℕ) (edit : Edits) → IsRound r → s < t → t < slot_count r.n
+    → IsClosedTeams r.n (round_counts r) s t set → edit.n ≡ r.n → AreExchangeable r.n r.phased (round_counts r) s t set
+    → IsEdit (round_counts r) (slots_exchanged set s t (round_counts r)) edit → AreApart edit
+    → IsOutcome r.n r.phased (round_counts r) (slots_exchanged set s t (round_counts r)) true edit
 slots-done r set s t edit round lt last closed same may is apart =
     let m : Counts = round_counts r in
     IsOutcome-done r.n r.phased m (slots_exchanged set s t m) edit same is apart
@@ -118,13 +124,19 @@ IsExchange-of : (r : Round) (set : ℕ → Bool) (i j : ℕ) → IsRound r → i
 IsExchange-of r set i j round lt last closed = record { played = played r.n r.phased (round_counts r) round.round_robin; before = lt; last = last; slots = closed }
 
 -- exchanging two teams, refused and done
-pub teams-refused : (r : Round) (set : ℕ → Bool) (i j : ℕ) (edit : Edits) → IsRound r → i < j → j < r.n → IsClosedSlots r.n (round_counts r) i j set → edit ≡ record { n = r.n; out = []; into = [] } → (KeepPhases r.n r.phased (round_counts r) i j set → ⊥) → IsOutcome r.n r.phased (round_counts r) (teams_exchanged set i j (round_counts r)) false edit
+pub teams-refused : (r : Round) (set : ℕ → Bool) (i j : ℕ) (edit : Edits) → IsRound r → i < j → j < r.n
+    → IsClosedSlots r.n (round_counts r) i j set → edit ≡ record { n = r.n; out = []; into = [] }
+    → (KeepPhases r.n r.phased (round_counts r) i j set → ⊥)
+    → IsOutcome r.n r.phased (round_counts r) (teams_exchanged set i j (round_counts r)) false edit
 teams-refused r set i j edit round lt last closed empty no_way =
     let m : Counts = round_counts r in
     IsOutcome-refused r.n r.phased m (teams_exchanged set i j m) edit empty
     (λ is. no_way (KeepPhases-of r.n r.phased m i j set (IsExchange-of r set i j round lt last closed) (played r.n r.phased (teams_exchanged set i j m) is)))
 
-pub teams-done : (r : Round) (set : ℕ → Bool) (i j : ℕ) (edit : Edits) → IsRound r → i < j → j < r.n → IsClosedSlots r.n (round_counts r) i j set → edit.n ≡ r.n → KeepPhases r.n r.phased (round_counts r) i j set → IsEdit (round_counts r) (teams_exchanged set i j (round_counts r)) edit → AreApart edit → IsOutcome r.n r.phased (round_counts r) (teams_exchanged set i j (round_counts r)) true edit
+pub teams-done : (r : Round) (set : ℕ → Bool) (i j : ℕ) (edit : Edits) → IsRound r → i < j → j < r.n
+    → IsClosedSlots r.n (round_counts r) i j set → edit.n ≡ r.n → KeepPhases r.n r.phased (round_counts r) i j set
+    → IsEdit (round_counts r) (teams_exchanged set i j (round_counts r)) edit → AreApart edit
+    → IsOutcome r.n r.phased (round_counts r) (teams_exchanged set i j (round_counts r)) true edit
 teams-done r set i j edit round lt last closed same keep is apart =
     let m : Counts = round_counts r in
     IsOutcome-done r.n r.phased m (teams_exchanged set i j m) edit same is apart
@@ -167,7 +179,10 @@ if_not : (b : Bool) (x y : ℕ) → (if not b then x else y) ≡ (if b then y el
 if_not true x y = refl
 if_not false x y = refl
 
-pub team_swap-same : (r : Round) (i j : ℕ) (set : ℕ → Bool) → ((q : ℕ) → q < slot_count r.n → set q ≡ not (do_meet (round_counts r) i j q)) → (a b q : ℕ) → teams_exchanged set i j (round_counts r) a b q ≡ times (round_counts r) (if do_meet (round_counts r) i j q then game a b q else with_teams i j (game a b q))
+pub team_swap-same : (r : Round) (i j : ℕ) (set : ℕ → Bool)
+    → ((q : ℕ) → q < slot_count r.n → set q ≡ not (do_meet (round_counts r) i j q)) → (a b q : ℕ)
+    → teams_exchanged set i j (round_counts r) a b q
+    ≡ times (round_counts r) (if do_meet (round_counts r) i j q then game a b q else with_teams i j (game a b q))
 team_swap-same r i j set same a b q =
     let m : Counts = round_counts r in
     let goal : Type 0 = teams_exchanged set i j m a b q ≡ times m (if do_meet m i j q then game a b q else with_teams i j (game a b q)) in

@@ -95,7 +95,7 @@ follows-home n m i j s at g fits of only here slots q =
     ∙ test_home (m i w s) (m j w q) (m w i s) (m w j q) (w == w) (q == at) (x w) (z w) (slots q)
     ∙ same_and w (q == at)
 
--- the same where it is away
+-- the slot that follows, where the game is away
 pub follows-away : (n : ℕ) (m : Counts) (i j s at : ℕ) (g : Game) → IsGame n g → is_of i s g ≡ true → IsOnly m i s g → g.home.0 ≢ i → ((q : ℕ) → m g.home.0 j q ≡ (if q == at then 1 else 0)) → (q : ℕ) → follows n m i j s q ≡ (q == at)
 follows-away n m i j s at g fits of only here slots q =
     let h : ℕ = g.home.0 in

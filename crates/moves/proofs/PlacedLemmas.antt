@@ -162,7 +162,10 @@ IsTable-placed n phased before after edit old new old_slots new_slots change is_
   ];
 }
 
-slot_of_entry : (n : ℕ) (phased : Bool) (before after : Counts) (edit : Edits) (old new : List Game) (old_slots new_slots : List ℕ) (i j : ℕ) → IsChange n phased before after edit → IsOldSlots n before old_slots → ArePlaced edit.into old new old_slots new_slots → i < n → j < n → i ≢ j → (slot_entry new_slots i j < slot_count n) × (1 ≤ after i j (slot_entry new_slots i j))
+slot_of_entry : (n : ℕ) (phased : Bool) (before after : Counts) (edit : Edits) (old new : List Game) (old_slots
+    new_slots : List ℕ) (i j : ℕ) → IsChange n phased before after edit → IsOldSlots n before old_slots
+    → ArePlaced edit.into old new old_slots new_slots → i < n → j < n → i ≢ j
+    → (slot_entry new_slots i j < slot_count n) × (1 ≤ after i j (slot_entry new_slots i j))
 slot_of_entry n phased before after edit old new old_slots new_slots i j change is_old placed lt_i lt_j ne =
     elim (placed.slots i j (omega (arith, change.few))) as (λ _. (slot_entry new_slots i j < slot_count n) × (1 ≤ after i j (slot_entry new_slots i j))) [
       | inl stays ↦
@@ -176,7 +179,9 @@ slot_of_entry n phased before after edit old new old_slots new_slots i j change 
           (fits.slot, omega (arith, counted_in edit.into (game i j s) put, change.moves.moves i j s, change.moves.there i j s))
     ]
 
-pub IsSlotTable-placed : (n : ℕ) (phased : Bool) (before after : Counts) (edit : Edits) (old new : List Game) (old_slots new_slots : List ℕ) → IsChange n phased before after edit → IsOldSlots n before old_slots → ArePlaced edit.into old new old_slots new_slots → length new_slots ≡ 1600 → IsSlotTable n after new_slots
+pub IsSlotTable-placed : (n : ℕ) (phased : Bool) (before after : Counts) (edit : Edits) (old new : List Game) (old_slots
+    new_slots : List ℕ) → IsChange n phased before after edit → IsOldSlots n before old_slots
+    → ArePlaced edit.into old new old_slots new_slots → length new_slots ≡ 1600 → IsSlotTable n after new_slots
 IsSlotTable-placed n phased before after edit old new old_slots new_slots change is_old placed long = record {
   long = long;
   below = λ i j lt_i lt_j ne. (slot_of_entry n phased before after edit old new old_slots new_slots i j change is_old placed lt_i lt_j ne).0;
@@ -214,7 +219,10 @@ pub record IsBoard (n : ℕ) (phased : Bool) (m : Counts) (games : List Game) (s
   pub round : IsRound (record { n = n; phased = phased; games = games })
   pub slot_table : IsSlotTable n (round_counts (record { n = n; phased = phased; games = games })) slots
 
-pub IsBoard-placed : (n : ℕ) (phased : Bool) (before after : Counts) (edit : Edits) (old new : List Game) (old_slots new_slots : List ℕ) → IsTeamCount n → IsChange n phased before after edit → IsWithin n before → IsOldTable n before old → IsOldSlots n before old_slots → ArePlaced edit.into old new old_slots new_slots → length new ≡ 3120 → length new_slots ≡ 1600 → IsBoard n phased after new new_slots
+pub IsBoard-placed : (n : ℕ) (phased : Bool) (before after : Counts) (edit : Edits) (old new : List Game) (old_slots
+    new_slots : List ℕ) → IsTeamCount n → IsChange n phased before after edit → IsWithin n before
+    → IsOldTable n before old → IsOldSlots n before old_slots → ArePlaced edit.into old new old_slots new_slots
+    → length new ≡ 3120 → length new_slots ≡ 1600 → IsBoard n phased after new new_slots
 IsBoard-placed n phased before after edit old new old_slots new_slots teams change within is_old is_old_slots placed long slots_long =
     let table : IsTable n after new = IsTable-placed n phased before after edit old new old_slots new_slots change is_old placed long in
     let slot_table : IsSlotTable n after new_slots = IsSlotTable-placed n phased before after edit old new old_slots new_slots change is_old_slots placed slots_long in
@@ -334,7 +342,10 @@ ArePlaced-none games slots = record {
   slots_long = refl;
 }
 
-pub ArePlaced-more : (placed old new : List Game) (old_slots new_slots : List ℕ) (g : Game) → length old ≡ 3120 → length old_slots ≡ 1600 → IsGame 40 g → ArePlaced placed old new old_slots new_slots → ArePlaced (placed ++ g ∷ []) old (set (set new (g.home.0 * 78 + g.slot.0) g) (g.away.0 * 78 + g.slot.0) g) old_slots (set new_slots (g.home.0 * 40 + g.away.0) g.slot.0)
+pub ArePlaced-more : (placed old new : List Game) (old_slots new_slots : List ℕ) (g : Game) → length old ≡ 3120
+    → length old_slots ≡ 1600 → IsGame 40 g → ArePlaced placed old new old_slots new_slots → ArePlaced (placed ++ g ∷
+    []) old (set (set new (g.home.0 * 78 + g.slot.0) g) (g.away.0 * 78 + g.slot.0) g) old_slots (set new_slots (g.home.0
+    * 40 + g.away.0) g.slot.0)
 ArePlaced-more placed old new old_slots new_slots g long slots_long fits before = record {
   games = λ i s lt. IsPlacedAt-more placed old new g i s (before.long ∙ long) fits lt (before.games i s lt);
   slots = λ i j lt. IsSlotPlacedAt-more placed old_slots new_slots g i j (before.slots_long ∙ slots_long) fits lt (before.slots i j lt);

@@ -22,7 +22,7 @@ IsRoundRobin-of n phased m once =
 abbrev pub met : Counts → ℕ → ℕ → ℕ → ℕ
 met m i j s = m i j s + m j i s
 
--- the same in sums
+-- a round robin in sums
 pub record IsPlayed (n : ℕ) (phased : Bool) (m : Counts) : Type 0 where
   pub meetings : (i j : ℕ) → i < n → j < n → i ≢ j → total (λ s. m i j s) (slot_count n) ≡ 1
   pub cells : (i s : ℕ) → i < n → s < slot_count n → total (λ j. met m i j s) n ≡ 1

@@ -107,7 +107,7 @@ only_game n phased m i s g is within lt_i lt_s here a b =
           ])
     ]
 
--- the same of a board
+-- a team's game in a slot of a board is its only one there
 pub only_game-at : (r : Round) (i s : ℕ) → IsRound r → i < r.n → s < slot_count r.n → (a b : ℕ) → (if (a == i) || (b == i) then round_counts r a b s else 0) ≡ (if is_game a b s (entry r.games i s) then 1 else 0)
 only_game-at r i s round lt_i lt_s a b =
     only_game r.n r.phased (round_counts r) i s (entry r.games i s) (played r.n r.phased (round_counts r) round.round_robin) (IsWithin-of r round.table) lt_i lt_s (round.table.at i s lt_i lt_s) a b
@@ -135,10 +135,16 @@ only_slot-at r slots i j round table lt_i lt_j ne s =
     only_slot r.n r.phased (round_counts r) i j (slot_entry slots i j) (played r.n r.phased (round_counts r) round.round_robin) (IsWithin-of r round.table) lt_i lt_j ne (table.below i j lt_i lt_j ne) (table.there i j lt_i lt_j ne) s
 
 -- whom a team meets, by its game
-meets-home : (h w t i s j x y : ℕ) → h ≢ w → h ≡ i → (((h == i) || (w == i)) && (t == s)) ≡ true → (if (i == i) || (j == i) then x else 0) ≡ (if (h == i) && (w == j) && (t == s) then 1 else 0) → (if (j == i) || (i == i) then y else 0) ≡ (if (h == j) && (w == i) && (t == s) then 1 else 0) → nat_lt 0 (x + y) ≡ (j == w)
+meets-home : (h w t i s j x y : ℕ) → h ≢ w → h ≡ i → (((h == i) || (w == i)) && (t == s)) ≡ true
+    → (if (i == i) || (j == i) then x else 0) ≡ (if (h == i) && (w == j) && (t == s) then 1 else 0)
+    → (if (j == i) || (i == i) then y else 0) ≡ (if (h == j) && (w == i) && (t == s) then 1 else 0)
+    → nat_lt 0 (x + y) ≡ (j == w)
 meets-home h w t i s j x y ne is_h of first second = grind (arith, nat_tests)
 
-meets-away : (h w t i s j x y : ℕ) → h ≢ w → h ≢ i → (((h == i) || (w == i)) && (t == s)) ≡ true → (if (i == i) || (j == i) then x else 0) ≡ (if (h == i) && (w == j) && (t == s) then 1 else 0) → (if (j == i) || (i == i) then y else 0) ≡ (if (h == j) && (w == i) && (t == s) then 1 else 0) → nat_lt 0 (x + y) ≡ (j == h)
+meets-away : (h w t i s j x y : ℕ) → h ≢ w → h ≢ i → (((h == i) || (w == i)) && (t == s)) ≡ true
+    → (if (i == i) || (j == i) then x else 0) ≡ (if (h == i) && (w == j) && (t == s) then 1 else 0)
+    → (if (j == i) || (i == i) then y else 0) ≡ (if (h == j) && (w == i) && (t == s) then 1 else 0)
+    → nat_lt 0 (x + y) ≡ (j == h)
 meets-away h w t i s j x y ne is_h of first second = grind (arith, nat_tests)
 
 -- what the game of a team in a slot says of the counts

@@ -63,7 +63,7 @@ stays : (s t k fs ft x y : ℕ) → s < t → (nat_lt s k ≡ nat_lt t k) ⊎ (f
 stays s t k fs ft x y lt (inl same) h = grind (arith, nat_tests)
 stays s t k fs ft x y lt (inr same) h = grind (arith, nat_tests)
 
--- and only there
+-- the sum stays only where the slots are of one half, or have the same value
 crossed : (s t k fs ft x y : ℕ) → s < k → k ≤ t → x + between s t k fs ≡ y + between s t k ft → x ≡ y → fs ≡ ft
 crossed s t k fs ft x y a b h e = grind (arith, nat_tests)
 
@@ -71,7 +71,10 @@ same_number : (x y : ℕ) → x ≤ 1 → y ≤ 1 → nat_lt 0 x ≡ nat_lt 0 y 
 same_number x y a b e = grind (arith, nat_tests)
 
 -- what the criterion says of two teams in the set
-same_half_or_value : (n : ℕ) (phased : Bool) (m : Counts) (set : ℕ → Bool) (s t a b : ℕ) → IsPlayed n phased m → s < slot_count n → t < slot_count n → a < n → b < n → set a ≡ true → (is_early n s ≡ is_early n t) ⊎ HaveSamePairs n m s t set → (nat_lt s (n - 1) ≡ nat_lt t (n - 1)) ⊎ (met m a b s ≡ met m a b t)
+same_half_or_value : (n : ℕ) (phased : Bool) (m : Counts) (set : ℕ → Bool) (s t a b : ℕ) → IsPlayed n phased m
+    → s < slot_count n → t < slot_count n → a < n → b < n → set a ≡ true
+    → (is_early n s ≡ is_early n t) ⊎ HaveSamePairs n m s t set
+    → (nat_lt s (n - 1) ≡ nat_lt t (n - 1)) ⊎ (met m a b s ≡ met m a b t)
 same_half_or_value n phased m set s t a b is ss tt_ first second in_set (inl same) = inl same
 same_half_or_value n phased m set s t a b is ss tt_ first second in_set (inr pairs) =
     inr (same_number (met m a b s) (met m a b t) (met-le-one n phased m a b s is first second ss) (met-le-one n phased m a b t is first second tt_) (pairs a b first second in_set))

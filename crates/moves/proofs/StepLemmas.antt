@@ -42,7 +42,9 @@ way_none next k x long lt =
       reached_all = λ a marked. absurd (marked-none long a marked);
     }
 
-pub IsSlotWalk-more : (n : ℕ) (m : Counts) (i j x : ℕ) (marks : List Bool) (at to : ℕ) → IsSlotWalk n m i j x marks at → slot_count n ≤ length marks → is_marked marks at ≡ false → to < slot_count n → do_meet m i j to ≡ false → ((q : ℕ) → follows n m i j at q ≡ (q == to)) → IsSlotWalk n m i j x (set marks at true) to
+pub IsSlotWalk-more : (n : ℕ) (m : Counts) (i j x : ℕ) (marks : List Bool) (at to : ℕ) → IsSlotWalk n m i j x marks at
+    → slot_count n ≤ length marks → is_marked marks at ≡ false → to < slot_count n → do_meet m i j to ≡ false
+    → ((q : ℕ) → follows n m i j at q ≡ (q == to)) → IsSlotWalk n m i j x (set marks at true) to
 IsSlotWalk-more n m i j x marks at to walk long unmarked lt apart leads =
     let within : at < length marks = omega (arith, walk.way.below) in
     record {

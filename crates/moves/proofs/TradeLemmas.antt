@@ -116,8 +116,12 @@ if_same h i x y e = grind (arith, nat_tests)
 if_other : (h i x y : ℕ) → h ≢ i → (if h == i then x else y) ≡ y
 if_other h i x y e = grind (arith, nat_tests)
 
--- the same game with team j in i's place is put in
-pub trade-into : (n : ℕ) (m : Counts) (i j s : ℕ) (old : List Game) (g g' : Game) → IsGame n g → is_of i s g ≡ true → IsOnly m i s g → do_meet m i j s ≡ false → g'.home.0 ≡ (if g.home.0 == i then j else g.home.0) → g'.away.0 ≡ (if g.home.0 == i then g.away.0 else j) → g'.slot.0 ≡ g.slot.0 → (a b r : ℕ) → counts_of (old ++ g' ∷ []) a b r ≡ counts_of old a b r + (if (r == s) && ((a == j) || (b == j)) then m (exchange i j a) (exchange i j b) s else 0)
+-- a game of team i is put in with team j in i's place
+pub trade-into : (n : ℕ) (m : Counts) (i j s : ℕ) (old : List Game) (g g' : Game) → IsGame n g → is_of i s g ≡ true
+    → IsOnly m i s g → do_meet m i j s ≡ false → g'.home.0 ≡ (if g.home.0 == i then j else g.home.0)
+    → g'.away.0 ≡ (if g.home.0 == i then g.away.0 else j) → g'.slot.0 ≡ g.slot.0 → (a b r : ℕ)
+    → counts_of (old ++ g' ∷ []) a b r
+    ≡ counts_of old a b r + (if (r == s) && ((a == j) || (b == j)) then m (exchange i j a) (exchange i j b) s else 0)
 trade-into n m i j s old g g' fits of only apart home away slot a b r =
     let h : ℕ = g.home.0 in
     let w : ℕ = g.away.0 in

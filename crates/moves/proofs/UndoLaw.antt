@@ -294,7 +294,10 @@ traded set i j m x y c d r in_set p q =
 kept_game : (set : ℕ → Bool) (i j : ℕ) (m : Counts) (x y r : ℕ) → set r ≡ false → teams_exchanged set i j m x y r ≡ m x y r
 kept_game set i j m x y r out = if_false (set r) (m (exchange i j x) (exchange i j y) r) (m x y r) out
 
-slots-same : (n : ℕ) (phased : Bool) (m : Counts) (i j s : ℕ) → IsPlayed n phased m → IsPlayed n phased (teams_exchanged (λ r. is_in r (slots_linked n m i j s)) i j m) → i < j → j < n → s < slot_count n → do_meet m i j s ≡ false → (r : ℕ) → is_in r (slots_linked n m i j s) ≡ is_in r (slots_linked n (teams_exchanged (λ r. is_in r (slots_linked n m i j s)) i j m) i j s)
+slots-same : (n : ℕ) (phased : Bool) (m : Counts) (i j s : ℕ) → IsPlayed n phased m
+    → IsPlayed n phased (teams_exchanged (λ r. is_in r (slots_linked n m i j s)) i j m) → i < j → j < n
+    → s < slot_count n → do_meet m i j s ≡ false → (r : ℕ) → is_in r (slots_linked n m i j s)
+    ≡ is_in r (slots_linked n (teams_exchanged (λ r. is_in r (slots_linked n m i j s)) i j m) i j s)
 slots-same n phased m i j s is after_is lt last lt_s apart =
     let set : ℕ → Bool = λ r. is_in r (slots_linked n m i j s) in
     let after : Counts = teams_exchanged set i j m in
@@ -346,7 +349,10 @@ slots-same n phased m i j s is after_is lt last lt_s apart =
     ] in
     closed_back n phased after i j (λ r. is_in r (slots_linked n after i j s)) q r again lt_q lt_r (follows-of n after i j q r c.k c.below turned_round) in_after)
 
-part_team_swap-undone : (n : ℕ) (phased : Bool) (m : Counts) (i j s : ℕ) → IsRoundRobin n phased m → IsRoundRobin n phased (moved n m (PartTeamSwap (record { 0 = i }) (record { 0 = j }) (record { 0 = s }))) → i < j → j < n → s < slot_count n → do_meet m i j s ≡ false → IsUndone n phased m (PartTeamSwap (record { 0 = i }) (record { 0 = j }) (record { 0 = s }))
+part_team_swap-undone : (n : ℕ) (phased : Bool) (m : Counts) (i j s : ℕ) → IsRoundRobin n phased m
+    → IsRoundRobin n phased (moved n m (PartTeamSwap (record { 0 = i }) (record { 0 = j }) (record { 0 = s }))) → i < j
+    → j < n → s < slot_count n → do_meet m i j s ≡ false
+    → IsUndone n phased m (PartTeamSwap (record { 0 = i }) (record { 0 = j }) (record { 0 = s }))
 part_team_swap-undone n phased m i j s is legal lt last lt_s apart =
     let set : ℕ → Bool = λ r. is_in r (slots_linked n m i j s) in
     let after : Counts = teams_exchanged set i j m in

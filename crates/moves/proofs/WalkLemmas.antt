@@ -156,7 +156,10 @@ both_true false true p q = q refl
 both_true false false p q = refl
 
 -- marks that are closed and reached in at most k steps are the closure
-pub marks_are : (next : ℕ → ℕ → Bool) (k x count : ℕ) (marks : ℕ → Bool) → x < k → count ≤ k → marks x ≡ true → ((a : ℕ) → marks a ≡ true → a < k) → ((a : ℕ) → marks a ≡ true → is_in a (reached next k x count) ≡ true) → ((a b : ℕ) → b < k → marks a ≡ true → next a b ≡ true → marks b ≡ true) → (a : ℕ) → marks a ≡ is_in a (closure next k x)
+pub marks_are : (next : ℕ → ℕ → Bool) (k x count : ℕ) (marks : ℕ → Bool) → x < k → count ≤ k → marks x ≡ true
+    → ((a : ℕ) → marks a ≡ true → a < k) → ((a : ℕ) → marks a ≡ true → is_in a (reached next k x count) ≡ true)
+    → ((a b : ℕ) → b < k → marks a ≡ true → next a b ≡ true → marks b ≡ true) → (a : ℕ)
+    → marks a ≡ is_in a (closure next k x)
 marks_are next k x count marks lt few start below on_way closed a =
     both_true (marks a) (is_in a (closure next k x))
     (λ marked.

@@ -3,7 +3,7 @@ use Rattle.std.specs.Prelude.{◌≡◌, ℕ, zero, suc, ◌<◌, Bool, true, �
 use Rattle.std.specs.List.{filter, list_any, range_with_len}
 use Rattle.league.specs.Sets.{is_in}
 
--- these numbers, and those below k that are next to one of them
+-- some numbers, and all below k that are next to one of them
 abbrev pub with_next : (ℕ → ℕ → Bool) → ℕ → List ℕ → List ℕ
 with_next next k xs = filter (λ y. is_in y xs || list_any (λ x. next x y) xs) (range_with_len 0 k)
 
@@ -16,7 +16,7 @@ reached next k x (suc steps) = with_next next k (reached next k x steps)
 abbrev pub closure : (ℕ → ℕ → Bool) → ℕ → ℕ → List ℕ
 closure next k x = reached next k x k
 
--- the same in other words: it holds x, it is closed, and each closed set that holds x holds it
+-- the least closed set that holds x: it holds x, it is closed, and each closed set that holds x holds it
 pub record IsLeastClosed (next : ℕ → ℕ → Bool) (k x : ℕ) (set : ℕ → Bool) : Type 0 where
   pub start : set x ≡ true
   pub closed : (a b : ℕ) → b < k → set a ≡ true → next a b ≡ true → set b ≡ true
@@ -25,7 +25,7 @@ pub record IsLeastClosed (next : ℕ → ℕ → Bool) (k x : ℕ) (set : ℕ �
       → ((a b : ℕ) → b < k → other a ≡ true → next a b ≡ true → other b ≡ true)
       → (a : ℕ) → set a ≡ true → other a ≡ true
 
--- so it is in each relation, for a number below k
+-- in each relation the closure of a number below k is that least closed set
 abbrev pub ClosuresAreLeast : Type 0
 ClosuresAreLeast =
     (next : ℕ → ℕ → Bool) (k x : ℕ) → x < k → IsLeastClosed next k x (λ a. is_in a (closure next k x))

@@ -47,12 +47,12 @@ abbrev pub MeetAlike : ℕ → Counts → ℕ → ℕ → (ℕ → Bool) → Typ
 MeetAlike n m i j set =
     (r k : ℕ) → r < n - 1 → k < n → set r ≡ true → do_meet m i k r ≡ true → 1 ≤ early_games n m set j k
 
--- the same, where there are phases
+-- where there are phases, i and j meet alike in these slots
 abbrev pub KeepPhases : ℕ → Bool → Counts → ℕ → ℕ → (ℕ → Bool) → Type 0
 KeepPhases n phased m i j set = phased ≡ true → MeetAlike n m i j set
 
--- of the games whose home team is below k and in the set, those in slots s and t are taken out, and put in with the
--- slots exchanged
+-- the games in slots s and t whose home team is below k and in the set are taken out, and put in with the slots
+-- exchanged
 pub record AreExchangedBelow (k : ℕ) (set : ℕ → Bool) (m : Counts) (s t : ℕ) (edit : Edits) : Type 0 where
   pub out_length : length edit.out ≤ 2 * k
   pub into_length : length edit.into ≤ 2 * k
@@ -63,8 +63,7 @@ pub record AreExchangedBelow (k : ℕ) (set : ℕ → Bool) (m : Counts) (s t : 
       → counts_of edit.into a b r
       ≡ (if nat_lt a k && set a && ((r == s) || (r == t)) then m a b (exchange s t r) else 0)
 
--- of the games of i and of j in the slots below k that are in the set, each is taken out, and put in with the teams
--- exchanged
+-- each game of i and of j in the slots below k that are in the set is taken out, and put in with the teams exchanged
 pub record AreTradedBelow (k : ℕ) (set : ℕ → Bool) (m : Counts) (i j : ℕ) (edit : Edits) : Type 0 where
   pub out_length : length edit.out ≤ 2 * k
   pub into_length : length edit.into ≤ 2 * k

@@ -57,7 +57,7 @@ IsSlotPlacedAt placed old new i j =
     (All (λ g. is_meeting i j g ≡ false) placed × (slot_entry new i j ≡ slot_entry old i j))
     ⊎ Contains placed (game i j (slot_entry new i j))
 
--- the same at every place
+-- every place has a placed game and its slot, or what it had
 pub record ArePlaced (placed old new : List Game) (old_slots new_slots : List ℕ) : Type 0 where
   pub games : (i s : ℕ) → s < 78 → IsPlacedAt placed old new i s
   pub slots : (i j : ℕ) → j < 40 → IsSlotPlacedAt placed old_slots new_slots i j

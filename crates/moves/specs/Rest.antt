@@ -12,7 +12,7 @@ abbrev pub pairs_after : ℕ → ℕ → ℕ → List (ℕ × ℕ)
 pairs_after k a b =
     map (λ j. (a, j)) (range_with_len (b + 1) (k - (b + 1))) ++ pairs_of (range_with_len (a + 1) (k - (a + 1)))
 
--- the same with (a, b) itself
+-- the pairs of numbers below k from (a, b) on, in order
 abbrev pub pairs_from : ℕ → ℕ → ℕ → List (ℕ × ℕ)
 pairs_from k a b = map (λ j. (a, j)) (range_with_len b (k - b)) ++ pairs_of (range_with_len (a + 1) (k - (a + 1)))
 

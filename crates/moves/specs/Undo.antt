@@ -10,7 +10,7 @@ pub record IsUndone (n : ℕ) (phased : Bool) (m : Counts) (step : Swap) : Type 
   pub legal : IsLegal n phased (moved n m step) step
   pub back : (i j s : ℕ) → moved n (moved n m step) step i j s ≡ m i j s
 
--- so it is with each legal move of a round robin
+-- the law: each legal move of a round robin is undone so
 abbrev pub LegalMovesUndo : Type 0
 LegalMovesUndo =
     (n : ℕ) (phased : Bool) (m : Counts) (step : Swap)

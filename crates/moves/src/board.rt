@@ -110,7 +110,7 @@ impl Board {
         ensures fits { IsGame self.now.n result }
         ensures of { is_of team.0 slot.0 result ≡ true }
 
-        // It is the only game of the team in the slot.
+        // The team has no other game in the slot.
         ensures only { (a b : ℕ) → (if (a == team.0) || (b == team.0) then round_counts self.now a b slot.0 else 0)
             ≡ (if is_game a b slot.0 result then 1 else 0) }
     {

@@ -46,7 +46,7 @@ impl Edit {
     pub fn out(&self) -> &[Game]
         ensures games { result.now ≡ self.now.out }
 
-        // As many are put in, so that an edit leaves the number of games.
+        // As many games are put in, so that an edit leaves their number.
         ensures as_many { length self.now.into ≡ length self.now.out }
     {
         &self.out

@@ -1,4 +1,5 @@
-//! Moves: changes of some games of a double round robin.
+//! Moves: changes of some games of a double round robin. The five kinds are those of Anagnostopoulos, Michel, Van
+//! Hentenryck and Vergados (2006).
 
 use league::{SlotId, TeamId};
 

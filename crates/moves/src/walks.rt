@@ -1,4 +1,5 @@
-//! Walks along the games of a board that mark the least set of teams, or of slots, that a move takes with it.
+//! Walks along the games of a board that mark the least set of teams, or of slots, that a move takes with it. The teams
+//! that are marked so are a Kempe chain of the games of two slots.
 ghost use Rattle.std.specs.Prelude.{◌≡◌, ◌≢◌, ℕ, ◌<◌, ◌==◌, slice_index_or, true, false};
 ghost use Rattle.league.specs.Counts.{slot_count};
 ghost use Rattle.league.specs.Sets.{is_in};

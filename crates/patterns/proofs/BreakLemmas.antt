@@ -68,7 +68,7 @@ breaks_in-patterns n k m patterns cells is =
     ap (map breaks_in) is
     ∙ map-made breaks_in (pattern_in n m (range_with_len 0 k)) (breaks_among n m Both (range_with_len 0 k)) 0 n (λ i low high. breaks_in-pattern_in n m i k (λ t slot. cells i t (omega arith) slot))
 
--- and their sum
+-- the sum of the breaks of all patterns
 pub sum_by-breaks_in : (n : ℕ) (m : Counts) (slots : List ℕ) (patterns : List (List Side)) → map breaks_in patterns ≡ team_breaks n m slots → sum_by breaks_in patterns ≡ all_breaks n m (teams_of n) slots
 sum_by-breaks_in n m slots patterns is =
     sym (sum_by-map (λ x. x) breaks_in patterns) ∙ ap (sum_by (λ x. x)) is ∙ sum_by-map (λ x. x) (breaks_among n m Both slots) (teams_of n)

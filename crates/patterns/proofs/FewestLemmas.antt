@@ -61,7 +61,7 @@ apart n m single i j h l =
           )
     ]
 
--- so their patterns differ
+-- two teams' patterns differ
 pub patterns_apart : (n : ℕ) (m : Counts) → IsSingle n m → (i j : ℕ) → i < j → j < n → pattern_in n m (first_half n) i ≡ pattern_in n m (first_half n) j → ⊥
 patterns_apart n m single i j h l same =
     let found = apart n m single i j h l in
@@ -73,7 +73,7 @@ patterns_apart n m single i j h l same =
 flip : (a b c d : ℕ) → a + b ≡ 1 → c + d ≡ 1 → one_if (nat_lt 0 a && nat_lt 0 c) + one_if (nat_lt 0 b && nat_lt 0 d) ≡ 0 → a + c ≡ 1
 flip a b c d first second none = grind (arith, nat_tests)
 
--- the same of a team's games
+-- home games of a team in a slot and in the next, where it has one game in each and no break
 flips : (f g : ℕ → ℕ) (s : ℕ) → f s + g s ≡ 1 → f (s + 1) + g (s + 1) ≡ 1 → one_if (twice_in_a_row f (s + 1)) + one_if (twice_in_a_row g (s + 1)) ≡ 0 → f s + f (s + 1) ≡ 1
 flips f g s first second none =
     let before : s + 1 - 1 ≡ s = omega arith in
@@ -101,7 +101,7 @@ alike n m single i j here there no_i no_j begin (suc s) l =
     let flip_j : home_games n m j s + home_games n m j (s + 1) ≡ 1 = flips (home_games n m j) (away_games n m j) s (single.cells j s there inside) (single.cells j (s + 1) there next) none_j in
     omega (arith, before, flip_i, flip_j, ap (home_games n m i) last, ap (home_games n m j) last)
 
--- so no two teams without a break begin alike
+-- no two teams without a break begin alike
 begin_apart : (n : ℕ) (m : Counts) → IsSingle n m → (i j : ℕ) → i < j → j < n → breaks n m i ≡ 0 → breaks n m j ≡ 0 → home_games n m i 0 ≡ home_games n m j 0 → ⊥
 begin_apart n m single i j h l no_i no_j begin =
     let found = apart n m single i j h l in
@@ -125,7 +125,10 @@ covered count first h = grind (arith, nat_tests)
 one_begins : (n : ℕ) (m : Counts) → IsSingle n m → (x : ℕ) → sum_by (λ i. one_if (begins x (breaks n m i) (home_games n m i 0))) (teams_of n) ≤ 1
 one_begins n m single x =
     count-at_most_one (λ i. begins x (breaks n m i) (home_games n m i 0)) n
-    (λ i j h l first second. begin_apart n m single i j h l (begins-no_break x (breaks n m i) (home_games n m i 0) first) (begins-no_break x (breaks n m j) (home_games n m j 0) second) (begins-with x (breaks n m i) (home_games n m i 0) first ∙ sym (begins-with x (breaks n m j) (home_games n m j 0) second)))
+    (λ i j h l first second. begin_apart n m single i j h l
+    (begins-no_break x (breaks n m i) (home_games n m i 0) first)
+    (begins-no_break x (breaks n m j) (home_games n m j 0) second) (begins-with x (breaks n m i) (home_games n m i 0)
+    first ∙ sym (begins-with x (breaks n m j) (home_games n m j 0) second)))
 
 -- at least n - 2 breaks
 pub breaks_at_least : (n : ℕ) (m : Counts) → IsSingle n m → 2 ≤ n → n - 2 ≤ all_breaks n m (teams_of n) (first_half n)

@@ -14,7 +14,7 @@ use Rattle.circle_method.specs.SingleRoundRobin.{IsSingleGame, IsSingleRoundRobi
 use Rattle.patterns.specs.Pattern.{breaks_in}
 use Rattle.patterns.specs.PatternSet.{canonical_patterns, pattern_of, patterns_of, side_with, team_breaks}
 
--- they are AAHHHA, HHAAAH, AHAHAH and HAHAHA
+-- the patterns are AAHHHA, HHAAAH, AHAHAH and HAHAHA
 pub patterns_of-four : patterns_of 4 four ≡ (A ∷ A ∷ H ∷ H ∷ H ∷ A ∷ []) ∷ (H ∷ H ∷ A ∷ A ∷ A ∷ H ∷ []) ∷ (A ∷ H ∷ A ∷ H ∷ A ∷ H ∷ []) ∷ (H ∷ A ∷ H ∷ A ∷ H ∷ A ∷ []) ∷ []
 patterns_of-four = refl
 
@@ -22,7 +22,7 @@ patterns_of-four = refl
 pub breaks_in-four : (breaks_in (pattern_of 4 four 0) ≡ 3) × (breaks_in (pattern_of 4 four 1) ≡ 3) × (breaks_in (pattern_of 4 four 2) ≡ 0) × (breaks_in (pattern_of 4 four 3) ≡ 0)
 breaks_in-four = (refl, refl, refl, refl)
 
--- and these are the teams' breaks of the season
+-- the teams have 3, 3, 0 and 0 breaks in the season
 pub team_breaks-four : team_breaks 4 four (slots_of 4) ≡ 3 ∷ 3 ∷ 0 ∷ 0 ∷ []
 team_breaks-four = refl
 
@@ -38,7 +38,7 @@ breaks_in-short = (refl, refl)
 abbrev pub half : List Game
 half = game 3 0 0 ∷ game 1 2 0 ∷ game 1 3 1 ∷ game 2 0 1 ∷ game 3 2 2 ∷ game 0 1 2 ∷ []
 
--- it has 2 breaks, the fewest
+-- the first half has 2 breaks, the fewest
 pub all_breaks-half : all_breaks 4 (counts_of half) (teams_of 4) (first_half 4) ≡ 2
 all_breaks-half = refl
 
@@ -69,7 +69,7 @@ half_cells i s h l = absurd (omega arith)
 half_fits : (i j s : ℕ) → i < 4 → j < 4 → i ≢ j → s < 4 - 1 → IsSingleGame 4 (game i j s)
 half_fits i j s here there differ slot = record { home = here; away = there; differ = differ; slot = slot }
 
--- it is a single round robin: the law isn't about nothing
+-- the first half is a single round robin: the law isn't about nothing
 pub half-is_single : IsSingleRoundRobin 4 half
 half-is_single = record {
   fit =

@@ -37,8 +37,12 @@ patterns-same n k m table counted =
     map-same (table_pattern k table) (pattern_in n m (range_with_len 0 k))
     (λ i. map-same (λ s. side_with (entry table i s)) (letter_of n m i) (λ s. ap side_with (counted i s)) (range_with_len 0 k)) (teams_of n)
 
--- the same of what was read of the games
-pub patterns-read : (n k teams slots : ℕ) (games listed : List Game) (table : List ℕ) (patterns : List (List Side)) → teams ≡ n → slots ≡ k → listed ≡ games → All (IsGame n) games → ((count : ℕ) → All (IsGame count) listed → (i s : ℕ) → entry table i s ≡ home_games count (counts_of listed) i s) → patterns ≡ map (table_pattern slots table) (teams_of teams) → patterns ≡ map (pattern_in n (counts_of games) (range_with_len 0 k)) (teams_of n)
+-- the patterns of a table that was read of the games are those of the schedule
+pub patterns-read : (n k teams slots : ℕ) (games listed : List Game) (table : List ℕ) (patterns : List (List Side))
+    → teams ≡ n → slots ≡ k → listed ≡ games → All (IsGame n) games
+    → ((count : ℕ) → All (IsGame count) listed → (i s : ℕ) → entry table i s ≡ home_games count (counts_of listed) i s)
+    → patterns ≡ map (table_pattern slots table) (teams_of teams)
+    → patterns ≡ map (pattern_in n (counts_of games) (range_with_len 0 k)) (teams_of n)
 patterns-read n k teams slots games listed table patterns same_teams same_slots same_games fit counted is =
     let listed_fit : All (IsGame n) listed = subst (λ (xs : List Game). All (IsGame n) xs) (sym same_games) fit in
     is
@@ -70,7 +74,10 @@ abbrev no_game : Game
 no_game = record { home = record { 0 = 0 }; away = record { 0 = 0 }; slot = record { 0 = 0 } }
 
 -- the table of no game, one game further, and at the end
-pub home_table-more : (n k : ℕ) (games : List Game) (i s before after : ℕ) → k < length games → All (IsGame n) games → before ≡ home_games n (counts_of (take k games)) i s → after ≡ before + one_if (((get_or games k no_game).home.0 == i) && ((get_or games k no_game).slot.0 == s)) → after ≡ home_games n (counts_of (take (k + 1) games)) i s
+pub home_table-more : (n k : ℕ) (games : List Game) (i s before after : ℕ) → k < length games → All (IsGame n) games
+    → before ≡ home_games n (counts_of (take k games)) i s
+    → after ≡ before + one_if (((get_or games k no_game).home.0 == i) && ((get_or games k no_game).slot.0 == s))
+    → after ≡ home_games n (counts_of (take (k + 1) games)) i s
 home_table-more n k games i s before after inside fit so_far next =
     let game : Game = get_or games k no_game in
     omega (

@@ -15,7 +15,7 @@ DistinctPatterns = (n : ℕ) (games : List Game) → IsTeamCount n → IsSingleR
     (i j : ℕ) → i < j → j < n →
     pattern_in n (counts_of games) (first_half n) i ≢ pattern_in n (counts_of games) (first_half n) j
 
--- and it has at least n - 2 breaks
+-- the law: a single round robin of an even number of teams, from 2 to 40, has at least n - 2 breaks
 abbrev pub FewestBreaks : Type 0
 FewestBreaks = (n : ℕ) (games : List Game) → IsTeamCount n → IsSingleRoundRobin n games →
     n - 2 ≤ all_breaks n (counts_of games) (teams_of n) (first_half n)

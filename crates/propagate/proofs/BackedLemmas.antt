@@ -187,7 +187,7 @@ IsNode-hang rows given hung nodes i j x each there row_is has apart within =
       here : node_at (slice_set nodes i x) i ≡ x
       here = node_at-same nodes i x there
 
--- it is backed, and its partner is, where these two are
+-- a node that is hung again is backed, and its partner is, where these two are
 pub IsBacked-hang : (before now : ℕ → Value) (nodes : List Node) (i j : ℕ) (x : Node) → i < length nodes
     → (j ≢ i → j ≢ partner_of i → IsBacked before now nodes j)
     → (value_of before x.lit ≡ False → value_of now (node_at nodes (partner_of i)).lit ≡ True)
@@ -216,7 +216,7 @@ IsBacked-hang before now nodes i j x there old own back =
       here : node_at (slice_set nodes i x) i ≡ x
       here = node_at-same nodes i x there
 
--- the same node still, or one that isn't false: it is backed where it was, though its literal was false
+-- the node's own literal still, or one that isn't false: the node is backed where it was, though its literal was false
 pub own_kept : (before now latest : ℕ → Value) (nodes : List Node) (i : ℕ) (l : Literal) → IsBacked before now nodes i
     → (value_of before l ≡ False → value_of latest l ≡ False)
     → (l ≡ (node_at nodes i).lit) ⊎ (value_of latest l ≢ False) → value_of before l

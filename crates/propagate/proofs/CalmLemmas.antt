@@ -62,7 +62,7 @@ WasOpen-now vars es l each open_now = λ k d within decided is.
     ∙ value_kept vars es l.var k (length es - k) each (omega arith) (false_is_set (values_of (take k es)) l is) in
     open_now (value_of-kept (values_of (take k es)) (values_of es) l kept ∙ is)
 
--- nor one that became false at the last level
+-- a literal that became false at the last level wasn't false before a decision
 pub WasOpen-level : (vars : ℕ) (es : List Entry) (l : Literal) (place : ℕ) (e : Entry) → EachEntry (IsNew vars) es → place < length es → e ≡ get_or es place e → e.lit.var ≡ l.var
     → e.level ≡ level_of es → WasOpen l es
 WasOpen-level vars es l place e each there at var level = λ k d within decided is.

@@ -96,7 +96,7 @@ chain-drop nodes at [] k chain within = absurd (omega arith)
 chain-drop nodes at (j ∷ js) zero chain within = (refl, chain.1, chain.2)
 chain-drop nodes at (j ∷ js) (suc k) chain within = chain-drop nodes (node_at nodes j).next js k chain.2 (omega arith)
 
--- so no node comes twice
+-- no node comes twice in a chain
 pub chain-apart : (nodes : List Node) (at i : ℕ) (is : List ℕ) → IsChain nodes at (i ∷ is) → All (λ j. j ≢ i) is
 chain-apart nodes at i is chain = λ k d within same.
     let here : get_or is k 0 + 1 ≡ at = omega (arith, chain.0, get_or_default is k 0 d within, same) in

@@ -43,7 +43,7 @@ AreCounted-none rows values slots table heads empty reaches enoughs = record {
   fits = λ k below. absurd (omega arith);
 }
 
--- the same lists
+-- a table with the same lists
 pub AreCounted-same : (rows : List Row) (n : ℕ) (values : ℕ → Value) (old new : Table) → IsSameTable old new → AreCounted rows n values old → AreCounted rows n values new
 AreCounted-same rows n values old new same counted = record {
   linked =
@@ -137,7 +137,7 @@ pub reach-read : (rows : List Row) (values : List Value) (table : Table) (k r : 
 reach-read rows values table k r counted there read =
     get_or_read table.reach.items k r (omega (arith, counted.counted.reach_length)) read 0 ∙ counted.counted.reached k there
 
--- such a reach makes the row quiet
+-- a reach that is enough makes the row quiet
 pub IsQuietRow-enough : (rows : List Row) (values : List Value) (table : Table) (k e r : ℕ) → IsCounted rows values table → k < length rows
     → e ≡ get_or table.enough.items k e → r ≡ get_or table.reach.items k r → nat_le e r ≡ true → IsQuietRow (valued values) (row_at rows k)
 IsQuietRow-enough rows values table k e r counted there e_read r_read at_least =
@@ -160,7 +160,7 @@ leads-read rows values table l place x counted known place_is read =
     get_or_read table.heads.items place x (omega (arith, place_is, slot)) read 0 ∙ ap (λ (p : ℕ). get_or table.heads.items p 0) place_is in
     subst (λ (n : ℕ). LeadsBelow rows table.links.items l (length rows) n) (sym is) (counted.counted.linked.first l slot)
 
--- and of the links
+-- what is read of the links
 pub next-read : (rows : List Row) (n : ℕ) (heads : List ℕ) (links : List Link) (i : ℕ) (x : Link) → AreLinked rows n heads links → i < length links → x ≡ get_or links i x
     → LeadsBelow rows links x.term.lit x.row x.next
 next-read rows n heads links i x linked within read =
@@ -291,7 +291,7 @@ free_sign false v is = ap opposite_of is
 freed : (values : List Value) (l : Literal) → 1 ≤ l.var → l.var ≤ length values → valued (slice_set values (l.var - 1) Free) l.var ≡ Free
 freed values l from_one known = valued-set_same values l.var Free from_one known
 
--- it is free then
+-- a literal that was freed is free
 pub free_after : (values : List Value) (l : Literal) → 1 ≤ l.var → l.var ≤ length values → value_of (valued (slice_set values (l.var - 1) Free)) l ≡ Free
 free_after values l from_one known = free_sign l.positive (valued (slice_set values (l.var - 1) Free) l.var) (freed values l from_one known)
 
@@ -309,7 +309,7 @@ unset_at values l from_one known set v =
           ∙ sym (set_true-other (valued (slice_set values (l.var - 1) Free)) l v other)
     ]
 
--- and making it true again gives the values before
+-- making a freed literal true again gives the values before
 pub unset_is : (values : List Value) (l : Literal) → 1 ≤ l.var → l.var ≤ length values → value_of (valued values) l ≡ True
     → valued values ≡ set_true (valued (slice_set values (l.var - 1) Free)) l
 unset_is values l from_one known set = fun_ext (unset_at values l from_one known set)
@@ -373,7 +373,7 @@ moving-lost rows links l before after at value reaches x loss moving step is =
     let value_is : value ≡ reach after (row_at rows x.row).terms = omega (arith, is, step.was, loss.lost moving.bound x moving.within step.last) in
     IsMoving-more rows links l before after at value reaches x loss.same moving step.last step.leads value_is
 
--- or gets it back
+-- the row of the next link gets its coefficient back
 pub moving-gained : (rows : List Row) (links : List Link) (l : Literal) (before after : ℕ → Value) (at value : ℕ) (reaches : List ℕ) (x : Link) → IsLoss rows l after before
     → (moving : IsMoving rows links l before after at reaches) → IsStep rows links l before moving.bound at reaches x → value ≡ get_or reaches x.row 0 + x.term.coef
     → IsMoving rows links l before after x.next (slice_set reaches x.row value)
@@ -381,12 +381,12 @@ moving-gained rows links l before after at value reaches x loss moving step is =
     let value_is : value ≡ reach after (row_at rows x.row).terms = omega (arith, is, step.was, loss.lost moving.bound x moving.within step.last) in
     IsMoving-more rows links l before after at value reaches x (λ terms lacks. sym (loss.same terms lacks)) moving step.last step.leads value_is
 
--- it doesn't fall below 0
+-- a row's reach doesn't fall below 0
 pub loss-below : (rows : List Row) (links : List Link) (l : Literal) (before after : ℕ → Value) (at : ℕ) (reaches : List ℕ) (x : Link) → IsLoss rows l before after
     → (moving : IsMoving rows links l before after at reaches) → IsStep rows links l before moving.bound at reaches x → x.term.coef ≤ get_or reaches x.row 0
 loss-below rows links l before after at reaches x loss moving step = omega (arith, step.was, loss.lost moving.bound x moving.within step.last)
 
--- nor rise past what fits
+-- a row's reach doesn't rise past what fits
 pub gain-fits : (rows : List Row) (links : List Link) (l : Literal) (before after : ℕ → Value) (at : ℕ) (reaches : List ℕ) (x : Link) (table : Table) (values : ℕ → Value)
     → AreCounted rows (length rows) values table → IsLoss rows l after before
     → (moving : IsMoving rows links l before after at reaches) → IsStep rows links l before moving.bound at reaches x → get_or reaches x.row 0 + x.term.coef < 2 ^ 64

@@ -14,7 +14,7 @@ use Rattle.propagate.specs.declared.entry.Entry.{Entry}
 
 -- ---- values and levels
 
--- one more literal is true
+-- what holds of each entry, with one entry more literal is true
 pub values_of-push : (es : List Entry) (e : Entry) → values_of (es ++ e ∷ []) ≡ set_true (values_of es) e.lit
 values_of-push es e =
     ap (λ ls. all_set (λ v. Free) ls) (map-append (λ (e : Entry). e.lit) es (e ∷ []))
@@ -63,7 +63,7 @@ from_taken P es n k d below at =
     subst (λ front. P front (get_or es k d)) (take-take k n es (omega arith))
     (subst (λ x. P (take k (take n es)) x) (get_or-take n es k d below) at)
 
--- those of the front
+-- what holds of each entry holds of those in front
 pub each-take : (P : List Entry → Entry → Type 0) (es : List Entry) (n : ℕ) → n ≤ length es → EachEntry P es → EachEntry P (take n es)
 each-take P es n inside each = λ k d within.
     let below : k < n = omega (arith, length-take-le n es inside) in

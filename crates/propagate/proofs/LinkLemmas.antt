@@ -272,7 +272,7 @@ IsLinking-more rows terms k j heads links items t place x proper same apart ther
 pub pushed_items : {X : Type 0} (done : Bool) (items xs : List X) (x : X) → items ≡ cond done (xs ++ x ∷ []) xs → done ≡ true → items ≡ xs ++ x ∷ []
 pushed_items done items xs x is was = is ∙ ap (λ (b : Bool). cond b (xs ++ x ∷ []) xs) was
 
--- the same as the loop meets it
+-- a link that was put, as the loop meets it
 pub IsLinking-put : (rows : List Row) (terms : List Term) (k j : ℕ) (heads : List ℕ) (links items : List Link) (t : Term) (slot_at place next : ℕ) → All IsRow rows → terms ≡ (row_at rows k).terms
     → AreApart terms → j < length terms → t ≡ get_or terms j t → code_of t.lit < length heads → slot_at ≡ code_of t.lit → next ≡ get_or heads slot_at next
     → IsPut links items place (record { term = t; row = k; next = next })

@@ -48,7 +48,7 @@ set_count-lt values v from_one within free =
     sum_by-le one_if_set 1 (slice_set values (v - 1) True) (λ k d within. one_at_most _) in
     omega (arith, was, most, length-set values (v - 1) True, sum_by-set one_if_set values (v - 1) True Free place)
 
--- one more
+-- one variable more has a value
 set_count-set : (values : List Value) (v : ℕ) (positive : Bool) → 1 ≤ v → v ≤ length values → is_free (valued values v) ≡ true
     → set_count (slice_set values (v - 1) (as_value positive)) ≡ set_count values + 1
 set_count-set values v positive from_one within free =
@@ -187,7 +187,7 @@ AreKept-pushed values new es items e capacity more kept grows is_new new_is item
     (subst (λ (xs : List Entry). AreKept (slice_set values (e.lit.var - 1) (as_value e.lit.positive)) xs more) (sym items_are)
     (AreKept-push values es e capacity more kept grows is_new))
 
--- and after one was taken off
+-- the fields after an entry was taken off
 pub AreKept-popped : (values new : List Value) (es items : List Entry) (last : ℕ) (e : Entry) (capacity now : ℕ) → AreKept values es capacity → last + 1 ≡ length es → e ≡ get_or es last e
     → now ≡ capacity → new ≡ slice_set values (e.lit.var - 1) Free → items ≡ take last es → AreKept new items now
 AreKept-popped values new es items last e capacity now kept end is same new_is items_are =
@@ -276,7 +276,7 @@ AreStanding-pushed values new es items places e var count x standing from_one kn
     (subst (λ (n : ℕ). AreStanding (slice_set values (e.lit.var - 1) x) (es ++ e ∷ []) (slice_set places (e.lit.var - 1) n)) (sym count_is)
     (AreStanding-push values es places e x standing from_one known))))
 
--- and after one was taken off
+-- the places after an entry was taken off
 pub AreStanding-popped : (values new : List Value) (es items : List Entry) (places : List ℕ) (last : ℕ) (e : Entry) (capacity : ℕ) → AreKept values es capacity → AreStanding values es places
     → last + 1 ≡ length es → e ≡ get_or es last e → new ≡ slice_set values (e.lit.var - 1) Free → items ≡ take last es → AreStanding new items places
 AreStanding-popped values new es items places last e capacity kept standing end is new_is items_are =

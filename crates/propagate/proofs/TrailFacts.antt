@@ -18,7 +18,7 @@ entry lit level reason = record { lit = lit; level = level; reason = reason }
 abbrev decided : List Entry
 decided = entry (yes 1) 1 None ∷ entry (yes 2) 2 None ∷ entry (yes 3) 3 None ∷ []
 
--- and then rows 1, 2 and 3 force 4, 5 and 6
+-- behind these decisions rows 1, 2 and 3 force 4, 5 and 6
 abbrev settled : List Entry
 settled = entry (yes 1) 1 None ∷ entry (yes 2) 2 None ∷ entry (yes 3) 3 None ∷ entry (yes 4) 3 (Some 1) ∷ entry (yes 5) 3 (Some 2) ∷ entry (yes 6) 3 (Some 3) ∷ []
 
@@ -44,7 +44,7 @@ forced-by_first = record {
   forces = record { no_conflict = omega arith; there = (1, lit< tt, refl); free = refl; needed = omega arith };
 }
 
--- then row 4 is in conflict, and the numbers begin at 1
+-- behind the six entries row 4 is in conflict, and the numbers begin at 1
 pub conflict-settled : NamesConflict six (values_of settled) (record { row = 4 })
 conflict-settled = record {
   row = at_least 1 (no 5 ∷ no 6 ∷ []);

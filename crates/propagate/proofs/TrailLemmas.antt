@@ -162,7 +162,7 @@ nothing_added old new quiet grown =
         | inr same ↦ omega (arith, grown.grown.longer)
       ]
 
--- nor finds a conflict
+-- where the rows are quiet propagation finds no conflict
 pub no_conflict : (rows : List Row) (values : ℕ → Value) (found : Option Conflict) → IsQuiet values rows
     → IsSettled rows values found → found ≡ None
 no_conflict rows values None quiet settled = refl

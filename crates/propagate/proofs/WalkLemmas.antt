@@ -78,7 +78,7 @@ false_before vars es looked l m each there is other fell = by (cases_eq m.var e.
       ∙ ap (λ (x : Literal). value_of (set_true (values_of (take looked es)) e.lit) x) (sym is_e) ∙ fell_next))
   by (inr differ) = sym (value_of-other (values_of (take looked es)) e.lit m differ) ∙ fell_next
 
--- the same entry where more came
+-- an entry made a literal false still, where more entries came
 pub falsified_grown : (old new : SeenPath) (looked : ℕ) (l : Literal) → looked < length old.entries
     → IsGrownOver old new → IsFalsifiedAt old.entries looked l → IsFalsifiedAt new.entries looked l
 falsified_grown old new looked l there grown is = λ d.
@@ -407,7 +407,7 @@ walking-watching old now watches hung looked l loose at left stopped walking non
     subst (λ (is : List ℕ). IsWatchingBut now watches is looked)
     (chain-nil watches.nodes.items at loose walking.chain none) walking.watching
 
--- and backed by the next entry too
+-- all nodes are backed by the next entry too
 pub walking-end : (old now : SeenPath) (watches : Watches) (hung looked : ℕ) (l : Literal) (loose : List ℕ)
     (at left : ℕ) (stopped : Option Conflict)
     → IsWalking old now watches hung looked l loose at left stopped → at ≡ 0 → stopped ≡ None → IsWatching now watches

@@ -12,7 +12,7 @@ use Rattle.propagate.specs.Numbered.{row_at}
 abbrev pub Lacks : Literal → List Term → Type 0
 Lacks l terms = All (λ t. t.lit ≢ l) terms
 
--- of the rows below a bound the link's row is the last one in which the literal stands
+-- the link's row is the last one below a bound in which the literal stands
 pub record IsLastBelow (rows : List Row) (l : Literal) (bound : ℕ) (link : Link) : Type 0 where
   pub literal : link.term.lit ≡ l
   pub below : link.row < bound

@@ -76,7 +76,7 @@ IsTurn path old new Again = left_of path new < left_of path old
 IsTurn path old new Quiet = IsQuiet (values_of path.entries) path.rows × (new.entries ≡ length path.entries)
 IsTurn path old new (Stopped conflict) = NamesConflict path.rows (values_of path.entries) conflict
 
--- of the rows that were given none waits any more for the entry at a place
+-- none of the rows that were given waits any more for the entry at a place
 abbrev pub AreGivenSeen : SeenPath → Looked → Type 0
 AreGivenSeen path looked =
     (k : ℕ) → k < path.given → k < looked.rows → IsSeen (row_at path.rows k) path.entries (looked.entries + 1)

@@ -50,6 +50,6 @@ pub record IsPath (values : List Value) (entries : List Entry) (places : List �
   pub kept : AreKept values entries capacity
   pub standing : AreStanding values entries places
 
--- the same with other entries
+-- a path with other entries
 abbrev pub with_entries : SeenPath → List Entry → SeenPath
 with_entries path es = record path { entries = es }

@@ -53,7 +53,7 @@ pub record IsNew (vars : ℕ) (before : List Entry) (e : Entry) : Type 0 where
   pub free : value_of (values_of before) e.lit ≡ Free
   pub level : e.level ≡ level_of (before ++ e ∷ [])
 
--- and where it isn't a decision, its reason names a row that forces it
+-- a new entry that is lawful: where it isn't a decision, its reason names a row that forces it
 pub record IsLawful (rows : List Row) (vars : ℕ) (before : List Entry) (e : Entry) : Type 0 where
   pub new : IsNew vars before e
   pub reason : IfSome e.reason (IsForcedBy rows before e.lit)
@@ -69,7 +69,7 @@ AreLawful rows vars entries = EachEntry (IsLawful rows vars) entries
 abbrev pub IsQuietBelow : List Row → List Entry → Type 0
 IsQuietBelow rows entries = EachEntry (λ before e. is_decision e ≡ true → IsQuiet (values_of before) rows) entries
 
--- the same of one row
+-- before each decision the row was quiet
 abbrev pub IsQuietRowBelow : Row → List Entry → Type 0
 IsQuietRowBelow row entries = EachEntry (λ before e. is_decision e ≡ true → IsQuietRow (values_of before) row) entries
 

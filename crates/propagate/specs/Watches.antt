@@ -164,7 +164,7 @@ pub record IsNext (path : SeenPath) (nodes : List Node) (i : ℕ) (l : Literal) 
   pub apart : l.var ≢ (node_at nodes (partner_of i)).lit.var
   pub open_or_same : (l ≡ (node_at nodes i).lit) ⊎ (value_of (values_of path.entries) l ≢ False)
 
--- it is backed
+-- what a node may watch from now on is backed
 abbrev pub IsNextBacked : SeenPath → List Node → ℕ → Literal → Type 0
 IsNextBacked path nodes i l =
     (value_of (values_of path.entries) (node_at nodes (partner_of i)).lit ≡ True)

@@ -91,7 +91,8 @@ pub(crate) fn look_over(path: &mut Path, place: usize) -> bool
     }
 }
 
-/// The same, where a literal is known that isn't false.
+/// Makes the literal of a clause true that it forces, where a literal is known that isn't false. It says whether the
+/// clause could be met, and changes nothing where it is in conflict.
 fn look_beside(path: &mut Path, place: usize, found: Lit) -> bool
     requires sound { AreSound path.old }
     requires there { path.old.given ≤ place }

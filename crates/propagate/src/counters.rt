@@ -1,4 +1,5 @@
-//! Rows under values that come and go, with the reach of each row kept.
+//! Rows under values that come and go, with the reach of each row kept. This is counter propagation of pseudo-Boolean
+//! constraints: a row's slack is its reach less its degree.
 ghost use Rattle.std.specs.Prelude.{◌≡◌, ◌+◌, ◌-◌, ◌*◌, ◌^◌, ◌<◌, ◌≤◌, length, replicate, true};
 ghost use Rattle.std.specs.Prelude.{slice_get, slice_set, Some, IfOk, OnOk};
 ghost use Rattle.std.specs.List.{All};
@@ -43,7 +44,7 @@ impl<'a> Model for Counters<'a> {
 }
 
 impl<'a> Counters<'a> {
-    /// These rows, with so many variables, all of them free.
+    /// Counters of these rows, with so many variables, all of them free.
     pub(crate) fn new(
         alloc: Global,
         given: &'a RowStore,

@@ -23,7 +23,7 @@ impl<'a> Model for NumberedRows<'a> {
 }
 
 impl<'a> NumberedRows<'a> {
-    /// These rows.
+    /// The rows of a store.
     pub(crate) fn new(given: &'a RowStore) -> NumberedRows<'a>
         ensures { result ≡ given.now }
     {

@@ -50,7 +50,7 @@ impl<'a> Model for Path<'a> {
 }
 
 impl<'a> Path<'a> {
-    /// These rows, with so many variables, all of them free.
+    /// A path without entries over these rows, with so many variables.
     pub(crate) fn new(alloc: Global, given: &'a RowStore, vars: u32) -> Result<Path<'a>, AllocError>
         requires { All (KnowsVariables vars) given.now }
         ensures vars { IfOk result (λ path. path.vars ≡ vars) }

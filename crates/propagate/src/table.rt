@@ -1,4 +1,5 @@
-//! The rows in which each literal stands, and the reach of each row.
+//! The rows in which each literal stands, and the reach of each row. While a row's slack is at least its greatest
+//! coefficient, no look at it is needed.
 ghost use Rattle.std.specs.Prelude.{◌≡◌, ◌+◌, ◌*◌, ◌^◌, ◌<◌, ◌≤◌, [], length, replicate, IfOk, OnOk};
 ghost use Rattle.std.specs.List.{All};
 ghost use Rattle.rows.specs.Codes.{code_of};
@@ -217,7 +218,7 @@ fn add_up(counts: &mut [usize]) -> usize {
     sum
 }
 
-/// So many empty links, with room for some more.
+/// A list of so many empty links, with room for some more.
 ///
 /// # Errors
 /// Only where memory runs out, or they would be 2^32.

@@ -1,4 +1,4 @@
-//! The trail.
+//! The trail. It is kept as in MiniSat: one list of literals, each with its level and its reason.
 ghost use Rattle.std.specs.Prelude.{◌≡◌, ◌≢◌, ◌+◌, ◌-◌, ◌<◌, ◌≤◌, ◌++◌, ◌==◌, [], ◌∷◌, length, Some, None};
 ghost use Rattle.std.specs.Prelude.{slice_get, slice_index_or, IfSome, IfOk, OnOk, OnErr};
 ghost use Rattle.std.specs.List.{All, AllPairs};

@@ -1,4 +1,5 @@
-//! Clauses that are watched at two literals.
+//! Clauses that are watched at two literals. These are the two watched literals of Chaff (Moskewicz, Madigan, Zhao,
+//! Zhang and Malik 2001): nothing is mended when levels are taken off.
 ghost use Rattle.std.specs.Prelude.{◌≡◌, ◌+◌, ◌-◌, ◌*◌, ◌^◌, ◌<◌, ◌≤◌, ◌++◌, [], ◌∷◌, length, replicate, IfOk, OnOk};
 ghost use Rattle.std.specs.Prelude.{slice_index_or, slice_set};
 ghost use Rattle.std.specs.Vec.{vec_capacity};
@@ -29,8 +30,8 @@ pub(crate) struct Watches {
     /// For each literal one above the place of its first node, or 0.
     pub(crate) firsts: Vec<u32>,
     pub(crate) nodes: Vec<Node>,
-    /// So many rows, from the first one, need no look of their own: they were given, or they are watched, or a literal
-    /// of them is true for good.
+    /// How many rows, from the first one on, need no look of their own: they were given, or they are watched, or a
+    /// literal of them is true for good.
     pub(crate) hung: usize,
 }
 

@@ -33,7 +33,10 @@ use Rattle.reasons.proofs.ListLemmas.{spans-ascending}
 use Rattle.reasons.proofs.MeetingLemmas.{times-ascending, times-passing}
 
 -- GA1
-ga1-adds_up : (n : ℕ) (games : List Game) (meetings : List (ℕ × ℕ)) (min max : ℕ) (slots : List ℕ) (key : ℕ) → IsAscending pair_cmp meetings → IsAscending nat_cmp slots → key < 1 → missed (reasons_at n games (Ga1 meetings min max slots) key) ≡ entry_of n (counts_of games) (Ga1 meetings min max slots) key
+ga1-adds_up : (n : ℕ) (games : List Game) (meetings : List (ℕ × ℕ)) (min max : ℕ) (slots : List ℕ) (key : ℕ)
+    → IsAscending pair_cmp meetings → IsAscending nat_cmp slots → key < 1
+    → missed (reasons_at n games (Ga1 meetings min max slots) key)
+    ≡ entry_of n (counts_of games) (Ga1 meetings min max slots) key
 ga1-adds_up n games meetings min max slots zero meetings_ascend ascending inside =
     let counted : List Game = filter (counts_in_ga1 meetings slots) games in
     missed-where 0 (outside min max (length counted)) (Games counted)
@@ -44,7 +47,10 @@ ga1-adds_up n games meetings min max slots zero meetings_ascend ascending inside
 ga1-adds_up n games meetings min max slots (suc key) meetings_ascend ascending inside = absurd (omega arith)
 
 -- CA4
-ca4-adds_up : (n : ℕ) (games : List Game) (teams1 teams2 : List ℕ) (min max : ℕ) (side : Side) (span : Span) (slots : List ℕ) (key : ℕ) → All (IsGame n) games → IsAscending nat_cmp slots → key < length (spans span slots) → missed (reasons_at n games (Ca4 teams1 teams2 min max side span slots) key) ≡ entry_of n (counts_of games) (Ca4 teams1 teams2 min max side span slots) key
+ca4-adds_up : (n : ℕ) (games : List Game) (teams1 teams2 : List ℕ) (min max : ℕ) (side : Side) (span : Span) (slots :
+    List ℕ) (key : ℕ) → All (IsGame n) games → IsAscending nat_cmp slots → key < length (spans span slots)
+    → missed (reasons_at n games (Ca4 teams1 teams2 min max side span slots) key)
+    ≡ entry_of n (counts_of games) (Ca4 teams1 teams2 min max side span slots) key
 ca4-adds_up n games teams1 teams2 min max side span slots key fit ascending inside =
     let some : List ℕ = get_or (spans span slots) key [] in
     let counted : List Game = filter (counts_in_ca4 teams1 teams2 side some) games in

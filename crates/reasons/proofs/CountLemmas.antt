@@ -98,7 +98,9 @@ cond_one false false = refl
 
 -- where each game's meeting stands once in the list if it passes a test, and else not at all, the games of these
 -- meetings are those that pass
-pub games_of-counted : (test : ℕ → ℕ → Bool) (meetings : List (ℕ × ℕ)) (slots : List ℕ) (games : List Game) → IsAscending nat_cmp slots → All (λ g. times meetings g.home.0 g.away.0 ≡ one_if (test g.home.0 g.away.0)) games → count_by (λ g. test g.home.0 g.away.0 && is_in g.slot.0 slots) games ≡ games_of (counts_of games) meetings slots
+pub games_of-counted : (test : ℕ → ℕ → Bool) (meetings : List (ℕ × ℕ)) (slots : List ℕ) (games : List Game)
+    → IsAscending nat_cmp slots → All (λ g. times meetings g.home.0 g.away.0 ≡ one_if (test g.home.0 g.away.0)) games
+    → count_by (λ g. test g.home.0 g.away.0 && is_in g.slot.0 slots) games ≡ games_of (counts_of games) meetings slots
 games_of-counted test meetings slots [] ascending once = sym (zeros (λ p. sum_by (λ s. counts_of [] p.0 p.1 s) slots) (λ p. zeros (λ s. counts_of [] p.0 p.1 s) (λ s. refl) slots) meetings)
 games_of-counted test meetings slots (g ∷ games) ascending once =
     let P : Game → Type 0 = λ g. times meetings g.home.0 g.away.0 ≡ one_if (test g.home.0 g.away.0) in
@@ -129,7 +131,7 @@ turned a i c = grind (arith, nat_tests)
 either : (h a i : ℕ) (c : Bool) → h ≢ a → one_if ((h == i) && c) + one_if ((a == i) && c) ≡ one_if (((i == h) || (i == a)) && c)
 either h a i c differ = grind (arith, nat_tests)
 
--- and in some slots
+-- what a game adds to those of a team in some slots on a side
 added_in : (side : Side) (g : Game) (i : ℕ) (slots : List ℕ) → g.home.0 ≢ g.away.0 → IsAscending nat_cmp slots → sum_by (λ s. adds side g i s) slots ≡ one_if (plays_on side g i && is_in g.slot.0 slots)
 added_in H g i slots differ ascending = once_among (g.home.0 == i) g.slot.0 slots ascending ∙ turned g.home.0 i (is_in g.slot.0 slots)
 added_in A g i slots differ ascending = once_among (g.away.0 == i) g.slot.0 slots ascending ∙ turned g.away.0 i (is_in g.slot.0 slots)

@@ -102,7 +102,7 @@ anew-nothing : (a k : ℕ) → anew [] a k ≡ []
 anew-nothing a zero = refl
 anew-nothing a (suc k) = anew-nothing (a + 1) k
 
--- so the list is what it was
+-- a list in order is what it was
 anew-same : (ys : List ℕ) (a k : ℕ) → AllPairs (λ x y. x ≤ y) ys → All (λ y. a ≤ y) ys → All (λ y. y < a + k) ys → anew ys a k ≡ ys
 anew-same [] a k ordered low high = anew-nothing a k
 anew-same (y ∷ zs) a k ordered low high =

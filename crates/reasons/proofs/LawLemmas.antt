@@ -67,7 +67,10 @@ module _ (n : ℕ) (games : List Game) (fit : All (IsGame n) games) where
       (λ k d lt. let g : Game = get_or games k d in times-meetings_with side i teams2 g.home.0 g.away.0 teams_ascend (fit k d lt).differ)
 
   -- CA2
-  pub ca2-adds_up : (teams1 teams2 : List ℕ) (min max : ℕ) (side : Side) (slots : List ℕ) (key : ℕ) → IsAscending nat_cmp teams2 → IsAscending nat_cmp slots → key < length teams1 → missed (reasons_at n games (Ca2 teams1 teams2 min max side slots) key) ≡ entry_of n (counts_of games) (Ca2 teams1 teams2 min max side slots) key
+  pub ca2-adds_up : (teams1 teams2 : List ℕ) (min max : ℕ) (side : Side) (slots : List ℕ) (key : ℕ)
+      → IsAscending nat_cmp teams2 → IsAscending nat_cmp slots → key < length teams1
+      → missed (reasons_at n games (Ca2 teams1 teams2 min max side slots) key)
+      ≡ entry_of n (counts_of games) (Ca2 teams1 teams2 min max side slots) key
   ca2-adds_up teams1 teams2 min max side slots key teams_ascend ascending inside =
       let i : ℕ = get_or teams1 key 0 in
       let counted : List Game = filter (counts_in_ca2 teams2 side slots i) games in

@@ -51,7 +51,7 @@ cut_one span slots k every inside =
 one_ascends : (x : ℕ) → IsAscending nat_cmp (x ∷ [])
 one_ascends x i j d before within = absurd (omega arith)
 
--- they ascend
+-- the slots of a key ascend
 pub spans-ascending : (span : Span) (slots : List ℕ) (k : ℕ) → IsAscending nat_cmp slots → k < length (spans span slots) → IsAscending nat_cmp (get_or (spans span slots) k [])
 spans-ascending Global slots zero ascending inside = ascending
 spans-ascending Global slots (suc k) ascending inside = absurd (omega arith)
@@ -89,7 +89,7 @@ find-none_here p xs i within fails =
     ∙ ap (λ (b : Bool). cond b (Some (get_or xs i 0)) (find p (drop (suc i) xs))) fails
     ∙ ap (λ (k : ℕ). find p (drop k xs)) next
 
--- and ends where it finds something
+-- a search ends where it finds something
 pub find-here : (p : ℕ → Bool) (xs : List ℕ) (i : ℕ) → i < length xs → p (get_or xs i 0) ≡ true → find p (drop i xs) ≡ Some (get_or xs i 0)
 find-here p xs i within passes =
     ap (find p) (drop-cons xs i 0 within)

@@ -117,7 +117,7 @@ fa2-two_apart = refl
 pub fa2-first_slot : found (Fa2 (0 ∷ 1 ∷ []) 0 all_slots) ≡ reason 0 1 (Lead (record { 0 = 0 }) [] (game 1 2 0 ∷ [])) ∷ []
 fa2-first_slot = refl
 
--- and of the slots from 2 on slot 2
+-- of the slots from 2 on, slot 2 is told
 pub fa2-later_slot : found (Fa2 (0 ∷ 1 ∷ []) 0 (2 ∷ 3 ∷ 4 ∷ []))
     ≡ reason 0 1 (Lead (record { 0 = 2 }) (game 0 1 1 ∷ []) (game 1 2 0 ∷ game 1 3 2 ∷ [])) ∷ []
 fa2-later_slot = refl

@@ -93,7 +93,9 @@ ca3-touching teams1 teams2 min max intp side key first games inside =
     (λ g passes. has_key (plays_against side teams2 g) teams1 key 0 inside
     (and_parts (plays_against side teams2 g (get_or teams1 key 0)) (nat_le first g.slot.0 && nat_lt g.slot.0 (first + intp)) passes).0)
 
-ca4-touching : (teams1 teams2 : List ℕ) (min max : ℕ) (side : Side) (span : Span) (slots : List ℕ) (key : ℕ) (games : List Game) → key < length (spans span slots) → All (Touches (Ca4 teams1 teams2 min max side span slots) key) (filter (counts_in_ca4 teams1 teams2 side (get_or (spans span slots) key [])) games)
+ca4-touching : (teams1 teams2 : List ℕ) (min max : ℕ) (side : Side) (span : Span) (slots : List ℕ) (key : ℕ) (games :
+    List Game) → key < length (spans span slots) → All (Touches (Ca4 teams1 teams2 min max side span slots) key) (filter
+    (counts_in_ca4 teams1 teams2 side (get_or (spans span slots) key [])) games)
 ca4-touching teams1 teams2 min max side span slots key games inside =
     kept (Touches (Ca4 teams1 teams2 min max side span slots) key) (counts_in_ca4 teams1 teams2 side (get_or (spans span slots) key [])) games
     (λ g passes. let parts = and_parts (is_between side teams1 teams2 (g.home.0, g.away.0)) (is_in g.slot.0 (get_or (spans span slots) key [])) passes in
@@ -143,7 +145,7 @@ second_side a false c h = absurd (cc)
 
 -- what holds of the games of each break
 module _ (P : Game → Type 0) where
-  -- of all games of a break
+  -- P holds of all games of a break
   abbrev OfBreak : Break → Type 0
   OfBreak found = All P found.games
 
@@ -163,7 +165,7 @@ module _ (P : Game → Type 0) where
       (one_break (is_away_break n (counts_of games) i s) (break_of games A i s)
       (kept P (counts_in_break A i s) games (λ g e. each g (second_side (i == g.home.0) (i == g.away.0) ((g.slot.0 + 1 == s) || (g.slot.0 == s)) e))))
 
-  -- of a team's breaks at some slots
+  -- P holds of the games of a team's breaks at some slots
   at_slots : (n : ℕ) (games : List Game) (side : Side) (slots : List ℕ) (i : ℕ) → ((g : Game) → plays_on side g i ≡ true → can_break slots g.slot.0 ≡ true → P g) → All OfBreak (breaks_of n games side slots i)
   at_slots n games side slots i each =
       All-flat_map OfBreak (λ s. breaks_at_slot n games side i s) slots
@@ -224,14 +226,19 @@ any-found q p (y ∷ ys) x found passes =
     ]
 
 -- a home game of one of the two teams up to the slot that was found
-lead_game : (n : ℕ) (games : List Game) (teams : List ℕ) (intp : ℕ) (slots : List ℕ) (key s : ℕ) (g : Game) → key < length (pairs_of teams) → furthest n (counts_of games) slots (get_or (pairs_of teams) key (0, 0)) ≡ Some s → has_team g.home.0 (get_or (pairs_of teams) key (0, 0)) ≡ true → nat_le g.slot.0 s ≡ true → Touches (Fa2 teams intp slots) key g
+lead_game : (n : ℕ) (games : List Game) (teams : List ℕ) (intp : ℕ) (slots : List ℕ) (key s : ℕ) (g : Game)
+    → key < length (pairs_of teams) → furthest n (counts_of games) slots (get_or (pairs_of teams) key (0, 0)) ≡ Some s
+    → has_team g.home.0 (get_or (pairs_of teams) key (0, 0)) ≡ true → nat_le g.slot.0 s ≡ true
+    → Touches (Fa2 teams intp slots) key g
 lead_game n games teams intp slots key s g inside found plays early =
     let p : ℕ × ℕ = get_or (pairs_of teams) key (0, 0) in
     under (list_any (λ t. nat_le g.slot.0 t) slots) (keys_with teams g.home.0) key
     (any-found (λ t. nat_le g.slot.0 t) (λ t. apart n (counts_of games) p t == largest (apart n (counts_of games) p) slots) slots s found early)
     (has_key (has_team g.home.0) (pairs_of teams) key (0, 0) inside plays)
 
-lead-touching : (n : ℕ) (games : List Game) (teams : List ℕ) (intp : ℕ) (slots : List ℕ) (key : ℕ) (at : Option ℕ) → key < length (pairs_of teams) → furthest n (counts_of games) slots (get_or (pairs_of teams) key (0, 0)) ≡ at → All (IsTouching (Fa2 teams intp slots) key) (by_lead key n intp games (get_or (pairs_of teams) key (0, 0)) at)
+lead-touching : (n : ℕ) (games : List Game) (teams : List ℕ) (intp : ℕ) (slots : List ℕ) (key : ℕ) (at : Option ℕ)
+    → key < length (pairs_of teams) → furthest n (counts_of games) slots (get_or (pairs_of teams) key (0, 0)) ≡ at
+    → All (IsTouching (Fa2 teams intp slots) key) (by_lead key n intp games (get_or (pairs_of teams) key (0, 0)) at)
 lead-touching n games teams intp slots key None inside found = All-nil (IsTouching (Fa2 teams intp slots) key)
 lead-touching n games teams intp slots key (Some s) inside found =
     let p : ℕ × ℕ = get_or (pairs_of teams) key (0, 0) in
@@ -281,7 +288,10 @@ pub list_touching : (n : ℕ) (games : List Game) (class : Class) → ListTouchi
 list_touching n games (Ca1 teams min max side slots) =
     λ key inside. touching-where (Ca1 teams min max side slots) key (outside min max (length (filter (counts_in_ca1 side slots (get_or teams key 0)) games))) (Games (filter (counts_in_ca1 side slots (get_or teams key 0)) games)) (ca1-touching teams min max side slots key games inside)
 list_touching n games (Ca2 teams1 teams2 min max side slots) =
-    λ key inside. touching-where (Ca2 teams1 teams2 min max side slots) key (outside min max (length (filter (counts_in_ca2 teams2 side slots (get_or teams1 key 0)) games))) (Games (filter (counts_in_ca2 teams2 side slots (get_or teams1 key 0)) games)) (ca2-touching teams1 teams2 min max side slots key games inside)
+    λ key inside. touching-where (Ca2 teams1 teams2 min max side slots) key
+    (outside min max (length (filter (counts_in_ca2 teams2 side slots (get_or teams1 key 0)) games)))
+    (Games (filter (counts_in_ca2 teams2 side slots (get_or teams1 key 0)) games))
+    (ca2-touching teams1 teams2 min max side slots key games inside)
 list_touching n games (Ca3 teams1 teams2 min max intp side) =
     λ key inside.
     let counted : ℕ → List Game = λ first. filter (counts_in_ca3 teams2 intp side (get_or teams1 key 0) first) games in
@@ -290,7 +300,10 @@ list_touching n games (Ca3 teams1 teams2 min max intp side) =
     let first : ℕ = get_or (range_with_len 0 (slot_count n + 1 - intp)) k d in
     touching-where (Ca3 teams1 teams2 min max intp side) key (outside min max (length (counted first))) (Window (record { 0 = first }) (counted first)) (ca3-touching teams1 teams2 min max intp side key first games inside))
 list_touching n games (Ca4 teams1 teams2 min max side span slots) =
-    λ key inside. touching-where (Ca4 teams1 teams2 min max side span slots) key (outside min max (length (filter (counts_in_ca4 teams1 teams2 side (get_or (spans span slots) key [])) games))) (Games (filter (counts_in_ca4 teams1 teams2 side (get_or (spans span slots) key [])) games)) (ca4-touching teams1 teams2 min max side span slots key games inside)
+    λ key inside. touching-where (Ca4 teams1 teams2 min max side span slots) key
+    (outside min max (length (filter (counts_in_ca4 teams1 teams2 side (get_or (spans span slots) key [])) games)))
+    (Games (filter (counts_in_ca4 teams1 teams2 side (get_or (spans span slots) key [])) games))
+    (ca4-touching teams1 teams2 min max side span slots key games inside)
 list_touching n games (Ga1 meetings min max slots) =
     λ key inside. touching-where (Ga1 meetings min max slots) key (outside min max (length (filter (counts_in_ga1 meetings slots) games))) (Games (filter (counts_in_ga1 meetings slots) games)) (ga1-touching meetings min max slots key games inside)
 list_touching n games (Br1 teams intp side slots) =

@@ -42,7 +42,7 @@ is_one_number (Ca4 teams1 teams2 min max side span slots) = true
 is_one_number (Ga1 meetings min max slots) = true
 is_one_number _ = false
 
--- of such a class a reason lists all games of the schedule that can change the entry, and no others
+-- a reason of a class whose entries are so lists all games of the schedule that can change the entry, and no others
 abbrev pub ListAllTouching : ℕ → List Game → Class → Type 0
 ListAllTouching n games class =
     IsTrue (is_one_number class) → (key : ℕ) → key < entry_count class

@@ -70,7 +70,7 @@ no_step = refl
 pub opposites : judged (Clause (yes 1 ∷ no 1 ∷ []) [] ∷ []) ≡ Rejected 1 NoEmptyClause
 opposites = refl
 
--- it stands as a row that forces nothing
+-- the clause of 1 and not 1 stands as a row that forces nothing
 pub opposites_hint : judged (Clause (yes 1 ∷ no 1 ∷ []) [] ∷ Clause [] (157 ∷ []) ∷ []) ≡ Rejected 2 NoConflict
 opposites_hint = refl
 

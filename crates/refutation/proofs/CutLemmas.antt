@@ -17,7 +17,7 @@ one_piece (piece ∷ pieces) a c s u fed =
     ReadsOn-then a fed.0 c s fed.1.0 u (piece ++ concat pieces) piece (concat pieces) refl fed.1.1.0
     (one_piece pieces fed.0 c fed.1.0 u fed.1.1.1)
 
--- and from the front of a log on, the steps and then what the end says are the log, or its first fault
+-- from the front of a log on, the steps and then what the end says are the log, or its first fault
 pub cut_as_whole : (pieces : List (List ℕ)) (now : Place) (steps : List Step) → FeedsAll start [] pieces now steps
     → log_of (concat pieces) ≡ whole (after steps (log_from now []))
 cut_as_whole pieces now steps fed =
@@ -25,7 +25,7 @@ cut_as_whole pieces now steps fed =
     ap (λ bytes. whole (log_from start bytes)) (sym (append-nil (concat pieces))) ∙ ap whole (read.read [])
     ∙ ap (λ added. whole (after added (log_from now []))) (sym read.steps)
 
--- so an end without a fault says that the pieces are a log, and a fault is the log's
+-- an end without a fault says that the pieces are a log, and a fault is the log's
 pub cut-log : (pieces : List (List ℕ)) (now : Place) (steps : List Step) → FeedsAll start [] pieces now steps
     → log_from now [] ≡ nothing_more → log_of (concat pieces) ≡ Ok steps
 cut-log pieces now steps fed end = cut_as_whole pieces now steps fed ∙ rw end (ap Ok (append-nil steps))

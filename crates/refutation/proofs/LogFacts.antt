@@ -147,7 +147,7 @@ pub long : (version : Option Version) (text : List ℕ) → 16777216 < length te
 long version text more = let is : nat_le (length text) 16777216 ≡ false = lt-leb (length text) 16777216 more in
     rw is refl
 
--- the same where no LF ends it
+-- a line has no end where no LF ends it
 pub short-unfinished : (text : List ℕ) → length text ≤ 16777216 → unfinished text ≡ NoEnd
 short-unfinished text fits = let is : nat_le (length text) 16777216 ≡ true = le-leb (length text) 16777216 fits in
     rw is refl

@@ -60,7 +60,7 @@ lines_from-line version line text rest is =
 
 -- ---- the line of a step
 
--- the same by a test
+-- what a line is, by a test
 line-by_test : (text : List ℕ) → list_all (λ b. nat_le 32 b) text ≡ true → IsLine text
 line-by_test [] is = All-nil (λ (b : ℕ). 32 ≤ b)
 line-by_test (b ∷ text) is =

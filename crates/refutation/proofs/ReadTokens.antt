@@ -58,7 +58,7 @@ variable-fits : (ds : List ℕ) → nat_le (number ds) 2147483647 ≡ true → i
 variable-fits ds small = le-leb (number ds) 18446744073709551615
     (le-more (number ds) (leb-true (number ds) 2147483647 small))
 
--- the same of a literal, by its first byte
+-- a literal that is read is the text of its value, by its first byte
 signed-text : (first : Bool) (b : ℕ) (ds : List ℕ) → (b == 45) ≡ first → is_literal (b ∷ ds) ≡ true
     → is_small_variable (b ∷ ds) ≡ true → literal_token (literal (b ∷ ds)) ≡ b ∷ ds
 signed-text true b ds first is small =
@@ -331,7 +331,7 @@ pub step_line-text : (version : Version) (text : List ℕ) (step : Step) → ste
 step_line-text version text step is = sym (join_with_byte-slice_split 32 text)
     ∙ step-tokens version (tokens_of text) step is
 
--- and a text of its version can say it
+-- a text of its version can say a step that is read
 pub step_line-says : (version : Version) (text : List ℕ) (step : Step) → step_line version text ≡ Ok step
     → CanSay version step
 step_line-says One text step is = λ one. ap is_linear (clause-tokens (tokens_of text) step is).2

@@ -71,7 +71,7 @@ digits-more ds i within so_far here = list_all_more is_ascii_digit ds i 0 within
 few-taken : (ds : List ℕ) (i : ℕ) → i < 19 → length (take (i + 1) ds) ≤ 19
 few-taken ds i short = rw (length-take (i + 1) ds) (omega arith)
 
--- its value, where there are at most 19 digits
+-- the value of one digit more, where there are at most 19 digits
 pub value-more : (ds : List ℕ) (i v : ℕ) → i < length ds → i + 1 ≤ 19 → list_all is_ascii_digit (take i ds) ≡ true
     → is_ascii_digit (get_or ds i 0) ≡ true
     → v ≡ number (take i ds) → (v * 10 + (get_or ds i 0 - 48)) % 2 ^ 64 ≡ number (take (i + 1) ds)

@@ -45,7 +45,7 @@ impl From<AllocError> for LogFault {
 /// Why a line can't be read. Its number is known to the caller.
 #[derive(Debug, Drop)]
 pub(crate) enum Stop {
-    /// It has this fault.
+    /// The line has this fault.
     Form(LogKind),
     /// Memory ran out.
     Mem,

@@ -16,8 +16,8 @@ use std::marker::Model;
 /// A reader of a log's text in pieces: seen as the number of the line that it is in, that line's bytes so far, the
 /// version once line 1 was read, whether `end` was read, and the first fault, if there was one.
 ///
-/// It keeps at most 16,777,216 bytes of a line that a piece leaves unfinished, and none of a line that lies whole in
-/// a piece. After a fault it passes over all bytes.
+/// The reader keeps at most 16,777,216 bytes of a line that a piece leaves unfinished, and none of a line that lies
+/// whole in a piece. After a fault it passes over all bytes.
 #[derive(Drop)]
 pub struct LogFeed {
     at: Place,

@@ -248,7 +248,7 @@ impl Log {
         true
     }
 
-    /// The same of the step at place k.
+    /// Whether each hint or each part's row of the step at place k is at least 1.
     fn step_names_rows(&self, k: usize) -> bool
         requires { k < length self.now }
         ensures { IfSome (slice_get self.now k) (λ step. IsTrue result ↔ NamesRows step) }

@@ -1,4 +1,5 @@
-//! What a step of a log is made of.
+//! What a step of a log is made of. A clause follows by reverse unit propagation with hints, as in LRAT. A linear step
+//! is one of cutting planes (Cook, Coullard and Turán 1987).
 
 /// Which kind of step a step is.
 #[derive(Clone, Copy, Debug, PartialEq, Eq)]

@@ -94,7 +94,7 @@ Gap values partial terms t =
     is_true values t.lit ≡ false → is_free (value_of partial t.lit) ≡ true
     → weight values terms + t.coef ≤ reach partial terms
 
--- its own parts
+-- a literal that isn't true adds nothing to the weight
 untrue : (values : ℕ → Bool) (t : Term) → is_true values t.lit ≡ false → true_coef values t ≡ 0
 untrue values t is = ap (λ (b : Bool). cond b t.coef 0) is
 

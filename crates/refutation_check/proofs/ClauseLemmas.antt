@@ -304,7 +304,7 @@ opposed_next clause i l partial there is denies value =
     (denied-true (take i clause) l
     (ap (λ (p : ℕ → Value). value_of p l) (sym denies) ∙ value))))
 
--- it is false: it came before
+-- the next literal is false: it came before
 pub came_next : (clause : List Literal) (i : ℕ) (l : Literal) (partial : ℕ → Value) → i < length clause
     → l ≡ get_or clause i l → partial ≡ denied (take i clause) → has_opposites (take i clause) ≡ false
     → value_of partial l ≡ False
@@ -319,7 +319,7 @@ came_next clause i l partial there is denies plain value =
       ap (λ (ls : List Literal). distinct ls) (next_is clause i l there is) ∙ distinct-came (take i clause) l came,
     )
 
--- it is free: neither it nor its negation came before
+-- the next literal is free: neither it nor its negation came before
 pub fresh_next : (clause : List Literal) (i : ℕ) (l : Literal) (partial : ℕ → Value) → i < length clause
     → l ≡ get_or clause i l → partial ≡ denied (take i clause) → has_opposites (take i clause) ≡ false
     → value_of partial l ≡ Free

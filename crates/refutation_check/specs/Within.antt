@@ -7,6 +7,6 @@ use Rattle.rows.specs.Rows.{Row}
 abbrev pub IsWithin : ℕ → Row → Type 0
 IsWithin vars row = All (λ t. t.lit.var ≤ vars) row.terms
 
--- the same of each of the rows
+-- every variable of each of the rows is at most this
 abbrev pub AreWithin : ℕ → List Row → Type 0
 AreWithin vars rows = All (IsWithin vars) rows

@@ -18,9 +18,9 @@ use std::marker::Model;
 /// What the steps of a log have proved of rows: seen as the rows, their number of variables, the row and the kind of
 /// each step that followed, and the number and the fault of the first step that didn't.
 ///
-/// It borrows the rows, and keeps each step as its row, in 8 bytes a term, or 32 where a number of a sum doesn't fit
-/// that. A step costs no more than its clause, or its parts, and the rows that it names, each read at most twice; the
-/// first sum that names a variable makes a table of 32 bytes for each variable up to it.
+/// A checker borrows the rows, and keeps each step as its row, in 8 bytes a term, or 32 where a number of a sum doesn't
+/// fit that. A step costs no more than its clause, or its parts, and the rows that it names, each read at most twice;
+/// the first sum that names a variable makes a table of 32 bytes for each variable up to it.
 #[derive(Drop)]
 pub struct Checker<'a> {
     alloc: Global,

@@ -39,7 +39,7 @@ pub(crate) fn deny(
     ensures terms { result ≡ Ok false → terms.new.items ≡ map unit (distinct clause.now) }
     ensures values { result ≡ Ok false → valued partial.new ≡ denied clause.now }
 
-    // These also hold where memory ran out.
+    // The next clauses also hold where memory ran out.
     ensures length { length partial.new ≡ length partial.old }
     ensures listed { IsListed partial.new trail.new.items }
 {

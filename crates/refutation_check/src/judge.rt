@@ -42,7 +42,7 @@ pub(crate) fn judge_clause(
         row_result found ≡ judged (all_rows rows.now steps.now) vars (Clause clause.now hints.now)) }
     ensures kind { IfOk result (IsOfKind kinds.Clause) }
 
-    // These also hold where memory ran out.
+    // The next clauses also hold where memory ran out.
     ensures length { length partial.new ≡ length partial.old }
     ensures listed { IsListed partial.new trail.new.items }
 {

@@ -73,7 +73,7 @@ fn are_narrow(terms: &[WideTerm]) -> bool
     true
 }
 
-/// The same terms, with coefficients of 32 bits.
+/// The terms of a sum whose coefficients fit 32 bits, as narrow ones.
 ///
 /// # Errors
 /// Only where memory runs out.

@@ -1,4 +1,4 @@
-//! The replay of hints: rows that come to a conflict.
+//! The replay of hints: rows that come to a conflict. This is unit propagation by hints, as in checkers of LRAT.
 ghost use Rattle.std.specs.Prelude.{◌≡◌, ◌≤◌, length, IfOk, Ok, Some};
 ghost use Rattle.std.specs.List.{All};
 ghost use Rattle.rows.specs.Trails.{IsListed};
@@ -19,11 +19,11 @@ use std::alloc::AllocError;
 /// What the row comes to that a hint names.
 #[derive(Clone, Copy)]
 pub(crate) enum Turn {
-    /// There is none.
+    /// The hint names no row.
     Unknown,
-    /// It is in conflict.
+    /// The row is in conflict.
     Conflict,
-    /// Its forced literals became true.
+    /// The literals that the row forces became true.
     Forced,
 }
 
@@ -40,7 +40,7 @@ pub(crate) fn replay(
     ensures cause { IfOk result (λ cause.
         cause ≡ following.replay (all_rows rows.now steps.now) hints.now (valued partial.old)) }
 
-    // These also hold where memory ran out.
+    // The next clauses also hold where memory ran out.
     ensures length { length partial.new ≡ length partial.old }
     ensures listed { IsListed partial.new trail.new.items }
 {

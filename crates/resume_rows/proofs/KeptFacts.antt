@@ -46,7 +46,7 @@ league_rows = refl
 pub first : row 3 154 ≡ at_least 1 (no (x_var 4 0 1 0) ∷ [])
 first = refl
 
--- it is in slot 2
+-- the game of 0 and 1 is in slot 2
 pub of_slot_2 : row 3 178 ≡ at_least 1 (yes (x_var 4 0 1 2) ∷ [])
 of_slot_2 = refl
 

@@ -27,11 +27,11 @@ kept_literal n played s p = record { var = x_var n p.0 p.1 s; positive = is_play
 abbrev pub kept_row : ℕ → Counts → ℕ → ℕ × ℕ → Row
 kept_row n played s p = at_least 1 (kept_literal n played s p ∷ [])
 
--- those of all meetings in a slot, by home team, then away team
+-- the clauses of all meetings in a slot, by home team, then away team
 abbrev pub kept_rows_in : ℕ → Counts → ℕ → List Row
 kept_rows_in n played s = map (kept_row n played s) (meetings_of n)
 
--- those of each of the first k slots, slot by slot
+-- the clauses of the first k slots, slot by slot
 abbrev pub kept_rows : ℕ → Counts → ℕ → List Row
 kept_rows n played k = flat_map (kept_rows_in n played) (range_with_len 0 k)
 

@@ -19,7 +19,7 @@ pub record IsResumption (league : Instance) (played : Counts) (k : ℕ) (games :
   pub accepted : IsAccepted league (counts_of games)
   pub keeps : Keeps played k (counts_of games)
 
--- there are none
+-- no games are accepted that keep what was played
 abbrev pub NoneResumes : Instance → Counts → ℕ → Type 0
 NoneResumes league played k = (games : List Game) → IsResumption league played k games → ⊥
 
@@ -43,7 +43,7 @@ ShadowsResume =
     → IsShadow league.n (has_breaks league.constraints) (counts_of games) values
     → SatisfiesAll values (resume_rows league (counts_of played) k)
 
--- so the resume rows are satisfiable exactly where there are such games
+-- the resume rows are satisfiable exactly where accepted games keep what was played
 abbrev pub AreFaithful : Type 0
 AreFaithful =
     (league : Instance) (played : List Game) (k : ℕ) → IsInstance league → All (IsGame league.n) played

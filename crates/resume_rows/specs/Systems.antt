@@ -17,7 +17,7 @@ pub record PartlyPlayed : Type 0 where
 abbrev pub rows_for : PartlyPlayed → List Row
 rows_for season = resume_rows season.league (counts_of season.played) season.k
 
--- these rows, and the league's variables
+-- a system has the resume rows, and the league's variables
 pub record IsSystem (season : PartlyPlayed) (rows : List Row) (vars : ℕ) : Type 0 where
   pub instance : IsInstance season.league
   pub within : season.k ≤ slot_count season.league.n

@@ -37,7 +37,7 @@ pub(crate) fn add_kept_rows(
     Ok(())
 }
 
-/// Adds those of some meetings in one slot.
+/// Adds the rows that keep some meetings in one slot.
 ///
 /// # Errors
 /// Only where memory runs out.
@@ -61,7 +61,7 @@ fn add_slot(
     Ok(())
 }
 
-/// Adds that of one meeting in one slot.
+/// Adds the row that keeps one meeting in one slot.
 ///
 /// # Errors
 /// Only where memory runs out.

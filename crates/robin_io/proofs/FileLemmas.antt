@@ -1,5 +1,9 @@
 -- Look-ups in the table of a store's files.
-use Rattle.std.proofs.Common.{◌≡◌, ◌≢◌, ℕ, ◌+◌, ◌-◌, ◌<◌, ◌≤◌, min, suc, zero, Bool, true, false, cond, if◌then◌else◌, ltb, List, [], ◌∷◌, ◌++◌, map, length, get_or, set, Option, Some, None, ◌⊎◌, inl, inr, refl, sym, ap, ◌∙◌, arith, position, find, slice_get, option_map, option_and_then, is_some, IsSome, IsSomeAnd, IsNone, MatchOption, take, drop, ◌^◌, bytes_eq, string_bytes, Vec}
+use Rattle.std.proofs.Common.{◌≡◌, ◌≢◌, ℕ, ◌+◌, ◌-◌, ◌<◌, ◌≤◌, min, suc, zero, Bool, true, false, cond, if◌then◌else◌}
+use Rattle.std.proofs.Common.{ltb, List, [], ◌∷◌, ◌++◌, map, length, get_or, set, Option, Some, None, ◌⊎◌, inl, inr}
+use Rattle.std.proofs.Common.{refl, sym, ap, ◌∙◌, arith, position, find, slice_get, option_map, option_and_then}
+use Rattle.std.proofs.Common.{is_some, IsSome, IsSomeAnd, IsNone, MatchOption, take, drop, ◌^◌, bytes_eq, string_bytes}
+use Rattle.std.proofs.Common.{Vec}
 use Rattle.std.specs.Prelude.{⊤}
 use Rattle.std.specs.List.{position_or_len}
 use Rattle.std.specs.Option.{option_map_or}
@@ -134,7 +138,7 @@ pub told_at : (files : List MemFile) (name : List ℕ) (k : ℕ) → option_map 
 told_at [] name k at = cc
 told_at (f ∷ fs) name k at = told_by name f fs k at (λ j here. told_at fs name j here) (bytes_eq (string_bytes f.name) name) refl
 
--- so has the name of the started file
+-- the name of the started file has contents
 pub told_started : (files : List MemFile) (started : Option Place) (name : List ℕ) → option_and_then (λ p. option_map (λ f. string_bytes f.name) (slice_get files p.file)) started ≡ Some name
     → is_some (contents_in (map file_view files) name) ≡ true
 told_started files None name at = cc
@@ -217,7 +221,7 @@ later_by name f fs count n more false small =
       | false ↦ more small
     ]
 
--- and lowers no count
+-- a fault lowers no count
 pub later-with_fault : (name : List ℕ) (files : List FileView) (count : ℕ) (n : List ℕ) → faults_in files count name < 2 ^ 64
     → faults_in files count n ≤ faults_in (with_fault name files) count n
 later-with_fault name [] count n small = omega arith
@@ -250,7 +254,7 @@ kept_at show files i f g k read same =
     let kept : map show (set files i g) ≡ map show files = map-set_same show files i g f (same ∙ ap show read) in
     sym (slice_get-map show (set files i g) k) ∙ ap (λ xs. slice_get xs k) kept ∙ slice_get-map show files k
 
--- nor in what is shown of the started file
+-- what a count has no part in stays in what is shown of the started file
 pub started_kept : (files : List MemFile) (i : ℕ) (f : MemFile) (count : ℕ) (started : Option Place) → f ≡ get_or files i f
     → (option_and_then (λ p. option_map (λ h. string_bytes h.name) (slice_get (set files i (record f { faults = count })) p.file)) started ≡ option_and_then (λ p. option_map (λ h. string_bytes h.name) (slice_get files p.file)) started)
     × (option_and_then (λ p. option_map (λ h. drop p.at h.bytes.items) (slice_get (set files i (record f { faults = count })) p.file)) started ≡ option_and_then (λ p. option_map (λ h. drop p.at h.bytes.items) (slice_get files p.file)) started)

@@ -22,7 +22,7 @@ value_more ds i digits within =
     let digit = digit_value_digit (get_or ds i 0) (digit_at ds i (ascii_digits.to ds digits) within) in
     omega (arith, digit, digits_value_more 10 ds i within)
 
--- it is at most the whole number
+-- the number of one digit more is at most the whole number
 pub more-le : (ds : List ℕ) (i : ℕ) → list_all is_ascii_digit ds ≡ true → i < length ds
     → digits_value 10 (take i ds) * 10 + (get_or ds i 0 - 48) ≤ digits_value 10 ds
 more-le ds i digits within = omega (arith, value_more ds i digits within, digits_value-take-le 10 ds (i + 1) (omega arith))
@@ -36,7 +36,7 @@ pub reads-decimal : (n : ℕ) (bytes : List ℕ) → n < 2 ^ 64 → bytes ≡ de
 reads-decimal n bytes small is =
     rw is (decimal_nonempty n small, digits_decimal ascii_digits n small, digits_value-decimal ascii_digits n small)
 
--- such a text is a number
+-- a text of a number's digits is a number
 pub is_number-decimal : (n : ℕ) → n < 2 ^ 64 → is_number (decimal n) ≡ true
 is_number-decimal n small =
     let reads = reads-decimal n (decimal n) small refl in

@@ -18,7 +18,7 @@ pub record HasCause {T E : Type 0} (before now : List ℕ → ℕ) (name : List 
   pub later : (n : List ℕ) → before n ≤ now n
   pub fault : OnErr answer (Rose (before name) (now name))
 
--- the same of one count
+-- a call of one file, by one count: the count doesn't fall, and where the call fails it rose
 pub record HasOneCause {T E : Type 0} (before now : ℕ) (answer : Result T E) : Type 0 where
   pub later : before ≤ now
   pub fault : OnErr answer (Rose before now)

@@ -11,7 +11,7 @@ pub record ShelfView : Type 0 where
   pub files : List FileView
   -- the name of the started file
   pub started : Option (List ℕ)
-  -- its bytes that are not yet taken
+  -- the bytes of the started file that are not yet taken
   pub left : Option (List ℕ)
   pub taken : ℕ
   -- the count of faults that all names without a file share
@@ -25,10 +25,10 @@ pub record ShelfView : Type 0 where
 abbrev pub file_in : List FileView → List ℕ → Option FileView
 file_in files name = find (λ f. bytes_eq f.name name) files
 
--- its bytes
+-- the bytes of the file of a name
 abbrev pub contents_in : List FileView → List ℕ → Option (List ℕ)
 contents_in files name = option_map (λ f. f.bytes) (file_in files name)
 
--- its count of faults
+-- the count of faults of the file of a name
 abbrev pub faults_in : List FileView → ℕ → List ℕ → ℕ
 faults_in files others name = option_map_or (λ f. f.faults) (file_in files name) others

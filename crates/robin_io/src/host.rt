@@ -106,7 +106,7 @@ impl<R: Files> Shelf for HostShelf<R> {
         }
     }
 
-    // The same, and that the room gets what the file's reader gives.
+    // The clauses of the trait, and that the room gets what the file's reader gives.
     fn take(&mut self, name: &str, room: &mut [u8]) -> Result<usize, Failed>
         requires { IsSome (reader_of self.old) }
         ensures started { IsSome (reader_of self.new) }

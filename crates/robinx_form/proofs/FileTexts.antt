@@ -48,7 +48,7 @@ league_lines =
 abbrev pub i4 : List ℕ
 i4 = text league_lines
 
--- the same with a CA1
+-- the league of four teams with a CA1
 abbrev pub i4_ca1 : List ℕ
 i4_ca1 = text (replaced league_lines 27 0 (
     "<CapacityConstraints>"
@@ -57,7 +57,7 @@ i4_ca1 = text (replaced league_lines 27 0 (
     ∷ []
     ))
 
--- the same teams in a league that isn't phased, with all nine classes in ten constraints
+-- the four teams in a league that isn't phased, with all nine classes in ten constraints
 abbrev pub nine : List ℕ
 nine = text (replaced (replaced league_lines 7 1 ("<gameMode>NULL</gameMode>" ∷ [])) 27 0 (
     "<CapacityConstraints>"
@@ -110,7 +110,7 @@ season_lines =
 abbrev pub c4 : List ℕ
 c4 = text season_lines
 
--- the same games in order of slot, home and away
+-- the games of the double circle schedule in order of slot, home and away
 abbrev pub circle_lines : List String
 circle_lines =
     "<?xml version=\"1.0\" encoding=\"UTF-8\"?>"
@@ -135,7 +135,7 @@ circle_lines =
 abbrev pub circle : List ℕ
 circle = text circle_lines
 
--- the same with a score
+-- the season of the double circle schedule with a score
 abbrev pub scored : List ℕ
 scored = text (replaced circle_lines 3 0 (
     "<MetaData>"

@@ -21,7 +21,7 @@ classes-most = refl
 pub classes-more : with_constraint Se1 [] (drafted 20000) ≡ Err TooMany
 classes-more = refl
 
--- the same of the 10,001st game and the 10,000th
+-- the 10,001st game is too much before its attributes are read, the 10,000th isn't
 abbrev played : ℕ → Games
 played n = record { n = 4; games = copies n (record { home = record { 0 = 3 }; away = record { 0 = 0 }; slot = record { 0 = 0 } }) }
 

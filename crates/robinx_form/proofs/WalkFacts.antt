@@ -31,7 +31,7 @@ game i j s = record { home = record { 0 = i }; away = record { 0 = j }; slot = r
 abbrev says : ℕ → ℕ → List String → Result Instance Fault
 says from count others = instance_of (pieces (text (replaced league_lines from count others)))
 
--- the same of the season's
+-- what the season's file says with others in place of so many of its lines from this one on
 abbrev plays : ℕ → ℕ → List String → Result (List Game) Fault
 plays from count others = solution_of 4 (pieces (text (replaced season_lines from count others)))
 
@@ -223,7 +223,7 @@ end_before_missing = (refl, refl)
 
 -- ---- elements whose text is a value
 
--- its text is joined around comments and declarations, and freed of white bytes at both ends
+-- the text of a value is joined around comments and declarations, and freed of white bytes at both ends
 pub value_joined :
     (says 5 1 ("<numberRoundRobin> <!-- two --> 0<?x?>2" ∷ "</numberRoundRobin>" ∷ []) ≡ Ok league)
     × (says 6 1 ("<compactness>\t\r" ∷ "C </compactness>" ∷ []) ≡ Ok league)
@@ -231,7 +231,7 @@ pub value_joined :
 unfolding attributes_at pieces_from walk
 value_joined = (refl, refl, refl)
 
--- but white bytes within it stay
+-- white bytes within the text of a value stay
 pub value_apart : says 7 1 ("<gameMode>NU LL</gameMode>" ∷ []) ≡ Err (BadChoice, 7)
 unfolding attributes_at pieces_from walk
 value_apart = refl
@@ -245,7 +245,7 @@ pub value_without_tags :
 unfolding attributes_at pieces_from walk
 value_without_tags = (refl, refl, refl, refl)
 
--- its fault is on the line of its Start: two rounds alone, `C` alone, and a number's faults before its value
+-- the fault of a value is on the line of its Start: two rounds alone, `C` alone, and a number's faults before its value
 pub value_fault :
     (says 5 1 ("<numberRoundRobin>" ∷ "1" ∷ "</numberRoundRobin>" ∷ []) ≡ Err (WrongCounts, 5))
     × (says 5 1 ("<numberRoundRobin/>" ∷ []) ≡ Err (BadNumber, 5))
@@ -277,7 +277,7 @@ pub leaf_team :
 unfolding attributes_at pieces_from walk
 leaf_team = (refl, refl, refl, refl)
 
--- the same of a slot, and of a class, in which no class may stand either
+-- text may stand in a slot, and in a class, in which no class may stand either; a tag in them is told at its own line
 pub leaf_others :
     (says 18 1 ("<slot id=\"0\">" ∷ "<slot id=\"0\"/></slot>" ∷ []) ≡ Err (BadNesting, 19))
     × (says 27 0 ("<BasicConstraints>" ∷ "<SE1 teams=\"\" min=\"0\" type=\"HARD\">" ∷ "<SE1 teams=\"\" min=\"0\" type=\"HARD\"/>" ∷ []) ≡ Err (BadNesting, 29))
@@ -334,7 +334,11 @@ missing_before_counts = refl
 -- ---- solutions
 
 -- other elements may stand around the games and between them, and a game as often as it is listed
-pub games_in_file_order : plays 3 14 ("<MetaData>" ∷ "<ObjectiveValue objective=\"0\"/>" ∷ "</MetaData>" ∷ "<ScheduledMatch/>" ∷ "<Games>" ∷ "<ScheduledMatch slot=\"05\" away=\"1\" home=\"2\"/>" ∷ "<a><ScheduledMatch/></a>" ∷ "<ScheduledMatch home=\"0\" away=\"3\" slot=\"0\"/>" ∷ "<ScheduledMatch home=\"2\" away=\"1\" slot=\"5\"></ScheduledMatch>" ∷ "</Games>" ∷ []) ≡ Ok (game 2 1 5 ∷ game 0 3 0 ∷ game 2 1 5 ∷ [])
+pub games_in_file_order : plays 3 14 ("<MetaData>" ∷ "<ObjectiveValue objective=\"0\"/>" ∷ "</MetaData>" ∷
+    "<ScheduledMatch/>" ∷ "<Games>" ∷ "<ScheduledMatch slot=\"05\" away=\"1\" home=\"2\"/>" ∷ "<a><ScheduledMatch/></a>"
+    ∷ "<ScheduledMatch home=\"0\" away=\"3\" slot=\"0\"/>" ∷
+    "<ScheduledMatch home=\"2\" away=\"1\" slot=\"5\"></ScheduledMatch>" ∷ "</Games>" ∷ [])
+    ≡ Ok (game 2 1 5 ∷ game 0 3 0 ∷ game 2 1 5 ∷ [])
 unfolding attributes_at pieces_from walk
 games_in_file_order = refl
 
@@ -356,7 +360,7 @@ pub game_fault :
 unfolding attributes_at pieces_from walk
 game_fault = (refl, refl, refl, refl, refl)
 
--- and each of the three has to be there
+-- home, away and slot of a game have to be there
 pub game_whole :
     (plays 5 1 ("<ScheduledMatch away=\"0\" slot=\"0\"/>" ∷ []) ≡ Err (MissingAttribute, 5))
     × (plays 5 1 ("<ScheduledMatch home=\"3\" slot=\"0\"/>" ∷ []) ≡ Err (MissingAttribute, 5))

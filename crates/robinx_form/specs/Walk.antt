@@ -74,7 +74,7 @@ begins_by (Some row) around name = do
   new ← check (may_come row.times (is_seen around name)) (repeated around.element)
   Ok (Some row)
 
--- the same by the name alone
+-- what begins in an element, by the name alone
 abbrev pub begins : Open → List ℕ → Result (Option Row) FormKind
 begins around name = begins_by (row_of around.element name) around name
 

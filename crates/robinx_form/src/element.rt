@@ -306,7 +306,7 @@ impl Element {
         }
     }
 
-    /// Whether its text is a value. Other texts are passed over.
+    /// Whether the element's text is a value. Other texts are passed over.
     pub fn has_value(self) -> bool
         ensures { result ≡ elements.has_value self }
     {
@@ -316,7 +316,7 @@ impl Element {
         )
     }
 
-    /// Its row for this name, or None where no element of the name is read in it.
+    /// The row of the element for this name, or None where no element of the name is read in it.
     pub fn row_of(self, name: &[u8]) -> Option<Row>
         ensures { result ≡ walk.row_of self name.now }
     {

@@ -82,7 +82,7 @@ module _ {Read : Type 0} (meaning : Meaning Read) (Fits : Position Read → Type
       end_kept within.0.passing piece within.0 next kept within.1.1
   piece_kept Text piece at next fits h = subst Fits (ok_is _ next h) (text_kept at.passing piece at fits)
 
-  -- so it holds at the file's end, where what was read is the whole
+  -- a fact that no step breaks holds at the file's end, where what was read is the whole
   pub walk_kept : (items : List Piece) (last : Last) (at : Position Read) (read : Read) → Fits at → walk meaning items last at ≡ Ok read
       → (line : ℕ) × ((end : Position Read) × (Fits end × (at_file_end end.outer line end ≡ Ok read)))
   unfolding walk

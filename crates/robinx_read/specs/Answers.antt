@@ -21,7 +21,7 @@ Changes read (Ok _) now = read ≡ Ok now
 Changes read (Err (stops.Form kind)) now = read ≡ Err kind
 Changes read (Err stops.Mem) now = ⊤
 
--- The same where a fault has its line.
+-- What is read is what a call makes of a value, where a fault has its line.
 abbrev pub Walks : {A : Type 0} → Result A Fault → Result (Unit {0}) ReadFault → A → Type 0
 Walks read (Ok _) now = read ≡ Ok now
 Walks read (Err (faults.Form fault)) now = read ≡ Err (fault.kind, fault.line)

@@ -51,7 +51,7 @@ fn may_come(times: Times, seen: bool) -> bool
     }
 }
 
-/// Whether it needn't come any more.
+/// Whether an element needn't come any more.
 fn is_met(times: Times, seen: bool) -> bool
     ensures { result ≡ walk.is_met times seen }
 {
@@ -94,7 +94,7 @@ impl<'a> Open<'a> {
         self.line
     }
 
-    /// Its text, all pieces of it joined, freed of white bytes (space, tab, CR, LF) at both ends.
+    /// The element's text, all pieces of it joined, freed of white bytes (space, tab, CR, LF) at both ends.
     pub(crate) fn value(&self) -> &[u8]
         ensures { result.now ≡ fronts.trimmed self.now.text }
     {

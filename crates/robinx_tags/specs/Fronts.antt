@@ -40,7 +40,7 @@ abbrev pub starts_white : List ℕ → Bool
 starts_white [] = false
 starts_white (b ∷ bytes) = is_white b
 
--- the same after white bytes
+-- the next byte after white bytes, if it passes a test; else a fault
 abbrev pub mark : FormKind → (ℕ → Bool) → List ℕ → Front ℕ
 mark kind test bytes = next kind test (after_white bytes)
 

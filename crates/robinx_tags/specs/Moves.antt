@@ -15,7 +15,7 @@ MovesOn left (Ok (None, line, rest)) = (rest.now ≡ []) × (left ≡ none_but (
 MovesOn left (Err (Form kind line)) = left ≡ fault_after left.before_fault kind line
 MovesOn left (Err Mem) = TakesMemory left
 
--- the same of one step, which may pass something over
+-- what one step answers, which may pass something over
 abbrev pub PassesOver : Pieces → Result (Option Tag × ℕ × Bor (List ℕ)) TagFault → Type 0
 PassesOver left (Ok (found, line, rest)) = left ≡ with_piece (option_map view_of found) (pieces_from line 0 rest.now)
 PassesOver left (Err (Form kind line)) = left ≡ fault_after left.before_fault kind line

@@ -117,7 +117,7 @@ abbrev pub attributes_behind : Front (List ℕ) → ℕ
 attributes_behind (Ok (name, bytes)) = more_attributes 64 [] bytes
 attributes_behind (Err kind) = 0
 
--- the same of a start tag or an empty tag after `<`
+-- how many whole attributes a start tag or an empty tag has after `<`
 abbrev pub tag_attributes : List ℕ → ℕ
 tag_attributes bytes = attributes_behind (name_at bytes)
 

@@ -79,7 +79,7 @@ pub enum TagFault {
 /// Why a piece or an element can't be read, on a line that its caller knows.
 #[derive(Debug, Drop)]
 pub enum Stop {
-    /// It has this fault.
+    /// The piece or element has this fault.
     Form(FormKind),
     /// Memory ran out.
     Mem,

@@ -210,7 +210,7 @@ text_to-behind games score more =
     ap front (append_assoc (score_text score) (codes "<Games>\n" ++ (lines ++ games_end)) more
     ∙ ap (λ (l : List ℕ). score_text score ++ (codes "<Games>\n" ++ l)) (append_assoc lines games_end more))
 
--- and with comments behind it too: they are passed over
+-- the text of a season reads back with comments behind it too: they are passed over
 pub solution-reads_back_commented : (n : ℕ) (games : List Game) (score : Option (ℕ × ℕ)) (comments : List (List ℕ)) → n ≤ 40
     → length games ≤ 10000 → All (IsGame n) games → list_all is_plain_comment comments ≡ true
     → solution_of n (pieces (solution_text games score ++ flat_map comment_line comments)) ≡ Ok games

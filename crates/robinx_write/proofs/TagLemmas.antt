@@ -60,7 +60,7 @@ value_to-plain value tail plain =
 
 -- ---- attributes
 
--- its text with what follows it
+-- the text of an attribute with what follows it
 pub attribute_parts : (a : Attribute) (tail : List ℕ) → attribute_text a ++ tail ≡ 32 ∷ (a.name ++ (61 ∷ 34 ∷ (a.value ++ (34 ∷ tail))))
 attribute_parts a tail = simp append_assoc
 

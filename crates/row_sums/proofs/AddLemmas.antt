@@ -78,7 +78,7 @@ narrow_weight total factor more weight positive is narrow =
     let small : more ≤ widest = omega (arith, mul-le 1 more factor more positive (omega arith)) in
     omega arith
 
--- and where it doesn't, the weight is too wide too
+-- where the sum doesn't stay narrow, the weight is too wide too
 pub wide_weight : (total factor more weight : ℕ) (other : Type 0) → more ≡ min weight (2 ^ 128 - 1) → (widest < total + factor * more) ⊎ other → (widest < total + factor * weight) ⊎ other
 wide_weight total factor more weight other is above =
     elim above [

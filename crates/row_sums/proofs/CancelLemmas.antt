@@ -69,7 +69,7 @@ nothing_before count order low i v touched sorted there is passed l from to =
       | inr some ↦ let found = touched l some in absurd (before_or_past order low i v found.0 l.var sorted there is passed found.1 found.2 from to)
     ]
 
--- and nothing behind the last one
+-- nothing counts behind the last variable
 pub nothing_behind : (count : Literal → ℕ) (order : List ℕ) (low high : ℕ) → AreTouched count order → All (λ w. w < low) order → CountsNothing count low high
 nothing_behind count order low high touched passed l from to =
     elim (cases_eq (count l) 0) [
@@ -123,7 +123,7 @@ under_way-step count order degree divisor done more left rest next later i v tou
           (under_way-one count order degree divisor done more left rest next i v touched sorted there is high new.2 new.0 way)
     ]
 
--- its start
+-- the start of the walk
 pub under_way-start : (count : Literal → ℕ) (order : List ℕ) (degree divisor : ℕ) (done : List Term) → done ≡ [] → IsUnderWay count order degree divisor done degree 0 0
 under_way-start count order degree divisor done none = record {
   cancelled = record { terms = none; rest = omega arith };

@@ -1,4 +1,4 @@
-//! Rows added up.
+//! Rows added up: the sums of cutting planes.
 ghost use Rattle.std.specs.Prelude.{◌≡◌, ℕ, ◌+◌, ◌-◌, ◌*◌, ◌^◌, ◌<◌, ◌≤◌, ◌==◌, ◌⊎◌, [], ◌∷◌, ◌++◌, length, map};
 ghost use Rattle.std.specs.Prelude.{true, false, if◌then◌else◌, min, nat_lt, slice_set, IfOk, OnOk, OnErr, vec_len};
 ghost use Rattle.std.specs.Prelude.{vec_capacity};
@@ -156,7 +156,7 @@ impl Sum {
         Ok(WideRow::new(terms, left.div_ceil(divisor)))
     }
 
-    /// Makes it the sum of no row. It keeps its memory, and writes only what rows touched.
+    /// Makes the sum that of no row. It keeps its memory, and writes only what rows touched.
     pub fn clear(&mut self)
         ensures { totals_of self.new ≡ no_totals }
     {
@@ -421,8 +421,8 @@ fn cancel_all(
     Ok(left)
 }
 
-/// The same of one variable, unless it stands before `next`: then nothing. Gives what is left of the degree, and the
-/// next variable.
+/// What is left of one variable, divided, and the degree less what cancels; nothing if the variable stands before
+/// `next`. Gives what is left of the degree, and the next variable.
 fn cancel_from(
     next: u64,
     counts: &[u128],

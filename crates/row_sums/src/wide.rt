@@ -58,7 +58,7 @@ impl WideRow {
         WideRow { terms, degree }
     }
 
-    /// Its terms, in the order of their variables.
+    /// The row's terms, in the order of their variables.
     pub fn terms(&self) -> &[WideTerm]
         ensures terms { result.now ≡ self.now.terms }
         ensures wide { IsWide self.now }
@@ -66,7 +66,7 @@ impl WideRow {
         &self.terms
     }
 
-    /// Its degree.
+    /// The row's degree.
     pub fn degree(&self) -> u128
         ensures degree { result ≡ self.now.degree }
         ensures at_most { result ≤ widest }
@@ -154,7 +154,7 @@ pub fn wide_force(
     ensures values { OnOk result
         (valued partial.new ≡ with_forced (valued partial.old) (record { terms = terms.now; degree = degree })) }
 
-    // These also hold where memory ran out.
+    // The next clauses also hold where memory ran out.
     ensures length { length partial.new ≡ length partial.old }
     ensures listed { IsListed partial.new trail.new.items }
 {
@@ -173,7 +173,7 @@ fn is_needed(reached: u128, degree: u128, coef: u128) -> bool
     reached < degree.saturating_add(coef)
 }
 
-/// The same number with a sign.
+/// A number below 2^127 as one with a sign.
 fn signed(number: u128) -> i128
     requires { number ≤ widest }
     ensures { result ≡ pos number }

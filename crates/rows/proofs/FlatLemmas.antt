@@ -67,7 +67,7 @@ start_of-suc start [] k d there = absurd (omega arith)
 start_of-suc start (e ∷ ends) zero d there = refl
 start_of-suc start (e ∷ ends) (suc k) d there = start_of-suc e.end ends k d (omega arith)
 
--- the same by the end before it
+-- where a row begins, by the end before it
 pub start_of-before : (ends : List End) (k : ℕ) (d : End) → k ≢ 0 → k < length ends → (get_or ends (k - 1) d).end ≡ start_of 0 ends k
 start_of-before ends zero d some there = absurd (some refl)
 start_of-before ends (suc k) d some there =
@@ -93,7 +93,7 @@ AreKept-push terms more ends e kept whole room is = record {
   rows = subst (λ (rows : List Row). All IsRow rows) (sym (cut-push 0 terms more ends e kept.ended whole)) (All-push IsRow (cut 0 terms ends) (record { terms = more; degree = e.degree }) kept.rows is);
 }
 
--- the same of the lists as they are after a push
+-- a row more is kept, by the lists as they are after a push
 pub AreKept-grown : (terms more all : List Term) (ends grown : List End) (e : End) → AreKept terms ends → all ≡ terms ++ more → grown ≡ ends ++ e ∷ [] → e.end ≡ length all → length ends < 2 ^ 32 - 1 → IsRow (record { terms = more; degree = e.degree }) → AreKept all grown
 AreKept-grown terms more all ends grown e kept same same_ends whole room is =
     subst (λ (xs : List Term). AreKept xs grown) (sym same)

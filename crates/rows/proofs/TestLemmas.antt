@@ -59,7 +59,7 @@ pub satisfied-at_least : (values : ℕ → Bool) (d : ℕ) (literals : List Lite
     → satisfied values (at_least d literals) ≡ nat_le d (true_count values literals)
 satisfied-at_least values d literals = ap (λ (w : ℕ). nat_le d w) (weight-units values literals)
 
--- so many false ones are at most so many true ones
+-- a number of false literals tells whether at most so many are true
 all_but : (count all b false_ones : ℕ) → false_ones + count ≡ all → nat_le (all - b) false_ones ≡ nat_le count b
 all_but count all b false_ones sum = grind (arith, nat_tests)
 

@@ -96,7 +96,7 @@ set_at values l from_one within free v =
 pub valued-set : (values : List Value) (l : Literal) → 1 ≤ l.var → l.var ≤ length values → is_free (value_of (valued values) l) ≡ true → valued (slice_set values (l.var - 1) (as_value l.positive)) ≡ set_true (valued values) l
 valued-set values l from_one within free = fun_ext (set_at values l from_one within (sym (is_free-value_of (valued values) l) ∙ free))
 
--- and its variable joins the trail
+-- the variable of a literal that is made true joins the trail
 pub IsListed-push : (values : List Value) (trail : List ℕ) (v : ℕ) (x : Value) → 1 ≤ v → v ≤ length values → IsListed values trail → IsListed (slice_set values (v - 1) x) (trail ++ v ∷ [])
 IsListed-push values trail v x from_one within listed = record {
   set = λ w taken. elim (cases_eq w v) [
@@ -117,7 +117,7 @@ all_set-taken values (l ∷ literals) v taken =
     let same = set_true-taken values l v taken in
     all_set-taken (set_true values l) literals v (ap is_free same ∙ taken) ∙ same
 
--- those among the first terms
+-- the literals that a row forces among its first terms
 abbrev pub forced_so_far : (ℕ → Value) → List Term → ℕ → List Term → ℕ → Value
 forced_so_far values terms degree front = all_set values (map (λ t. t.lit) (filter (is_forced values terms degree) front))
 
@@ -143,7 +143,7 @@ forced_so_far-more values terms degree k d there =
     one_more values (filter (is_forced values terms degree) (take k terms)) (get_or terms k d) (is_free (value_of values (get_or terms k d).lit)) (nat_lt (reach values terms) (degree + (get_or terms k d).coef)) refl
     ∙ ap (λ (ts : List Term). all_set values (map (λ t. t.lit) ts)) (sym (filter_more (is_forced values terms degree) terms k d there))
 
--- the same as a loop meets it
+-- a term more, as a loop meets it
 pub force_step : (values : ℕ → Value) (terms : List Term) (degree reached k : ℕ) (t : Term) (now next : ℕ → Value) → k < length terms → t ≡ get_or terms k t → reached ≡ reach values terms
     → now ≡ forced_so_far values terms degree (take k terms) → next ≡ set_if (nat_lt reached (degree + t.coef)) now t.lit → next ≡ forced_so_far values terms degree (take (k + 1) terms)
 force_step values terms degree reached k t now next there is counted so_far is_next =

@@ -20,7 +20,7 @@ impl Model for Assignment {
 }
 
 impl Assignment {
-    /// So many variables, all of them false.
+    /// An assignment of so many variables, all of them false.
     ///
     /// # Errors
     /// Only where memory runs out.

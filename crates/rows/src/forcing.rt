@@ -67,7 +67,7 @@ pub fn force(
     ensures values { OnOk result
         (valued partial.new ≡ with_forced (valued partial.old) (record { terms = terms.now; degree = degree })) }
 
-    // These also hold where memory ran out.
+    // The next clauses also hold where memory ran out.
     ensures length { length partial.new ≡ length partial.old }
     ensures listed { IsListed partial.new trail.new.items }
 {
@@ -98,7 +98,7 @@ pub fn make_true(lit: Lit, partial: &mut Partial, trail: &mut Vec<u32>) -> Resul
     Ok(())
 }
 
-/// The same where a test says so.
+/// Makes a free literal true and lists its variable where a test says so; any other literal stays as it is.
 ///
 /// # Errors
 /// Only where memory runs out: then the trail still lists each variable that has a value.

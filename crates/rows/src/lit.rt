@@ -50,7 +50,7 @@ impl Lit {
         self.code / 2
     }
 
-    /// Whether it is the variable itself, and not its negation.
+    /// Whether the literal is the variable itself, and not its negation.
     pub fn positive(self) -> bool
         ensures { result ≡ self.positive }
     {

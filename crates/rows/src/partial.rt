@@ -30,7 +30,7 @@ impl Model for Partial {
 }
 
 impl Partial {
-    /// So many variables, all of them free.
+    /// A partial assignment of so many variables, all of them free.
     ///
     /// # Errors
     /// Only where memory runs out.

@@ -75,7 +75,7 @@ pub br1_entry-same : (n : ℕ) (m more : Counts) (intp : ℕ) (side : Side) (slo
 br1_entry-same n m more intp side slots i same =
     ap (λ (c : ℕ). excess c intp) (sum_by-same_in (λ s. breaks_at n more side i s) (λ s. breaks_at n m side i s) slots same)
 
--- and the entry of all the teams
+-- the entry of all the teams, where their breaks at the slots are the same
 pub br2_entry-same : (n : ℕ) (m more : Counts) (teams : List ℕ) (intp : ℕ) (slots : List ℕ) → All (λ i. All (λ s. breaks_at n more Both i s ≡ breaks_at n m Both i s) slots) teams → br2_entry n more teams intp slots ≡ br2_entry n m teams intp slots
 br2_entry-same n m more teams intp slots same =
     ap (λ (c : ℕ). excess c intp)

@@ -109,7 +109,10 @@ module _ (n : ℕ) (m : Counts) (g : Game) (k : ℕ) where
       same_at (ca1_entry n (one_more m g) min max side slots) (ca1_entry n m min max side slots) teams k 0 inside
       (ap (λ (c : ℕ). outside min max c) (sum_by-same_in (λ s. games_on n (one_more m g) side i s) (λ s. games_on n m side i s) slots same))
 
-  ca2-frame : (teams1 teams2 : List ℕ) (min max : ℕ) (side : Side) (slots : List ℕ) → k < length teams1 → (Contains (touched_keys (Ca2 teams1 teams2 min max side slots) g) k → ⊥) → entry_of n (one_more m g) (Ca2 teams1 teams2 min max side slots) k ≡ entry_of n m (Ca2 teams1 teams2 min max side slots) k
+  ca2-frame : (teams1 teams2 : List ℕ) (min max : ℕ) (side : Side) (slots : List ℕ) → k < length teams1
+      → (Contains (touched_keys (Ca2 teams1 teams2 min max side slots) g) k → ⊥)
+      → entry_of n (one_more m g) (Ca2 teams1 teams2 min max side slots) k
+      ≡ entry_of n m (Ca2 teams1 teams2 min max side slots) k
   ca2-frame teams1 teams2 min max side slots inside lacks =
       let i : ℕ = get_or teams1 k 0 in
       same_at (ca2_entry (one_more m g) teams2 min max side slots) (ca2_entry m teams2 min max side slots) teams1 k 0 inside
@@ -125,7 +128,10 @@ module _ (n : ℕ) (m : Counts) (g : Game) (k : ℕ) where
       same_at (ca3_entry n (one_more m g) teams2 min max intp side) (ca3_entry n m teams2 min max intp side) teams1 k 0 inside
       (sum_by-same (λ (window : List ℕ). ca2_entry (one_more m g) teams2 min max side window i) (λ (window : List ℕ). ca2_entry m teams2 min max side window i) (λ (window : List ℕ). ca2-same teams1 teams2 min max side window out) (windows_of n intp))
 
-  ca4-frame : (teams1 teams2 : List ℕ) (min max : ℕ) (side : Side) (span : Span) (slots : List ℕ) → k < length (spans span slots) → (Contains (touched_keys (Ca4 teams1 teams2 min max side span slots) g) k → ⊥) → entry_of n (one_more m g) (Ca4 teams1 teams2 min max side span slots) k ≡ entry_of n m (Ca4 teams1 teams2 min max side span slots) k
+  ca4-frame : (teams1 teams2 : List ℕ) (min max : ℕ) (side : Side) (span : Span) (slots : List ℕ)
+      → k < length (spans span slots) → (Contains (touched_keys (Ca4 teams1 teams2 min max side span slots) g) k → ⊥)
+      → entry_of n (one_more m g) (Ca4 teams1 teams2 min max side span slots) k
+      ≡ entry_of n m (Ca4 teams1 teams2 min max side span slots) k
   ca4-frame teams1 teams2 min max side span slots inside lacks =
       let meeting : ℕ × ℕ = (g.home.0, g.away.0) in
       let meetings : List (ℕ × ℕ) = filter (is_between side teams1 teams2) (meetings_of n) in

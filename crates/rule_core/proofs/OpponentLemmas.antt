@@ -39,7 +39,7 @@ games_of-by_slot m (p ∷ ps) slots =
 abbrev pub between : Counts → Side → ℕ → ℕ → ℕ → ℕ
 between m side i s j = on_side side (m i j s) (m j i s)
 
--- the same, none with itself
+-- the games of a team with another on a side, in a slot, and none with itself
 abbrev pub against : Counts → Side → ℕ → ℕ → ℕ → ℕ
 against m side i s j = if not (j == i) then between m side i s j else 0
 

@@ -65,7 +65,7 @@ touched_keys-below (Br2 teams intp slots) g = under 1 (can_break slots g.slot.0 
 touched_keys-below (Fa2 teams intp slots) g = under (length (pairs_of teams)) (list_any (λ s. nat_le g.slot.0 s) slots) (keys_with teams g.home.0) (keys_where-below (has_team g.home.0) (pairs_of teams))
 touched_keys-below (Se1 teams min) g = keys_where-below (λ p. has_team g.home.0 p && has_team g.away.0 p) (pairs_of teams)
 
--- they ascend
+-- the touched keys ascend
 pub touched_keys-ascending : (class : Class) (g : Game) → IsStrictlyIncreasing (touched_keys class g)
 touched_keys-ascending (Ca1 teams min max side slots) g = rising (is_in g.slot.0 slots) (keys_where (plays_on side g) teams) (keys_where-ascending (plays_on side g) teams)
 touched_keys-ascending (Ca2 teams1 teams2 min max side slots) g = rising (is_in g.slot.0 slots) (keys_where (plays_against side teams2 g) teams1) (keys_where-ascending (plays_against side teams2 g) teams1)
@@ -118,7 +118,7 @@ spans-one Global slots s ascending = keys_where-le (is_in s) (slots ∷ [])
 spans-one Every slots s ascending =
     omega (arith, ap (λ (ks : List ℕ). length ks) (keys_where-map (is_in s) (λ t. t ∷ []) slots), keys_where-one (λ t. is_in s (t ∷ [])) slots s ascending (λ t h. in_span s t h))
 
--- they are few
+-- the touched keys are few
 pub touched_keys-few : (n : ℕ) (class : Class) → IsReady n class → (g : Game) → IsGame n g → length (touched_keys class g) ≤ most_touched class
 touched_keys-few n (Ca1 teams min max side slots) ready g fits =
     let parts = and_parts (are_teams n teams && are_slots n slots) (is_one_side side) ready.fits in

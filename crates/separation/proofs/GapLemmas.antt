@@ -62,7 +62,10 @@ module _ (min : ℕ) (count : ℕ → ℕ) where
       ap (λ (k : ℕ). from_slot s k) size
 
   -- with games in the slot, the last game is here
-  pub slot_played : (s slots games total more whole : ℕ) (last here : Option ℕ) → s < slots → 0 < games → games ≡ count s → more ≡ lacking min (option_to_list last ++ replicate games s) → total + lacking min (option_to_list last ++ from_slot s (slots - s)) ≡ whole → here ≡ Some s → total + more + lacking min (option_to_list here ++ from_slot (s + 1) (slots - (s + 1))) ≡ whole
+  pub slot_played : (s slots games total more whole : ℕ) (last here : Option ℕ) → s < slots → 0 < games
+      → games ≡ count s → more ≡ lacking min (option_to_list last ++ replicate games s)
+      → total + lacking min (option_to_list last ++ from_slot s (slots - s)) ≡ whole → here ≡ Some s
+      → total + more + lacking min (option_to_list here ++ from_slot (s + 1) (slots - (s + 1))) ≡ whole
   slot_played s slots games total more whole last here inside some counted is so_far now =
       let rest : List ℕ = from_slot (s + 1) (slots - (s + 1)) in
       let split : option_to_list last ++ from_slot s (slots - s) ≡ option_to_list last ++ (replicate games s ++ rest) =

@@ -106,7 +106,7 @@ summed-none n m min i gaps later next totals at d lt =
     ∙ ap (λ (k : ℕ). 0 + lacking min (flat_map (λ s. replicate (m i j s + m j i s) s) (range_with_len 0 k))) whole
     ∙ omega arith
 
--- and after them
+-- nothing is lacking behind all games
 nothing_after : (min : ℕ) (last : Option ℕ) → lacking min (option_to_list last ++ []) ≡ 0
 nothing_after min None = refl
 nothing_after min (Some s) = refl
@@ -122,7 +122,7 @@ summed-all n m min i slot gaps j is summed =
     ∙ nothing_after min last in
     omega (arith, summed, rest)
 
--- as it is kept elsewhere
+-- what is lacking stays, where the team's places stay
 pub summed-kept : (n : ℕ) (m : Counts) (min i slot : ℕ) (before after : TeamGaps) (j : ℕ)
     → (get_or after.next j 0 ≡ get_or before.next j 0) × (get_or after.totals j 0 ≡ get_or before.totals j 0)
     → IsSummed n m min i slot before j → IsSummed n m min i slot after j
@@ -204,7 +204,7 @@ AreDone-next n m min i slot place later first before after ascending inside kept
           (now.0 ∙ old.0, now.1 ∙ old.1);
     }
 
--- and at the end
+-- what is done with all later teams
 pub AreDone-all : (n : ℕ) (m : Counts) (min i slot : ℕ) (later : List ℕ) (first now : TeamGaps)
     → AreDone n m min i slot (length later) later first now → AreSummed n m min i (slot + 1) later now
 AreDone-all n m min i slot later first now done k d lt =
@@ -266,7 +266,7 @@ away_once m i slot place other is of =
     ∙ ap (λ (b : Bool). cond {A = ℕ} b 1 0) (place_itself other.0) in
     omega arith
 
--- and none of a free place
+-- a free place has no game
 pub free_none : (m : Counts) (i slot : ℕ) (place : Place) → place ≡ Free → IsPlaceOf m i slot place
     → (j : ℕ) → m i j slot + m j i slot ≡ 0
 free_none m i slot place is of j =

@@ -24,14 +24,14 @@ pub record IsKept (slot : ℕ) (gaps : TeamGaps) : Type 0 where
   pub before : (j : ℕ) → slice_index gaps.next j ≤ slot
   pub bounded : (j : ℕ) → slice_index gaps.totals j ≤ 20000 * 4294967296 * slot
 
--- of the games of teams i and j before a slot, what is lacking so far: with what those from it on add, it is the entry
+-- what the games of teams i and j before a slot lack so far: with what the games from it on add, it is the entry
 abbrev pub IsSummed : ℕ → Counts → ℕ → ℕ → ℕ → TeamGaps → ℕ → Type 0
 IsSummed n m min i slot gaps j =
     slice_index gaps.totals j
     + lacking min (option_to_list (last_before (slice_index gaps.next j)) ++ games_from n m i j slot)
     ≡ se1_entry n m min (i, j)
 
--- the same of the games of team i with each of these teams
+-- what the games of team i with each of these teams lack so far
 abbrev pub AreSummed : ℕ → Counts → ℕ → ℕ → ℕ → List ℕ → TeamGaps → Type 0
 AreSummed n m min i slot teams gaps = All (IsSummed n m min i slot gaps) teams
 

@@ -16,8 +16,8 @@ use crate::gaps::lacking_at;
 use league::{SlotId, TeamId};
 use rule_core::{Cells, Place};
 
-/// Of a team's games with each other team before some slot: the first slot after the last of them, or 0 where there was
-/// none, and what the slots between them lack, summed. Of teams that aren't asked for it may leave out games.
+/// What a team's games with each other team before some slot leave: the first slot after the last of them, or 0 where
+/// there was none, and what the slots between them lack, summed. Games of teams that aren't asked for may be left out.
 #[derive(Drop)]
 pub(crate) struct TeamGaps {
     pub(crate) next: [u16; 40],
@@ -37,7 +37,7 @@ impl TeamGaps {
         }
     }
 
-    /// Of all games of a team with some later teams.
+    /// The gaps of all games of a team with some later teams.
     fn of_team(cells: &Cells, team: TeamId, later: &[u16], min: u32) -> TeamGaps
         requires team { team.0 < cells.now.n }
         requires few { cells.now.n ≤ 40 }

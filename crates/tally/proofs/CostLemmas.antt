@@ -42,10 +42,16 @@ sum_fits f g P each [] all = omega arith
 sum_fits f g P each (x ∷ xs) all = omega (arith, sum_by-cons f x xs, sum_by-cons g x xs, each x (All-head P x xs all), sum_fits f g P each xs (All-tail P x xs all))
 
 pub hard_fits : {R : Type 0} (E : Ghosts R) (n room : ℕ) (rules : List (Kept R)) → All (IsReady E n room) rules → sum_by hard_cost rules ≤ 2 ^ 96 * sum_by (λ k. length k.vector.items) rules
-hard_fits E n room rules all = sum_fits hard_cost (λ k. length k.vector.items) (IsReady E n room) (λ k is. if_le k.weighted.hard (k.weighted.penalty * k.deviation) (2 ^ 96 * length k.vector.items) (product_fits k.weighted.penalty k.deviation (length k.vector.items) is.penalty_fits is.small)) rules all
+hard_fits E n room rules all =
+    sum_fits hard_cost (λ k. length k.vector.items) (IsReady E n room) (λ k is. if_le k.weighted.hard
+    (k.weighted.penalty * k.deviation) (2 ^ 96 * length k.vector.items)
+    (product_fits k.weighted.penalty k.deviation (length k.vector.items) is.penalty_fits is.small)) rules all
 
 pub soft_fits : {R : Type 0} (E : Ghosts R) (n room : ℕ) (rules : List (Kept R)) → All (IsReady E n room) rules → sum_by soft_cost rules ≤ 2 ^ 96 * sum_by (λ k. length k.vector.items) rules
-soft_fits E n room rules all = sum_fits soft_cost (λ k. length k.vector.items) (IsReady E n room) (λ k is. else_le k.weighted.hard (k.weighted.penalty * k.deviation) (2 ^ 96 * length k.vector.items) (product_fits k.weighted.penalty k.deviation (length k.vector.items) is.penalty_fits is.small)) rules all
+soft_fits E n room rules all =
+    sum_fits soft_cost (λ k. length k.vector.items) (IsReady E n room) (λ k is. else_le k.weighted.hard
+    (k.weighted.penalty * k.deviation) (2 ^ 96 * length k.vector.items)
+    (product_fits k.weighted.penalty k.deviation (length k.vector.items) is.penalty_fits is.small)) rules all
 
 -- one rule's entries and cost have changed
 pub AreReady-next : {R : Type 0} (E : Ghosts R) (n : ℕ) (bench bench_after : Bench) (rules : List (Kept R)) (sums sums_after : Sums) (i : ℕ) (d new : Kept R) → i < length rules → AreReady E n bench rules sums
@@ -93,7 +99,7 @@ hard_counted {R} E n room m (k ∷ rules) ready exact =
     (cost_counted E n room m k (All-head (IsReady E n room) k rules ready) (All-head (IsExact E m) k rules exact))
     (hard_counted E n room m rules (All-tail (IsReady E n room) k rules ready) (All-tail (IsExact E m) k rules exact))
 
--- and what the soft rules cost
+-- what the soft rules cost is what is counted afresh
 pub soft_counted : {R : Type 0} (E : Ghosts R) (n room : ℕ) (m : Counts) (rules : List (Kept R)) → All (IsReady E n room) rules → All (IsExact E m) rules → sum_by soft_cost rules ≡ objective_on E m (map (λ k. k.weighted) rules)
 soft_counted E n room m [] ready exact = refl
 soft_counted {R} E n room m (k ∷ rules) ready exact =
@@ -175,7 +181,7 @@ kind_more {R} kind f rules i before after more x within is this so_far adds =
       ap (λ (k : Kept R). if_kind kind f k.weighted) is,
     )
 
--- that of some of them is at most that of all
+-- the number of some rules of a kind is at most that of all
 pub kind_part : {R : Type 0} (kind : Bool) (f : Weighted R → ℕ) (rules : List (Kept R)) (i part : ℕ)
     → part ≡ sum_by (λ k. if_kind kind f k.weighted) (take i rules)
     → part ≤ sum_by f (filter (λ w. is_kind kind w.hard) (map (λ k. k.weighted) rules))
@@ -187,7 +193,7 @@ kind_part {R} kind f rules i part is =
       kind_summed kind f rules,
     )
 
--- and with no rule left it is that of all
+-- with no rule left the number of the rules of a kind is that of all
 pub kind_whole : {R : Type 0} (kind : Bool) (f : Weighted R → ℕ) (rules : List (Kept R)) (i whole : ℕ)
     → length rules ≤ i → whole ≡ sum_by (λ k. if_kind kind f k.weighted) (take i rules)
     → whole ≡ sum_by f (filter (λ w. is_kind kind w.hard) (map (λ k. k.weighted) rules))

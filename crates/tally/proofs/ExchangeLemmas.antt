@@ -18,7 +18,10 @@ pub is_itself : (g : Game) → one_if (is_game g.home.0 g.away.0 g.slot.0 g) ≡
 is_itself g = ap one_if (and_from ((g.home.0 == g.home.0) && (g.away.0 == g.away.0)) (g.slot.0 == g.slot.0) (and_from (g.home.0 == g.home.0) (g.away.0 == g.away.0) (eq-eqb g.home.0 g.home.0 refl) (eq-eqb g.away.0 g.away.0 refl)) (eq-eqb g.slot.0 g.slot.0 refl))
 
 -- the next game to be taken off is there
-pub next_there : (before now : Counts) (games : List Game) (at : ℕ) → at < length games → ((i j s : ℕ) → counts_of games i j s ≤ before i j s) → ((i j s : ℕ) → now i j s + counts_of (take at games) i j s ≡ before i j s) → 0 < now (get_or games at no_game).home.0 (get_or games at no_game).away.0 (get_or games at no_game).slot.0
+pub next_there : (before now : Counts) (games : List Game) (at : ℕ) → at < length games
+    → ((i j s : ℕ) → counts_of games i j s ≤ before i j s)
+    → ((i j s : ℕ) → now i j s + counts_of (take at games) i j s ≡ before i j s)
+    → 0 < now (get_or games at no_game).home.0 (get_or games at no_game).away.0 (get_or games at no_game).slot.0
 next_there before now games at within there so_far =
     let g = get_or games at no_game in
     let i = g.home.0 in

@@ -41,7 +41,10 @@ frame_all n terms entry touches frame m (g ∷ games) fit k below out =
     ∙ frame g (with_games m games) k (All-head (IsGame n) g games fit) below (lacks (touches g) k parts.0)
     ∙ frame_all n terms entry touches frame m games (All-tail (IsGame n) g games fit) k below parts.1
 
-pub edit_kept : (n terms : ℕ) (entry : ℕ → Counts → ℕ) (touches : Game → List ℕ) → HasFrame n terms entry touches → (now m : Counts) (out into : List Game) → All (IsGame n) out → All (IsGame n) into → with_games now out ≡ with_games m into → (k : ℕ) → k < terms → is_in (flat_map touches out ++ flat_map touches into) k ≡ false → entry k now ≡ entry k m
+pub edit_kept : (n terms : ℕ) (entry : ℕ → Counts → ℕ) (touches : Game → List ℕ) → HasFrame n terms entry touches
+    → (now m : Counts) (out into : List Game) → All (IsGame n) out → All (IsGame n) into
+    → with_games now out ≡ with_games m into → (k : ℕ) → k < terms
+    → is_in (flat_map touches out ++ flat_map touches into) k ≡ false → entry k now ≡ entry k m
 edit_kept n terms entry touches frame now m out into out_fit into_fit same k below lacking =
     let parts = or_parts (is_in (flat_map touches out) k) (is_in (flat_map touches into) k) (sym (is_in-append (flat_map touches out) (flat_map touches into) k) ∙ lacking) in
     sym (frame_all n terms entry touches frame now out out_fit k below parts.0) ∙ ap (entry k) same ∙ frame_all n terms entry touches frame m into into_fit k below parts.1

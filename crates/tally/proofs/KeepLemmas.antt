@@ -54,10 +54,20 @@ kept_bound {R} f most (x ∷ kept) all = All-cons (λ k. f k.weighted ≤ most) 
 pub kept_terms : {R : Type 0} (E : Ghosts R) (n room : ℕ) (kept : List (Kept R)) → All (IsReady E n room) kept → sum_by (λ k. length k.vector.items) kept ≡ all_terms E (map (λ k. k.weighted) kept)
 kept_terms E n room [] ready = refl
 kept_terms {R} E n room (x ∷ kept) ready =
-    omega (arith, sum_by-cons (λ (k : Kept R). length k.vector.items) x kept, sum_by-cons (λ (w : Weighted R). E.term_count w.rule) x.weighted (map (λ (k : Kept R). k.weighted) kept), (All-head (IsReady E n room) x kept ready).terms, kept_terms E n room kept (All-tail (IsReady E n room) x kept ready))
+    omega (
+      arith,
+      sum_by-cons (λ (k : Kept R). length k.vector.items) x kept,
+      sum_by-cons
+          (λ (w : Weighted R). E.term_count w.rule) x.weighted (map (λ (k : Kept R). k.weighted) kept),
+      (All-head (IsReady E n room) x kept ready).terms,
+      kept_terms E n room kept
+          (All-tail (IsReady E n room) x kept ready),
+    )
 
 -- the steps of one rule more
-pub terms_next : {R : Type 0} (E : Ghosts R) (kept after : List (Kept R)) (k : Kept R) (x : Weighted R) (start before now : ℕ) → before ≤ start + all_terms E (map (λ k. k.weighted) kept) → k.weighted ≡ x → after ≡ kept ++ k ∷ [] → now ≤ before + E.term_count x.rule → now ≤ start + all_terms E (map (λ k. k.weighted) after)
+pub terms_next : {R : Type 0} (E : Ghosts R) (kept after : List (Kept R)) (k : Kept R) (x : Weighted R) (start before
+    now : ℕ) → before ≤ start + all_terms E (map (λ k. k.weighted) kept) → k.weighted ≡ x → after ≡ kept ++ k ∷ []
+    → now ≤ before + E.term_count x.rule → now ≤ start + all_terms E (map (λ k. k.weighted) after)
 terms_next {R} E kept after k x start before now so_far is more steps =
     let f : Weighted R → ℕ = λ w. E.term_count w.rule in
     omega (arith, so_far, steps, ap f is, ap (λ (l : List (Kept R)). sum_by f (map (λ (k : Kept R). k.weighted) l)) more, ap (λ (l : List (Weighted R)). sum_by f l) (weights_push kept k), sum_by_push f (map (λ (k : Kept R). k.weighted) kept) k.weighted)
@@ -78,7 +88,7 @@ watched_skip watched teams i so_far unseen t below seen =
       | inr other ↦ so_far t (omega (arith, below, other)) seen
     ]
 
--- and one that is watched comes last
+-- a team that is watched comes last
 pub watched_push : (watched : ℕ → Bool) (teams : List TeamId) (i : ℕ)
     → ((t : ℕ) → t < i → watched t ≡ true → Contains teams (record { 0 = t }))
     → (t : ℕ) → t < i + 1 → watched t ≡ true → Contains (teams ++ (record { 0 = i }) ∷ []) (record { 0 = t })

@@ -90,10 +90,10 @@ wishes-raised = refl
 pub refused-free : AreRulesOf itself 1 demands (rules 0) → ⊥
 refused-free are = let none : 0 ≡ 1 = are.0.penalty in absurd (omega (arith, none))
 
--- nor are two rules those of three constraints
+-- two rules aren't those of three constraints
 pub refused-short : AreRulesOf itself 0 demands (record { rule = free.class; hard = true; penalty = 0 } ∷ record { rule = apart.class; hard = true; penalty = 10 } ∷ []) → ⊥
 refused-short are = are.1.1
 
--- nor is a soft rule that of a hard constraint
+-- a soft rule isn't that of a hard constraint
 pub refused-soft : AreRulesOf itself 0 (record demands { constraints = apart ∷ [] }) (record { rule = apart.class; hard = false; penalty = 10 } ∷ []) → ⊥
 refused-soft are = let same : false ≡ true = are.0.hard in absurd (cc)

@@ -55,7 +55,10 @@ sum_kept true false f g x y xs ys same is rest = absurd (cc)
 sum_kept false true f g x y xs ys same is rest = absurd (cc)
 sum_kept false false f g x y xs ys same is rest = rest
 
-hard_zip : {R : Type 0} (E : Ghosts R) (n least : ℕ) (m : Counts) (constraints : List Constraint) (weights : List (Weighted R)) → AllZip (IsWeightedOf E n least) constraints weights → sum_by (cost_on E m) (filter (λ w. w.hard) weights) ≡ sum_by (λ c. max c.penalty least * deviation_of n m c.class) (filter (λ c. c.hard) constraints)
+hard_zip : {R : Type 0} (E : Ghosts R) (n least : ℕ) (m : Counts) (constraints : List Constraint) (weights : List
+    (Weighted R)) → AllZip (IsWeightedOf E n least) constraints weights
+    → sum_by (cost_on E m) (filter (λ w. w.hard) weights)
+    ≡ sum_by (λ c. max c.penalty least * deviation_of n m c.class) (filter (λ c. c.hard) constraints)
 hard_zip E n least m [] [] all = refl
 hard_zip E n least m [] (w ∷ weights) all = absurd all
 hard_zip E n least m (c ∷ constraints) [] all = absurd all
@@ -68,7 +71,10 @@ hard_zip {R} E n least m (c ∷ constraints) (w ∷ weights) all =
 pub infeasibility-league : {R : Type 0} (E : Ghosts R) (least : ℕ) (league : Instance) (weights : List (Weighted R)) (m : Counts) → AreRulesOf E least league weights → infeasibility_on E m weights ≡ hard_sum least league m
 infeasibility-league E least league weights m are = hard_zip E league.n least m league.constraints weights are
 
-soft_zip : {R : Type 0} (E : Ghosts R) (n least : ℕ) (m : Counts) (constraints : List Constraint) (weights : List (Weighted R)) → AllZip (IsWeightedOf E n least) constraints weights → sum_by (cost_on E m) (filter (λ w. not w.hard) weights) ≡ sum_by (λ c. c.penalty * deviation_of n m c.class) (filter (λ c. not c.hard) constraints)
+soft_zip : {R : Type 0} (E : Ghosts R) (n least : ℕ) (m : Counts) (constraints : List Constraint) (weights : List
+    (Weighted R)) → AllZip (IsWeightedOf E n least) constraints weights
+    → sum_by (cost_on E m) (filter (λ w. not w.hard) weights)
+    ≡ sum_by (λ c. c.penalty * deviation_of n m c.class) (filter (λ c. not c.hard) constraints)
 soft_zip E n least m [] [] all = refl
 soft_zip E n least m [] (w ∷ weights) all = absurd all
 soft_zip E n least m (c ∷ constraints) [] all = absurd all
@@ -77,7 +83,7 @@ soft_zip {R} E n least m (c ∷ constraints) (w ∷ weights) all =
     (λ soft. cost-same E n least m c w all.0 ∙ price_soft c.hard (max c.penalty least) c.penalty (deviation_of n m c.class) soft)
     (soft_zip E n least m constraints weights all.1)
 
--- and so for the soft ones
+-- what the soft rules cost is the objective
 pub objective-league : {R : Type 0} (E : Ghosts R) (least : ℕ) (league : Instance) (weights : List (Weighted R)) (m : Counts) → AreRulesOf E least league weights → objective_on E m weights ≡ objective league m
 objective-league E least league weights m are = soft_zip E league.n least m league.constraints weights are
 
@@ -120,7 +126,7 @@ teams-league E n least [] (w ∷ weights) all = absurd all
 teams-league E n least (c ∷ constraints) [] all = absurd all
 teams-league E n least (c ∷ constraints) (w ∷ weights) all = All-cons (λ x. E.team_count x.rule ≡ n) w weights all.0.rule.teams (teams-league E n least constraints weights all.1)
 
--- they have at most 1,600 entries each
+-- the rules have at most 1,600 entries each
 pub terms-league : {R : Type 0} (E : Ghosts R) (n least : ℕ) (constraints : List Constraint) (weights : List (Weighted R)) → AllZip (IsWeightedOf E n least) constraints weights → all_terms E weights ≤ 1600 * length constraints
 terms-league E n least [] [] all = omega arith
 terms-league E n least [] (w ∷ weights) all = absurd all

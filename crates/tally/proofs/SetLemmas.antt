@@ -86,7 +86,9 @@ AreMarked-none keys marks none room unmarked = record {
 }
 
 -- with one mark less, each key that is still marked is one of those left
-pub left_more : (marks : List Bool) (keys : List ℕ) (place key : ℕ) → place < length keys → get_or keys place 0 ≡ key → key < length marks → ((k : ℕ) → get_or marks k false ≡ true → is_in (drop place keys) k ≡ true) → (k : ℕ) → get_or (set marks key false) k false ≡ true → is_in (drop (place + 1) keys) k ≡ true
+pub left_more : (marks : List Bool) (keys : List ℕ) (place key : ℕ) → place < length keys → get_or keys place 0 ≡ key
+    → key < length marks → ((k : ℕ) → get_or marks k false ≡ true → is_in (drop place keys) k ≡ true) → (k : ℕ)
+    → get_or (set marks key false) k false ≡ true → is_in (drop (place + 1) keys) k ≡ true
 left_more marks keys place key within at fits left k h = elim (cases_eq k key) as (λ _. is_in (drop (place + 1) keys) k ≡ true) [
   | inl same ↦ absurd (false≢true (sym (ap (λ (i : ℕ). get_or (set marks key false) i false) same ∙ get_or-set_same marks key false false fits) ∙ h))
   | inr other ↦

@@ -171,7 +171,7 @@ touched-found E rule out into old new below out_fit into_fit clean distinct has 
       keys = keys;
     }
 
--- they are as many as different keys are touched
+-- the found keys are as many as different keys are touched
 pub touched-many : {R : Type 0} (E : Ghosts R) (rule : R) (games : List Game) (old new : Bench)
     → HasTouched E rule games old new → length new.found.list ≡ touched_count E rule games
 touched-many E rule games old new has =

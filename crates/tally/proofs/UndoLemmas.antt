@@ -19,7 +19,7 @@ pub edited-there : (before : Counts) (edit : Edits) → ((i j s : ℕ) → count
     → (i j s : ℕ) → edited before edit i j s + counts_of edit.out i j s ≡ before i j s + counts_of edit.into i j s
 edited-there before edit there i j s = omega (arith, there i j s)
 
--- and to no others
+-- an edit leads to no other counts
 pub exchanged-same : (before after m out into : Counts) → ((i j s : ℕ) → after i j s + out i j s ≡ before i j s + into i j s)
     → ((i j s : ℕ) → m i j s + out i j s ≡ before i j s + into i j s) → after ≡ m
 exchanged-same before after m out into one other = same_counts after m (λ i j s. omega (arith, one i j s, other i j s))

@@ -76,7 +76,7 @@ weighed-none f keys entries deviation none is words =
       words = λ k. omega (arith, words k, ap (λ (l : List ℕ). get_or l k 0) same);
     }
 
--- it isn't large
+-- a weighed deviation isn't large
 pub weighed-small : (f : ℕ → ℕ) (keys entries : List ℕ) (deviation : ℕ) → IsWeighed f keys entries deviation
     → deviation ≤ 2 ^ 64 * length entries
 weighed-small f keys entries deviation is =

@@ -1,4 +1,5 @@
-//! What kept rules cost, and how the two sums follow a change of the games.
+//! What kept rules cost, and how the two sums follow a change of the games. To weigh an edit without making it is delta
+//! evaluation.
 ghost use Rattle.std.specs.Prelude.{◌≡◌, ◌<◌, ◌≤◌, ◌+◌, ◌*◌, ◌^◌, [], length, map};
 ghost use Rattle.std.specs.List.{All, sum_by};
 ghost use Rattle.league.specs.Counts.{Counts};

@@ -30,7 +30,7 @@ Adds said old new (Ok done) = behind old said ≡ Some new
 Adds said old new (Err word.Wrong) = said ≡ None
 Adds said old new (Err word.Mem) = Unit {0}
 
--- the same of the line of a number
+-- literals were added of the line of a number: those that are said, unless a word is none
 abbrev pub AddsLine : Option (List Literal) → ℕ → List Literal → List Literal → Result (Unit {0}) ValuesFault → Type 0
 AddsLine said line old new (Ok done) = behind old said ≡ Some new
 AddsLine said line old new (Err (Form number)) = (said ≡ None) × (number ≡ line)

@@ -18,7 +18,7 @@ use Rattle.refutation.specs.declared.verdict.Cause.{Cause}
 use Rattle.refutation.specs.declared.verdict.Cause.TheVariants.{TooWide}
 use Rattle.venue_counts.specs.CountLogs.{AreNamed}
 
--- these rows added to a sum
+-- some rows added to a sum
 abbrev pub all_added : Totals → List Row → Totals
 all_added sum [] = sum
 all_added sum (row ∷ rows) = all_added (plus sum 1 row) rows

@@ -36,7 +36,7 @@ left-most v a b =
     (λ below. omega (arith, ltb-true a b below))
     (λ high. omega (arith, ltb-false b a low, ltb-false a b high)))
 
--- the same of many variables
+-- the larger of the two counts of a variable
 abbrev larger_at : (Literal → ℕ) → ℕ → ℕ
 larger_at count v = max (count (yes v)) (count (no v))
 
@@ -71,7 +71,7 @@ Outnumber terms others = (l : Literal) → count_in others l ≤ count_in terms 
 larger-le : (a b c d : ℕ) → c ≤ b → d ≤ a → max (a + c) (b + d) ≤ a + b
 larger-le a b c d first second = omega (arith, first, second)
 
--- then no more than their coefficients are within reach or cancel
+-- where terms outnumber others, no more than their coefficients are within reach or cancel
 pub larger-covered : (terms others : List Term) (count : Literal → ℕ) (top : ℕ) → Outnumber terms others
     → ((l : Literal) → count l ≡ count_in terms l + count_in others l)
     → sum_by (larger_at count) (variables_to top) ≤ weight_of terms

@@ -190,7 +190,7 @@ class-above limit n constraints side slots (Br2 teams intp others) above bounds 
 class-above limit n constraints side slots (Fa2 teams intp others) above bounds = absurd (cc)
 class-above limit n constraints side slots (Se1 teams min) above bounds = absurd (cc)
 
--- then it is that of a hard CA1
+-- a side and slots at which too much is needed are those of a hard CA1
 pub exceeds-from : (limit : Limit) (n : ℕ) (constraints : List Constraint) (side : Side) (slots : List ℕ)
     → exceeds_at limit n constraints side slots ≡ true → exceeds limit n constraints ≡ true
 exceeds-from limit n constraints side slots above =

@@ -267,7 +267,7 @@ apart c teams min most side s slots ss holds differ =
     not_both true b is = is
     not_both false b is = refl
 
--- it is found by its key
+-- the group that holds a constraint has its side and slots
 here-found : (c : Constraint) (teams : List ℕ) (min most : ℕ) (side s : Side) (slots ss : List ℕ)
     → Holds c teams min most side slots → c.hard && bounds_at s ss c.class ≡ true → (s ≡ side) × (ss ≡ slots)
 here-found c teams min most side s slots ss holds is =

@@ -65,7 +65,7 @@ those-same s t xs ys is = (
   (bytes_eq-Decides xs ys).0 (second_of_two (is_side s t) (bytes_eq xs ys) is),
 )
 
--- and passes it with itself
+-- a side and slots pass the test with themselves
 pub those-itself : (s : Side) (xs : List ℕ) → are_those s xs s xs ≡ true
 those-itself s xs = both_true (is_side s s) (bytes_eq xs xs) (side_itself s) ((bytes_eq-Decides xs xs).1 refl)
 

@@ -42,7 +42,7 @@ pub there-as : (rows shown : List Row) (wanted made : Row) → shown ≡ rows �
 there-as rows shown wanted made same is there =
     subst (λ (rs : List Row). Contains rs made) (sym same) (subst (λ (r : Row). Contains rows r) (sym is) there)
 
--- and its number
+-- the number of the row that is looked for
 pub numbered-as : (rows shown : List Row) (wanted made : Row) (number : ℕ) → shown ≡ rows → made ≡ wanted
     → row_numbered shown number ≡ Some made → row_numbered rows number ≡ Some wanted
 numbered-as rows shown wanted made number same is at =

@@ -43,7 +43,7 @@ one_each = refl
 pub enough : are_short (four (at_most all 1 H (0 ∷ 1 ∷ []) ∷ [])) ≡ false
 enough = refl
 
--- the same of away games
+-- 4 away games are allowed and 4 are played
 pub one_away_each : are_short (four (at_most all 1 A three_slots ∷ [])) ≡ true
 one_away_each = refl
 

@@ -21,7 +21,7 @@ abbrev pub need_by : Limit → Side → List ℕ → ℕ → Class → ℕ
 need_by Most side slots i class = length slots - allowed_by side slots i class
 need_by Least side slots i class = asked_by side slots i class
 
--- the same of a CA1 of so many slots
+-- what a CA1 of so many slots makes a team of its own need
 abbrev pub own_need : Limit → ℕ → ℕ → ℕ → ℕ
 own_need Most min max count = count - max
 own_need Least min max count = min
@@ -40,11 +40,11 @@ abbrev pub exceeds_by : Limit → ℕ → List Constraint → Class → Bool
 exceeds_by limit n constraints (Ca1 teams min max side slots) = exceeds_at limit n constraints side slots
 exceeds_by limit n constraints class = false
 
--- the same at the side and the slots of a hard CA1
+-- whether all teams need more than there is at the side and the slots of a hard CA1
 abbrev pub exceeds : Limit → ℕ → List Constraint → Bool
 exceeds limit n constraints = list_any (λ c. exceeds_by limit n constraints c.class) (hard_of constraints)
 
--- whether what is needed are games at home, so that the slots' rows count games away: else the other way round
+-- whether the slots' rows count games at home, where what is needed are games away; else the other way round
 abbrev pub counts_home : Limit → Side → Bool
 counts_home Most side = is_side side H
 counts_home Least side = is_side side A

@@ -44,7 +44,7 @@ abbrev pub is_short_at : ℕ → List Constraint → Side → List ℕ → Bool
 is_short_at n constraints side slots =
     nat_lt (sum_by (bound_of constraints side slots) (teams_of n)) (length slots * (n / 2))
 
--- the same at the side and the slots of a CA1
+-- whether the bounds of all teams are below the games that there are, at the side and the slots of a CA1
 abbrev pub is_short_by : ℕ → List Constraint → Class → Bool
 is_short_by n constraints (Ca1 teams min max side slots) = is_short_at n constraints side slots
 is_short_by n constraints class = false

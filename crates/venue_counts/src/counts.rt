@@ -46,7 +46,8 @@ pub fn venue_count_low(alloc: Global, league: &League) -> Result<Option<Log>, Al
     count(alloc, league, Limit::Least)
 }
 
-/// The same by either bound.
+/// Some exactly where the teams need more games at a venue, by one of the two bounds, than there are: the log of two
+/// steps that refutes the league.
 fn count(alloc: Global, league: &League, limit: Limit) -> Result<Option<Log>, AllocError>
     requires small { encoding_size league.now ≤ most_terms }
     ensures instance { IsInstance league.now }

@@ -91,7 +91,7 @@ impl Kept {
     }
 }
 
-/// These games as a schedule.
+/// A schedule of these games.
 ///
 /// # Errors
 /// Only where memory runs out.

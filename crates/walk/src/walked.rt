@@ -41,21 +41,21 @@ pub fn walk<W: Listener>(
     // The best is a double round robin of the league, in order, and its score is what it costs there.
     ensures season { IfOk result (λ walked. IsSeasonOf league.now walked.best) }
 
-    // It has a game for each two teams at each of their venues, so at most 1,600.
+    // The best schedule has a game for each two teams at each of their venues, so at most 1,600.
     ensures few { IfOk result (λ walked. length walked.best.games ≤ 1600) }
 
-    // Its infeasibility is 0 exactly where the league accepts it.
+    // The best schedule's infeasibility is 0 exactly where the league accepts it.
     ensures feasible { IfOk result (λ walked. (walked.best.score.infeasibility ≡ 0)
         ↔ IsAccepted league.now (counts_of walked.best.games)) }
 
-    // It isn't worse than the start: from an accepted schedule it doesn't come to a rejected one.
+    // The best schedule isn't worse than the start: from an accepted schedule a walk doesn't come to a rejected one.
     ensures no_worse { IfOk result (λ walked. IsNoWorse walked.best.score
         (league_score league.now (counts_of start.now))) }
 
     ensures accepted { IsAccepted league.now (counts_of start.now)
         → IfOk result (λ walked. IsAccepted league.now (counts_of walked.best.games)) }
 
-    // It ends within the budget.
+    // The walk ends within the budget.
     ensures tried { IfOk result (λ walked. walked.tried ≤ budget) }
 {
     let mut walker = Walker::new(alloc, league, start, seed, budget)?;

@@ -43,7 +43,7 @@ struct Patience {
 }
 
 impl Patience {
-    /// That of a search with this number, from 0, of which nothing was searched yet.
+    /// The patience of a search with this number, from 0, of which nothing was searched yet.
     fn of(search: u64) -> Patience {
         Patience {
             lowest: u128::MAX,

@@ -1,4 +1,5 @@
-//! Weights of the hard constraints' parts, which grow while a part isn't met.
+//! Weights of the hard constraints' parts, which grow while a part isn't met. Such weights are those of the breakout
+//! method (Morris 1993); here they also fall.
 
 use league::{ClassName, Constraint};
 

@@ -1,4 +1,5 @@
-//! The rows of CA1 to CA4 and GA1, which bound how many games take place.
+//! The rows of CA1 to CA4 and GA1, which bound how many games take place. They are cardinality constraints and stay
+//! rows: no further variable counts.
 ghost use Rattle.std.specs.Prelude.{◌≡◌, ◌+◌, ◌*◌, ◌-◌, ◌^◌, ◌<◌, ◌≤◌, [], ◌∷◌, ◌++◌, length, IsTrue, IfOk, OnOk};
 ghost use Rattle.std.specs.List.{All, filter, flat_map, range_with_len};
 ghost use Rattle.league.specs.Capacity as capacity;

@@ -1,4 +1,5 @@
-//! The rows of FA2, which bound by how much the home games of two teams differ.
+//! The rows of FA2, which bound by how much the home games of two teams differ. Two cardinality constraints a slot say
+//! so: each counts away games of one team and home games of the other.
 ghost use Rattle.std.specs.Prelude.{◌≡◌, ◌+◌, ◌*◌, ◌-◌, ◌^◌, ◌<◌, ◌≤◌, [], ◌∷◌, ◌++◌, length, IsTrue, OnOk};
 ghost use Rattle.std.specs.List.{All, filter, flat_map};
 ghost use Rattle.league.specs.Counts.{slot_count};

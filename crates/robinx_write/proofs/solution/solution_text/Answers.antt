@@ -13,6 +13,8 @@ returns-clause-reads_back c = λ n size fit few.
     let games : c.put_games.new.text.items ≡ c.extend_from_slice-2.new.self.items ++ flat_map game_line c.args.schedule.now =
     c.in_ok-put_games.ensures ∙ ap (λ l. c.extend_from_slice-2.new.self.items ++ flat_map game_line l) c.games.ensures in
     let whole : c.extend_from_slice-3.new.self.items ≡ text_of c.args.schedule.now c.args.score =
-    five_pieces [] c.extend_from_slice.new.self.items c.put_score.new.text.items c.extend_from_slice-2.new.self.items c.put_games.new.text.items c.extend_from_slice-3.new.self.items head (score_text c.args.score) (codes "<Games>\n") (flat_map game_line c.args.schedule.now) (codes "</Games>\n</Solution>\n")
+    five_pieces [] c.extend_from_slice.new.self.items c.put_score.new.text.items c.extend_from_slice-2.new.self.items
+    c.put_games.new.text.items c.extend_from_slice-3.new.self.items head (score_text c.args.score) (codes "<Games>\n")
+    (flat_map game_line c.args.schedule.now) (codes "</Games>\n</Solution>\n")
     first c.in_ok-put_score.ensures c.in_ok-extend_from_slice-2.ensures.items games c.in_ok-extend_from_slice-3.ensures.items in
     rw whole (solution-reads_back n c.args.schedule.now c.args.score size few fit)

@@ -10,5 +10,8 @@ abbrev pub invariant-loop-slot : goal.invariant-loop-slot
 invariant-loop-slot l = record {
   before : IfSome l.last (λ before. before < l.slot);
   bounded : l.total ≤ 20000 * 4294967296 * l.slot;
-  counted : l.total + lacking l.min (option_to_list l.last ++ flat_map (λ s. replicate (table_counts l.cells l.first.0 l.second.0 s + table_counts l.cells l.second.0 l.first.0 s) s) (range_with_len l.slot (slot_count l.cells.n - l.slot))) ≡ se1_entry l.cells.n (table_counts l.cells) l.min (l.first.0, l.second.0);
+  counted : l.total + lacking l.min (option_to_list l.last ++ flat_map
+      (λ s. replicate (table_counts l.cells l.first.0 l.second.0 s + table_counts l.cells l.second.0 l.first.0 s) s)
+      (range_with_len l.slot (slot_count l.cells.n - l.slot))) ≡ se1_entry l.cells.n (table_counts l.cells) l.min
+      (l.first.0, l.second.0);
 }

@@ -12,7 +12,11 @@ use Rattle.tally.proofs.keep.keep_rules.Goals as goal
 pub new-requires-clause-teams : goal.new-requires-clause-teams
 new-requires-clause-teams g c =
     let split = rules_split c.loop-weighted.kept.items c.in-Some.weighted (into_iter_items c.loop-weighted.weighted-iterator) (into_iter_items c.next.new.self) c.args.rules.items c.loop-weighted.invariant.2 c.in-Some.ensures.steps.0 in
-    sym (at_middle (λ (w : Weighted g.row.R.Denot). g.R.Entries.team_count w.rule ≡ c.args.cells.now.n) (map (λ (k : Kept g.row.R.Denot). k.weighted) c.loop-weighted.kept.items) c.in-Some.weighted (into_iter_items c.next.new.self) (subst (λ (l : List (Weighted g.row.R.Denot)). All (λ w. g.R.Entries.team_count w.rule ≡ c.args.cells.now.n) l) split c.requires.teams))
+    sym (at_middle (λ (w : Weighted g.row.R.Denot). g.R.Entries.team_count w.rule ≡ c.args.cells.now.n)
+    (map (λ (k : Kept g.row.R.Denot). k.weighted) c.loop-weighted.kept.items) c.in-Some.weighted
+    (into_iter_items c.next.new.self) (subst
+    (λ (l : List (Weighted g.row.R.Denot)). All (λ w. g.R.Entries.team_count w.rule ≡ c.args.cells.now.n) l) split
+    c.requires.teams))
 
 pub new-requires-clause-few : goal.new-requires-clause-few
 new-requires-clause-few g c =
@@ -32,7 +36,11 @@ loop-weighted-preserved g c =
     let kept = c.loop-weighted.kept.items in
     let new = c.in_ok-new.field-0 in
     let split = rules_split kept c.in-Some.weighted (into_iter_items c.loop-weighted.weighted-iterator) (into_iter_items c.next.new.self) c.args.rules.items c.loop-weighted.invariant.2 c.in-Some.ensures.steps.0 in
-    let room : g.R.Entries.term_count c.in-Some.weighted.rule ≤ c.args.room = at_middle (λ (w : Weighted g.row.R.Denot). g.R.Entries.term_count w.rule ≤ c.args.room) (map (λ (k : Kept g.row.R.Denot). k.weighted) kept) c.in-Some.weighted (into_iter_items c.next.new.self) (subst (λ (l : List (Weighted g.row.R.Denot)). All (λ w. g.R.Entries.term_count w.rule ≤ c.args.room) l) split c.requires.room) in (
+    let room : g.R.Entries.term_count c.in-Some.weighted.rule ≤ c.args.room = at_middle
+    (λ (w : Weighted g.row.R.Denot). g.R.Entries.term_count w.rule ≤ c.args.room)
+    (map (λ (k : Kept g.row.R.Denot). k.weighted) kept) c.in-Some.weighted (into_iter_items c.next.new.self) (subst
+    (λ (l : List (Weighted g.row.R.Denot)). All (λ w. g.R.Entries.term_count w.rule ≤ c.args.room) l) split
+    c.requires.room) in (
       tt,
       tt,
       weights_next kept c.push.new.self.items new c.in-Some.weighted (into_iter_items c.loop-weighted.weighted-iterator) (into_iter_items c.next.new.self) c.args.rules.items c.loop-weighted.invariant.2 c.in-Some.ensures.steps.0 c.in_ok-new.ensures.weighted c.in_ok-push.ensures.items,

@@ -28,9 +28,25 @@ loop-kept-preserved g c =
     record {
       weights = weights-next rules at d new c.renew_weighed.ensures.weighted ∙ c.loop-kept.invariant.weights;
       later = λ k e h. get_or-set_other rules at k new e (λ is. absurd (omega (arith, is, h))) ∙ c.loop-kept.invariant.later k e (omega (arith, h));
-      ready = AreReady-next g.R.Entries c.args.change.now.table.n c.loop-kept.bench c.renew_weighed.new.bench rules c.loop-kept.sums c.renew_weighed.new.sums at d new within c.loop-kept.invariant.ready c.renew_weighed.ensures.weighted c.renew_weighed.ensures.ready c.renew_weighed.ensures.bench c.renew_weighed.ensures.infeasibility c.renew_weighed.ensures.objective;
-      exact = λ m same was. AllWithin-more_set rules at new within (IsExact g.R.Entries (table_counts c.args.change.now.table)) (c.loop-kept.invariant.exact m same was) (c.renew_weighed.ensures.exact m same (subst (λ (k : Kept g.row.R.Denot). IsExact g.R.Entries m k) (sym same_item) (was at d before)));
-      steps = omega (arith, c.renew_weighed.ensures.steps, c.loop-kept.invariant.steps, sum_by_more (λ (k : Kept g.row.R.Denot). touched_count g.R.Entries k.weighted.rule (games_of c.args.change.now)) c.args.rules.now at d before, ap (λ (k : Kept g.row.R.Denot). touched_count g.R.Entries k.weighted.rule (games_of c.args.change.now)) same_item);
+      ready = AreReady-next g.R.Entries c.args.change.now.table.n c.loop-kept.bench c.renew_weighed.new.bench rules
+          c.loop-kept.sums c.renew_weighed.new.sums at d new within c.loop-kept.invariant.ready
+          c.renew_weighed.ensures.weighted c.renew_weighed.ensures.ready c.renew_weighed.ensures.bench
+          c.renew_weighed.ensures.infeasibility c.renew_weighed.ensures.objective;
+      exact = λ m same was. AllWithin-more_set rules at new within
+          (IsExact g.R.Entries (table_counts c.args.change.now.table)) (c.loop-kept.invariant.exact m same was)
+          (c.renew_weighed.ensures.exact m same
+          (subst (λ (k : Kept g.row.R.Denot). IsExact g.R.Entries m k) (sym same_item) (was at d before)));
+      steps = omega (
+        arith,
+        c.renew_weighed.ensures.steps,
+        c.loop-kept.invariant.steps,
+        sum_by_more
+            (λ (k : Kept g.row.R.Denot). touched_count g.R.Entries k.weighted.rule (games_of c.args.change.now))
+            c.args.rules.now at d before,
+        ap
+            (λ (k : Kept g.row.R.Denot). touched_count g.R.Entries k.weighted.rule (games_of c.args.change.now))
+            same_item,
+      );
     }
 
 pub returns-clause-exact : goal.returns-clause-exact

@@ -5,4 +5,6 @@ use Rattle.breaks.proofs.br2.Br2Rule.term.Goals as goal
 
 pub returns-clause-entry : goal.returns-clause-entry
 returns-clause-entry g c =
-    br2_term c.args.self.now (table_counts c.args.cells.now) c.args._key c.args.cells.now.n c.numbers.result.now c.args.self.now.scope.slots c.all_breaks-breaks.result c.from.result c.saturating_sub.result c.requires.key c.requires.teams c.numbers.ensures.numbers refl c.all_breaks-breaks.ensures c.from.ensures c.saturating_sub.ensures
+    br2_term c.args.self.now (table_counts c.args.cells.now) c.args._key c.args.cells.now.n c.numbers.result.now
+    c.args.self.now.scope.slots c.all_breaks-breaks.result c.from.result c.saturating_sub.result c.requires.key
+    c.requires.teams c.numbers.ensures.numbers refl c.all_breaks-breaks.ensures c.from.ensures c.saturating_sub.ensures

@@ -82,7 +82,9 @@ links-preserved c =
       heads = c.links.invariant.heads;
       links = c.links.invariant.links;
       enough = c.links.invariant.enough;
-      moving = moving-lost c.self.inside.rows c.self.inside.table.links.items (negate c.args.lit) (valued c.args.self.now.values) (valued c.set.new.self) c.links.at (c.index_mut.result.now - c.from.result) c.links.self-inside.table.reach.items c.index-link.result.now loss c.links.invariant.moving step
+      moving = moving-lost c.self.inside.rows c.self.inside.table.links.items (negate c.args.lit)
+          (valued c.args.self.now.values) (valued c.set.new.self) c.links.at (c.index_mut.result.now - c.from.result)
+          c.links.self-inside.table.reach.items c.index-link.result.now loss c.links.invariant.moving step
           (omega (arith, was, c.from.ensures, below));
     }
 

@@ -8,7 +8,10 @@ use Rattle.tally.proofs.tally.Tally.new.Goals as goal
 
 pub costs-sums-requires-clause-few : goal.costs-sums-requires-clause-few
 costs-sums-requires-clause-few g c =
-    subst (λ (l : List (Kept g.row.R.Denot)). sum_by (λ (k : Kept g.row.R.Denot). length k.vector.items) l < 2 ^ 31) (sym c.deref-3.ensures.value) (few_kept g.R.Entries c.args.cells.n c.greatest_terms-room.result c.in_ok-rules.rules.items c.args.rules.items c.in_ok-rules.ensures.ready c.in_ok-rules.ensures.weights c.requires.few)
+    subst (λ (l : List (Kept g.row.R.Denot)). sum_by (λ (k : Kept g.row.R.Denot). length k.vector.items) l < 2 ^ 31)
+    (sym c.deref-3.ensures.value) (few_kept g.R.Entries c.args.cells.n c.greatest_terms-room.result
+    c.in_ok-rules.rules.items c.args.rules.items c.in_ok-rules.ensures.ready c.in_ok-rules.ensures.weights
+    c.requires.few)
 
 pub invariant_of-result : goal.invariant_of-result
 invariant_of-result g c =
