@@ -31,29 +31,30 @@ def circle(n):
     return first + [(j, i, s + n - 1) for i, j, s in first]
 
 
-def said(flag):
-    return "true" if flag else "false"
+def league(n, phased):
+    """The file of a league of n teams without constraints."""
+    return f"{'phased' if phased else 'free'}-{n}.xml"
 
 
 def worked(phased):
     """The worked moves of four teams: a line for each, and for each game of its edit."""
     season = circle(4)
-    yield f"four teams, phased: {said(phased)}", []
     for name in WORKED:
         kind, *numbers = name.split(" ")
         after = moves.made((kind, *map(int, numbers)), 4, phased, season)
+        asked = f"{league(4, phased)}: edit {name}"
         if after is None:
-            yield f"{name}: false", []
+            yield asked, ["  not legal"]
             continue
         out, into = Counter(season) - Counter(after), Counter(after) - Counter(season)
         games = [("out", it) for it in out.elements()] + [("into", it) for it in into.elements()]
-        yield f"{name}: true", sorted("  %s %d %d %d" % (where, *it) for where, it in games)
+        yield asked, sorted(["  legal"] + ["  %s %d %d %d" % (where, *it) for where, it in games])
 
 
 def counted(n, phased, season):
     """How many moves there are and how many are legal."""
     legal = [move for move in moves.neighbours(n) if moves.made(move, n, phased, season) is not None]
-    return f"{len(list(moves.neighbours(n)))} moves, {len(legal)} legal, 0 astray"
+    return [f"  {len(list(moves.neighbours(n)))} moves, {len(legal)} legal, 0 astray"]
 
 
 def ten_on(n, phased):
@@ -66,26 +67,26 @@ def ten_on(n, phased):
 
 
 def own():
-    """The whole transcript."""
+    """The lines of moves and of all moves."""
     for phased in [True, False]:
         yield from worked(phased)
     for phased in [True, False]:
         for n in [2, 4, 6, 8]:
-            yield f"{n} teams, phased: {said(phased)}: {counted(n, phased, circle(n))}", []
+            yield f"{league(n, phased)}: walked 0", counted(n, phased, circle(n))
     for phased in [True, False]:
         for n in [4, 6, 8]:
-            yield f"{n} teams, phased: {said(phased)}, ten moves on: {counted(n, phased, ten_on(n, phased))}", []
+            yield f"{league(n, phased)}: walked 10", counted(n, phased, ten_on(n, phased))
 
 
 def read(path):
-    """The transcript's lines, each with the games behind it."""
+    """The transcript's lines of moves and of all moves, each with what is answered to it."""
     found = []
     for line in open(path, encoding="utf-8").read().splitlines():
         if line.startswith("  "):
             found[-1][1].append(line)
         else:
             found.append((line, []))
-    return [(line, sorted(games)) for line, games in found]
+    return [(line, sorted(told)) for line, told in found if ": edit " in line or ": walked " in line]
 
 
 def main():
@@ -94,7 +95,7 @@ def main():
     wrong = [pair for pair in zip(told, mine) if pair[0] != pair[1]]
     for theirs, ours in wrong:
         print("DIFFERS", theirs, ours)
-    games = sum(len(games) for _, games in mine)
+    games = sum(line.startswith(("  out", "  into")) for _, answers in mine for line in answers)
     print(f"{len(mine)} lines and {games} games, {len(wrong) + abs(len(told) - len(mine))} differences")
     raise SystemExit(1 if wrong or len(told) != len(mine) else 0)
 

@@ -1,10 +1,18 @@
 //! What the devices and numbers of `robin_io`, the reader of `robinx_tags` and the logs of `refutation` do where no
 //! clause says it: that calls succeed where memory is ample, what the machine does, and what is printed.
 //!
-//! Each line of standard input is a number and the text of a log, in which `|` stands for LF. The text is read in
-//! pieces of so many bytes, and what was read is written back, or its fault is said. After them come the other logs.
-//! Each later line of the transcript names a run, what it gave and what it was to give. The transcript is compared with
-//! the file `stdout`, so that a run that gives something else is seen.
+//! A line of standard input names a device and what is asked of it; any other line is a title. In a text `|` stands for
+//! LF, and `FRONT*N*PIECE*BACK` for a piece that stands N times between a front and a back.
+//!
+//! - `log SIZE TEXT` reads a log in pieces of so many bytes, and writes it back or says its fault. `steps SIZE TEXT`
+//!   says only how many steps it has. `built` writes logs that are built step by step.
+//! - `pieces TEXT` and `pieces-of FILE` show the pieces of a file, and then the line of its end or its first fault.
+//!   `attribute NAME TEXT` shows an attribute of the first tag.
+//! - `number TEXT` reads a number, `decimal N` writes one.
+//! - `store CALL LIMIT NAME` reads a file of a store twice, where the call of this number fails. `sink ROOM PIECE PUT
+//!   TEXT|TEXT` writes texts to a sink, of which a put takes at most so many bytes and that of this number fails.
+//! - `file LIMIT NAME` reads a file of the machine. `starts NAME ..` starts files, `kept NAME` shows what the machine
+//!   itself reads, `write NAME` and `remove NAME` make a file and remove it. `writers` writes to writers of the machine.
 #![tactic(auto)]
 
 mod logs;
@@ -15,18 +23,33 @@ mod sinks;
 mod stores;
 mod telling;
 
-use anyhow::Result;
+use std::io;
+use std::rt::Files;
+use telling::text_of;
 
-/// Reads the logs of standard input, and runs the other examples, each of which leaves its folder as it was.
-fn main(rt: HostRuntime) -> Result<()> {
+/// Follows the lines of standard input.
+fn main(rt: HostRuntime) -> io::Result<()> {
     for line in rt.lines(rt.alloc()) {
         let line = line?;
-        logs::show_line(&rt, line.as_str())?;
+        follow(&rt, line.as_str())?;
     }
-    logs::show(&rt)?;
-    stores::show(&rt)?;
-    sinks::show(&rt)?;
-    numbers::show(&rt)?;
-    machine::show(&rt)?;
-    Ok(pieces::show(&rt)?)
+    Ok(())
+}
+
+/// Writes a line, and shows what it asks for.
+fn follow(rt: &(impl AllocGlobal + Files + Print), line: &str) -> io::Result<()> {
+    println!(rt; "{line}")?;
+    let (device, asked) = line.split_once(' ').unwrap_or((line, ""));
+    match device {
+        "log" => logs::show(rt, asked, true),
+        "steps" => logs::show(rt, asked, false),
+        "built" => logs::show_built(rt),
+        "pieces" => pieces::show(rt, &text_of(rt.alloc(), asked)?),
+        "attribute" => pieces::show_attribute(rt, asked),
+        "number" => numbers::show_read(rt, asked),
+        "decimal" => numbers::show_written(rt, asked),
+        "store" => stores::show(rt, asked),
+        "sink" => sinks::show(rt, asked),
+        _ => machine::follow(rt, device, asked),
+    }
 }

@@ -1,44 +1,58 @@
-//! Lines of the transcript: what was run, what it gave, and what it was to give.
+//! Texts of standard input, and what calls gave.
 use robin_io::{Failed, TakeFault};
+use std::alloc::{AllocError, Global};
 use std::io;
 
 /// What is written and read.
 pub const TEXT: &[u8] = b"seven bytes, and a few more";
 
-/// A line of the transcript.
-pub fn tell(rt: &impl Print, what: &str, got: &str, wanted: &str) -> io::Result<()> {
-    println!(rt; "{what}: {got}, wanted {wanted}")
-}
-
-/// Bytes as a text.
-pub fn text_of(bytes: &[u8]) -> &str {
+/// Bytes in words.
+pub fn words_of(bytes: &[u8]) -> &str {
     str::from_utf8(bytes).unwrap_or("?")
 }
 
-/// A line of the transcript on what a reading gave: the bytes in quotes, or the fault.
-pub fn tell_reading(
-    rt: &impl Print,
-    what: &str,
-    read: &Result<Vec<u8>, TakeFault>,
-    wanted: &str,
-) -> io::Result<()> {
-    match read {
-        Ok(bytes) => tell_quoted(rt, what, bytes, wanted),
-        Err(TakeFault::Failed) => tell(rt, what, "Failed", wanted),
-        Err(TakeFault::TooLong { limit }) => {
-            println!(rt; "{what}: TooLong {limit}, wanted {wanted}")
+/// The number that words begin with, 0 where there is none, and what stands behind the space after it.
+pub fn number_in(words: &str) -> (usize, &str) {
+    let (number, rest) = words.split_once(' ').unwrap_or((words, ""));
+    (number.parse::<usize>().unwrap_or(0), rest)
+}
+
+/// The text that words stand for.
+pub fn text_of(alloc: Global, words: &str) -> Result<Vec<u8>, AllocError> {
+    let mut text = Vec::new(alloc);
+    let parts: Vec<&str> = words.split('*').collect(alloc)?;
+    match parts.as_slice() {
+        [front, count, piece, back] => {
+            add(&mut text, front)?;
+            for _ in 0..count.parse::<u32>().unwrap_or(0) {
+                add(&mut text, piece)?;
+            }
+            add(&mut text, back)?;
         }
-        Err(TakeFault::Mem) => tell(rt, what, "Mem", wanted),
+        _ => add(&mut text, words)?,
+    }
+    Ok(text)
+}
+
+/// Adds words to a text, with LF for each `|`.
+fn add(text: &mut Vec<u8>, words: &str) -> Result<(), AllocError> {
+    for byte in words.as_bytes() {
+        text.push(if *byte == b'|' { b'\n' } else { *byte })?;
+    }
+    Ok(())
+}
+
+/// Shows what a reading gave.
+pub fn tell_reading(rt: &impl Print, read: &Result<Vec<u8>, TakeFault>) -> io::Result<()> {
+    match read {
+        Ok(bytes) => println!(rt; "'{}'", words_of(bytes)),
+        Err(TakeFault::Failed) => println!(rt; "Failed"),
+        Err(TakeFault::TooLong { limit }) => println!(rt; "TooLong {limit}"),
+        Err(TakeFault::Mem) => println!(rt; "Mem"),
     }
 }
 
-/// A line of the transcript with bytes in quotes.
-pub fn tell_quoted(rt: &impl Print, what: &str, bytes: &[u8], wanted: &str) -> io::Result<()> {
-    let text = text_of(bytes);
-    println!(rt; "{what}: '{text}', wanted {wanted}")
-}
-
-/// What a call of a device gave that tells no more than whether it failed.
+/// What a call gave that tells no more than whether it failed.
 pub fn outcome(done: Result<(), Failed>) -> &'static str {
     match done {
         Ok(()) => "Ok",

@@ -1,73 +1,68 @@
 //! Boards of canonical seasons, and moves on them.
-ghost use Rattle.std.specs.Prelude.{◌≡◌, ◌≢◌, ◌<◌, true, IfOk};
+ghost use Rattle.std.specs.Prelude.{◌≡◌, ℕ, ◌≤◌, true};
 ghost use Rattle.std.specs.List.{All};
-ghost use Rattle.league.specs.Counts as counts;
-ghost use Rattle.league.specs.Instance.{IsGame, IsTeamCount};
+ghost use Rattle.league.specs.Counts.{counts_of};
+ghost use Rattle.league.specs.Instance.{IsGame};
 ghost use Rattle.moves.specs.Moves.{IsOfLeague};
+ghost use Rattle.moves.specs.Round.{round_counts};
 
+use crate::swaps::{is_game, is_of_league, step_of};
+use crate::walked::show_walked;
 use circle_method::double;
-use league::{Game, League, Schedule, SlotId, TeamId, slot_count, structure};
+use league::{Game, League, Schedule};
 use moves::{Board, Edit, Swap, edit_of};
-use std::alloc::{AllocError, Global};
+use std::io;
 
-/// The board of the canonical season of n teams, in a league that is phased or not.
-pub fn board_of(alloc: Global, n: u16, phased: bool) -> Result<Board, AllocError>
-    requires { IsTeamCount n }
-    ensures n { IfOk result (λ board. board.n ≡ n) }
-{
-    let season = double(alloc, n)?;
-    Board::new(alloc, n, phased, &season)
+/// Shows a move on the board of a league's canonical season, or all moves on a board so many moves away from it.
+pub fn show(
+    rt: &(impl AllocGlobal + Print),
+    league: &League,
+    kind: &str,
+    asked: &str,
+) -> io::Result<()> {
+    let season = double(rt.alloc(), league.n())?;
+    let mut board = Board::new(rt.alloc(), league.n(), league.phased(), &season)?;
+    let mut edit = Edit::new(rt.alloc(), league.n())?;
+    match step_of(asked) {
+        Some(step) if kind == "edit" => show_move(rt, &board, &step, &mut edit),
+        _ => show_walked(rt, &mut board, &mut edit, asked.parse::<u64>().unwrap_or(0)),
+    }
 }
 
-/// Whether a schedule is a double round robin, by a count of the whole season.
-pub fn is_round_robin(alloc: Global, n: u16, phased: bool, schedule: &Schedule) -> bool
-    requires n { IsTeamCount n }
-    requires fit { All (IsGame n) schedule.now }
+/// Shows what is answered to a move, and the games that it takes out and puts in.
+fn show_move(rt: &impl Print, board: &Board, step: &Swap, edit: &mut Edit) -> io::Result<()>
+    requires { edit.old.n ≡ board.now.n }
 {
-    if schedule.len() > 10_000 {
+    let is_legal = find_edit(board, step, edit);
+    println!(rt; "  {}", if is_legal { "legal" } else { "not legal" })?;
+    if !is_legal {
+        return Ok(());
+    }
+    show_games(rt, "out", edit.out())?;
+    show_games(rt, "into", edit.into_games())
+}
+
+/// Shows a list of games, each by home team, away team and slot.
+fn show_games(rt: &impl Print, list: &str, games: &[Game]) -> io::Result<()> {
+    for game in games {
+        let (home, away, slot) = (game.home.0, game.away.0, game.slot.0);
+        println!(rt; "  {list} {home} {away} {slot}")?;
+    }
+    Ok(())
+}
+
+/// The edit of a move, where the move is one of the board's league and legal.
+pub fn find_edit(board: &Board, step: &Swap, edit: &mut Edit) -> bool
+    requires { edit.old.n ≡ board.now.n }
+    ensures n { edit.new.n ≡ board.now.n }
+    ensures out_fit { result ≡ true → All (IsGame board.now.n) edit.new.out }
+    ensures into_fit { result ≡ true → All (IsGame board.now.n) edit.new.into }
+    ensures there { result ≡ true → (i j s : ℕ) → counts_of edit.new.out i j s ≤ round_counts board.now i j s }
+{
+    if !is_of_league(board.n(), step) {
         return false;
     }
-    let league = League::new(n, phased, Vec::new(alloc));
-    let wrongs = structure(&league, schedule);
-    wrongs.pairs_wrong == 0 && wrongs.cells_wrong == 0 && wrongs.phases_wrong == 0
-}
-
-/// Whether a game is one of a league of n teams.
-pub fn is_game(n: u16, game: Game) -> bool
-    requires { IsTeamCount n }
-    ensures { result ≡ true → IsGame n game }
-{
-    game.home.0 < n && game.away.0 < n && game.home.0 != game.away.0 && game.slot.0 < slot_count(n)
-}
-
-/// Whether a move is one of the teams and slots of a league of n teams.
-pub fn is_of_league(n: u16, step: &Swap) -> bool
-    requires { IsTeamCount n }
-    ensures { result ≡ true → IsOfLeague n step.now }
-{
-    match *step {
-        Swap::HomeSwap { i, j } => is_pair(n, i, j),
-        Swap::RoundSwap { s, t } => are_slots(n, s, t),
-        Swap::TeamSwap { i, j } => is_pair(n, i, j),
-        Swap::PartRoundSwap { i, s, t } => i.0 < n && are_slots(n, s, t),
-        Swap::PartTeamSwap { i, j, s } => is_pair(n, i, j) && are_slots(n, s, s),
-    }
-}
-
-/// Whether two teams are of a league of n teams.
-fn is_pair(n: u16, i: TeamId, j: TeamId) -> bool
-    ensures { result ≡ true → (i.0 < n) × (j.0 < n) }
-{
-    i.0 < n && j.0 < n
-}
-
-/// Whether two slots are of the season of a league of n teams.
-fn are_slots(n: u16, s: SlotId, t: SlotId) -> bool
-    requires { IsTeamCount n }
-    ensures { result ≡ true → (s.0 < counts.slot_count n) × (t.0 < counts.slot_count n) }
-{
-    let slots = slot_count(n);
-    s.0 < slots && t.0 < slots
+    edit_of(step, board, edit)
 }
 
 /// Makes a move where it is legal, and says whether it did.
@@ -83,4 +78,21 @@ pub fn make(board: &mut Board, step: &Swap, edit: &mut Edit) -> bool
     }
     board.apply(edit);
     true
+}
+
+/// Whether each game of a season is on a board.
+pub fn are_there(board: &Board, season: &Schedule) -> bool {
+    for game in season.games() {
+        if !is_there(board, *game) {
+            return false;
+        }
+    }
+    true
+}
+
+/// Whether a game is on a board, for each of its teams.
+fn is_there(board: &Board, game: Game) -> bool {
+    is_game(board.n(), game)
+        && board.game(game.home, game.slot) == game
+        && board.game(game.away, game.slot) == game
 }
