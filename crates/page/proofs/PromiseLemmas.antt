@@ -1,5 +1,5 @@
 -- What a page may rely on holds, since the run was made and what is shown is its text.
-use Rattle.std.proofs.Common.{◌≡◌, ◌≢◌, ◌<◌, ◌⊎◌, ℕ, List, [], ◌∷◌, Option, Some, inl, inr, refl, sym, ap, ◌∙◌, arith}
+use Rattle.std.proofs.Common.{◌≡◌, ◌≢◌, ◌<◌, ◌⊎◌, ℕ, List, [], ◌∷◌, Option, inl, inr, refl, sym, ap, ◌∙◌, arith}
 use Rattle.command_line.specs.Words.{Command, reading}
 use Rattle.answers.specs.Stages.{Outcome}
 use Rattle.answers.specs.Status.{status_code}

@@ -1,4 +1,4 @@
-"""copy.py NAME FOLDER: copies the crate NAME and the crates that it stands on into a folder, as a repository without wrong bodies."""
+"""copy_crates.py NAME FOLDER: copies the crate NAME and the crates that it stands on into a folder, as a repository without wrong bodies."""
 import os
 import shutil
 import sys
