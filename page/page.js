@@ -158,6 +158,7 @@ function setSeason(bytes, said) {
 const isLeague = bytes => /<(Instance|Solution)\b/.exec(decoder.decode(bytes).replace(/<!--[\s\S]*?-->/g, ''))?.[1] === 'Instance';
 
 async function takeFiles(blobs, kind) {
+  if (!isAble) return;
   for (const blob of [...blobs].slice(0, 2)) {
     const bytes = new Uint8Array(await blob.arrayBuffer());
     setFile(bytes, kind || (isLeague(bytes) ? 'league' : 'season'), blob.name);
@@ -354,6 +355,7 @@ async function begin() {
   if (!isAble) {
     $('lacking').textContent = 'This browser can\'t run robin: WebAssembly with a memory of 64-bit addresses is lacking. Chrome and Edge have it from version 133 on, Firefox from 134 on.';
     $('lacking').hidden = false;
+    for (const name of ['league-file', 'season-file', 'made']) $(name).disabled = true;
     return;
   }
   const names = ['league', 'season'].map(readGiven).filter(name => name !== null);

@@ -471,6 +471,18 @@ def try_no_network(it):
     it.driver.get_log("browser")
 
 
+def try_lacking(it):
+    """A browser without a memory of 64-bit addresses is told so in a sentence."""
+    added = it.driver.execute_cdp_cmd("Page.addScriptToEvaluateOnNewDocument", {"source": "WebAssembly.validate = () => false;"})
+    try:
+        it.open()
+        assert it.find("lacking").is_displayed() and "64-bit" in it.text("lacking"), it.text("lacking")
+        assert not it.find("made").is_enabled() and not it.find("league-file").is_enabled()
+        it.shot("lacking")
+    finally:
+        it.driver.execute_cdp_cmd("Page.removeScriptToEvaluateOnNewDocument", added)
+
+
 def try_given(it):
     """`robin page` writes a page with the files in it, also a file that tries to break out."""
     room = tempfile.mkdtemp()
