@@ -1,0 +1,73 @@
+-- A run over a store and a sink that were new.
+use Rattle.std.proofs.Common.{◌≡◌, ◌≢◌, ℕ, List, [], ◌∷◌, Option, Some, subst, sym, arith}
+use Rattle.std.specs.List.{All}
+use Rattle.std.proofs.lemmas.List.Elements.{All-nil, All-cons}
+use Rattle.robin_io.specs.Counts.{Rose, TookMore}
+use Rattle.command_line.specs.Words.{Command, reading}
+use Rattle.answers.specs.declared.status.Status.{Status}
+use Rattle.answers.specs.declared.status.Status.TheVariants.{Memory}
+use Rattle.page_io.specs.Files.{file_named}
+use Rattle.page_io.specs.declared.files.Files.{Files}
+use Rattle.robin_run.specs.Run.{NothingFails, Run}
+use Rattle.page.specs.Ran.{IsPromised, Ran, run_over}
+use Rattle.page.specs.Shown.{HasRun, lines}
+
+-- the run from a store that gave so many bytes before, and a sink that held some and failed so often
+abbrev pub run_from : Option Command → Files → ℕ → ℕ → List ℕ → List ℕ → ℕ → ℕ → Status → Run
+run_from command files given taken first text was faults ended = record {
+  command = command;
+  store = record {
+    contents = λ name. Some (file_named files name);
+    took_more = λ limit. TookMore limit given taken;
+    failed = λ name. Rose 0 0;
+  };
+  output = record { before = Some first; after = Some text; failed = Rose was faults };
+  ended = ended;
+}
+
+-- where both were new it is the run of a page
+promised-from-new : (command : Option Command) (files held : Files) (given taken : ℕ) (first text : List ℕ) (was faults : ℕ) (ended : Status)
+    → held ≡ files → given ≡ 0 → first ≡ [] → was ≡ 0
+    → IsPromised (run_from command held given taken first text was faults ended) → IsPromised (run_over command files taken text faults ended)
+promised-from-new command files held given taken first text was faults ended same none empty well promised =
+    subst (λ w. IsPromised (run_from command files 0 taken [] text w faults ended)) well
+    (subst (λ f. IsPromised (run_from command files 0 taken f text was faults ended)) empty
+    (subst (λ g. IsPromised (run_from command files g taken first text was faults ended)) none
+    (subst (λ h. IsPromised (run_from command h given taken first text was faults ended)) same promised)))
+
+never : Rose 0 0 → ⊥
+never rose = omega (arith, rose)
+
+fails-at-none : (names : List (List ℕ)) → All (λ name. Rose 0 0 → ⊥) names
+fails-at-none [] = All-nil (λ name. Rose 0 0 → ⊥)
+fails-at-none (name ∷ names) = All-cons (λ name. Rose 0 0 → ⊥) name names never (fails-at-none names)
+
+-- unless memory ran out or the sink failed, nothing fails
+works : (command : Option Command) (files : Files) (taken : ℕ) (text : List ℕ) (faults : ℕ) (ended : Status)
+    → ended ≢ Memory → faults ≡ 0 → (names : List (List ℕ)) → NothingFails (run_over command files taken text faults ended) names
+works command files taken text faults ended memory none names = record {
+  memory = memory;
+  sink = λ rose. never (subst (λ f. Rose 0 f) none rose);
+  store = fails-at-none names;
+}
+
+-- what is shown of the sink is what it holds
+pub ran : (command : Option Command) (files held : Files) (given taken : ℕ) (first text : List ℕ) (was faults : ℕ) (ended : Status)
+    → held ≡ files → given ≡ 0 → first ≡ [] → was ≡ 0
+    → IsPromised (run_from command held given taken first text was faults ended)
+    → (seen : List ℕ) (counted : ℕ) → seen ≡ text → counted ≡ faults → Ran command files seen counted ended
+ran command files held given taken first text was faults ended same none empty well promised seen counted is_text is_count =
+    let plain : Ran command files text faults ended = record {
+      taken = taken;
+      promised = promised-from-new command files held given taken first text was faults ended same none empty well promised;
+      works = works command files taken text faults ended;
+    } in
+    subst (λ t. Ran command files t counted ended) (sym is_text) (subst (λ f. Ran command files text f ended) (sym is_count) plain)
+
+-- a run of the lines of a text is one of the words that are its bytes
+pub answered : (words text : List ℕ) (cut : List (List ℕ)) (files : Files) (status written : ℕ) (room : List ℕ)
+    → text ≡ words → cut ≡ lines text → HasRun (reading cut) files status written room
+    → HasRun (reading (lines words)) files status written room
+answered words text cut files status written room same is_cut has =
+    subst (λ w. HasRun (reading (lines w)) files status written room) same
+    (subst (λ c. HasRun (reading c) files status written room) is_cut has)
