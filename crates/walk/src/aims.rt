@@ -3,7 +3,7 @@ ghost use Rattle.std.specs.Prelude.{◌<◌, IfSome};
 ghost use Rattle.league.specs.Counts.{slot_count};
 
 use crate::draws::{any_of, below};
-use crate::hard::HardParts;
+use crate::weighed::WeighedParts;
 use league::{Class, TeamId};
 use moves::Board;
 use rand_pcg::Pcg32;
@@ -16,11 +16,11 @@ pub(crate) struct Aim {
 }
 
 /// A team and a slot of a board's league of which some part of the hard constraints speaks that isn't met.
-pub(crate) fn aim_at(random: &mut Pcg32, board: &Board, hard: &HardParts) -> Option<Aim>
+pub(crate) fn aim_at(random: &mut Pcg32, board: &Board, parts: &WeighedParts) -> Option<Aim>
     ensures team { IfSome result (λ aim. aim.team < board.now.n) }
     ensures slot { IfSome result (λ aim. aim.slot < slot_count board.now.n) }
 {
-    let unmet = hard.any_unmet(random)?;
+    let unmet = parts.any_unmet(random)?;
     let aim = aim_in(random, board, &unmet.class)?;
     let n = board.n();
     if aim.team < n && aim.slot < 2 * (n - 1) {

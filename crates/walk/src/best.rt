@@ -65,6 +65,17 @@ impl Kept {
         &self.games
     }
 
+    /// The games as a schedule.
+    ///
+    /// # Errors
+    /// Only where memory runs out.
+    pub(crate) fn schedule(&self, alloc: Global) -> Result<Schedule, AllocError>
+        ensures { IfOk result (λ schedule. schedule ≡ self.now.games.items) }
+    {
+        let schedule = listed(alloc, &self.games)?;
+        Ok(schedule)
+    }
+
     /// What the games cost.
     pub(crate) fn score(&self) -> Score
         ensures { result ≡ self.now.score }

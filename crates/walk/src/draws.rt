@@ -80,7 +80,7 @@ fn two_slots(random: &mut Pcg32, n: u16, phased: bool) -> Pair
 }
 
 /// A move of two teams.
-fn home_swap(random: &mut Pcg32, n: u16) -> Swap
+pub(crate) fn home_swap(random: &mut Pcg32, n: u16) -> Swap
     requires teams { IsTeamCount n }
     ensures league { IsOfLeague n result }
 {
@@ -143,19 +143,46 @@ fn part_team_swap(random: &mut Pcg32, n: u16) -> Swap
     }
 }
 
-/// A move of a league of n teams: mostly one that touches a part of two rounds or of two teams' games.
-pub(crate) fn drawn_move(random: &mut Pcg32, n: u16, phased: bool) -> Swap
+/// How often each kind of move is drawn: of 256 draws so many of each, and a move of two teams and a slot else.
+#[derive(Clone, Copy)]
+pub(crate) struct Mix {
+    home: u16,
+    round: u16,
+    team: u16,
+    part_round: u16,
+}
+
+/// Mostly moves that touch a part of two rounds or of two teams' games.
+pub(crate) const PARTS: Mix = Mix {
+    home: 62,
+    round: 1,
+    team: 2,
+    part_round: 96,
+};
+
+/// More moves of whole rounds and of whole teams, which leave most breaks of the circle method's season as they are.
+pub(crate) const WHOLES: Mix = Mix {
+    home: 60,
+    round: 8,
+    team: 40,
+    part_round: 80,
+};
+
+/// A move of a league of n teams.
+pub(crate) fn drawn_move(random: &mut Pcg32, n: u16, phased: bool, mix: Mix) -> Swap
     requires teams { IsTeamCount n }
     ensures league { IsOfLeague n result }
 {
     let kind = below(random, 256);
-    if kind < 62 {
+    let rounds = mix.home.saturating_add(mix.round);
+    let teams = rounds.saturating_add(mix.team);
+    if kind < mix.home {
         home_swap(random, n)
-    } else if kind < 63 {
+    } else if kind < rounds {
         round_swap(random, n, phased)
-    } else if kind < 65 {
+    } else if kind < teams {
         team_swap(random, n)
-    } else if kind < 161 {
+    } else if kind < teams.saturating_add(mix.part_round) {
         part_round_swap(random, n, phased)
     } else {
         part_team_swap(random, n)

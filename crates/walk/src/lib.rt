@@ -13,17 +13,20 @@
 mod afresh;
 mod aims;
 mod best;
+mod circles;
 mod copies;
+mod course;
 mod draws;
 mod factors;
-mod hard;
 mod number_set;
 mod parts;
+mod scale;
 mod spots;
 mod standing;
 mod threshold;
 mod walked;
 mod walker;
+mod weighed;
 mod weights;
 
 pub use best::Best;

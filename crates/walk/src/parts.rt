@@ -1,33 +1,38 @@
-//! Hard constraints in parts, each of which is weighed by itself: one for each entry of their deviations.
+//! Constraints in parts, each of which is weighed by itself: one for each entry of their deviations.
 
-use crate::weights::Weight;
+use crate::weights::{Weighing, Weight};
 use league::{Class, Constraint, League, SlotId, SlotSet, Span, TeamId, TeamSet};
 use std::alloc::{AllocError, Global};
 
 /// Up to so many parts, constraints are taken apart.
-const SPLIT: usize = 5000;
+const SPLIT: usize = 10_000;
 
-/// Hard constraints in parts, each with its weight.
+/// Constraints in parts, each with its weight.
 #[derive(Drop)]
 pub(crate) struct Demands {
     pub(crate) parts: Vec<Constraint>,
     pub(crate) weights: Vec<Weight>,
 }
 
-/// The hard constraints of a league in parts: one for each team of CA1, CA2 and BR1, for each team and window of CA3,
-/// for each slot of a CA4 of every slot, for each two teams of FA2 and SE1, and one for each other constraint.
+/// The constraints of a league that are weighed, in parts: one for each team of CA1, CA2 and BR1, for each team and
+/// window of CA3, for each slot of a CA4 of every slot, for each two teams of FA2 and SE1, and one for each other
+/// constraint.
 ///
 /// # Errors
 /// Only where memory runs out.
-pub(crate) fn hard_demands(alloc: Global, league: &League) -> Result<Demands, AllocError> {
+pub(crate) fn weighed_demands(
+    alloc: Global,
+    league: &League,
+    weighing: Weighing,
+) -> Result<Demands, AllocError> {
     let mut parts = Vec::new(alloc);
     let mut weights = Vec::new(alloc);
     for constraint in league.constraints() {
-        if constraint.hard {
+        if let Some(weight) = weighing.weight(constraint) {
             add_parts(alloc, league.n(), constraint, &mut parts)?;
-        }
-        for _part in weights.len()..parts.len() {
-            weights.push(Weight::of(constraint))?;
+            for _part in weights.len()..parts.len() {
+                weights.push(weight)?;
+            }
         }
     }
     Ok(Demands { parts, weights })
@@ -181,7 +186,7 @@ fn in_window(
         other => other,
     };
     Ok(Constraint {
-        hard: true,
+        hard: constraint.hard,
         penalty: constraint.penalty,
         class,
     })

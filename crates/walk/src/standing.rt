@@ -12,12 +12,13 @@ ghost use Rattle.walk.specs.Standing.{IsKept, IsStandingOn};
 
 use crate::aims::aim_at;
 use crate::best::Kept;
-use crate::draws::{aimed_move, below, drawn_move};
-use crate::hard::HardParts;
+use crate::draws::{Mix, PARTS, WHOLES, aimed_move, below, drawn_move};
 use crate::threshold::{Cooling, drawn_threshold};
+use crate::weighed::WeighedParts;
 use descent::Score;
 use league::{Schedule, TeamId};
 use moves::{Board, Edit, Swap, edit_of};
+use rand_core::SeedableRng;
 use rand_pcg::Pcg32;
 use robin_watch::Watch;
 use rule_core::{Rule, Steps};
@@ -27,8 +28,8 @@ use tally::{Sums, Tally};
 /// How many moves are drawn, legal or not, for each that may be tried.
 const DRAWS: u64 = 8;
 
-/// The heat of the thresholds of moves that are to meet hard constraints, in units of their weights.
-const HARD_HEAT: u64 = 2;
+/// The heat of the thresholds of moves that are to meet hard constraints: two units of their weights, in 256ths.
+const HARD_HEAT: u64 = 512;
 
 /// Of 256 moves that are to meet hard constraints, so many are aimed at unmet ones.
 const AIMED: u16 = 64;
@@ -39,15 +40,64 @@ const LONGEST: usize = 12;
 /// A stretch of a walk has at most so many moves tried.
 pub(crate) const STRETCH: u64 = 2000;
 
-/// A double round robin on a board, and room for the games of a move.
+/// Moves that are to lower what parts weigh: at most how many are tried, the heat of their thresholds, how often each
+/// kind is drawn, and how many of 256 are aimed at unmet parts.
+#[derive(Clone, Copy)]
+pub(crate) struct Stage {
+    limit: u64,
+    heat: u64,
+    mix: Mix,
+    aimed: u16,
+}
+
+impl Stage {
+    /// So many moves that are to meet hard constraints.
+    pub(crate) fn meeting(limit: u64) -> Stage
+        ensures { result.limit ≡ limit }
+    {
+        Stage {
+            limit,
+            heat: HARD_HEAT,
+            mix: PARTS,
+            aimed: AIMED,
+        }
+    }
+
+    /// So many moves, at a heat, that are to lower what all constraints weigh together.
+    pub(crate) fn together(limit: u64, heat: u64) -> Stage
+        ensures { result.limit ≡ limit }
+    {
+        Stage {
+            limit,
+            heat,
+            mix: WHOLES,
+            aimed: 0,
+        }
+    }
+
+    /// A move of a board that is drawn.
+    fn step(self, random: &mut Pcg32, board: &Board, parts: &WeighedParts) -> Swap
+        ensures { IsOfLeague board.now.n result }
+    {
+        if below(random, 256) < self.aimed
+            && let Some(aim) = aim_at(random, board, parts)
+        {
+            return aimed_move(random, board, aim);
+        }
+        drawn_move(random, board.n(), board.phased(), self.mix)
+    }
+}
+
+/// A double round robin on a board, room for the games of a move, and the numbers that are drawn.
 #[derive(Drop)]
 pub(crate) struct Standing {
     pub(crate) board: Board,
     edit: Edit,
+    pub(crate) random: Pcg32,
 }
 
 impl Standing {
-    /// A walk that stands on the games of a double round robin.
+    /// A walk that stands on the games of a double round robin, and draws the numbers of a seed.
     ///
     /// # Errors
     /// Only where memory runs out.
@@ -56,6 +106,7 @@ impl Standing {
         n: u16,
         phased: bool,
         first: &Schedule,
+        seed: u64,
     ) -> Result<Standing, AllocError>
         requires teams { IsTeamCount n }
         requires fit { All (IsGame n) first.now }
@@ -65,17 +116,17 @@ impl Standing {
         Ok(Standing {
             board: Board::new(alloc, n, phased, first)?,
             edit: Edit::new(alloc, n)?,
+            random: Pcg32::seed_from_u64(seed),
         })
     }
 
-    /// Tries moves until so many were legal, all parts of the hard constraints are met, or the watch ends the walk: each
-    /// is made where they weigh no more after it than a drawn threshold allows. A quarter of them is aimed at unmet
-    /// parts. The counts follow the games. Says how many were tried.
+    /// Tries moves of a stage until so many were legal, the parts are at their goal, or the watch ends the walk: each is
+    /// made where they weigh no more after it than a drawn threshold allows. The counts follow the games. Says how many
+    /// were tried.
     pub(crate) fn meet<R: Rule<L>, L, W: Watch>(
         &mut self,
-        random: &mut Pcg32,
-        limit: u64,
-        hard: &mut HardParts,
+        stage: Stage,
+        parts: &mut WeighedParts,
         counts: &mut Tally<R>,
         steps: &mut Steps<L>,
         watch: &W,
@@ -84,31 +135,20 @@ impl Standing {
             self.old }
         ensures standing { IsStandingOn counts.old.table.n self.old.board.phased (round_counts self.new.board)
             self.new }
-        ensures tried { result ≤ limit }
+        ensures tried { result ≤ stage.limit }
     {
+        let limit = stage.limit;
         let mut tried = 0;
         'draws: for _drawn in 0..limit.saturating_mul(DRAWS) {
-            if tried == limit || hard.are_met() || watch.is_over(tried) {
+            if tried == limit || parts.are_at_goal() || watch.is_over(tried) {
                 return tried;
             }
-            let step = self.hard_move(random, hard);
-            let more = drawn_threshold(random, HARD_HEAT);
-            let legal = self.attempt_hard(step, more, hard, counts, steps);
+            let step = stage.step(&mut self.random, &self.board, parts);
+            let more = drawn_threshold(&mut self.random, stage.heat);
+            let legal = self.attempt_weighed(step, more, parts, counts, steps);
             tried = with_move(tried, limit, legal);
         }
         tried
-    }
-
-    /// A move that is drawn to meet hard constraints.
-    fn hard_move(&self, random: &mut Pcg32, hard: &HardParts) -> Swap
-        ensures { IsOfLeague self.now.board.n result }
-    {
-        if below(random, 256) < AIMED
-            && let Some(aim) = aim_at(random, &self.board, hard)
-        {
-            return aimed_move(random, &self.board, aim);
-        }
-        drawn_move(random, self.board.n(), self.board.phased())
     }
 
     /// Tries moves until a stretch of them was legal, the soft rules cost nothing, or the watch ends the walk: each is
@@ -116,7 +156,6 @@ impl Standing {
     /// down. The best games on the way are kept. Says how many moves were tried.
     pub(crate) fn improve<R: Rule<L>, L, W: Watch>(
         &mut self,
-        random: &mut Pcg32,
         cooling: Cooling,
         best: &mut Kept,
         tally: &mut Tally<R>,
@@ -143,8 +182,9 @@ impl Standing {
             if tried == limit || tally.objective() == 0 || watch.is_over(tried) {
                 return tried;
             }
-            let step = drawn_move(random, n, phased);
-            let most = cooling.most(random, cooling.left - tried, Score::of(tally));
+            let step = drawn_move(&mut self.random, n, phased, PARTS);
+            let left = cooling.left - tried;
+            let most = cooling.most(&mut self.random, left, Score::of(tally));
             let legal = self.attempt(step, most, tally, steps);
             tried = with_move(tried, limit, legal);
             best.keep(&self.board, Score::of(tally));
@@ -152,13 +192,13 @@ impl Standing {
         tried
     }
 
-    /// Tries a move that is to meet hard constraints: makes it where it is legal and their parts weigh at most so much
-    /// more after it. Says whether it is legal and not too long.
-    fn attempt_hard<R: Rule<L>, L>(
+    /// Tries a move: makes it where it is legal and the parts weigh at most so much more after it. Says whether it is
+    /// legal and not too long.
+    fn attempt_weighed<R: Rule<L>, L>(
         &mut self,
         step: Swap,
         more: u64,
-        hard: &mut HardParts,
+        parts: &mut WeighedParts,
         counts: &mut Tally<R>,
         steps: &mut Steps<L>,
     ) -> bool
@@ -173,7 +213,7 @@ impl Standing {
             return false;
         }
         counts.apply(&self.edit, steps);
-        let follows = hard.follow(&self.edit, counts.cells(), more, steps);
+        let follows = parts.follow(&self.edit, counts.cells(), more, steps);
         if !follows {
             counts.undo(&self.edit, steps);
             return true;
@@ -222,13 +262,13 @@ impl Standing {
     }
 
     /// Puts the teams in a random order, by moves of two teams.
-    pub(crate) fn shuffle(&mut self, random: &mut Pcg32)
+    pub(crate) fn shuffle(&mut self)
         requires standing { IsStandingOn self.old.board.n self.old.board.phased (round_counts self.old.board) self.old }
         ensures standing { IsStandingOn self.old.board.n self.old.board.phased (round_counts self.new.board) self.new }
     {
         let n = self.board.n();
         for later in 1..n {
-            let earlier = below(random, later + 1);
+            let earlier = below(&mut self.random, later + 1);
             if earlier < later {
                 self.make_if_legal(Swap::TeamSwap {
                     i: TeamId(earlier),
@@ -236,6 +276,31 @@ impl Standing {
                 });
             }
         }
+    }
+
+    /// Puts the teams in a random order, each with all its games, so that there are as many breaks as before.
+    pub(crate) fn relabel(&mut self)
+        requires standing { IsStandingOn self.old.board.n self.old.board.phased (round_counts self.old.board) self.old }
+        ensures standing { IsStandingOn self.old.board.n self.old.board.phased (round_counts self.new.board) self.new }
+    {
+        let n = self.board.n();
+        for later in 1..n {
+            let earlier = below(&mut self.random, later + 1);
+            if earlier < later {
+                self.exchange(TeamId(earlier), TeamId(later));
+            }
+        }
+    }
+
+    /// Gives each of two teams the other's games, also the two between them.
+    fn exchange(&mut self, i: TeamId, j: TeamId)
+        requires order { i.0 < j.0 }
+        requires below { j.0 < self.old.board.n }
+        requires standing { IsStandingOn self.old.board.n self.old.board.phased (round_counts self.old.board) self.old }
+        ensures standing { IsStandingOn self.old.board.n self.old.board.phased (round_counts self.new.board) self.new }
+    {
+        self.make_if_legal(Swap::TeamSwap { i, j });
+        self.make_if_legal(Swap::HomeSwap { i, j });
     }
 
     /// Makes a move where it is legal.

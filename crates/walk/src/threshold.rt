@@ -16,9 +16,9 @@ fn eighths(random: &mut Pcg32) -> u64 {
     (8 * zeros + 8).saturating_sub(rest / 268_435_456)
 }
 
-/// A drawn threshold: a heat times the negated logarithm of a random number.
+/// A drawn threshold: a heat, in 256ths, times the negated logarithm of a random number.
 pub(crate) fn drawn_threshold(random: &mut Pcg32, heat: u64) -> u64 {
-    heat.saturating_mul(eighths(random)) / 8
+    heat.saturating_mul(eighths(random)) / 2048
 }
 
 /// Twice the middle one of the penalties of a league's soft constraints.

@@ -14,14 +14,14 @@ ghost use Rattle.walk.specs.Walked.{league_score};
 use crate::afresh::random_start;
 use crate::best::Kept;
 use crate::copies::{copy_games, room_for_games};
-use crate::hard::{HardParts, bare_tally};
-use crate::standing::{STRETCH, Standing};
+use crate::standing::{STRETCH, Stage, Standing};
 use crate::threshold::{Cooling, soft_heat};
+use crate::weighed::{WeighedParts, bare_tally};
+use crate::weights::Weighing;
 use descent::Score;
 use deviation::AnyRule;
 use league::{Game, League, Schedule};
-use rand_core::SeedableRng;
-use rand_pcg::Pcg32;
+use moves::Board;
 use robin_news::Listener;
 use robin_watch::News;
 use rule_core::{Entries, Plain, Steps};
@@ -31,28 +31,38 @@ use tally::{Tally, league_tally};
 /// A search ends after so many moves tried that didn't lower what the hard constraints cost.
 const PATIENCE: u64 = 1_600_000;
 
-/// The same for the first search, from the games where the walk starts.
-const FIRST_PATIENCE: u64 = 30_000;
+/// The first search, from the games where the walk starts, ends after so many, and so does a search from where a walk on
+/// all constraints ends.
+const SHORT_PATIENCE: u64 = 30_000;
 
 /// How long a search has been in vain, and how long it may be.
 #[derive(Clone, Copy)]
-struct Patience {
+pub(crate) struct Patience {
     lowest: u128,
     vain: u64,
     most: u64,
 }
 
 impl Patience {
-    /// The patience of a search with this number, from 0, of which nothing was searched yet.
+    /// The patience of the search with this number, from 0, of which nothing was searched yet.
     fn of(search: u64) -> Patience {
         Patience {
             lowest: u128::MAX,
             vain: 0,
             most: if search == 0 {
-                FIRST_PATIENCE
+                SHORT_PATIENCE
             } else {
                 PATIENCE
             },
+        }
+    }
+
+    /// The least patience of a search, of which nothing was searched yet.
+    pub(crate) fn short() -> Patience {
+        Patience {
+            lowest: u128::MAX,
+            vain: 0,
+            most: SHORT_PATIENCE,
         }
     }
 
@@ -72,12 +82,11 @@ impl Patience {
 /// many of them may still be tried.
 #[derive(Drop)]
 pub(crate) struct Walker {
-    standing: Standing,
-    games: Vec<Game>,
-    best: Kept,
-    random: Pcg32,
+    pub(crate) standing: Standing,
+    pub(crate) games: Vec<Game>,
+    pub(crate) best: Kept,
     budget: u64,
-    left: u64,
+    pub(crate) left: u64,
 }
 
 impl Walker {
@@ -99,7 +108,7 @@ impl Walker {
         ensures left { IfOk result (λ walker. walker.left ≡ budget) }
     {
         let n = league.n();
-        let standing = Standing::new(alloc, n, league.phased(), start)?;
+        let standing = Standing::new(alloc, n, league.phased(), start, seed)?;
         let mut games = room_for_games(alloc, n)?;
         copy_games(&standing.board, &mut games);
         let score = cost_of(alloc, league, &games)?;
@@ -108,7 +117,6 @@ impl Walker {
             standing,
             games,
             best,
-            random: Pcg32::seed_from_u64(seed),
             budget,
             left: budget,
         })
@@ -132,7 +140,7 @@ impl Walker {
     {
         'searches: for search in 0..self.left / PATIENCE + 2 {
             self.search_once(alloc, league, search, watch)?;
-            if self.is_done() || watch.is_over(self.tried()) {
+            if self.is_over(watch) {
                 return Ok(());
             }
         }
@@ -140,17 +148,23 @@ impl Walker {
     }
 
     /// Whether no move may be tried any more, or the best games cost nothing.
-    fn is_done(&self) -> bool {
+    pub(crate) fn is_done(&self) -> bool {
         let score = self.best.score();
         self.left == 0 || (score.infeasibility == 0 && score.objective == 0)
     }
 
+    /// Whether the walk has come to its end, or the watch ends it.
+    pub(crate) fn is_over<W: Listener>(&self, watch: &W) -> bool {
+        self.is_done() || watch.is_over(self.tried())
+    }
+
     /// How many moves were tried.
-    fn tried(&self) -> u64 {
+    pub(crate) fn tried(&self) -> u64 {
         self.budget.saturating_sub(self.left)
     }
 
-    /// Looks for games that meet the hard constraints, and from there for better ones: the search with this number.
+    /// Looks for games that meet the hard constraints, then also from the circle method's season, and from the best for
+    /// better ones: the search with this number.
     ///
     /// # Errors
     /// Only where memory runs out.
@@ -167,8 +181,9 @@ impl Walker {
         ensures left { OnOk result (self.new.left ≤ self.old.left) }
     {
         self.place(alloc, league, search)?;
-        self.meet_hard(alloc, league, Patience::of(search), watch)?;
-        self.lower_soft(alloc, league, watch)?;
+        let _sum = self.meet_hard(alloc, league, Patience::of(search), watch)?;
+        let few_breaks = self.walk_circles(alloc, league, watch)?;
+        self.lower_soft(alloc, league, few_breaks, watch)?;
         Ok(())
     }
 
@@ -187,7 +202,7 @@ impl Walker {
             return Ok(());
         }
         self.restart(alloc, league)?;
-        self.standing.shuffle(&mut self.random);
+        self.standing.shuffle();
         Ok(())
     }
 
@@ -201,56 +216,81 @@ impl Walker {
         ensures best { OnOk result (self.new.best ≡ self.old.best) }
         ensures left { OnOk result (self.new.left ≡ self.old.left) }
     {
-        let Some(start) = random_start(alloc, league, &mut self.random)? else {
+        let Some(start) = random_start(alloc, league, &mut self.standing.random)? else {
             return Ok(());
         };
-        self.standing = Standing::new(alloc, league.n(), league.phased(), &start)?;
+        self.stand_at(alloc, league, &start)?;
+        Ok(())
+    }
+
+    /// Goes to the games of a double round robin.
+    ///
+    /// # Errors
+    /// Only where memory runs out.
+    pub(crate) fn stand_at(
+        &mut self,
+        alloc: Global,
+        league: &League,
+        start: &Schedule,
+    ) -> Result<(), AllocError>
+        requires walker { IsWalkerIn league.now self.old }
+        requires fit { All (IsGame league.now.n) start.now }
+        requires round_robin { IsRoundRobin league.now.n league.now.phased (counts_of start.now) }
+        ensures walker { OnOk result (IsWalkerIn league.now self.new) }
+        ensures best { OnOk result (self.new.best ≡ self.old.best) }
+        ensures left { OnOk result (self.new.left ≡ self.old.left) }
+    {
+        self.standing.board = Board::new(alloc, league.n(), league.phased(), start)?;
         Ok(())
     }
 
     /// Looks for games that meet the hard constraints, in stretches after each of which the weights are adapted, until
     /// the search has been in vain for long, or the watch ends the walk. The best games at the end of a stretch are
-    /// kept.
+    /// kept. Says what the hard constraints cost in the end.
     ///
     /// # Errors
     /// Only where memory runs out.
-    fn meet_hard<W: Listener>(
+    pub(crate) fn meet_hard<W: Listener>(
         &mut self,
         alloc: Global,
         league: &League,
         patience: Patience,
         watch: &W,
-    ) -> Result<(), AllocError>
+    ) -> Result<u128, AllocError>
         requires walker { IsWalkerIn league.now self.old }
         ensures walker { OnOk result (IsWalkerIn league.now self.new) }
         ensures no_worse { OnOk result (IsNoWorse self.new.best.score self.old.best.score) }
         ensures left { OnOk result (self.new.left ≤ self.old.left) }
     {
-        let mut hard = HardParts::new(alloc, league)?;
+        let mut hard = WeighedParts::new(alloc, league, Weighing::Hard)?;
         let mut patience = patience;
         'stretches: for _stretch in 0..self.left / STRETCH + 1 {
-            let sum = self.stretch(alloc, league, &mut hard, watch)?;
-            self.keep_lower(alloc, league, sum)?;
+            let stage = Stage::meeting(self.left.min(STRETCH));
+            let sum = self.stretch(alloc, league, &mut hard, stage, watch)?;
+            self.keep_lower(alloc, league, unweighed(sum))?;
             self.tell(league, watch);
             if sum == 0 || self.left == 0 || patience.ends(sum) || watch.is_over(self.tried()) {
-                return Ok(());
+                return Ok(sum);
             }
         }
-        Ok(())
+        Ok(u128::MAX)
     }
 
-    /// One stretch, by the weights as they are. Says what the hard constraints cost at its end.
+    /// One stretch of so many moves, by the weights as they are, which are adapted then. Says what the hard constraints
+    /// cost at its end.
     ///
     /// # Errors
     /// Only where memory runs out.
-    fn stretch<W: Listener>(
+    pub(crate) fn stretch<W: Listener>(
         &mut self,
         alloc: Global,
         league: &League,
-        hard: &mut HardParts,
+        parts: &mut WeighedParts,
+        stage: Stage,
         watch: &W,
     ) -> Result<u128, AllocError>
         requires walker { IsWalkerIn league.now self.old }
+        requires limit { stage.limit ≤ self.old.left }
         ensures walker { OnOk result (IsWalkerIn league.now self.new) }
         ensures best { OnOk result (self.new.best ≡ self.old.best) }
         ensures left { OnOk result (self.new.left ≤ self.old.left) }
@@ -258,32 +298,31 @@ impl Walker {
         copy_games(&self.standing.board, &mut self.games);
         let mut steps = Steps::<Plain>::start();
         let mut counts = bare_tally(alloc, league, &self.games, &mut steps)?;
-        hard.count(counts.cells(), &mut steps);
-        let limit = self.left.min(STRETCH);
-        let tried = self.standing.meet(
-            &mut self.random,
-            limit,
-            hard,
-            &mut counts,
-            &mut steps,
-            watch,
-        );
+        parts.count(counts.cells(), &mut steps);
+        let tried = self
+            .standing
+            .meet(stage, parts, &mut counts, &mut steps, watch);
         self.left -= tried;
-        hard.adapt();
-        Ok(hard.price())
+        parts.adapt();
+        Ok(parts.price())
     }
 
-    /// Keeps the games where they are better than the best so far, if their hard sum is said to be lower.
+    /// Keeps the games where they are better than the best so far, if they are said to be.
     ///
     /// # Errors
     /// Only where memory runs out.
-    fn keep_lower(&mut self, alloc: Global, league: &League, sum: u128) -> Result<(), AllocError>
+    pub(crate) fn keep_lower(
+        &mut self,
+        alloc: Global,
+        league: &League,
+        said: Score,
+    ) -> Result<(), AllocError>
         requires walker { IsWalkerIn league.now self.old }
         ensures walker { OnOk result (IsWalkerIn league.now self.new) }
         ensures no_worse { OnOk result (IsNoWorse self.new.best.score self.old.best.score) }
         ensures left { OnOk result (self.new.left ≡ self.old.left) }
     {
-        if self.best.score().infeasibility <= sum {
+        if !said.is_lower(self.best.score()) {
             return Ok(());
         }
         copy_games(&self.standing.board, &mut self.games);
@@ -293,7 +332,7 @@ impl Walker {
     }
 
     /// Keeps the games where they are better than the best so far, and where they meet the hard constraints goes on to
-    /// better ones.
+    /// better ones: at less heat where they have few breaks, since a walk that brings more of them takes none away.
     ///
     /// # Errors
     /// Only where memory runs out.
@@ -301,6 +340,7 @@ impl Walker {
         &mut self,
         alloc: Global,
         league: &League,
+        few_breaks: bool,
         watch: &W,
     ) -> Result<(), AllocError>
         requires walker { IsWalkerIn league.now self.old }
@@ -316,6 +356,7 @@ impl Walker {
             return Ok(());
         }
         let heat = soft_heat(alloc, league)?;
+        let heat = if few_breaks { heat / 4 } else { heat };
         self.soften(league, heat, &mut tally, &mut steps, watch);
         Ok(())
     }
@@ -341,14 +382,9 @@ impl Walker {
     {
         let cooling = Cooling::new(heat, self.left);
         'stretches: for _stretch in 0..self.left / STRETCH + 1 {
-            let tried = self.standing.improve(
-                &mut self.random,
-                cooling.at(self.left),
-                &mut self.best,
-                tally,
-                steps,
-                watch,
-            );
+            let tried = self
+                .standing
+                .improve(cooling.at(self.left), &mut self.best, tally, steps, watch);
             self.left -= tried;
             self.tell(league, watch);
             if self.left == 0 || tally.objective() == 0 || watch.is_over(self.tried()) {
@@ -358,7 +394,7 @@ impl Walker {
     }
 
     /// Tells how far the walk has come.
-    fn tell<W: Listener>(&self, league: &League, watch: &W)
+    pub(crate) fn tell<W: Listener>(&self, league: &League, watch: &W)
         requires { IsWalkerIn league.now self.now }
     {
         let Score {
@@ -385,6 +421,14 @@ impl Walker {
         ensures { result ≡ self.best }
     {
         self.best
+    }
+}
+
+/// A score of which only what the hard constraints cost is known.
+fn unweighed(infeasibility: u128) -> Score {
+    Score {
+        infeasibility,
+        objective: u128::MAX,
     }
 }
 

@@ -1,14 +1,40 @@
-//! Weights of the hard constraints' parts, which grow while a part isn't met. Such weights are those of the breakout
-//! method (Morris 1993); here they also fall.
+//! Weights of constraints' parts. Those of hard constraints grow while a part isn't met. Such weights are those of the
+//! breakout method (Morris 1993); here they also fall.
 
 use league::{ClassName, Constraint};
 
-/// What a unit of the deviation of a hard constraint's part weighs now, its penalty, and the unit of its weight.
+/// How constraints are weighed.
+#[derive(Clone, Copy)]
+pub(crate) enum Weighing {
+    /// The hard constraints alone.
+    Hard,
+    /// All constraints together: a soft one by its penalty, and each unit of a hard one's penalty by at least so much.
+    Together(u32),
+}
+
+impl Weighing {
+    /// The weight at the start of a constraint's parts, if they are weighed.
+    pub(crate) fn weight(self, constraint: &Constraint) -> Option<Weight> {
+        if let Weighing::Together(unit) = self {
+            return Some(Weight::together(constraint, unit));
+        }
+        if constraint.hard {
+            Some(Weight::alone(constraint))
+        } else {
+            None
+        }
+    }
+}
+
+/// What a unit of the deviation of a constraint's part weighs now, at least and at most, by which part of it the weight
+/// grows, and the penalty, which is 0 of a soft constraint.
 #[derive(Clone, Copy)]
 pub(crate) struct Weight {
     penalty: u32,
-    unit: u32,
+    least: u32,
     now: u32,
+    most: u32,
+    growth: u32,
 }
 
 /// How many times its penalty the unit of a weight is, by the class of the constraint: more where few games are left to
@@ -22,27 +48,59 @@ fn strength(class: ClassName) -> u32 {
 }
 
 impl Weight {
-    /// Ten units, where a penalty of 0 counts as 1.
-    pub(crate) fn of(constraint: &Constraint) -> Weight {
+    /// Ten units, at least 5 and at most 80, where a penalty of 0 counts as 1.
+    fn alone(constraint: &Constraint) -> Weight {
         let penalty = constraint.penalty.max(1);
         let unit = penalty.saturating_mul(strength(constraint.class.name()));
         Weight {
             penalty,
-            unit,
+            least: unit.saturating_mul(5),
             now: unit.saturating_mul(10),
+            most: unit.saturating_mul(80),
+            growth: 8,
         }
     }
 
-    /// A sixteenth less where the part is met, but at least 5 units; else an eighth more, but at most 80 units.
+    /// Of a soft constraint its penalty; of a hard one so much for each unit of its penalty, where a penalty of 0
+    /// counts as 1, and more while it isn't met.
+    fn together(constraint: &Constraint, unit: u32) -> Weight {
+        if !constraint.hard {
+            return Weight {
+                penalty: 0,
+                least: constraint.penalty,
+                now: constraint.penalty,
+                most: constraint.penalty,
+                growth: 1,
+            };
+        }
+        let penalty = constraint.penalty.max(1);
+        let least = penalty.saturating_mul(unit);
+        Weight {
+            penalty,
+            least,
+            now: least,
+            most: u32::MAX,
+            growth: 3,
+        }
+    }
+
+    /// An eighth or a third more where the part isn't met, else half of that less.
     pub(crate) fn adapted(self, met: bool) -> Weight {
+        let part = self.now / self.growth.max(1);
         let now = if met {
-            let less = self.now - self.now / 16;
-            less.max(self.unit.saturating_mul(5))
+            self.now.saturating_sub(part / 2).max(self.least)
         } else {
-            let more = self.now.saturating_add(self.now / 8).saturating_add(1);
-            more.min(self.unit.saturating_mul(80))
+            self.now
+                .saturating_add(part)
+                .saturating_add(1)
+                .min(self.most)
         };
         Weight { now, ..self }
+    }
+
+    /// Whether it is a hard constraint's.
+    pub(crate) fn is_hard(self) -> bool {
+        self.penalty > 0
     }
 
     /// What a deviation weighs.
@@ -50,7 +108,7 @@ impl Weight {
         deviation.saturating_mul(u64::from(self.now))
     }
 
-    /// What a deviation costs.
+    /// What a deviation of a hard constraint costs.
     pub(crate) fn price(self, deviation: u64) -> u128 {
         u128::from(deviation).saturating_mul(u128::from(self.penalty))
     }

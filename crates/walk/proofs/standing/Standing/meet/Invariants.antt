@@ -9,4 +9,5 @@ invariant-draws g l = record {
   teams : l.counts.table.n ≡ l.initial.counts.table.n;
   standing : IsStandingOn l.initial.counts.table.n l.initial.self.board.phased (table_counts l.counts.table) l.self;
   within : l.tried ≤ l.limit;
+  most : l.limit ≤ l.stage.limit;
 }

@@ -1,10 +1,10 @@
-use Rattle.std.proofs.Common.{◌≡◌, ℕ, ◌*◌, ◌≤◌, refl, ap, subst, sym, ◌∙◌}
+use Rattle.std.proofs.Common.{◌≡◌, ℕ, ◌*◌, ◌≤◌, ap, subst, sym, ◌∙◌}
 use Rattle.league.specs.Counts.{Counts}
 use Rattle.cells.specs.Table.{table_counts}
 use Rattle.moves.specs.Round.{round_counts}
 use Rattle.descent.specs.declared.score.Score.{Score}
 use Rattle.walk.specs.Walked.{league_score}
-use Rattle.walk.proofs.WalkLemmas.{counted-on, IsNoWorse-both, kept-at, kept-in, scores-are, standing-at}
+use Rattle.walk.proofs.WalkLemmas.{counted-on, IsNoWorse-both, kept-in, scores-are}
 use Rattle.walk.proofs.walker.Walker.lower_soft.Goals as goal
 
 pub returns-then-infeasibility-gt0-clause-walker : goal.returns-then-infeasibility-gt0-clause-walker

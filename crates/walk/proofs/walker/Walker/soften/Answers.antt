@@ -1,4 +1,4 @@
-use Rattle.std.proofs.Common.{◌≡◌, arith, refl, sym, ◌∙◌}
+use Rattle.std.proofs.Common.{arith, refl, sym, ◌∙◌}
 use Rattle.moves.specs.Round.{round_counts}
 use Rattle.descent.proofs.ScoreLemmas.{IsNoWorse-itself}
 use Rattle.walk.specs.Walked.{league_score}

@@ -1,4 +1,4 @@
-//! A league's hard constraints in parts: by how much each isn't met, and what that weighs.
+//! A league's constraints in parts: by how much each isn't met, and what that weighs.
 ghost use Rattle.std.specs.Prelude.{◌≡◌, ◌≤◌, length, IfOk};
 ghost use Rattle.std.specs.List.{All};
 ghost use Rattle.league.specs.Counts.{counts_of};
@@ -7,9 +7,9 @@ ghost use Rattle.cells.specs.Table.{table_counts};
 
 use crate::draws::any_of;
 use crate::number_set::NumberSet;
-use crate::parts::{Demands, hard_demands};
+use crate::parts::{Demands, weighed_demands};
 use crate::spots::Spots;
-use crate::weights::Weight;
+use crate::weights::{Weighing, Weight};
 use deviation::{AnyRule, counted};
 use league::{Constraint, Game, League};
 use moves::Edit;
@@ -26,10 +26,18 @@ struct Part {
     then: u64,
 }
 
-/// The parts of a league's hard constraints with their weights, and what they cost together on the games that they
-/// follow. A move asks only those parts that its games can change.
+impl Part {
+    /// Whether it is a part of a hard constraint, and isn't met.
+    fn is_unmet(&self) -> bool {
+        self.weight.is_hard() && self.deviation > 0
+    }
+}
+
+/// The parts of a league's constraints with their weights, those of hard constraints that aren't met, what all weigh
+/// together on the games that they follow, and how much that may be at the goal of a walk. A move asks only those parts
+/// that its games can change.
 #[derive(Drop)]
-pub(crate) struct HardParts {
+pub(crate) struct WeighedParts {
     demands: Vec<Constraint>,
     rules: Vec<Option<AnyRule>>,
     parts: Vec<Part>,
@@ -37,18 +45,24 @@ pub(crate) struct HardParts {
     found: NumberSet,
     unmet: NumberSet,
     sum: u64,
+    goal: u64,
 }
 
-impl HardParts {
-    /// The parts of a league with the weights at the start, of which nothing was counted yet.
+impl WeighedParts {
+    /// The parts of a league's constraints that are weighed, with the weights at the start. Nothing was counted yet, and
+    /// any weight is low enough for the goal.
     ///
     /// # Errors
     /// Only where memory runs out.
-    pub(crate) fn new(alloc: Global, league: &League) -> Result<HardParts, AllocError> {
+    pub(crate) fn new(
+        alloc: Global,
+        league: &League,
+        weighing: Weighing,
+    ) -> Result<WeighedParts, AllocError> {
         let Demands {
             parts: demands,
             weights,
-        } = hard_demands(alloc, league)?;
+        } = weighed_demands(alloc, league, weighing)?;
         let mut rules = Vec::with_capacity(alloc, demands.len())?;
         for demand in &demands {
             rules.push(rule_of(alloc, league.n(), demand)?)?;
@@ -64,7 +78,7 @@ impl HardParts {
         let spots = Spots::new(alloc, &demands)?;
         let found = NumberSet::new(alloc, demands.len())?;
         let unmet = NumberSet::new(alloc, demands.len())?;
-        Ok(HardParts {
+        Ok(WeighedParts {
             demands,
             rules,
             parts,
@@ -72,6 +86,7 @@ impl HardParts {
             found,
             unmet,
             sum: 0,
+            goal: u64::MAX,
         })
     }
 
@@ -85,7 +100,7 @@ impl HardParts {
             };
             part.deviation = deviation_of(rule, cells, steps);
             self.sum = self.sum.saturating_add(part.weight.weigh(part.deviation));
-            if part.deviation > 0 {
+            if part.is_unmet() {
                 self.unmet.add(number);
             }
         }
@@ -141,7 +156,7 @@ impl HardParts {
         for number in self.found.numbers() {
             if let Some(part) = self.parts.get_mut(*number) {
                 part.deviation = part.then;
-                if part.deviation > 0 {
+                if part.is_unmet() {
                     self.unmet.add(*number);
                 } else {
                     self.unmet.remove(*number);
@@ -150,12 +165,22 @@ impl HardParts {
         }
     }
 
-    /// Whether all parts are met.
-    pub(crate) fn are_met(&self) -> bool {
-        self.sum == 0
+    /// Whether all parts of hard constraints are met, and all parts weigh little enough.
+    pub(crate) fn are_at_goal(&self) -> bool {
+        self.unmet.numbers().is_empty() && self.sum <= self.goal
     }
 
-    /// What the parts cost by their penalties.
+    /// From now on all parts weigh little enough where it is at most so much.
+    pub(crate) fn set_goal(&mut self, goal: u64) {
+        self.goal = goal;
+    }
+
+    /// What all parts weigh.
+    pub(crate) fn sum(&self) -> u64 {
+        self.sum
+    }
+
+    /// What the parts of hard constraints cost by their penalties.
     pub(crate) fn price(&self) -> u128 {
         let mut sum = 0u128;
         for part in &self.parts {
@@ -171,7 +196,7 @@ impl HardParts {
         }
     }
 
-    /// What some part demands that isn't met.
+    /// What some part of a hard constraint demands that isn't met.
     pub(crate) fn any_unmet(&self, random: &mut Pcg32) -> Option<&Constraint> {
         let number = any_of(random, self.unmet.numbers())?;
         self.demands.get(number)

@@ -6,7 +6,7 @@ use Rattle.moves.specs.Moves.{moved}
 use Rattle.moves.specs.Round.{round_counts}
 use Rattle.tally.proofs.UndoLemmas.{into_there, undone}
 use Rattle.descent.proofs.EditLemmas.{AreExchanged, edit-leads, edited-is}
-use Rattle.walk.proofs.standing.Standing.attempt_hard.Goals as goal
+use Rattle.walk.proofs.standing.Standing.attempt_weighed.Goals as goal
 
 pub apply-requires-clause-there : goal.apply-requires-clause-there
 apply-requires-clause-there g c i j s =
