@@ -28,8 +28,12 @@ walked-no_higher league best m is no_worse accepted =
     (feasible-is league best is).1 (accepted-stays league best m is no_worse accepted) in
     let cost : best.score.objective ≡ objective league (counts_of best.games) =
     ap (λ (s : Score). s.objective) is.score in
-    omega (arith, cost, no_higher best.score.infeasibility best.score.objective (hard_sum 1 league m)
-    (objective league m) none ((met league m).1 accepted.hard) no_worse)
+    omega (
+      arith,
+      cost,
+      no_higher best.score.infeasibility best.score.objective (hard_sum 1 league m)
+          (objective league m) none ((met league m).1 accepted.hard) no_worse,
+    )
 
 -- a descent doesn't end higher than it began
 descended-no_higher : (league : Instance) (moves : ℕ) (season : Season) → IsSeason league moves season
@@ -45,5 +49,9 @@ pub found-no_higher : (league : Instance) (moves : ℕ) (season : Season) (best 
     → IsSeason league moves season → counts_of season.descent.first ≡ counts_of best.games → IsSeasonOf league best
     → IsNoWorse best.score (walks.league_score league m) → IsAccepted league m → season.objective ≤ objective league m
 found-no_higher league moves season best m is first season_of no_worse accepted =
-    omega (arith, descended-no_higher league moves season is, ap (λ (c : Counts). objective league c) first,
-    walked-no_higher league best m season_of no_worse accepted)
+    omega (
+      arith,
+      descended-no_higher league moves season is,
+      ap (λ (c : Counts). objective league c) first,
+      walked-no_higher league best m season_of no_worse accepted,
+    )
