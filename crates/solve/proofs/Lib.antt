@@ -4,6 +4,8 @@ mod CircleLemmas
 pub mod FewLemmas
 -- What a descent makes of an accepted schedule:
 pub mod LowerLemmas
+-- What a walk from an accepted start leads to:
+mod StartLemmas
 -- What counts say:
 pub mod CountingLemmas
 -- Which of several tries is the best:

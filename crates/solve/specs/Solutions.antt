@@ -100,3 +100,9 @@ abbrev pub IsRefuted : Solved → Type 0
 IsRefuted (Schedule games objective descent) = ⊥
 IsRefuted (Refuted log) = Unit {0}
 IsRefuted (Spent log patterns) = ⊥
+
+-- the answer is a schedule that costs at most so much
+abbrev pub CostsAtMost : ℕ → Solved → Type 0
+CostsAtMost most (Schedule games objective descent) = objective ≤ most
+CostsAtMost most (Refuted log) = ⊥
+CostsAtMost most (Spent log patterns) = ⊥

@@ -1,5 +1,5 @@
 -- What one try says of a league.
-use Rattle.std.specs.Prelude.{ℕ}
+use Rattle.std.specs.Prelude.{ℕ, ◌≤◌, Option, None, Some}
 use Rattle.budgets.specs.declared.budgets.Budgets.{Budgets}
 use Rattle.league.specs.Instance.{Instance}
 use Rattle.solve.specs.Solutions.{IsSchedule, IsSpentOn, RefutesLeague}
@@ -16,3 +16,8 @@ abbrev pub IsTried : Instance → Budgets → Tried → Type 0
 IsTried league budgets (Found season) = IsSeason league budgets.moves season
 IsTried league budgets (Refuted log) = RefutesLeague league log
 IsTried league budgets (Spent log) = IsSpentOn league budgets.conflicts log
+
+-- a schedule is found that costs at most so much
+abbrev pub FindsAtMost : ℕ → Option Season → Type 0
+FindsAtMost most (Some season) = season.objective ≤ most
+FindsAtMost most None = ⊥

@@ -95,7 +95,7 @@ fn walk_or_search<W: Listener>(
 ///
 /// # Errors
 /// Only where memory runs out.
-fn try_search(
+pub(crate) fn try_search(
     alloc: Global,
     league: &League,
     encoding: &Encoding,

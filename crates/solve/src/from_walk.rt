@@ -1,10 +1,16 @@
 //! A schedule that a walk finds.
 ghost use Rattle.std.specs.Prelude.{IfOk, IfSome};
-ghost use Rattle.solve.specs.Tried.{IsSeason};
+ghost use Rattle.std.specs.List.{All};
+ghost use Rattle.league.specs.Accepted as costs;
+ghost use Rattle.league.specs.Accepted.{IsAccepted};
+ghost use Rattle.league.specs.Counts.{counts_of};
+ghost use Rattle.league.specs.Instance.{IsGame};
+ghost use Rattle.league.specs.Structure.{IsRoundRobin};
+ghost use Rattle.solve.specs.Tried.{FindsAtMost, IsSeason};
 
 use crate::lower::{Season, lowered};
 use circle_method::double;
-use league::League;
+use league::{League, Schedule};
 use robin_news::Listener;
 use std::alloc::{AllocError, Global};
 use walk::walk;
@@ -33,9 +39,33 @@ pub(crate) fn try_walk<W: Listener>(
     if moves == 0 {
         return Ok(None);
     }
-    let n = league.n();
-    let start = double(alloc, n)?;
-    let walked = walk(alloc, league, &start, seed, walk_budget(n, moves), watch)?;
+    let start = double(alloc, league.n())?;
+    walk_from(alloc, league, &start, moves, seed, watch)
+}
+
+/// What a descent of at most so many moves makes of the schedule that a walk finds, where the league accepts that. The
+/// walk goes from a double round robin by the moves that a seed draws, until the watch ends it.
+///
+/// # Errors
+/// Only where memory runs out.
+pub(crate) fn walk_from<W: Listener>(
+    alloc: Global,
+    league: &League,
+    start: &Schedule,
+    moves: u64,
+    seed: u64,
+    watch: &W,
+) -> Result<Option<Season>, AllocError>
+    requires fit { All (IsGame league.now.n) start.now }
+    requires round_robin { IsRoundRobin league.now.n league.now.phased (counts_of start.now) }
+    ensures season { IfOk result (λ tried. IfSome tried (IsSeason league.now moves)) }
+
+    // From an accepted start the walk finds a schedule that costs no more.
+    ensures no_worse { IsAccepted league.now (counts_of start.now)
+        → IfOk result (FindsAtMost (costs.objective league.now (counts_of start.now))) }
+{
+    let budget = walk_budget(league.n(), moves);
+    let walked = walk(alloc, league, start, seed, budget, watch)?;
     if walked.best.score.infeasibility > 0 {
         return Ok(None);
     }

@@ -6,6 +6,7 @@
 mod attempt;
 mod circle;
 mod counting;
+mod from_season;
 mod from_walk;
 mod lower;
 mod prefer;
@@ -13,6 +14,7 @@ mod solved;
 mod solver;
 mod tries;
 
+pub use from_season::solve_from;
 pub use lower::{Season, lowered};
 pub use solved::Solved;
 pub use solver::solve;

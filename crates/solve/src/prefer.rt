@@ -3,12 +3,13 @@ ghost use Rattle.std.specs.Prelude.{◌≡◌, ◌<◌, ◌≤◌, length, IfOk,
 ghost use Rattle.std.specs.List.{All};
 ghost use Rattle.std.specs.List.Sorted.{IsPermutation};
 ghost use Rattle.league.specs.Counts.{slot_count};
+ghost use Rattle.league.specs.Instance.{IsGame};
 ghost use Rattle.encoding_base.specs.Variables.{var_count};
 
 use circle_method::double;
 use decoding::shadow;
 use encoding::Encoding;
-use league::{Side, SlotId, TeamId};
+use league::{Schedule, Side, SlotId, TeamId};
 use patterns::{Pattern, PatternSet};
 use rand::seq::SliceRandom;
 use rand_core::SeedableRng;
@@ -26,7 +27,22 @@ pub(crate) fn preferred(alloc: Global, encoding: &Encoding) -> Result<Vec<Lit>, 
     ensures { IfOk result (λ lits. All (λ l. l.var ≤ var_count encoding.now) lits.items) }
 {
     let schedule = double(alloc, encoding.n())?;
-    let values = shadow(alloc, encoding, &schedule)?;
+    true_in(alloc, encoding, &schedule)
+}
+
+/// The variables that a schedule makes true.
+///
+/// # Errors
+/// Only where memory runs out.
+pub(crate) fn true_in(
+    alloc: Global,
+    encoding: &Encoding,
+    schedule: &Schedule,
+) -> Result<Vec<Lit>, AllocError>
+    requires { All (IsGame encoding.now.n) schedule.now }
+    ensures { IfOk result (λ lits. All (λ l. l.var ≤ var_count encoding.now) lits.items) }
+{
+    let values = shadow(alloc, encoding, schedule)?;
     true_literals(alloc, &values, encoding.vars())
 }
 

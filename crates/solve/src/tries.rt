@@ -1,9 +1,9 @@
 //! Several tries, of which the best answer is kept.
-ghost use Rattle.std.specs.Prelude.{◌≡◌, ◌↔◌, ◌∷◌, ◌++◌, [], nat_lt, if◌then◌else◌, List, Option, Some, IfSome, IsTrue};
+ghost use Rattle.std.specs.Prelude.{◌≡◌, ◌↔◌, ◌∷◌, ◌++◌, [], ℕ, ◌≤◌, nat_lt, if◌then◌else◌, List, Option, Some, IfSome, IsTrue};
 ghost use Rattle.budgets.specs.declared.budgets.Budgets.{Budgets};
 ghost use Rattle.league.specs.Instance.{Instance};
 ghost use Rattle.solve.specs.Earliest.{IsBestOf, season_of, season_tried};
-ghost use Rattle.solve.specs.Solutions.{HasSchedule, IsRefuted, IsSolution, LeavesOpen};
+ghost use Rattle.solve.specs.Solutions.{CostsAtMost, HasSchedule, IsRefuted, IsSolution, LeavesOpen};
 ghost use Rattle.solve.specs.Tried.{IsSeason, IsTried};
 ghost use Rattle.solve.specs.declared.lower.Season.{Season};
 
@@ -28,6 +28,7 @@ pub(crate) fn schedule_found(season: Season) -> Solved
     ensures solution { (league : Instance) (budgets : Budgets) → IsSeason league budgets.moves season
         → IsSolution league budgets result }
     ensures schedule { HasSchedule result }
+    ensures at_most { (most : ℕ) → season.objective ≤ most → CostsAtMost most result }
     ensures season { season_of result ≡ Some season }
 {
     let Season {
@@ -68,6 +69,7 @@ pub(crate) fn better(best: Solved, later: Tried) -> Solved
     ensures solution { (league : Instance) (budgets : Budgets) → IsSolution league budgets best
         → IsTried league budgets later → IsSolution league budgets result }
     ensures schedule { HasSchedule best → HasSchedule result }
+    ensures at_most { (most : ℕ) → CostsAtMost most best → CostsAtMost most result }
 
     // The answer is the best of the best of what some tries found, and of one try more.
     ensures best { (found : List (Option Season)) → (IsRefuted best → ⊥) → IsBestOf found (season_of best)
@@ -91,6 +93,19 @@ pub(crate) fn better(best: Solved, later: Tried) -> Solved
     }
 }
 
+/// The better one of an answer and of the schedule of a later walk, if there is one.
+pub(crate) fn with_later(best: Solved, walked: Option<Season>) -> Solved
+    ensures solution { (league : Instance) (budgets : Budgets) → IsSolution league budgets best
+        → IfSome walked (IsSeason league budgets.moves) → IsSolution league budgets result }
+    ensures schedule { HasSchedule best → HasSchedule result }
+    ensures at_most { (most : ℕ) → CostsAtMost most best → CostsAtMost most result }
+{
+    match walked {
+        Some(season) => better(best, Tried::Found(season)),
+        None => best,
+    }
+}
+
 /// What a search comes to, or the schedule of a walk where there is one and it isn't worse.
 pub(crate) fn with_walked(found: Tried, walked: Option<Season>) -> Tried
     ensures { (league : Instance) (budgets : Budgets) → IsTried league budgets found
@@ -104,6 +119,7 @@ pub(crate) fn with_walked(found: Tried, walked: Option<Season>) -> Tried
 
 /// The better one of a schedule and of what a later try comes to.
 fn better_season(best: Season, later: Tried) -> Season
+    ensures at_most { result.objective ≤ best.objective }
     ensures season { (league : Instance) (budgets : Budgets) → IsSeason league budgets.moves best
         → IsTried league budgets later → IsSeason league budgets.moves result }
     ensures best { (found : List (Option Season)) → IsBestOf found (Some best)

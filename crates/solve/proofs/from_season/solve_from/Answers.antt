@@ -1,0 +1,23 @@
+use Rattle.std.proofs.Common.{List, Option, subst}
+use Rattle.std.specs.Prelude.{IfSome}
+use Rattle.circle_method.specs.Circle.{double_games}
+use Rattle.refutation.specs.Steps.{Step}
+use Rattle.solve.specs.Solutions.{RefutesLeague}
+use Rattle.solve.proofs.from_season.solve_from.Goals as goal
+
+pub returns-in-Some-clause-circle : goal.returns-in-Some-clause-circle
+returns-in-Some-clause-circle g c = λ accepted.
+    let refutes : RefutesLeague c.args.league.now c.in-Some.log =
+    subst (λ (found : Option (List Step)). IfSome found (RefutesLeague c.args.league.now)) c.in-Some.is
+    c.in_ok-log.ensures.refuted in
+    refutes.none (double_games c.args.league.now.n) accepted
+
+pub returns-in-Some-clause-no_worse : goal.returns-in-Some-clause-no_worse
+returns-in-Some-clause-no_worse g c = λ accepted.
+    let refutes : RefutesLeague c.args.league.now c.in-Some.log =
+    subst (λ (found : Option (List Step)). IfSome found (RefutesLeague c.args.league.now)) c.in-Some.is
+    c.in_ok-log.ensures.refuted in
+    refutes.none c.args.start.now accepted
+
+pub returns-clause-no_worse : goal.returns-clause-no_worse
+returns-clause-no_worse g c = λ accepted. c.in_ok-best.ensures.at_most _ (c.in_ok-first.ensures.no_worse accepted)

@@ -1,0 +1,199 @@
+//! The solver from a season that is given: each try walks from there.
+ghost use Rattle.std.specs.Prelude.{◌≡◌, ◌≤◌, ℕ, true, Ok, None, IfOk};
+ghost use Rattle.std.specs.List.{All};
+ghost use Rattle.league.specs.Accepted as costs;
+ghost use Rattle.league.specs.Accepted.{IsAccepted};
+ghost use Rattle.league.specs.Counts.{counts_of};
+ghost use Rattle.league.specs.Instance.{IsGame};
+ghost use Rattle.league.specs.Structure.{IsRoundRobin};
+ghost use Rattle.break_counts.specs.BreakCounts.{are_few};
+ghost use Rattle.circle_method.specs.Circle.{double_games};
+ghost use Rattle.encoding.specs.Limit.{KeepsLimit, most_terms};
+ghost use Rattle.encoding_base.specs.Encoding.{encoding_size};
+ghost use Rattle.solve.specs.Solutions.{CostsAtMost, HasSchedule, IsRefuted, IsSolution, LeavesOpen};
+ghost use Rattle.venue_counts.specs.VenueCounts.{are_crowded, are_short};
+
+use crate::attempt::try_search;
+use crate::circle::try_circle;
+use crate::counting::count_out;
+use crate::from_walk::walk_from;
+use crate::prefer::true_in;
+use crate::solved::Solved;
+use crate::tries::{is_refuted, schedule_found, solved_by, with_later};
+use budgets::Budgets;
+use clause_search::note_numbers;
+use encoding::{EncodeFault, Encoding, check_size, encode_small};
+use league::{League, Schedule};
+use pattern_search::{PatternFound, pattern_set};
+use robin_news::Listener;
+use std::alloc::{AllocError, Global};
+
+/// Finds a schedule that the league accepts, or a proof that there is none, from a double round robin of the league.
+///
+/// Where the venue counts or the break counts of the league refute it, that is the answer. Each try walks from the
+/// start, by moves that its seed draws, as many as a walk of `solve` may try; without moves it stays there. From a
+/// schedule that is accepted a descent goes on, at most so many moves a try. Where the first walk finds no such
+/// schedule, the schedule of the circle method takes its place if the league accepts that. Else patterns are searched,
+/// and then a schedule, by a search over the league's rows that decides first what is true of the start. The schedule
+/// of the least objective is the answer, of equal ones the earliest; a refutation is the answer at once. The watch may
+/// end each walk, and the tries behind the first.
+///
+/// # Errors
+/// `TooLarge` exactly where the league's rows have more than 40,000,000 terms, with their number, before anything
+/// else; else only where memory runs out.
+pub fn solve_from<W: Listener>(
+    alloc: Global,
+    league: &League,
+    start: &Schedule,
+    budgets: Budgets,
+    watch: &W,
+) -> Result<Solved, EncodeFault>
+    requires fit { All (IsGame league.now.n) start.now }
+    requires round_robin { IsRoundRobin league.now.n league.now.phased (counts_of start.now) }
+    ensures limit { KeepsLimit (encoding_size league.now) (encoding_size league.now) result }
+    ensures solution { IfOk result (IsSolution league.now budgets) }
+
+    // Where the league accepts the start, the answer is a schedule that costs no more.
+    ensures no_worse { IsAccepted league.now (counts_of start.now)
+        → IfOk result (CostsAtMost (costs.objective league.now (counts_of start.now))) }
+
+    // Where the league accepts the schedule of the circle method, the answer is a schedule.
+    ensures circle { IsAccepted league.now (counts_of (double_games league.now.n)) → IfOk result HasSchedule }
+
+    // Where the venue counts of the league are short, or crowded, or it allows its teams too few breaks, it is refuted
+    // whatever the budgets.
+    ensures short { are_short league.now ≡ true → IfOk result IsRefuted }
+    ensures crowded { are_crowded league.now ≡ true → IfOk result IsRefuted }
+    ensures few { are_few league.now ≡ true → IfOk result IsRefuted }
+{
+    let _terms = check_size(league)?;
+    if let Some(log) = count_out(alloc, league)? {
+        return Ok(Solved::Refuted(log));
+    }
+    let first = first_try(alloc, league, start, budgets, watch)?;
+    let best = best_walk(alloc, league, start, budgets, first, watch)?;
+    Ok(best)
+}
+
+/// The first try: a walk, or where that finds no schedule the circle method, or a search.
+///
+/// # Errors
+/// Only where memory runs out.
+fn first_try<W: Listener>(
+    alloc: Global,
+    league: &League,
+    start: &Schedule,
+    budgets: Budgets,
+    watch: &W,
+) -> Result<Solved, AllocError>
+    requires small { encoding_size league.now ≤ most_terms }
+    requires fit { All (IsGame league.now.n) start.now }
+    requires round_robin { IsRoundRobin league.now.n league.now.phased (counts_of start.now) }
+    ensures solution { IfOk result (IsSolution league.now budgets) }
+    ensures no_worse { IsAccepted league.now (counts_of start.now)
+        → IfOk result (CostsAtMost (costs.objective league.now (counts_of start.now))) }
+    ensures circle { IsAccepted league.now (counts_of (double_games league.now.n)) → IfOk result HasSchedule }
+{
+    if let Some(season) = walk_from(alloc, league, start, budgets.moves, budgets.seed, watch)? {
+        return Ok(schedule_found(season));
+    }
+    if let Some(season) = try_circle(alloc, league, budgets.moves)? {
+        return Ok(schedule_found(season));
+    }
+    let encoding = encode_small(alloc, league)?;
+    search_near(alloc, league, &encoding, start, budgets)
+}
+
+/// The best of what the first try came to, and of further walks from the start.
+///
+/// # Errors
+/// Only where memory runs out.
+fn best_walk<W: Listener>(
+    alloc: Global,
+    league: &League,
+    start: &Schedule,
+    budgets: Budgets,
+    first: Solved,
+    watch: &W,
+) -> Result<Solved, AllocError>
+    requires fit { All (IsGame league.now.n) start.now }
+    requires round_robin { IsRoundRobin league.now.n league.now.phased (counts_of start.now) }
+    requires first { IsSolution league.now budgets first }
+    ensures solution { IfOk result (IsSolution league.now budgets) }
+    ensures at_most { (most : ℕ) → CostsAtMost most first → IfOk result (CostsAtMost most) }
+    ensures schedule { HasSchedule first → IfOk result HasSchedule }
+{
+    let mut best = first;
+    for k in 1..budgets.tries {
+        if is_refuted(&best) || watch.is_over(k) {
+            return Ok(best);
+        }
+        let seed = budgets.seed.wrapping_add(k);
+        let walked = walk_from(alloc, league, start, budgets.moves, seed, watch)?;
+        best = with_later(best, walked);
+    }
+    Ok(best)
+}
+
+/// Searches patterns, and then a schedule.
+///
+/// # Errors
+/// Only where memory runs out.
+fn search_near(
+    alloc: Global,
+    league: &League,
+    encoding: &Encoding,
+    start: &Schedule,
+    budgets: Budgets,
+) -> Result<Solved, AllocError>
+    requires league { encoding.now ≡ league.now }
+    requires fit { All (IsGame league.now.n) start.now }
+    ensures { IfOk result (IsSolution league.now budgets) }
+{
+    let _vars = encoding.vars();
+    let found = pattern_set(alloc, encoding, Some(budgets.patterns))?;
+    match found {
+        PatternFound::Refuted(log) => {
+            note_numbers(&log);
+            Ok(Solved::Refuted(log))
+        }
+        PatternFound::Patterns(patterns) => search_knowing(
+            alloc,
+            league,
+            encoding,
+            start,
+            budgets,
+            PatternFound::Patterns(patterns),
+        ),
+        PatternFound::Spent(log) => search_knowing(
+            alloc,
+            league,
+            encoding,
+            start,
+            budgets,
+            PatternFound::Spent(log),
+        ),
+    }
+}
+
+/// Searches a schedule where this is known of the league's patterns: what is true of the start is decided first.
+///
+/// # Errors
+/// Only where memory runs out.
+fn search_knowing(
+    alloc: Global,
+    league: &League,
+    encoding: &Encoding,
+    start: &Schedule,
+    budgets: Budgets,
+    patterns: PatternFound,
+) -> Result<Solved, AllocError>
+    requires league { encoding.now ≡ league.now }
+    requires fit { All (IsGame league.now.n) start.now }
+    requires patterns { LeavesOpen league.now budgets.patterns patterns }
+    ensures { IfOk result (IsSolution league.now budgets) }
+{
+    let prefer = true_in(alloc, encoding, start)?;
+    let tried = try_search(alloc, league, encoding, &prefer, budgets)?;
+    Ok(solved_by(tried, patterns))
+}
