@@ -1,6 +1,7 @@
 #!/bin/sh
 # package.sh [FOLDER]: makes a Debian package of the released program in a folder (the present one without the word): the program, its manual page, the
-# completions, the guide, the pages on commands and forms, and the examples. It wants dpkg-deb.
+# completions, README, all pages of docs/, and the examples. It wants dpkg-deb. The command robin is a short script: it runs the program as ./robin does, so
+# that Ctrl-C ends a long command with its best season.
 top=$(cd "$(dirname "$0")/.." && pwd) || exit 1
 to=$(cd "${1:-.}" && pwd) || exit 1
 (cd "$top/release" && sha256sum -c --quiet SHA256SUMS) || { echo "package: release/robin is not the file that release/SHA256SUMS names" >&2; exit 1; }
@@ -14,11 +15,20 @@ put() {
     install -D -m "$1" "$top/$2" "$room/$3"
 }
 
-put 755 release/robin usr/bin/robin &&
+# Prints the command robin: the last step of ./robin, on the program of the package.
+launcher() {
+    echo '#!/bin/sh'
+    sed -n '/^become() {$/,/^}$/p' "$top/robin"
+    echo 'become /usr/lib/robin/robin "$@"'
+}
+
+grep -q '^become() {$' "$top/robin" || { echo "package: ./robin has no function become" >&2; exit 1; }
+put 755 release/robin usr/lib/robin/robin && mkdir -p "$room/usr/bin" && launcher >"$room/usr/bin/robin" && chmod 755 "$room/usr/bin/robin" &&
     put 644 share/robin.1 usr/share/man/man1/robin.1 && gzip -9n "$room/usr/share/man/man1/robin.1" &&
     put 644 share/robin.bash usr/share/bash-completion/completions/robin &&
     put 644 share/_robin usr/share/zsh/vendor-completions/_robin || exit 1
-for page in README.md CHANGELOG.md docs/GUIDE.md docs/COMMANDS.md docs/FORMATS.md; do
+for page in README.md CHANGELOG.md "$top"/docs/*.md; do
+    page=${page#"$top"/}
     put 644 "$page" "usr/share/doc/robin/$page" || exit 1
 done
 for example in "$top"/examples/*; do
