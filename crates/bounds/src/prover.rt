@@ -50,7 +50,6 @@ pub fn prove(
 ) -> Result<Proved, AllocError>
     requires accepted { IsAccepted league.now (counts_of schedule.now) }
     requires fit { All (IsGame league.now.n) schedule.now }
-    requires few { length schedule.now ≤ 10000 }
     requires assessed { cost ≡ costs.objective league.now (counts_of schedule.now) }
     requires counted { IsCounted league.now terms }
     ensures { IfOk result (IsProved league.now (counts_of schedule.now) conflicts) }

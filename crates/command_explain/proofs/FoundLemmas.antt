@@ -1,16 +1,19 @@
 -- What is found of a league, answered.
-use Rattle.std.proofs.Common.{◌≡◌, ℕ, true, List, [], ◌∷◌, length, Option, Some, Result, Ok, Err, arith, ap}
+use Rattle.std.proofs.Common.{◌≡◌, ℕ, true, List, [], ◌∷◌, length, Option, None, Some, Result, Ok, Err, arith, ap}
 use Rattle.std.proofs.Common.{inl, inr, sym, ◌∙◌}
 use Rattle.std.specs.Prelude.{IfOk}
 use Rattle.std.specs.List.{All, AllZip}
-use Rattle.std.proofs.lemmas.List.Elements.{All-cons, All-nil}
+use Rattle.std.proofs.lemmas.List.Elements.{All-cons, All-head, All-nil, All-tail}
 use Rattle.league.specs.Accepted.{IsAccepted}
 use Rattle.league.specs.Accepted as costs
 use Rattle.league.specs.Counts.{counts_of}
-use Rattle.league.specs.Instance.{Instance}
+use Rattle.league.specs.Instance.{Instance, IsTeamCount}
 use Rattle.league.specs.declared.game.Game.{Game}
 use Rattle.circle_method.specs.Circle.{double_games}
+use Rattle.robinx_tags.specs.Pieces.{pieces}
+use Rattle.robinx_form.specs.SolutionFile.{solution_of}
 use Rattle.robinx_form.specs.Texts.{solution_text}
+use Rattle.robinx_write.proofs.SolutionLemmas.{solution-reads_back}
 use Rattle.encoding_base.specs.Variables.{var_count}
 use Rattle.refutation.specs.Steps.{Step}
 use Rattle.refutation.specs.Logs.{log_of}
@@ -20,13 +23,15 @@ use Rattle.answers.specs.declared.reply.Reply.{Reply}
 use Rattle.answers.specs.declared.status.Status.{Status}
 use Rattle.answers.specs.declared.status.Status.TheVariants.{Yes, Refuted, Spent}
 use Rattle.solve.specs.Solutions.{IsSpentOn}
+use Rattle.solve.proofs.FewLemmas.{round_robin-few}
 use Rattle.venue_counts.specs.VenueCounts.{are_crowded, are_short}
 use Rattle.break_counts.specs.BreakCounts.{are_few}
+use Rattle.explain.specs.Parts.{part_of, without}
 use Rattle.explain.specs.Conflicts.{AreDecided, IsAmple, IsCase, IsConflict, IsIrreducible, IsSeason}
 use Rattle.explain.specs.declared.cases.Case.{Case}
 use Rattle.explain.specs.declared.cases.Case.TheVariants.{Without, Undecided}
 use Rattle.command_explain.specs.Explained.{IsFound}
-use Rattle.command_explain.specs.Texts.{IsWritableCase, conflict_text}
+use Rattle.command_explain.specs.Texts.{IsWritableCase, LogReadsBack, ReadsBack, conflict_text}
 
 -- ---- a conflict can be written
 
@@ -57,6 +62,28 @@ pub conflict-each : (league : Instance) (limit : Option ℕ) (members : List ℕ
     → IsConflict league limit members log cases → length cases ≡ length members
 conflict-each league limit members log cases is = same_length league limit members members cases is.each
 
+-- ---- what is written reads back
+
+-- the text of a season reads back, with any score
+season-reads_back : (league : Instance) (games : List Game) (score : Option (ℕ × ℕ)) → IsTeamCount league.n
+    → IsSeason league games → solution_of league.n (pieces (solution_text games score)) ≡ Ok games
+season-reads_back league games score teams is =
+    solution-reads_back league.n games score teams.at_most
+    (round_robin-few league.n league.phased games teams is.fit is.accepted.round_robin) is.fit
+
+each_read : (league : Instance) (limit : Option ℕ) (whole members : List ℕ) (cases : List Case) → IsTeamCount league.n
+    → AllZip (IsCase league limit whole) members cases → All LogReadsBack cases → All (ReadsBack league.n) cases
+each_read league limit whole [] [] teams each logs = All-nil (ReadsBack league.n)
+each_read league limit whole [] (case ∷ cases) teams each logs = absurd each
+each_read league limit whole (k ∷ members) [] teams each logs = absurd each
+each_read league limit whole (k ∷ members) (Without games ∷ cases) teams each logs =
+    All-cons (ReadsBack league.n) (Without games) cases
+    (season-reads_back (part_of league (without k whole)) games None teams each.0)
+    (each_read league limit whole members cases teams each.1 (All-tail LogReadsBack (Without games) cases logs))
+each_read league limit whole (k ∷ members) (Undecided log ∷ cases) teams each logs =
+    All-cons (ReadsBack league.n) (Undecided log) cases (All-head LogReadsBack (Undecided log) cases logs)
+    (each_read league limit whole members cases teams each.1 (All-tail LogReadsBack (Undecided log) cases logs))
+
 -- ---- replies, unless memory ran out
 
 not_spent : (status : Status) → status ≡ Yes → status ≡ Spent → ⊥
@@ -66,17 +93,20 @@ not_spent_either : (status : Status) → status ≡ Refuted → status ≡ Spent
 not_spent_either status is ended = let same : Refuted ≡ Spent = sym is ∙ ended in cc
 
 pub replied-met : {E : Type 0} (league : Instance) (conflicts : Option ℕ) (games : List Game) (objective : ℕ)
-    (result : Result Reply E) → IsSeason league games × (objective ≡ costs.objective league (counts_of games))
+    (result : Result Reply E) → IsTeamCount league.n
+    → IsSeason league games × (objective ≡ costs.objective league (counts_of games))
     → (are_short league ≡ true → ⊥) → (are_crowded league ≡ true → ⊥) → (are_few league ≡ true → ⊥)
     → IfOk result (λ reply. (answer_of reply).status ≡ Yes)
     → IfOk result (λ reply. (answer_of reply).text ≡ solution_text games (Some (0, objective)))
     → IfOk result (λ reply. IsFound league conflicts (answer_of reply))
-replied-met {E} league conflicts games objective (Ok reply) is not_short not_crowded enough status text = record {
+replied-met {E} league conflicts games objective (Ok reply) teams is not_short not_crowded enough status text = record {
   found = inl (record {
     games = games;
     season = is.0;
     status = status;
     text = text ∙ ap (λ (cost : ℕ). solution_text games (Some (0, cost))) is.1;
+    reads_back = ap (λ (written : List ℕ). solution_of league.n (pieces written)) text
+        ∙ season-reads_back league games (Some (0, objective)) teams is.0;
   });
   ample = λ ample ended. not_spent (answer_of reply).status status ended;
   circle = λ accepted. status;
@@ -84,16 +114,17 @@ replied-met {E} league conflicts games objective (Ok reply) is not_short not_cro
   crowded = λ crowded. absurd (not_crowded crowded);
   few = λ is. absurd (enough is);
 }
-replied-met {E} league conflicts games objective (Err error) is not_short not_crowded enough status text = tt
+replied-met {E} league conflicts games objective (Err error) teams is not_short not_crowded enough status text = tt
 
 pub replied-conflict : {E : Type 0} (league : Instance) (conflicts : Option ℕ) (members : List ℕ) (log : List Step)
-    (cases : List Case) (result : Result Reply E) → IsConflict league conflicts members log cases
-    → (AreDecided cases → IsIrreducible league members) → (IsAmple (var_count league) conflicts → AreDecided cases)
+    (cases : List Case) (result : Result Reply E) → IsTeamCount league.n
+    → IsConflict league conflicts members log cases → (AreDecided cases → IsIrreducible league members) → (IsAmple (var_count league) conflicts → AreDecided cases)
     → (IsAccepted league (counts_of (double_games league.n)) → ⊥)
     → IfOk result (λ reply. (answer_of reply).status ≡ Refuted)
     → IfOk result (λ reply. (answer_of reply).text ≡ conflict_text members log cases)
+    → IfOk result (λ reply. log_of (log_text log) ≡ Ok log) → IfOk result (λ reply. All LogReadsBack cases)
     → IfOk result (λ reply. IsFound league conflicts (answer_of reply))
-replied-conflict {E} league conflicts members log cases (Ok reply) is irreducible decided no_circle status text =
+replied-conflict {E} league conflicts members log cases (Ok reply) teams is irreducible decided no_circle status text log_back cases_back =
     record {
       found = inr (inl (record {
         members = members;
@@ -104,6 +135,8 @@ replied-conflict {E} league conflicts members log cases (Ok reply) is irreducibl
         decided = decided;
         status = status;
         text = text;
+        log_reads_back = log_back;
+        cases_read_back = each_read league conflicts members members cases teams is.each cases_back;
       }));
       ample = λ ample ended. not_spent_either (answer_of reply).status status ended;
       circle = λ accepted. absurd (no_circle accepted);
@@ -111,7 +144,8 @@ replied-conflict {E} league conflicts members log cases (Ok reply) is irreducibl
       crowded = λ crowded. status;
       few = λ is. status;
     }
-replied-conflict {E} league conflicts members log cases (Err error) is irreducible decided no_circle status text = tt
+replied-conflict {E} league conflicts members log cases (Err error) teams is irreducible decided no_circle status text log_back cases_back =
+    tt
 
 pub replied-spent : {E : Type 0} (league : Instance) (conflicts : Option ℕ) (steps : List Step)
     (result : Result Reply E) → IsSpentOn league conflicts steps → (IsAmple (var_count league) conflicts → ⊥)

@@ -1,17 +1,17 @@
 -- The parts of a conflict's text, one after another.
 use Rattle.std.proofs.Common.{◌≡◌, ◌↔◌, ℕ, ◌+◌, ◌<◌, Bool, true, false, if◌then◌else◌, List, [], ◌∷◌, ◌++◌}
-use Rattle.std.proofs.Common.{length, take, Some, codes, subst}
+use Rattle.std.proofs.Common.{length, take, get_or, Some, codes, subst, inl, inr}
 use Rattle.std.proofs.Common.{refl, arith, ap, sym, ◌∙◌, append_assoc}
 use Rattle.std.specs.Prelude.{IsTrue, OnOk, Result, Ok, Err, is_ok, slice_get}
 use Rattle.std.specs.List.{list_all}
-use Rattle.std.proofs.lemmas.Bool.{false_from_ne_true}
+use Rattle.std.proofs.lemmas.Bool.{cases_lt, false_from_ne_true}
 use Rattle.std.proofs.lemmas.List.Sums.{AllPass-from_list_all, list_all-from_AllPass}
 use Rattle.std.proofs.lemmas.List.{append-nil, length-take-le, take_more}
 use Rattle.std.proofs.lemmas.Option.{get_or_from_slice_get, slice_get_within}
 use Rattle.explain.specs.Cases.{is_decided}
 use Rattle.explain.specs.Conflicts.{AreDecided}
 use Rattle.explain.specs.declared.cases.Case.{Case}
-use Rattle.command_explain.specs.Texts.{case_text, cases_text, minimal_line}
+use Rattle.command_explain.specs.Texts.{LogReadsBack, case_text, cases_text, minimal_line}
 
 cases-push : (members : List ℕ) (cases : List Case) (k : ℕ) (case : Case) → length members ≡ length cases
     → cases_text (members ++ k ∷ []) (cases ++ case ∷ []) ≡ cases_text members cases ++ case_text k case
@@ -45,6 +45,19 @@ cases-more members cases i k case whole old new there there_too more was =
     (sym (ap (λ (ks : List ℕ). cases_text ks (take (i + 1) cases)) front
     ∙ ap (λ (cs : List Case). cases_text (take i members ++ k ∷ []) cs) front_too
     ∙ cases-push (take i members) (take i cases) k case same))
+
+-- one case more whose log reads back
+pub logs-more : (cases : List Case) (i : ℕ) (case : Case) (j : ℕ) (d : Case) → slice_get cases i ≡ Some case
+    → LogReadsBack case → ((k : ℕ) (e : Case) → k < i → LogReadsBack (get_or cases k e)) → j < i + 1
+    → LogReadsBack (get_or cases j d)
+logs-more cases i case j d there reads so_far below =
+    elim (cases_lt j i) as (λ _. LogReadsBack (get_or cases j d)) [
+      | inl before ↦ so_far j d before
+      | inr behind ↦
+          let same : j ≡ i = omega (arith, below, behind) in
+          subst (λ (c : Case). LogReadsBack c)
+          (sym (ap (λ (k : ℕ). get_or cases k d) same ∙ get_or_from_slice_get cases i case d there)) reads
+    ]
 
 -- ---- whether each case is a schedule
 

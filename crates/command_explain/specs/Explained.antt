@@ -1,5 +1,6 @@
 -- What `explain` answers: its stages in their order, and what is found of a league.
 use Rattle.std.specs.Prelude.{◌≡◌, ℕ, ◌⊎◌, true, List, codes, Option, Some, Ok}
+use Rattle.std.specs.List.{All}
 use Rattle.robin_io.specs.Outside.{Store}
 use Rattle.league.specs.Accepted.{IsAccepted, objective}
 use Rattle.league.specs.Counts.{counts_of}
@@ -8,6 +9,7 @@ use Rattle.league.specs.declared.game.Game.{Game}
 use Rattle.circle_method.specs.Circle.{double_games}
 use Rattle.robinx_tags.specs.Pieces.{pieces}
 use Rattle.robinx_form.specs.InstanceFile.{instance_of}
+use Rattle.robinx_form.specs.SolutionFile.{solution_of}
 use Rattle.robinx_form.specs.Texts.{solution_text}
 use Rattle.robinx_read.specs.declared.instance.TheConstants.{INSTANCE_LIMIT}
 use Rattle.answers.specs.Reply.{Answer}
@@ -23,20 +25,22 @@ use Rattle.break_counts.specs.BreakCounts.{are_few}
 use Rattle.command_check.specs.Check.{encodes}
 use Rattle.explain.specs.Conflicts.{AreDecided, IsAmple, IsConflict, IsIrreducible, IsSeason}
 use Rattle.explain.specs.declared.cases.Case.{Case}
-use Rattle.command_explain.specs.Texts.{conflict_text}
+use Rattle.command_explain.specs.Texts.{ReadsBack, conflict_text}
 
 -- ---- what is found
 
--- a schedule that the league accepts is written, with its objective
+-- a schedule that the league accepts is written, with its objective, and reads back as its games
 pub record IsMet (league : Instance) (answer : Answer) : Type 0 where
   pub games : List Game
   pub season : IsSeason league games
   pub status : answer.status ≡ Yes
   pub text : answer.text ≡ solution_text games (Some (0, objective league (counts_of games)))
+  pub reads_back : solution_of league.n (pieces answer.text) ≡ Ok games
 
 -- Hard constraints that contradict each other are written, the log that refutes the league of these alone, and for each
 -- a schedule that the league of the others accepts, or a log that is spent over its rows. Where each has a schedule, no
--- schedule meets the named constraints and without any one of them there is one; with an ample budget each has.
+-- schedule meets the named constraints and without any one of them there is one; with an ample budget each has. The log
+-- and the cases that are written read back as they are.
 pub record IsNamed (league : Instance) (conflicts : Option ℕ) (answer : Answer) : Type 0 where
   pub members : List ℕ
   pub log : List Step
@@ -46,6 +50,8 @@ pub record IsNamed (league : Instance) (conflicts : Option ℕ) (answer : Answer
   pub decided : IsAmple (var_count league) conflicts → AreDecided cases
   pub status : answer.status ≡ Refuted
   pub text : answer.text ≡ conflict_text members log cases
+  pub log_reads_back : log_of (log_text log) ≡ Ok log
+  pub cases_read_back : All (ReadsBack league.n) cases
 
 -- a log that is spent at the budget over the league's rows is written, and reads back as it
 pub record IsBudgetSpent (league : Instance) (conflicts : Option ℕ) (answer : Answer) : Type 0 where

@@ -1,7 +1,10 @@
 -- The text of a conflict.
-use Rattle.std.specs.Prelude.{ℕ, List, [], ◌∷◌, ◌++◌, codes, decimal, None, if◌then◌else◌}
+use Rattle.std.specs.Prelude.{◌≡◌, ℕ, List, [], ◌∷◌, ◌++◌, codes, decimal, None, Ok, if◌then◌else◌}
 use Rattle.std.specs.List.{flat_map, list_all}
+use Rattle.robinx_tags.specs.Pieces.{pieces}
+use Rattle.robinx_form.specs.SolutionFile.{solution_of}
 use Rattle.robinx_form.specs.Texts.{solution_text}
+use Rattle.refutation.specs.Logs.{log_of}
 use Rattle.refutation.specs.Steps.{Step}
 use Rattle.refutation.specs.Texts as logs
 use Rattle.solve.specs.Solutions.{IsWritable}
@@ -43,6 +46,16 @@ cases_text (k ∷ members) (case ∷ cases) = case_text k case ++ cases_text mem
 abbrev pub conflict_text : List ℕ → List Step → List Case → List ℕ
 conflict_text members log cases =
     members_line members ++ (minimal_line cases ++ (log_text log ++ cases_text members cases))
+
+-- what is written of a case reads back as it: a schedule by the reader of solution files, a partial log by that of logs
+abbrev pub ReadsBack : ℕ → Case → Type 0
+ReadsBack n (Without games) = solution_of n (pieces (solution_text games None)) ≡ Ok games
+ReadsBack n (Undecided log) = log_of (log_text log) ≡ Ok log
+
+-- what is written of a partial log reads back as it
+abbrev pub LogReadsBack : Case → Type 0
+LogReadsBack (Without games) = Unit {0}
+LogReadsBack (Undecided log) = log_of (log_text log) ≡ Ok log
 
 -- a partial log can be written
 abbrev pub IsWritableCase : Case → Type 0

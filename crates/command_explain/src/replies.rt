@@ -17,7 +17,7 @@ ghost use Rattle.explain.specs.Conflicts.{HasConflict, HasSchedule, IsAmple, IsD
 ghost use Rattle.explain.specs.Conflicts.{IsIrreducibleIfDecided};
 ghost use Rattle.command_explain.specs.Explained.{IsFound};
 ghost use Rattle.command_explain.specs.Texts as texts;
-ghost use Rattle.command_explain.specs.Texts.{IsWritableCase};
+ghost use Rattle.command_explain.specs.Texts.{IsWritableCase, LogReadsBack};
 
 use crate::texts::conflict_text;
 use answers::{Reply, Status};
@@ -53,6 +53,8 @@ fn conflict_reply(
     ensures status { IfOk result (λ reply. (answer_of reply).status ≡ statuses.Refuted) }
     ensures text { IfOk result (λ reply. (answer_of reply).text
         ≡ texts.conflict_text members.now log.now cases.now) }
+    ensures log_reads_back { IfOk result (λ reply. log_of (texts.log_text log.now) ≡ Ok log.now) }
+    ensures cases_read_back { IfOk result (λ reply. All LogReadsBack cases.now) }
 {
     let text = conflict_text(alloc, members, log, cases)?;
     Ok(Reply {
@@ -91,6 +93,8 @@ pub(crate) fn found_reply(
     requires few { are_few league.now ≡ true → HasConflict explained.now }
     ensures { IfOk result (λ reply. IsFound league.now conflicts (answer_of reply)) }
 {
+    // For its contract: the games of a season are few.
+    let _n = league.n();
     match explained {
         Explained::Met {
             schedule,

@@ -1,9 +1,11 @@
 //! The text of a conflict.
-ghost use Rattle.std.specs.Prelude.{◌≡◌, ◌++◌, length, IfOk, OnOk};
+ghost use Rattle.std.specs.Prelude.{◌≡◌, ◌++◌, length, IfOk, Ok, OnOk};
 ghost use Rattle.std.specs.List.{All, flat_map};
+ghost use Rattle.refutation.specs.Logs.{log_of};
 ghost use Rattle.solve.specs.Solutions.{IsWritable};
 ghost use Rattle.command_explain.specs.Texts as texts;
-ghost use Rattle.command_explain.specs.Texts.{IsWritableCase, case_text, cases_text, number_part, numbered_line};
+ghost use Rattle.command_explain.specs.Texts.{IsWritableCase, LogReadsBack};
+ghost use Rattle.command_explain.specs.Texts.{case_text, cases_text, number_part, numbered_line};
 
 use explain::{Case, Cases, Members};
 use refutation::{Log, log_text};
@@ -61,16 +63,19 @@ fn put_line(text: &mut Vec<u8>, word: &[u8], number: u32) -> Result<(), AllocErr
 /// Adds a log.
 fn put_log(alloc: Global, text: &mut Vec<u8>, log: &Log) -> Result<(), AllocError>
     requires writable { IsWritable log.now }
-    ensures { OnOk result (text.new.items ≡ text.old.items ++ texts.log_text log.now) }
+    ensures written { OnOk result (text.new.items ≡ text.old.items ++ texts.log_text log.now) }
+    ensures reads_back { OnOk result (log_of (texts.log_text log.now) ≡ Ok log.now) }
 {
     let lines = log_text(alloc, log)?;
-    text.extend_from_slice(&lines)
+    text.extend_from_slice(&lines)?;
+    Ok(())
 }
 
 /// Adds the case of a member.
 fn put_case(alloc: Global, text: &mut Vec<u8>, number: u32, case: &Case) -> Result<(), AllocError>
     requires writable { IsWritableCase case.now }
-    ensures { OnOk result (text.new.items ≡ text.old.items ++ case_text number case.now) }
+    ensures written { OnOk result (text.new.items ≡ text.old.items ++ case_text number case.now) }
+    ensures reads_back { OnOk result (LogReadsBack case.now) }
 {
     match case {
         Case::Without { schedule } => {
@@ -94,7 +99,8 @@ fn put_cases(
 ) -> Result<(), AllocError>
     requires each { length cases.now ≡ length members.now }
     requires writable { All IsWritableCase cases.now }
-    ensures { OnOk result (text.new.items ≡ text.old.items ++ cases_text members.now cases.now) }
+    ensures written { OnOk result (text.new.items ≡ text.old.items ++ cases_text members.now cases.now) }
+    ensures reads_back { OnOk result (All LogReadsBack cases.now) }
 {
     for k in 0..members.len() {
         put_case(alloc, text, members.get(k), cases.get(k))?;
@@ -115,7 +121,9 @@ pub(crate) fn conflict_text(
     requires each { length cases.now ≡ length members.now }
     requires log { IsWritable log.now }
     requires writable { All IsWritableCase cases.now }
-    ensures { IfOk result (λ text. text.items ≡ texts.conflict_text members.now log.now cases.now) }
+    ensures text { IfOk result (λ text. text.items ≡ texts.conflict_text members.now log.now cases.now) }
+    ensures log_reads_back { IfOk result (λ text. log_of (texts.log_text log.now) ≡ Ok log.now) }
+    ensures cases_read_back { IfOk result (λ text. All LogReadsBack cases.now) }
 {
     let mut text = Vec::new(alloc);
     put_members(&mut text, members)?;

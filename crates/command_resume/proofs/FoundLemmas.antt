@@ -8,10 +8,14 @@ use Rattle.std.proofs.lemmas.List.Elements.{All-weaker}
 use Rattle.league.specs.Accepted.{IsAccepted}
 use Rattle.league.specs.Accepted as costs
 use Rattle.league.specs.Counts.{counts_of, slot_count}
-use Rattle.league.specs.Instance.{Instance, IsInstance}
+use Rattle.league.specs.Instance.{Instance, IsInstance, IsTeamCount}
 use Rattle.league.specs.declared.game.Game.{Game}
 use Rattle.clause_search.proofs.TidyLemmas.{IsTidy-wider}
+use Rattle.robinx_tags.specs.Pieces.{pieces}
+use Rattle.robinx_form.specs.SolutionFile.{solution_of}
 use Rattle.robinx_form.specs.Texts.{solution_text}
+use Rattle.robinx_write.proofs.SolutionLemmas.{solution-reads_back}
+use Rattle.solve.proofs.FewLemmas.{round_robin-few}
 use Rattle.rows.specs.Rows.{Row}
 use Rattle.encoding_base.specs.Variables.{h_count, has_breaks, hb_count, var_count, x_count}
 use Rattle.encoding_base.proofs.NumberLemmas.{x_count-few}
@@ -59,13 +63,23 @@ spent-clauses rows vars limit steps is = news-clauses rows vars steps is.spent.n
 
 -- ---- replies, unless memory ran out
 
+-- the text of a schedule that is accepted reads back
+resumed-reads_back : (league : Instance) (played : List Game) (k : ℕ) (games : List Game) (cost : ℕ) (text : List ℕ)
+    → IsTeamCount league.n → IsResumedSeason league played k games cost → text ≡ solution_text games (Some (0, cost))
+    → solution_of league.n (pieces text) ≡ Ok games
+resumed-reads_back league played k games cost text teams season is =
+    ap (λ (written : List ℕ). solution_of league.n (pieces written)) is
+    ∙ solution-reads_back league.n games (Some (0, cost)) teams.at_most
+    (round_robin-few league.n league.phased games teams season.fit season.resumes.accepted.round_robin) season.fit
+
 pub replied-planned : {E : Type 0} (league : Instance) (played : List Game) (k : ℕ) (conflicts : Option ℕ)
-    (games : List Game) (cost : ℕ) (result : Result Reply E) → IsResumedSeason league played k games cost
+    (games : List Game) (cost : ℕ) (result : Result Reply E) → IsTeamCount league.n
+    → IsResumedSeason league played k games cost
     → (IsAccepted league (counts_of played) → counts_of games ≡ counts_of played)
     → IfOk result (λ reply. (answer_of reply).status ≡ Yes)
     → IfOk result (λ reply. (answer_of reply).text ≡ solution_text games (Some (0, cost)))
     → IfOk result (λ reply. IsFound league played k conflicts (answer_of reply))
-replied-planned {E} league played k conflicts games cost (Ok reply) season plan status text =
+replied-planned {E} league played k conflicts games cost (Ok reply) teams season plan status text =
     let told : (answer_of reply).text ≡ solution_text games (Some (0, costs.objective league (counts_of games))) =
     text ∙ ap (λ (c : ℕ). solution_text games (Some (0, c))) season.cost in
     record {
@@ -79,6 +93,7 @@ replied-planned {E} league played k conflicts games cost (Ok reply) season plan 
         };
         status = status;
         text = told;
+        reads_back = resumed-reads_back league played k games cost (answer_of reply).text teams season text;
       });
       plan = λ accepted. record {
         games = games;
@@ -88,7 +103,7 @@ replied-planned {E} league played k conflicts games cost (Ok reply) season plan 
         text = told;
       };
     }
-replied-planned {E} league played k conflicts games cost (Err error) season plan status text = tt
+replied-planned {E} league played k conflicts games cost (Err error) teams season plan status text = tt
 
 pub replied-excluded : {E : Type 0} (league : Instance) (played : List Game) (k : ℕ) (conflicts : Option ℕ)
     (steps : List Step) (result : Result Reply E) → RefutesResuming league played k conflicts steps

@@ -1,5 +1,5 @@
 -- What `audit` answers: its stages in their order, and the verdict on a log over resume rows.
-use Rattle.std.specs.Prelude.{◌≡◌, ℕ, ◌+◌, ◌≤◌, List, length, codes, Some, Ok}
+use Rattle.std.specs.Prelude.{◌≡◌, ℕ, ◌≤◌, List, length, codes, Some, Ok}
 use Rattle.robin_io.specs.Outside.{Store}
 use Rattle.league.specs.Counts.{counts_of}
 use Rattle.league.specs.Instance.{Instance}

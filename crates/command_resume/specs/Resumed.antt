@@ -7,6 +7,8 @@ use Rattle.league.specs.Counts.{counts_of}
 use Rattle.league.specs.Instance.{Instance}
 use Rattle.league.specs.Order.{IsInOrder}
 use Rattle.league.specs.declared.game.Game.{Game}
+use Rattle.robinx_tags.specs.Pieces.{pieces}
+use Rattle.robinx_form.specs.SolutionFile.{solution_of}
 use Rattle.robinx_form.specs.Texts.{solution_text}
 use Rattle.answers.specs.Reply.{Answer}
 use Rattle.answers.specs.Stages.{◌>>=◌, Outcome}
@@ -22,12 +24,14 @@ use Rattle.command_resume.specs.Seasons.{plays}
 
 -- ---- what is found
 
--- a schedule that the league accepts and that keeps the played games is written, in order, with its objective
+-- A schedule that the league accepts and that keeps the played games is written, in order, with its objective, and reads
+-- back as these games.
 pub record IsPlanned (league : Instance) (played : List Game) (k : ℕ) (answer : Answer) : Type 0 where
   pub games : List Game
   pub season : IsResumedSeason league played k games (objective league (counts_of games))
   pub status : answer.status ≡ Yes
   pub text : answer.text ≡ solution_text games (Some (0, objective league (counts_of games)))
+  pub reads_back : solution_of league.n (pieces answer.text) ≡ Ok games
 
 -- A log that refutes the resume rows is written, and reads back as it: so no schedule that the league accepts keeps the
 -- played games.
@@ -77,8 +81,11 @@ resumed store instance solution k conflicts = do
 
 -- ---- a run
 
--- a schedule that the league accepts and that keeps the played games is written whole, in order, with its objective
+-- A schedule that the league accepts and that keeps the played games is written whole, in order, with its objective, and
+-- reads back as these games.
 pub record IsKeptSeason (league : Instance) (played : List Game) (k : ℕ) (output : Output) : Type 0 where
   pub games : List Game
   pub season : IsResumedSeason league played k games (objective league (counts_of games))
   pub written : Appends output.before output.after (solution_text games (Some (0, objective league (counts_of games))))
+  pub reads_back : solution_of league.n (pieces (solution_text games (Some (0, objective league (counts_of games)))))
+      ≡ Ok games

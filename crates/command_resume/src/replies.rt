@@ -59,7 +59,7 @@ pub(crate) fn found_reply(
     requires plan { IsAccepted league.now (counts_of played.now) → IsPlan played.now resumed.now }
     ensures { IfOk result (λ reply. IsFound league.now played.now k conflicts (answer_of reply)) }
 {
-    // For its contract: the variables of a league are few.
+    // For its contract: the variables of a league are few, and so are the games of a season.
     let _n = league.n();
     match resumed {
         Resumed::Schedule {

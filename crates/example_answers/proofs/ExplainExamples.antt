@@ -1,6 +1,6 @@
 -- What `explain` and `part` write of the league of ConflictExamples, and what is said of that.
 use Rattle.std.proofs.Common.{lit<, lit≤, ◌≡◌, ℕ, zero, suc, ◌<◌, ◌≤◌, ◌∙◌, ◌⊎◌, true, List, [], ◌∷◌, ◌++◌, length}
-use Rattle.std.proofs.Common.{◌+◌, get_or, map, Option, Some, None, Ok, codes, bytes_eq, if◌then◌else◌, IsTrue}
+use Rattle.std.proofs.Common.{◌+◌, get_or, map, Option, Some, None, Ok, Result, codes, bytes_eq, if◌then◌else◌, IsTrue}
 use Rattle.std.proofs.Common.{ap, ap₂, subst, sym, refl, arith, inl, inr}
 use Rattle.std.proofs.lemmas.List.Elements.{All-append, All-from_recursion, All-nil}
 use Rattle.std.specs.Fmt.{digits}
@@ -16,6 +16,7 @@ use Rattle.league.specs.Sets.{IsAscending}
 use Rattle.league.specs.declared.class.Class.TheVariants.{Br2, Ca1}
 use Rattle.league.specs.declared.class.Constraint.{Constraint}
 use Rattle.league.specs.declared.class.Side.TheVariants.{H}
+use Rattle.league.specs.declared.game.Game.{Game}
 use Rattle.league.proofs.AcceptedLemmas.{MeetsHard-from_sum, sum-from_MeetsHard}
 use Rattle.league.proofs.AscendingLemmas.{IsAscending-ascends}
 use Rattle.rows.specs.Cardinality.{at_least}
@@ -29,8 +30,9 @@ use Rattle.circle_method.specs.Circle.{double_games}
 use Rattle.robinx_tags.specs.Pieces.{pieces, pieces_from}
 use Rattle.robinx_tags.specs.Tags.{attributes_at}
 use Rattle.robinx_form.specs.InstanceFile.{instance_of}
+use Rattle.robinx_form.specs.SolutionFile.{solution_of}
 use Rattle.robinx_form.specs.Texts.{instance_text, solution_text}
-use Rattle.robinx_form.specs.Walk.{walk}
+use Rattle.robinx_form.specs.Walk.{Fault, walk}
 use Rattle.robinx_read.specs.declared.instance.TheConstants.{INSTANCE_LIMIT}
 use Rattle.answers.specs.Reply.{Answer}
 use Rattle.answers.specs.Stages.{IsFile}
@@ -39,6 +41,7 @@ use Rattle.answers.specs.declared.status.Status.TheVariants.{Yes, File, Refuted,
 use Rattle.refutation.specs.Following.{all_free}
 use Rattle.refutation.specs.Logs.{lines_from, log_of}
 use Rattle.refutation.specs.Steps.Step.{Clause}
+use Rattle.refutation.specs.Texts.{log_text}
 use Rattle.clause_search.specs.News.{IsTidy}
 use Rattle.season_check.specs.Excluded.{NoneAccepted}
 use Rattle.season_check.proofs.SeasonLemmas.{accepted_logs_exclude}
@@ -48,8 +51,8 @@ use Rattle.explain.specs.Conflicts.{IsIrreducible}
 use Rattle.explain.specs.declared.cases.Case.TheVariants.{Without, Undecided}
 use Rattle.command_explain.specs.Explained.{IsBudgetSpent, IsFound, IsMet, IsNamed, explained as explains}
 use Rattle.command_explain.specs.Parted.{IsPart, part_answer, parted}
-use Rattle.command_explain.specs.Texts.{IsWritableCase, conflict_text, members_line}
-use Rattle.robin_run.specs.Explain.{IsContradiction}
+use Rattle.command_explain.specs.Texts.{IsWritableCase, ReadsBack, conflict_text, members_line}
+use Rattle.robin_run.specs.Explain.{IsContradiction, IsReadable}
 use Rattle.example_answers.proofs.SolveExamples.{false_true, hard, home}
 use Rattle.example_answers.proofs.SolveExamples.{out, pair_row, quiet_pairs}
 use Rattle.example_answers.proofs.SolveExamples.{season_pairs, text, writable-none}
@@ -110,6 +113,54 @@ contradiction-both = record {
   written = line-both;
   infeasible = none-both;
   minimal = λ more is. irreducible-both;
+}
+
+-- the log, and both seasons, read back
+log_written : log_text log ≡ codes "refutation 1\n0 31 32 20 24 0\nend\n"
+unfolding digits
+log_written = refl
+
+log_read : log_of (codes "refutation 1\n0 31 32 20 24 0\nend\n") ≡ Ok log
+unfolding lines_from
+log_read = refl
+
+home_written : solution_text home None ≡ games_home
+unfolding digits
+home_written = refl
+
+home_read : solution_of 2 (pieces games_home) ≡ Ok home
+unfolding attributes_at pieces_from walk
+home_read = refl
+
+out_written : solution_text out None ≡ games_out
+unfolding digits
+out_written = refl
+
+out_read : solution_of 2 (pieces games_out) ≡ Ok out
+unfolding attributes_at pieces_from walk
+out_read = refl
+
+abbrev said_by : List ℕ → Result (List Game) Fault
+said_by bytes = solution_of 2 (pieces bytes)
+
+pub log_reads_back-both : log_of (log_text log) ≡ Ok log
+log_reads_back-both = ap (λ (bytes : List ℕ). log_of bytes) log_written ∙ log_read
+
+pub cases_read_back-both : All (ReadsBack 2) cases
+cases_read_back-both =
+    All-from_recursion (ReadsBack 2) cases (ap said_by home_written ∙ home_read, (ap said_by out_written ∙ out_read, tt))
+
+-- all that is written behind the two numbers reads back
+pub readable-both : IsReadable league None (written_between (Some []) (Some written))
+readable-both = record {
+  members = members;
+  log = log;
+  cases = cases;
+  written = sym text-both;
+  log_reads_back = log_reads_back-both;
+  accepted = (conflict-both None).refuted.accepted;
+  each = (conflict-both None).each;
+  cases_read_back = cases_read_back-both;
 }
 
 -- with constraint 3 too, of which nothing is said but that not all are known to be needed: behind text that stood there
@@ -301,8 +352,12 @@ scored_is : scored ≡ solution_text out (Some (0, 3))
 unfolding digits
 scored_is = refl
 
+scored_read : solution_of 2 (pieces scored) ≡ Ok out
+unfolding attributes_at pieces_from walk
+scored_read = refl
+
 pub met-out : IsMet (phased (wish ∷ [])) (yes_with scored)
-met-out = record { games = out; season = season_mild; status = refl; text = scored_is }
+met-out = record { games = out; season = season_mild; status = refl; text = scored_is; reads_back = scored_read }
 
 yes_refuted : Yes ≡ Refuted → ⊥
 yes_refuted is = cc
@@ -334,6 +389,8 @@ named-both conflicts = record {
   decided = λ ample. decided-both;
   status = refl;
   text = sym text-both;
+  log_reads_back = log_reads_back-both;
+  cases_read_back = cases_read_back-both;
 }
 
 refuted_spent : Refuted ≡ Spent → ⊥
@@ -371,6 +428,18 @@ open_text = refl
 below_ample : 6561 ≤ 0 → ⊥
 below_ample few = omega (arith, few)
 
+alone_written : log_text alone ≡ codes "refutation 1\n-1 0 29 3 0\n0 30 1 29 3 0\nend\n"
+unfolding digits
+alone_written = refl
+
+alone_read : log_of (codes "refutation 1\n-1 0 29 3 0\n0 30 1 29 3 0\nend\n") ≡ Ok alone
+unfolding lines_from
+alone_read = refl
+
+open_read : log_of (log_text []) ≡ Ok []
+unfolding lines_from digits
+open_read = refl
+
 pub named-open : IsNamed apart (Some 0) open_reply
 named-open = record {
   members = 1 ∷ [];
@@ -381,6 +450,8 @@ named-open = record {
   decided = λ ample. absurd (below_ample ample);
   status = refl;
   text = open_text;
+  log_reads_back = ap (λ (bytes : List ℕ). log_of bytes) alone_written ∙ alone_read;
+  cases_read_back = All-from_recursion (ReadsBack 2) (Undecided [] ∷ []) (open_read, tt);
 }
 
 -- where the league accepts the circle's season, a conflict isn't found

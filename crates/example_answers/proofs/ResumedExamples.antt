@@ -66,8 +66,18 @@ planned_text : planned_reply.text ≡ solution_text home (Some (0, 4))
 unfolding digits
 planned_text = refl
 
+planned_read : solution_of 2 (pieces planned_reply.text) ≡ Ok home
+unfolding attributes_at pieces_from walk
+planned_read = refl
+
 pub planned-first : IsPlanned league first 1 planned_reply
-planned-first = record { games = home; season = season-home; status = refl; text = planned_text }
+planned-first = record {
+  games = home;
+  season = season-home;
+  status = refl;
+  text = planned_text;
+  reads_back = planned_read;
+}
 
 -- what no season keeps isn't planned
 pub planned-crowded : (answer : Answer) → IsPlanned league crowded 1 answer → ⊥
@@ -151,6 +161,7 @@ planned_whole = record {
   };
   status = refl;
   text = planned_text;
+  reads_back = planned_read;
 }
 
 pub found-whole : (conflicts : Option ℕ) → IsFound league whole 1 conflicts planned_reply
@@ -164,7 +175,12 @@ pub found-refuted : (k : ℕ) (conflicts : Option ℕ) → IsFound league whole 
 found-refuted k conflicts is = refuted_yes (is.plan accepted_whole).status
 
 pub kept_season-first : IsKeptSeason league first 1 (written_between (Some []) (Some planned_reply.text))
-kept_season-first = record { games = home; season = season-home; written = planned_text }
+kept_season-first = record {
+  games = home;
+  season = season-home;
+  written = planned_text;
+  reads_back = ap (λ (bytes : List ℕ). solution_of 2 (pieces bytes)) (sym planned_text) ∙ planned_read;
+}
 
 pub kept_season-crowded : (old new : Option (List ℕ)) → IsKeptSeason league crowded 1 (written_between old new) → ⊥
 kept_season-crowded old new is = none_crowded is.games is.season.resumes

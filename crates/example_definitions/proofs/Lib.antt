@@ -3,6 +3,8 @@ mod RowExamples
 mod SoundExamples
 -- The rows and variables of six teams and of four, and seasons read from values:
 mod EncodingExamples
+-- The terms of the rows of forty teams, at the limit:
+mod SizeExamples
 -- Logs over four rows, as steps and as text, and texts that are read in pieces:
 mod LogExamples
 mod TextExamples

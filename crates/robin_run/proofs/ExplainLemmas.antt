@@ -24,7 +24,7 @@ use Rattle.command_explain.specs.Explained.{IsFound, IsNamed, explained}
 use Rattle.command_explain.specs.Parted.{IsPart, parted}
 use Rattle.command_explain.specs.Texts.{cases_text, log_text, minimal_line}
 use Rattle.command_solve.specs.Solve.{IsWellFormedInstance}
-use Rattle.robin_run.specs.Explain.{Explains, IsContradiction}
+use Rattle.robin_run.specs.Explain.{Explains, IsContradiction, IsReadable}
 use Rattle.robin_run.specs.Part.{Parts}
 use Rattle.robin_run.specs.Run.{Answered, Run}
 use Rattle.robin_run.proofs.RunLemmas.{writes, writes-as}
@@ -133,6 +133,21 @@ contradiction league conflicts answer output named written = record {
       is));
 }
 
+-- what stands behind the named constraints reads back
+readable : (league : Instance) (conflicts : Option ℕ) (answer : Answer) (output : Output)
+    → IsNamed league conflicts answer → Appends output.before output.after answer.text
+    → IsReadable league conflicts output
+readable league conflicts answer output named written = record {
+  members = named.members;
+  log = named.log;
+  cases = named.cases;
+  written = subst (λ (text : List ℕ). Appends output.before output.after text) named.text written;
+  log_reads_back = named.log_reads_back;
+  accepted = named.conflict.refuted.accepted;
+  each = named.conflict.each;
+  cases_read_back = named.cases_read_back;
+}
+
 -- ---- promises
 
 pub explains : (run : Run) → Answered run → Explains run
@@ -144,6 +159,11 @@ explains run answered instance conflicts is = record {
   contradictory = λ league said ended.
       let whole = writes-as run (Explain instance conflicts) Refuted answered is ended (λ same. cc) (λ same. cc) in
       contradiction league conflicts whole.answer run.output
+      (explained-named run.store instance said.bytes conflicts league whole.answer said.known said.says_league
+      whole.status_is whole.given) whole.written;
+  readable = λ league said ended.
+      let whole = writes-as run (Explain instance conflicts) Refuted answered is ended (λ same. cc) (λ same. cc) in
+      readable league conflicts whole.answer run.output
       (explained-named run.store instance said.bytes conflicts league whole.answer said.known said.says_league
       whole.status_is whole.given) whole.written;
 }

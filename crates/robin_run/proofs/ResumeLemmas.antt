@@ -1,9 +1,11 @@
 -- What `resume` and `audit` promise is kept.
-use Rattle.std.proofs.Common.{◌∷◌, [], ℕ, List, subst}
+use Rattle.std.proofs.Common.{◌≡◌, ◌∷◌, [], ℕ, List, Ok, subst}
 use Rattle.std.specs.Io.KnownBytes.{Appends}
 use Rattle.robin_io.specs.Outside.{Output}
 use Rattle.league.specs.Instance.{Instance}
 use Rattle.league.specs.declared.game.Game.{Game}
+use Rattle.robinx_tags.specs.Pieces.{pieces}
+use Rattle.robinx_form.specs.SolutionFile.{solution_of}
 use Rattle.command_line.specs.Words.Command.{Audit, Resume}
 use Rattle.answers.specs.Reply.{Answer}
 use Rattle.answers.specs.declared.status.Status.TheVariants.{Yes, Refuted}
@@ -22,6 +24,8 @@ planned_whole league played k answer output planned written = record {
   games = planned.games;
   season = planned.season;
   written = subst (λ (text : List ℕ). Appends output.before output.after text) planned.text written;
+  reads_back = subst (λ (text : List ℕ). solution_of league.n (pieces text) ≡ Ok planned.games) planned.text
+      planned.reads_back;
 }
 
 pub resumes : (run : Run) → Answered run → Resumes run

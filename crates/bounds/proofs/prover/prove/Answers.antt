@@ -3,6 +3,7 @@ use Rattle.league.specs.Accepted.{objective}
 use Rattle.league.specs.Bounds.{largest}
 use Rattle.league.specs.Counts.{counts_of}
 use Rattle.league.specs.declared.class.Constraint.{Constraint}
+use Rattle.solve.proofs.FewLemmas.{round_robin-few}
 use Rattle.bounds.specs.Proofs.{IsProved}
 use Rattle.bounds.specs.declared.proved.Proved.{Proved}
 use Rattle.bounds.proofs.ProofLemmas.{least_of_none, objective_small, settled-of}
@@ -19,6 +20,11 @@ in_64_bits-objective-requires c =
           ∙ ap (λ (cs : List Constraint). largest (λ (x : Constraint). x.penalty) cs) c.constraints.ensures)
           c.greatest_penalty-greatest.type_inv c.requires.counted.few c.requires.accepted,
     )
+
+pub lowered-requires-clause-few : goal.lowered-requires-clause-few
+lowered-requires-clause-few c =
+    round_robin-few c.args.league.now.n c.args.league.now.phased c.args.schedule.now
+    c.requires.counted.instance.teams c.requires.fit c.requires.accepted.round_robin
 
 pub returns-then-objective-eq0 : goal.returns-then-objective-eq0
 returns-then-objective-eq0 c =

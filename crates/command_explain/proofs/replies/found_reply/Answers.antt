@@ -14,7 +14,7 @@ conflict_reply-requires-clause-writable c =
 pub returns-in-Met : goal.returns-in-Met
 returns-in-Met c =
     replied-met c.args.league.now c.args.conflicts c.in-Met.schedule c.in-Met.objective c.schedule_reply.result
-    (rw c.in-Met.is at c.requires.explanation) (λ short. rw c.in-Met.is at c.requires.short short)
+    c.n-n.ensures.instance.teams (rw c.in-Met.is at c.requires.explanation) (λ short. rw c.in-Met.is at c.requires.short short)
     (λ crowded. rw c.in-Met.is at c.requires.crowded crowded)
     (λ is. rw c.in-Met.is at c.requires.few is) c.schedule_reply.ensures.status
     c.schedule_reply.ensures.text
@@ -22,7 +22,7 @@ returns-in-Met c =
 pub returns-in-Conflict : goal.returns-in-Conflict
 returns-in-Conflict c =
     replied-conflict c.args.league.now c.args.conflicts c.in-Conflict.members c.in-Conflict.log c.in-Conflict.cases
-    c.conflict_reply.result (rw c.in-Conflict.is at c.requires.explanation)
+    c.conflict_reply.result c.n-n.ensures.instance.teams (rw c.in-Conflict.is at c.requires.explanation)
     (rw c.in-Conflict.is at c.requires.irreducible) (λ ample. rw c.in-Conflict.is at c.requires.decided ample)
     (λ accepted. rw c.in-Conflict.is at c.requires.circle accepted) c.conflict_reply.ensures.status
-    c.conflict_reply.ensures.text
+    c.conflict_reply.ensures.text c.conflict_reply.ensures.log_reads_back c.conflict_reply.ensures.cases_read_back
