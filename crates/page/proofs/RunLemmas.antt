@@ -2,26 +2,22 @@
 use Rattle.std.proofs.Common.{◌≡◌, ◌≢◌, ℕ, List, [], ◌∷◌, Option, Some, subst, sym, arith}
 use Rattle.std.specs.List.{All}
 use Rattle.std.proofs.lemmas.List.Elements.{All-nil, All-cons}
-use Rattle.robin_io.specs.Counts.{Rose, TookMore}
+use Rattle.robin_io.specs.Outside.{output_between, store_between}
 use Rattle.command_line.specs.Words.{Command, reading}
 use Rattle.answers.specs.declared.status.Status.{Status}
 use Rattle.answers.specs.declared.status.Status.TheVariants.{Memory}
 use Rattle.page_io.specs.Files.{file_named}
 use Rattle.page_io.specs.declared.files.Files.{Files}
 use Rattle.robin_run.specs.Run.{NothingFails, Run}
-use Rattle.page.specs.Ran.{IsPromised, Ran, run_over}
+use Rattle.page.specs.Ran.{IsPromised, Ran, files_told, run_over, text_told}
 use Rattle.page.specs.Shown.{HasRun, lines}
 
 -- the run from a store that gave so many bytes before, and a sink that held some and failed so often
 abbrev pub run_from : Option Command → Files → ℕ → ℕ → List ℕ → List ℕ → ℕ → ℕ → Status → Run
 run_from command files given taken first text was faults ended = record {
   command = command;
-  store = record {
-    contents = λ name. Some (file_named files name);
-    took_more = λ limit. TookMore limit given taken;
-    failed = λ name. Rose 0 0;
-  };
-  output = record { before = Some first; after = Some text; failed = Rose was faults };
+  store = store_between (files_told files) given taken;
+  output = output_between text_told (first, was) (text, faults);
   ended = ended;
 }
 
@@ -35,20 +31,24 @@ promised-from-new command files held given taken first text was faults ended sam
     (subst (λ g. IsPromised (run_from command files g taken first text was faults ended)) none
     (subst (λ h. IsPromised (run_from command h given taken first text was faults ended)) same promised)))
 
-never : Rose 0 0 → ⊥
-never rose = omega (arith, rose)
+-- a store of files that a page lends doesn't fail
+never : (files : Files) (taken : ℕ) (name : List ℕ) → (store_between (files_told files) 0 taken).failed name → ⊥
+never files taken name rose = omega (arith, rose)
 
-fails-at-none : (names : List (List ℕ)) → All (λ name. Rose 0 0 → ⊥) names
-fails-at-none [] = All-nil (λ name. Rose 0 0 → ⊥)
-fails-at-none (name ∷ names) = All-cons (λ name. Rose 0 0 → ⊥) name names never (fails-at-none names)
+fails-at-none : (files : Files) (taken : ℕ) (names : List (List ℕ))
+    → All (λ name. (store_between (files_told files) 0 taken).failed name → ⊥) names
+fails-at-none files taken [] = All-nil (λ name. (store_between (files_told files) 0 taken).failed name → ⊥)
+fails-at-none files taken (name ∷ names) =
+    All-cons (λ name. (store_between (files_told files) 0 taken).failed name → ⊥) name names (never files taken name)
+    (fails-at-none files taken names)
 
 -- unless memory ran out or the sink failed, nothing fails
 works : (command : Option Command) (files : Files) (taken : ℕ) (text : List ℕ) (faults : ℕ) (ended : Status)
     → ended ≢ Memory → faults ≡ 0 → (names : List (List ℕ)) → NothingFails (run_over command files taken text faults ended) names
 works command files taken text faults ended memory none names = record {
   memory = memory;
-  sink = λ rose. never (subst (λ f. Rose 0 f) none rose);
-  store = fails-at-none names;
+  sink = λ rose. omega (arith, rose, none);
+  store = fails-at-none files taken names;
 }
 
 -- what is shown of the sink is what it holds

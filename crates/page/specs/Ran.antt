@@ -1,7 +1,9 @@
 -- A run over files that lie in memory, and what holds of it.
-use Rattle.std.specs.Prelude.{◌≡◌, ◌≢◌, ℕ, List, [], Option, Some}
+use Rattle.std.specs.Prelude.{◌≡◌, ◌≢◌, ℕ, List, [], Option, Some, None}
 use Rattle.std.specs.Io.KnownBytes.{Keeps}
-use Rattle.robin_io.specs.Counts.{Rose, TookMore}
+use Rattle.robin_io.specs.Outside.{output_between, store_between}
+use Rattle.robin_io.specs.declared.shelf.Shelf as shelf
+use Rattle.robin_io.specs.declared.sink.Sink as sink
 use Rattle.command_line.specs.Words.{Command}
 use Rattle.answers.specs.declared.status.Status.{Status}
 use Rattle.answers.specs.declared.status.Status.TheVariants.{Memory}
@@ -11,17 +13,32 @@ use Rattle.robin_run.specs.Commands.{KeepsPromises}
 use Rattle.robin_run.specs.Ends.{EndsByWords}
 use Rattle.robin_run.specs.Run.{Answered, NothingFails, Run}
 
--- A run of a command over these files: the store tells each file, fails at none, and gave so many bytes. The sink held
--- nothing at first, and failed so often.
+-- a store of these files, seen by how many bytes it gave: it tells each file, and fails at none
+abbrev pub files_told : Files → shelf.Ghosts ℕ
+files_told files = record {
+  contents = λ taken name. Some (file_named files name);
+  started = λ taken name. Unit {0};
+  left = λ taken. None;
+  taken = λ taken. taken;
+  faults = λ taken name. 0;
+  calls = λ taken. 0;
+}
+
+-- a sink, seen by the text that it holds and by how often it failed
+abbrev pub text_told : sink.Ghosts (List ℕ × ℕ)
+text_told = record {
+  written = λ held. Some held.0;
+  faults = λ held. held.1;
+  calls = λ held. 0;
+}
+
+-- A run of a command over these files, where the store gave so many bytes. The sink held nothing at first, and failed so
+-- often.
 abbrev pub run_over : Option Command → Files → ℕ → List ℕ → ℕ → Status → Run
 run_over command files taken text faults ended = record {
   command = command;
-  store = record {
-    contents = λ name. Some (file_named files name);
-    took_more = λ limit. TookMore limit 0 taken;
-    failed = λ name. Rose 0 0;
-  };
-  output = record { before = Some []; after = Some text; failed = Rose 0 faults };
+  store = store_between (files_told files) 0 taken;
+  output = output_between text_told ([], 0) (text, faults);
   ended = ended;
 }
 
