@@ -52,7 +52,8 @@ use Rattle.explain.specs.declared.cases.Case.TheVariants.{Without, Undecided}
 use Rattle.command_explain.specs.Explained.{IsBudgetSpent, IsFound, IsMet, IsNamed, explained as explains}
 use Rattle.command_explain.specs.Parted.{IsPart, part_answer, parted}
 use Rattle.command_explain.specs.Texts.{IsWritableCase, ReadsBack, conflict_text, members_line}
-use Rattle.robin_run.specs.Explain.{IsContradiction, IsReadable}
+use Rattle.robin_run.specs.Explain.{IsContradiction}
+use Rattle.robin_run.specs.Readable.{IsReadable}
 use Rattle.example_answers.proofs.SolveExamples.{false_true, hard, home}
 use Rattle.example_answers.proofs.SolveExamples.{out, pair_row, quiet_pairs}
 use Rattle.example_answers.proofs.SolveExamples.{season_pairs, text, writable-none}

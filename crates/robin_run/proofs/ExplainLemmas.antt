@@ -24,7 +24,8 @@ use Rattle.command_explain.specs.Explained.{IsFound, IsNamed, explained}
 use Rattle.command_explain.specs.Parted.{IsPart, parted}
 use Rattle.command_explain.specs.Texts.{cases_text, log_text, minimal_line}
 use Rattle.command_solve.specs.Solve.{IsWellFormedInstance}
-use Rattle.robin_run.specs.Explain.{Explains, IsContradiction, IsReadable}
+use Rattle.robin_run.specs.Explain.{Explains, IsContradiction}
+use Rattle.robin_run.specs.Readable.{IsReadable}
 use Rattle.robin_run.specs.Part.{Parts}
 use Rattle.robin_run.specs.Run.{Answered, Run}
 use Rattle.robin_run.proofs.RunLemmas.{writes, writes-as}

@@ -1,28 +1,21 @@
 -- What `explain` promises: a season, or hard constraints that contradict each other.
-use Rattle.std.specs.Prelude.{◌≡◌, ℕ, ◌<◌, true, List, [], ◌∷◌, ◌++◌, length, codes, Option, Some, Ok}
+use Rattle.std.specs.Prelude.{◌≡◌, ℕ, ◌<◌, true, List, [], ◌∷◌, ◌++◌, length, codes, Option, Some}
 use Rattle.std.specs.Io.KnownBytes.{Appends}
-use Rattle.std.specs.List.{All, AllZip}
+use Rattle.std.specs.List.{All}
 use Rattle.std.specs.Ordering.{nat_cmp}
 use Rattle.robin_io.specs.Outside.{Output}
 use Rattle.league.specs.Instance.{Instance}
 use Rattle.league.specs.Sets.{IsAscending}
 use Rattle.explain.specs.Parts.{is_hard_number, part_of}
-use Rattle.encoding_base.specs.Encoding.{rows_of}
-use Rattle.encoding_base.specs.Variables.{var_count}
-use Rattle.refutation.specs.Logs.{log_of}
-use Rattle.refutation.specs.Steps.{Step}
-use Rattle.refutation.specs.Texts.{log_text}
-use Rattle.refutation.specs.Verdict.{verdict_of}
-use Rattle.refutation.specs.declared.verdict.Verdict.TheVariants.{Accepted}
 use Rattle.command_line.specs.Words.{Command}
 use Rattle.answers.specs.declared.status.Status.TheVariants.{Refuted}
 use Rattle.season_check.specs.Excluded.{NoneAccepted}
 use Rattle.command_solve.specs.Solve.{IsWellFormedInstance}
-use Rattle.explain.specs.Conflicts.{IsCase, IsIrreducible}
-use Rattle.explain.specs.declared.cases.Case.{Case}
+use Rattle.explain.specs.Conflicts.{IsIrreducible}
 use Rattle.command_explain.specs.Explained.{IsFound}
-use Rattle.command_explain.specs.Texts.{ReadsBack, conflict_text, members_line}
+use Rattle.command_explain.specs.Texts.{members_line}
 use Rattle.robin_run.specs.Said.{SaysLeague}
+use Rattle.robin_run.specs.Readable.{IsReadable}
 use Rattle.robin_run.specs.Run.{NothingFails, Run, Writes}
 
 -- The first line that is written has the numbers of some hard constraints, and the league of these alone accepts no
@@ -36,19 +29,6 @@ pub record IsContradiction (league : Instance) (output : Output) : Type 0 where
   pub written : Appends output.before output.after (members_line members ++ rest)
   pub infeasible : NoneAccepted (part_of league members)
   pub minimal : (later : List ℕ) → rest ≡ codes "minimal yes\n" ++ later → IsIrreducible league members
-
--- Behind the numbers of some hard constraints stand a log and a case for each. The log reads back, and is accepted over
--- the rows of the league of these constraints alone. Each case reads back: a season of the league of the others, or a log
--- that is spent over the rows of that league.
-pub record IsReadable (league : Instance) (conflicts : Option ℕ) (output : Output) : Type 0 where
-  pub members : List ℕ
-  pub log : List Step
-  pub cases : List Case
-  pub written : Appends output.before output.after (conflict_text members log cases)
-  pub log_reads_back : log_of (log_text log) ≡ Ok log
-  pub accepted : verdict_of (rows_of (part_of league members)) (var_count (part_of league members)) log ≡ Accepted
-  pub each : AllZip (IsCase league conflicts members) members cases
-  pub cases_read_back : All (ReadsBack league.n) cases
 
 pub record Promise (run : Run) (instance : List ℕ) (conflicts : Option ℕ) : Type 0 where
   -- What is found of a well-formed league whose rows aren't too many is written, where nothing fails: an accepted

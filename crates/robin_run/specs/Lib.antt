@@ -13,6 +13,7 @@ pub mod Check
 pub mod Solve
 pub mod Patterns
 pub mod Explain
+pub mod Readable
 pub mod Part
 pub mod Prove
 pub mod Bound
