@@ -1,7 +1,7 @@
 #!/bin/sh
 # package.sh [FOLDER]: makes a Debian package of the released program in a folder (the present one without the word): the program, its manual page, the
-# completions, README, all pages of docs/, and the examples. It wants dpkg-deb. The command robin is a short script: it runs the program as ./robin does, so
-# that Ctrl-C ends a long command with its best season.
+# completions, the page for browsers, README, all pages of docs/, and the examples. It wants dpkg-deb. The command robin is a short script: it runs the program
+# as ./robin does, so that Ctrl-C ends a long command with its best season.
 top=$(cd "$(dirname "$0")/.." && pwd) || exit 1
 to=$(cd "${1:-.}" && pwd) || exit 1
 (cd "$top/release" && sha256sum -c --quiet SHA256SUMS) || { echo "package: release/robin is not the file that release/SHA256SUMS names" >&2; exit 1; }
@@ -27,6 +27,7 @@ put 755 release/robin usr/lib/robin/robin && mkdir -p "$room/usr/bin" && launche
     put 644 share/robin.1 usr/share/man/man1/robin.1 && gzip -9n "$room/usr/share/man/man1/robin.1" &&
     put 644 share/robin.bash usr/share/bash-completion/completions/robin &&
     put 644 share/_robin usr/share/zsh/vendor-completions/_robin || exit 1
+put 644 release/robin.html usr/share/robin/robin.html || exit 1
 for page in README.md CHANGELOG.md "$top"/docs/*.md; do
     page=${page#"$top"/}
     put 644 "$page" "usr/share/doc/robin/$page" || exit 1
