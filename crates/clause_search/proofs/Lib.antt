@@ -32,6 +32,7 @@ pub mod BackLemmas
 pub mod LearnLemmas
 pub mod SearchLemmas
 pub mod TurnLemmas
+pub mod StopLemmas
 -- Logs of news, which have fewer steps than there are clauses:
 pub mod CountLemmas
 -- Values at which propagation stands still:

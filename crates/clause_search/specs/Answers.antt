@@ -1,6 +1,7 @@
 -- What a search answers.
 use Rattle.std.specs.Prelude.{◌≡◌, ℕ, ◌^◌, ◌<◌, ◌≤◌, List, [], ◌∷◌, ◌++◌, length, Option, Some, IfSome}
 use Rattle.std.specs.List.{All}
+use Rattle.robin_watch.specs.Limits.{IsKeptTo}
 use Rattle.rows.specs.Rows.{Row, SatisfiesAll}
 use Rattle.rows.specs.Values.{assigned}
 use Rattle.refutation.specs.Steps.{Step}
@@ -34,3 +35,15 @@ abbrev pub IsAnswer : List Row → ℕ → Option ℕ → Found → Type 0
 IsAnswer rows vars limit (Sat values) = (length values ≡ vars) × SatisfiesAll (assigned values) rows
 IsAnswer rows vars limit (Refuted log) = Refutes rows vars limit log
 IsAnswer rows vars limit (Spent log) = IsSpentAt rows vars limit log
+
+-- an answer within the limit to which the search kept: the one that was set, or, where the search may be stopped, a
+-- lower one
+pub record IsAnswerBy (rows : List Row) (vars : ℕ) (limit : Option ℕ) (may_stop : Type 0) (found : Found)
+    : Type 0 where
+  pub kept : Option ℕ
+  pub is_kept : IsKeptTo limit may_stop kept
+  pub answer : IsAnswer rows vars kept found
+
+-- an answer within some limit
+abbrev pub IsSomeAnswer : List Row → ℕ → Found → Type 0
+IsSomeAnswer rows vars found = (limit : Option ℕ) × IsAnswer rows vars limit found

@@ -20,4 +20,4 @@ mod walk;
 pub use found::Found;
 pub use numbers::note_numbers;
 pub use text::tidy_text;
-pub use walk::search;
+pub use walk::{search, search_watched};

@@ -4,7 +4,8 @@ ghost use Rattle.std.specs.List.{All};
 ghost use Rattle.rows.specs.Partials.{IsQuiet};
 ghost use Rattle.propagate.specs.Trails.{IsQuietBelow, IsSettled, KnowsVariables, NamesConflict, values_of};
 ghost use Rattle.refutation.specs.Steps.{Step};
-ghost use Rattle.clause_search.specs.Answers.{IsAnswer};
+ghost use Rattle.robin_watch.specs.Limits.{IsKeptTo};
+ghost use Rattle.clause_search.specs.Answers.{IsAnswer, IsAnswerBy};
 ghost use Rattle.clause_search.specs.Turns.{IsTurn};
 
 use crate::desk::Desk;
@@ -16,16 +17,15 @@ use crate::pick::{decide, filled, pick};
 use crate::turn::Turn;
 use propagate::{Conflict, Trail};
 use refutation::Log;
+use robin_watch::{News, Unwatched, Watch, kept_limit};
 use rows::{Lit, RowStore};
 use std::alloc::{AllocError, Global};
 
+/// Of so many clauses that are learnt the watch hears once.
+const TOLD_EACH: u64 = 64;
+
 /// Searches for values of so many variables that satisfy every row, or a log that refutes them. With a limit it learns
-/// at most so many clauses.
-///
-/// The search decides the most active free variable, with the sign that it had last: at first the preferred literals,
-/// in their order, then all other variables, to be false. From each conflict above level 0 it learns the clause of the
-/// first unique implication point, and goes back to where this clause forces a literal, or at times to level 0. A
-/// conflict at level 0 refutes the rows, whatever the limit. Without a limit it is never spent.
+/// at most so many clauses. Nothing stops it: `search_watched` says how it goes.
 ///
 /// # Errors
 /// Only where memory runs out.
@@ -41,12 +41,41 @@ pub fn search(
     requires preferred { All (λ l. l.var ≤ vars) prefer.now }
     ensures { IfOk result (IsAnswer rows.now vars limit) }
 {
+    search_watched(alloc, rows, vars, prefer, limit, &Unwatched)
+}
+
+/// Searches for values of so many variables that satisfy every row, or a log that refutes them. With a limit it learns
+/// at most so many clauses. The watch is asked at each conflict, and where it ends the search, the clauses that are
+/// learnt by then are the limit.
+///
+/// The search decides the most active free variable, with the sign that it had last: at first the preferred literals,
+/// in their order, then all other variables, to be false. From each conflict above level 0 it learns the clause of the
+/// first unique implication point, and goes back to where this clause forces a literal, or at times to level 0. A
+/// conflict at level 0 refutes the rows, whatever the limit. Without a limit, and where nothing may stop it, it is
+/// never spent.
+///
+/// # Errors
+/// Only where memory runs out.
+pub fn search_watched<W: Watch>(
+    alloc: Global,
+    rows: &RowStore,
+    vars: u32,
+    prefer: &[Lit],
+    limit: Option<u64>,
+    watch: &W,
+) -> Result<Found, AllocError>
+    requires few { vars ≤ 2147483647 }
+    requires known { All (KnowsVariables vars) rows.now }
+    requires preferred { All (λ l. l.var ≤ vars) prefer.now }
+    ensures { IfOk result (IsAnswerBy rows.now vars limit (W.may_stop watch.now)) }
+{
     let mut trail = Trail::new(alloc, rows, vars)?;
     let mut log = Log::new(alloc);
     let mut desk = Desk::new(alloc, vars, prefer)?;
     'turns: loop {
         let found = trail.run();
-        let turn = take_turn(alloc, &mut trail, &mut log, &mut desk, found, limit)?;
+        let kept = limit_here(&found, limit, log.len() as u64, watch);
+        let turn = take_turn(alloc, &mut trail, &mut log, &mut desk, found, kept)?;
         match turn {
             Turn::Again => {}
             Turn::Satisfied(values) => return Ok(Found::Sat(values)),
@@ -54,6 +83,28 @@ pub fn search(
             Turn::Spent => return Ok(Found::Spent(log)),
         }
     }
+}
+
+/// The limit of clauses that counts where propagation has come to an end. At a conflict the watch is asked, and hears
+/// at times how many clauses are learnt.
+fn limit_here<W: Watch>(
+    found: &Option<Conflict>,
+    limit: Option<u64>,
+    learnt: u64,
+    watch: &W,
+) -> Option<u64>
+    requires { IfSome limit (λ most. learnt ≤ most) }
+    ensures kept { IsKeptTo limit (W.may_stop watch.now) result }
+    ensures within { IfSome result (λ most. learnt ≤ most) }
+    ensures room { IfSome result (λ most. learnt < most) → IfSome limit (λ most. learnt < most) }
+{
+    if found.is_none() {
+        return limit;
+    }
+    if learnt % TOLD_EACH == 0 {
+        watch.tell(News::Search { learnt });
+    }
+    kept_limit(limit, learnt, watch)
 }
 
 /// What is done where propagation has come to an end.

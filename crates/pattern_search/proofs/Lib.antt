@@ -8,5 +8,6 @@ pub mod PickLemmas
 -- What is found of a league:
 pub mod LogLemmas
 pub mod PatternLemmas
+pub mod StopLemmas
 -- Worked examples, so that a wrong definition does not check:
 mod PatternFacts

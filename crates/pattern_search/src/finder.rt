@@ -1,19 +1,20 @@
 //! The search for patterns.
-ghost use Rattle.std.specs.Prelude.{◌≡◌, ◌+◌, ◌-◌, length, IfOk};
+ghost use Rattle.std.specs.Prelude.{◌≡◌, ℕ, ◌+◌, ◌-◌, length, Option, IfOk};
 ghost use Rattle.encoding_base.specs.Encoding.{rows_of};
 ghost use Rattle.encoding_base.specs.Variables.{var_count};
 ghost use Rattle.encoding_base.specs.Variables as variables;
-ghost use Rattle.clause_search.specs.Answers.{IsAnswer};
-ghost use Rattle.pattern_search.specs.Answers.{IsPatternAnswer};
+ghost use Rattle.clause_search.specs.Answers.{IsAnswer, IsSomeAnswer};
+ghost use Rattle.pattern_search.specs.Answers.{IsPatternAnswer, IsPatternAnswerBy};
 ghost use Rattle.pattern_search.specs.Raised.{IsPicked};
 
 use crate::found::PatternFound;
 use crate::letters::patterns_by;
 use crate::picked::{Picked, pick};
 use crate::raised::raised;
-use clause_search::{Found, search};
+use clause_search::{Found, search_watched};
 use encoding::Encoding;
 use encoding_base::x_count;
+use robin_watch::{Unwatched, Watch};
 use std::alloc::{AllocError, Global};
 
 /// Finds patterns that the pattern rows of a league allow, a pattern for each team, or a log that refutes them. With a
@@ -32,11 +33,27 @@ pub fn pattern_set(
 ) -> Result<PatternFound, AllocError>
     ensures { IfOk result (IsPatternAnswer encoding.now limit) }
 {
+    pattern_set_watched(alloc, encoding, limit, &Unwatched)
+}
+
+/// Finds patterns as `pattern_set` does, until the watch ends the search: then the clauses that it has learnt are the
+/// limit.
+///
+/// # Errors
+/// Only where memory runs out.
+pub fn pattern_set_watched<W: Watch>(
+    alloc: Global,
+    encoding: &Encoding,
+    limit: Option<u64>,
+    watch: &W,
+) -> Result<PatternFound, AllocError>
+    ensures { IfOk result (IsPatternAnswerBy encoding.now limit (W.may_stop watch.now)) }
+{
     let games = x_count(encoding.n());
     let vars = encoding.vars() - games;
     let picked = pick(alloc, encoding.rows(), games)?;
-    let found = search(alloc, &picked.rows, vars, &[], limit)?;
-    answer(alloc, encoding, games, &picked, found, limit)
+    let found = search_watched(alloc, &picked.rows, vars, &[], limit, watch)?;
+    answer(alloc, encoding, games, &picked, found)
 }
 
 /// What the search found, said of the league.
@@ -49,13 +66,13 @@ fn answer(
     games: u32,
     picked: &Picked,
     found: Found,
-    limit: Option<u64>,
 ) -> Result<PatternFound, AllocError>
     requires games { games ≡ variables.x_count encoding.now.n }
     requires picked { IsPicked games (rows_of encoding.now) (length (rows_of encoding.now)) picked.now.rows
         picked.now.numbers.items }
-    requires found { IsAnswer picked.now.rows (var_count encoding.now - games) limit found }
-    ensures { IfOk result (IsPatternAnswer encoding.now limit) }
+    requires found { IsSomeAnswer picked.now.rows (var_count encoding.now - games) found }
+    ensures { (limit : Option ℕ) → IsAnswer picked.now.rows (var_count encoding.now - games) limit found
+        → IfOk result (IsPatternAnswer encoding.now limit) }
 {
     let _vars = encoding.vars();
     let all = encoding.rows().len();

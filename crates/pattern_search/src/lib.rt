@@ -13,5 +13,5 @@ mod lowered;
 mod picked;
 mod raised;
 
-pub use finder::pattern_set;
+pub use finder::{pattern_set, pattern_set_watched};
 pub use found::PatternFound;

@@ -88,6 +88,13 @@ impl<R: Clock + Files + Eprint> HostWatch<R> {
         is_waiting(&self.rt)
     }
 
+    /// Whether anything may end a run.
+    fn can_end(&self) -> bool
+        ensures { result ≡ true → IsSome (limit_of self.now) ⊎ (listens self.now ≡ true) }
+    {
+        self.seconds.is_some() || self.listens
+    }
+
     /// How many milliseconds have passed, where a line is due.
     fn due(&self) -> Option<u128> {
         let pause = self.telling.pause()?;
@@ -119,11 +126,18 @@ impl<R: Clock + Files + Eprint> HostWatch<R> {
         );
     }
 
-    /// Says how many clauses a search has learnt.
+    /// Says how many clauses a search has learnt, and what the best season costs, where there is one.
     fn say_learnt(&self, passed: u128, learnt: u64) {
         let (front, end) = self.telling.frame();
         let seconds = passed / 1000;
-        let _ = eprint!(self.rt; "{front}robin: {seconds} s: {learnt} clauses learnt{end}");
+        let Some(best) = self.heard.get() else {
+            let _ = eprint!(self.rt; "{front}robin: {seconds} s: {learnt} clauses learnt{end}");
+            return;
+        };
+        let objective = best.objective;
+        let _ = eprint!(self.rt;
+            "{front}robin: {seconds} s: best objective {objective}, {learnt} clauses learnt{end}"
+        );
     }
 
     /// Wipes the line of a terminal, before the answer may come there.
@@ -150,17 +164,21 @@ impl<R: Clock + Files + Eprint> HostWatch<R> {
 impl<R: Clock + Files + Eprint> Watch for HostWatch<R> {
     ghost may_stop = { λ s. IsSome (limit_of s) ⊎ (listens s ≡ true) };
 
-    fn is_over(&self, _turns: u64) -> bool {
-        if self.seconds.is_none() && !self.listens {
+    fn is_over(&self, turns: u64) -> bool {
+        let questions = self.questions.get();
+        self.questions.set(questions.wrapping_add(1));
+        if questions % EACH == 0 {
+            return self.is_over_now(turns);
+        }
+        self.can_end() && self.over.get()
+    }
+
+    fn is_over_now(&self, _turns: u64) -> bool {
+        if !self.can_end() {
             return false;
         }
         if self.over.get() {
             return true;
-        }
-        let questions = self.questions.get();
-        self.questions.set(questions.wrapping_add(1));
-        if questions % EACH != 0 {
-            return false;
         }
         let over = self.is_time();
         self.over.set(over);

@@ -1,0 +1,3 @@
+pub mod LimitLemmas
+-- Worked examples, so that a wrong definition does not check:
+mod LimitFacts

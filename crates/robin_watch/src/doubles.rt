@@ -16,6 +16,10 @@ impl Watch for Unwatched {
         false
     }
 
+    fn is_over_now(&self, turns: u64) -> bool {
+        self.is_over(turns)
+    }
+
     fn tell(&self, _news: News) {}
 }
 
@@ -32,6 +36,10 @@ impl Watch for StopsAt {
 
     fn is_over(&self, turns: u64) -> bool {
         turns >= self.turns
+    }
+
+    fn is_over_now(&self, turns: u64) -> bool {
+        self.is_over(turns)
     }
 
     fn tell(&self, _news: News) {}

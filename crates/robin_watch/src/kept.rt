@@ -4,7 +4,8 @@ ghost use Rattle.robin_watch.specs.Limits.{IsKeptTo};
 
 use crate::Watch;
 
-/// The limit of a run that has made so many turns: the one that was set, or this number, where the watch ends the run.
+/// The limit of a run that has made so many turns, and does much in each: the one that was set, or this number, where
+/// the watch ends the run.
 pub fn kept_limit<W: Watch>(limit: Option<u64>, turns: u64, watch: &W) -> Option<u64>
     requires { IfSome limit (λ most. turns ≤ most) }
     ensures kept { IsKeptTo limit (W.may_stop watch.now) result }
@@ -13,7 +14,7 @@ pub fn kept_limit<W: Watch>(limit: Option<u64>, turns: u64, watch: &W) -> Option
     ensures known { W.stops_at watch.now turns ≡ Some true → result ≡ Some turns }
     ensures unknown { W.stops_at watch.now turns ≡ Some false → result ≡ limit }
 {
-    if watch.is_over(turns) {
+    if watch.is_over_now(turns) {
         return Some(turns);
     }
     limit

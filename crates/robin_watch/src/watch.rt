@@ -25,6 +25,12 @@ pub trait Watch {
         ensures cause { result ≡ true → may_stop self.now }
         ensures known { IfSome (stops_at self.now turns) (λ over. result ≡ over) };
 
+    /// The same, for a run that does much between two questions: a watch that looks at its clock at times alone looks
+    /// at it now.
+    fn is_over_now(&self, turns: u64) -> bool
+        ensures cause { result ≡ true → may_stop self.now }
+        ensures known { IfSome (stops_at self.now turns) (λ over. result ≡ over) };
+
     /// Hears how far a run has come. Whether anybody reads it changes nothing.
     fn tell(&self, news: News);
 }

@@ -1,14 +1,14 @@
 use Rattle.std.proofs.Common.{◌≡◌, ◌≤◌, length}
 use Rattle.std.specs.Prelude.{IfSome}
 use Rattle.clause_search.proofs.TurnLemmas.{IsUnder, left}
-use Rattle.clause_search.proofs.walk.search.Given as goal
+use Rattle.clause_search.proofs.walk.search_watched.Given as goal
 
 abbrev pub invariant-turns : goal.invariant-turns
-invariant-turns l = record {
+invariant-turns g l = record {
   vars : l.desk.order.vars ≡ l.vars;
   under : IsUnder l.rows l.vars l.log l.trail;
   within : IfSome l.limit (λ most. length l.log ≤ most);
 }
 
 abbrev pub decreases-turns : goal.decreases-turns
-decreases-turns l = left l.vars (length l.log) (length l.trail.entries)
+decreases-turns g l = left l.vars (length l.log) (length l.trail.entries)
