@@ -8,8 +8,8 @@ use crate::units::add_units;
 use rows::{RowStore, Term};
 use std::alloc::{AllocError, Global};
 
-/// Adds the rows of a group, each with so many unit variables from a number on, which stand after all of its variables.
-/// Their numbers are from 1 to 2,147,483,647.
+/// Adds the rows of a group, each with `count` unit variables, numbered from `first` on. These stand after all other
+/// variables of the row. Their numbers are from 1 to 2,147,483,647.
 ///
 /// # Errors
 /// Only where memory runs out: then some of these rows stand.
@@ -41,7 +41,7 @@ pub fn add_softened(
     Ok(())
 }
 
-/// Adds one row with so many unit variables.
+/// Adds one row with `count` unit variables, numbered from `first` on.
 fn push_softened(
     rows: &mut RowStore,
     scratch: &mut Vec<Term>,

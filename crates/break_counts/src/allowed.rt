@@ -31,7 +31,7 @@ pub(crate) fn allowed_of(
     Ok(both)
 }
 
-/// Lowers each number to at most the sum of two others.
+/// Lowers each team's number to at most the sum of its numbers at home and away.
 fn lower_to_sums(table: &mut [u32], home: &[u32], away: &[u32])
     requires home { length home.now ≡ length table.old }
     requires away { length away.now ≡ length table.old }
@@ -102,7 +102,7 @@ fn lower(table: &mut [u32], stretches: &[Stretch], side: Side, constraint: &Cons
     }
 }
 
-/// Lowers these numbers to at most so much.
+/// Lowers the numbers of these teams to at most `most`.
 fn lower_all(table: &mut [u32], teams: &[u16], most: u32)
     requires { All (λ i. i < length table.old) teams.now }
     ensures { AreLowered teams.now table.old most table.new }

@@ -145,7 +145,7 @@ fn add_break(
     Ok(())
 }
 
-/// The number of the first row that says that all but so many of these literals are true, if there is one.
+/// The number of the first row that says that all but `bound` of these literals are true, if there is one.
 fn number_of(rows: &RowStore, literals: &[Lit], bound: u32) -> Option<u64> {
     let degree = (literals.len() as u64).saturating_sub(u64::from(bound));
     for k in 0..rows.len() {

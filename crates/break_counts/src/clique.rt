@@ -20,8 +20,8 @@ struct Alternation {
     hints: Vec<u64>,
 }
 
-/// The teams so far, and the number of a row that says: of all their literals at least so many are true as there are
-/// teams but one.
+/// The teams so far, and the number of a row over all their literals. It says that at least as many of these are true as
+/// there are teams but one.
 #[derive(Drop)]
 struct Clique {
     teams: Vec<Alternation>,

@@ -1,10 +1,10 @@
-//! The numbers of the rows that every league of so many teams has, from 1.
+//! The numbers, from 1, of the rows that every league of so many teams has.
 ghost use Rattle.std.specs.Prelude.{◌≡◌, ◌^◌, ◌<◌, ◌≤◌};
 ghost use Rattle.league.specs.Counts as counts;
 
 use league::{League, slot_count};
 
-/// What these numbers depend on.
+/// What the numbers of these rows depend on.
 #[derive(Clone, Copy)]
 pub(crate) struct Frame {
     pub(crate) n: u16,
@@ -15,6 +15,7 @@ pub(crate) struct Frame {
 }
 
 impl Frame {
+    /// The frame of a league.
     pub(crate) fn new(league: &League) -> Frame
         ensures n { result.n ≡ league.now.n }
         ensures slots { result.slots ≡ counts.slot_count league.now.n }
@@ -27,7 +28,7 @@ impl Frame {
         }
     }
 
-    /// Two teams meet at this venue: once or more.
+    /// The number of the row that says: two teams meet at this venue once or more.
     pub(crate) fn meeting(self, home: u16, away: u16) -> u64
         ensures { result < 2 ^ 40 }
     {
@@ -39,14 +40,15 @@ impl Frame {
         1 + 2 * place(home, self.n.saturating_sub(1), beside)
     }
 
-    /// A team has no more than one game in a slot.
+    /// The number of the row that says: a team has no more than one game in a slot.
     pub(crate) fn one_game(self, team: u16, slot: u16) -> u64
         ensures { result < 2 ^ 40 }
     {
         self.meetings() + 2 + 2 * place(team, self.slots, slot)
     }
 
-    /// In a phased league, two teams meet in the first half: once or more. The row behind it says: no more than once.
+    /// The number of the row that says, in a phased league: two teams meet in the first half once or more. The next row
+    /// says: no more than once.
     pub(crate) fn half(self, first: u16, second: u16) -> u64
         ensures { result < 2 ^ 40 }
     {
@@ -56,15 +58,16 @@ impl Frame {
         self.meetings() + self.cells() + 1 + 2 * (before + u64::from(beside))
     }
 
-    /// Where a team's venue is home it has a home game there. The row behind it says: where it isn't it has none.
+    /// The number of the row that says: if a team's venue in a slot is home, it has a home game there. The next row says:
+    /// else it has none.
     pub(crate) fn venue(self, team: u16, slot: u16) -> u64
         ensures { result < 2 ^ 40 }
     {
         self.meetings() + self.cells() + self.halves() + 1 + 2 * place(team, self.slots, slot)
     }
 
-    /// A team that is at home in a slot and in the slot before has a home break there. The third row behind it says the
-    /// same of away breaks.
+    /// The number of the row that says: a team that is at home in a slot and in the slot before has a home break there.
+    /// The third row after it says: a team that is away in both has an away break there.
     pub(crate) fn home_break(self, team: u16, slot: u16) -> u64
         ensures { result < 2 ^ 40 }
     {
@@ -99,7 +102,7 @@ impl Frame {
     }
 }
 
-/// The place of an inner number below `count` beside an outer one.
+/// The place of a pair of numbers, in order of the outer one and then of the inner one, which is below `count`.
 fn place(outer: u16, count: u16, inner: u16) -> u64
     ensures { result < 2 ^ 33 }
 {

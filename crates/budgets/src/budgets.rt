@@ -1,7 +1,7 @@
 //! How far a solver may go.
 
 /// How far a solver may go, and from which seed it draws.
-#[derive(Clone, Copy, Debug, PartialEq, Eq)]
+#[derive(Clone, Copy)]
 pub struct Budgets {
     /// How many clauses the search of one try may learn: any number of them, where there is none.
     pub conflicts: Option<u64>,

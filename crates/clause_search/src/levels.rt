@@ -43,7 +43,7 @@ pub(crate) fn back_level(trail: &Trail, roles: &[Role], start: usize) -> u32
     0
 }
 
-/// Lets the variables of later levels than this one wait for a decision again, with the signs that they had.
+/// Puts the variables of all levels above this one back among those that wait for a decision, and keeps their signs.
 pub(crate) fn release_above(trail: &Trail, level: u32, order: &mut Order)
     requires { order.old.vars ≡ trail.now.vars }
     ensures { order.new.vars ≡ order.old.vars }

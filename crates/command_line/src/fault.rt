@@ -10,7 +10,7 @@ use crate::topic::{Topic, topic_of};
 use crate::words::{Standing, is_option, read_words, value_of};
 
 /// Why words are refused.
-#[derive(Clone, Copy, Debug, PartialEq, Eq)]
+#[derive(Clone, Copy)]
 pub enum WordFault<'a> {
     /// There is no word.
     NoWord,

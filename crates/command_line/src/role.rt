@@ -102,7 +102,7 @@ fn search_option(word: &str) -> Option<Role>
     }
 }
 
-/// The same of `rows`.
+/// What the value of an option of `rows` is to be.
 fn row_option(word: &str) -> Option<Role>
     ensures { result ≡ faults.row_option word.now }
 {
@@ -124,7 +124,7 @@ fn show_option(word: &str) -> Option<Role>
     }
 }
 
-/// The same of `solve`.
+/// What the value of an option of `solve` or `trial` is to be.
 fn solve_option(word: &str) -> Option<Role>
     ensures { result ≡ faults.solve_option word.now }
 {

@@ -27,7 +27,7 @@ use league::is_team_count;
 use robin_io::decimal;
 
 /// What the words ask for.
-#[derive(Clone, Copy, Debug, PartialEq, Eq)]
+#[derive(Clone, Copy)]
 pub enum Words<'a> {
     /// Judge the schedule of a solution file by the league of an instance file.
     Validate {
@@ -477,7 +477,7 @@ fn read_least(words: &[String]) -> Option<Words<'_>>
     }
 }
 
-/// The same, where one of two words is `--objective` and the other one the file.
+/// `rows` where the objective is to be least: one of two words is `--objective`, and the other one is the file.
 fn least_of_two<'a>(first: &'a str, second: &'a str) -> Option<Words<'a>>
     ensures reading { option_map command_of result ≡ lowering (first.now ∷ second.now ∷ []) }
     ensures teams { IfSome result (λ command. HasTeams (command_of command)) }
@@ -491,7 +491,7 @@ fn least_of_two<'a>(first: &'a str, second: &'a str) -> Option<Words<'a>>
     }
 }
 
-/// The same over a file.
+/// `rows` over a file, where the objective is to be least.
 fn least_of(instance: &str) -> Option<Words<'_>>
     ensures reading { option_map command_of result ≡ costing instance.now }
     ensures teams { IfSome result (λ command. HasTeams (command_of command)) }

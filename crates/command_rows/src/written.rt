@@ -22,7 +22,7 @@ use rows::Term;
 use std::alloc::{AllocError, Global};
 use std::marker::Model;
 
-/// The rows of a league, or its bound rows, which may have prices of the units.
+/// The rows of a league; or its bound rows, with or without the prices of the units.
 #[derive(Drop)]
 pub(crate) enum Kept {
     League(Encoding),
@@ -33,7 +33,7 @@ pub(crate) enum Kept {
     },
 }
 
-/// Rows that are ready to be written, with what that takes: seen as the rows.
+/// Rows with all that writing them takes. A contract sees the rows alone.
 #[derive(Drop)]
 pub struct ReadyRows {
     kept: Kept,

@@ -34,7 +34,7 @@ pub(crate) fn add_venue_rows(
     Ok(())
 }
 
-/// Adds the rows of a team's venues, where its home meetings are listed.
+/// Adds the rows of a team's venues. `meetings` are all its home meetings.
 fn add_venue_rows_of(
     draft: &mut Draft,
     season: &Season,
@@ -56,7 +56,7 @@ fn add_venue_rows_of(
     Ok(())
 }
 
-/// Adds the rows of a team's venue in a slot.
+/// Adds the two rows of a team's venue in a slot. `meetings` are all its home meetings.
 fn tie(
     draft: &mut Draft,
     season: &Season,
@@ -78,7 +78,7 @@ fn tie(
     Ok(())
 }
 
-/// Lists what the two rows of a team and a slot are made of.
+/// Lists the literals and the terms of which the two rows of a team and a slot are made.
 fn list_tie(
     draft: &mut Draft,
     season: &Season,

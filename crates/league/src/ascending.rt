@@ -8,7 +8,7 @@ ghost use Rattle.league.specs.Sets.{IsAscending, with_item};
 use std::alloc::{AllocError, Global};
 use std::marker::Model;
 
-/// What a set may hold: values that are the same where their order doesn't tell them apart.
+/// What a set may hold: values of which two are the same if neither comes before the other.
 pub trait Item: Ord + Copy {
     ghost same: { (a b : Self) → Self.cmp a b ≡ Equal → a ≡ b };
 }

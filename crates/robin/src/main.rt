@@ -43,7 +43,7 @@ const QUIET: &str = "--quiet";
 /// The words of the command line.
 #[derive(Drop)]
 struct Line {
-    /// Those of the command, without the program's name.
+    /// The command's words, without the program's name and `--quiet`.
     words: Vec<String>,
     /// Whether nothing is to be told of how the run goes.
     quiet: bool,

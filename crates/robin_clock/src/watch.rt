@@ -11,7 +11,7 @@ use std::cell::Cell;
 use std::rt::Files;
 use std::time::{Clock, Instant};
 
-/// Of so many questions whether the run is to end one looks at the clock.
+/// The clock is looked at once in so many questions whether the run is to end.
 const EACH: u64 = 16;
 
 /// At least so many milliseconds lie between two looks at the signals.
@@ -25,8 +25,9 @@ struct Heard {
     at: u128,
 }
 
-/// Ends a run behind so many seconds, where that is asked for, and when SIGHUP, SIGINT or SIGTERM waits, where one of
-/// them was blocked when the watch began. What has ended stays so. Writes lines of how the run goes to standard error.
+/// Ends a run after so many seconds, if seconds were asked for. Ends it too when SIGHUP, SIGINT or SIGTERM waits, if
+/// one of them was blocked when the watch began. From then on each answer is that the run is to end. Writes lines of how
+/// the run goes to standard error.
 #[derive(Drop)]
 pub struct HostWatch<R> {
     rt: R,
@@ -42,7 +43,7 @@ pub struct HostWatch<R> {
 }
 
 impl<R: Clock + Files + Eprint> HostWatch<R> {
-    /// The time begins now.
+    /// A watch whose time begins now.
     pub fn new(rt: R, seconds: Option<u64>, telling: Telling) -> HostWatch<R>
         ensures { limit_of result ≡ seconds }
     {
@@ -62,7 +63,7 @@ impl<R: Clock + Files + Eprint> HostWatch<R> {
         }
     }
 
-    /// How many milliseconds have passed: as many as there can be, where the clock can't be read.
+    /// How many milliseconds have passed since the watch began; the greatest number if the clock can't be read.
     fn passed(&self) -> u128 {
         let Some(start) = self.start else {
             return u128::MAX;

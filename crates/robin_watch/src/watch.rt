@@ -12,12 +12,12 @@ pub enum News {
     Ready,
 }
 
-/// Watches over a run: says whether the run is to end, and hears how it goes. Nothing that it does changes what it is.
+/// Watches over a run: says whether the run is to end, and hears how it goes. No call changes the watch's value.
 pub trait Watch {
-    /// It may end a run.
+    /// The watch may end a run.
     ghost may_stop: { Self → Type 0 };
 
-    /// Whether a run ends that has made so many turns, where the watch tells.
+    /// Whether a run ends that has made so many turns; None if the watch doesn't say it beforehand.
     ghost stops_at: { Self → ℕ → Option Bool } = { λ _ _. None };
 
     /// Whether a run is to end that has made so many turns.

@@ -99,8 +99,8 @@ impl RowStore {
         Ok(())
     }
 
-    /// Adds the row "at most `bound` of these literals are true" at the end: at least all but so many are false. Where
-    /// the bound isn't below their number its degree is 0.
+    /// Adds the row "at most `bound` of these literals are true" at the end. It says that at least all but `bound` of
+    /// them are false. If there are no more than `bound` literals, its degree is 0.
     ///
     /// # Errors
     /// Only where memory runs out.

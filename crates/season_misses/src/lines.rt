@@ -25,7 +25,7 @@ fn number_at(numbers: &[u16], place: usize) -> u16
     }
 }
 
-/// The games that are counted, of a class that bounds their number.
+/// The games that a cause lists because their number is out of bounds; none if it lists no such games.
 fn games_told(cause: &Cause) -> &[Game]
     ensures { result.now ≡ lines.games_told cause.now }
 {
@@ -36,7 +36,7 @@ fn games_told(cause: &Cause) -> &[Game]
     }
 }
 
-/// The first slot of a window; 0 of any other cause.
+/// The first slot of a cause that is a window; 0 if the cause is another.
 fn slot_told(cause: &Cause) -> u16
     ensures { result ≡ lines.slot_told cause.now }
 {
@@ -46,7 +46,7 @@ fn slot_told(cause: &Cause) -> u16
     }
 }
 
-/// A team has so many games, outside of two bounds.
+/// The line that a team has so many games, outside of two bounds.
 fn has_line(
     alloc: Global,
     names: &[Label],
@@ -63,14 +63,14 @@ fn has_line(
     format!(in alloc; "{who} has {count}, {beyond}{after}")
 }
 
-/// Windows of a CA3 in a league of n teams.
+/// Windows of a CA3 that hold the same games, in a league of n teams.
 struct Windows<'a> {
     n: u16,
     intp: u32,
     row: Row<'a>,
 }
 
-/// A team has so many games in a window, or in each of more windows.
+/// The line that a team has so many games in a window, or in each of several windows that follow each other.
 fn window_line(
     alloc: Global,
     names: &[Label],
@@ -94,7 +94,7 @@ fn window_line(
     format!(in alloc; "{who} has {count} in {stretch}, {beyond}{runs}{after}")
 }
 
-/// The slot of a CA4 that bounds each slot by itself.
+/// The words that name the slot of an entry of a CA4 that bounds each slot by itself; nothing for any other CA4.
 fn span_place(alloc: Global, span: Span, slots: &[u16], key: usize) -> Result<String, AllocError>
     ensures { IfOk result (λ text. string_bytes text ≡ lines.span_place span slots.now key) }
 {
@@ -107,7 +107,7 @@ fn span_place(alloc: Global, span: Span, slots: &[u16], key: usize) -> Result<St
     }
 }
 
-/// There are so many games, outside of two bounds.
+/// The line that there are so many games, outside of two bounds.
 fn there_line(
     alloc: Global,
     names: &[Label],

@@ -10,7 +10,7 @@ use std::alloc::{AllocError, Global};
 /// A constraint that is missed.
 #[derive(Clone, Copy)]
 pub struct Miss {
-    /// Its place in the league, from 0.
+    /// The constraint's place in the league, from 0.
     pub place: usize,
     pub hard: bool,
     /// By how much it is missed, at least 1.

@@ -41,7 +41,7 @@ impl<R: Entries> Kept<R> {
         u128::from(self.weighted.penalty) * self.deviation
     }
 
-    /// Makes the entries those on the counts that a change led to, and the sums what the rules then cost.
+    /// Evaluates the rule's entries anew on the counts after a change, and brings the sums up to date.
     pub(crate) fn renew_weighed<L>(
         &mut self,
         change: &Change,
@@ -117,7 +117,7 @@ impl<R> Weighted<R> {
     }
 }
 
-/// Makes the entries of some rules those on the counts that a change led to, and the sums what the rules then cost.
+/// Evaluates the entries of some rules anew on the counts after a change, and brings the sums up to date.
 pub(crate) fn renew_rules<R: Rule<L>, L>(
     rules: &mut [Kept<R>],
     change: &Change,

@@ -18,7 +18,7 @@ pub(crate) struct Spots {
 }
 
 impl Spots {
-    /// Those of these parts, numbered from 0.
+    /// The parts that each game can change. Parts are numbered from 0, in the order in which they are given.
     ///
     /// # Errors
     /// Only where memory runs out.

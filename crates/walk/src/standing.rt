@@ -31,7 +31,8 @@ const DRAWS: u64 = 8;
 /// The heat of the thresholds of moves that are to meet hard constraints: two units of their weights, in 256ths.
 const HARD_HEAT: u64 = 512;
 
-/// Of 256 moves that are to meet hard constraints, so many are aimed at unmet ones.
+/// A move that is to meet hard constraints is aimed at an unmet one if the number drawn for it, below 256, is below
+/// this one.
 const AIMED: u16 = 64;
 
 /// A move of parts of rounds or of teams' games that takes out more games isn't tried: hardly one is ever made.
