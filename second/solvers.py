@@ -1,11 +1,12 @@
 """Gives the rows that robin writes to other solvers, and what they find back to robin.
 
-python3 second/solvers.py PROGRAM [--objective] [--rows PROGRAM] [--seconds N] [--rounds N] [--seed N] [LEAGUE ..]
+python3 second/solvers.py PROGRAM [--objective] [--solvers NAMES] [--rows PROGRAM] [--seconds N] [--rounds N] [--seed N]
+    [LEAGUE ..]
 
 PROGRAM is robin as it was built; `--rows` is a program that takes the words `rows` and `values`, where that is another
 one. Each LEAGUE is taken by its hard constraints; without any, so many rounds draw a small one. The text of `rows` is
-compared with that of opb.py, also with a bound, and given to each solver that is installed (clasp, minisat+, cbc) for so
-many seconds of processor time. What a solver finds goes back by `values`: the season has to be one that `validate`
+compared with that of opb.py, also with a bound, and given to each solver of NAMES (clasp,minisat+,cbc) that is installed
+for so many seconds of processor time. What a solver finds goes back by `values`: the season has to be one that `validate`
 accepts, and with one value changed the row that `values` names has to be the first that the values miss. What the
 solvers say has to agree with each other, and with `solve --conflicts all` unless that takes too long. It stops at the
 first difference.
@@ -229,13 +230,14 @@ def main():
     words.add_argument("leagues", nargs="*")
     words.add_argument("--objective", action="store_true")
     words.add_argument("--rows")
+    words.add_argument("--solvers", default="clasp,minisat+,cbc")
     words.add_argument("--seconds", type=int, default=60)
     words.add_argument("--rounds", type=int, default=50)
     words.add_argument("--seed", type=int, default=1)
-    said = words.parse_args()
+    said = words.parse_intermixed_args()
     rng = random.Random(said.seed)
     programs = os.path.abspath(said.program), os.path.abspath(said.rows or said.program)
-    solvers = [it for it in ("clasp", "minisat+", "cbc") if shutil.which(it)]
+    solvers = [it for it in said.solvers.split(",") if shutil.which(it)]
     files = [os.path.abspath(it) for it in said.leagues]
     with tempfile.TemporaryDirectory() as folder:
         os.chdir(folder)
