@@ -1,8 +1,6 @@
 //! The text of a season.
-ghost use Rattle.std.specs.Prelude.{◌≡◌, ◌++◌, ◌≤◌, length, map, string_bytes, IfOk};
+ghost use Rattle.std.specs.Prelude.{◌≡◌, ◌≤◌, length, string_bytes, IfOk};
 ghost use Rattle.std.specs.List.{All};
-ghost use Rattle.league.specs.Counts.{counts_of};
-ghost use Rattle.league.specs.Deviation.{vector_of};
 ghost use Rattle.league.specs.Instance.{IsGame};
 ghost use Rattle.league.specs.Order.{IsInOrder};
 ghost use Rattle.robinx_names.specs.Names.{IsNames};
@@ -15,6 +13,7 @@ use command_validate::{structure_line, verdict};
 use demand_words::Label;
 use deviation::{Assessment, counted};
 use league::{League, Schedule, TeamId};
+use reasons::TeamGames;
 use robinx_names::Names;
 use season_csv::season_csv;
 use season_grid::{Season, season_grid};
@@ -22,7 +21,7 @@ use season_misses::{Told, lacks, misses};
 use std::alloc::{AllocError, Global};
 
 /// What the teams of a league of n teams are called.
-fn labels_of(alloc: Global, names: &Names, n: u16) -> Result<Vec<Label>, AllocError>
+pub(crate) fn labels_of(alloc: Global, names: &Names, n: u16) -> Result<Vec<Label>, AllocError>
     requires { IsNames n names.now }
     ensures { IfOk result (λ labels. labels.items ≡ show.labels_of n names.now) }
 {
@@ -51,9 +50,7 @@ fn totals(alloc: Global, assessed: &Assessment) -> Result<String, AllocError>
 
 /// What stands below the grid.
 fn words_below(alloc: Global, told: &Told<'_>, assessed: &Assessment) -> Result<String, AllocError>
-    requires told { IsTold told.now }
-    requires vectors { assessed.now.vectors ≡ map (λ c. vector_of told.now.league.now.n (counts_of told.now.games.now)
-        c.class) told.now.league.now.constraints }
+    requires { IsTold told.now }
     ensures { IfOk result (λ text. string_bytes text ≡ show.words_text told.now.league.now told.now.names.now
         told.now.most told.now.games.now assessed.now.structure assessed.now.infeasibility assessed.now.objective
         assessed.now.feasible) }
@@ -66,7 +63,7 @@ fn words_below(alloc: Global, told: &Told<'_>, assessed: &Assessment) -> Result<
         told.games,
         assessed.structure,
     )?;
-    let misses = misses(alloc, told, &assessed.vectors)?;
+    let misses = misses(alloc, told)?;
     let totals = totals(alloc, assessed)?;
     format!(in alloc; "\n{lacks}{misses}\n{totals}")
 }
@@ -97,12 +94,15 @@ fn shown_text(
     };
     let mut text = season_grid(alloc, &season, page.width)?;
     let labels = labels_of(alloc, names, league.n())?;
+    let own = TeamGames::of(alloc, league.n(), games)?;
     let told = Told {
         league,
         names: labels.as_slice(),
         most: page.most as usize,
         games,
         cells: &cells,
+        own: &own,
+        vectors: &assessed.vectors,
     };
     let words = words_below(alloc, &told, assessed)?;
     text.extend_from_slice(words.as_bytes())?;

@@ -6,6 +6,10 @@ pub mod LawLemmas
 pub mod LeadLemmas
 pub mod GapLemmas
 pub mod AddUpLemmas
+pub mod NoneLemmas
+pub mod OwnLemmas
+pub mod PairLemmas
+pub mod RunLemmas
 pub mod TouchLemmas
 pub mod ExactLemmas
 -- Worked examples, so that a wrong definition does not check:

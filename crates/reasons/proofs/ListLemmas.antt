@@ -1,10 +1,10 @@
 -- Lists that are made piece by piece, and what is in them.
-use Rattle.std.proofs.Common.{◌≡◌, ℕ, ◌+◌, ◌-◌, ◌<◌, zero, suc, false, true, Bool, ◌&&◌, ◌||◌, ◌==◌, nat_lt, List, [], ◌∷◌, ◌++◌, length, get_or, take, drop, cond, Some, arith, ap, subst, sym, ◌∙◌, append_assoc, append-nil}
+use Rattle.std.proofs.Common.{◌≡◌, ℕ, ◌+◌, ◌-◌, ◌<◌, zero, suc, false, true, Bool, ◌&&◌, ◌||◌, ◌==◌, nat_lt, List, [], ◌∷◌, ◌++◌, length, get_or, take, drop, map, cond, Some, arith, ap, subst, sym, ◌∙◌, append_assoc, append-nil}
 use Rattle.std.specs.Prelude.{nat_le}
 use Rattle.std.proofs.lemmas.Bool.Decides.{nat_tests}
 use Rattle.std.proofs.lemmas.List.{get_or-map, length-map}
 use Rattle.std.proofs.lemmas.List.Concat.{flat_map-append}
-use Rattle.std.proofs.lemmas.List.FromFn.{get_or-range_with_len, length-range_with_len}
+use Rattle.std.proofs.lemmas.List.FromFn.{get_or-range_with_len, length-range_with_len, map-range_with_len_more}
 use Rattle.std.proofs.Math.Seq.{drop-cons}
 use Rattle.std.specs.List.{find, flat_map, range_with_len}
 use Rattle.std.specs.Ordering.{nat_cmp}
@@ -30,6 +30,14 @@ made_more f before made more k so_far now =
     ∙ ap (λ xs. xs ++ f k) so_far
     ∙ append_assoc before (flat_map f (range_with_len 0 k)) (f k)
     ∙ ap (λ xs. before ++ xs) (ap (λ (j : ℕ). flat_map f (range_with_len 0 k) ++ f j) (sym at) ∙ sym (flat_map-range_more f 0 k))
+
+-- values of the numbers so far, with that of one number more
+pub mapped_more : {A : Type 0} (f : ℕ → A) (k : ℕ) (made more : List A) (x : A) → made ≡ map f (range_with_len 0 k) → more ≡ made ++ x ∷ [] → x ≡ f k → more ≡ map f (range_with_len 0 (k + 1))
+mapped_more f k made more x so_far now is =
+    now
+    ∙ ap (λ y. made ++ y ∷ []) is
+    ∙ ap (λ ys. ys ++ f k ∷ []) so_far
+    ∙ sym (map-range_with_len_more f 0 k k (omega arith))
 
 -- the slots of an entry of a CA4, of which each slot is one of these
 pub one_slot : (slots : List ℕ) (k : ℕ) → k < length slots → get_or (spans Every slots) k [] ≡ get_or slots k 0 ∷ []

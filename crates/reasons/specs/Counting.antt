@@ -15,10 +15,13 @@ counts_in_ca1 side slots i g = plays_on side g i && is_in g.slot.0 slots
 abbrev pub counts_in_ca2 : List ℕ → Side → List ℕ → ℕ → Game → Bool
 counts_in_ca2 teams2 side slots i g = plays_against side teams2 g i && is_in g.slot.0 slots
 
+-- whether a game is in the window of intp slots from a slot on
+abbrev pub is_in_window : ℕ → ℕ → Game → Bool
+is_in_window intp first g = nat_le first g.slot.0 && nat_lt g.slot.0 (first + intp)
+
 -- CA3, team i, the window from a slot on: its games on the side against teams2 in the window
 abbrev pub counts_in_ca3 : List ℕ → ℕ → Side → ℕ → ℕ → Game → Bool
-counts_in_ca3 teams2 intp side i first g =
-    plays_against side teams2 g i && (nat_le first g.slot.0 && nat_lt g.slot.0 (first + intp))
+counts_in_ca3 teams2 intp side i first g = plays_against side teams2 g i && is_in_window intp first g
 
 -- CA4, some slots: the games of teams1 with teams2 on the side in these slots
 abbrev pub counts_in_ca4 : List ℕ → List ℕ → Side → List ℕ → Game → Bool

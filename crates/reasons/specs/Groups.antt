@@ -1,7 +1,7 @@
 -- What a class counts at a key.
 use Rattle.std.specs.Prelude.{Bool, true, false}
 use Rattle.league.specs.declared.class.Class.{Class}
-use Rattle.league.specs.declared.class.Class.TheVariants.{Ca1, Ca2, Ca3, Ca4, Ga1, Br1, Br2}
+use Rattle.league.specs.declared.class.Class.TheVariants.{Ca1, Ca2, Ca3, Ca4, Ga1, Br1, Br2, Fa2, Se1}
 
 -- whether it counts the games of a team
 abbrev pub counts_games_of_a_team : Class → Bool
@@ -21,3 +21,9 @@ abbrev pub counts_breaks : Class → Bool
 counts_breaks (Br1 teams intp side slots) = true
 counts_breaks (Br2 teams intp slots) = true
 counts_breaks _ = false
+
+-- whether it compares two teams
+abbrev pub compares_teams : Class → Bool
+compares_teams (Fa2 teams intp slots) = true
+compares_teams (Se1 teams min) = true
+compares_teams _ = false

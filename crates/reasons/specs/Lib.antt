@@ -8,3 +8,5 @@ pub mod Reasons
 pub mod Laws
 -- Kept inside (laws, and how fields are seen):
 pub mod Groups
+pub mod Own
+pub mod Runs

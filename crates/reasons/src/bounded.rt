@@ -3,12 +3,14 @@ ghost use Rattle.std.specs.Prelude.{◌≡◌, ◌+◌, ◌-◌, ◌<◌, ◌≤
 ghost use Rattle.std.specs.List.{filter, flat_map, range_with_len};
 ghost use Rattle.league.specs.Deviation.{spans};
 ghost use Rattle.reasons.specs.Counting.{counts_in_ca3};
+ghost use Rattle.reasons.specs.Own.{IsSeason};
 ghost use Rattle.reasons.specs.Reasons.{by_games, by_window, where_missed};
 
-use crate::listed::ca3_games;
+use crate::listed::{games_against, games_in_window};
 use crate::reason::{Cause, GameList, Reason};
+use crate::season::Season;
 use crate::tests_of_games::Player;
-use league::{Game, SlotId, Span, TeamSet};
+use league::{SlotId, Span, TeamSet};
 use rule_core::outside;
 use std::alloc::AllocError;
 
@@ -90,21 +92,24 @@ impl Windows {
 
 /// Adds the reasons of an entry of CA3, window by window.
 pub(crate) fn push_by_windows(
-    games: &[Game],
+    season: &Season<'_>,
     player: Player,
     others: &TeamSet,
     entry: Entry,
     windows: Windows,
     reasons: &mut Vec<Reason>,
 ) -> Result<(), AllocError>
+    requires season { IsSeason season.now }
+    requires team { player.team < season.now.cells.now.n }
     ensures { OnOk result (reasons.new.items ≡ reasons.old.items ++ flat_map
         (λ first. by_window entry.key entry.min entry.max first
-        (filter (counts_in_ca3 others.now windows.intp player.side player.team first) games.now))
+        (filter (counts_in_ca3 others.now windows.intp player.side player.team first) season.now.games.now))
         (range_with_len 0 windows.count)) }
 {
+    let alloc = *reasons.allocator();
+    let against = games_against(alloc, season, player, others)?;
     for first in 0..windows.count {
-        let alloc = *reasons.allocator();
-        let counted = ca3_games(alloc, games, player, others, windows.intp, first)?;
+        let counted = games_in_window(alloc, against.games(), windows.intp, first)?;
         push_by_window(entry, first, counted, reasons)?;
     }
     Ok(())

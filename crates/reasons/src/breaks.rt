@@ -2,14 +2,16 @@
 ghost use Rattle.std.specs.Prelude.{◌≡◌, ◌<◌, ◌++◌, OnOk, IfOk};
 ghost use Rattle.std.specs.List.{All, flat_map};
 ghost use Rattle.league.specs.Breaks as breaks;
-ghost use Rattle.league.specs.Counts.{counts_of, slot_count};
+ghost use Rattle.league.specs.Counts.{slot_count};
 ghost use Rattle.league.specs.declared.class.Side.TheVariants.{Both};
 ghost use Rattle.cells.specs.Table.{table_counts};
+ghost use Rattle.reasons.specs.Own.{IsSeason};
 ghost use Rattle.reasons.specs.Reasons as specs;
 
 use crate::bounded::push_missed;
 use crate::listed::break_games;
 use crate::reason::{Break, BreakList, Cause, Reason};
+use crate::season::Season;
 use crate::tests_of_games::Player;
 use league::{Game, Side, SlotId, TeamId};
 use rule_core::Cells;
@@ -52,113 +54,108 @@ fn break_of(
 
 /// Adds a team's home break at a slot, if it has one.
 fn push_home_break(
-    cells: &Cells,
-    games: &[Game],
+    season: &Season<'_>,
     team: TeamId,
     slot: SlotId,
     found: &mut Vec<Break>,
 ) -> Result<(), AllocError>
-    requires team { team.0 < cells.now.n }
-    requires slot { slot.0 < slot_count cells.now.n }
-    requires counted { table_counts cells.now ≡ counts_of games.now }
+    requires team { team.0 < season.now.cells.now.n }
+    requires slot { slot.0 < slot_count season.now.cells.now.n }
+    requires season { IsSeason season.now }
     ensures { OnOk result (found.new.items
-        ≡ found.old.items ++ specs.home_break_at cells.now.n games.now team.0 slot.0) }
+        ≡ found.old.items ++ specs.home_break_at season.now.cells.now.n season.now.games.now team.0 slot.0) }
 {
-    if is_home_break(cells, team, slot) {
+    if is_home_break(season.cells, team, slot) {
         let side = Side::H;
         let player = Player { team: team.0, side };
         let alloc = *found.allocator();
-        found.push(break_of(alloc, games, player, slot)?)?;
+        found.push(break_of(alloc, season.games, player, slot)?)?;
     }
     Ok(())
 }
 
 /// Adds a team's away break at a slot, if it has one.
 fn push_away_break(
-    cells: &Cells,
-    games: &[Game],
+    season: &Season<'_>,
     team: TeamId,
     slot: SlotId,
     found: &mut Vec<Break>,
 ) -> Result<(), AllocError>
-    requires team { team.0 < cells.now.n }
-    requires slot { slot.0 < slot_count cells.now.n }
-    requires counted { table_counts cells.now ≡ counts_of games.now }
+    requires team { team.0 < season.now.cells.now.n }
+    requires slot { slot.0 < slot_count season.now.cells.now.n }
+    requires season { IsSeason season.now }
     ensures { OnOk result (found.new.items
-        ≡ found.old.items ++ specs.away_break_at cells.now.n games.now team.0 slot.0) }
+        ≡ found.old.items ++ specs.away_break_at season.now.cells.now.n season.now.games.now team.0 slot.0) }
 {
-    if is_away_break(cells, team, slot) {
+    if is_away_break(season.cells, team, slot) {
         let side = Side::A;
         let player = Player { team: team.0, side };
         let alloc = *found.allocator();
-        found.push(break_of(alloc, games, player, slot)?)?;
+        found.push(break_of(alloc, season.games, player, slot)?)?;
     }
     Ok(())
 }
 
 /// Adds a team's breaks on a side at a slot.
 fn push_breaks_at(
-    cells: &Cells,
-    games: &[Game],
+    season: &Season<'_>,
     player: Player,
     slot: SlotId,
     found: &mut Vec<Break>,
 ) -> Result<(), AllocError>
-    requires team { player.team < cells.now.n }
-    requires slot { slot.0 < slot_count cells.now.n }
-    requires counted { table_counts cells.now ≡ counts_of games.now }
+    requires team { player.team < season.now.cells.now.n }
+    requires slot { slot.0 < slot_count season.now.cells.now.n }
+    requires season { IsSeason season.now }
     ensures { OnOk result (found.new.items
-        ≡ found.old.items ++ specs.breaks_at_slot cells.now.n games.now player.side player.team slot.0) }
+        ≡ found.old.items ++ specs.breaks_at_slot season.now.cells.now.n season.now.games.now player.side player.team slot.0) }
 {
     let team = TeamId(player.team);
     match player.side {
-        Side::H => push_home_break(cells, games, team, slot, found),
-        Side::A => push_away_break(cells, games, team, slot, found),
+        Side::H => push_home_break(season, team, slot, found),
+        Side::A => push_away_break(season, team, slot, found),
         Side::Both => {
-            push_home_break(cells, games, team, slot, found)?;
-            push_away_break(cells, games, team, slot, found)
+            push_home_break(season, team, slot, found)?;
+            push_away_break(season, team, slot, found)
         }
     }
 }
 
 /// Adds a team's breaks on a side at some slots.
 pub(crate) fn push_breaks(
-    cells: &Cells,
-    games: &[Game],
+    season: &Season<'_>,
     player: Player,
     slots: &[u16],
     found: &mut Vec<Break>,
 ) -> Result<(), AllocError>
-    requires team { player.team < cells.now.n }
-    requires slots { All (λ s. s < slot_count cells.now.n) slots.now }
-    requires counted { table_counts cells.now ≡ counts_of games.now }
+    requires team { player.team < season.now.cells.now.n }
+    requires slots { All (λ s. s < slot_count season.now.cells.now.n) slots.now }
+    requires season { IsSeason season.now }
     ensures { OnOk result (found.new.items
-        ≡ found.old.items ++ specs.breaks_of cells.now.n games.now player.side slots.now player.team) }
+        ≡ found.old.items ++ specs.breaks_of season.now.cells.now.n season.now.games.now player.side slots.now player.team) }
 {
     for slot in slots {
-        push_breaks_at(cells, games, player, SlotId(*slot), found)?;
+        push_breaks_at(season, player, SlotId(*slot), found)?;
     }
     Ok(())
 }
 
 /// Adds all breaks of some teams at some slots.
 pub(crate) fn push_all_breaks(
-    cells: &Cells,
-    games: &[Game],
+    season: &Season<'_>,
     teams: &[u16],
     slots: &[u16],
     found: &mut Vec<Break>,
 ) -> Result<(), AllocError>
-    requires teams { All (λ t. t < cells.now.n) teams.now }
-    requires slots { All (λ s. s < slot_count cells.now.n) slots.now }
-    requires counted { table_counts cells.now ≡ counts_of games.now }
+    requires teams { All (λ t. t < season.now.cells.now.n) teams.now }
+    requires slots { All (λ s. s < slot_count season.now.cells.now.n) slots.now }
+    requires season { IsSeason season.now }
     ensures { OnOk result (found.new.items
-        ≡ found.old.items ++ flat_map (specs.breaks_of cells.now.n games.now Both slots.now) teams.now) }
+        ≡ found.old.items ++ flat_map (specs.breaks_of season.now.cells.now.n season.now.games.now Both slots.now) teams.now) }
 {
     for team in teams {
         let side = Side::Both;
         let player = Player { team: *team, side };
-        push_breaks(cells, games, player, slots, found)?;
+        push_breaks(season, player, slots, found)?;
     }
     Ok(())
 }

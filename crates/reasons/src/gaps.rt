@@ -1,18 +1,16 @@
 //! Reasons of SE1: two games of two teams with too few slots between them.
-ghost use Rattle.std.specs.Prelude.{◌≡◌, ◌++◌, OnOk, IfOk, IsTrue};
-ghost use Rattle.std.specs.List.{flat_map};
-ghost use Rattle.league.specs.Instance.{are_teams};
-ghost use Rattle.league.specs.declared.class.Class.TheVariants.{Se1};
+ghost use Rattle.std.specs.Prelude.{◌≡◌, ◌<◌, ◌++◌, OnOk};
+ghost use Rattle.std.specs.List.{filter, flat_map};
+ghost use Rattle.reasons.specs.Counting.{counts_in_se1};
+ghost use Rattle.reasons.specs.Own.{IsSeason};
 ghost use Rattle.reasons.specs.Reasons as specs;
 
 use crate::bounded::push_missed;
 use crate::listed::mutual_games;
-use crate::pair_at::pair_at;
 use crate::reason::{Cause, Reason};
-use keys::Pairs;
-use league::{Game, TeamSet};
-use rule_core::Cells;
-use std::alloc::{AllocError, Global};
+use crate::season::Season;
+use league::{Game, TeamId};
+use std::alloc::AllocError;
 
 /// Adds the reason of an entry by two games, the earlier first.
 fn push_by_gap(
@@ -48,24 +46,19 @@ fn push_by_gaps(
     Ok(())
 }
 
-/// The reasons of SE1.
-pub(crate) fn gaps(
-    alloc: Global,
-    teams: &TeamSet,
+/// Adds the reasons of an entry of SE1.
+pub(crate) fn push_gaps(
+    season: &Season<'_>,
+    key: usize,
+    pair: (TeamId, TeamId),
     min: u32,
-    cells: &Cells,
-    games: &[Game],
-) -> Result<Vec<Reason>, AllocError>
-    requires teams { IsTrue (are_teams cells.now.n teams.now) }
-    ensures { IfOk result (λ reasons. reasons.items
-        ≡ specs.reasons_of cells.now.n games.now (Se1 teams.now min)) }
+    reasons: &mut Vec<Reason>,
+) -> Result<(), AllocError>
+    requires season { IsSeason season.now }
+    requires team { pair.0.0 < season.now.cells.now.n }
+    ensures { OnOk result (reasons.new.items ≡ reasons.old.items ++ flat_map (specs.by_gap key min)
+        (specs.neighbours (filter (counts_in_se1 (pair.0.0, pair.1.0)) season.now.games.now))) }
 {
-    let pairs = Pairs::of_teams(alloc, cells.n(), teams)?;
-    let mut reasons = Vec::new(alloc);
-    for key in 0..pairs.len() {
-        let pair = pair_at(&pairs, key);
-        let mutual = mutual_games(alloc, games, pair.first, pair.second)?;
-        push_by_gaps(key, min, mutual.games(), &mut reasons)?;
-    }
-    Ok(reasons)
+    let mutual = mutual_games(*reasons.allocator(), season, pair.0, pair.1)?;
+    push_by_gaps(key, min, mutual.games(), reasons)
 }

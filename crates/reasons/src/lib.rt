@@ -11,9 +11,12 @@ mod classes;
 mod gaps;
 mod leads;
 mod listed;
-mod pair_at;
+mod pairs;
 mod reason;
+mod season;
 mod tests_of_games;
 
 pub use classes::reasons;
+pub use pairs::pair_at;
 pub use reason::{Break, BreakList, Cause, GameList, Reason};
+pub use season::{Season, TeamGames};

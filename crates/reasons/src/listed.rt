@@ -1,12 +1,15 @@
 //! The games of a schedule that count, listed.
-ghost use Rattle.std.specs.Prelude.{◌≡◌, IfOk};
+ghost use Rattle.std.specs.Prelude.{◌≡◌, ◌<◌, IfOk};
 ghost use Rattle.std.specs.List.{filter};
+ghost use Rattle.rule_core.specs.Touched.{plays_against};
 ghost use Rattle.reasons.specs.Counting as counting;
+ghost use Rattle.reasons.specs.Own.{IsSeason};
 
 use crate::reason::GameList;
+use crate::season::Season;
 use crate::tests_of_games::{
-    Player, counts_in_break, counts_in_ca1, counts_in_ca2, counts_in_ca3, counts_in_ca4,
-    counts_in_fa2, counts_in_ga1, counts_in_se1,
+    Player, counts_in_break, counts_in_ca1, counts_in_ca2, counts_in_ca4, counts_in_fa2,
+    counts_in_ga1, counts_in_se1, is_against, is_in_window,
 };
 use league::{Game, PairSet, Side, SlotId, TeamId, TeamSet};
 use std::alloc::{AllocError, Global};
@@ -45,22 +48,51 @@ pub(crate) fn ca2_games(
     })
 }
 
-/// The games that count for CA3, in the window of `intp` slots from a slot on.
-pub(crate) fn ca3_games(
+/// Those of some games that a team plays on a side against others.
+fn against_among(
     alloc: Global,
     games: &[Game],
     player: Player,
     others: &TeamSet,
+) -> Result<GameList, AllocError>
+    ensures { IfOk result (λ list. list
+        ≡ filter (λ g. plays_against player.side others.now g player.team) games.now) }
+{
+    let played = games.iter().copied();
+    let played = played.filter(|game| is_against(player.side, others, *game, player.team));
+    Ok(GameList {
+        games: played.collect(alloc)?,
+    })
+}
+
+/// The games of a team on a side against others.
+pub(crate) fn games_against(
+    alloc: Global,
+    season: &Season<'_>,
+    player: Player,
+    others: &TeamSet,
+) -> Result<GameList, AllocError>
+    requires season { IsSeason season.now }
+    requires team { player.team < season.now.cells.now.n }
+    ensures { IfOk result (λ list. list
+        ≡ filter (λ g. plays_against player.side others.now g player.team) season.now.games.now) }
+{
+    against_among(alloc, season.of_team(player.team), player, others)
+}
+
+/// The games of a list in the window of `intp` slots from a slot on.
+pub(crate) fn games_in_window(
+    alloc: Global,
+    games: &[Game],
     intp: u32,
     first: u16,
 ) -> Result<GameList, AllocError>
-    ensures { IfOk result (λ list. list
-        ≡ filter (counting.counts_in_ca3 others.now intp player.side player.team first) games.now) }
+    ensures { IfOk result (λ list. list ≡ filter (counting.is_in_window intp first) games.now) }
 {
-    let counted = games.iter().copied();
-    let counted = counted.filter(|game| counts_in_ca3(player, others, intp, first, *game));
+    let within = games.iter().copied();
+    let within = within.filter(|game| is_in_window(intp, first, *game));
     Ok(GameList {
-        games: counted.collect(alloc)?,
+        games: within.collect(alloc)?,
     })
 }
 
@@ -116,8 +148,8 @@ pub(crate) fn break_games(
     })
 }
 
-/// The home games of a team up to a slot.
-pub(crate) fn home_games_to(
+/// Those of some games that a team plays at home up to a slot.
+fn home_among(
     alloc: Global,
     games: &[Game],
     team: TeamId,
@@ -132,8 +164,22 @@ pub(crate) fn home_games_to(
     })
 }
 
-/// The mutual games of two teams.
-pub(crate) fn mutual_games(
+/// The home games of a team up to a slot.
+pub(crate) fn home_games_to(
+    alloc: Global,
+    season: &Season<'_>,
+    team: TeamId,
+    slot: u16,
+) -> Result<GameList, AllocError>
+    requires season { IsSeason season.now }
+    requires team { team.0 < season.now.cells.now.n }
+    ensures { IfOk result (λ list. list ≡ filter (counting.counts_in_fa2 team.0 slot) season.now.games.now) }
+{
+    home_among(alloc, season.of_team(team.0), team, slot)
+}
+
+/// Those of some games that two teams play with each other.
+fn mutual_among(
     alloc: Global,
     games: &[Game],
     first: TeamId,
@@ -146,4 +192,19 @@ pub(crate) fn mutual_games(
     Ok(GameList {
         games: counted.collect(alloc)?,
     })
+}
+
+/// The mutual games of two teams.
+pub(crate) fn mutual_games(
+    alloc: Global,
+    season: &Season<'_>,
+    first: TeamId,
+    second: TeamId,
+) -> Result<GameList, AllocError>
+    requires season { IsSeason season.now }
+    requires team { first.0 < season.now.cells.now.n }
+    ensures { IfOk result (λ list. list
+        ≡ filter (counting.counts_in_se1 (first.0, second.0)) season.now.games.now) }
+{
+    mutual_among(alloc, season.of_team(first.0), first, second)
 }

@@ -23,7 +23,7 @@ fn has(numbers: &[u16], number: u16) -> bool
 }
 
 /// Whether a team plays a game on a side.
-fn is_on(side: Side, game: Game, team: u16) -> bool
+pub(crate) fn is_on(side: Side, game: Game, team: u16) -> bool
     ensures { result ≡ plays_on side game team }
 {
     match side {
@@ -34,7 +34,7 @@ fn is_on(side: Side, game: Game, team: u16) -> bool
 }
 
 /// Whether a team plays a game on a side against one of these teams.
-fn is_against(side: Side, others: &TeamSet, game: Game, team: u16) -> bool
+pub(crate) fn is_against(side: Side, others: &TeamSet, game: Game, team: u16) -> bool
     ensures { result ≡ plays_against side others.now game team }
 {
     let at_home = team == game.home.0 && has(others.numbers(), game.away.0);
@@ -84,19 +84,12 @@ pub(crate) fn counts_in_ca2(player: Player, others: &TeamSet, slots: &[u16], gam
     is_against(player.side, others, game, player.team) && has(slots, game.slot.0)
 }
 
-/// Whether a game counts for CA3, in the window of `intp` slots from a slot on.
-pub(crate) fn counts_in_ca3(
-    player: Player,
-    others: &TeamSet,
-    intp: u32,
-    first: u16,
-    game: Game,
-) -> bool
-    ensures { result ≡ counting.counts_in_ca3 others.now intp player.side player.team first game }
+/// Whether a game is in the window of `intp` slots from a slot on.
+pub(crate) fn is_in_window(intp: u32, first: u16, game: Game) -> bool
+    ensures { result ≡ counting.is_in_window intp first game }
 {
     let slot = game.slot.0;
-    is_against(player.side, others, game, player.team)
-        && (first <= slot && u64::from(slot) < u64::from(first) + u64::from(intp))
+    first <= slot && u64::from(slot) < u64::from(first) + u64::from(intp)
 }
 
 /// Whether a game counts for CA4.
@@ -109,14 +102,14 @@ pub(crate) fn counts_in_ca4(
 ) -> bool
     ensures { result ≡ counting.counts_in_ca4 teams1.now teams2.now side slots.now game }
 {
-    is_of(side, teams1, teams2, game) && has(slots, game.slot.0)
+    has(slots, game.slot.0) && is_of(side, teams1, teams2, game)
 }
 
 /// Whether a game counts for GA1.
 pub(crate) fn counts_in_ga1(meetings: &PairSet, slots: &[u16], game: Game) -> bool
     ensures { result ≡ counting.counts_in_ga1 meetings.now slots.now game }
 {
-    is_meeting(meetings, game) && has(slots, game.slot.0)
+    has(slots, game.slot.0) && is_meeting(meetings, game)
 }
 
 /// Whether a game counts for a break at a slot.

@@ -3,6 +3,7 @@ mod PartLemmas
 mod RowLemmas
 mod WalkLemmas
 mod MissLemmas
+mod OrderLemmas
 -- Worked examples, so that a wrong definition does not check:
 pub mod LineFacts
 pub mod MissFacts

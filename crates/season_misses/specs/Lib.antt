@@ -8,6 +8,8 @@ pub mod Rows
 pub mod Lines
 -- The constraints that are missed, in order, with their lines:
 pub mod Misses
+-- In which order they are told:
+pub mod Order
 -- What a season lacks of a double round robin:
 pub mod Lacks
 -- Kept inside (how fields are seen):

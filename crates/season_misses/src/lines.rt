@@ -1,6 +1,6 @@
 //! The line of each class.
 ghost use Rattle.std.specs.Prelude.{◌≡◌, ℕ, ◌≤◌, slice_index, IfOk, IsTrue, string_bytes};
-ghost use Rattle.league.specs.Instance.{are_teams, class_fits};
+ghost use Rattle.league.specs.Instance.{class_fits};
 ghost use Rattle.reasons.specs.Groups.{counts_games_of_a_team, counts_games_of_meetings};
 ghost use Rattle.season_misses.specs.Lines as lines;
 ghost use Rattle.season_misses.specs.SeenRow.{row_of};
@@ -11,9 +11,8 @@ use crate::break_lines::{all_breaks_line, breaks_line, breaks_told};
 use crate::game_words::{games_after, name_at};
 use crate::row::Row;
 use demand_words::Label;
-use keys::Pairs;
-use league::{Bounds, Class, Game, Span, TeamId, TeamSet};
-use reasons::Cause;
+use league::{Bounds, Class, Game, Span};
+use reasons::{Cause, pair_at};
 use std::alloc::{AllocError, Global};
 
 /// The number at a place; 0 where there is none.
@@ -123,24 +122,6 @@ fn there_line(
     let beyond = beyond_text(alloc, bounds, games.len() as u64)?;
     let after = games_after(alloc, names, games)?;
     format!(in alloc; "{there}{place}, {beyond}{after}")
-}
-
-/// The two teams of a key.
-fn pair_at(
-    alloc: Global,
-    n: u16,
-    teams: &TeamSet,
-    key: usize,
-) -> Result<(TeamId, TeamId), AllocError>
-    requires few { n ≤ 40 }
-    requires teams { IsTrue (are_teams n teams.now) }
-    ensures { IfOk result (λ pair. (pair.0.0, pair.1.0) ≡ lines.pair_at teams.now key) }
-{
-    let pairs = Pairs::of_teams(alloc, n, teams)?;
-    if key < pairs.len() {
-        return Ok(pairs.get(key));
-    }
-    Ok((TeamId(0), TeamId(0)))
 }
 
 /// The line of a CA1, CA2 or CA3.
@@ -262,13 +243,13 @@ pub(crate) fn line_of(
         }
         Class::Br2 { intp, .. } => all_breaks_line(alloc, *intp, breaks_told(&reason.cause)),
         Class::Fa2 { teams, intp, .. } => {
-            let pair = pair_at(alloc, n, teams, reason.key)?;
+            let pair = pair_at(teams, reason.key);
             let who = name_at(names, pair.0.0);
             let other = name_at(names, pair.1.0);
             lead_text(alloc, *intp, who, other, &reason.cause)
         }
         Class::Se1 { teams, min } => {
-            let pair = pair_at(alloc, n, teams, reason.key)?;
+            let pair = pair_at(teams, reason.key);
             let who = name_at(names, pair.0.0);
             let other = name_at(names, pair.1.0);
             gap_text(alloc, names, *min, who, other, &reason.cause)

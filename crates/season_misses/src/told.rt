@@ -5,6 +5,7 @@ ghost use Rattle.league.specs.Counts.{counts_of};
 ghost use Rattle.league.specs.Deviation.{vector_of};
 ghost use Rattle.league.specs.Instance.{class_fits};
 ghost use Rattle.season_misses.specs.Misses as misses;
+ghost use Rattle.season_misses.specs.Order.{AreTold};
 ghost use Rattle.season_misses.specs.SeenRow.{row_of};
 ghost use Rattle.season_misses.specs.SeenTold.{IsTold};
 
@@ -17,7 +18,7 @@ use crate::row::{Row, rows_of};
 use demand_words::{Label, constraint_words, many};
 use deviation::Vectors;
 use league::{Class, Constraint, Game, League, TeamSet};
-use reasons::{Reason, reasons};
+use reasons::{Reason, Season, TeamGames, reasons};
 use rule_core::Cells;
 use std::alloc::{AllocError, Global};
 
@@ -144,9 +145,12 @@ pub struct Told<'a> {
     pub names: &'a [Label],
     /// The most constraints that are told, and the most lines of each.
     pub most: usize,
-    /// The games in order, and their counts.
+    /// The games in order, their counts, and the games of each team.
     pub games: &'a [Game],
     pub cells: &'a Cells,
+    pub own: &'a TeamGames,
+    /// The deviation vector of each constraint.
+    pub vectors: &'a Vectors,
 }
 
 /// What a constraint that is missed demands, by how much it is missed, and what that costs.
@@ -173,10 +177,13 @@ fn push_miss(
     text: &mut String,
     season: &Told<'_>,
     constraint: &Constraint,
+    entries: &[u64],
     miss: Miss,
 ) -> Result<(), AllocError>
     requires season { IsTold season.now }
     requires fits { IsTrue (class_fits season.now.league.now.n constraint.now.class) }
+    requires entries { entries.now
+        ≡ vector_of season.now.league.now.n (counts_of season.now.games.now) constraint.now.class }
     requires place { miss.place ≤ 20000 }
     ensures { OnOk result (string_bytes text.new ≡ string_bytes text.old
         ++ misses.miss_text season.now.league.now.n season.now.names.now season.now.most season.now.games.now
@@ -185,7 +192,12 @@ fn push_miss(
     let alloc = *text.allocator();
     let n = season.league.n();
     let head = head_text(alloc, season.names, constraint, miss)?;
-    let found = reasons(alloc, &constraint.class, season.cells, season.games)?;
+    let played = Season {
+        cells: season.cells,
+        games: season.games,
+        own: season.own,
+    };
+    let found = reasons(alloc, &constraint.class, &played, entries)?;
     let line = head.as_str();
     text.push_str(line)?;
     let list = found.as_slice();
@@ -203,7 +215,8 @@ fn push_told(text: &mut String, season: &Told<'_>, miss: Miss) -> Result<(), All
     if miss.place >= constraints.len() {
         return Ok(());
     }
-    push_miss(text, season, &constraints[miss.place], miss)
+    let entries = season.vectors.vector(miss.place);
+    push_miss(text, season, &constraints[miss.place], entries, miss)
 }
 
 /// Adds these constraints that are missed, with their lines.
@@ -236,16 +249,16 @@ fn push_counts(text: &mut String, constraints: usize, order: &[Miss]) -> Result<
 ///
 /// # Errors
 /// Only where memory runs out.
-pub fn misses(alloc: Global, season: &Told<'_>, vectors: &Vectors) -> Result<String, AllocError>
-    requires season { IsTold season.now }
-    requires vectors { vectors.now ≡ map (λ c. vector_of season.now.league.now.n (counts_of season.now.games.now)
-        c.class) season.now.league.now.constraints }
-    ensures { IfOk result (λ text. string_bytes text ≡ misses.misses_text season.now.league.now season.now.names.now
-        season.now.most season.now.games.now) }
+pub fn misses(alloc: Global, season: &Told<'_>) -> Result<String, AllocError>
+    requires { IsTold season.now }
+    ensures text { IfOk result (λ text. string_bytes text ≡ misses.misses_text season.now.league.now
+        season.now.names.now season.now.most season.now.games.now) }
+    ensures order { AreTold (misses.misses_of season.now.league.now season.now.games.now)
+        (misses.gravest_first (misses.misses_of season.now.league.now season.now.games.now)) }
 {
     let _teams = season.league.n();
     let constraints = season.league.constraints();
-    let found = misses_of(alloc, constraints, vectors)?;
+    let found = misses_of(alloc, constraints, season.vectors)?;
     let order = gravest_first(alloc, &found)?;
     let mut text = String::new(alloc);
     push_counts(&mut text, constraints.len(), &order)?;

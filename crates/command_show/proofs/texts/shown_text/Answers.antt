@@ -7,23 +7,23 @@ use Rattle.league.specs.Instance.{IsGame}
 use Rattle.league.specs.Order.{IsInOrder}
 use Rattle.league.specs.declared.class.Constraint.{Constraint}
 use Rattle.league.specs.declared.game.Game.{Game}
+use Rattle.reasons.specs.Own.{games_by_team}
 use Rattle.command_show.specs.Show.{grid_of, labels_of, words_text}
 use Rattle.command_show.proofs.TextLemmas.{grid-same, labels-count, words-same}
 use Rattle.command_show.proofs.texts.shown_text.Goals as goal
 
-pub words_below-requires-clause-told : goal.words_below-requires-clause-told
-words_below-requires-clause-told c = record {
+pub words_below-requires : goal.words_below-requires
+words_below-requires c = record {
   names = ap length (c.as_slice.ensures.value ∙ c.in_ok-labels.ensures) ∙ labels-count c.n-2.result c.args.names.now ∙ c.n-2.ensures.n;
   fit = subst (λ (games : List Game). All (IsGame c.args.league.now.n) games) (sym c.games-games.ensures) c.requires.fit;
   in_order = subst (λ (games : List Game). IsInOrder games) (sym c.games-games.ensures) c.requires.in_order;
   teams = c.in_ok-cells.ensures.n ∙ c.n.ensures.n;
   counted = c.in_ok-cells.ensures.counts;
+  own = c.in_ok-own.ensures ∙ ap (λ (k : ℕ). games_by_team k c.games-games.result.now) c.n-3.ensures.n;
+  vectors =
+      c.requires.assessed.vectors
+      ∙ ap (λ (games : List Game). map (λ (one : Constraint). vector_of c.args.league.now.n (counts_of games) one.class) c.args.league.now.constraints) (sym c.games-games.ensures);
 }
-
-pub words_below-requires-clause-vectors : goal.words_below-requires-clause-vectors
-words_below-requires-clause-vectors c =
-    c.requires.assessed.vectors
-    ∙ ap (λ (games : List Game). map (λ (one : Constraint). vector_of c.args.league.now.n (counts_of games) one.class) c.args.league.now.constraints) (sym c.games-games.ensures)
 
 pub returns : goal.returns
 returns c =

@@ -7,4 +7,4 @@ use Rattle.reasons.proofs.bounded.push_by_windows.Given as goal
 -- the reasons of the windows so far
 abbrev pub invariant-loop-first : goal.invariant-loop-first
 invariant-loop-first l = l.reasons.items
-    ≡ l.fn.reasons.items ++ flat_map (λ first. by_window l.entry.key l.entry.min l.entry.max first (filter (counts_in_ca3 l.others l.windows.intp l.player.side l.player.team first) l.games)) (range_with_len 0 l.first)
+    ≡ l.fn.reasons.items ++ flat_map (λ first. by_window l.entry.key l.entry.min l.entry.max first (filter (counts_in_ca3 l.others l.windows.intp l.fn.player.side l.fn.player.team first) l.season.games.now)) (range_with_len 0 l.first)
