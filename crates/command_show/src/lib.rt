@@ -5,12 +5,12 @@
 //! `season_misses` and `season_csv`.
 #![tactic(auto)]
 
-mod demands;
+mod asked;
 mod form;
 mod judged;
 mod stages;
 mod texts;
 
-pub use demands::demands;
+pub use asked::demands;
 pub use form::Form;
 pub use stages::show;

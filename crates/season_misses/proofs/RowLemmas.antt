@@ -1,8 +1,7 @@
 -- The rows of reasons, one after another.
-use Rattle.std.proofs.Common.{◌≡◌, ℕ, zero, suc, ◌+◌, ◌-◌, ◌<◌, List, [], ◌∷◌, length, drop, get_or, refl, arith, ap, sym, ◌∙◌, add-one, sub-one}
-use Rattle.std.proofs.Math.Seq.{drop-cons}
+use Rattle.std.proofs.Common.{◌≡◌, ℕ, suc, List, [], ◌∷◌, refl}
 use Rattle.reasons.specs.declared.reason.Reason.{Reason}
-use Rattle.season_misses.specs.Rows.{Row, more_windows, rows_from}
+use Rattle.season_misses.specs.Rows.{more_windows, rows_from}
 
 -- a reason that goes on from one before it
 pub rows_from-told : (told : ℕ) (reason : Reason) (reasons : List Reason) → rows_from (suc told) (reason ∷ reasons) ≡ rows_from told reasons

@@ -1,8 +1,8 @@
 -- The line of each class: where it is missed, by how much, and by which games.
-use Rattle.std.specs.Prelude.{ℕ, ◌+◌, ◌-◌, ◌==◌, nat_lt, if◌then◌else◌, List, [], ◌∷◌, ◌++◌, length, map, codes, decimal}
+use Rattle.std.specs.Prelude.{ℕ, ◌+◌, ◌==◌, nat_lt, if◌then◌else◌, List, [], ◌∷◌, ◌++◌, length, map, codes, decimal}
 use Rattle.std.specs.Prelude.{slice_index, slice_index_or}
 use Rattle.std.specs.List.{filter, flat_map}
-use Rattle.league.specs.Bounds.{difference, excess}
+use Rattle.league.specs.Bounds.{excess}
 use Rattle.league.specs.Meetings.{pairs_of}
 use Rattle.league.specs.Separation.{slots_between}
 use Rattle.league.specs.declared.class.Class.{Class}

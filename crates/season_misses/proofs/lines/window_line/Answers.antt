@@ -1,4 +1,4 @@
-use Rattle.std.proofs.Common.{◌≡◌, ◌+◌, ◌++◌, ℕ, List, IfOk, length, codes, string_bytes, subst, ap, ◌∙◌, arith}
+use Rattle.std.proofs.Common.{◌≡◌, ◌+◌, ◌++◌, ℕ, List, IfOk, length, codes, string_bytes, subst, ap, ◌∙◌}
 use Rattle.league.specs.declared.game.Game.{Game}
 use Rattle.season_misses.specs.Amounts.{beyond_text, count_text, stretch_text, windows_text}
 use Rattle.season_misses.specs.Games.{games_after}

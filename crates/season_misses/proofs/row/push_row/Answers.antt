@@ -1,6 +1,5 @@
-use Rattle.std.proofs.Common.{◌≡◌, ℕ, List, [], ◌∷◌, ◌++◌, map, IfOk, ap, sym, ◌∙◌, append_assoc, arith}
+use Rattle.std.proofs.Common.{map, ap, ◌∙◌}
 use Rattle.std.proofs.lemmas.List.{map_push}
-use Rattle.season_misses.specs.Rows as rows
 use Rattle.season_misses.specs.SeenRow.{row_of}
 use Rattle.season_misses.proofs.WalkLemmas.{row_skipped, row_begun}
 use Rattle.season_misses.proofs.row.push_row.Goals as goal

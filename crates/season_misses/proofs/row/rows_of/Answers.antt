@@ -1,4 +1,4 @@
-use Rattle.std.proofs.Common.{◌≡◌, ◌+◌, List, ◌∷◌, ◌++◌, map, ap, sym, ◌∙◌}
+use Rattle.std.proofs.Common.{◌+◌, List, ◌∷◌, ◌++◌, map, ap, sym, ◌∙◌}
 use Rattle.season_misses.specs.Rows.{rows_from}
 use Rattle.season_misses.specs.SeenRow.{row_of}
 use Rattle.reasons.specs.declared.reason.Reason.{Reason}

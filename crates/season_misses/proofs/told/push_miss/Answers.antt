@@ -1,4 +1,4 @@
-use Rattle.std.proofs.Common.{◌≡◌, List, ℕ, OnOk, length, string_bytes, subst, ap, ◌∙◌, arith}
+use Rattle.std.proofs.Common.{◌≡◌, List, ℕ, OnOk, string_bytes, subst, ap, ◌∙◌}
 use Rattle.reasons.specs.Reasons.{reasons_of}
 use Rattle.reasons.specs.declared.reason.Reason.{Reason}
 use Rattle.season_misses.specs.Misses.{head_text, reasons_text}
