@@ -7,7 +7,7 @@ _robin() {
     fi
     case ${COMP_WORDS[1]} in
         validate) options="" ;;
-        show) options="--form --most --width" ;;
+        show) options="--demands --form --most --width" ;;
         solve) options="--conflicts --moves --patterns --seconds --seed --tries" ;;
         patterns) options="--conflicts" ;;
         explain) options="--conflicts" ;;

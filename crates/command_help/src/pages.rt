@@ -45,8 +45,9 @@ Options stand before, between or behind the words, each once at most:
   --bound B          seasons that cost at most B; of rows
   --objective        a season that costs least; of rows, and not with --bound
   --form text|csv    a text, or values for a spreadsheet (text); of show
-  --most N           lines of a list (20); of show
+  --most N|all       lines of a list (20); of show
   --width N          characters of a line of the grid (80); of show
+  --demands [LIST]   in place of SOLUTION: what a league demands; of show
 
 Status:  0  accepted, found, proved or made     1  not accepted
          2  the words are no command
@@ -85,6 +86,7 @@ Example: robin validate league.xml season.xml
 
 pub const SHOW: &str = "\
 usage: robin show INSTANCE SOLUTION [OPTIONS]
+       robin show INSTANCE --demands [LIST]
 
 Shows the season of the file SOLUTION, with the names of the file INSTANCE, as a
 grid of teams by slots, and says in words what it lacks of a double round robin
@@ -92,21 +94,25 @@ and which demands it misses: by how much, and by which games. Hard demands come
 first, then what costs more. The last lines are those of validate.
 
 Options stand before, between or behind the words, each once at most:
-  --most N         the most demands, and the most lines of each, a number from 0
-                   to 4294967295 (20)
+  --most N|all     the most demands, and the most lines of each, a number from 0
+                   to 4294967295 (20); all: no limit
   --width N        the most characters of a line of the grid, where one slot has
                    room, from 0 to 4294967295 (80)
   --form text|csv  a text, or a line a game for a spreadsheet (text)
 
+With --demands behind INSTANCE it says in words what the league demands, a line
+a demand, the hard ones first. LIST has the numbers of some, as for part.
+
 Status:  0  the season is accepted: it is a double round robin, and meets each
-            hard demand
+            hard demand; or the demands are written
          1  it isn't accepted
-         3  a file is refused
+         3  a file is refused, or the league has no demand of a number of LIST
          6  a file can't be read
          7  the text can't be written
          8  memory ran out
 
 Example: robin show league.xml season.xml --most 5
+         robin show league.xml --demands '1;10'
 ";
 
 pub const SOLVE: &str = "\

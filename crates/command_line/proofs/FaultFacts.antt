@@ -29,6 +29,14 @@ pub flags : (is_flag topic.Rows (codes "--objective") ≡ true)
     × (option_role topic.Rows (codes "--objective") ≡ None)
 flags = (refl, refl, refl, refl)
 
+-- `--demands` of `show` has a list behind it or none, and `--most` takes a number or `all`
+pub show_words : (is_flag topic.Show (codes "--demands") ≡ true)
+    × (is_flag topic.Show (codes "--most") ≡ false)
+    × (option_role topic.Show (codes "--demands") ≡ None)
+    × (fits role.Most (codes "all") ≡ true)
+    × (fits role.Width (codes "all") ≡ false)
+show_words = (refl, refl, refl, refl, refl)
+
 pub questions : (is_question (codes "--help") ≡ true)
     × (is_question (codes "--version") ≡ true)
     × (is_question (codes "help") ≡ false)

@@ -2,7 +2,7 @@
 use Rattle.std.specs.Prelude.{◌≡◌, ℕ, List, codes, bytes_eq, Bool, true, false, ◌||◌, if◌then◌else◌}
 use Rattle.std.specs.Prelude.{Option, Some, None, is_some}
 use Rattle.command_line.specs.Topics.{topic_of}
-use Rattle.command_line.specs.Words.{budget_in, form_in, is_file_name, is_option, members_in, number_in}
+use Rattle.command_line.specs.Words.{budget_in, form_in, is_file_name, is_option, members_in, most_in, number_in}
 use Rattle.command_line.specs.Words.{small_in, team_count_in, tries_in}
 use Rattle.command_line.specs.declared.topic.Topic.{Topic}
 use Rattle.command_line.specs.declared.topic.Topic.TheVariants as topic
@@ -32,7 +32,7 @@ fits Draws word = is_some (number_in word)
 fits Seconds word = is_some (number_in word)
 fits Bound word = is_some (number_in word)
 fits Form word = is_some (form_in word)
-fits Most word = is_some (small_in word)
+fits Most word = is_some (most_in word)
 fits Width word = is_some (small_in word)
 
 -- of the options of commands that search, and of `solve` and `trial`
@@ -71,9 +71,10 @@ option_role topic.Rows word = row_option word
 option_role topic.Show word = show_option word
 option_role _ word = None
 
--- whether a word is an option of a command that has no value
+-- whether a word is an option of a command that has no value, or none that it must have
 abbrev pub is_flag : Topic → List ℕ → Bool
 is_flag topic.Rows word = bytes_eq word (codes "--objective")
+is_flag topic.Show word = bytes_eq word (codes "--demands")
 is_flag _ word = false
 
 -- the words that ask for help or for the version

@@ -24,7 +24,7 @@ pub enum WordFault<'a> {
     NoValue { word: &'a str },
     /// An option stands more than once.
     Twice { word: &'a str },
-    /// Another option, or the same again, stands beside an option that stands alone.
+    /// A word stands beside an option that takes no such word.
     Beside { command: Topic, word: &'a str },
     /// A word is not what it is to be.
     Unfit { role: Role, word: &'a str },
@@ -82,6 +82,9 @@ fn fault_behind(command: Topic, words: &[String]) -> WordFault<'_>
     if let Some(fault) = wrong_option(command, words) {
         return fault;
     }
+    if let Some(fault) = wrong_list(command, words) {
+        return fault;
+    }
     if let Some(fault) = wrong_argument(command, 0, words) {
         return fault;
     }
@@ -89,6 +92,29 @@ fn fault_behind(command: Topic, words: &[String]) -> WordFault<'_>
         Some(word) => WordFault::Beside { command, word },
         None => WordFault::Other { command },
     }
+}
+
+/// What is wrong with the list behind `--demands`.
+fn wrong_list(command: Topic, words: &[String]) -> Option<WordFault<'_>>
+    ensures { IfSome result IsSo }
+{
+    match (command, words) {
+        (Topic::Show, [_, option, list]) if option.as_str() == "--demands" => {
+            unfit_list(list.as_str())
+        }
+        _ => None,
+    }
+}
+
+/// A word that is to be a list and is none.
+fn unfit_list(word: &str) -> Option<WordFault<'_>>
+    ensures { IfSome result IsSo }
+{
+    let role = Role::Members;
+    if fits(role, word) {
+        return None;
+    }
+    Some(WordFault::Unfit { role, word })
 }
 
 /// The first option without a value among words.

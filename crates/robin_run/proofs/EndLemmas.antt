@@ -14,7 +14,7 @@ use Rattle.robinx_form.specs.Walk.{Fault}
 use Rattle.robinx_read.specs.declared.instance.TheConstants.{INSTANCE_LIMIT, SOLUTION_LIMIT}
 use Rattle.budgets.specs.declared.budgets.Budgets.{Budgets}
 use Rattle.command_line.specs.Words.{Command}
-use Rattle.command_line.specs.Words.Command.{Audit, Bound, Check, Circle, Explain, Make, Part, Patterns, Prove, Resume}
+use Rattle.command_line.specs.Words.Command.{Audit, Bound, Check, Circle, Demands, Explain, Make, Part, Patterns, Prove, Resume}
 use Rattle.command_line.specs.Words.Command.{Help, Rows, Sheet, Show, Solve, Trial, Validate, Values, Version}
 use Rattle.command_line.specs.declared.goal.Goal.{Goal}
 use Rattle.command_line.specs.declared.goal.Goal.TheVariants.{Accepted, AtMost, Least}
@@ -35,8 +35,9 @@ use Rattle.certificates.specs.declared.certificate.Certificate.{Certificate}
 use Rattle.command_validate.specs.Validate.{IsJudgement, validated}
 use Rattle.robinx_names.specs.Names.{Names}
 use Rattle.robinx_names.specs.NamesFile.{names_of}
+use Rattle.command_show.specs.Demands.{AreDemands, demanded, demands_answer, first_absent, numbers_asked}
 use Rattle.command_show.specs.Show as showing
-use Rattle.command_show.specs.Show.{form_text}
+use Rattle.command_show.specs.Show.{form_text, labels_of}
 use Rattle.command_show.specs.declared.form.Form.{Form}
 use Rattle.command_show.specs.declared.form.Form.TheVariants.{Text, Csv}
 use Rattle.command_check.specs.Check.{IsVerdict, checked, encodes, most_log_bytes, says_log, verdict_answer}
@@ -165,6 +166,24 @@ seen-ends Ends file fault ends_yes ends_no store instance solution form answer g
     (λ second. showing.IsShown league (form_text form league names)) answer
     (λ second games shown. ends-with Ends answer _ shown.status (feasible-ends Ends ends_yes ends_no shown.feasible))
     at_names) at_league) given
+
+-- of what a league demands
+demands_answer-ends : (Ends : Status → Type 0) → Ends File → Ends Yes → (league : Instance)
+    (labels : List (List ℕ)) (numbers : List ℕ) (absent : Option ℕ)
+    → Ends (demands_answer league labels numbers absent).status
+demands_answer-ends Ends file ends_yes league labels numbers None = ends_yes
+demands_answer-ends Ends file ends_yes league labels numbers (Some k) = file
+
+demanded-ends : (Ends : Status → Type 0) → Ends File → Ends ReadFault → Ends Yes
+    → (store : Store) (instance : List ℕ) (members : Option (List ℕ)) (answer : Answer)
+    → demanded store instance members answer → Ends answer.status
+demanded-ends Ends file fault ends_yes store instance members answer given =
+    league-ends Ends file fault (store.contents instance) (store.took_more INSTANCE_LIMIT) (store.failed instance)
+    (λ bytes league. says (codes "instance") (names_of league.n (pieces bytes)) (AreDemands league members)) answer
+    (λ bytes league at_league. said-ends Ends file (codes "instance") (names_of league.n (pieces bytes))
+    (AreDemands league members) answer (λ names demands. ends-as Ends answer _ demands
+    (demands_answer-ends Ends file ends_yes league (labels_of league.n names) (numbers_asked league members)
+    (first_absent league (numbers_asked league members)))) at_league) given
 
 -- ---- `check`, and logs
 
@@ -508,6 +527,8 @@ answer-ends (Some (Validate instance solution)) store answer given =
 answer-ends (Some (Show instance solution most width)) store answer given =
     seen-ends (EndsBy (Some (Show instance solution most width))) refl refl refl refl store instance
     solution (Text most width) answer given
+answer-ends (Some (Demands instance members)) store answer given =
+    demanded-ends (EndsBy (Some (Demands instance members))) refl refl refl store instance members answer given
 answer-ends (Some (Sheet instance solution)) store answer given =
     seen-ends (EndsBy (Some (Sheet instance solution))) refl refl refl refl store instance
     solution Csv answer given
@@ -565,6 +586,7 @@ no_memory : (words : Option Command) → may_end words Memory ≡ false
 no_memory None = refl
 no_memory (Some (Validate instance solution)) = refl
 no_memory (Some (Show instance solution most width)) = refl
+no_memory (Some (Demands instance members)) = refl
 no_memory (Some (Sheet instance solution)) = refl
 no_memory (Some (Check instance log)) = refl
 no_memory (Some (Solve instance budgets)) = refl
