@@ -14,7 +14,7 @@ pub(crate) fn on_members(
     advice.show(instance.as_bytes())?;
     advice.say(" --demands '")?;
     say_numbers(&mut advice, members.numbers())?;
-    advice.say("' says in words what these demand\n")?;
+    advice.say("' says the demands of the conflict in words\n")?;
     Ok(advice)
 }
 

@@ -37,7 +37,8 @@ demands-some = refl
 
 -- the first number that no constraint has
 pub absent-some : (first_absent league (1 ∷ 3 ∷ []) ≡ None)
+    × (first_absent league (0 ∷ 1 ∷ []) ≡ Some 0)
     × (first_absent league (3 ∷ 4 ∷ 9 ∷ []) ≡ Some 4)
     × (demands_answer league labels (3 ∷ 4 ∷ 9 ∷ []) (Some 4) ≡ record { status = File; text = codes "refused constraint 4 Unknown\n" })
 unfolding digits
-absent-some = (refl, refl, refl)
+absent-some = (refl, refl, refl, refl)

@@ -1,7 +1,9 @@
 -- What `show` answers of a league alone: in words what its constraints demand, a line each.
-use Rattle.std.specs.Prelude.{◌≡◌, ℕ, ◌-◌, Bool, true, false, ◌==◌, nat_lt, if◌then◌else◌, List, [], ◌++◌, length, codes}
+use Rattle.std.specs.Prelude.{◌≡◌, ℕ, zero, suc, Bool, true, false, if◌then◌else◌, List, [], ◌++◌, length, codes}
 use Rattle.std.specs.Prelude.{decimal, Option, Some, None, slice_get, unwrap_or}
+use Rattle.std.specs.Bool.{beq}
 use Rattle.std.specs.List.{find, flat_map, range_with_len}
+use Rattle.std.specs.Option.{is_none}
 use Rattle.robin_io.specs.Outside.{Store}
 use Rattle.robinx_tags.specs.Pieces.{pieces}
 use Rattle.league.specs.Instance.{Instance}
@@ -16,16 +18,21 @@ use Rattle.answers.specs.Stages.{◌>>=◌, Outcome, reads, says}
 use Rattle.answers.specs.declared.status.Status.TheVariants.{Yes, File}
 use Rattle.command_show.specs.Show.{labels_of}
 
--- the line of a constraint with a number, where it is hard, or where it is soft
-abbrev pub demand_line : ℕ → List (List ℕ) → Bool → ℕ → Option Constraint → List ℕ
-demand_line n labels hard number (Some c) =
-    if c.hard == hard then constraint_text n labels number c ++ codes "\n" else []
-demand_line n labels hard number None = []
+-- the constraint with a number: in file order they have the numbers 1, 2, ..
+abbrev pub constraint_numbered : List Constraint → ℕ → Option Constraint
+constraint_numbered constraints zero = None
+constraint_numbered constraints (suc k) = slice_get constraints k
 
--- the same by the number, which counts from 1
+-- the line of a constraint with its number, where it is hard, or where it is soft
+abbrev pub demand_line : ℕ → List (List ℕ) → Bool → ℕ → Option Constraint → List ℕ
+demand_line n labels hard number None = []
+demand_line n labels hard number (Some c) =
+    if beq c.hard hard then constraint_text n labels number c ++ codes "\n" else []
+
+-- the same by the number alone
 abbrev pub demand_at : Instance → List (List ℕ) → Bool → ℕ → List ℕ
 demand_at league labels hard number =
-    demand_line league.n labels hard number (slice_get league.constraints (number - 1))
+    demand_line league.n labels hard number (constraint_numbered league.constraints number)
 
 -- the lines of the constraints with these numbers: the hard ones, and then the soft ones
 abbrev pub demands_text : Instance → List (List ℕ) → List ℕ → List ℕ
@@ -36,9 +43,12 @@ demands_text league labels numbers =
 abbrev pub numbers_asked : Instance → Option (List ℕ) → List ℕ
 numbers_asked league asked = unwrap_or asked (range_with_len 1 (length league.constraints))
 
--- the first of some numbers that no constraint has, for numbers from 1 on
+-- whether no constraint has a number, and the first such of some numbers
+abbrev pub is_absent : Instance → ℕ → Bool
+is_absent league number = is_none (constraint_numbered league.constraints number)
+
 abbrev pub first_absent : Instance → List ℕ → Option ℕ
-first_absent league numbers = find (λ k. nat_lt (length league.constraints) k) numbers
+first_absent league numbers = find (is_absent league) numbers
 
 -- no constraint has this number
 abbrev pub absent_constraint : ℕ → Answer

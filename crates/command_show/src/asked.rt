@@ -1,6 +1,6 @@
 //! What a league demands, in words.
-ghost use Rattle.std.specs.Prelude.{◌≡◌, ◌≤◌, ◌++◌, ℕ, List, Some, nat_lt, length, string_bytes, IfOk, IsTrue, OnOk};
-ghost use Rattle.std.specs.List.{find, flat_map, range_with_len};
+ghost use Rattle.std.specs.Prelude.{◌≡◌, ◌≤◌, ◌++◌, ℕ, List, Some, length, string_bytes, IfOk, IfSome, IsTrue, OnOk};
+ghost use Rattle.std.specs.List.{flat_map, range_with_len};
 ghost use Rattle.std.specs.Option.{option_copied};
 ghost use Rattle.robin_io.specs.Outside.{store_between};
 ghost use Rattle.league.specs.Instance.{class_fits};
@@ -41,6 +41,18 @@ fn push_line(
     Ok(())
 }
 
+/// The constraint with a number: the first of a league has number 1.
+fn constraint_numbered(league: &League, number: u32) -> Option<&Constraint>
+    ensures constraint { option_copied result ≡ specs.constraint_numbered league.now.constraints number }
+    ensures fits { IfSome result (λ constraint. IsTrue (class_fits league.now.n constraint.now.class)) }
+{
+    let _teams = league.n();
+    if number == 0 {
+        return None;
+    }
+    league.constraints().get(number as usize - 1)
+}
+
 /// The same of the constraint that has the number.
 fn push_demand(
     text: &mut String,
@@ -54,12 +66,10 @@ fn push_demand(
         ≡ string_bytes text.old ++ specs.demand_at league.now labels.now hard number) }
 {
     let _teams = league.n();
-    let constraints = league.constraints();
-    let place = (number as usize).saturating_sub(1);
-    if place >= constraints.len() {
-        return Ok(());
+    match constraint_numbered(league, number) {
+        Some(constraint) => push_line(text, labels, hard, number, constraint),
+        None => Ok(()),
     }
-    push_line(text, labels, hard, number, &constraints[place])
 }
 
 /// Adds the lines of the constraints with these numbers that are hard, or those that are soft.
@@ -108,12 +118,12 @@ fn all_numbers(alloc: Global, count: usize) -> Result<Vec<u32>, AllocError>
     Ok(numbers)
 }
 
-/// The first of these numbers that is above the number of constraints.
-fn first_absent(numbers: &[u32], count: usize) -> Option<u32>
-    ensures { result ≡ find (λ k. nat_lt count k) numbers.now }
+/// The first of these numbers that no constraint has.
+fn first_absent(league: &League, numbers: &[u32]) -> Option<u32>
+    ensures { result ≡ specs.first_absent league.now numbers.now }
 {
     for number in numbers {
-        if count < *number as usize {
+        if constraint_numbered(league, *number).is_none() {
             return Some(*number);
         }
     }
@@ -154,8 +164,8 @@ fn numbers_reply(
     ensures { Answers (λ answer. answer ≡ demands_answer league.now (show.labels_of league.now.n names.now)
         numbers.now (specs.first_absent league.now numbers.now)) result }
 {
-    let count = league.constraints().len();
-    if let Some(number) = first_absent(numbers, count) {
+    if let Some(number) = first_absent(league, numbers) {
+        let count = league.constraints().len();
         return Err(NoValue::Refused(absent_refused(alloc, count, number)?));
     }
     let labels = labels_of(alloc, names, league.n())?;
@@ -186,7 +196,7 @@ fn asked_reply(
     }
 }
 
-/// Says in words what the constraints of the league of a file demand: those with some numbers, each from 1 on, or all.
+/// Says in words what the constraints of the league of a file demand: those with some numbers, or all.
 /// Names the first number that no constraint has.
 ///
 /// # Errors
