@@ -184,7 +184,7 @@ fn asked_reply(
     asked: Option<&[u32]>,
 ) -> Result<Reply, NoValue>
     requires { IsNames league.now.n names.now }
-    ensures { Answers (AreDemands league.now (option_copied asked) names.now) result }
+    ensures { Answers (AreDemands league.now (option_copied asked.entry) names.now) result }
 {
     let _teams = league.n();
     match asked {
@@ -208,7 +208,7 @@ pub fn demands<S: Shelf>(
     asked: Option<&[u32]>,
 ) -> Result<Reply, NoValue>
     ensures answer { Answers (demanded (store_between S.Shelf shelf.old shelf.new)
-        instance.now (option_copied asked)) result }
+        instance.now (option_copied asked.entry)) result }
     ensures contents { (n : List ℕ) → S.contents shelf.new n ≡ S.contents shelf.old n }
 {
     let first = file(alloc, shelf, "instance", instance, INSTANCE_LIMIT)?;

@@ -61,7 +61,7 @@ fn demands_of_list<S: Shelf>(
     list: Option<&str>,
 ) -> Result<Reply, NoValue>
     ensures answer { Answers (demanded (store_between S.Shelf shelf.old shelf.new)
-        instance.now (option_map members_of (option_copied list))) result }
+        instance.now (option_map members_of (option_copied list.entry))) result }
     ensures contents { (n : List ℕ) → S.contents shelf.new n ≡ S.contents shelf.old n }
 {
     match list {

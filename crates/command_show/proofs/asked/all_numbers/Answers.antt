@@ -7,7 +7,7 @@ use Rattle.command_show.proofs.asked.all_numbers.Goals as goal
 numbers-more : (numbers : List ℕ) (k : ℕ) → numbers ≡ range_with_len 1 k → numbers ++ (k + 1) ∷ [] ≡ range_with_len 1 (k + 1)
 numbers-more numbers k are =
     let last : k + 1 ≡ 1 + k = omega arith in
-    rw (are, last) (sym (range_with_len-more 1 k))
+    rw are (ap (λ (next : ℕ). range_with_len 1 k ++ next ∷ []) last ∙ sym (range_with_len-more 1 k))
 
 pub loop-place-preserved : goal.loop-place-preserved
 loop-place-preserved c =
