@@ -41,7 +41,7 @@ fn tell(advice: &mut Advice, fault: WordFault) -> Result<(), AllocError> {
         WordFault::NotAlone { word } => tell_option(advice, word, " takes no such words"),
         WordFault::NoValue { word } => tell_option(advice, word, " wants a value behind it"),
         WordFault::Twice { word } => tell_option(advice, word, " stands more than once"),
-        WordFault::Beside { command, word } => { tell_more(advice, command, beside(command), word) }
+        WordFault::Beside { command, word } => tell_more(advice, command, beside(command), word),
         WordFault::Unfit { role, word } => tell_unfit(advice, role, word),
         WordFault::NoOption { command, word } => tell_more(
             advice,
