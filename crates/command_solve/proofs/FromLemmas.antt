@@ -1,7 +1,7 @@
 -- What `solve` answers from a season that is given: how its stages make it, and what follows of it.
-use Rattle.std.proofs.Common.{◌∷◌, [], ◌≡◌, ℕ, ◌+◌, ◌≤◌, Bool, true, false, if◌then◌else◌, List, length, Option, Some, Result, Ok, Err}
-use Rattle.std.proofs.Common.{codes, ap, inl, inr, refl, sym, subst, ◌∙◌}
-use Rattle.std.specs.Prelude.{IfOk, IfSome, IsTrue}
+use Rattle.std.proofs.Common.{◌∷◌, [], ◌≡◌, ℕ, ◌+◌, ◌≤◌, List, length, Option, Some, Result, Ok, Err}
+use Rattle.std.proofs.Common.{codes, ap, inl, inr, sym, subst, ◌∙◌}
+use Rattle.std.specs.Prelude.{IfSome}
 use Rattle.robin_io.specs.Outside.{Store}
 use Rattle.league.specs.Accepted.{IsAccepted, objective}
 use Rattle.league.specs.Counts.{counts_of}
@@ -14,20 +14,17 @@ use Rattle.robinx_form.specs.SolutionFile.{solution_of}
 use Rattle.robinx_form.specs.Walk.{Fault}
 use Rattle.robinx_read.specs.declared.instance.TheConstants.{INSTANCE_LIMIT, SOLUTION_LIMIT}
 use Rattle.answers.specs.Reply.{Answer}
-use Rattle.answers.specs.SeenReply.{Answers, answer_of}
 use Rattle.answers.specs.Stages.{IsFile, IsUnread, NoneFails, Outcome, says, takes}
-use Rattle.answers.specs.declared.reply.NoValue.{NoValue}
-use Rattle.answers.specs.declared.reply.Reply.{Reply}
 use Rattle.answers.specs.declared.status.Status.{Status}
 use Rattle.answers.specs.declared.status.Status.TheVariants.{Yes, No, File, ReadFault, Refuted}
-use Rattle.answers.proofs.StageLemmas.{Answers-wider, first-works, says-known, says-value, second-works, takes-known, takes-refuted, takes-yes}
+use Rattle.answers.proofs.StageLemmas.{first-works, says-known, says-value, second-works, takes-known, takes-refuted, takes-yes}
 use Rattle.budgets.specs.declared.budgets.Budgets.{Budgets}
 use Rattle.encoding.specs.Limit.{most_terms}
 use Rattle.encoding_base.specs.Encoding.{encoding_size, rows_of}
 use Rattle.season_check.specs.Excluded.{NoneAccepted}
 use Rattle.command_check.specs.Check.{encodes}
 use Rattle.command_check.proofs.AnswerLemmas.{encodes-small}
-use Rattle.command_validate.specs.Validate.{IsJudgement, IsWellFormedPair}
+use Rattle.command_validate.specs.Validate.{IsWellFormedPair}
 use Rattle.command_solve.specs.From.{IsBegun, IsFoundFrom, IsNoStart, IsScheduleWithin, IsWellFormedStart, begun}
 use Rattle.command_solve.specs.Solve.{IsFound}
 use Rattle.command_solve.proofs.AnswerLemmas.{found-refuted}
@@ -71,48 +68,16 @@ pub begun-last : (store : Store) (instance solution : List ℕ) (budgets : Budge
 begun-last store instance solution budgets first second league is_first says_league is_second answer last =
     after-league store instance solution budgets first league is_first says_league answer (inl (second, is_second, last))
 
--- ---- a season that is no start
-
-judged-no : (league : Instance) (start : List Game) (answer : Answer) (feasible : Bool)
-    → (IsTrue feasible → IsAccepted league (counts_of start)) → answer.status ≡ (if feasible then Yes else No)
-    → (IsRoundRobin league.n league.phased (counts_of start) → ⊥) → answer.status ≡ No
-judged-no league start answer true accepted status no = absurd (no (accepted refl).round_robin)
-judged-no league start answer false accepted status no = status
-
-no_start : (league : Instance) (start : List Game) (answer : Answer)
-    → (IsRoundRobin league.n league.phased (counts_of start) → ⊥) → IsJudgement league start answer
-    → IsNoStart league start answer
-no_start league start answer no judged = record {
-  no_round_robin = no;
-  judgement = judged;
-  status = judged-no league start answer judged.feasible judged.accepted.0 judged.status no;
-}
-
-pub replied-no_start : {E : Type 0} (league : Instance) (budgets : Budgets) (start : List Game) (result : Result Reply E)
-    → (IsRoundRobin league.n league.phased (counts_of start) → ⊥)
-    → IfOk result (λ reply. IsJudgement league start (answer_of reply))
-    → IfOk result (λ reply. IsBegun league budgets start (answer_of reply))
-replied-no_start {E} league budgets start (Ok reply) no judged = inl (no_start league start (answer_of reply) no judged)
-replied-no_start {E} league budgets start (Err error) no judged = tt
-
 -- ---- a start
 
--- what is found from a double round robin is what it begins
-pub started : (league : Instance) (budgets : Budgets) (start : List Game) (result : Result Reply NoValue)
-    → IsRoundRobin league.n league.phased (counts_of start)
-    → Answers (encodes league (IsFoundFrom league start budgets)) result → Answers (IsBegun league budgets start) result
-started league budgets start result round_robin found =
-    Answers-wider (encodes league (IsFoundFrom league start budgets)) (IsBegun league budgets start)
-    (λ answer given. inr (round_robin, given)) result found
-
 -- what is found from a start is what is found of its league, and costs no more than the start
-pub replied-from : {E : Type 0} (league : Instance) (budgets : Budgets) (start : List Game) (result : Result Reply E)
-    → IfOk result (λ reply. IsFound league budgets (rows_of league) (answer_of reply))
+pub found-answered : (league : Instance) (budgets : Budgets) (start : List Game) (answer : Answer)
+    → encoding_size league ≤ most_terms → IsFound league budgets (rows_of league) answer
     → (IsAccepted league (counts_of start)
-    → IfOk result (λ reply. IsScheduleWithin league budgets.moves (objective league (counts_of start)) (answer_of reply)))
-    → IfOk result (λ reply. IsFoundFrom league start budgets (rows_of league) (answer_of reply))
-replied-from {E} league budgets start (Ok reply) found within = record { found = found; no_worse = within }
-replied-from {E} league budgets start (Err error) found within = tt
+    → IsScheduleWithin league budgets.moves (objective league (counts_of start)) answer)
+    → encodes league (IsFoundFrom league start budgets) answer
+found-answered league budgets start answer small found within =
+    inl (small, record { found = found; no_worse = within })
 
 -- ---- what follows from an answer
 
@@ -158,16 +123,16 @@ begun-well_formed store instance solution budgets league start answer good works
 judged-none : (league : Instance) (budgets : Budgets) (start : List Game) (answer : Answer)
     → (IsRoundRobin league.n league.phased (counts_of start) → ⊥) → IsBegun league budgets start answer
     → IsNoStart league start answer
-judged-none league budgets start answer no (inl h) = h
-judged-none league budgets start answer no (inr h) = absurd (no h.0)
+judged-none league budgets start answer none (inl h) = h
+judged-none league budgets start answer none (inr h) = absurd (none h.0)
 
 -- a season that is no start, and nothing fails: it is judged
 pub begun-judged : (store : Store) (instance solution : List ℕ) (budgets : Budgets) (league : Instance)
     (start : List Game) (answer : Answer) → IsWellFormedPair store instance solution league start
     → (IsRoundRobin league.n league.phased (counts_of start) → ⊥) → NoneFails store (instance ∷ solution ∷ [])
     → begun store instance solution budgets answer → IsNoStart league start answer
-begun-judged store instance solution budgets league start answer pair no works given =
-    judged-none league budgets start answer no
+begun-judged store instance solution budgets league start answer pair none works given =
+    judged-none league budgets start answer none
     (begun-known store instance solution budgets league start answer pair works given)
 
 found-yes : (league : Instance) (budgets : Budgets) (start : List Game) (answer : Answer) → answer.status ≡ Yes

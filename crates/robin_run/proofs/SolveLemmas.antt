@@ -27,9 +27,9 @@ solves run answered instance budgets is = record {
 
 pub solves-from : (run : Run) → Answered run → SolvesFrom run
 solves-from run answered instance solution budgets is = record {
-  judged = λ league season good no works.
+  judged = λ league season good none works.
       writes run (instance ∷ solution ∷ []) (SolveFrom instance solution budgets) (IsNoStart league season) answered is works
-      (λ answer given. begun-judged run.store instance solution budgets league season answer good no works.store given);
+      (λ answer given. begun-judged run.store instance solution budgets league season answer good none works.store given);
   solved = λ league start good works.
       writes run (instance ∷ solution ∷ []) (SolveFrom instance solution budgets)
       (IsFoundFrom league start budgets (rows_of league)) answered is works
