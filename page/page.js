@@ -103,12 +103,13 @@ function listDemands(report) {
   const missed = report.constraints.filter(it => it.sum > 0n), met = report.constraints.filter(it => it.sum === 0n);
   const items = list => inOrder(list).map(it => itemOf(it, pickDemand));
   $('demands').hidden = report.constraints.length === 0;
-  $('demands-said').textContent = missed.length ? `${missed.length} of ${report.constraints.length} demands are missed.` : `All ${report.constraints.length} demands are met.`;
+  const count = report.constraints.length, all = count === 1 ? '1 demand' : `${count} demands`, are = many => (many === 1 ? 'is' : 'are');
+  $('demands-said').textContent = missed.length ? `${missed.length} of ${all} ${are(missed.length)} missed.` : `${all}, all met.`;
   $('demands-how').textContent = missed.length ? 'A click shows the games that do it.' : '';
   $('missed').replaceChildren(...items(missed));
   $('met').replaceChildren(...items(met));
   $('met-box').hidden = met.length === 0;
-  $('met-said').textContent = `${met.length} demands are met`;
+  $('met-said').textContent = `${met.length} of ${all} ${are(met.length)} met`;
 }
 
 // ---- judging

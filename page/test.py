@@ -1,4 +1,5 @@
-"""test.py [--page PAGE] [--shots FOLDER] [NAME..]: opens the page in headless Chromium, and tries what it does, each try by its name (none: all). Run it by page/test."""
+"""test.py [--page PAGE] [--program PROGRAM] [--shots FOLDER] [NAME..]: opens the page in headless Chromium, and tries what it does beside a program, each try by its name
+(none: all). Run it by page/test."""
 import argparse
 import base64
 import contextlib
@@ -19,7 +20,6 @@ from selenium.webdriver.common.by import By
 from selenium.webdriver.common.keys import Keys
 
 TOP = os.path.dirname(os.path.dirname(os.path.abspath(__file__)))
-PROGRAM = f"{TOP}/release/robin"
 EXAMPLES = f"{TOP}/examples"
 WIDE, NARROW = (1280, 900), (390, 844)
 # A run of the module from the page's script: words, files in letters, and perhaps a limit of memory.
@@ -40,7 +40,7 @@ def example(name):
 
 def native(*words):
     """The status and the bytes of the program."""
-    ran = subprocess.run([PROGRAM, *words], capture_output=True, check=False)
+    ran = subprocess.run([native.program, *words], capture_output=True, check=False)
     return ran.returncode, ran.stdout
 
 
@@ -381,6 +381,7 @@ def sentences(*words):
 def try_members(it):
     """The answer of `explain` names each member in the words of `show`, and a league alone all its demands."""
     league = example("northern-closed.xml")
+    it.size(*WIDE)
     it.open()
     it.give(league)
     all_demands, members = sentences(league, "--demands"), sentences(league, "--demands", "1;10")
@@ -402,6 +403,11 @@ def try_members(it):
     it.driver.find_elements(By.CSS_SELECTOR, "#members button")[1].click()
     assert it.js("return document.querySelectorAll('td.lit').length"), "a member lights nothing"
     it.shot("members-lit")
+    it.size(*NARROW)
+    it.shot("members-390")
+    width = it.js("return document.documentElement.scrollWidth")
+    it.size(*WIDE)
+    assert width <= NARROW[0], f"the members are {width} wide at {NARROW[0]}"
     return "by their numbers alone: the program knows no --demands" if members is None else ""
 
 
@@ -590,10 +596,12 @@ def try_looks(it):
 def main():
     words = argparse.ArgumentParser()
     words.add_argument("--page", default=f"{TOP}/release/robin.html")
+    words.add_argument("--program", default=f"{TOP}/release/robin")
     words.add_argument("--shots")
     words.add_argument("names", nargs="*")
     words = words.parse_args()
     tries = {name[4:]: call for name, call in globals().items() if name.startswith("try_")}
+    native.program = words.program
     browser = Browser(os.path.abspath(words.page), words.shots)
     failed = 0
     try:
