@@ -1,4 +1,4 @@
-// The demands of a league, as the module's texts say them: each number stands in the report of `validate`, and the sentences and reasons in the text of `show`.
+// The demands of a league, as the module's texts say them: each number stands in the report of `validate`, each sentence and reason in a text of `show`.
 
 const MOST_REASONS = 20; // lines of a demand that are written out
 
@@ -16,6 +16,16 @@ function reportOf(text) {
   return report;
 }
 
+// What `show INSTANCE --demands` says: by the number of each demand its class, whether it is hard, and what it asks.
+function sentencesOf(text) {
+  const sentences = new Map();
+  for (const line of text.split('\n')) {
+    const head = /^(hard|soft) (\d+) ([A-Z0-9]+): (.*)$/.exec(line);
+    if (head) sentences.set(Number(head[2]), {number: Number(head[2]), tag: head[3], isHard: head[1] === 'hard', asks: head[4], sum: 0n, cost: 0n, reasons: []});
+  }
+  return sentences;
+}
+
 // The missed demands that `show` tells, by their numbers: what each asks, and the lines that say why it is missed.
 function shownOf(text) {
   const shown = new Map();
@@ -29,35 +39,7 @@ function shownOf(text) {
   return shown;
 }
 
-// Numbers as runs: 0 to 3, 7.
-function runsOf(numbers) {
-  const runs = [];
-  for (const number of numbers) {
-    const last = runs[runs.length - 1];
-    if (last && last[1] + 1 === number) last[1] = number;
-    else runs.push([number, number]);
-  }
-  return runs.map(([from, to]) => (from === to ? `${from}` : `${from} to ${to}`)).join(', ');
-}
-
 const numbersIn = list => [...new Set((list || '').split(';').filter(it => it).map(Number))].sort((a, b) => a - b);
-
-// What the file's line of a demand says, attribute by attribute.
-function attributesOf(league, constraint) {
-  const parts = [];
-  for (const {name, value} of constraint.attributes) {
-    if (/^teams/.test(name)) {
-      const teams = numbersIn(value);
-      parts.push(`${name}: ${teams.length === league.n ? 'all' : teams.map(i => league.labels[i]).join(', ')}`);
-    } else if (name === 'slots') {
-      const slots = numbersIn(value);
-      parts.push(`slots: ${slots.length === league.slots.length ? 'all' : runsOf(slots)}`);
-    } else if (name === 'meetings') {
-      parts.push(`games: ${value.split(';').filter(it => it).map(it => it.split(',').map(i => league.labels[i]).join(' - ')).join(', ')}`);
-    } else if (name !== 'type') parts.push(`${name} ${value}`);
-  }
-  return parts.join('; ');
-}
 
 // The games that a text names as `HOME - AWAY (SLOT)`. Where one such name ends with another, the longer one stands there.
 function gamesTold(league, games, text) {
@@ -108,17 +90,19 @@ function inOrder(constraints) {
   return [...constraints].sort((a, b) => rank(a) - rank(b) || (a.cost < b.cost ? 1 : a.cost > b.cost ? -1 : a.number - b.number));
 }
 
-// A demand as an item of the list, with a button that lights its cells.
-function itemOf(league, it, onPick) {
-  const li = element('li', undefined, it.isHard ? 'hard' : 'soft'), button = element('button');
-  button.type = 'button';
-  button.setAttribute('aria-pressed', 'false');
-  if (it.sum > 0n) button.append(element('span', it.isHard ? `hard, missed by ${it.sum}` : `costs ${it.cost}`, 'cost'));
-  button.append(element('b', `${it.number} ${it.tag} ${it.isHard ? 'hard' : 'soft'}`));
-  button.append(element('span', it.asks || attributesOf(league, league.constraints[it.number - 1]), 'asks'));
-  for (const reason of it.reasons.slice(0, MOST_REASONS)) button.append(element('span', reason.trim(), 'reason'));
-  if (it.reasons.length > MOST_REASONS) button.append(element('span', `and ${it.reasons.length - MOST_REASONS} more, which a click shows too`, 'reason'));
-  button.onclick = () => onPick(it, button);
-  li.append(button);
+// A demand as an item of a list. `onPick` lights its cells, where there is a picture.
+function itemOf(it, onPick) {
+  const li = element('li', undefined, it.isHard ? 'hard' : 'soft'), box = element(onPick ? 'button' : 'div', undefined, 'demand');
+  if (it.sum > 0n) box.append(element('span', it.isHard ? `hard, missed by ${it.sum}` : `costs ${it.cost}`, 'cost'));
+  box.append(element('b', it.tag ? `${it.number} ${it.tag} ${it.isHard ? 'hard' : 'soft'}` : `demand ${it.number}`));
+  if (it.asks) box.append(element('span', it.asks, 'asks'));
+  for (const reason of it.reasons.slice(0, MOST_REASONS)) box.append(element('span', reason.trim(), 'reason'));
+  if (it.reasons.length > MOST_REASONS) box.append(element('span', `and ${it.reasons.length - MOST_REASONS} more, which a click shows too`, 'reason'));
+  if (onPick) {
+    box.type = 'button';
+    box.setAttribute('aria-pressed', 'false');
+    box.onclick = () => onPick(it, box);
+  }
+  li.append(box);
   return li;
 }

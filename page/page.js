@@ -3,7 +3,10 @@ const $ = id => document.getElementById(id);
 const isAble = isAbleToRun();
 const runs = isAble ? new Runs(moduleOf(MODULE), WORKER) : null;
 const EMPTY_SEASON = new TextEncoder().encode('<Solution><Games></Games></Solution>');
-const state = {league: null, season: null, view: null, games: null, played: 0, text: '', textName: '', light: null, search: null, names: {}};
+// The files with their names, what is shown of them, and the search that goes on. `cost` is that of the season here, where the league accepts it.
+const state = {
+  league: null, season: null, names: {}, cost: null, sentences: null, view: null, games: null, played: 0, light: null, text: '', textName: '', search: null,
+};
 
 // An answer with its texts read.
 const withTexts = answer => ({...answer, bytes: answer.text, text: decoder.decode(answer.text), told: decoder.decode(answer.told)});
@@ -13,10 +16,14 @@ const robin = async (words, files) => withTexts(await runs.start(words, files).a
 
 const filesNow = () => [state.league, state.season];
 
+const MADE = 'made here';
+const isMade = kind => (state.names[kind] || '').startsWith(MADE);
+
 function say(verdict, kind, advice) {
   $('verdict').textContent = verdict;
   $('verdict').className = `verdict ${kind}`;
   $('advice').textContent = advice || '';
+  $('members').replaceChildren();
 }
 
 function showText(text, name) {
@@ -34,6 +41,8 @@ function renew() {
   $('resume').disabled = busy || !both || state.played === 0;
   $('stop').disabled = !busy;
   $('made').disabled = busy;
+  $('put-away').hidden = !state.season;
+  $('save-league').hidden = !isMade('league');
   $('resume').textContent = state.played ? `Plan slots ${state.played} to ${2 * (state.view?.n ?? 1) - 3} again` : 'Plan the rest again';
   $('saving').hidden = $('picture').hidden = !(state.view && state.games);
 }
@@ -57,16 +66,21 @@ function drawSeason() {
 
 function pickSlot(slot) {
   state.played = state.played === slot ? 0 : slot;
-  const pressed = $('demands').querySelector('[aria-pressed=true]'), hidden = $('demands').hidden;
+  const hidden = $('demands').hidden;
   drawSeason();
   $('demands').hidden = hidden;
-  if (pressed) pressed.setAttribute('aria-pressed', 'false');
+  release();
   $('grid').querySelectorAll('thead button')[slot].focus();
+}
+
+// No demand is picked any more.
+function release() {
+  for (const button of document.querySelectorAll('.demand[aria-pressed=true]')) button.setAttribute('aria-pressed', 'false');
 }
 
 function pickDemand(it, button) {
   const on = button.getAttribute('aria-pressed') !== 'true';
-  for (const other of $('demands').querySelectorAll('[aria-pressed=true]')) other.setAttribute('aria-pressed', 'false');
+  release();
   button.setAttribute('aria-pressed', String(on));
   if (!state.light) return;
   // Where no game counts, as of a game that is lacking, the cells that the demand speaks of are lit.
@@ -75,16 +89,27 @@ function pickDemand(it, button) {
   $('grid').querySelector('td.lit')?.scrollIntoView({block: 'nearest', inline: 'center'});
 }
 
+// What a league demands, where no season is judged.
+function listLeague(sentences) {
+  const all = [...sentences.values()], hard = all.filter(it => it.isHard).length;
+  $('demands').hidden = all.length === 0;
+  $('demands-said').textContent = `Hard: ${hard}, which must be met. Soft: ${all.length - hard}, which cost something where they are missed.`;
+  $('demands-how').textContent = '';
+  $('missed').replaceChildren(...all.map(it => itemOf(it)));
+  $('met-box').hidden = true;
+}
+
 function listDemands(report) {
   const missed = report.constraints.filter(it => it.sum > 0n), met = report.constraints.filter(it => it.sum === 0n);
-  const items = list => inOrder(list).map(it => itemOf(state.view, it, pickDemand));
+  const items = list => inOrder(list).map(it => itemOf(it, pickDemand));
   $('demands').hidden = report.constraints.length === 0;
-  $('demands-said').textContent = missed.length ? `${missed.length} of ${report.constraints.length} demands are missed.` : `All ${report.constraints.length} demands are met.`;
+  const count = report.constraints.length, all = count === 1 ? '1 demand' : `${count} demands`, are = many => (many === 1 ? 'is' : 'are');
+  $('demands-said').textContent = missed.length ? `${missed.length} of ${all} ${are(missed.length)} missed.` : `${all}, all met.`;
   $('demands-how').textContent = missed.length ? 'A click shows the games that do it.' : '';
   $('missed').replaceChildren(...items(missed));
   $('met').replaceChildren(...items(met));
   $('met-box').hidden = met.length === 0;
-  $('met-said').textContent = `${met.length} demands are met`;
+  $('met-said').textContent = `${met.length} of ${all} ${are(met.length)} met`;
 }
 
 // ---- judging
@@ -109,6 +134,15 @@ async function shown(files) {
   return null;
 }
 
+// What the league's demands ask, by their numbers, in the words of `show`; all demands, or those of a list. Empty where the module knows no such words.
+async function demanded(...list) {
+  const answer = await robin(['show', '1', '--demands', ...list], [state.league]);
+  return answer.status === 0 ? sentencesOf(answer.text) : new Map();
+}
+
+// The same of all demands, which are asked for once.
+const allDemanded = () => state.sentences ??= demanded().catch(() => new Map());
+
 // Judges the season, or the league alone. A later call makes an earlier one's answer void.
 let turn = 0;
 async function judge(said) {
@@ -130,26 +164,38 @@ async function judge(said) {
     }
     state.view = leagueOf(state.league);
     const report = reportOf(answer.text);
+    state.cost = state.season && report.feasible === 'yes' ? BigInt(report.objective) : null;
     if (!state.season) {
       drawSeason();
-      return say(said || `A league of ${report.teams} teams, with ${report.constraints.length} demands.`, '', 'Drop a season to judge it, or find one.');
+      showText('', '');
+      say(said || `A league of ${report.teams} teams, with ${report.constraints.length} demands.`, '', 'Drop a season to judge it, or find one.');
+      const sentences = await allDemanded();
+      return mine === turn ? listLeague(sentences) : undefined;
     }
     say(said ? `${said} ${verdictOf(report)}` : verdictOf(report), report.feasible === 'yes' ? 'yes' : 'no', state.view ? '' : 'There is no picture: the XML reader of this browser refuses a file.');
     showText(answer.text, 'report.txt');
     drawSeason();
-    const told = await asked;
+    const sentences = await allDemanded(), told = await asked;
     if (mine !== turn || !state.view) return;
-    const sentences = told ? shownOf(told.text) : new Map();
-    for (const it of report.constraints) Object.assign(it, sentences.get(it.number));
+    const missed = told ? shownOf(told.text) : new Map();
+    for (const it of report.constraints) Object.assign(it, {asks: sentences.get(it.number)?.asks}, missed.get(it.number));
     listDemands(report);
   } catch (error) {
-    if (mine === turn) say('The run ended before its end.', 'no', `${error.message}. The next run begins anew.`);
+    if (mine === turn) say('The run broke off.', 'no', `${error.message}. The next run begins anew.`);
   }
 }
 
 function setSeason(bytes, said) {
-  setFile(bytes, 'season', 'made here');
+  setFile(bytes, 'season', MADE);
   return judge(said);
+}
+
+// From now on there is the league alone.
+function putAway() {
+  Object.assign(state, {season: null, played: 0, cost: null});
+  delete state.names.season;
+  sayFiles();
+  return judge();
 }
 
 // ---- files that come in
@@ -171,9 +217,15 @@ function setFile(bytes, kind, name) {
   if (kind === 'league') {
     if (state.search) state.search.stop();
     state.played = 0;
+    state.sentences = null;
   }
   state[kind] = bytes;
   state.names[kind] = name;
+  state.cost = null;
+  sayFiles();
+}
+
+function sayFiles() {
   $('files-said').textContent = ['league', 'season'].filter(it => state.names[it]).map(it => `${it === 'league' ? 'League' : 'Season'}: ${state.names[it]}`).join('. ');
 }
 
@@ -207,7 +259,7 @@ async function search(what, work) {
   try {
     ended = await work(own);
   } catch (error) {
-    if (!own.isStopped) say('The run ended before its end.', 'no', `${error.message}. The next run begins anew.`);
+    if (!own.isStopped) say('The run broke off.', 'no', `${error.message}. The next run begins anew.`);
   }
   clearInterval(clock);
   state.search = null;
@@ -223,12 +275,13 @@ function wordsOfStart(start, isFound) {
   return isFound ? ['solve', '1', '--tries', '2', '--seed', String(start - 1)] : ['solve', '1', '--conflicts', '0', '--moves', '30000', '--seed', String(start)];
 }
 
+// A season that is found stays if none is at hand that the league accepts, or only dearer ones.
 async function findSeason(own) {
   const starts = Math.min(Math.max(Number($('tries').value) || 1, 1), 100), files = [state.league];
-  let best = null;
+  let found = null;
   for (let start = 0; start < starts && !own.isStopped; start++) {
-    own.note = `, start ${start + 1} of ${starts}${best === null ? '' : `, the best so far costs ${best}`}`;
-    const answer = await own.robin(wordsOfStart(start, best !== null), files);
+    own.note = `, start ${start + 1} of ${starts}${state.cost === null ? '' : `, the best so far costs ${state.cost}`}`;
+    const answer = await own.robin(wordsOfStart(start, found !== null), files);
     if (answer.status === 4) {
       showText(answer.text, 'refutation.log');
       say('There is no season that meets all hard demands.', 'no', 'The text below is a log that proves it. "Why is there none?" names demands that contradict each other.');
@@ -238,13 +291,17 @@ async function findSeason(own) {
       say(refusalOf(answer), 'no', answer.told.trim());
       return '';
     }
-    if (answer.status === 0 && (best === null || objectiveOf(answer.text) < best)) {
-      best = objectiveOf(answer.text);
-      await setSeason(answer.bytes, 'Found.');
-    }
+    if (answer.status === 5) continue;
+    const cost = objectiveOf(answer.text);
+    if (found === null || cost < found) found = cost;
+    if (state.cost === null || cost < state.cost) await setSeason(answer.bytes, 'Found.');
   }
-  if (best === null) say('No season was found, and none is ruled out.', '', 'Each start spent its budget. More starts may find one; "Why is there none?" looks for a contradiction.');
-  return best === null ? 'Done.' : `Done: the best of ${starts} ${starts === 1 ? 'start' : 'starts'} costs ${best}.`;
+  if (found !== null) {
+    const best = `Done: the best of ${starts} ${starts === 1 ? 'start' : 'starts'} costs ${found}`;
+    return state.cost !== null && state.cost < found ? `${best}. The season here costs ${state.cost}, and stays.` : `${best}.`;
+  }
+  if (state.cost === null) say('No season was found, and none is ruled out.', '', 'Each start spent its budget. More starts may find one; "Why is there none?" looks for a contradiction.');
+  return state.cost === null ? 'Done.' : 'Done: no start found a season. The one here stays.';
 }
 
 async function proveLeast(own) {
@@ -264,20 +321,24 @@ async function proveLeast(own) {
 async function explainLeague(own) {
   const answer = await own.robin(['explain', '1'], [state.league]);
   if (answer.status === 0) {
-    await setSeason(answer.bytes, 'There is a season.');
+    if (state.cost === null) await setSeason(answer.bytes, 'There is a season.');
+    else say('There is a season: the one here is accepted.', 'yes');
     return 'Done.';
   }
   showText(answer.text, 'conflict.txt');
   if (answer.status === 5) say('No contradiction was found, and no season.', '', 'The budget is spent.');
   else if (answer.status !== 4) say(refusalOf(answer), 'no', answer.told.trim());
-  else {
-    const [first, second] = answer.text.split('\n'), members = first.split(' ').slice(1).map(Number);
-    const view = leagueOf(state.league), many = members.length > 1;
-    const asks = members.map(k => `${k} ${view ? `${view.constraints[k - 1].tag}: ${attributesOf(view, view.constraints[k - 1])}` : ''}`);
-    say(many ? 'No season meets these demands together:' : members.length ? 'No season meets this demand:' : 'No season exists, whatever is demanded.', 'no',
-      `${asks.join('\n')}\n${second === 'minimal yes' && many ? 'Without any one of them the others can be met. ' : ''}The text below has a log that proves it.`);
-  }
+  else await tellConflict(answer.text);
   return 'Done.';
+}
+
+// Says the members of a conflict, each in the words of `show`, or by its number alone where the module knows no such words.
+async function tellConflict(text) {
+  const [first, second] = text.split('\n'), members = first.split(' ').slice(1).map(Number), many = members.length > 1;
+  const sentences = members.length ? await demanded(members.join(';')) : new Map();
+  say(many ? 'No season meets these demands together:' : members.length ? 'No season meets this demand:' : 'No season exists, whatever is demanded.', 'no',
+    `${second === 'minimal yes' && many ? 'Without any one of them the others of this list can be met. ' : ''}The text below has a log that proves it.`);
+  $('members').replaceChildren(...members.map(number => itemOf(sentences.get(number) || {number, isHard: true, sum: 0n, reasons: []}, state.light && pickDemand)));
 }
 
 async function resumeSeason(own) {
@@ -297,7 +358,7 @@ async function makeLeague(own) {
   const seed = String(Math.floor(Math.random() * 1e6)), answer = await own.robin(['make', '8', seed], []);
   if (answer.status !== 0) return '';
   Object.assign(state, {season: null, names: {}, search: null});
-  setFile(answer.bytes, 'league', `made here, eight teams, seed ${seed}`);
+  setFile(answer.bytes, 'league', `${MADE}, eight teams, seed ${seed}`);
   await judge();
   return '';
 }
@@ -309,15 +370,18 @@ async function saveTable() {
     if (answer.status < 2) return save('season.csv', 'text/csv', answer.bytes);
     say(refusalOf(answer), 'no', answer.told.trim());
   } catch (error) {
-    say('The run ended before its end.', 'no', `${error.message}. The next run begins anew.`);
+    say('The run broke off.', 'no', `${error.message}. The next run begins anew.`);
   }
 }
 
 // ---- the page's parts
 
 function connect() {
-  $('league-file').onchange = event => takeFiles(event.target.files, 'league');
-  $('season-file').onchange = event => takeFiles(event.target.files, 'season');
+  for (const kind of ['league', 'season']) {
+    // A file that was changed on the disk may be chosen again.
+    $(`${kind}-file`).onclick = event => { event.target.value = ''; };
+    $(`${kind}-file`).onchange = event => takeFiles(event.target.files, kind);
+  }
   document.ondragover = event => {
     event.preventDefault();
     document.body.classList.add('over');
@@ -330,7 +394,7 @@ function connect() {
   };
   document.onkeydown = event => {
     if (event.key !== 'Escape') return;
-    for (const other of $('demands').querySelectorAll('[aria-pressed=true]')) other.setAttribute('aria-pressed', 'false');
+    release();
     if (state.light) state.light(null);
   };
   $('made').onclick = () => search('Making a league', makeLeague);
@@ -339,12 +403,14 @@ function connect() {
   $('explain').onclick = () => search('Looking for a contradiction', explainLeague);
   $('resume').onclick = () => search('Planning the rest', resumeSeason);
   $('stop').onclick = () => state.search && state.search.stop();
+  $('put-away').onclick = putAway;
+  $('save-league').onclick = () => save('league.xml', 'application/xml', state.league);
   $('save-xml').onclick = () => save('season.xml', 'application/xml', state.season);
   $('save-csv').onclick = saveTable;
   $('save-text').onclick = () => save(state.textName, 'text/plain', state.text);
   $('save-calendar').onclick = () => {
     const team = $('calendar-team').value, first = $('calendar-first').value;
-    if (!first) return $('calendar-first').focus();
+    if (!$('calendar-first').reportValidity()) return;
     save('season.ics', 'text/calendar', calendarOf(state.view, state.games, team === '' ? null : Number(team), first, Math.max(1, Number($('calendar-step').value) || 7)));
   };
   $('print').onclick = () => window.print();

@@ -1,4 +1,5 @@
-"""test.py [--page PAGE] [--shots FOLDER] [NAME..]: opens the page in headless Chromium, and tries what it does, each try by its name (none: all). Run it by page/test."""
+"""test.py [--page PAGE] [--program PROGRAM] [--shots FOLDER] [NAME..]: opens the page in headless Chromium, and tries what it does beside a program, each try by its name
+(none: all). Run it by page/test."""
 import argparse
 import base64
 import contextlib
@@ -19,7 +20,6 @@ from selenium.webdriver.common.by import By
 from selenium.webdriver.common.keys import Keys
 
 TOP = os.path.dirname(os.path.dirname(os.path.abspath(__file__)))
-PROGRAM = f"{TOP}/release/robin"
 EXAMPLES = f"{TOP}/examples"
 WIDE, NARROW = (1280, 900), (390, 844)
 # A run of the module from the page's script: words, files in letters, and perhaps a limit of memory.
@@ -40,7 +40,7 @@ def example(name):
 
 def native(*words):
     """The status and the bytes of the program."""
-    ran = subprocess.run([PROGRAM, *words], capture_output=True, check=False)
+    ran = subprocess.run([native.program, *words], capture_output=True, check=False)
     return ran.returncode, ran.stdout
 
 
@@ -366,6 +366,70 @@ def try_searches(it):
         it.wait(lambda: it.text("verdict").startswith(word))
 
 
+def items(it, where):
+    """The lines of a list of demands: what stands before the sentence, and the sentence."""
+    return it.js("return Array.from(document.querySelectorAll(arguments[0] + ' .demand'), it => [it.querySelector('b').textContent, it.querySelector('.asks')?.textContent])", where)
+
+
+def sentences(*words):
+    """The same by the program, or None where it knows no such words."""
+    status, text = native("show", *words)
+    found = [re.fullmatch(r"(hard|soft) (\d+) ([A-Z0-9]+): (.*)", line) for line in text.decode().splitlines()]
+    return [[f"{one[2]} {one[3]} {one[1]}", one[4]] for one in found] if status == 0 else None
+
+
+def try_members(it):
+    """The answer of `explain` names each member in the words of `show`, and a league alone all its demands."""
+    league = example("northern-closed.xml")
+    it.size(*WIDE)
+    it.open()
+    it.give(league)
+    all_demands, members = sentences(league, "--demands"), sentences(league, "--demands", "1;10")
+    if all_demands:
+        it.wait(lambda: it.js("return !document.getElementById('demands').hidden"))
+        same(items(it, "#missed"), all_demands, "the demands of a league alone")
+    it.find("explain").click()
+    it.wait(lambda: it.text("verdict") == "No season meets these demands together:")
+    it.wait(lambda: items(it, "#members"))
+    same(items(it, "#members"), members or [["demand 1", None], ["demand 10", None]], "the members")
+    assert "Without any one of them" in it.text("advice"), it.text("advice")
+    it.shot("members")
+    # With a season drawn, a click on a member lights the cells that it speaks of.
+    it.give(None, example("northern-season.xml"))
+    it.wait(lambda: it.js("return !!state.light"))
+    same(items(it, "#members"), [], "members behind another verdict")
+    it.find("explain").click()
+    it.wait(lambda: items(it, "#members"))
+    it.driver.find_elements(By.CSS_SELECTOR, "#members button")[1].click()
+    assert it.js("return document.querySelectorAll('td.lit').length"), "a member lights nothing"
+    it.shot("members-lit")
+    it.size(*NARROW)
+    it.shot("members-390")
+    width = it.js("return document.documentElement.scrollWidth")
+    it.size(*WIDE)
+    assert width <= NARROW[0], f"the members are {width} wide at {NARROW[0]}"
+    return "by their numbers alone: the program knows no --demands" if members is None else ""
+
+
+def try_season_at_hand(it):
+    """A season that is found doesn't take the place of a cheaper one; one that is put away does no more harm."""
+    it.open()
+    it.give(example("northern-league.xml"), example("northern-season.xml"))
+    it.wait(lambda: it.text("verdict") == "Accepted. It costs 6.")
+    given = it.js("return new TextDecoder().decode(state.season)")
+    it.js("document.getElementById('tries').value = 1")
+    it.find("solve").click()
+    it.wait(lambda: it.text("progress").startswith("Done"))
+    cost = int(re.search(r"costs (\d+)", it.text("progress"))[1])
+    same(it.js("return new TextDecoder().decode(state.season)") == given, cost >= 6, f"whether the season stays where {cost} was found")
+    # A season of another league is refused, and put away.
+    it.give(example("four-teams.xml"))
+    it.wait(lambda: it.text("verdict").startswith("Not read"))
+    it.find("put-away").click()
+    it.wait(lambda: it.text("verdict").startswith("A league of 4"))
+    assert not it.find("put-away").is_displayed() and "Season" not in it.text("files-said")
+
+
 LIT = """return Array.from(document.querySelectorAll('#grid tbody tr'), row => Array.from(row.querySelectorAll('td'), cell => cell.classList.contains('lit')))
   .flatMap((row, team) => row.map((lit, slot) => lit ? [team, slot] : null)).filter(cell => cell);"""
 
@@ -532,10 +596,12 @@ def try_looks(it):
 def main():
     words = argparse.ArgumentParser()
     words.add_argument("--page", default=f"{TOP}/release/robin.html")
+    words.add_argument("--program", default=f"{TOP}/release/robin")
     words.add_argument("--shots")
     words.add_argument("names", nargs="*")
     words = words.parse_args()
     tries = {name[4:]: call for name, call in globals().items() if name.startswith("try_")}
+    native.program = words.program
     browser = Browser(os.path.abspath(words.page), words.shots)
     failed = 0
     try:

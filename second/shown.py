@@ -1,6 +1,7 @@
-"""What `show` writes: the grid of a season, what it lacks of a double round robin and what it misses, in words.
+"""What `show` writes: the grid of a season, what it lacks of a double round robin and what it misses, in words; or what a league demands.
 
     python3 second/shown.py INSTANCE SOLUTION [--form text|csv] [--most N] [--width N]
+    python3 second/shown.py INSTANCE --demands [LIST]
     python3 second/shown.py --rounds 2000 PROGRAM [--seed N]      random leagues, on which PROGRAM writes the same bytes
 
 Written from the rules in words, without a look at the Rattle code. Games are in order of slot, home team and away team.
@@ -181,6 +182,18 @@ def shown(instance, solution, form="text", most=20, width=80):
     return season.grid(width) + "".join(line + "\n" for line in lines), accepted
 
 
+def demanded(instance, numbers=None):
+    """What the constraints demand, or those with some numbers: the hard ones first. And the status."""
+    league, teams, _ = read_named(instance)
+    numbers = range(1, len(league.constraints) + 1) if numbers is None else numbers
+    for number in numbers:
+        if number > len(league.constraints):
+            return f"refused constraint {number} Unknown\n", 3
+    words, wanted = Words(labels_of(teams)), [(number, league.constraints[number - 1]) for number in numbers]
+    lines = [words.line(number, it) for hard in (True, False) for number, it in wanted if it.hard == hard]
+    return "".join(line + "\n" for line in lines), 0
+
+
 # ---- random leagues
 
 NAMES = ["Ajax", "Brug", "Club", "Dam", "=1+1", "@x", "A, B", 'the "old"', "Zo\u00eb", "&amp;lt;", "\u202eabc", "\u05d0\u05d1", "", " x ", "A" * 45,
@@ -220,6 +233,15 @@ def named(rng, text, n):
     return text
 
 
+def demands_differ(program, rng, path, instance):
+    """Whether the program says something else of what a league demands, and which words it had."""
+    numbers = None if rng.random() < 0.4 else sorted(rng.sample(range(1, 11), rng.randint(1, 4)))
+    words = ["show", path, "--demands"] + ([";".join(map(str, numbers))] if numbers else [])
+    done = subprocess.run([program, *words], capture_output=True)
+    text, status = demanded(instance, numbers)
+    return (done.stdout, done.returncode) != (text.encode(), status), words
+
+
 def compared(program, rounds, seed):
     rng, counted = random.Random(seed), [0, 0]
     with tempfile.TemporaryDirectory() as folder:
@@ -233,9 +255,14 @@ def compared(program, rounds, seed):
             for path, text in zip(paths, files):
                 with open(path, "w", encoding="utf-8", newline="") as file:
                     file.write(text)
-            options = {"form": rng.choice(["text"] * 4 + ["csv"]), "most": rng.choice([0, 1, 2, 5, 20, 20, 1000])}
+            differ, words = demands_differ(program, rng, paths[0], files[0].encode())
+            if differ:
+                with open("/tmp/robin-demands.xml", "w", encoding="utf-8", newline="") as file:
+                    file.write(files[0])
+                sys.exit(f"DIFFERS in round {k}: /tmp/robin-demands.xml, {' '.join(words)}")
+            options = {"form": rng.choice(["text"] * 4 + ["csv"]), "most": rng.choice([0, 1, 2, 5, 20, 20, 2**32 - 1])}
             options["width"] = rng.choice([0, 20, 40, 80, 80, 200])
-            words = [word for key, value in options.items() for word in (f"--{key}", str(value))]
+            words = [word for key, value in options.items() for word in (f"--{key}", str(value).replace(str(2**32 - 1), "all"))]
             done = subprocess.run([program, "show", *paths, *words], capture_output=True)
             text, accepted = shown(*(it.encode() for it in files), **options)
             if done.stdout != text.encode() or done.returncode != (0 if accepted else 1):
@@ -254,12 +281,18 @@ def main():
     parser.add_argument("--form", choices=("text", "csv"), default="text")
     parser.add_argument("--most", type=int, default=20)
     parser.add_argument("--width", type=int, default=80)
+    parser.add_argument("--demands", nargs="?", const="")
     parser.add_argument("--rounds", type=int)
     parser.add_argument("--seed", type=int, default=1)
     options = parser.parse_args()
     if options.rounds:
         compared(options.files[0], options.rounds, options.seed)
         return
+    if options.demands is not None:
+        numbers = [int(k) for k in options.demands.split(";")] if options.demands else None
+        text, status = demanded(open(options.files[0], "rb").read(), numbers)
+        sys.stdout.buffer.write(text.encode())
+        sys.exit(status)
     instance, solution = (open(path, "rb").read() for path in options.files)
     try:
         text, accepted = shown(instance, solution, options.form, options.most, options.width)

@@ -21,7 +21,7 @@ use robin_watch::{News, Unwatched, Watch, kept_limit};
 use rows::{Lit, RowStore};
 use std::alloc::{AllocError, Global};
 
-/// Of so many clauses that are learnt the watch hears once.
+/// The watch hears once of each so many clauses that are learnt.
 const TOLD_EACH: u64 = 64;
 
 /// Searches for values of so many variables that satisfy every row, or a log that refutes them. With a limit it learns

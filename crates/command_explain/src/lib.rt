@@ -5,6 +5,7 @@
 //! the definitions of `explain` and `explain`.
 #![tactic(auto)]
 
+mod hints;
 mod parted;
 mod replies;
 mod stages;

@@ -1,25 +1,52 @@
 //! The stages of `explain`.
 ghost use Rattle.std.specs.Prelude.{◌≡◌, ℕ, List};
 ghost use Rattle.robin_io.specs.Outside.{store_between};
-ghost use Rattle.answers.specs.SeenReply.{Answers};
+ghost use Rattle.answers.specs.SeenReply.{Answers, answer_of};
 ghost use Rattle.command_check.specs.Check.{encodes};
 ghost use Rattle.command_explain.specs.Explained.{IsFound, explained};
 
+use crate::hints::on_members;
 use crate::replies::found_reply;
-use answers::{NoValue, Reply, file, league_in, rows_refused};
+use answers::{NoValue, Refusal, Reply, file, league_in, rows_refused};
 use encoding::EncodeFault;
-use explain::explain;
+use explain::{Explained, explain};
 use league::League;
 use robin_io::Shelf;
 use robinx_read::INSTANCE_LIMIT;
 use std::alloc::{AllocError, Global};
 
-/// Explains a league, and answers it.
-fn found_of(alloc: Global, league: &League, conflicts: Option<u64>) -> Result<Reply, NoValue>
+/// A reply, with what a person is told beside it: a reply goes with advice as a refusal does.
+fn told(
+    alloc: Global,
+    instance: &str,
+    explained: &Explained,
+    reply: Reply,
+) -> Result<Reply, NoValue>
+    ensures { Answers (λ answer. answer ≡ answer_of reply) result }
+{
+    match explained {
+        Explained::Conflict { members, .. } => {
+            let advice = on_members(alloc, instance, members);
+            Err(NoValue::Refused(Refusal::new(alloc, reply, advice)))
+        }
+        _ => Ok(reply),
+    }
+}
+
+/// Explains the league of a file, and answers it.
+fn found_of(
+    alloc: Global,
+    instance: &str,
+    league: &League,
+    conflicts: Option<u64>,
+) -> Result<Reply, NoValue>
     ensures { Answers (encodes league.now (λ rows. IsFound league.now conflicts)) result }
 {
     match explain(alloc, league, conflicts) {
-        Ok(explained) => Ok(found_reply(alloc, league, conflicts, &explained)?),
+        Ok(explained) => {
+            let reply = found_reply(alloc, league, conflicts, &explained)?;
+            told(alloc, instance, &explained, reply)
+        }
         Err(EncodeFault::TooLarge { terms }) => Err(NoValue::Refused(rows_refused(alloc, terms)?)),
         Err(EncodeFault::Mem) => Err(NoValue::Memory),
     }
@@ -43,5 +70,5 @@ pub fn explain_file<S: Shelf>(
 {
     let bytes = file(alloc, shelf, "instance", instance, INSTANCE_LIMIT)?;
     let league = league_in(alloc, instance, &bytes)?;
-    found_of(alloc, &league, conflicts)
+    found_of(alloc, instance, &league, conflicts)
 }

@@ -1,7 +1,7 @@
 //! The text of help, a page for each command, and the version: the one table of them.
 
 /// What `--version` prints.
-pub const VERSION: &str = "robin 1.3.0\n";
+pub const VERSION: &str = "robin 1.4.0\n";
 
 /// What `--help` prints: all commands with their words, the options and the statuses.
 pub const ALL: &str = "\
@@ -42,11 +42,13 @@ Options stand before, between or behind the words, each once at most:
   --patterns N       clauses of a search for patterns (500); of solve and trial
   --seed N           what random moves are drawn by (0); of solve and trial
   --seconds N        a time limit of N seconds; of solve and trial
+  --from SOLUTION    a season to begin at; of solve
   --bound B          seasons that cost at most B; of rows
   --objective        a season that costs least; of rows, and not with --bound
   --form text|csv    a text, or values for a spreadsheet (text); of show
-  --most N           lines of a list (20); of show
+  --most N|all       lines of a list (20); of show
   --width N          characters of a line of the grid (80); of show
+  --demands [LIST]   in place of SOLUTION: what a league demands; of show
 
 Status:  0  accepted, found, proved or made     1  not accepted
          2  the words are no command
@@ -85,6 +87,7 @@ Example: robin validate league.xml season.xml
 
 pub const SHOW: &str = "\
 usage: robin show INSTANCE SOLUTION [OPTIONS]
+       robin show INSTANCE --demands [LIST]
 
 Shows the season of the file SOLUTION, with the names of the file INSTANCE, as a
 grid of teams by slots, and says in words what it lacks of a double round robin
@@ -92,21 +95,25 @@ and which demands it misses: by how much, and by which games. Hard demands come
 first, then what costs more. The last lines are those of validate.
 
 Options stand before, between or behind the words, each once at most:
-  --most N         the most demands, and the most lines of each, a number from 0
-                   to 4294967295 (20)
+  --most N|all     the most demands, and the most lines of each, a number from 0
+                   to 4294967295 (20); all: no limit
   --width N        the most characters of a line of the grid, where one slot has
                    room, from 0 to 4294967295 (80)
   --form text|csv  a text, or a line a game for a spreadsheet (text)
 
+With --demands behind INSTANCE it says in words what the league demands, a line
+a demand, the hard ones first. LIST has the numbers of some, as for part.
+
 Status:  0  the season is accepted: it is a double round robin, and meets each
-            hard demand
+            hard demand; or the demands are written
          1  it isn't accepted
-         3  a file is refused
+         3  a file is refused, or the league has no demand of a number of LIST
          6  a file can't be read
          7  the text can't be written
          8  memory ran out
 
 Example: robin show league.xml season.xml --most 5
+         robin show league.xml --demands '1;10'
 ";
 
 pub const SOLVE: &str = "\
@@ -128,15 +135,20 @@ Options stand before or behind the file, each once at most:
   --patterns N   where the league doesn't accept the season of circle, a search
                  for patterns comes first, which learns at most N clauses (500)
   --seed N       random moves are drawn by N (0)
+  --from SOLUTION
+                 each try walks from the season of this file; if the league
+                 accepts that, the season that is written costs no more
 N is a number from 0 to 18446744073709551615, where nothing else is said.
 Ctrl-C ends it as a time limit does, a second one nothing more; Ctrl-\\ ends it
 at once, and nothing is written.
 
 Status:  0  a season is found, and written with its objective
-         3  the file is refused, or its league is too large
+         1  the season of --from isn't a double round robin of the league, and
+            is judged as by validate
+         3  a file is refused, or the league is too large
          4  there is no season: the log proves it
          5  a budget is spent: the log says what was learnt
-         6  the file can't be read
+         6  a file can't be read
          7  the text can't be written
          8  memory ran out
 

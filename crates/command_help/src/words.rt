@@ -41,9 +41,7 @@ fn tell(advice: &mut Advice, fault: WordFault) -> Result<(), AllocError> {
         WordFault::NotAlone { word } => tell_option(advice, word, " takes no such words"),
         WordFault::NoValue { word } => tell_option(advice, word, " wants a value behind it"),
         WordFault::Twice { word } => tell_option(advice, word, " stands more than once"),
-        WordFault::Beside { command, word } => {
-            tell_more(advice, command, " takes no other option beside ", word)
-        }
+        WordFault::Beside { command, word } => tell_more(advice, command, beside(command), word),
         WordFault::Unfit { role, word } => tell_unfit(advice, role, word),
         WordFault::NoOption { command, word } => tell_more(
             advice,
@@ -101,6 +99,14 @@ fn tell_missing(advice: &mut Advice, command: Topic, role: Role) -> Result<(), A
     point_to_page(advice, command)
 }
 
+/// What stands wrong beside an option that a command takes without a value.
+fn beside(command: Topic) -> &'static str {
+    match command {
+        Topic::Show => " takes one file before, and LIST or nothing behind, ",
+        _ => " takes no other option beside ",
+    }
+}
+
 /// Says where more is said of a command.
 fn point_to_page(advice: &mut Advice, command: Topic) -> Result<(), AllocError> {
     advice.say("robin: robin ")?;
@@ -129,7 +135,7 @@ fn wanted(role: Role) -> &'static str {
         Role::Seconds => "--seconds takes a number from 0 to 18446744073709551615",
         Role::Bound => "--bound takes a number from 0 to 18446744073709551615",
         Role::Form => "--form takes text or csv",
-        Role::Most => "--most takes a number from 0 to 4294967295",
+        Role::Most => "--most takes a number from 0 to 4294967295, or all",
         Role::Width => "--width takes a number from 0 to 4294967295",
     }
 }

@@ -10,7 +10,9 @@ pub option_role-some : (option_role topic.Solve (codes "--seed") ≡ Some role.D
     × (option_role topic.Explain (codes "--conflicts") ≡ Some role.Conflicts)
     × (option_role topic.Prove (codes "--moves") ≡ None)
     × (option_role topic.Check (codes "--conflicts") ≡ None)
-option_role-some = (refl, refl, refl, refl, refl, refl)
+    × (option_role topic.Solve (codes "--from") ≡ Some role.Solution)
+    × (option_role topic.Trial (codes "--from") ≡ None)
+option_role-some = (refl, refl, refl, refl, refl, refl, refl, refl)
 
 pub fits-some : (fits role.Teams (codes "8") ≡ true)
     × (fits role.Teams (codes "7") ≡ false)
@@ -28,6 +30,14 @@ pub flags : (is_flag topic.Rows (codes "--objective") ≡ true)
     × (is_flag topic.Solve (codes "--objective") ≡ false)
     × (option_role topic.Rows (codes "--objective") ≡ None)
 flags = (refl, refl, refl, refl)
+
+-- `--demands` of `show` has a list behind it or none, and `--most` takes a number or `all`
+pub show_words : (is_flag topic.Show (codes "--demands") ≡ true)
+    × (is_flag topic.Show (codes "--most") ≡ false)
+    × (option_role topic.Show (codes "--demands") ≡ None)
+    × (fits role.Most (codes "all") ≡ true)
+    × (fits role.Width (codes "all") ≡ false)
+show_words = (refl, refl, refl, refl, refl)
 
 pub questions : (is_question (codes "--help") ≡ true)
     × (is_question (codes "--version") ≡ true)

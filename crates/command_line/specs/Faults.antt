@@ -2,7 +2,7 @@
 use Rattle.std.specs.Prelude.{◌≡◌, ℕ, List, codes, bytes_eq, Bool, true, false, ◌||◌, if◌then◌else◌}
 use Rattle.std.specs.Prelude.{Option, Some, None, is_some}
 use Rattle.command_line.specs.Topics.{topic_of}
-use Rattle.command_line.specs.Words.{budget_in, form_in, is_file_name, is_option, members_in, number_in}
+use Rattle.command_line.specs.Words.{budget_in, form_in, is_file_name, is_option, members_in, most_in, number_in}
 use Rattle.command_line.specs.Words.{small_in, team_count_in, tries_in}
 use Rattle.command_line.specs.declared.topic.Topic.{Topic}
 use Rattle.command_line.specs.declared.topic.Topic.TheVariants as topic
@@ -32,7 +32,7 @@ fits Draws word = is_some (number_in word)
 fits Seconds word = is_some (number_in word)
 fits Bound word = is_some (number_in word)
 fits Form word = is_some (form_in word)
-fits Most word = is_some (small_in word)
+fits Most word = is_some (most_in word)
 fits Width word = is_some (small_in word)
 
 -- of the options of commands that search, and of `solve` and `trial`
@@ -48,6 +48,10 @@ solve_option word =
     else (if bytes_eq word (codes "--seed") then Some Draws
     else (if bytes_eq word (codes "--seconds") then Some Seconds else None)))))
 
+-- of the options of `solve`: those of `trial`, and the season to begin with
+abbrev pub start_option : List ℕ → Option Role
+start_option word = if bytes_eq word (codes "--from") then Some Solution else solve_option word
+
 -- of the option of `rows`
 abbrev pub row_option : List ℕ → Option Role
 row_option word = if bytes_eq word (codes "--bound") then Some Bound else None
@@ -61,7 +65,7 @@ show_option word =
 
 -- what the value of an option of a command is to be, where the command has this option with a value
 abbrev pub option_role : Topic → List ℕ → Option Role
-option_role topic.Solve word = solve_option word
+option_role topic.Solve word = start_option word
 option_role topic.Trial word = solve_option word
 option_role topic.Patterns word = search_option word
 option_role topic.Explain word = search_option word
@@ -71,9 +75,10 @@ option_role topic.Rows word = row_option word
 option_role topic.Show word = show_option word
 option_role _ word = None
 
--- whether a word is an option of a command that has no value
+-- whether a word is an option of a command that has no value, or none that it must have
 abbrev pub is_flag : Topic → List ℕ → Bool
 is_flag topic.Rows word = bytes_eq word (codes "--objective")
+is_flag topic.Show word = bytes_eq word (codes "--demands")
 is_flag _ word = false
 
 -- the words that ask for help or for the version

@@ -18,9 +18,11 @@ use Rattle.command_line.specs.declared.topic.Topic.{Topic}
 pub data Command : Type 0 where
   Validate : (instance solution : List ℕ) → Command
   Show : (instance solution : List ℕ) → (most width : ℕ) → Command
+  Demands : (instance : List ℕ) → (members : Option (List ℕ)) → Command
   Sheet : (instance solution : List ℕ) → Command
   Check : (instance log : List ℕ) → Command
   Solve : (instance : List ℕ) → (budgets : Budgets) → Command
+  SolveFrom : (instance solution : List ℕ) → (budgets : Budgets) → Command
   Patterns : (instance : List ℕ) → (conflicts : Option ℕ) → Command
   Explain : (instance : List ℕ) → (conflicts : Option ℕ) → Command
   Part : (instance members : List ℕ) → Command
@@ -173,7 +175,7 @@ budgets_in words = do
   seed ← said 0 number_in (values_of (codes "--seed") words)
   Some (record { conflicts = conflicts; moves = moves; tries = tries; patterns = patterns; seed = seed })
 
--- the names of options: of those that say how far a search goes, and how far `solve` goes
+-- the names of options: of those that say how far a search goes, how far `solve` and `trial` go, and of all of `solve`
 abbrev pub search_options : List (List ℕ)
 search_options = codes "--conflicts" ∷ []
 
@@ -182,11 +184,20 @@ solve_options =
     codes "--conflicts" ∷ codes "--moves" ∷ codes "--tries" ∷ codes "--patterns" ∷ codes "--seed"
     ∷ codes "--seconds" ∷ []
 
+abbrev pub start_options : List (List ℕ)
+start_options = codes "--from" ∷ solve_options
+
+-- `solve` of a file from the season of another file
+abbrev pub starting : List ℕ → Budgets → List ℕ → Option Command
+starting file budgets start = if is_file_name start then Some (SolveFrom file start budgets) else None
+
 -- `solve` over one file, with options before, between and behind
 abbrev pub solving : List (List ℕ) → Option Command
 solving words =
-    if has_options solve_options words
-    then option_and_then (λ file. option_map (Solve file) (budgets_in words)) (one_file (arguments_of words))
+    if has_options start_options words
+    then option_and_then (λ file. option_and_then (λ budgets.
+    said (Solve file budgets) (starting file budgets) (values_of (codes "--from") words)) (budgets_in words))
+    (one_file (arguments_of words))
     else None
 
 -- a command over one file, with how many clauses a search may learn said before or behind it
@@ -253,18 +264,22 @@ form_in word =
 abbrev pub small_in : List ℕ → Option ℕ
 small_in word = option_and_then (λ k. if nat_lt k (2 ^ 32) then Some k else None) (number_in word)
 
+-- how many lines of a list a word asks for; `all` stands for more than any list has
+abbrev pub most_in : List ℕ → Option ℕ
+most_in word = if bytes_eq word (codes "all") then Some (2 ^ 32 - 1) else small_in word
+
 -- `show` over two files: as a text, with how many lines of a list and how wide a page; where the words don't say it,
 -- own choices; or for a spreadsheet
 abbrev pub show_of : List ℕ × List ℕ → Bool → ℕ → ℕ → Command
 show_of files sheet most width = if sheet then Sheet files.0 files.1 else Show files.0 files.1 most width
 
 -- `show` over two files, with options before, between and behind them
-abbrev pub showing : List (List ℕ) → Option Command
-showing words =
+abbrev pub showing_season : List (List ℕ) → Option Command
+showing_season words =
     if has_options show_options words
     then option_and_then (λ files. option_and_then (λ sheet. option_and_then (λ most.
     option_map (show_of files sheet most) (said 80 small_in (values_of (codes "--width") words)))
-    (said 20 small_in (values_of (codes "--most") words)))
+    (said 20 most_in (values_of (codes "--most") words)))
     (said false form_in (values_of (codes "--form") words)))
     (two_files (arguments_of words))
     else None
@@ -284,7 +299,7 @@ lowering _ = None
 abbrev pub rowing : List (List ℕ) → Option Command
 rowing words = option_or (lowering words) (bounding words)
 
--- `trial` with a number of teams, a seed and the options of `solve`
+-- `trial` with a number of teams, a seed and its options
 abbrev pub trying : List (List ℕ) → Option Command
 trying words =
     if has_options solve_options words
@@ -292,7 +307,7 @@ trying words =
     (teams_and_seed (arguments_of words))
     else None
 
--- ---- the list of `part`
+-- ---- the list of `part` and of `show`
 
 -- the number that a word writes, where it is above another and at most 4294967295
 abbrev pub number_above : ℕ → List ℕ → Option ℕ
@@ -318,6 +333,25 @@ members_in list = rising 0 (words_of list)
 -- the numbers that a text writes as a list, and none where it is no such list
 abbrev pub members_of : List ℕ → List ℕ
 members_of list = unwrap_or (members_in list) []
+
+-- what the constraints of a file demand: all of them, or those with the numbers of a list
+abbrev pub demanding_all : List ℕ → Option Command
+demanding_all file = if is_file_name file then Some (Demands file None) else None
+
+abbrev pub demanding_some : List ℕ → List ℕ → Option Command
+demanding_some file list =
+    if is_file_name file then option_map (λ members. Demands file (Some members)) (members_in list) else None
+
+-- `show` over a file with `--demands` behind it, and a list or none behind that
+abbrev pub demanding : List (List ℕ) → Option Command
+demanding (file ∷ option ∷ []) = if bytes_eq option (codes "--demands") then demanding_all file else None
+demanding (file ∷ option ∷ list ∷ []) =
+    if bytes_eq option (codes "--demands") then demanding_some file list else None
+demanding _ = None
+
+-- `show`, of what a league demands or of a season
+abbrev pub showing : List (List ℕ) → Option Command
+showing words = option_or (demanding words) (showing_season words)
 
 -- `part` over a file, with a list
 abbrev pub parting : List ℕ → List ℕ → Option Command
@@ -393,9 +427,11 @@ reading words = option_or (asking words) (following words)
 abbrev pub HasTeams : Command → Type 0
 HasTeams (Validate instance solution) = Unit {0}
 HasTeams (Show instance solution most width) = Unit {0}
+HasTeams (Demands instance members) = Unit {0}
 HasTeams (Sheet instance solution) = Unit {0}
 HasTeams (Check instance log) = Unit {0}
 HasTeams (Solve instance budgets) = Unit {0}
+HasTeams (SolveFrom instance solution budgets) = Unit {0}
 HasTeams (Patterns instance conflicts) = Unit {0}
 HasTeams (Explain instance conflicts) = Unit {0}
 HasTeams (Part instance members) = Unit {0}
@@ -422,9 +458,11 @@ NeedsNoFile (Some (Help topic)) = Unit {0}
 NeedsNoFile (Some Version) = Unit {0}
 NeedsNoFile (Some (Validate instance solution)) = ⊥
 NeedsNoFile (Some (Show instance solution most width)) = ⊥
+NeedsNoFile (Some (Demands instance members)) = ⊥
 NeedsNoFile (Some (Sheet instance solution)) = ⊥
 NeedsNoFile (Some (Check instance log)) = ⊥
 NeedsNoFile (Some (Solve instance budgets)) = ⊥
+NeedsNoFile (Some (SolveFrom instance solution budgets)) = ⊥
 NeedsNoFile (Some (Patterns instance conflicts)) = ⊥
 NeedsNoFile (Some (Explain instance conflicts)) = ⊥
 NeedsNoFile (Some (Part instance members)) = ⊥

@@ -24,7 +24,7 @@ pub enum WordFault<'a> {
     NoValue { word: &'a str },
     /// An option stands more than once.
     Twice { word: &'a str },
-    /// Another option, or the same again, stands beside an option that stands alone.
+    /// A word stands beside an option that takes no such word.
     Beside { command: Topic, word: &'a str },
     /// A word is not what it is to be.
     Unfit { role: Role, word: &'a str },
@@ -82,13 +82,49 @@ fn fault_behind(command: Topic, words: &[String]) -> WordFault<'_>
     if let Some(fault) = wrong_option(command, words) {
         return fault;
     }
+    if let Some(fault) = wrong_demands(command, words) {
+        return fault;
+    }
     if let Some(fault) = wrong_argument(command, 0, words) {
         return fault;
     }
-    match flag_among(command, words) {
-        Some(word) => WordFault::Beside { command, word },
+    match misplaced(command, words) {
+        Some(fault) => fault,
         None => WordFault::Other { command },
     }
+}
+
+/// What is wrong with `--demands` of `show`, or with the list behind it.
+fn wrong_demands(command: Topic, words: &[String]) -> Option<WordFault<'_>>
+    ensures { IfSome result IsSo }
+{
+    match (command, words) {
+        (Topic::Show, [_, option]) if option.as_str() == "--demands" => None,
+        (Topic::Show, [_, option, list]) if option.as_str() == "--demands" => {
+            unfit_list(list.as_str())
+        }
+        (Topic::Show, _) => misplaced(command, words),
+        _ => None,
+    }
+}
+
+/// An option without a value that stands where it may not.
+fn misplaced(command: Topic, words: &[String]) -> Option<WordFault<'_>>
+    ensures { IfSome result IsSo }
+{
+    let word = flag_among(command, words)?;
+    Some(WordFault::Beside { command, word })
+}
+
+/// A word that is to be a list and is none.
+fn unfit_list(word: &str) -> Option<WordFault<'_>>
+    ensures { IfSome result IsSo }
+{
+    let role = Role::Members;
+    if fits(role, word) {
+        return None;
+    }
+    Some(WordFault::Unfit { role, word })
 }
 
 /// The first option without a value among words.

@@ -1,4 +1,4 @@
-//! The list of `part`: numbers that rise, joined by `;`.
+//! The list of `part` and of `show`: numbers that rise, joined by `;`.
 ghost use Rattle.std.specs.Prelude.{◌≡◌, ◌<◌, [], ◌∷◌, length, is_some, vec_items, option_map};
 ghost use Rattle.std.specs.Prelude.{IfOk, IfSome, MatchOption};
 ghost use Rattle.std.specs.Ordering.{nat_cmp};
@@ -71,8 +71,8 @@ fn collected(alloc: Global, list: &str) -> Result<Option<Vec<u32>>, AllocError>
     Ok(Some(members))
 }
 
-/// The numbers of a list, in order, and none where the text is no such list: `read_words` gives a `Part` only where it
-/// is one.
+/// The numbers of a list, in order, and none where the text is no such list: `read_words` gives a `Part` or
+/// `Demands` with a list only where it is one.
 ///
 /// # Errors
 /// Only where memory runs out.

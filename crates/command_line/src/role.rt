@@ -4,7 +4,7 @@ ghost use Rattle.command_line.specs.Faults as faults;
 
 use crate::list::is_list;
 use crate::topic::Topic;
-use crate::words::{budget, form, is_name, number, small, team_count, tries};
+use crate::words::{budget, form, is_name, most, number, small, team_count, tries};
 
 /// What a word behind a command, or behind an option, is to be.
 #[derive(Clone, Copy, Debug, PartialEq, Eq)]
@@ -23,7 +23,7 @@ pub enum Role {
     Teams,
     /// The seed of a made league.
     Seed,
-    /// The numbers of hard constraints.
+    /// The numbers of constraints.
     Members,
     /// The value of `--conflicts`.
     Conflicts,
@@ -65,16 +65,18 @@ pub(crate) fn fits(role: Role, word: &str) -> bool
         Role::Conflicts => budget(word).is_some(),
         Role::Tries => tries(word).is_some(),
         Role::Form => form(word).is_some(),
-        Role::Most | Role::Width => small(word).is_some(),
+        Role::Most => most(word).is_some(),
+        Role::Width => small(word).is_some(),
     }
 }
 
-/// Whether a word is an option of a command that has no value.
+/// Whether a word is an option of a command that has no value, or none that it must have.
 pub(crate) fn is_flag(command: Topic, word: &str) -> bool
     ensures { result ≡ faults.is_flag command word.now }
 {
     match command {
         Topic::Rows => word == "--objective",
+        Topic::Show => word == "--demands",
         _ => false,
     }
 }
@@ -84,7 +86,8 @@ pub(crate) fn option_role(command: Topic, word: &str) -> Option<Role>
     ensures { result ≡ faults.option_role command word.now }
 {
     match command {
-        Topic::Solve | Topic::Trial => solve_option(word),
+        Topic::Solve => start_option(word),
+        Topic::Trial => solve_option(word),
         Topic::Patterns | Topic::Explain | Topic::Prove | Topic::Resume => search_option(word),
         Topic::Rows => row_option(word),
         Topic::Show => show_option(word),
@@ -124,7 +127,17 @@ fn show_option(word: &str) -> Option<Role>
     }
 }
 
-/// What the value of an option of `solve` or `trial` is to be.
+/// What the value of an option of `solve` is to be.
+fn start_option(word: &str) -> Option<Role>
+    ensures { result ≡ faults.start_option word.now }
+{
+    match word {
+        "--from" => Some(Role::Solution),
+        _ => solve_option(word),
+    }
+}
+
+/// What the value of an option of `trial` is to be.
 fn solve_option(word: &str) -> Option<Role>
     ensures { result ≡ faults.solve_option word.now }
 {

@@ -9,10 +9,12 @@ ghost use Rattle.command_line.specs.Words.{arguments_of, asking, auditing, bound
 ghost use Rattle.command_line.specs.Words.{conflicts_in, costing, explaining, lowering};
 ghost use Rattle.command_line.specs.Words.{following, has_options, helping, is_file_name, limit_in, making, parting};
 ghost use Rattle.command_line.specs.Words.{HasTeams, number_in, patterning, plain, proving, reading, resuming, row_options, rowing, said};
-ghost use Rattle.command_line.specs.Words.{form_in, show_options, showing, small_in};
-ghost use Rattle.command_line.specs.Words.{search_options, solve_options, solving, team_count_in, tries_in, trying};
+ghost use Rattle.command_line.specs.Words.{demanding, demanding_all, demanding_some, form_in, most_in, show_options};
+ghost use Rattle.command_line.specs.Words.{showing, showing_season, small_in};
+ghost use Rattle.command_line.specs.Words.{search_options, solve_options, solving, start_options, starting};
+ghost use Rattle.command_line.specs.Words.{team_count_in, tries_in, trying};
 ghost use Rattle.command_line.specs.Words.{seconds_in, time_limit, values_of};
-ghost use Rattle.command_line.specs.Words.Command.{Circle};
+ghost use Rattle.command_line.specs.Words.Command.{Circle, Solve};
 ghost use Rattle.command_line.specs.declared.goal.Goal.TheVariants.{Accepted};
 ghost use Rattle.command_line.specs.SeenWords.{command_of};
 ghost use Rattle.command_line.specs.Standing.{once_more, standing};
@@ -42,6 +44,12 @@ pub enum Words<'a> {
         most: u32,
         width: u32,
     },
+    /// Say in words what the constraints of the league of an instance file demand: those with the numbers of a list, as
+    /// for a part, or all.
+    Demands {
+        instance: &'a str,
+        list: Option<&'a str>,
+    },
     /// Write the schedule of a solution file for a spreadsheet.
     Sheet {
         instance: &'a str,
@@ -56,6 +64,12 @@ pub enum Words<'a> {
     /// budgets.
     Solve {
         instance: &'a str,
+        budgets: Budgets,
+    },
+    /// Search such a schedule or such a log from the double round robin of a solution file.
+    SolveFrom {
+        instance: &'a str,
+        solution: &'a str,
         budgets: Budgets,
     },
     /// Search patterns that the pattern rows of the league of an instance file allow, or a log that refutes them. The
@@ -341,12 +355,40 @@ fn read_solve(words: &[String]) -> Option<Words<'_>>
     ensures reading { option_map command_of result ≡ solving (map string_bytes words.now) }
     ensures teams { IfSome result (λ command. HasTeams (command_of command)) }
 {
-    if !has_solve_options(words) {
+    if !has_start_options(words) {
         return None;
     }
     let instance = one_file(words)?;
     let budgets = budgets(words)?;
-    Some(Words::Solve { instance, budgets })
+    solve_said(words, instance, budgets)
+}
+
+/// `solve` of a file within budgets, from the season that the words name, if any.
+fn solve_said<'a>(words: &'a [String], instance: &'a str, budgets: Budgets) -> Option<Words<'a>>
+    ensures reading { option_map command_of result ≡ said (Solve instance.now budgets) (starting instance.now budgets)
+        (values_of (codes "--from") (map string_bytes words.now)) }
+    ensures teams { IfSome result (λ command. HasTeams (command_of command)) }
+{
+    match value_of(words, "--from") {
+        Standing::Never => Some(Words::Solve { instance, budgets }),
+        Standing::Once(solution) => solve_from(instance, solution, budgets),
+        Standing::Often => None,
+    }
+}
+
+/// `solve` of a file within budgets, from the season of another file.
+fn solve_from<'a>(instance: &'a str, solution: &'a str, budgets: Budgets) -> Option<Words<'a>>
+    ensures reading { option_map command_of result ≡ starting instance.now budgets solution.now }
+    ensures teams { IfSome result (λ command. HasTeams (command_of command)) }
+{
+    if !is_name(solution) {
+        return None;
+    }
+    Some(Words::SolveFrom {
+        instance,
+        solution,
+        budgets,
+    })
 }
 
 /// `patterns` over one file, with its option.
@@ -519,9 +561,62 @@ fn read_bounded(words: &[String]) -> Option<Words<'_>>
     Some(Words::Rows { instance, goal })
 }
 
-/// `show` over two files, with its options.
+/// `show`: what a league demands, or a season.
 fn read_show(words: &[String]) -> Option<Words<'_>>
     ensures reading { option_map command_of result ≡ showing (map string_bytes words.now) }
+    ensures teams { IfSome result (λ command. HasTeams (command_of command)) }
+{
+    match read_demands(words) {
+        Some(demands) => Some(demands),
+        None => read_season(words),
+    }
+}
+
+/// `show` over one file with `--demands` behind it, and a list or none behind that.
+fn read_demands(words: &[String]) -> Option<Words<'_>>
+    ensures reading { option_map command_of result ≡ demanding (map string_bytes words.now) }
+    ensures teams { IfSome result (λ command. HasTeams (command_of command)) }
+{
+    match words {
+        [file, option] if option.as_str() == "--demands" => all_demands(file.as_str()),
+        [file, option, list] if option.as_str() == "--demands" => {
+            some_demands(file.as_str(), list.as_str())
+        }
+        _ => None,
+    }
+}
+
+/// What all constraints of a file demand.
+fn all_demands(file: &str) -> Option<Words<'_>>
+    ensures reading { option_map command_of result ≡ demanding_all file.now }
+    ensures teams { IfSome result (λ command. HasTeams (command_of command)) }
+{
+    if !is_name(file) {
+        return None;
+    }
+    Some(Words::Demands {
+        instance: file,
+        list: None,
+    })
+}
+
+/// What the constraints of a file demand that have the numbers of a list.
+fn some_demands<'a>(file: &'a str, list: &'a str) -> Option<Words<'a>>
+    ensures reading { option_map command_of result ≡ demanding_some file.now list.now }
+    ensures teams { IfSome result (λ command. HasTeams (command_of command)) }
+{
+    if !is_name(file) || !is_list(list) {
+        return None;
+    }
+    Some(Words::Demands {
+        instance: file,
+        list: Some(list),
+    })
+}
+
+/// `show` over two files, with its options.
+fn read_season(words: &[String]) -> Option<Words<'_>>
+    ensures reading { option_map command_of result ≡ showing_season (map string_bytes words.now) }
     ensures teams { IfSome result (λ command. HasTeams (command_of command)) }
 {
     if !has_show_options(words) {
@@ -529,7 +624,7 @@ fn read_show(words: &[String]) -> Option<Words<'_>>
     }
     let (instance, solution) = two_files(words)?;
     let sheet = form_said(words)?;
-    let most = small_said(words, "--most", USUAL_MOST)?;
+    let most = most_said(words)?;
     let width = small_said(words, "--width", USUAL_WIDTH)?;
     if sheet {
         return Some(Words::Sheet { instance, solution });
@@ -685,6 +780,17 @@ fn small_said(words: &[String], name: &str, usual: u32) -> Option<u32>
     }
 }
 
+/// How many lines of a list `show` tells; the usual number where the words don't say it.
+fn most_said(words: &[String]) -> Option<u32>
+    ensures { result ≡ said 20 most_in (values_of (codes "--most") (map string_bytes words.now)) }
+{
+    match value_of(words, "--most") {
+        Standing::Never => Some(USUAL_MOST),
+        Standing::Once(word) => most(word),
+        Standing::Often => None,
+    }
+}
+
 /// How many tries there are where the words don't say it: with a time limit as many as it leaves time for.
 fn usual_tries(seconds: Option<u64>) -> u64
     ensures { result ≡ options.usual_tries seconds }
@@ -786,6 +892,19 @@ fn has_no_argument(words: &[String]) -> bool
 }
 
 /// Whether each option is one of `solve`, and has a value.
+fn has_start_options(words: &[String]) -> bool
+    ensures { result ≡ has_options start_options (map string_bytes words.now) }
+{
+    match words {
+        [first, _, rest @ ..] if is_option(first.as_str()) => {
+            is_start_option(first.as_str()) && has_start_options(rest)
+        }
+        [first, rest @ ..] => !is_option(first.as_str()) && has_start_options(rest),
+        [] => true,
+    }
+}
+
+/// Whether each option is one of `trial`, and has a value.
 fn has_solve_options(words: &[String]) -> bool
     ensures { result ≡ has_options solve_options (map string_bytes words.now) }
 {
@@ -845,6 +964,13 @@ fn is_show_option(word: &str) -> bool
 }
 
 /// Whether a word is the name of an option of `solve`.
+fn is_start_option(word: &str) -> bool
+    ensures { result ≡ list_any (λ name. bytes_eq word.now name) start_options }
+{
+    word == "--from" || is_solve_option(word)
+}
+
+/// Whether a word is the name of an option of `trial`.
 fn is_solve_option(word: &str) -> bool
     ensures { result ≡ list_any (λ name. bytes_eq word.now name) solve_options }
 {
@@ -891,6 +1017,16 @@ pub(crate) fn form(word: &str) -> Option<bool>
         "csv" => Some(true),
         _ => None,
     }
+}
+
+/// How many lines of a list a word asks for: a number, or `all`.
+pub(crate) fn most(word: &str) -> Option<u32>
+    ensures { result ≡ most_in word.now }
+{
+    if word == "all" {
+        return Some(u32::MAX);
+    }
+    small(word)
 }
 
 /// The number below 4,294,967,296 that a word writes.

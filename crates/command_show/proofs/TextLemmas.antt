@@ -1,9 +1,9 @@
 -- The text of a season by what was counted.
-use Rattle.std.proofs.Common.{◌≡◌, ℕ, ◌+◌, ◌↔◌, Bool, List, [], ◌∷◌, ◌++◌, map, length, ap, sym, subst, ◌∙◌, IsTrue}
-use Rattle.std.proofs.lemmas.List.FromFn.{length-map-range_with_len, map-range_with_len_more}
+use Rattle.std.proofs.Common.{◌≡◌, ℕ, ◌↔◌, Bool, List, length, ap, subst, ◌∙◌, IsTrue}
+use Rattle.std.proofs.lemmas.List.FromFn.{length-map-range_with_len}
 use Rattle.std.specs.List.Sorted.{IsPermutation}
 use Rattle.league.specs.Accepted.{IsAccepted, infeasibility, objective}
-use Rattle.league.specs.Counts.{Counts, counts_of, teams_of}
+use Rattle.league.specs.Counts.{Counts, counts_of}
 use Rattle.league.specs.Instance.{Instance}
 use Rattle.league.specs.declared.game.Game.{Game}
 use Rattle.league.specs.declared.wrongs.Wrongs.{Wrongs}

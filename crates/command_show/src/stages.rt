@@ -20,7 +20,12 @@ use robinx_read::{INSTANCE_LIMIT, ReadFault, SOLUTION_LIMIT};
 use std::alloc::Global;
 
 /// The names that an instance file gives its league.
-fn names_in(alloc: Global, name: &str, bytes: &[u8], league: &League) -> Result<Names, NoValue>
+pub(crate) fn names_in(
+    alloc: Global,
+    name: &str,
+    bytes: &[u8],
+    league: &League,
+) -> Result<Names, NoValue>
     requires { length bytes.now ≤ INSTANCE_LIMIT }
     ensures says { MatchStage result
         (λ names. names_of league.now.n (pieces bytes.now) ≡ Ok names)

@@ -21,7 +21,7 @@ use season_misses::{Told, lacks, misses};
 use std::alloc::{AllocError, Global};
 
 /// What the teams of a league of n teams are called.
-fn labels_of(alloc: Global, names: &Names, n: u16) -> Result<Vec<Label>, AllocError>
+pub(crate) fn labels_of(alloc: Global, names: &Names, n: u16) -> Result<Vec<Label>, AllocError>
     requires { IsNames n names.now }
     ensures { IfOk result (λ labels. labels.items ≡ show.labels_of n names.now) }
 {

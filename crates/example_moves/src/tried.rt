@@ -16,8 +16,8 @@ use std::alloc::{AllocError, Global};
 use std::io;
 use tally::{Sums, Tally};
 
-/// Of how many legal moves a tally weighs and keeps what is counted afresh, and keeps what it was after they were taken
-/// back.
+/// How many legal moves were tried, and for how many of them a tally weighs and keeps what is counted afresh, and is as
+/// it was once they are taken back.
 #[derive(Clone, Copy)]
 struct Compared {
     legal: u64,

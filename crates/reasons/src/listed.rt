@@ -48,7 +48,7 @@ pub(crate) fn ca2_games(
     })
 }
 
-/// Those of some games that a team plays on a side against others.
+/// The games, among some, that a team plays on a side against others.
 fn against_among(
     alloc: Global,
     games: &[Game],
@@ -148,7 +148,7 @@ pub(crate) fn break_games(
     })
 }
 
-/// Those of some games that a team plays at home up to a slot.
+/// The games, among some, that a team plays at home up to a slot.
 fn home_among(
     alloc: Global,
     games: &[Game],
@@ -178,7 +178,7 @@ pub(crate) fn home_games_to(
     home_among(alloc, season.of_team(team.0), team, slot)
 }
 
-/// Those of some games that two teams play with each other.
+/// The games, among some, that two teams play with each other.
 fn mutual_among(
     alloc: Global,
     games: &[Game],

@@ -1,5 +1,6 @@
 //! The call that the program makes: the words, the command's stages, and the answer written.
-ghost use Rattle.std.specs.Prelude.{◌≡◌, ℕ, List, Some, map, string_bytes};
+ghost use Rattle.std.specs.Prelude.{◌≡◌, ℕ, List, Some, map, option_map, string_bytes};
+ghost use Rattle.std.specs.Option.{option_copied};
 ghost use Rattle.std.specs.Io.KnownBytes.{Keeps};
 ghost use Rattle.robin_io.specs.Outside.{output_between, store_between};
 ghost use Rattle.command_line.specs.SeenWords.{command_of};
@@ -7,6 +8,7 @@ ghost use Rattle.command_line.specs.Words.{members_of, reading, HasTeams, NeedsN
 ghost use Rattle.answers.specs.SeenReply.{answer_of, Answers};
 ghost use Rattle.answers.specs.Stages.{IsWritten};
 ghost use Rattle.command_explain.specs.Parted.{parted};
+ghost use Rattle.command_show.specs.Demands.{demanded};
 ghost use Rattle.command_rows.specs.Rowed.{rowed, rows_answer};
 ghost use Rattle.robin_run.specs.Answer.{IsAnswer};
 ghost use Rattle.robin_run.specs.Commands.{KeepsPromises};
@@ -27,8 +29,8 @@ use command_patterns::patterns_file;
 use command_prove::prove_file;
 use command_resume::{audit_file, resume_file};
 use command_rows::{ReadyRows, rows_file, write_rows};
-use command_show::{Form, show};
-use command_solve::solve_file;
+use command_show::{Form, demands, show};
+use command_solve::{solve_file, solve_from_file};
 use command_validate::validate;
 use command_values::values_file;
 use robin_io::{Shelf, Sink, put_all};
@@ -49,6 +51,26 @@ fn part_of_list<S: Shelf>(
 {
     let members = members(alloc, list)?;
     part_file(alloc, shelf, instance, &members)
+}
+
+/// Says what the constraints of the league of a file demand that have the numbers of a list, or all.
+fn demands_of_list<S: Shelf>(
+    alloc: Global,
+    shelf: &mut S,
+    instance: &str,
+    list: Option<&str>,
+) -> Result<Reply, NoValue>
+    ensures answer { Answers (demanded (store_between S.Shelf shelf.old shelf.new)
+        instance.now (option_map members_of (option_copied list.entry))) result }
+    ensures contents { (n : List ℕ) → S.contents shelf.new n ≡ S.contents shelf.old n }
+{
+    match list {
+        Some(list) => {
+            let members = members(alloc, list)?;
+            demands(alloc, shelf, instance, Some(&members))
+        }
+        None => demands(alloc, shelf, instance, None),
+    }
 }
 
 /// The rows of the league of a file, ready to be written.
@@ -86,6 +108,7 @@ fn follow<S: Shelf, W: Listener>(
             most,
             width,
         } => give(show(alloc, shelf, instance, solution, Form::Text { most, width })),
+        Words::Demands { instance, list } => give(demands_of_list(alloc, shelf, instance, list)),
         Words::Sheet { instance, solution } => {
             give(show(alloc, shelf, instance, solution, Form::Csv))
         }
@@ -93,6 +116,11 @@ fn follow<S: Shelf, W: Listener>(
         Words::Solve { instance, budgets } => {
             give(solve_file(alloc, shelf, instance, budgets, watch))
         }
+        Words::SolveFrom {
+            instance,
+            solution,
+            budgets,
+        } => give(solve_from_file(alloc, shelf, instance, solution, budgets, watch)),
         Words::Patterns {
             instance,
             conflicts,

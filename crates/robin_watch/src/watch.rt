@@ -25,8 +25,8 @@ pub trait Watch {
         ensures cause { result ≡ true → may_stop self.now }
         ensures known { IfSome (stops_at self.now turns) (λ over. result ≡ over) };
 
-    /// The same, for a run that does much between two questions: a watch that looks at its clock at times alone looks
-    /// at it now.
+    /// Whether a run is to end that has made so many turns and does much between two questions: a watch that looks at
+    /// its clock only at some questions looks at it at this one.
     fn is_over_now(&self, turns: u64) -> bool
         ensures cause { result ≡ true → may_stop self.now }
         ensures known { IfSome (stops_at self.now turns) (λ over. result ≡ over) };

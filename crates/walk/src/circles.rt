@@ -26,10 +26,12 @@ use tally::league_tally;
 /// a 64th where that is more.
 const MOVES: u64 = 120_000;
 
-/// Such a walk came near to meeting the hard constraints where they cost at most so much at the end of a stretch.
+/// A walk from the circle method's season came near to meeting the hard constraints where they cost at most so much at
+/// the end of a stretch.
 const NEAR: u128 = 6;
 
-/// Such a walk was far from meeting them where they cost more than so much at the end of each stretch.
+/// A walk from the circle method's season was far from meeting the hard constraints where they cost more than so much
+/// at the end of each stretch.
 const FAR: u128 = 8;
 
 impl Walker {

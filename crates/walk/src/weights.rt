@@ -61,8 +61,8 @@ impl Weight {
         }
     }
 
-    /// Of a soft constraint its penalty; of a hard one so much for each unit of its penalty, where a penalty of 0
-    /// counts as 1, and more while it isn't met.
+    /// The weight of a soft constraint is its penalty. The weight of a hard one is so much for each unit of its
+    /// penalty, where a penalty of 0 counts as 1, and more while it isn't met.
     fn together(constraint: &Constraint, unit: u32) -> Weight {
         if !constraint.hard {
             return Weight {

@@ -1,4 +1,4 @@
-use Rattle.std.proofs.Common.{◌≡◌, List, [], ◌∷◌, ◌++◌, ℕ, map, ap, ◌∙◌, arith}
+use Rattle.std.proofs.Common.{◌≡◌, ℕ, map, ap, ◌∙◌, arith}
 use Rattle.league.specs.Counts.{teams_of}
 use Rattle.robinx_names.specs.Names.{label}
 use Rattle.robinx_names.proofs.LabelLemmas.{part_more}

@@ -1,4 +1,4 @@
-use Rattle.std.proofs.Common.{◌≡◌, ◌++◌, List, ℕ, Bool, length, map, subst, ap, sym, ◌∙◌}
+use Rattle.std.proofs.Common.{◌++◌, List, ℕ, length, map, subst, ap, sym, ◌∙◌}
 use Rattle.std.specs.List.{All}
 use Rattle.cells.specs.Table.{table_counts}
 use Rattle.league.specs.Counts.{counts_of}

@@ -1,3 +1,5 @@
+use Rattle.std.specs.Prelude.{option_map}
+use Rattle.std.specs.Option.{option_copied}
 use Rattle.robin_io.specs.Outside.{store_between}
 use Rattle.command_line.specs.Words.{members_of}
 use Rattle.command_bound.specs.Bound.{bounded}
@@ -8,8 +10,10 @@ use Rattle.command_patterns.specs.Patterns.{patterned}
 use Rattle.command_prove.specs.Prove.{proved}
 use Rattle.command_resume.specs.Audited.{audited}
 use Rattle.command_resume.specs.Resumed.{resumed}
+use Rattle.command_show.specs.Demands.{demanded}
 use Rattle.command_show.specs.Show.{shown}
 use Rattle.command_show.specs.declared.form.Form.TheVariants.{Text, Csv}
+use Rattle.command_solve.specs.From.{begun}
 use Rattle.command_solve.specs.Solve.{solved}
 use Rattle.command_make.specs.Trial.{tried}
 use Rattle.command_validate.specs.Validate.{validated}
@@ -31,6 +35,13 @@ returns-in-Show-clause-answer g c =
     (shown (store_between g.S.Shelf c.args.shelf.now c.show.new.shelf) c.in-Show.instance.now c.in-Show.solution.now (Text c.in-Show.most c.in-Show.width))
     _ _ c.give-in-Show.ensures c.show.ensures.answer)
 
+pub returns-in-Demands-clause-answer : goal.returns-in-Demands-clause-answer
+returns-in-Demands-clause-answer g c =
+    rw c.in-Demands.is
+    (given-gives
+    (demanded (store_between g.S.Shelf c.args.shelf.now c.demands_of_list.new.shelf) c.in-Demands.instance.now (option_map members_of (option_copied c.in-Demands.list)))
+    _ _ c.give-in-Demands.ensures c.demands_of_list.ensures.answer)
+
 pub returns-in-Sheet-clause-answer : goal.returns-in-Sheet-clause-answer
 returns-in-Sheet-clause-answer g c =
     rw c.in-Sheet.is
@@ -51,6 +62,13 @@ returns-in-Solve-clause-answer g c =
     (given-gives
     (solved (store_between g.S.Shelf c.args.shelf.now c.solve_file.new.shelf) c.in-Solve.instance.now c.in-Solve.budgets)
     _ _ c.give-in-Solve.ensures c.solve_file.ensures.answer)
+
+pub returns-in-SolveFrom-clause-answer : goal.returns-in-SolveFrom-clause-answer
+returns-in-SolveFrom-clause-answer g c =
+    rw c.in-SolveFrom.is
+    (given-gives
+    (begun (store_between g.S.Shelf c.args.shelf.now c.solve_from_file.new.shelf) c.in-SolveFrom.instance.now c.in-SolveFrom.solution.now c.in-SolveFrom.budgets)
+    _ _ c.give-in-SolveFrom.ensures c.solve_from_file.ensures.answer)
 
 pub returns-in-Patterns-clause-answer : goal.returns-in-Patterns-clause-answer
 returns-in-Patterns-clause-answer g c =
