@@ -1,5 +1,5 @@
 //! A descent from the games of a tally.
-ghost use Rattle.std.specs.Prelude.{◌≡◌, ◌≤◌, ◌↔◌, false, length, IfOk, IsTrue};
+ghost use Rattle.std.specs.Prelude.{◌≡◌, ◌≤◌, ◌↔◌, false, length, IfOk, IsTrue, Some};
 ghost use Rattle.std.specs.List.{All};
 ghost use Rattle.league.specs.Counts.{counts_of};
 ghost use Rattle.league.specs.Instance.{IsGame};
@@ -9,11 +9,13 @@ ghost use Rattle.cells.specs.Table.{table_counts};
 ghost use Rattle.descent.specs.Score.{IsNoWorse, score_on};
 ghost use Rattle.descent.specs.Settled.{IsSettled};
 ghost use Rattle.descent.specs.Trail.{IsTrail};
+ghost use Rattle.robin_watch.specs.Limits.{IsKeptTo};
 
 use crate::season::season_of;
 use crate::walk::Walk;
 use league::Schedule;
 use moves::MoveList;
+use robin_watch::Watch;
 use rule_core::{Rule, Steps};
 use std::alloc::{AllocError, Global};
 use std::marker::Model;
@@ -61,17 +63,19 @@ impl Descent {
 
 /// Makes moves on a tally's games, a double round robin, each of which is legal and lowers the score by the tally's
 /// rules, at most `limit` of them. After a move it goes on with the move behind it, and it ends after one whole round
-/// of all moves of which none lowers the score, or at the limit.
+/// of all moves of which none lowers the score, or at the limit, or where the watch ends it: after one round more, that
+/// says whether it is settled.
 ///
 /// # Errors
 /// Only where memory runs out. Then the moves made so far stay made: the tally has a double round robin that isn't
 /// worse than at the start.
-pub fn descend<R: Rule<L>, L>(
+pub fn descend<R: Rule<L>, L, W: Watch>(
     alloc: Global,
     phased: bool,
     tally: &mut Tally<R>,
     limit: u64,
     steps: &mut Steps<L>,
+    watch: &W,
 ) -> Result<Descent, AllocError>
     requires round_robin { IsRoundRobin tally.old.table.n phased (table_counts tally.old.table) }
 
@@ -93,14 +97,18 @@ pub fn descend<R: Rule<L>, L>(
     ensures few { IfOk result (λ descent. length descent.trail ≤ limit) }
 
     // The descent is settled exactly where no legal move of any kind lowers the score, and not settled only at the
-    // limit.
+    // limit, or where the watch may end it.
     ensures settled { IfOk result (λ descent. IsTrue descent.settled ↔ IsSettled tally.old.table.n phased
         (score_on R.Entries tally.old.weights) (table_counts tally.new.table)) }
-    ensures spent { IfOk result (λ descent. descent.settled ≡ false → length descent.trail ≡ limit) }
+    ensures spent { IfOk result (λ descent. descent.settled ≡ false
+        → IsKeptTo (Some limit) (W.may_stop watch.now) (Some (length descent.trail))) }
+
+    // Where it may make a move and a move lowers the score, it makes one.
+    ensures begun { 1 ≤ limit → IfOk result (λ descent. descent.settled ≡ false → 1 ≤ length descent.trail) }
 {
     let first = season_of(alloc, phased, tally.cells())?;
     let mut walk = Walk::new(alloc, tally.cells().n(), phased, &first)?;
-    let settled = walk.go_down(tally, limit, steps)?;
+    let settled = walk.go_down(tally, limit, steps, watch)?;
     Ok(Descent {
         first,
         trail: walk.into_trail(),

@@ -1,5 +1,5 @@
 //! A walk over all moves, which goes on from where it stands. It is hill climbing by first improvement.
-ghost use Rattle.std.specs.Prelude.{◌≡◌, ◌<◌, ◌≤◌, ◌↔◌, ◌++◌, [], ◌∷◌, false, length, MatchOption, IfOk, IfSome, IsTrue};
+ghost use Rattle.std.specs.Prelude.{◌≡◌, ◌<◌, ◌≤◌, ◌↔◌, ◌++◌, [], ◌∷◌, false, length, MatchOption, IfOk, IfSome, IsTrue, Some};
 ghost use Rattle.std.specs.List.{All};
 ghost use Rattle.league.specs.Counts.{counts_of};
 ghost use Rattle.league.specs.Instance.{IsGame, IsTeamCount};
@@ -10,10 +10,12 @@ ghost use Rattle.descent.specs.Score.{score_on};
 ghost use Rattle.descent.specs.Settled.{IsLowering, IsSettled};
 ghost use Rattle.descent.specs.Trail.{IsTrail};
 ghost use Rattle.descent.specs.Walks.{IsFullEdit, IsWalkOn, KeepsGames};
+ghost use Rattle.robin_watch.specs.Limits.{IsKeptTo};
 
 use crate::find::{all_moves, next_lowering};
 use league::Schedule;
 use moves::{Board, Edit, MoveList, Swap};
+use robin_watch::Watch;
 use rule_core::{Rule, Steps};
 use std::alloc::{AllocError, Global};
 use tally::Tally;
@@ -55,15 +57,17 @@ impl Walk {
         })
     }
 
-    /// Makes moves that lower the score of a tally's games, at most so many, and says whether no further one does.
+    /// Makes moves that lower the score of a tally's games, at most so many, until the watch ends it, and says whether
+    /// no further one does.
     ///
     /// # Errors
     /// Only where memory runs out: the moves made so far stay made.
-    pub(crate) fn go_down<R: Rule<L>, L>(
+    pub(crate) fn go_down<R: Rule<L>, L, W: Watch>(
         &mut self,
         tally: &mut Tally<R>,
         limit: u64,
         steps: &mut Steps<L>,
+        watch: &W,
     ) -> Result<bool, AllocError>
         requires walk { IsWalkOn tally.old.table.n (table_counts tally.old.table) self.old }
         requires start { self.old.trail.list ≡ [] }
@@ -74,9 +78,15 @@ impl Walk {
         ensures few { length self.new.trail.list ≤ limit }
         ensures settled { IfOk result (λ settled. IsTrue settled ↔ IsSettled tally.old.table.n self.old.board.phased
             (score_on R.Entries tally.old.weights) (table_counts tally.new.table)) }
-        ensures spent { IfOk result (λ settled. settled ≡ false → length self.new.trail.list ≡ limit) }
+        ensures spent { IfOk result (λ settled. settled ≡ false
+            → IsKeptTo (Some limit) (W.may_stop watch.now) (Some (length self.new.trail.list))) }
+        ensures begun { 1 ≤ limit
+            → IfOk result (λ settled. settled ≡ false → 1 ≤ length self.new.trail.list) }
     {
-        'down: for _made in 0..limit {
+        'down: for made in 0..limit {
+            if made > 0 && watch.is_over_now(made) {
+                return Ok(self.find(tally, steps).is_none());
+            }
             match self.find(tally, steps) {
                 None => return Ok(true),
                 Some(step) => {

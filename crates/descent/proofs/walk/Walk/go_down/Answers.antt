@@ -7,7 +7,7 @@ use Rattle.descent.proofs.walk.Walk.go_down.Goals as goal
 pub returns-in-None-clause-settled : goal.returns-in-None-clause-settled
 returns-in-None-clause-settled g c = (
   λ said. settled-down g.R.Entries c.args.tally.now.table.n c.args.self.now.board.phased c.args.tally.now.weights
-      (table_counts c.args.tally.now.table) c.down.self c.down.tally c.find.new.tally c.down._made c.down.invariant
+      (table_counts c.args.tally.now.table) c.down.self c.down.tally c.find.new.tally c.down.made c.down.invariant
       c.find.ensures.keeps c.in-None.ensures.found,
   λ settled. refl,
 )
@@ -24,13 +24,13 @@ pub down-preserved : goal.down-preserved
 down-preserved g c =
     IsDown-more g.R.Entries c.args.tally.now.table.n c.args.self.now.board.phased c.args.tally.now.weights
     (table_counts c.args.tally.now.table) c.find.new.self c.make.new.self c.find.new.tally c.make.new.tally
-    c.reserve.new.self c.in-Some.step c.down._made
+    c.reserve.new.self c.in-Some.step c.down.made
     (IsDown-kept g.R.Entries c.args.tally.now.table.n c.args.self.now.board.phased c.args.tally.now.weights
-    (table_counts c.args.tally.now.table) c.down.self c.find.new.self c.down.tally c.find.new.tally c.down._made
+    (table_counts c.args.tally.now.table) c.down.self c.find.new.self c.down.tally c.find.new.tally c.down.made
     c.down.invariant c.find.ensures.keeps c.find.ensures.walk c.find.ensures.phased c.find.ensures.trail)
     c.reserve.ensures.list
     (lowering-down g.R.Entries c.args.tally.now.table.n c.args.self.now.board.phased c.args.tally.now.weights
-    (table_counts c.args.tally.now.table) c.down.self c.down.tally c.find.new.tally c.down._made c.in-Some.step
+    (table_counts c.args.tally.now.table) c.down.self c.down.tally c.find.new.tally c.down.made c.in-Some.step
     c.down.invariant c.find.ensures.keeps c.in-Some.ensures.found)
     c.make.ensures.weights c.make.ensures.teams c.make.ensures.counts c.make.ensures.walk c.make.ensures.phased
     c.make.ensures.trail
@@ -40,5 +40,5 @@ returns-clause-settled g c =
     settled-read c.args.tally.now.table.n c.args.self.now.board.phased (score_on g.R.Entries c.args.tally.now.weights)
     (table_counts c.find-2.new.tally.table) c.find-2.result c.is_none.result c.is_none.ensures
     (found-down g.R.Entries c.args.tally.now.table.n c.args.self.now.board.phased c.args.tally.now.weights
-    (table_counts c.args.tally.now.table) c.down.self c.down.tally c.find-2.new.tally c.down._made c.find-2.result
+    (table_counts c.args.tally.now.table) c.down.self c.down.tally c.find-2.new.tally c.down.made c.find-2.result
     c.down.invariant c.find-2.ensures.keeps c.find-2.ensures.found)
