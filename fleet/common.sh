@@ -26,9 +26,9 @@ processors() {
     nproc 2>/dev/null || getconf _NPROCESSORS_ONLN
 }
 
-# read_words WORD ..: sets instance, dir, first, last, moves, conflicts, jobs, minutes and wait.
+# read_words WORD ..: sets instance, dir, first, last, moves, conflicts, jobs, minutes, wait, seconds and keeps.
 read_words() {
-    instance='' dir='' first=0 last=9 moves=10000 conflicts=2000 jobs='' minutes=60 wait=''
+    instance='' dir='' first=0 last=9 moves=10000 conflicts=2000 jobs='' minutes=60 wait='' seconds=3600 keeps=4
     while [ $# -gt 0 ]; do
         case $1 in
         --seeds)
@@ -60,6 +60,16 @@ read_words() {
         --wait)
             [ -n "$takes_minutes" ] || fail 2 "usage: $usage"
             wait=--wait
+            ;;
+        --seconds)
+            [ -n "${takes_rounds-}" ] && is_number "${2-}" || fail 2 "usage: $usage"
+            seconds=$2
+            shift
+            ;;
+        --keep)
+            [ -n "${takes_rounds-}" ] && is_number "${2-}" && [ "${2-}" -gt 0 ] || fail 2 "usage: $usage"
+            keeps=$2
+            shift
             ;;
         -*) fail 2 "usage: $usage" ;;
         *)

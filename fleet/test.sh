@@ -410,6 +410,37 @@ under_slurm() {
     echo 0 >"$folder/delay"
 }
 
+# no_dearer ROUND: whether each season of the round costs no more than the one at which it began.
+no_dearer() {
+    set -- "$1" "$1"/starts/*.xml
+    for file in "$1"/[0-9]*.xml; do
+        seed=$(basename "$file" .xml)
+        [ "$(objective_of "$1" "$file")" -le "$(objective_of "$1" "$1/starts/$((seed % ($# - 1))).xml")" ] || return 1
+    done
+}
+
+objective_of() {
+    "$FLEET_PROGRAM" validate "$1/league.xml" "$2" | sed -n 's/^objective //p'
+}
+
+# Rounds, of which each begins at the best seasons of the one before it.
+rounds() {
+    dir="$folder/rounds aren't one word"
+    rounds_of() {
+        "$here/next.sh" "$league" "$dir" --moves 100 --seeds 0-3 --jobs 2 --keep 2 "$@"
+    }
+    : >"$folder/calls"
+    expect "rounds: for some seconds" gives 0 rounds_of --seconds 8
+    expect "rounds: a second one began at a season of the first" \
+        [ "$(objective_of "$dir/1" "$dir/2/starts/0.xml")" = "$(least "$dir/1")" ]
+    expect "rounds: with other seeds" [ "$(calls 4) $(calls 0)" = "1 1" ]
+    expect "rounds: no season costs more than its start" no_dearer "$dir/2"
+    expect "rounds: the best costs no more than the first round's" [ "$(objective_of "$dir" "$dir/best.xml")" -le "$(least "$dir/1")" ]
+    : >"$folder/calls"
+    expect "rounds: the same command goes on" gives 0 rounds_of --seconds 3
+    expect "rounds: and not from the beginning" [ "$(calls 0)" -eq 0 ]
+}
+
 install_missing
 "$FLEET_PROGRAM" --version || exit 1
 make_program
@@ -427,6 +458,7 @@ PATH=$folder/bin:$PATH
 on_one_machine xargs
 PATH=$before
 broken_answers
+rounds
 full_disk
 if start_slurm >"$folder/said" 2>&1; then
     under_slurm

@@ -26,11 +26,14 @@ by_parallel() {
     trap - HUP INT TERM
 }
 
-# A status of 255 lets xargs begin no further one. The tries that run go on to their end.
+# A status of 255 lets xargs begin no further one, and so does a signal. The tries that run go on to their end.
 by_xargs() {
+    trap '[ -z "${!:-}" ] || { kill "$!" 2>/dev/null; wait "$!"; }; exit 143' HUP INT TERM
     # The words are expanded by the shells that xargs starts.
     # shellcheck disable=SC2016
-    missing | xargs -n 1 -P "$jobs" sh -c '"$FLEET_TRY" "$FLEET_DIR" "$1"; [ ! -e "$FLEET_DIR/refutation.log" ] || exit 255' try
+    missing | xargs -n 1 -P "$jobs" sh -c '[ $# -eq 0 ] || "$FLEET_TRY" "$FLEET_DIR" "$1"; [ ! -e "$FLEET_DIR/refutation.log" ] || exit 255' try &
+    wait "$!"
+    trap - HUP INT TERM
 }
 
 export ROBIN="$robin" FLEET_TRY="$here/try.sh" FLEET_DIR="$dir"

@@ -21,9 +21,12 @@ trap 'exit 130' INT
 trap 'exit 143' TERM
 
 read -r words <"$dir/words" || fail 6 "$dir has no words"
+# Where the folder has seasons to begin at, they are taken in turn: starts/0.xml, starts/1.xml and so on.
+set -- "$dir"/starts/*.xml
+if [ -e "$1" ]; then set -- --from "$dir/starts/$((seed % $#)).xml"; else set --; fi
 # The words are numbers and options.
 # shellcheck disable=SC2086
-"$robin" solve "$dir/league.xml" $words --seed "$seed" >"$found" </dev/null
+"$robin" solve "$dir/league.xml" $words "$@" --seed "$seed" >"$found" </dev/null
 status=$?
 case $status in
 0) answer=$dir/$seed.xml ;;

@@ -8,7 +8,7 @@ _robin() {
     case ${COMP_WORDS[1]} in
         validate) options="" ;;
         show) options="--form --most --width" ;;
-        solve) options="--conflicts --moves --patterns --seconds --seed --tries" ;;
+        solve) options="--conflicts --from --moves --patterns --seconds --seed --tries" ;;
         patterns) options="--conflicts" ;;
         explain) options="--conflicts" ;;
         part) options="" ;;

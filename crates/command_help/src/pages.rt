@@ -1,7 +1,7 @@
 //! The text of help, a page for each command, and the version: the one table of them.
 
 /// What `--version` prints.
-pub const VERSION: &str = "robin 1.3.0\n";
+pub const VERSION: &str = "robin 1.4.0\n";
 
 /// What `--help` prints: all commands with their words, the options and the statuses.
 pub const ALL: &str = "\
@@ -42,6 +42,7 @@ Options stand before, between or behind the words, each once at most:
   --patterns N       clauses of a search for patterns (500); of solve and trial
   --seed N           what random moves are drawn by (0); of solve and trial
   --seconds N        a time limit of N seconds; of solve and trial
+  --from SOLUTION    a season to begin at; of solve
   --bound B          seasons that cost at most B; of rows
   --objective        a season that costs least; of rows, and not with --bound
   --form text|csv    a text, or values for a spreadsheet (text); of show
@@ -128,15 +129,20 @@ Options stand before or behind the file, each once at most:
   --patterns N   where the league doesn't accept the season of circle, a search
                  for patterns comes first, which learns at most N clauses (500)
   --seed N       random moves are drawn by N (0)
+  --from SOLUTION
+                 each try walks from the season of this file; if the league
+                 accepts that, the season that is written costs no more
 N is a number from 0 to 18446744073709551615, where nothing else is said.
 Ctrl-C ends it as a time limit does, a second one nothing more; Ctrl-\\ ends it
 at once, and nothing is written.
 
 Status:  0  a season is found, and written with its objective
-         3  the file is refused, or its league is too large
+         1  the season of --from isn't a double round robin of the league, and
+            is judged as by validate
+         3  a file is refused, or the league is too large
          4  there is no season: the log proves it
          5  a budget is spent: the log says what was learnt
-         6  the file can't be read
+         6  a file can't be read
          7  the text can't be written
          8  memory ran out
 

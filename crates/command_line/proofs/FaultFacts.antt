@@ -10,7 +10,9 @@ pub option_role-some : (option_role topic.Solve (codes "--seed") ≡ Some role.D
     × (option_role topic.Explain (codes "--conflicts") ≡ Some role.Conflicts)
     × (option_role topic.Prove (codes "--moves") ≡ None)
     × (option_role topic.Check (codes "--conflicts") ≡ None)
-option_role-some = (refl, refl, refl, refl, refl, refl)
+    × (option_role topic.Solve (codes "--from") ≡ Some role.Solution)
+    × (option_role topic.Trial (codes "--from") ≡ None)
+option_role-some = (refl, refl, refl, refl, refl, refl, refl, refl)
 
 pub fits-some : (fits role.Teams (codes "8") ≡ true)
     × (fits role.Teams (codes "7") ≡ false)

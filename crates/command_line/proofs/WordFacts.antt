@@ -9,7 +9,8 @@ use Rattle.command_line.specs.Words.{files_and_number, members_in, members_of, n
 use Rattle.command_line.specs.Words.{one_number, reading, rising, said, two_files}
 use Rattle.command_line.specs.Words.{team_count_in, teams_and_seed, time_limit, tries_in, values_of, words_of, NeedsNoFile}
 use Rattle.command_line.specs.Words.Command.{Audit, Bound, Check, Circle, Explain, Make, Part, Patterns, Prove}
-use Rattle.command_line.specs.Words.Command.{Help, Resume, Rows, Sheet, Show, Solve, Trial, Validate, Values, Version}
+use Rattle.command_line.specs.Words.Command.{Help, Resume, Rows, Sheet, Show, Solve, SolveFrom, Trial, Validate, Values}
+use Rattle.command_line.specs.Words.Command.{Version}
 
 -- a number: 0 itself, no leading zero, no sign, no blank, at most 2 ^ 64 - 1
 pub number_in-some : (number_in (codes "0") ≡ Some 0) × (number_in (codes "10") ≡ Some 10) × (number_in (codes "18446744073709551615") ≡ Some 18446744073709551615)
@@ -83,6 +84,17 @@ solve-patterns = (refl, refl, refl, refl, refl)
 
 pub solve-all : reading (codes "solve" ∷ codes "--seed" ∷ codes "5" ∷ codes "--tries" ∷ codes "100" ∷ codes "a" ∷ codes "--moves" ∷ codes "1" ∷ codes "--conflicts" ∷ codes "0" ∷ []) ≡ Some (Solve (codes "a") (record { conflicts = Some 0; moves = 1; tries = 100; patterns = 500; seed = 5 }))
 solve-all = refl
+
+-- `--from` names a season's file, once, for `solve` alone
+pub solve-from : (reading (codes "solve" ∷ codes "a" ∷ codes "--from" ∷ codes "b" ∷ [])
+    ≡ Some (SolveFrom (codes "a") (codes "b") usual))
+    × (reading (codes "solve" ∷ codes "--from" ∷ codes "b" ∷ codes "--moves" ∷ codes "0" ∷ codes "a" ∷ [])
+    ≡ Some (SolveFrom (codes "a") (codes "b") (record usual { moves = 0 })))
+    × (reading (codes "solve" ∷ codes "a" ∷ codes "--from" ∷ codes "-b" ∷ []) ≡ None)
+    × (reading (codes "solve" ∷ codes "a" ∷ codes "--from" ∷ []) ≡ None)
+    × (reading (codes "solve" ∷ codes "a" ∷ codes "--from" ∷ codes "b" ∷ codes "--from" ∷ codes "b" ∷ []) ≡ None)
+    × (reading (codes "trial" ∷ codes "8" ∷ codes "7" ∷ codes "--from" ∷ codes "b" ∷ []) ≡ None)
+solve-from = (refl, refl, refl, refl, refl, refl)
 
 -- a time limit changes nothing but how many tries are usual
 pub solve-seconds : (reading (codes "solve" ∷ codes "a" ∷ codes "--seconds" ∷ codes "5" ∷ [])

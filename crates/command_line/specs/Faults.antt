@@ -48,6 +48,10 @@ solve_option word =
     else (if bytes_eq word (codes "--seed") then Some Draws
     else (if bytes_eq word (codes "--seconds") then Some Seconds else None)))))
 
+-- of the options of `solve`: those of `trial`, and the season to begin with
+abbrev pub start_option : List ℕ → Option Role
+start_option word = if bytes_eq word (codes "--from") then Some Solution else solve_option word
+
 -- of the option of `rows`
 abbrev pub row_option : List ℕ → Option Role
 row_option word = if bytes_eq word (codes "--bound") then Some Bound else None
@@ -61,7 +65,7 @@ show_option word =
 
 -- what the value of an option of a command is to be, where the command has this option with a value
 abbrev pub option_role : Topic → List ℕ → Option Role
-option_role topic.Solve word = solve_option word
+option_role topic.Solve word = start_option word
 option_role topic.Trial word = solve_option word
 option_role topic.Patterns word = search_option word
 option_role topic.Explain word = search_option word

@@ -1,6 +1,6 @@
 -- What a contract sees of a command.
 use Rattle.command_line.specs.Words.{Command, members_of}
-use Rattle.command_line.specs.Words.Command.{Validate, Show, Sheet, Check, Solve, Patterns, Explain, Part, Prove}
+use Rattle.command_line.specs.Words.Command.{Validate, Show, Sheet, Check, Solve, SolveFrom, Patterns, Explain, Part, Prove}
 use Rattle.command_line.specs.Words.Command.{Bound, Resume, Audit, Rows, Values, Circle, Make, Trial, Help, Version}
 use Rattle.command_line.specs.declared.words.Words.{Words}
 use Rattle.command_line.specs.declared.words.Words.TheVariants as words
@@ -12,6 +12,7 @@ command_of (words.Show instance solution most width) = Show instance.now solutio
 command_of (words.Sheet instance solution) = Sheet instance.now solution.now
 command_of (words.Check instance log) = Check instance.now log.now
 command_of (words.Solve instance budgets) = Solve instance.now budgets
+command_of (words.SolveFrom instance solution budgets) = SolveFrom instance.now solution.now budgets
 command_of (words.Patterns instance conflicts) = Patterns instance.now conflicts
 command_of (words.Explain instance conflicts) = Explain instance.now conflicts
 command_of (words.Part instance list) = Part instance.now (members_of list.now)

@@ -21,6 +21,7 @@ pub data Command : Type 0 where
   Sheet : (instance solution : List ℕ) → Command
   Check : (instance log : List ℕ) → Command
   Solve : (instance : List ℕ) → (budgets : Budgets) → Command
+  SolveFrom : (instance solution : List ℕ) → (budgets : Budgets) → Command
   Patterns : (instance : List ℕ) → (conflicts : Option ℕ) → Command
   Explain : (instance : List ℕ) → (conflicts : Option ℕ) → Command
   Part : (instance members : List ℕ) → Command
@@ -173,7 +174,7 @@ budgets_in words = do
   seed ← said 0 number_in (values_of (codes "--seed") words)
   Some (record { conflicts = conflicts; moves = moves; tries = tries; patterns = patterns; seed = seed })
 
--- the names of options: of those that say how far a search goes, and how far `solve` goes
+-- the names of options: of those that say how far a search goes, how far `solve` and `trial` go, and of all of `solve`
 abbrev pub search_options : List (List ℕ)
 search_options = codes "--conflicts" ∷ []
 
@@ -182,11 +183,20 @@ solve_options =
     codes "--conflicts" ∷ codes "--moves" ∷ codes "--tries" ∷ codes "--patterns" ∷ codes "--seed"
     ∷ codes "--seconds" ∷ []
 
+abbrev pub start_options : List (List ℕ)
+start_options = codes "--from" ∷ solve_options
+
+-- `solve` of a file from the season of another file
+abbrev pub starting : List ℕ → Budgets → List ℕ → Option Command
+starting file budgets start = if is_file_name start then Some (SolveFrom file start budgets) else None
+
 -- `solve` over one file, with options before, between and behind
 abbrev pub solving : List (List ℕ) → Option Command
 solving words =
-    if has_options solve_options words
-    then option_and_then (λ file. option_map (Solve file) (budgets_in words)) (one_file (arguments_of words))
+    if has_options start_options words
+    then option_and_then (λ file. option_and_then (λ budgets.
+    said (Solve file budgets) (starting file budgets) (values_of (codes "--from") words)) (budgets_in words))
+    (one_file (arguments_of words))
     else None
 
 -- a command over one file, with how many clauses a search may learn said before or behind it
@@ -284,7 +294,7 @@ lowering _ = None
 abbrev pub rowing : List (List ℕ) → Option Command
 rowing words = option_or (lowering words) (bounding words)
 
--- `trial` with a number of teams, a seed and the options of `solve`
+-- `trial` with a number of teams, a seed and its options
 abbrev pub trying : List (List ℕ) → Option Command
 trying words =
     if has_options solve_options words
@@ -396,6 +406,7 @@ HasTeams (Show instance solution most width) = Unit {0}
 HasTeams (Sheet instance solution) = Unit {0}
 HasTeams (Check instance log) = Unit {0}
 HasTeams (Solve instance budgets) = Unit {0}
+HasTeams (SolveFrom instance solution budgets) = Unit {0}
 HasTeams (Patterns instance conflicts) = Unit {0}
 HasTeams (Explain instance conflicts) = Unit {0}
 HasTeams (Part instance members) = Unit {0}
@@ -425,6 +436,7 @@ NeedsNoFile (Some (Show instance solution most width)) = ⊥
 NeedsNoFile (Some (Sheet instance solution)) = ⊥
 NeedsNoFile (Some (Check instance log)) = ⊥
 NeedsNoFile (Some (Solve instance budgets)) = ⊥
+NeedsNoFile (Some (SolveFrom instance solution budgets)) = ⊥
 NeedsNoFile (Some (Patterns instance conflicts)) = ⊥
 NeedsNoFile (Some (Explain instance conflicts)) = ⊥
 NeedsNoFile (Some (Part instance members)) = ⊥

@@ -84,7 +84,8 @@ pub(crate) fn option_role(command: Topic, word: &str) -> Option<Role>
     ensures { result ≡ faults.option_role command word.now }
 {
     match command {
-        Topic::Solve | Topic::Trial => solve_option(word),
+        Topic::Solve => start_option(word),
+        Topic::Trial => solve_option(word),
         Topic::Patterns | Topic::Explain | Topic::Prove | Topic::Resume => search_option(word),
         Topic::Rows => row_option(word),
         Topic::Show => show_option(word),
@@ -124,7 +125,17 @@ fn show_option(word: &str) -> Option<Role>
     }
 }
 
-/// What the value of an option of `solve` or `trial` is to be.
+/// What the value of an option of `solve` is to be.
+fn start_option(word: &str) -> Option<Role>
+    ensures { result ≡ faults.start_option word.now }
+{
+    match word {
+        "--from" => Some(Role::Solution),
+        _ => solve_option(word),
+    }
+}
+
+/// What the value of an option of `trial` is to be.
 fn solve_option(word: &str) -> Option<Role>
     ensures { result ≡ faults.solve_option word.now }
 {

@@ -10,9 +10,10 @@ ghost use Rattle.command_line.specs.Words.{conflicts_in, costing, explaining, lo
 ghost use Rattle.command_line.specs.Words.{following, has_options, helping, is_file_name, limit_in, making, parting};
 ghost use Rattle.command_line.specs.Words.{HasTeams, number_in, patterning, plain, proving, reading, resuming, row_options, rowing, said};
 ghost use Rattle.command_line.specs.Words.{form_in, show_options, showing, small_in};
-ghost use Rattle.command_line.specs.Words.{search_options, solve_options, solving, team_count_in, tries_in, trying};
+ghost use Rattle.command_line.specs.Words.{search_options, solve_options, solving, start_options, starting};
+ghost use Rattle.command_line.specs.Words.{team_count_in, tries_in, trying};
 ghost use Rattle.command_line.specs.Words.{seconds_in, time_limit, values_of};
-ghost use Rattle.command_line.specs.Words.Command.{Circle};
+ghost use Rattle.command_line.specs.Words.Command.{Circle, Solve};
 ghost use Rattle.command_line.specs.declared.goal.Goal.TheVariants.{Accepted};
 ghost use Rattle.command_line.specs.SeenWords.{command_of};
 ghost use Rattle.command_line.specs.Standing.{once_more, standing};
@@ -56,6 +57,12 @@ pub enum Words<'a> {
     /// budgets.
     Solve {
         instance: &'a str,
+        budgets: Budgets,
+    },
+    /// Search such a schedule or such a log from the double round robin of a solution file.
+    SolveFrom {
+        instance: &'a str,
+        solution: &'a str,
         budgets: Budgets,
     },
     /// Search patterns that the pattern rows of the league of an instance file allow, or a log that refutes them. The
@@ -341,12 +348,40 @@ fn read_solve(words: &[String]) -> Option<Words<'_>>
     ensures reading { option_map command_of result ≡ solving (map string_bytes words.now) }
     ensures teams { IfSome result (λ command. HasTeams (command_of command)) }
 {
-    if !has_solve_options(words) {
+    if !has_start_options(words) {
         return None;
     }
     let instance = one_file(words)?;
     let budgets = budgets(words)?;
-    Some(Words::Solve { instance, budgets })
+    solve_said(words, instance, budgets)
+}
+
+/// `solve` of a file within budgets, from the season that the words name, if any.
+fn solve_said<'a>(words: &'a [String], instance: &'a str, budgets: Budgets) -> Option<Words<'a>>
+    ensures reading { option_map command_of result ≡ said (Solve instance.now budgets) (starting instance.now budgets)
+        (values_of (codes "--from") (map string_bytes words.now)) }
+    ensures teams { IfSome result (λ command. HasTeams (command_of command)) }
+{
+    match value_of(words, "--from") {
+        Standing::Never => Some(Words::Solve { instance, budgets }),
+        Standing::Once(solution) => solve_from(instance, solution, budgets),
+        Standing::Often => None,
+    }
+}
+
+/// `solve` of a file within budgets, from the season of another file.
+fn solve_from<'a>(instance: &'a str, solution: &'a str, budgets: Budgets) -> Option<Words<'a>>
+    ensures reading { option_map command_of result ≡ starting instance.now budgets solution.now }
+    ensures teams { IfSome result (λ command. HasTeams (command_of command)) }
+{
+    if !is_name(solution) {
+        return None;
+    }
+    Some(Words::SolveFrom {
+        instance,
+        solution,
+        budgets,
+    })
 }
 
 /// `patterns` over one file, with its option.
@@ -786,6 +821,19 @@ fn has_no_argument(words: &[String]) -> bool
 }
 
 /// Whether each option is one of `solve`, and has a value.
+fn has_start_options(words: &[String]) -> bool
+    ensures { result ≡ has_options start_options (map string_bytes words.now) }
+{
+    match words {
+        [first, _, rest @ ..] if is_option(first.as_str()) => {
+            is_start_option(first.as_str()) && has_start_options(rest)
+        }
+        [first, rest @ ..] => !is_option(first.as_str()) && has_start_options(rest),
+        [] => true,
+    }
+}
+
+/// Whether each option is one of `trial`, and has a value.
 fn has_solve_options(words: &[String]) -> bool
     ensures { result ≡ has_options solve_options (map string_bytes words.now) }
 {
@@ -845,6 +893,13 @@ fn is_show_option(word: &str) -> bool
 }
 
 /// Whether a word is the name of an option of `solve`.
+fn is_start_option(word: &str) -> bool
+    ensures { result ≡ list_any (λ name. bytes_eq word.now name) start_options }
+{
+    word == "--from" || is_solve_option(word)
+}
+
+/// Whether a word is the name of an option of `trial`.
 fn is_solve_option(word: &str) -> bool
     ensures { result ≡ list_any (λ name. bytes_eq word.now name) solve_options }
 {

@@ -28,7 +28,7 @@ solved-well_formed store instance budgets league answer good works given =
     (λ bytes. says (codes "instance") (instance_of (pieces bytes)) (λ l. encodes l (IsFound l budgets))) answer
     good.bytes good.known good.within (first-works store instance [] works) given))
 
-found-refuted : (league : Instance) (budgets : Budgets) (rows : List Row) (answer : Answer) → answer.status ≡ Refuted → IsFound league budgets rows answer → NoneAccepted league
+pub found-refuted : (league : Instance) (budgets : Budgets) (rows : List Row) (answer : Answer) → answer.status ≡ Refuted → IsFound league budgets rows answer → NoneAccepted league
 found-refuted league budgets rows answer ended found =
     elim found.found [
       | inl schedule ↦ let same : Yes ≡ Refuted = sym schedule.status ∙ ended in absurd (cc)

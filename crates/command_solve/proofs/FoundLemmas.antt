@@ -1,5 +1,5 @@
 -- What is found of a league, answered.
-use Rattle.std.proofs.Common.{◌≡◌, ℕ, ◌++◌, true, List, Some, Result, Ok, Err, ap, inl, inr, ◌∙◌}
+use Rattle.std.proofs.Common.{◌≡◌, ℕ, ◌≤◌, ◌++◌, true, List, Some, Result, Ok, Err, arith, ap, inl, inr, ◌∙◌}
 use Rattle.std.specs.Prelude.{IfOk}
 use Rattle.budgets.specs.declared.budgets.Budgets.{Budgets}
 use Rattle.league.specs.Accepted as costs
@@ -27,6 +27,7 @@ use Rattle.solve.proofs.LowerLemmas.{IsDescent-climbs, IsDescent-settles}
 use Rattle.descent.specs.Descended.{Descended}
 use Rattle.venue_counts.specs.VenueCounts.{are_crowded, are_short}
 use Rattle.break_counts.specs.BreakCounts.{are_few}
+use Rattle.command_solve.specs.From.{IsScheduleWithin}
 use Rattle.command_solve.specs.Solve.{IsFound, IsSchedule, descent_text}
 use Rattle.command_solve.proofs.ReadingLemmas.{schedule-reads_back}
 
@@ -132,6 +133,20 @@ replied-schedule league budgets games objective descent (Ok reply) teams schedul
     text
 replied-schedule league budgets games objective descent (Err error) teams schedule not_short not_crowded enough status text =
     tt
+
+pub replied-within : {E : Type 0} (league : Instance) (budgets : Budgets) (most : ℕ) (games : List Game)
+    (objective : ℕ) (descent : Descended) (result : Result Reply E) → IsTeamCount league.n
+    → solutions.IsSchedule league budgets.moves games objective descent → objective ≤ most
+    → IfOk result (λ reply. (answer_of reply).status ≡ Yes)
+    → IfOk result (λ reply. (answer_of reply).text
+    ≡ solution_text games (Some (0, objective))
+    ++ descent_text (costs.objective league (counts_of descent.first)) descent)
+    → IfOk result (λ reply. IsScheduleWithin league budgets.moves most (answer_of reply))
+replied-within league budgets most games objective descent (Ok reply) teams schedule at_most status text = record {
+  schedule = schedule-told league budgets.moves games objective descent (answer_of reply) teams schedule status text;
+  within = omega (arith, schedule.cost, at_most);
+}
+replied-within league budgets most games objective descent (Err error) teams schedule at_most status text = tt
 
 pub replied-refuted : {E : Type 0} (league : Instance) (budgets : Budgets) (steps : List Step)
     (result : Result Reply E) → RefutesLeague league steps

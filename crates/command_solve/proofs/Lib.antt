@@ -5,5 +5,6 @@ pub mod FoundLemmas
 mod StageLemmas
 -- What follows from an answer:
 pub mod AnswerLemmas
+pub mod FromLemmas
 -- Worked examples, so that a wrong definition does not check:
 pub mod SolveFacts

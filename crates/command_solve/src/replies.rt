@@ -1,5 +1,5 @@
 //! The answers of `solve`.
-ghost use Rattle.std.specs.Prelude.{true, ◌≡◌, ◌≤◌, ◌++◌, length, IfOk, Ok, Some};
+ghost use Rattle.std.specs.Prelude.{true, ◌≡◌, ℕ, ◌≤◌, ◌++◌, length, IfOk, Ok, Some};
 ghost use Rattle.std.specs.List.{All};
 ghost use Rattle.league.specs.Accepted as costs;
 ghost use Rattle.league.specs.Accepted.{IsAccepted};
@@ -14,9 +14,10 @@ ghost use Rattle.refutation.specs.Logs.{log_of};
 ghost use Rattle.refutation.specs.Steps.{NamesRows};
 ghost use Rattle.refutation.specs.Texts as logs;
 ghost use Rattle.refutation.specs.Writable.{HasShortLines};
-ghost use Rattle.solve.specs.Solutions.{HasSchedule, IsRefuted, IsSolution};
+ghost use Rattle.solve.specs.Solutions.{CostsAtMost, HasSchedule, IsRefuted, IsSolution};
 ghost use Rattle.venue_counts.specs.VenueCounts.{are_crowded, are_short};
 ghost use Rattle.break_counts.specs.BreakCounts.{are_few};
+ghost use Rattle.command_solve.specs.From.{IsScheduleWithin};
 ghost use Rattle.command_solve.specs.Solve.{IsFound, descent_text};
 
 use crate::schedules::{first_objective, schedule_text};
@@ -75,7 +76,9 @@ pub(crate) fn found_reply(
     requires short { are_short league.now ≡ true → IsRefuted solved.now }
     requires crowded { are_crowded league.now ≡ true → IsRefuted solved.now }
     requires few { are_few league.now ≡ true → IsRefuted solved.now }
-    ensures { IfOk result (λ reply. IsFound league.now budgets (rows_of league.now) (answer_of reply)) }
+    ensures found { IfOk result (λ reply. IsFound league.now budgets (rows_of league.now) (answer_of reply)) }
+    ensures within { (most : ℕ) → CostsAtMost most solved.now
+        → IfOk result (λ reply. IsScheduleWithin league.now budgets.moves most (answer_of reply)) }
 {
     let _n = league.n();
     match solved {

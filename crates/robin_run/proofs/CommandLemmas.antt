@@ -9,7 +9,7 @@ use Rattle.robin_run.proofs.PatternLemmas.{finds-patterns}
 use Rattle.robin_run.proofs.ResumeLemmas.{audits, resumes}
 use Rattle.robin_run.proofs.RowLemmas.{judges-values, writes-rows}
 use Rattle.robin_run.proofs.ShowLemmas.{shows}
-use Rattle.robin_run.proofs.SolveLemmas.{solves}
+use Rattle.robin_run.proofs.SolveLemmas.{solves, solves-from}
 use Rattle.robin_run.proofs.ValidateLemmas.{validates}
 
 pub keeps-promises : (run : Run) → Answered run → KeepsPromises run
@@ -18,6 +18,7 @@ keeps-promises run answered = record {
   show = shows run answered;
   check = checks run answered;
   solve = solves run answered;
+  solve_from = solves-from run answered;
   patterns = finds-patterns run answered;
   explain = explains run answered;
   part = parts run answered;

@@ -15,7 +15,7 @@ use Rattle.robinx_read.specs.declared.instance.TheConstants.{INSTANCE_LIMIT, SOL
 use Rattle.budgets.specs.declared.budgets.Budgets.{Budgets}
 use Rattle.command_line.specs.Words.{Command}
 use Rattle.command_line.specs.Words.Command.{Audit, Bound, Check, Circle, Explain, Make, Part, Patterns, Prove, Resume}
-use Rattle.command_line.specs.Words.Command.{Help, Rows, Sheet, Show, Solve, Trial, Validate, Values, Version}
+use Rattle.command_line.specs.Words.Command.{Help, Rows, Sheet, Show, Solve, SolveFrom, Trial, Validate, Values, Version}
 use Rattle.command_line.specs.declared.goal.Goal.{Goal}
 use Rattle.command_line.specs.declared.goal.Goal.TheVariants.{Accepted, AtMost, Least}
 use Rattle.answers.specs.Reply.{Answer}
@@ -41,6 +41,7 @@ use Rattle.command_show.specs.declared.form.Form.{Form}
 use Rattle.command_show.specs.declared.form.Form.TheVariants.{Text, Csv}
 use Rattle.command_check.specs.Check.{IsVerdict, checked, encodes, most_log_bytes, says_log, verdict_answer}
 use Rattle.command_patterns.specs.Patterns.{AreFound, patterned}
+use Rattle.command_solve.specs.From.{IsBegun, IsFoundFrom, begun}
 use Rattle.command_solve.specs.Solve.{IsFound, solved}
 use Rattle.command_explain.specs.Explained as explaining
 use Rattle.command_explain.specs.Explained.{explained}
@@ -228,6 +229,28 @@ solved-ends Ends file fault ends_yes refuted spent store instance budgets answer
     (λ bytes league. encodes league (IsFound league budgets)) answer
     (λ bytes league at_league. encodes-ends Ends file league (IsFound league budgets) answer
     (λ rows found. searched-ends Ends ends_yes refuted spent league budgets rows answer found) at_league) given
+
+started-ends : (Ends : Status → Type 0) → Ends File → Ends Yes → Ends No → Ends Refuted → Ends Spent → (league : Instance)
+    (budgets : Budgets) (start : List Game) (answer : Answer) → IsBegun league budgets start answer
+    → Ends answer.status
+started-ends Ends file ends_yes ends_no refuted spent league budgets start answer (inl none) =
+    ends-with Ends answer No none.status ends_no
+started-ends Ends file ends_yes ends_no refuted spent league budgets start answer (inr begun) =
+    encodes-ends Ends file league (IsFoundFrom league start budgets) answer
+    (λ rows found. searched-ends Ends ends_yes refuted spent league budgets rows answer found.found) begun.1
+
+begun-ends : (Ends : Status → Type 0) → Ends File → Ends ReadFault → Ends Yes → Ends No → Ends Refuted → Ends Spent
+    → (store : Store) (instance solution : List ℕ) (budgets : Budgets) (answer : Answer)
+    → begun store instance solution budgets answer → Ends answer.status
+begun-ends Ends file fault ends_yes ends_no refuted spent store instance solution budgets answer given =
+    league-ends Ends file fault (store.contents instance) (store.took_more INSTANCE_LIMIT) (store.failed instance)
+    (λ first league. takes (codes "solution") (store.contents solution) SOLUTION_LIMIT
+    (store.took_more (length first + SOLUTION_LIMIT)) (store.failed solution)
+    (λ second. says (codes "solution") (solution_of league.n (pieces second)) (IsBegun league budgets))) answer
+    (λ first league at_league. games-ends Ends file fault league.n (store.contents solution)
+    (store.took_more (length first + SOLUTION_LIMIT)) (store.failed solution) (λ second. IsBegun league budgets) answer
+    (λ second start at_start. started-ends Ends file ends_yes ends_no refuted spent league budgets start answer at_start)
+    at_league) given
 
 patterns-ends : (Ends : Status → Type 0) → Ends Yes → Ends Refuted → Ends Spent → (league : Instance)
     (conflicts : Option ℕ) (answer : Answer) → AreFound league conflicts answer → Ends answer.status
@@ -517,6 +540,9 @@ answer-ends (Some (Check instance log)) store answer given =
 answer-ends (Some (Solve instance budgets)) store answer given =
     solved-ends (EndsBy (Some (Solve instance budgets))) refl refl refl refl refl store instance
     budgets answer given
+answer-ends (Some (SolveFrom instance solution budgets)) store answer given =
+    begun-ends (EndsBy (Some (SolveFrom instance solution budgets))) refl refl refl refl refl refl store instance
+    solution budgets answer given
 answer-ends (Some (Patterns instance conflicts)) store answer given =
     patterned-ends (EndsBy (Some (Patterns instance conflicts))) refl refl refl refl refl store
     instance conflicts answer given
@@ -568,6 +594,7 @@ no_memory (Some (Show instance solution most width)) = refl
 no_memory (Some (Sheet instance solution)) = refl
 no_memory (Some (Check instance log)) = refl
 no_memory (Some (Solve instance budgets)) = refl
+no_memory (Some (SolveFrom instance solution budgets)) = refl
 no_memory (Some (Patterns instance conflicts)) = refl
 no_memory (Some (Explain instance conflicts)) = refl
 no_memory (Some (Part instance members)) = refl

@@ -7,7 +7,7 @@ use Rattle.command_bound.specs.Bound.{bounded}
 use Rattle.command_check.specs.Check.{checked}
 use Rattle.command_make.specs.Circle.{circle_season}
 use Rattle.command_line.specs.Words.{Command}
-use Rattle.command_line.specs.Words.Command.{Validate, Show, Sheet, Check, Solve, Patterns, Explain, Part, Prove}
+use Rattle.command_line.specs.Words.Command.{Validate, Show, Sheet, Check, Solve, SolveFrom, Patterns, Explain, Part, Prove}
 use Rattle.command_line.specs.Words.Command.{Bound, Resume, Audit, Rows, Values, Circle, Make, Trial, Help, Version}
 use Rattle.command_explain.specs.Explained.{explained}
 use Rattle.command_explain.specs.Parted.{parted}
@@ -20,6 +20,7 @@ use Rattle.command_resume.specs.Resumed.{resumed}
 use Rattle.command_rows.specs.Rowed.{rowed}
 use Rattle.command_show.specs.Show.{shown}
 use Rattle.command_show.specs.declared.form.Form.TheVariants.{Text, Csv}
+use Rattle.command_solve.specs.From.{begun}
 use Rattle.command_solve.specs.Solve.{solved}
 use Rattle.command_make.specs.Trial.{tried}
 use Rattle.command_validate.specs.Validate.{validated}
@@ -34,6 +35,7 @@ IsAnswer (Some (Show instance solution most width)) store answer =
 IsAnswer (Some (Sheet instance solution)) store answer = shown store instance solution Csv answer
 IsAnswer (Some (Check instance log)) store answer = checked store instance log answer
 IsAnswer (Some (Solve instance budgets)) store answer = solved store instance budgets answer
+IsAnswer (Some (SolveFrom instance solution budgets)) store answer = begun store instance solution budgets answer
 IsAnswer (Some (Patterns instance conflicts)) store answer = patterned store instance conflicts answer
 IsAnswer (Some (Explain instance conflicts)) store answer = explained store instance conflicts answer
 IsAnswer (Some (Part instance members)) store answer = parted store instance members answer

@@ -4,6 +4,7 @@ use Rattle.robin_run.specs.Bound.{Bounds}
 use Rattle.robin_run.specs.Check.{Checks}
 use Rattle.robin_run.specs.Circle.{WritesCircle}
 use Rattle.robin_run.specs.Explain.{Explains}
+use Rattle.robin_run.specs.SolveFrom.{SolvesFrom}
 use Rattle.robin_run.specs.Help.{Helps, TellsVersion}
 use Rattle.robin_run.specs.Make.{Makes}
 use Rattle.robin_run.specs.Part.{Parts}
@@ -23,6 +24,7 @@ pub record KeepsPromises (run : Run) : Type 0 where
   pub show : Shows run
   pub check : Checks run
   pub solve : Solves run
+  pub solve_from : SolvesFrom run
   pub patterns : FindsPatterns run
   pub explain : Explains run
   pub part : Parts run

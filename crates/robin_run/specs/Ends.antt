@@ -6,7 +6,7 @@ use Rattle.answers.specs.declared.status.Status.{Status}
 use Rattle.answers.specs.declared.status.Status.TheVariants.{Yes, No, Words, File, Refuted, Spent, ReadFault, Better}
 use Rattle.answers.specs.declared.status.Status.TheVariants.{Memory, WriteFault}
 use Rattle.command_line.specs.Words.{Command}
-use Rattle.command_line.specs.Words.Command.{Validate, Show, Sheet, Check, Solve, Patterns, Explain, Part, Prove}
+use Rattle.command_line.specs.Words.Command.{Validate, Show, Sheet, Check, Solve, SolveFrom, Patterns, Explain, Part, Prove}
 use Rattle.command_line.specs.Words.Command.{Bound, Resume, Audit, Rows, Values, Circle, Make, Trial, Help, Version}
 use Rattle.robin_run.specs.Run.{Run}
 
@@ -18,6 +18,7 @@ ends_of (Some (Show instance solution most width)) = Yes ∷ No ∷ File ∷ Rea
 ends_of (Some (Sheet instance solution)) = Yes ∷ No ∷ File ∷ ReadFault ∷ []
 ends_of (Some (Check instance log)) = Yes ∷ No ∷ File ∷ ReadFault ∷ []
 ends_of (Some (Solve instance budgets)) = Yes ∷ Refuted ∷ Spent ∷ File ∷ ReadFault ∷ []
+ends_of (Some (SolveFrom instance solution budgets)) = Yes ∷ No ∷ Refuted ∷ Spent ∷ File ∷ ReadFault ∷ []
 ends_of (Some (Patterns instance conflicts)) = Yes ∷ Refuted ∷ Spent ∷ File ∷ ReadFault ∷ []
 ends_of (Some (Explain instance conflicts)) = Yes ∷ Refuted ∷ Spent ∷ File ∷ ReadFault ∷ []
 ends_of (Some (Part instance members)) = Yes ∷ File ∷ ReadFault ∷ []

@@ -11,6 +11,7 @@ pub mod Validate
 pub mod Show
 pub mod Check
 pub mod Solve
+pub mod SolveFrom
 pub mod Patterns
 pub mod Explain
 pub mod Readable

@@ -28,7 +28,7 @@ use command_prove::prove_file;
 use command_resume::{audit_file, resume_file};
 use command_rows::{ReadyRows, rows_file, write_rows};
 use command_show::{Form, show};
-use command_solve::solve_file;
+use command_solve::{solve_file, solve_from_file};
 use command_validate::validate;
 use command_values::values_file;
 use robin_io::{Shelf, Sink, put_all};
@@ -93,6 +93,11 @@ fn follow<S: Shelf, W: Listener>(
         Words::Solve { instance, budgets } => {
             give(solve_file(alloc, shelf, instance, budgets, watch))
         }
+        Words::SolveFrom {
+            instance,
+            solution,
+            budgets,
+        } => give(solve_from_file(alloc, shelf, instance, solution, budgets, watch)),
         Words::Patterns {
             instance,
             conflicts,

@@ -1,9 +1,9 @@
 use Rattle.solve.proofs.FewLemmas.{round_robin-few}
-use Rattle.command_solve.proofs.FoundLemmas.{replied-refuted, replied-schedule, replied-spent}
+use Rattle.command_solve.proofs.FoundLemmas.{replied-refuted, replied-schedule, replied-spent, replied-within}
 use Rattle.command_solve.proofs.replies.found_reply.Goals as goal
 
-pub returns-in-Schedule : goal.returns-in-Schedule
-returns-in-Schedule c =
+pub returns-in-Schedule-clause-found : goal.returns-in-Schedule-clause-found
+returns-in-Schedule-clause-found c =
     replied-schedule c.args.league.now c.args.budgets c.in-Schedule.schedule c.in-Schedule.objective
     c.in-Schedule.descent c.schedule_reply.result c.n-n.ensures.instance.teams
     (rw c.in-Schedule.is at c.requires.solution) (λ is. rw c.in-Schedule.is at c.requires.short is)
@@ -11,14 +11,21 @@ returns-in-Schedule c =
     (λ is. rw c.in-Schedule.is at c.requires.few is)
     c.schedule_reply.ensures.status c.schedule_reply.ensures.text
 
-pub returns-in-Refuted : goal.returns-in-Refuted
-returns-in-Refuted c =
+pub returns-in-Schedule-clause-within : goal.returns-in-Schedule-clause-within
+returns-in-Schedule-clause-within c most at_most =
+    replied-within c.args.league.now c.args.budgets most c.in-Schedule.schedule c.in-Schedule.objective
+    c.in-Schedule.descent c.schedule_reply.result c.n-n.ensures.instance.teams
+    (rw c.in-Schedule.is at c.requires.solution) (rw c.in-Schedule.is at at_most) c.schedule_reply.ensures.status
+    c.schedule_reply.ensures.text
+
+pub returns-in-Refuted-clause-found : goal.returns-in-Refuted-clause-found
+returns-in-Refuted-clause-found c =
     replied-refuted c.args.league.now c.args.budgets c.in-Refuted.log c.log_reply.result
     (rw c.in-Refuted.is at c.requires.solution) (λ accepted. rw c.in-Refuted.is at c.requires.circle accepted)
     c.log_reply.ensures.status c.log_reply.ensures.text c.log_reply.ensures.reads_back
 
-pub returns-in-Spent : goal.returns-in-Spent
-returns-in-Spent c =
+pub returns-in-Spent-clause-found : goal.returns-in-Spent-clause-found
+returns-in-Spent-clause-found c =
     replied-spent c.args.league.now c.args.budgets c.in-Spent.log c.in-Spent.patterns c.log_reply-in-Spent.result
     (rw c.in-Spent.is at c.requires.solution) (λ accepted. rw c.in-Spent.is at c.requires.circle accepted)
     (λ is. rw c.in-Spent.is at c.requires.short is) (λ is. rw c.in-Spent.is at c.requires.crowded is)

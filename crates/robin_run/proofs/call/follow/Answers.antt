@@ -10,6 +10,7 @@ use Rattle.command_resume.specs.Audited.{audited}
 use Rattle.command_resume.specs.Resumed.{resumed}
 use Rattle.command_show.specs.Show.{shown}
 use Rattle.command_show.specs.declared.form.Form.TheVariants.{Text, Csv}
+use Rattle.command_solve.specs.From.{begun}
 use Rattle.command_solve.specs.Solve.{solved}
 use Rattle.command_make.specs.Trial.{tried}
 use Rattle.command_validate.specs.Validate.{validated}
@@ -51,6 +52,13 @@ returns-in-Solve-clause-answer g c =
     (given-gives
     (solved (store_between g.S.Shelf c.args.shelf.now c.solve_file.new.shelf) c.in-Solve.instance.now c.in-Solve.budgets)
     _ _ c.give-in-Solve.ensures c.solve_file.ensures.answer)
+
+pub returns-in-SolveFrom-clause-answer : goal.returns-in-SolveFrom-clause-answer
+returns-in-SolveFrom-clause-answer g c =
+    rw c.in-SolveFrom.is
+    (given-gives
+    (begun (store_between g.S.Shelf c.args.shelf.now c.solve_from_file.new.shelf) c.in-SolveFrom.instance.now c.in-SolveFrom.solution.now c.in-SolveFrom.budgets)
+    _ _ c.give-in-SolveFrom.ensures c.solve_from_file.ensures.answer)
 
 pub returns-in-Patterns-clause-answer : goal.returns-in-Patterns-clause-answer
 returns-in-Patterns-clause-answer g c =
