@@ -1,4 +1,5 @@
 use Rattle.robin_io.specs.Outside.{store_between}
+use Rattle.robin_watch.specs.Limits.{IsKeptTo}
 use Rattle.command_line.specs.Words.{members_of}
 use Rattle.command_bound.specs.Bound.{bounded}
 use Rattle.command_check.specs.Check.{checked}
@@ -50,14 +51,15 @@ pub returns-in-Solve-clause-answer : goal.returns-in-Solve-clause-answer
 returns-in-Solve-clause-answer g c =
     rw c.in-Solve.is
     (given-gives
-    (solved (store_between g.S.Shelf c.args.shelf.now c.solve_file.new.shelf) c.in-Solve.instance.now c.in-Solve.budgets)
+    (solved (store_between g.S.Shelf c.args.shelf.now c.solve_file.new.shelf) c.in-Solve.instance.now c.in-Solve.budgets
+    (g.W.Watch.may_stop c.args.watch.now))
     _ _ c.give-in-Solve.ensures c.solve_file.ensures.answer)
 
 pub returns-in-SolveFrom-clause-answer : goal.returns-in-SolveFrom-clause-answer
 returns-in-SolveFrom-clause-answer g c =
     rw c.in-SolveFrom.is
     (given-gives
-    (begun (store_between g.S.Shelf c.args.shelf.now c.solve_from_file.new.shelf) c.in-SolveFrom.instance.now c.in-SolveFrom.solution.now c.in-SolveFrom.budgets)
+    (begun (store_between g.S.Shelf c.args.shelf.now c.solve_from_file.new.shelf) c.in-SolveFrom.instance.now c.in-SolveFrom.solution.now c.in-SolveFrom.budgets (g.W.Watch.may_stop c.args.watch.now))
     _ _ c.give-in-SolveFrom.ensures c.solve_from_file.ensures.answer)
 
 pub returns-in-Patterns-clause-answer : goal.returns-in-Patterns-clause-answer
@@ -85,7 +87,8 @@ pub returns-in-Prove-clause-answer : goal.returns-in-Prove-clause-answer
 returns-in-Prove-clause-answer g c =
     rw c.in-Prove.is
     (given-gives
-    (proved (store_between g.S.Shelf c.args.shelf.now c.prove_file.new.shelf) c.in-Prove.instance.now c.in-Prove.solution.now c.in-Prove.conflicts)
+    (proved (store_between g.S.Shelf c.args.shelf.now c.prove_file.new.shelf) c.in-Prove.instance.now c.in-Prove.solution.now
+    (IsKeptTo c.in-Prove.conflicts (g.W.Watch.may_stop c.args.watch.now)))
     _ _ c.give-in-Prove.ensures c.prove_file.ensures.answer)
 
 pub returns-in-Bound-clause-answer : goal.returns-in-Bound-clause-answer
@@ -99,7 +102,8 @@ pub returns-in-Resume-clause-answer : goal.returns-in-Resume-clause-answer
 returns-in-Resume-clause-answer g c =
     rw c.in-Resume.is
     (given-gives
-    (resumed (store_between g.S.Shelf c.args.shelf.now c.resume_file.new.shelf) c.in-Resume.instance.now c.in-Resume.solution.now c.in-Resume.k c.in-Resume.conflicts)
+    (resumed (store_between g.S.Shelf c.args.shelf.now c.resume_file.new.shelf) c.in-Resume.instance.now c.in-Resume.solution.now c.in-Resume.k
+    (IsKeptTo c.in-Resume.conflicts (g.W.Watch.may_stop c.args.watch.now)))
     _ _ c.give-in-Resume.ensures c.resume_file.ensures.answer)
 
 pub returns-in-Audit-clause-answer : goal.returns-in-Audit-clause-answer
@@ -120,7 +124,7 @@ pub returns-in-Trial-clause-answer : goal.returns-in-Trial-clause-answer
 returns-in-Trial-clause-answer g c =
     rw c.in-Trial.is
     (given-gives
-    (tried c.in-Trial.n c.in-Trial.seed c.in-Trial.budgets)
+    (tried c.in-Trial.n c.in-Trial.seed c.in-Trial.budgets (g.W.Watch.may_stop c.args.watch.now))
     _ _ c.give-in-Trial.ensures c.trial.ensures)
 
 pub returns-in-Rows-clause-answer : goal.returns-in-Rows-clause-answer
