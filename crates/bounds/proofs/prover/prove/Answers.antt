@@ -21,10 +21,10 @@ in_64_bits-objective-requires g c =
           c.greatest_penalty-greatest.type_inv c.requires.terms.few c.requires.accepted,
     )
 
-pub lowered-requires-clause-few : goal.lowered-requires-clause-few
-lowered-requires-clause-few c =
-    round_robin-few c.args.league.now.n c.args.league.now.phased c.args.schedule.now
-    c.requires.counted.instance.teams c.requires.fit c.requires.accepted.round_robin
+pub lowered_watched-requires-clause-few : goal.lowered_watched-requires-clause-few
+lowered_watched-requires-clause-few g c =
+    round_robin-few c.args.league.now.n c.args.league.now.phased c.args.schedule.now c.requires.terms.instance.teams
+    c.requires.fit c.requires.accepted.round_robin
 
 pub returns-then-objective-eq0 : goal.returns-then-objective-eq0
 returns-then-objective-eq0 g c = (
