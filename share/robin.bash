@@ -13,9 +13,9 @@ _robin() {
         explain) options="--conflicts" ;;
         part) options="" ;;
         check) options="" ;;
-        prove) options="--conflicts --seconds" ;;
+        prove) options="--conflicts" ;;
         bound) options="" ;;
-        resume) options="--conflicts --seconds" ;;
+        resume) options="--conflicts" ;;
         audit) options="" ;;
         rows) options="--bound --objective" ;;
         values) options="" ;;

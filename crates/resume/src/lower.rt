@@ -14,7 +14,7 @@ use crate::merge::merged;
 use descent::{descend, season_of};
 use deviation::assess;
 use league::{League, Schedule};
-use robin_watch::Watch;
+use robin_watch::Unwatched;
 use rule_core::{Plain, Steps};
 use std::alloc::{AllocError, Global};
 use tally::league_tally;
@@ -34,17 +34,16 @@ pub(crate) struct Season {
 
 /// A schedule that the league accepts, that has the games of `start` in the slots below k, and whose objective is below
 /// `cost`; if a descent of at most 10,000 moves from `start` leads to one. Nothing where it doesn't, and where the
-/// league with a constraint more for each of these slots would have more than 20,000. The watch may end the descent.
+/// league with a constraint more for each of these slots would have more than 20,000.
 ///
 /// # Errors
 /// Only where memory runs out.
-pub(crate) fn lowered<W: Watch>(
+pub(crate) fn lowered(
     alloc: Global,
     league: &League,
     start: &Schedule,
     cost: u128,
     k: u16,
-    watch: &W,
 ) -> Result<Option<Season>, AllocError>
     requires accepted { IsAccepted league.now (counts_of start.now) }
     requires fit { All (IsGame league.now.n) start.now }
@@ -57,7 +56,7 @@ pub(crate) fn lowered<W: Watch>(
     let Some(fixed) = made else {
         return Ok(None);
     };
-    let end = descended(alloc, &fixed, start, watch)?;
+    let end = descended(alloc, &fixed, start)?;
     let schedule = merged(alloc, start, &end, k)?;
     better(alloc, league, start, k, schedule, cost)
 }
@@ -66,12 +65,7 @@ pub(crate) fn lowered<W: Watch>(
 ///
 /// # Errors
 /// Only where memory runs out.
-fn descended<W: Watch>(
-    alloc: Global,
-    league: &League,
-    start: &Schedule,
-    watch: &W,
-) -> Result<Schedule, AllocError>
+fn descended(alloc: Global, league: &League, start: &Schedule) -> Result<Schedule, AllocError>
     requires round_robin { IsRoundRobin league.now.n league.now.phased (counts_of start.now) }
     requires fit { All (IsGame league.now.n) start.now }
     requires few { length start.now ≤ 10000 }
@@ -86,7 +80,7 @@ fn descended<W: Watch>(
         &mut tally,
         MOST_MOVES,
         &mut steps,
-        watch,
+        &Unwatched,
     )?;
     season_of(alloc, phased, tally.cells())
 }
