@@ -14,12 +14,13 @@ use Rattle.robinx_form.specs.SolutionFile.{solution_of}
 use Rattle.robinx_form.specs.Walk.{Fault}
 use Rattle.robinx_read.specs.declared.instance.TheConstants.{INSTANCE_LIMIT, SOLUTION_LIMIT}
 use Rattle.answers.specs.Reply.{Answer}
-use Rattle.answers.specs.SeenReply.{answer_of}
+use Rattle.answers.specs.SeenReply.{Answers, answer_of}
 use Rattle.answers.specs.Stages.{IsFile, IsUnread, NoneFails, Outcome, says, takes}
+use Rattle.answers.specs.declared.reply.NoValue.{NoValue}
 use Rattle.answers.specs.declared.reply.Reply.{Reply}
 use Rattle.answers.specs.declared.status.Status.{Status}
 use Rattle.answers.specs.declared.status.Status.TheVariants.{Yes, No, File, ReadFault, Refuted}
-use Rattle.answers.proofs.StageLemmas.{first-works, says-known, says-value, second-works, takes-known, takes-refuted, takes-yes}
+use Rattle.answers.proofs.StageLemmas.{Answers-wider, first-works, says-known, says-value, second-works, takes-known, takes-refuted, takes-yes}
 use Rattle.budgets.specs.declared.budgets.Budgets.{Budgets}
 use Rattle.encoding.specs.Limit.{most_terms}
 use Rattle.encoding_base.specs.Encoding.{encoding_size, rows_of}
@@ -97,6 +98,14 @@ replied-no_start {E} league budgets may_stop start (Ok reply) no judged = inl (n
 replied-no_start {E} league budgets may_stop start (Err error) no judged = tt
 
 -- ---- a start
+
+-- what is found from a double round robin is what it begins
+pub started : (league : Instance) (budgets : Budgets) (may_stop : Type 0) (start : List Game) (result : Result Reply NoValue)
+    → IsRoundRobin league.n league.phased (counts_of start)
+    → Answers (encodes league (IsFoundFrom league start budgets may_stop)) result → Answers (IsBegun league budgets may_stop start) result
+started league budgets may_stop start result round_robin found =
+    Answers-wider (encodes league (IsFoundFrom league start budgets may_stop)) (IsBegun league budgets may_stop start)
+    (λ answer given. inr (round_robin, given)) result found
 
 -- what is found from a start is what is found of its league, and costs no more than the start
 pub replied-from : {E : Type 0} (league : Instance) (budgets : Budgets) (may_stop : Type 0) (start : List Game)
