@@ -54,3 +54,6 @@ returns-clause-no_worse g c =
     IsTrail-no_worse c.args.tally.now.table.n c.in_ok-walk.walk.board.phased
     (score_on g.R.Entries c.args.tally.now.weights) (table_counts c.args.tally.now.table)
     (table_counts c.go_down.new.tally.table) c.go_down.new.self.trail.list c.go_down.ensures.trail
+
+pub returns-clause-spent : goal.returns-clause-spent
+returns-clause-spent g c = λ open_yet. rw c.into_trail.ensures (c.in_ok-settled.ensures.spent open_yet)
