@@ -7,5 +7,6 @@ pub mod SettledLemmas
 pub mod EditLemmas
 pub mod WalkLemmas
 pub mod SeasonLemmas
+pub mod StopLemmas
 -- Worked examples, so that a wrong definition does not check:
 mod DescentFacts

@@ -15,7 +15,7 @@ use crate::season::season_of;
 use crate::walk::Walk;
 use league::Schedule;
 use moves::MoveList;
-use robin_watch::Watch;
+use robin_watch::{Unwatched, Watch};
 use rule_core::{Rule, Steps};
 use std::alloc::{AllocError, Global};
 use std::marker::Model;
@@ -63,13 +63,53 @@ impl Descent {
 
 /// Makes moves on a tally's games, a double round robin, each of which is legal and lowers the score by the tally's
 /// rules, at most `limit` of them. After a move it goes on with the move behind it, and it ends after one whole round
-/// of all moves of which none lowers the score, or at the limit, or where the watch ends it: after one round more, that
-/// says whether it is settled.
+/// of all moves of which none lowers the score, or at the limit.
 ///
 /// # Errors
 /// Only where memory runs out. Then the moves made so far stay made: the tally has a double round robin that isn't
 /// worse than at the start.
-pub fn descend<R: Rule<L>, L, W: Watch>(
+pub fn descend<R: Rule<L>, L>(
+    alloc: Global,
+    phased: bool,
+    tally: &mut Tally<R>,
+    limit: u64,
+    steps: &mut Steps<L>,
+) -> Result<Descent, AllocError>
+    requires round_robin { IsRoundRobin tally.old.table.n phased (table_counts tally.old.table) }
+
+    // The rules stay, and the games are a double round robin of the same league that isn't worse: after an error too.
+    ensures weights { tally.new.weights ≡ tally.old.weights }
+    ensures teams { tally.new.table.n ≡ tally.old.table.n }
+    ensures round_robin { IsRoundRobin tally.old.table.n phased (table_counts tally.new.table) }
+    ensures no_worse { IsNoWorse (score_on R.Entries tally.old.weights (table_counts tally.new.table))
+        (score_on R.Entries tally.old.weights (table_counts tally.old.table)) }
+
+    // The first games are those at the start, in order.
+    ensures first { IfOk result (λ descent. counts_of descent.first ≡ table_counts tally.old.table) }
+    ensures fit { IfOk result (λ descent. All (IsGame tally.old.table.n) descent.first) }
+    ensures in_order { IfOk result (λ descent. IsInOrder descent.first) }
+
+    // The moves lead from there to the games at the end.
+    ensures trail { IfOk result (λ descent. IsTrail tally.old.table.n phased (score_on R.Entries tally.old.weights)
+        (table_counts tally.old.table) descent.trail (table_counts tally.new.table)) }
+    ensures few { IfOk result (λ descent. length descent.trail ≤ limit) }
+
+    // The descent is settled exactly where no legal move of any kind lowers the score, and not settled only at the
+    // limit.
+    ensures settled { IfOk result (λ descent. IsTrue descent.settled ↔ IsSettled tally.old.table.n phased
+        (score_on R.Entries tally.old.weights) (table_counts tally.new.table)) }
+    ensures spent { IfOk result (λ descent. descent.settled ≡ false → length descent.trail ≡ limit) }
+{
+    descend_watched(alloc, phased, tally, limit, steps, &Unwatched)
+}
+
+/// Makes moves as `descend` does, until the watch ends it. It is asked behind each move. Then one round more says whether
+/// the descent is settled.
+///
+/// # Errors
+/// Only where memory runs out. Then the moves made so far stay made: the tally has a double round robin that isn't
+/// worse than at the start.
+pub fn descend_watched<R: Rule<L>, L, W: Watch>(
     alloc: Global,
     phased: bool,
     tally: &mut Tally<R>,
@@ -97,7 +137,7 @@ pub fn descend<R: Rule<L>, L, W: Watch>(
     ensures few { IfOk result (λ descent. length descent.trail ≤ limit) }
 
     // The descent is settled exactly where no legal move of any kind lowers the score, and not settled only at the
-    // limit, or where the watch may end it.
+    // limit, or, where the watch may end it, at a lower one.
     ensures settled { IfOk result (λ descent. IsTrue descent.settled ↔ IsSettled tally.old.table.n phased
         (score_on R.Entries tally.old.weights) (table_counts tally.new.table)) }
     ensures spent { IfOk result (λ descent. descent.settled ≡ false

@@ -12,6 +12,6 @@ mod score;
 mod season;
 mod walk;
 
-pub use descent::{Descent, descend};
+pub use descent::{Descent, descend, descend_watched};
 pub use score::Score;
 pub use season::season_of;

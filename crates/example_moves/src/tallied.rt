@@ -14,7 +14,6 @@ use descent::descend;
 use deviation::AnyRule;
 use league::{League, Schedule};
 use moves::{Board, Edit};
-use robin_watch::Unwatched;
 use rule_core::{Plain, Steps};
 use std::io;
 use tally::{Tally, league_tally};
@@ -49,7 +48,7 @@ fn show_descent(
 {
     show_sums(rt, "before", tally)?;
     let mut steps = Steps::<Plain>::start();
-    let descent = descend(rt.alloc(), true, tally, limit, &mut steps, &Unwatched)?;
+    let descent = descend(rt.alloc(), true, tally, limit, &mut steps)?;
     let moves = descent.trail().len();
     println!(rt; "  moves {moves}, settled: {}", descent.settled())?;
     show_sums(rt, "after", tally)

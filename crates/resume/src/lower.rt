@@ -14,7 +14,6 @@ use crate::merge::merged;
 use descent::{descend, season_of};
 use deviation::assess;
 use league::{League, Schedule};
-use robin_watch::Unwatched;
 use rule_core::{Plain, Steps};
 use std::alloc::{AllocError, Global};
 use tally::league_tally;
@@ -74,14 +73,7 @@ fn descended(alloc: Global, league: &League, start: &Schedule) -> Result<Schedul
     let mut steps = Steps::<Plain>::start();
     let mut tally = league_tally(alloc, league, 1, start.games(), &mut steps)?;
     let phased = league.phased();
-    let _descent = descend(
-        alloc,
-        phased,
-        &mut tally,
-        MOST_MOVES,
-        &mut steps,
-        &Unwatched,
-    )?;
+    let _descent = descend(alloc, phased, &mut tally, MOST_MOVES, &mut steps)?;
     season_of(alloc, phased, tally.cells())
 }
 

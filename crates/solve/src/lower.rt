@@ -9,7 +9,7 @@ ghost use Rattle.descent.specs.Settled.{IsSettled};
 ghost use Rattle.solve.specs.Solutions.{IsSchedule, league_score};
 ghost use Rattle.solve.specs.Tried.{IsSeasonBy};
 
-use descent::{Descent, descend, season_of};
+use descent::{Descent, descend_watched, season_of};
 use league::{League, Schedule};
 use robin_watch::{Unwatched, Watch};
 use rule_core::{Plain, Steps};
@@ -69,7 +69,7 @@ pub fn lowered_watched<W: Watch>(
     let mut steps = Steps::<Plain>::start();
     let mut tally = league_tally(alloc, league, 1, start.games(), &mut steps)?;
     let phased = league.phased();
-    let descent = descend(alloc, phased, &mut tally, moves, &mut steps, watch)?;
+    let descent = descend_watched(alloc, phased, &mut tally, moves, &mut steps, watch)?;
     let schedule = season_of(alloc, phased, tally.cells())?;
     Ok(Season {
         schedule,

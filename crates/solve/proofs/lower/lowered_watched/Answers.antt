@@ -11,8 +11,8 @@ use Rattle.solve.proofs.LowerLemmas.{Descends-same, IsSchedule-of, cost-is, sett
 use Rattle.solve.proofs.lower.lowered_watched.Goals as goal
 use Rattle.walk.proofs.WalkLemmas.{scores-are}
 
-pub descend-requires : goal.descend-requires
-descend-requires g c = record {
+pub descend_watched-requires : goal.descend_watched-requires
+descend_watched-requires g c = record {
   round_robin = subst (λ (m : Counts). IsRoundRobin c.in_ok-tally.tally.table.n c.phased-phased.result m)
       (sym (c.in_ok-tally.ensures.counts ∙ ap (λ (games : List Game). counts_of games) c.games.ensures))
       (subst (λ (b : Bool). IsRoundRobin c.in_ok-tally.tally.table.n b (counts_of c.args.start.now))
@@ -24,8 +24,8 @@ descend-requires g c = record {
 pub season_of-requires : goal.season_of-requires
 season_of-requires g c = record {
   round_robin = subst (λ (t : Table). IsRoundRobin t.n c.phased-phased.result (table_counts t)) (sym c.cells.ensures)
-      (subst (λ (n : ℕ). IsRoundRobin n c.phased-phased.result (table_counts c.descend.new.tally.table))
-      (sym c.descend.ensures.teams) c.descend.ensures.round_robin);
+      (subst (λ (n : ℕ). IsRoundRobin n c.phased-phased.result (table_counts c.descend_watched.new.tally.table))
+      (sym c.descend_watched.ensures.teams) c.descend_watched.ensures.round_robin);
 }
 
 pub returns-clause-season : goal.returns-clause-season
@@ -33,11 +33,11 @@ returns-clause-season g c =
     let by = kept-moves c.args.moves (g.W.Watch.may_stop c.args.watch.now) c.in_ok-descent.descent.settled
     (length c.in_ok-descent.descent.trail) c.in_ok-descent.ensures.few c.in_ok-descent.ensures.spent
     (λ some. c.in_ok-descent.ensures.begun some) in
-    let end : Counts = table_counts c.descend.new.tally.table in
+    let end : Counts = table_counts c.descend_watched.new.tally.table in
     let counts : counts_of c.in_ok-schedule.schedule ≡ end =
     c.in_ok-schedule.ensures.counts ∙ ap (λ (t : Table). table_counts t) c.cells.ensures in
     let teams : c.cells.result.now.n ≡ c.args.league.now.n =
-    ap (λ (t : Table). t.n) c.cells.ensures ∙ c.descend.ensures.teams ∙ c.in_ok-tally.ensures.n in
+    ap (λ (t : Table). t.n) c.cells.ensures ∙ c.descend_watched.ensures.teams ∙ c.in_ok-tally.ensures.n in
     record {
     kept = by.kept;
     is_kept = by.is_kept;
@@ -50,7 +50,7 @@ returns-clause-season g c =
     (scores-are _ c.args.league.now c.in_ok-tally.tally.weights c.in_ok-tally.ensures.rules)
     (c.in_ok-tally.ensures.counts ∙ ap (λ (games : List Game). counts_of games) c.games.ensures)
     (record {
-      round_robin = c.descend.ensures.round_robin;
+      round_robin = c.descend_watched.ensures.round_robin;
       first = c.in_ok-descent.ensures.first;
       fit = c.in_ok-descent.ensures.fit;
       in_order = c.in_ok-descent.ensures.in_order;
@@ -63,8 +63,8 @@ returns-clause-season g c =
     (subst (λ (n : ℕ). All (IsGame n) c.in_ok-schedule.schedule) teams c.in_ok-schedule.ensures.fit)
     c.in_ok-schedule.ensures.in_order
     (c.objective.ensures
-    ∙ cost-is _ c.args.league.now c.in_ok-tally.tally.weights c.descend.new.tally.weights end
-    c.in_ok-tally.ensures.rules c.descend.ensures.weights);
+    ∙ cost-is _ c.args.league.now c.in_ok-tally.tally.weights c.descend_watched.new.tally.weights end
+    c.in_ok-tally.ensures.rules c.descend_watched.ensures.weights);
     }
 
 pub returns-clause-first : goal.returns-clause-first
@@ -77,11 +77,11 @@ returns-clause-settles g c = λ some none_lower.
     let by = kept-moves c.args.moves (g.W.Watch.may_stop c.args.watch.now) c.in_ok-descent.descent.settled
     (length c.in_ok-descent.descent.trail) c.in_ok-descent.ensures.few c.in_ok-descent.ensures.spent
     (λ some. c.in_ok-descent.ensures.begun some) in
-    let end : Counts = table_counts c.descend.new.tally.table in
+    let end : Counts = table_counts c.descend_watched.new.tally.table in
     let counts : counts_of c.in_ok-schedule.schedule ≡ end =
     c.in_ok-schedule.ensures.counts ∙ ap (λ (t : Table). table_counts t) c.cells.ensures in
     let teams : c.cells.result.now.n ≡ c.args.league.now.n =
-    ap (λ (t : Table). t.n) c.cells.ensures ∙ c.descend.ensures.teams ∙ c.in_ok-tally.ensures.n in
+    ap (λ (t : Table). t.n) c.cells.ensures ∙ c.descend_watched.ensures.teams ∙ c.in_ok-tally.ensures.n in
     let first : counts_of c.in_ok-descent.descent.first ≡ counts_of c.args.start.now =
     c.in_ok-descent.ensures.first
     ∙ (c.in_ok-tally.ensures.counts ∙ ap (λ (games : List Game). counts_of games) c.games.ensures) in
@@ -95,7 +95,7 @@ returns-clause-settles g c = λ some none_lower.
     (scores-are _ c.args.league.now c.in_ok-tally.tally.weights c.in_ok-tally.ensures.rules)
     (c.in_ok-tally.ensures.counts ∙ ap (λ (games : List Game). counts_of games) c.games.ensures)
     (record {
-      round_robin = c.descend.ensures.round_robin;
+      round_robin = c.descend_watched.ensures.round_robin;
       first = c.in_ok-descent.ensures.first;
       fit = c.in_ok-descent.ensures.fit;
       in_order = c.in_ok-descent.ensures.in_order;
@@ -108,5 +108,5 @@ returns-clause-settles g c = λ some none_lower.
     (subst (λ (n : ℕ). All (IsGame n) c.in_ok-schedule.schedule) teams c.in_ok-schedule.ensures.fit)
     c.in_ok-schedule.ensures.in_order
     (c.objective.ensures
-    ∙ cost-is _ c.args.league.now c.in_ok-tally.tally.weights c.descend.new.tally.weights end
-    c.in_ok-tally.ensures.rules c.descend.ensures.weights)) first (by.some some) none_lower
+    ∙ cost-is _ c.args.league.now c.in_ok-tally.tally.weights c.descend_watched.new.tally.weights end
+    c.in_ok-tally.ensures.rules c.descend_watched.ensures.weights)) first (by.some some) none_lower
