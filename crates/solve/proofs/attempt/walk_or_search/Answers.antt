@@ -11,4 +11,4 @@ returns-in-Some g c =
     (subst
     (λ (o : Option Season). IfSome o (IsSeasonBy c.args.league.now c.args.budgets.moves
     (g.W.Watch.may_stop c.args.watch.now)))
-    c.in-Some.is c.in_ok-try_walk.ensures)
+    c.in-Some.is c.in_ok-season.ensures)

@@ -12,3 +12,13 @@ returns-in-Some-clause-solution g c =
     (subst (λ (o : Option Season). IfSome o (IsSeasonBy c.args.league.now c.args.budgets.moves (g.W.Watch.may_stop c.args.watch.now)))
     c.in-Some.is c.in_ok-season.ensures.season)
     (λ kept. c.schedule_found.ensures.solution c.args.league.now kept)
+
+pub returns-in-Some-2-clause-solution : goal.returns-in-Some-2-clause-solution
+returns-in-Some-2-clause-solution g c =
+    solved-season c.args.league.now c.args.budgets (g.W.Watch.may_stop c.args.watch.now) c.in-Some-2.season
+    c.schedule_found-in-Some-2.result
+    (subst
+    (λ (o : Option Season). IfSome o (IsSeasonBy c.args.league.now c.args.budgets.moves
+    (g.W.Watch.may_stop c.args.watch.now)))
+    c.in-Some-2.is c.in_ok-season-2.ensures.schedule)
+    (λ kept. c.schedule_found-in-Some-2.ensures.solution c.args.league.now kept)

@@ -16,7 +16,7 @@ returns-in-Refuted g c = record {
 
 pub returns-in_ok-tried-in-Patterns : goal.returns-in_ok-tried-in-Patterns
 returns-in_ok-tried-in-Patterns g c =
-    let by = c.in_ok-tried.ensures in
+    let by = c.in_ok-tried-in-Patterns.ensures in
     record {
       kept = by.kept;
       are_kept = by.are_kept;

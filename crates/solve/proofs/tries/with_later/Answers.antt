@@ -1,4 +1,4 @@
-use Rattle.std.proofs.Common.{Option, inl, subst}
+use Rattle.std.proofs.Common.{Option, subst}
 use Rattle.std.specs.Prelude.{IfSome}
 use Rattle.solve.specs.Tried.{IsSeason}
 use Rattle.solve.specs.declared.lower.Season.{Season}
@@ -8,6 +8,3 @@ pub returns-in-Some-clause-solution : goal.returns-in-Some-clause-solution
 returns-in-Some-clause-solution c = λ league earlier moves best walked.
     c.better.ensures.solution league earlier (record earlier { moves = moves }) best
     (subst (λ (o : Option Season). IfSome o (IsSeason league moves)) c.in-Some.is walked)
-
-pub returns-clause-solution : goal.returns-clause-solution
-returns-clause-solution c = λ league earlier moves best walked. inl best
