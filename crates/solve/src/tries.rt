@@ -112,9 +112,12 @@ pub(crate) fn with_later(best: Solved, walked: Option<Season>) -> Solved
 
 /// What a search comes to, or the schedule of a walk where there is one and it isn't worse.
 pub(crate) fn with_walked(found: Tried, walked: Option<Season>) -> Tried
-    ensures { (league : Instance) (budgets : Budgets) (moves : ℕ) → IsTried league budgets found
+    ensures tried { (league : Instance) (budgets : Budgets) (moves : ℕ) → IsTried league budgets found
         → IfSome walked (IsSeason league moves)
         → IsTried league budgets result ⊎ IsTried league (record budgets { moves = moves }) result }
+
+    // Of the walk's schedule and the search's the better one stays, and the walk's where they cost the same.
+    ensures best { IsBestOf (walked ∷ season_tried found ∷ []) (season_tried result) }
 {
     match walked {
         Some(season) => Tried::Found(better_season(season, found)),
