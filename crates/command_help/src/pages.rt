@@ -146,7 +146,7 @@ Status:  0  a season is found, and written with its objective
             is judged as by validate
          3  a file is refused, or the league is too large
          4  there is no season: the log proves it
-         5  a budget is spent: the log says what was learnt
+         5  a budget or the time is spent: the log says what was learnt
          6  a file can't be read
          7  the text can't be written
          8  memory ran out

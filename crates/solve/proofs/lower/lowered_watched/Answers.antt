@@ -39,32 +39,32 @@ returns-clause-season g c =
     let teams : c.cells.result.now.n ≡ c.args.league.now.n =
     ap (λ (t : Table). t.n) c.cells.ensures ∙ c.descend_watched.ensures.teams ∙ c.in_ok-tally.ensures.n in
     record {
-    kept = by.kept;
-    is_kept = by.is_kept;
-    is_season =
-    IsSchedule-of c.args.league.now (counts_of c.args.start.now) end by.kept c.in_ok-descent.descent
-    c.in_ok-schedule.schedule c.objective.result
-    (Descends-same c.in_ok-tally.tally.table.n c.args.league.now.n c.phased-phased.result c.args.league.now.phased
-    _ (league_score c.args.league.now) (table_counts c.in_ok-tally.tally.table) (counts_of c.args.start.now) end
-    by.kept c.in_ok-descent.descent c.in_ok-tally.ensures.n c.phased-phased.ensures
-    (scores-are _ c.args.league.now c.in_ok-tally.tally.weights c.in_ok-tally.ensures.rules)
-    (c.in_ok-tally.ensures.counts ∙ ap (λ (games : List Game). counts_of games) c.games.ensures)
-    (record {
-      round_robin = c.descend_watched.ensures.round_robin;
-      first = c.in_ok-descent.ensures.first;
-      fit = c.in_ok-descent.ensures.fit;
-      in_order = c.in_ok-descent.ensures.in_order;
-      trail = c.in_ok-descent.ensures.trail;
-      few = by.few;
-      settled = c.in_ok-descent.ensures.settled;
-      spent = by.spent;
-    }))
-    c.requires.accepted counts
-    (subst (λ (n : ℕ). All (IsGame n) c.in_ok-schedule.schedule) teams c.in_ok-schedule.ensures.fit)
-    c.in_ok-schedule.ensures.in_order
-    (c.objective.ensures
-    ∙ cost-is _ c.args.league.now c.in_ok-tally.tally.weights c.descend_watched.new.tally.weights end
-    c.in_ok-tally.ensures.rules c.descend_watched.ensures.weights);
+      kept = by.kept;
+      is_kept = by.is_kept;
+      is_season =
+          IsSchedule-of c.args.league.now (counts_of c.args.start.now) end by.kept c.in_ok-descent.descent
+          c.in_ok-schedule.schedule c.objective.result
+          (Descends-same c.in_ok-tally.tally.table.n c.args.league.now.n c.phased-phased.result c.args.league.now.phased
+          _ (league_score c.args.league.now) (table_counts c.in_ok-tally.tally.table) (counts_of c.args.start.now) end
+          by.kept c.in_ok-descent.descent c.in_ok-tally.ensures.n c.phased-phased.ensures
+          (scores-are _ c.args.league.now c.in_ok-tally.tally.weights c.in_ok-tally.ensures.rules)
+          (c.in_ok-tally.ensures.counts ∙ ap (λ (games : List Game). counts_of games) c.games.ensures)
+          (record {
+            round_robin = c.descend_watched.ensures.round_robin;
+            first = c.in_ok-descent.ensures.first;
+            fit = c.in_ok-descent.ensures.fit;
+            in_order = c.in_ok-descent.ensures.in_order;
+            trail = c.in_ok-descent.ensures.trail;
+            few = by.few;
+            settled = c.in_ok-descent.ensures.settled;
+            spent = by.spent;
+          }))
+          c.requires.accepted counts
+          (subst (λ (n : ℕ). All (IsGame n) c.in_ok-schedule.schedule) teams c.in_ok-schedule.ensures.fit)
+          c.in_ok-schedule.ensures.in_order
+          (c.objective.ensures
+          ∙ cost-is _ c.args.league.now c.in_ok-tally.tally.weights c.descend_watched.new.tally.weights end
+          c.in_ok-tally.ensures.rules c.descend_watched.ensures.weights);
     }
 
 pub returns-clause-first : goal.returns-clause-first
