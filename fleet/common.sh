@@ -100,11 +100,13 @@ keep() {
     return "$kept"
 }
 
-# Makes the folder with the league, or finds it there. What processes of this machine left that are no more is taken away:
-# the front of a file, under another name.
+# Makes the folder with the league, or finds it there. The front of a file, under another name, is taken away: what processes
+# of this machine left that are no more, and at its end what this one left.
 prepare_league() {
     [ -r "$instance" ] || fail 6 "can't read $instance"
     mkdir -p "$dir" && dir=$(cd "$dir" && pwd) || fail 6 "can't make the folder"
+    trap 'rm -f "$dir"/.*".$host.$$.part"' EXIT
+    trap 'exit 143' HUP INT TERM
     for part in "$dir"/.*."$host".*.part; do
         process=${part%.part}
         process=${process##*.}

@@ -17,7 +17,6 @@ prepare_league
 export ROBIN="$robin"
 end=$(($(date +%s) + seconds))
 count=$((last - first + 1))
-trap 'rm -f "$dir"/.*".$host.$$.part"' EXIT
 trap 'end=0' HUP INT TERM
 
 is_over() {
