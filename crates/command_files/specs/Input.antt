@@ -1,6 +1,6 @@
 -- Where `-` stands for standard input among the words behind a command.
 use Rattle.std.specs.Prelude.{◌==◌, ℕ, ◌+◌, ◌-◌, ◌^◌, min, List, [], ◌∷◌, Bool, true, false, not, ◌&&◌, if◌then◌else◌}
-use Rattle.std.specs.Prelude.{codes, bytes_eq, Option, Some, None}
+use Rattle.std.specs.Prelude.{codes, bytes_eq, Option, Some, None, is_some, option_and_then}
 use Rattle.std.specs.Str.{byte}
 use Rattle.command_line.specs.declared.topic.Topic.{Topic}
 use Rattle.command_line.specs.declared.topic.Topic.TheVariants.{Validate, Show, Solve, Patterns, Explain, Part, Check}
@@ -62,3 +62,12 @@ named command place word =
 abbrev pub named_from : Option Topic → Place → List (List ℕ) → List (List ℕ)
 named_from command place [] = []
 named_from command place (word ∷ words) = named command place word ∷ named_from command (next place word) words
+
+-- the words behind the first one that names standard input
+abbrev pub behind_input : List (List ℕ) → Option (List (List ℕ))
+behind_input [] = None
+behind_input (word ∷ words) = if bytes_eq word input_name then Some words else behind_input words
+
+-- whether words name it more than once
+abbrev pub is_twice : List (List ℕ) → Bool
+is_twice words = is_some (option_and_then behind_input (behind_input words))

@@ -1,5 +1,5 @@
 -- The options that the program itself takes, and the words that it leaves to the command.
-use Rattle.std.specs.Prelude.{◌==◌, ℕ, List, [], ◌∷◌, Bool, true, false, not, ◌&&◌, if◌then◌else◌, codes, bytes_eq}
+use Rattle.std.specs.Prelude.{◌==◌, ℕ, List, [], ◌∷◌, ◌++◌, Bool, true, false, not, ◌&&◌, if◌then◌else◌, codes, bytes_eq}
 use Rattle.std.specs.Prelude.{Option, Some, None, is_none}
 use Rattle.std.specs.Str.{byte}
 use Rattle.command_files.specs.declared.own.Own.{Own}
@@ -32,15 +32,17 @@ behind (Some option) word = None
 
 -- whether a word is left to the command, by the option whose value it is
 abbrev pub is_left : Option Own → List ℕ → Bool
-is_left before word = is_none before && (is_none (own_of word) && not (is_quiet word))
+is_left (Some option) word = false
+is_left None word = is_none (own_of word) && not (is_quiet word)
+
+-- the word, if it is left to the command
+abbrev pub left_word : Option Own → List ℕ → List (List ℕ)
+left_word before word = if is_left before word then word ∷ [] else []
 
 -- the words that are left to the command
 abbrev pub left_from : Option Own → List (List ℕ) → List (List ℕ)
 left_from before [] = []
-left_from before (word ∷ words) =
-    if is_left before word
-    then word ∷ left_from (behind before word) words
-    else left_from (behind before word) words
+left_from before (word ∷ words) = left_word before word ++ left_from (behind before word) words
 
 -- whether these are one option
 abbrev pub is_own : Own → Option Own → Bool

@@ -42,7 +42,7 @@ pub fn goes_to(command: Option<Topic>, status: Status) -> Goes
             }
         }
         Status::Refuted => {
-            if command == Some(Topic::Explain) {
+            if matches!(command, Some(Topic::Explain)) {
                 Goes::Out
             } else {
                 Goes::Log

@@ -1,7 +1,7 @@
 //! Words that stand for standard input.
-ghost use Rattle.std.specs.Prelude.{◌≡◌, ◌∷◌, [], nat_lt, count_by, map, string_bytes, bytes_eq, codes, IfOk};
+ghost use Rattle.std.specs.Prelude.{◌≡◌, map, string_bytes, option_map, IfOk};
 ghost use Rattle.command_files.specs.Input as inputs;
-ghost use Rattle.command_files.specs.Input.{named_from, input_name};
+ghost use Rattle.command_files.specs.Input.{named_from};
 ghost use Rattle.command_files.specs.declared.input.Place.TheVariants.{Argument};
 
 use command_line::Topic;
@@ -93,22 +93,36 @@ pub fn with_input(alloc: Global, command: Option<Topic>, words: &[String]) -> Re
     let mut read = Vec::new(alloc);
     let mut place = Place::Argument(0);
     for word in words {
-        let word = word.as_str();
-        read.push(String::from_str(alloc, named(command, place, word))?)?;
-        place = next(place, word);
+        let text = named(command, place, word.as_str());
+        read.push(String::from_str(alloc, text)?)?;
+        place = next(place, word.as_str());
     }
     Ok(read)
 }
 
-/// Whether standard input is named more than once.
-pub fn is_twice(words: &[String]) -> bool
-    ensures { result ≡ nat_lt 1 (count_by (λ word. bytes_eq word input_name) (map string_bytes words.now)) }
+/// The words behind the first one that names standard input.
+fn behind_input(words: &[String]) -> Option<&[String]>
+    ensures { option_map (λ rest. map string_bytes rest.now) result
+        ≡ inputs.behind_input (map string_bytes words.now) }
 {
-    let mut count = 0u64;
-    for word in words {
-        if word.as_str() == INPUT {
-            count += 1;
+    match words {
+        [] => None,
+        [word, rest @ ..] => {
+            if word.as_str() == INPUT {
+                Some(rest)
+            } else {
+                behind_input(rest)
+            }
         }
     }
-    count > 1
+}
+
+/// Whether standard input is named more than once.
+pub fn is_twice(words: &[String]) -> bool
+    ensures { result ≡ inputs.is_twice (map string_bytes words.now) }
+{
+    match behind_input(words) {
+        Some(rest) => behind_input(rest).is_some(),
+        None => false,
+    }
 }

@@ -43,3 +43,13 @@ pub(crate) fn behind(before: Option<Own>, word: &str) -> Option<Own>
         None => own_of(word),
     }
 }
+
+/// Whether an option is the one before a word.
+pub(crate) fn is_own(option: Own, before: Option<Own>) -> bool
+    ensures { result ≡ options.is_own option before }
+{
+    matches!(
+        (option, before),
+        (Own::Out, Some(Own::Out)) | (Own::Log, Some(Own::Log))
+    )
+}

@@ -1,11 +1,11 @@
 //! The words that the program itself takes, and those that it leaves.
-ghost use Rattle.std.specs.Prelude.{◌≡◌, None, map, string_bytes, IfOk};
+ghost use Rattle.std.specs.Prelude.{◌≡◌, ◌++◌, None, map, string_bytes, IfOk, OnOk};
 ghost use Rattle.command_line.specs.Standing.{once_more, standing};
 ghost use Rattle.command_files.specs.Own as options;
-ghost use Rattle.command_files.specs.Own.{left_from, values_from};
+ghost use Rattle.command_files.specs.Own.{left_from, left_word, values_from};
 ghost use Rattle.command_files.specs.SeenStanding.{seen};
 
-use crate::own::{Own, behind, own_of};
+use crate::own::{Own, behind, is_own, own_of};
 use std::alloc::{AllocError, Global};
 
 /// The word that asks to be told nothing of how a run goes.
@@ -38,7 +38,22 @@ pub fn is_name(word: &str) -> bool
 fn is_left(before: Option<Own>, word: &str) -> bool
     ensures { result ≡ options.is_left before word.now }
 {
-    before.is_none() && own_of(word).is_none() && !is_quiet(word)
+    match before {
+        Some(_) => false,
+        None => own_of(word).is_none() && !is_quiet(word),
+    }
+}
+
+/// Adds a word, if it is left to the command.
+fn add_left(left: &mut Vec<String>, before: Option<Own>, word: &str) -> Result<(), AllocError>
+    ensures { OnOk result
+        (map string_bytes left.new.items ≡ map string_bytes left.old.items ++ left_word before word.now) }
+{
+    if is_left(before, word) {
+        let alloc = *left.allocator();
+        left.push(String::from_str(alloc, word)?)?;
+    }
+    Ok(())
 }
 
 /// The words that are left to the command.
@@ -51,11 +66,8 @@ pub fn left_words(alloc: Global, words: &[String]) -> Result<Vec<String>, AllocE
     let mut left = Vec::new(alloc);
     let mut before = None;
     for word in words {
-        let word = word.as_str();
-        if is_left(before, word) {
-            left.push(String::from_str(alloc, word)?)?;
-        }
-        before = behind(before, word);
+        add_left(&mut left, before, word.as_str())?;
+        before = behind(before, word.as_str());
     }
     Ok(left)
 }
@@ -77,7 +89,7 @@ fn value_from<'a>(words: &'a [String], option: Own, before: Option<Own>) -> Stan
 {
     match words {
         [] => {
-            if before == Some(option) {
+            if is_own(option, before) {
                 Standing::Once("")
             } else {
                 Standing::Never
@@ -85,7 +97,7 @@ fn value_from<'a>(words: &'a [String], option: Own, before: Option<Own>) -> Stan
         }
         [word, rest @ ..] => {
             let later = value_from(rest, option, behind(before, word.as_str()));
-            if before == Some(option) {
+            if is_own(option, before) {
                 one_more(word.as_str(), later)
             } else {
                 later

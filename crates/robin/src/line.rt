@@ -51,6 +51,14 @@ fn file_of(arguments: &[String], option: Own) -> Result<Option<&str>, WordsFault
     })
 }
 
+/// A word, and others behind it.
+fn joined(alloc: Global, first: &str, mut rest: Vec<String>) -> Result<Vec<String>, AllocError> {
+    let mut words = Vec::new(alloc);
+    words.push(String::from_str(alloc, first)?)?;
+    words.append(&mut rest)?;
+    Ok(words)
+}
+
 /// The words of a command, as it is to read them.
 fn command_words(alloc: Global, left: &[String]) -> Result<(Vec<String>, Option<Topic>), WordsFault> {
     let [first, rest @ ..] = left else {
@@ -64,9 +72,7 @@ fn command_words(alloc: Global, left: &[String]) -> Result<(Vec<String>, Option<
             fault: " is read once, and - and /dev/stdin stand for it",
         });
     }
-    let mut words = Vec::new(alloc);
-    words.push(first.clone()?)?;
-    words.append(read)?;
+    let words = joined(alloc, first.as_str(), read)?;
     Ok((words, command))
 }
 
