@@ -50,11 +50,11 @@ Options stand before, between or behind the words, each once at most:
   --width N          characters of a line of the grid (80); of show
   --demands [LIST]   in place of SOLUTION: what a league demands; of show
 With every command:
-  --out FILE         the answer goes into FILE, whole or not at all; with solve
-                     the best season so far too, at most once a second
-  --log FILE         the log of status 4 or 5 goes into FILE
-  --quiet            no word of how a run goes
-A file's name - is standard input, at most once.
+  --out FILE         the answer goes into FILE, whole or not at all; of solve the
+                     best season so far too, once a second
+  --log FILE         a log of status 4 or 5 goes into FILE
+  --quiet            nothing is told of how a run goes
+A file's name - is standard input, once at most.
 
 Status:  0  accepted, found, proved or made     1  not accepted
          2  the words are no command
