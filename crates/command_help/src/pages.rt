@@ -50,8 +50,8 @@ Options stand before, between or behind the words, each once at most:
   --width N          characters of a line of the grid (80); of show
   --demands [LIST]   in place of SOLUTION: what a league demands; of show
 With every command:
-  --out FILE         the answer goes into FILE, whole or not at all; of solve the
-                     best season so far too, once a second
+  --out FILE         the answer goes into FILE, whole or not at all; of solve
+                     the best season so far too, once a second
   --log FILE         a log of status 4 or 5 goes into FILE
   --quiet            nothing is told of how a run goes
 A file's name - is standard input, once at most.
