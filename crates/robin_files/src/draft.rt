@@ -86,6 +86,18 @@ fn put_to<W: Write>(out: &mut W, piece: &[u8]) -> Result<usize, &'static str>
     }
 }
 
+/// Writes bytes from the front of a piece into a new file that is made.
+fn put_begun<F: Write>(begun: &mut Option<Begun<F>>, piece: &[u8]) -> Result<usize, &'static str>
+    requires { IsSome begun.old }
+    ensures most { IfOk result (λ k. k ≤ length piece.now) }
+    ensures some { IfOk result (λ k. 0 < length piece.now → 0 < k) }
+{
+    match begun {
+        Some(begun) => put_to(&mut begun.file, piece),
+        None => unreachable!(),
+    }
+}
+
 /// Brings a file whose text is whole onto the disk, and into the place of another one.
 fn settle<R: Files>(rt: &R, begun: Begun<R::File>, target: &str) -> Result<(), &'static str> {
     let Begun { file, name } = begun;
@@ -216,11 +228,7 @@ impl<R: Files> Sink for Draft<'_, R> {
             (λ _. draft_faults self.new ≡ raised (draft_faults self.old) 1) }
     {
         self.ensure_begun()?;
-        let put = match &mut self.begun {
-            Some(begun) => put_to(&mut begun.file, piece),
-            None => unreachable!(),
-        };
-        match put {
+        match put_begun(&mut self.begun, piece) {
             Ok(count) => Ok(count),
             Err(reason) => Err(self.fail(reason)),
         }

@@ -1,0 +1,13 @@
+-- Worked names of new files.
+use Rattle.std.proofs.Common.{◌≡◌, refl}
+use Rattle.std.specs.Fmt.{digits}
+use Rattle.std.specs.Prelude.{codes}
+use Rattle.robin_files.specs.Names.{draft_name}
+
+pub first-name : draft_name (codes "season.xml") 0 ≡ codes "season.xml.robin-0"
+unfolding digits
+first-name = refl
+
+pub last-name : draft_name (codes "a/b") 999 ≡ codes "a/b.robin-999"
+unfolding digits
+last-name = refl
