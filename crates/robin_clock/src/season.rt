@@ -1,8 +1,10 @@
 //! The text of an accepted season, as `solve` writes it but for its comments.
-ghost use Rattle.std.specs.Prelude.{◌≡◌, ◌++◌, length, take, OnOk, IfOk};
+ghost use Rattle.std.specs.Prelude.{◌≡◌, IfOk};
+ghost use Rattle.std.specs.List.Sorted.{IsPermutation};
 ghost use Rattle.league.specs.Accepted as costs;
 ghost use Rattle.league.specs.Accepted.{IsAccepted};
 ghost use Rattle.league.specs.Counts.{counts_of};
+ghost use Rattle.league.specs.Order.{IsInOrder};
 ghost use Rattle.robin_clock.specs.Season.{IsSeasonText};
 
 use league::{Game, League, Schedule};
@@ -16,12 +18,29 @@ pub(crate) struct Season {
     ghost accepted: { ∥ IsSeasonText text.items ∥₁ },
 }
 
-/// A schedule of these games, in order.
-fn ordered(alloc: Global, games: &[Game]) -> Result<Schedule, AllocError> {
+/// A schedule of these games.
+///
+/// # Errors
+/// Only where memory runs out.
+fn listed(alloc: Global, games: &[Game]) -> Result<Schedule, AllocError>
+    ensures { IfOk result (λ schedule. schedule ≡ games.now) }
+{
     let mut schedule = Schedule::new(alloc);
     for game in games {
         schedule.push(*game)?;
     }
+    Ok(schedule)
+}
+
+/// A schedule of these games, in order.
+///
+/// # Errors
+/// Only where memory runs out.
+fn ordered(alloc: Global, games: &[Game]) -> Result<Schedule, AllocError>
+    ensures permutation { IfOk result (λ schedule. IsPermutation games.now schedule) }
+    ensures in_order { IfOk result IsInOrder }
+{
+    let mut schedule = listed(alloc, games)?;
     schedule.put_in_order();
     Ok(schedule)
 }

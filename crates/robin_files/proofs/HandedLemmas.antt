@@ -1,5 +1,5 @@
 -- A file that is handed on in pieces: the front, one piece more, and the end.
-use Rattle.std.proofs.Common.{◌≡◌, ℕ, List, [], ◌++◌, Option, None, Some, IfSome, refl, sym, ap, subst, ◌∙◌, append-nil}
+use Rattle.std.proofs.Common.{◌≡◌, ℕ, List, [], ◌++◌, Option, None, Some, IfSome, sym, ap, subst, ◌∙◌, append-nil}
 use Rattle.std.proofs.KnownBytes.{Appends-nil, Appends-trans, Consumes-trans}
 use Rattle.std.specs.Io.KnownBytes.{Appends, Consumes, IsAtEnd, Keeps}
 use Rattle.robin_files.specs.Handed.{IsHanded}
@@ -17,9 +17,11 @@ handed-none file left written kept = ([], consumes-none file left kept, Appends-
 pub handed-more : (file left later before now after : Option (List ℕ)) (piece : List ℕ)
     → IsHanded file left before now → Consumes left later piece → Appends now after piece
     → IsHanded file later before after
-handed-more file left later before now after piece handed taken put =
-    (handed.0 ++ piece, Consumes-trans file left later handed.0 piece handed.1 taken,
-    Appends-trans before now after handed.0 piece handed.2 put)
+handed-more file left later before now after piece handed taken put = (
+  handed.0 ++ piece,
+  Consumes-trans file left later handed.0 piece handed.1 taken,
+  Appends-trans before now after handed.0 piece handed.2 put,
+)
 
 -- where nothing more is taken, and nothing is left, the whole is handed on
 pub handed-all : (file left last before now : Option (List ℕ)) (piece : List ℕ)

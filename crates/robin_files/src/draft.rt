@@ -1,8 +1,10 @@
 //! Drafts: new files, each of which takes the place of another file once its text is whole.
-ghost use Rattle.std.specs.Prelude.{◌≡◌, ◌<◌, ◌≤◌, None, length, take, IfOk, IsSome, OnOk, OnErr, MatchResult};
+ghost use Rattle.std.specs.Prelude.{◌≡◌, ◌<◌, ◌≤◌, None, length, take, string_bytes};
+ghost use Rattle.std.specs.Prelude.{IfOk, IsSome, OnOk, OnErr, MatchResult};
 ghost use Rattle.std.specs.Io.KnownBytes.{Appends, Keeps};
-ghost use Rattle.robin_io.specs.Counts.{raised, HasOneCause};
+ghost use Rattle.robin_io.specs.Counts.{raised};
 ghost use Rattle.robin_files.specs.DraftFields.{draft_faults, draft_file};
+ghost use Rattle.robin_files.specs.Names.{IsDraftOf};
 
 use crate::names::draft_name;
 use crate::reasons::{NO_MEMORY, reason_of};
@@ -45,7 +47,9 @@ fn look<R: Files>(rt: &R, target: &str) -> Result<Option<Metadata>, &'static str
 }
 
 /// Makes a file that wasn't there, of a name that no other process has made.
-fn make<R: Files>(rt: &R, alloc: Global, target: &str) -> Result<Begun<R::File>, &'static str> {
+fn make<R: Files>(rt: &R, alloc: Global, target: &str) -> Result<Begun<R::File>, &'static str>
+    ensures { IfOk result (λ begun. IsDraftOf target.now (string_bytes begun.name)) }
+{
     let mut how = OpenOptions::new();
     how.write(true).create_new(true);
     for number in 0..MOST_NAMES {
@@ -62,7 +66,9 @@ fn make<R: Files>(rt: &R, alloc: Global, target: &str) -> Result<Begun<R::File>,
 }
 
 /// Makes a new file beside a file, with the permissions of that one, where it is there.
-fn begin<R: Files>(rt: &R, alloc: Global, target: &str) -> Result<Begun<R::File>, &'static str> {
+fn begin<R: Files>(rt: &R, alloc: Global, target: &str) -> Result<Begun<R::File>, &'static str>
+    ensures { IfOk result (λ begun. IsDraftOf target.now (string_bytes begun.name)) }
+{
     let found = look(rt, target)?;
     let begun = make(rt, alloc, target)?;
     if let Some(found) = found {
@@ -160,6 +166,7 @@ impl<'a, R: Files> Draft<'a, R> {
     fn fail(&mut self, reason: &'static str) -> Failed
         ensures file { draft_file self.new ≡ draft_file self.old }
         ensures counted { draft_faults self.new ≡ raised (draft_faults self.old) 1 }
+        ensures later { draft_faults self.old ≤ draft_faults self.new }
     {
         self.reason = reason;
         self.faults = self.faults.saturating_add(1);
@@ -172,6 +179,7 @@ impl<'a, R: Files> Draft<'a, R> {
         ensures faults { MatchResult result
             (λ _. draft_faults self.new ≡ draft_faults self.old)
             (λ _. draft_faults self.new ≡ raised (draft_faults self.old) 1) }
+        ensures later { draft_faults self.old ≤ draft_faults self.new }
     {
         if self.begun.is_some() {
             return Ok(());
@@ -194,7 +202,10 @@ impl<'a, R: Files> Draft<'a, R> {
             return Err(self.reason);
         }
         let Draft {
-            rt, target, begun, ..
+            rt,
+            target,
+            begun,
+            ..
         } = self;
         match begun {
             Some(begun) => settle(rt, begun, target),
@@ -217,16 +228,7 @@ impl<R: Files> Sink for Draft<'_, R> {
 
     ghost faults = { draft_faults };
 
-    // The clauses of the trait, and then how faults are counted.
-    fn put(&mut self, piece: &[u8]) -> Result<usize, Failed>
-        ensures most { IfOk result (λ k. k ≤ length piece.now) }
-        ensures some { IfOk result (λ k. 0 < length piece.now → 0 < k) }
-        ensures cause { HasOneCause (draft_faults self.old) (draft_faults self.new) result }
-
-        ensures faults { MatchResult result
-            (λ _. draft_faults self.new ≡ draft_faults self.old)
-            (λ _. draft_faults self.new ≡ raised (draft_faults self.old) 1) }
-    {
+    fn put(&mut self, piece: &[u8]) -> Result<usize, Failed> {
         self.ensure_begun()?;
         match put_begun(&mut self.begun, piece) {
             Ok(count) => Ok(count),

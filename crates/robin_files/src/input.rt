@@ -2,7 +2,7 @@
 ghost use Rattle.std.specs.Prelude.{◌≡◌, ◌⊎◌, ◌-◌, ◌^◌, ◌<◌, ◌≤◌, ℕ, List, true, None, length, take};
 ghost use Rattle.std.specs.Prelude.{IfOk, OnOk, OnErr, MatchResult};
 ghost use Rattle.std.specs.Io.KnownBytes.{Consumes, IsAtEnd, Keeps};
-ghost use Rattle.robin_io.specs.Counts.{raised, HasCause};
+ghost use Rattle.robin_io.specs.Counts.{raised, HasCause, HasOneCause};
 ghost use Rattle.robin_files.specs.InputFields.{files_of, input_of, is_at_input, shelf_taken, shelf_failed};
 
 use robin_io::{Failed, Shelf};
@@ -62,17 +62,7 @@ impl<S: Shelf, I: Read> Shelf for InputShelf<S, I> {
     {
         // A field behind a `&mut` has its type's range only once it is read, and `last` needs it.
         let _taken = self.taken;
-        self.at_input = name == INPUT;
-        if self.at_input {
-            return Ok(());
-        }
-        match self.files.start(name) {
-            Ok(()) => Ok(()),
-            Err(Failed) => {
-                self.faults = self.faults.saturating_add(1);
-                Err(Failed)
-            }
-        }
+        self.choose(name)
     }
 
     // The clauses of the trait, and then that the room gets what standard input gives.
@@ -108,6 +98,26 @@ impl<S: Shelf, I: Read> Shelf for InputShelf<S, I> {
 }
 
 impl<S: Shelf, I: Read> InputShelf<S, I> {
+    /// Starts standard input or a file, by the name.
+    fn choose(&mut self, name: &str) -> Result<(), Failed>
+        ensures started { OnOk result ((is_at_input self.new ≡ true) ⊎ S.started (files_of self.new) name.now) }
+        ensures taken { shelf_taken self.new ≡ shelf_taken self.old }
+        ensures input { input_of self.new ≡ input_of self.old }
+        ensures cause { HasOneCause (shelf_failed self.old) (shelf_failed self.new) result }
+    {
+        self.at_input = name == INPUT;
+        if self.at_input {
+            return Ok(());
+        }
+        match self.files.start(name) {
+            Ok(()) => Ok(()),
+            Err(Failed) => {
+                self.faults = self.faults.saturating_add(1);
+                Err(Failed)
+            }
+        }
+    }
+
     /// Takes the next bytes, of standard input or of the started file.
     fn take_next(&mut self, name: &str, room: &mut [u8]) -> Result<usize, Failed>
         requires { (is_at_input self.old ≡ true) ⊎ S.started (files_of self.old) name.now }
