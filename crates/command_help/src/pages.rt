@@ -130,9 +130,8 @@ better ones by moves; or writes a log that proves that there is no season.
 
 Use --seconds first: tries go on until then, and the best season is written.
 Options stand before or behind the file, each once at most:
-  --seconds N    after N seconds walks end, no further try begins, and the best
-                 season is written; a search ends by its own budget. Without
-                 --tries, tries go on until then
+  --seconds N    after N seconds the run ends, and the best season is written.
+                 Without --tries, tries go on until then
   --conflicts N  each search learns at most N clauses (2000); all in place of
                  N: any number
   --moves N      at most N moves lead to better seasons, and a walk tries at
@@ -153,7 +152,7 @@ Status:  0  a season is found, and written with its objective
             is judged as by validate
          3  a file is refused, or the league is too large
          4  there is no season: the log proves it
-         5  a budget is spent: the log says what was learnt
+         5  a budget or the time is spent: the log says what was learnt
          6  a file can't be read
          7  the text can't be written
          8  memory ran out

@@ -19,9 +19,10 @@ use Rattle.command_check.specs.Check.{encodes}
 use Rattle.instance_gen.specs.Draws.{seeded}
 use Rattle.instance_gen.specs.Made.{made_league}
 use Rattle.solve.specs.Solutions as solutions
+use Rattle.solve.specs.declared.solved.Solved.{Solved}
 use Rattle.command_solve.specs.Solve.{descent_text}
 use Rattle.command_solve.proofs.FoundLemmas.{schedule-told}
-use Rattle.command_make.specs.Trial.{IsTrial, found_lines, league_lines, tried}
+use Rattle.command_make.specs.Trial.{IsTrial, IsTrialBy, found_lines, league_lines, tried}
 
 -- what the first schedule of a descent costs
 abbrev first_cost : Instance → Descended → ℕ
@@ -75,9 +76,19 @@ accepts-own n seed league is accepts =
     subst (λ (k : ℕ). IsAccepted league (counts_of (double_games k))) (sym (ap (λ (l : Instance). l.n) is)) accepts
 
 -- what is found of it, said of its numbers
-pub replied-tried : (n seed : ℕ) (budgets : Budgets) (league : Instance) (result : Result Reply NoValue)
-    → league ≡ made_league n (seeded seed)
-    → Answers (encodes league (λ rows. IsTrial league.n seed league budgets.moves)) result
-    → Answers (tried n seed budgets) result
-replied-tried n seed budgets league result is found =
-    subst (λ (l : Instance). Answers (encodes l (λ rows. IsTrial l.n seed l budgets.moves)) result) is found
+pub replied-tried : (n seed : ℕ) (budgets : Budgets) (may_stop : Type 0) (league : Instance)
+    (result : Result Reply NoValue) → league ≡ made_league n (seeded seed)
+    → Answers (encodes league (λ rows. IsTrialBy league.n seed league budgets.moves may_stop)) result
+    → Answers (tried n seed budgets may_stop) result
+replied-tried n seed budgets may_stop league result is found =
+    subst (λ (l : Instance). Answers (encodes l (λ rows. IsTrialBy l.n seed l budgets.moves may_stop)) result) is found
+
+-- ---- within the budgets to which the run kept
+
+pub trial-by : (seed : ℕ) (league : Instance) (budgets : Budgets) (may_stop : Type 0) (solved : Solved) (reply : Reply)
+    → solutions.IsSolutionBy league budgets may_stop solved
+    → ((kept : Budgets) → solutions.IsSolution league kept solved
+    → IsTrial league.n seed league kept.moves (answer_of reply))
+    → IsTrialBy league.n seed league budgets.moves may_stop (answer_of reply)
+trial-by seed league budgets may_stop solved reply by each =
+    record { kept = by.kept.moves; is_kept = by.are_kept.moves; is_trial = each by.kept by.solution }

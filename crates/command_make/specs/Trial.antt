@@ -1,5 +1,5 @@
 -- What `trial` writes of the league that it makes: seven lines, and behind them what `solve` writes of a schedule.
-use Rattle.std.specs.Prelude.{◌≡◌, ℕ, ◌++◌, Bool, if◌then◌else◌, List, length, codes, decimal}
+use Rattle.std.specs.Prelude.{◌≡◌, ℕ, ◌++◌, Bool, if◌then◌else◌, List, length, Some, codes, decimal}
 use Rattle.league.specs.Accepted.{objective}
 use Rattle.league.specs.Counts.{counts_of}
 use Rattle.league.specs.Instance.{Instance}
@@ -7,6 +7,7 @@ use Rattle.league.specs.declared.game.Game.{Game}
 use Rattle.answers.specs.Reply.{Answer}
 use Rattle.answers.specs.Stages.{Outcome}
 use Rattle.answers.specs.declared.status.Status.TheVariants.{Yes}
+use Rattle.robin_watch.specs.Limits.{IsKeptTo}
 use Rattle.budgets.specs.declared.budgets.Budgets.{Budgets}
 use Rattle.descent.specs.Descended.{Descended}
 use Rattle.command_check.specs.Check.{encodes}
@@ -46,9 +47,18 @@ pub record IsTrial (n seed : ℕ) (league : Instance) (moves : ℕ) (answer : An
   pub status : answer.status ≡ Yes
   pub text : answer.text ≡ summary n seed league schedule.games schedule.descent ++ solved.text
 
+-- That, with as many moves as the run kept to: as many as were set, or, where it may be stopped, fewer.
+pub record IsTrialBy (n seed : ℕ) (league : Instance) (moves : ℕ) (may_stop : Type 0) (answer : Answer)
+    : Type 0 where
+  pub kept : ℕ
+  pub is_kept : IsKeptTo (Some moves) may_stop (Some kept)
+  pub is_trial : IsTrial n seed league kept answer
+
 -- ---- stages
 
--- `trial`: a schedule is found of the made league, unless its rows have too many terms
-abbrev pub tried : ℕ → ℕ → Budgets → Outcome
-tried n seed budgets =
-    encodes (made_league n (seeded seed)) (λ rows. IsTrial n seed (made_league n (seeded seed)) budgets.moves)
+-- `trial`, by a run that may be stopped where `may_stop` says so: a schedule is found of the made league, unless its rows
+-- have too many terms
+abbrev pub tried : ℕ → ℕ → Budgets → Type 0 → Outcome
+tried n seed budgets may_stop =
+    encodes (made_league n (seeded seed))
+    (λ rows. IsTrialBy n seed (made_league n (seeded seed)) budgets.moves may_stop)

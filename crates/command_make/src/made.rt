@@ -12,7 +12,8 @@ ghost use Rattle.answers.specs.declared.status.Status.TheVariants.{Yes};
 ghost use Rattle.command_check.specs.Check.{encodes};
 ghost use Rattle.solve.specs.Solutions.{HasSchedule, IsSolution};
 ghost use Rattle.command_solve.specs.Solve.{descent_text};
-ghost use Rattle.command_make.specs.Trial.{IsTrial, found_lines, league_lines, tried};
+ghost use Rattle.budgets.specs.declared.budgets.Budgets.{Budgets};
+ghost use Rattle.command_make.specs.Trial.{IsTrial, IsTrialBy, found_lines, league_lines, tried};
 
 use crate::summary::{found_lines, league_lines};
 use answers::{NoValue, Reply, Status, rows_refused};
@@ -39,7 +40,7 @@ pub fn trial<W: Listener>(
     watch: &W,
 ) -> Result<Reply, NoValue>
     requires teams { IsTeamCount n }
-    ensures { Answers (tried n seed budgets) result }
+    ensures { Answers (tried n seed budgets (W.may_stop watch.now)) result }
 {
     let league = make(alloc, n, seed)?;
     solve_made(alloc, &league, seed, budgets, watch)
@@ -54,10 +55,11 @@ fn solve_made<W: Listener>(
     watch: &W,
 ) -> Result<Reply, NoValue>
     requires circle { IsAccepted league.now (counts_of (double_games league.now.n)) }
-    ensures { Answers (encodes league.now (λ rows. IsTrial league.now.n seed league.now budgets.moves)) result }
+    ensures { Answers (encodes league.now (λ rows. IsTrialBy league.now.n seed league.now budgets.moves
+        (W.may_stop watch.now))) result }
 {
     match solve(alloc, league, budgets, watch) {
-        Ok(solved) => Ok(found_reply(alloc, league, seed, budgets, &solved)?),
+        Ok(solved) => Ok(found_reply(alloc, league, seed, &solved)?),
         Err(EncodeFault::TooLarge { terms }) => Err(NoValue::Refused(rows_refused(alloc, terms)?)),
         Err(EncodeFault::Mem) => Err(NoValue::Memory),
     }
@@ -68,12 +70,12 @@ fn found_reply(
     alloc: Global,
     league: &League,
     seed: u64,
-    budgets: Budgets,
     solved: &Solved,
 ) -> Result<Reply, AllocError>
-    requires solution { IsSolution league.now budgets solved.now }
+    requires solution { (budgets : Budgets) × IsSolution league.now budgets solved.now }
     requires schedule { HasSchedule solved.now }
-    ensures { IfOk result (λ reply. IsTrial league.now.n seed league.now budgets.moves (answer_of reply)) }
+    ensures { (budgets : Budgets) → IsSolution league.now budgets solved.now
+        → IfOk result (λ reply. IsTrial league.now.n seed league.now budgets.moves (answer_of reply)) }
 {
     let _n = league.n();
     match solved {

@@ -1,31 +1,34 @@
 -- What follows from an answer of `solve`.
-use Rattle.std.proofs.Common.{◌∷◌, [], ◌≡◌, ℕ, List, Some, Ok, codes, ap, inl, inr, sym, ◌∙◌}
+use Rattle.std.proofs.Common.{◌∷◌, [], ◌≡◌, ℕ, List, Some, Option, None, Result, Ok, Err, codes, ap, inl, inr, sym, ◌∙◌}
 use Rattle.robin_io.specs.Outside.{Store}
 use Rattle.rows.specs.Rows.{Row}
+use Rattle.robin_watch.proofs.LimitLemmas.{kept-unstopped}
 use Rattle.budgets.specs.declared.budgets.Budgets.{Budgets}
 use Rattle.league.specs.Instance.{Instance}
 use Rattle.robinx_tags.specs.Pieces.{pieces}
 use Rattle.robinx_form.specs.InstanceFile.{instance_of}
+use Rattle.robinx_form.specs.Walk.{Fault}
 use Rattle.robinx_read.specs.declared.instance.TheConstants.{INSTANCE_LIMIT}
 use Rattle.answers.specs.Reply.{Answer}
 use Rattle.answers.specs.Stages.{NoneFails, says}
-use Rattle.answers.specs.declared.status.Status.TheVariants.{Yes, File, Refuted, Spent}
+use Rattle.answers.specs.declared.status.Status.TheVariants.{Yes, File, Refuted, ReadFault, Spent}
 use Rattle.season_check.specs.Excluded.{NoneAccepted}
 use Rattle.answers.proofs.StageLemmas.{first-works, says-known, takes-known, takes-refuted}
 use Rattle.encoding_base.specs.Encoding.{rows_of}
 use Rattle.command_check.specs.Check.{encodes}
 use Rattle.command_check.proofs.AnswerLemmas.{encodes-small}
-use Rattle.command_solve.specs.Solve.{IsFound, IsWellFormedInstance, solved}
+use Rattle.command_solve.specs.Solve.{IsFound, IsFoundBy, IsWellFormedInstance, solved}
 
 -- a well-formed instance at which nothing fails: the answer is what is found of its league
-pub solved-well_formed : (store : Store) (instance : List ℕ) (budgets : Budgets) (league : Instance) (answer : Answer)
-    → IsWellFormedInstance store instance league → NoneFails store (instance ∷ []) → solved store instance budgets answer → IsFound league budgets (rows_of league) answer
-solved-well_formed store instance budgets league answer good works given =
-    encodes-small league (IsFound league budgets) answer good.small
-    (says-known (codes "instance") (instance_of (pieces good.bytes)) league (λ l. encodes l (IsFound l budgets)) answer good.says_league
+pub solved-well_formed : (store : Store) (instance : List ℕ) (budgets : Budgets) (may_stop : Type 0) (league : Instance) (answer : Answer)
+    → IsWellFormedInstance store instance league → NoneFails store (instance ∷ []) → solved store instance budgets may_stop answer
+    → IsFoundBy league budgets may_stop (rows_of league) answer
+solved-well_formed store instance budgets may_stop league answer good works given =
+    encodes-small league (IsFoundBy league budgets may_stop) answer good.small
+    (says-known (codes "instance") (instance_of (pieces good.bytes)) league (λ l. encodes l (IsFoundBy l budgets may_stop)) answer good.says_league
     (takes-known (codes "instance") (store.contents instance) INSTANCE_LIMIT (store.took_more INSTANCE_LIMIT)
     (store.failed instance)
-    (λ bytes. says (codes "instance") (instance_of (pieces bytes)) (λ l. encodes l (IsFound l budgets))) answer
+    (λ bytes. says (codes "instance") (instance_of (pieces bytes)) (λ l. encodes l (IsFoundBy l budgets may_stop))) answer
     good.bytes good.known good.within (first-works store instance [] works) given))
 
 pub found-refuted : (league : Instance) (budgets : Budgets) (rows : List Row) (answer : Answer) → answer.status ≡ Refuted → IsFound league budgets rows answer → NoneAccepted league
@@ -36,14 +39,56 @@ found-refuted league budgets rows answer ended found =
       | inr (inr spent) ↦ let same : Spent ≡ Refuted = sym spent.status ∙ ended in absurd (cc)
     ]
 
-encoded-refuted : (league : Instance) (budgets : Budgets) (answer : Answer) → answer.status ≡ Refuted → encodes league (IsFound league budgets) answer → NoneAccepted league
-encoded-refuted league budgets answer ended (inl h) = found-refuted league budgets (rows_of league) answer ended h.1
-encoded-refuted league budgets answer ended (inr h) = let same : File ≡ Refuted = sym (ap (λ (a : Answer). a.status) h.1) ∙ ended in absurd (cc)
+encoded-refuted : (league : Instance) (budgets : Budgets) (may_stop : Type 0) (answer : Answer)
+    → answer.status ≡ Refuted → encodes league (IsFoundBy league budgets may_stop) answer → NoneAccepted league
+encoded-refuted league budgets may_stop answer ended (inl h) =
+    found-refuted league h.1.kept (rows_of league) answer ended h.1.is_found
+encoded-refuted league budgets may_stop answer ended (inr h) = let same : File ≡ Refuted = sym (ap (λ (a : Answer). a.status) h.1) ∙ ended in absurd (cc)
 
 -- where the answer is a refutation, the league of the instance file accepts no list of games
-pub solved-refuted : (store : Store) (instance bytes : List ℕ) (budgets : Budgets) (league : Instance) (answer : Answer)
-    → store.contents instance ≡ Some bytes → instance_of (pieces bytes) ≡ Ok league → answer.status ≡ Refuted → solved store instance budgets answer → NoneAccepted league
-solved-refuted store instance bytes budgets league answer known says_league ended given =
-    encoded-refuted league budgets answer ended
-    (says-known (codes "instance") (instance_of (pieces bytes)) league (λ l. encodes l (IsFound l budgets)) answer says_league
-    (takes-refuted (codes "instance") (store.contents instance) INSTANCE_LIMIT (store.took_more INSTANCE_LIMIT) (store.failed instance) (λ first. says (codes "instance") (instance_of (pieces first)) (λ l. encodes l (IsFound l budgets))) answer bytes known ended given))
+pub solved-refuted : (store : Store) (instance bytes : List ℕ) (budgets : Budgets) (may_stop : Type 0) (league : Instance) (answer : Answer)
+    → store.contents instance ≡ Some bytes → instance_of (pieces bytes) ≡ Ok league → answer.status ≡ Refuted → solved store instance budgets may_stop answer → NoneAccepted league
+solved-refuted store instance bytes budgets may_stop league answer known says_league ended given =
+    encoded-refuted league budgets may_stop answer ended
+    (says-known (codes "instance") (instance_of (pieces bytes)) league (λ l. encodes l (IsFoundBy l budgets may_stop)) answer says_league
+    (takes-refuted (codes "instance") (store.contents instance) INSTANCE_LIMIT (store.took_more INSTANCE_LIMIT) (store.failed instance) (λ first. says (codes "instance") (instance_of (pieces first)) (λ l. encodes l (IsFoundBy l budgets may_stop))) answer bytes known ended given))
+
+-- ---- where nothing may stop the run
+
+found-unlimited : (league : Instance) (budgets : Budgets) (rows : List Row) (answer : Answer)
+    → budgets.conflicts ≡ None → IsFound league budgets rows answer → answer.status ≡ Spent → ⊥
+found-unlimited league budgets rows answer none found ended =
+    elim found.found [
+      | inl schedule ↦ let same : Yes ≡ Spent = sym schedule.status ∙ ended in cc
+      | inr (inl refuted) ↦ let same : Refuted ≡ Spent = sym refuted.status ∙ ended in cc
+      | inr (inr spent) ↦ let same = sym none ∙ spent.budget in cc
+    ]
+
+encoded-unlimited : (league : Instance) (budgets : Budgets) (may_stop : Type 0) (answer : Answer)
+    → budgets.conflicts ≡ None → (may_stop → ⊥) → encodes league (IsFoundBy league budgets may_stop) answer
+    → answer.status ≡ Spent → ⊥
+encoded-unlimited league budgets may_stop answer none never (inl h) ended =
+    found-unlimited league h.1.kept (rows_of league) answer
+    (kept-unstopped budgets.conflicts may_stop h.1.kept.conflicts never h.1.are_kept.conflicts ∙ none) h.1.is_found
+    ended
+encoded-unlimited league budgets may_stop answer none never (inr h) ended =
+    let same : File ≡ Spent = sym (ap (λ (a : Answer). a.status) h.1) ∙ ended in cc
+
+said-unlimited : (said : Result Instance Fault) (budgets : Budgets) (may_stop : Type 0) (answer : Answer)
+    → budgets.conflicts ≡ None → (may_stop → ⊥)
+    → says (codes "instance") said (λ l. encodes l (IsFoundBy l budgets may_stop)) answer → answer.status ≡ Spent → ⊥
+said-unlimited (Ok league) budgets may_stop answer none never given ended =
+    encoded-unlimited league budgets may_stop answer none never given ended
+said-unlimited (Err fault) budgets may_stop answer none never given ended =
+    let same : File ≡ Spent = sym (ap (λ (a : Answer). a.status) given) ∙ ended in cc
+
+-- without a budget of conflicts no answer is a budget that is spent
+pub solved-unlimited : (store : Store) (instance : List ℕ) (budgets : Budgets) (may_stop : Type 0) (answer : Answer)
+    → budgets.conflicts ≡ None → (may_stop → ⊥) → solved store instance budgets may_stop answer
+    → answer.status ≡ Spent → ⊥
+solved-unlimited store instance budgets may_stop answer none never (inl read) ended =
+    said-unlimited (instance_of (pieces read.0)) budgets may_stop answer none never read.2 ended
+solved-unlimited store instance budgets may_stop answer none never (inr (inl h)) ended =
+    let same : File ≡ Spent = sym (ap (λ (a : Answer). a.status) h.2) ∙ ended in cc
+solved-unlimited store instance budgets may_stop answer none never (inr (inr h)) ended =
+    let same : ReadFault ≡ Spent = sym (ap (λ (a : Answer). a.status) h.1) ∙ ended in cc

@@ -20,15 +20,16 @@ use Rattle.answers.specs.SeenReply.{answer_of}
 use Rattle.answers.specs.declared.reply.Reply.{Reply}
 use Rattle.answers.specs.declared.status.Status.TheVariants.{Yes, Refuted, Spent}
 use Rattle.pattern_search.specs.declared.found.PatternFound.{PatternFound}
-use Rattle.solve.specs.Solutions.{IsSpentOn, LeavesOpen, RefutesLeague}
+use Rattle.solve.specs.Solutions.{IsSolution, IsSolutionBy, IsSpentOn, LeavesOpen, RefutesLeague}
 use Rattle.solve.specs.Solutions as solutions
 use Rattle.solve.proofs.FewLemmas.{round_robin-few}
+use Rattle.solve.specs.declared.solved.Solved.{Solved}
 use Rattle.solve.proofs.LowerLemmas.{IsDescent-climbs, IsDescent-settles}
 use Rattle.descent.specs.Descended.{Descended}
 use Rattle.venue_counts.specs.VenueCounts.{are_crowded, are_short}
 use Rattle.break_counts.specs.BreakCounts.{are_few}
 use Rattle.command_solve.specs.From.{IsScheduleWithin}
-use Rattle.command_solve.specs.Solve.{IsFound, IsSchedule, descent_text}
+use Rattle.command_solve.specs.Solve.{IsFound, IsFoundBy, IsSchedule, descent_text}
 use Rattle.command_solve.proofs.ReadingLemmas.{schedule-reads_back}
 
 -- a schedule that is written
@@ -171,3 +172,12 @@ replied-spent league budgets steps patterns (Ok reply) spent no_circle not_short
     text reads_back
 replied-spent league budgets steps patterns (Err error) spent no_circle not_short not_crowded enough status text reads_back =
     tt
+
+-- ---- within the budgets to which the run kept
+
+pub found-by : (league : Instance) (budgets : Budgets) (may_stop : Type 0) (solved : Solved) (reply : Reply)
+    → IsSolutionBy league budgets may_stop solved
+    → ((kept : Budgets) → IsSolution league kept solved → IsFound league kept (rows_of league) (answer_of reply))
+    → IsFoundBy league budgets may_stop (rows_of league) (answer_of reply)
+found-by league budgets may_stop solved reply by each =
+    record { kept = by.kept; are_kept = by.are_kept; is_found = each by.kept by.solution }

@@ -27,125 +27,134 @@ use Rattle.command_check.proofs.AnswerLemmas.{encodes-small}
 use Rattle.command_validate.specs.Validate.{IsWellFormedPair}
 use Rattle.command_solve.specs.From.{IsBegun, IsFoundFrom, IsNoStart, IsScheduleWithin, IsWellFormedStart, begun}
 use Rattle.command_solve.specs.Solve.{IsFound}
+use Rattle.solve.specs.Solutions.{CostsAtMost, IsSolution, IsSolutionBy}
+use Rattle.solve.specs.declared.solved.Solved.{Solved}
 use Rattle.command_solve.proofs.AnswerLemmas.{found-refuted}
 
 -- ---- stages
 
 -- the stages behind the league, where the instance file had so many bytes
-abbrev start_stages : Store → List ℕ → Budgets → ℕ → Instance → Outcome
-start_stages store solution budgets front league =
+abbrev start_stages : Store → List ℕ → Budgets → Type 0 → ℕ → Instance → Outcome
+start_stages store solution budgets may_stop front league =
     takes (codes "solution") (store.contents solution) SOLUTION_LIMIT (store.took_more (front + SOLUTION_LIMIT))
     (store.failed solution)
-    (λ bytes. says (codes "solution") (solution_of league.n (pieces bytes)) (IsBegun league budgets))
+    (λ bytes. says (codes "solution") (solution_of league.n (pieces bytes)) (IsBegun league budgets may_stop))
 
 -- the instance file is read and says a league: what comes then is the answer
-after-league : (store : Store) (instance solution : List ℕ) (budgets : Budgets) (first : List ℕ) (league : Instance)
+after-league : (store : Store) (instance solution : List ℕ) (budgets : Budgets) (may_stop : Type 0) (first : List ℕ) (league : Instance)
     → IsFile (store.contents instance) INSTANCE_LIMIT first → instance_of (pieces first) ≡ Ok league → (answer : Answer)
-    → start_stages store solution budgets (length first) league answer → begun store instance solution budgets answer
-after-league store instance solution budgets first league is_first says_league answer rest =
+    → start_stages store solution budgets may_stop (length first) league answer → begun store instance solution budgets may_stop answer
+after-league store instance solution budgets may_stop first league is_first says_league answer rest =
     inl (
       first,
       is_first,
       says-value (codes "instance") (instance_of (pieces first)) league
-          (start_stages store solution budgets (length first)) answer says_league rest,
+          (start_stages store solution budgets may_stop (length first)) answer says_league rest,
     )
 
 -- the solution isn't read
-pub begun-unread : (store : Store) (instance solution : List ℕ) (budgets : Budgets) (first : List ℕ)
+pub begun-unread : (store : Store) (instance solution : List ℕ) (budgets : Budgets) (may_stop : Type 0) (first : List ℕ)
     (league : Instance) → IsFile (store.contents instance) INSTANCE_LIMIT first
     → instance_of (pieces first) ≡ Ok league → (answer : Answer)
     → IsUnread (codes "solution") (store.contents solution) SOLUTION_LIMIT (store.took_more (length first + SOLUTION_LIMIT))
-    (store.failed solution) answer → begun store instance solution budgets answer
-begun-unread store instance solution budgets first league is_first says_league answer unread =
-    after-league store instance solution budgets first league is_first says_league answer (inr unread)
+    (store.failed solution) answer → begun store instance solution budgets may_stop answer
+begun-unread store instance solution budgets may_stop first league is_first says_league answer unread =
+    after-league store instance solution budgets may_stop first league is_first says_league answer (inr unread)
 
 -- the solution is read: the rest is the answer to what it says
-pub begun-last : (store : Store) (instance solution : List ℕ) (budgets : Budgets) (first second : List ℕ)
+pub begun-last : (store : Store) (instance solution : List ℕ) (budgets : Budgets) (may_stop : Type 0) (first second : List ℕ)
     (league : Instance) → IsFile (store.contents instance) INSTANCE_LIMIT first
     → instance_of (pieces first) ≡ Ok league → IsFile (store.contents solution) SOLUTION_LIMIT second
-    → (answer : Answer) → says (codes "solution") (solution_of league.n (pieces second)) (IsBegun league budgets) answer
-    → begun store instance solution budgets answer
-begun-last store instance solution budgets first second league is_first says_league is_second answer last =
-    after-league store instance solution budgets first league is_first says_league answer (inl (second, is_second, last))
+    → (answer : Answer) → says (codes "solution") (solution_of league.n (pieces second)) (IsBegun league budgets may_stop) answer
+    → begun store instance solution budgets may_stop answer
+begun-last store instance solution budgets may_stop first second league is_first says_league is_second answer last =
+    after-league store instance solution budgets may_stop first league is_first says_league answer (inl (second, is_second, last))
 
 -- ---- a start
 
 -- what is found from a start is what is found of its league, and costs no more than the start
-pub found-answered : (league : Instance) (budgets : Budgets) (start : List Game) (answer : Answer)
-    → encoding_size league ≤ most_terms → IsFound league budgets (rows_of league) answer
-    → (IsAccepted league (counts_of start)
-    → IsScheduleWithin league budgets.moves (objective league (counts_of start)) answer)
-    → encodes league (IsFoundFrom league start budgets) answer
-found-answered league budgets start answer small found within =
-    inl (small, record { found = found; no_worse = within })
+pub found-answered : (league : Instance) (budgets : Budgets) (may_stop : Type 0) (start : List Game) (solved : Solved)
+    (answer : Answer) → encoding_size league ≤ most_terms → IsSolutionBy league budgets may_stop solved
+    → (IsAccepted league (counts_of start) → CostsAtMost (objective league (counts_of start)) solved)
+    → ((kept : Budgets) → IsSolution league kept solved → IsFound league kept (rows_of league) answer)
+    → ((kept : Budgets) (most : ℕ) → IsSolution league kept solved → CostsAtMost most solved
+    → IsScheduleWithin league kept.moves most answer)
+    → encodes league (IsFoundFrom league start budgets may_stop) answer
+found-answered league budgets may_stop start solved answer small by costs found within = inl (
+  small,
+  record {
+    found = record { kept = by.kept; are_kept = by.are_kept; is_found = found by.kept by.solution };
+    no_worse = λ accepted. within by.kept (objective league (counts_of start)) by.solution (costs accepted);
+  },
+)
 
 -- ---- what follows from an answer
 
 other : (a b : Status) (answer : Answer) → answer.status ≡ a → answer.status ≡ b → a ≡ b
 other a b answer first second = sym first ∙ second
 
-begun-small : (league : Instance) (budgets : Budgets) (start : List Game) (answer : Answer)
+begun-small : (league : Instance) (budgets : Budgets) (may_stop : Type 0) (start : List Game) (answer : Answer)
     → IsRoundRobin league.n league.phased (counts_of start) → encoding_size league ≤ most_terms
-    → IsBegun league budgets start answer → IsFoundFrom league start budgets (rows_of league) answer
-begun-small league budgets start answer round_robin small (inl h) = absurd (h.no_round_robin round_robin)
-begun-small league budgets start answer round_robin small (inr h) =
-    encodes-small league (IsFoundFrom league start budgets) answer small h.1
+    → IsBegun league budgets may_stop start answer → IsFoundFrom league start budgets may_stop (rows_of league) answer
+begun-small league budgets may_stop start answer round_robin small (inl h) = absurd (h.no_round_robin round_robin)
+begun-small league budgets may_stop start answer round_robin small (inr h) =
+    encodes-small league (IsFoundFrom league start budgets may_stop) answer small h.1
 
 -- two well-formed files at which nothing fails: the answer is what their season begins
-begun-known : (store : Store) (instance solution : List ℕ) (budgets : Budgets) (league : Instance) (start : List Game)
+begun-known : (store : Store) (instance solution : List ℕ) (budgets : Budgets) (may_stop : Type 0) (league : Instance) (start : List Game)
     (answer : Answer) → IsWellFormedPair store instance solution league start
-    → NoneFails store (instance ∷ solution ∷ []) → begun store instance solution budgets answer
-    → IsBegun league budgets start answer
-begun-known store instance solution budgets league start answer pair works given =
-    let at_league : start_stages store solution budgets (length pair.first) league answer =
+    → NoneFails store (instance ∷ solution ∷ []) → begun store instance solution budgets may_stop answer
+    → IsBegun league budgets may_stop start answer
+begun-known store instance solution budgets may_stop league start answer pair works given =
+    let at_league : start_stages store solution budgets may_stop (length pair.first) league answer =
     says-known (codes "instance") (instance_of (pieces pair.first)) league
-    (start_stages store solution budgets (length pair.first)) answer pair.says_league
+    (start_stages store solution budgets may_stop (length pair.first)) answer pair.says_league
     (takes-known (codes "instance") (store.contents instance) INSTANCE_LIMIT (store.took_more INSTANCE_LIMIT)
     (store.failed instance)
-    (λ bytes. says (codes "instance") (instance_of (pieces bytes)) (start_stages store solution budgets (length bytes)))
+    (λ bytes. says (codes "instance") (instance_of (pieces bytes)) (start_stages store solution budgets may_stop (length bytes)))
     answer pair.first pair.first_known pair.first_within (first-works store instance (solution ∷ []) works) given) in
-    says-known (codes "solution") (solution_of league.n (pieces pair.second)) start (IsBegun league budgets) answer
+    says-known (codes "solution") (solution_of league.n (pieces pair.second)) start (IsBegun league budgets may_stop) answer
     pair.says_games
     (takes-known (codes "solution") (store.contents solution) SOLUTION_LIMIT
     (store.took_more (length pair.first + SOLUTION_LIMIT)) (store.failed solution)
-    (λ bytes. says (codes "solution") (solution_of league.n (pieces bytes)) (IsBegun league budgets)) answer pair.second
+    (λ bytes. says (codes "solution") (solution_of league.n (pieces bytes)) (IsBegun league budgets may_stop)) answer pair.second
     pair.second_known pair.second_within (second-works store instance solution [] works) at_league)
 
 -- a well-formed start at which nothing fails: the answer is what is found from it
-pub begun-well_formed : (store : Store) (instance solution : List ℕ) (budgets : Budgets) (league : Instance)
+pub begun-well_formed : (store : Store) (instance solution : List ℕ) (budgets : Budgets) (may_stop : Type 0) (league : Instance)
     (start : List Game) (answer : Answer) → IsWellFormedStart store instance solution league start
-    → NoneFails store (instance ∷ solution ∷ []) → begun store instance solution budgets answer
-    → IsFoundFrom league start budgets (rows_of league) answer
-begun-well_formed store instance solution budgets league start answer good works given =
-    begun-small league budgets start answer good.round_robin good.small
-    (begun-known store instance solution budgets league start answer good.pair works given)
+    → NoneFails store (instance ∷ solution ∷ []) → begun store instance solution budgets may_stop answer
+    → IsFoundFrom league start budgets may_stop (rows_of league) answer
+begun-well_formed store instance solution budgets may_stop league start answer good works given =
+    begun-small league budgets may_stop start answer good.round_robin good.small
+    (begun-known store instance solution budgets may_stop league start answer good.pair works given)
 
-judged-none : (league : Instance) (budgets : Budgets) (start : List Game) (answer : Answer)
-    → (IsRoundRobin league.n league.phased (counts_of start) → ⊥) → IsBegun league budgets start answer
+judged-none : (league : Instance) (budgets : Budgets) (may_stop : Type 0) (start : List Game) (answer : Answer)
+    → (IsRoundRobin league.n league.phased (counts_of start) → ⊥) → IsBegun league budgets may_stop start answer
     → IsNoStart league start answer
-judged-none league budgets start answer none (inl h) = h
-judged-none league budgets start answer none (inr h) = absurd (none h.0)
+judged-none league budgets may_stop start answer none (inl h) = h
+judged-none league budgets may_stop start answer none (inr h) = absurd (none h.0)
 
 -- a season that is no start, and nothing fails: it is judged
-pub begun-judged : (store : Store) (instance solution : List ℕ) (budgets : Budgets) (league : Instance)
+pub begun-judged : (store : Store) (instance solution : List ℕ) (budgets : Budgets) (may_stop : Type 0) (league : Instance)
     (start : List Game) (answer : Answer) → IsWellFormedPair store instance solution league start
     → (IsRoundRobin league.n league.phased (counts_of start) → ⊥) → NoneFails store (instance ∷ solution ∷ [])
-    → begun store instance solution budgets answer → IsNoStart league start answer
-begun-judged store instance solution budgets league start answer pair none works given =
-    judged-none league budgets start answer none
-    (begun-known store instance solution budgets league start answer pair works given)
+    → begun store instance solution budgets may_stop answer → IsNoStart league start answer
+begun-judged store instance solution budgets may_stop league start answer pair none works given =
+    judged-none league budgets may_stop start answer none
+    (begun-known store instance solution budgets may_stop league start answer pair works given)
 
-found-yes : (league : Instance) (budgets : Budgets) (start : List Game) (answer : Answer) → answer.status ≡ Yes
-    → encodes league (IsFoundFrom league start budgets) answer → IsFoundFrom league start budgets (rows_of league) answer
-found-yes league budgets start answer ended (inl h) = h.1
-found-yes league budgets start answer ended (inr h) =
+found-yes : (league : Instance) (budgets : Budgets) (may_stop : Type 0) (start : List Game) (answer : Answer) → answer.status ≡ Yes
+    → encodes league (IsFoundFrom league start budgets may_stop) answer → IsFoundFrom league start budgets may_stop (rows_of league) answer
+found-yes league budgets may_stop start answer ended (inl h) = h.1
+found-yes league budgets may_stop start answer ended (inr h) =
     let same : File ≡ Yes = other File Yes answer (ap (λ (a : Answer). a.status) h.1) ended in absurd (cc)
 
-begun-found : (league : Instance) (budgets : Budgets) (start : List Game) (answer : Answer) → answer.status ≡ Yes
-    → IsBegun league budgets start answer → IsFoundFrom league start budgets (rows_of league) answer
-begun-found league budgets start answer ended (inl h) =
+begun-found : (league : Instance) (budgets : Budgets) (may_stop : Type 0) (start : List Game) (answer : Answer) → answer.status ≡ Yes
+    → IsBegun league budgets may_stop start answer → IsFoundFrom league start budgets may_stop (rows_of league) answer
+begun-found league budgets may_stop start answer ended (inl h) =
     let same : No ≡ Yes = other No Yes answer h.status ended in absurd (cc)
-begun-found league budgets start answer ended (inr h) = found-yes league budgets start answer ended h.1
+begun-found league budgets may_stop start answer ended (inr h) = found-yes league budgets may_stop start answer ended h.1
 
 -- a file that is known, where the answer is yes
 read-yes : (which : List ℕ) (known : Option (List ℕ)) (limit : ℕ) (long failed : Type 0) (next : List ℕ → Outcome)
@@ -157,63 +166,63 @@ read-yes which known limit long failed next answer file is ended given =
     subst (λ (b : List ℕ). next b answer) same read.2
 
 -- files that are known, where the answer is yes: it is what is found from the season of the second
-pub begun-yes : (store : Store) (instance solution first second : List ℕ) (budgets : Budgets) (league : Instance)
+pub begun-yes : (store : Store) (instance solution first second : List ℕ) (budgets : Budgets) (may_stop : Type 0) (league : Instance)
     (start : List Game) (answer : Answer) → store.contents instance ≡ Some first
     → store.contents solution ≡ Some second → instance_of (pieces first) ≡ Ok league
     → solution_of league.n (pieces second) ≡ Ok start → answer.status ≡ Yes
-    → begun store instance solution budgets answer → IsFoundFrom league start budgets (rows_of league) answer
-begun-yes store instance solution first second budgets league start answer first_known second_known says_league
+    → begun store instance solution budgets may_stop answer → IsFoundFrom league start budgets may_stop (rows_of league) answer
+begun-yes store instance solution first second budgets may_stop league start answer first_known second_known says_league
     says_start ended given =
-    let at_league : start_stages store solution budgets (length first) league answer =
+    let at_league : start_stages store solution budgets may_stop (length first) league answer =
     says-known (codes "instance") (instance_of (pieces first)) league
-    (start_stages store solution budgets (length first)) answer says_league
+    (start_stages store solution budgets may_stop (length first)) answer says_league
     (read-yes (codes "instance") (store.contents instance) INSTANCE_LIMIT (store.took_more INSTANCE_LIMIT)
     (store.failed instance)
-    (λ bytes. says (codes "instance") (instance_of (pieces bytes)) (start_stages store solution budgets (length bytes)))
+    (λ bytes. says (codes "instance") (instance_of (pieces bytes)) (start_stages store solution budgets may_stop (length bytes)))
     answer first first_known ended given) in
-    begun-found league budgets start answer ended
-    (says-known (codes "solution") (solution_of league.n (pieces second)) start (IsBegun league budgets) answer says_start
+    begun-found league budgets may_stop start answer ended
+    (says-known (codes "solution") (solution_of league.n (pieces second)) start (IsBegun league budgets may_stop) answer says_start
     (read-yes (codes "solution") (store.contents solution) SOLUTION_LIMIT
     (store.took_more (length first + SOLUTION_LIMIT)) (store.failed solution)
-    (λ bytes. says (codes "solution") (solution_of league.n (pieces bytes)) (IsBegun league budgets)) answer second
+    (λ bytes. says (codes "solution") (solution_of league.n (pieces bytes)) (IsBegun league budgets may_stop)) answer second
     second_known ended at_league))
 
 -- ---- refutations
 
-encoded-refuted : (league : Instance) (budgets : Budgets) (start : List Game) (answer : Answer)
-    → answer.status ≡ Refuted → encodes league (IsFoundFrom league start budgets) answer → NoneAccepted league
-encoded-refuted league budgets start answer ended (inl h) =
-    found-refuted league budgets (rows_of league) answer ended h.1.found
-encoded-refuted league budgets start answer ended (inr h) =
+encoded-refuted : (league : Instance) (budgets : Budgets) (may_stop : Type 0) (start : List Game) (answer : Answer)
+    → answer.status ≡ Refuted → encodes league (IsFoundFrom league start budgets may_stop) answer → NoneAccepted league
+encoded-refuted league budgets may_stop start answer ended (inl h) =
+    found-refuted league h.1.found.kept (rows_of league) answer ended h.1.found.is_found
+encoded-refuted league budgets may_stop start answer ended (inr h) =
     let same : File ≡ Refuted = other File Refuted answer (ap (λ (a : Answer). a.status) h.1) ended in absurd (cc)
 
-said-refuted : (league : Instance) (budgets : Budgets) (said : Result (List Game) Fault) (answer : Answer)
-    → answer.status ≡ Refuted → says (codes "solution") said (IsBegun league budgets) answer → NoneAccepted league
-said-refuted league budgets (Ok start) answer ended (inl h) =
+said-refuted : (league : Instance) (budgets : Budgets) (may_stop : Type 0) (said : Result (List Game) Fault) (answer : Answer)
+    → answer.status ≡ Refuted → says (codes "solution") said (IsBegun league budgets may_stop) answer → NoneAccepted league
+said-refuted league budgets may_stop (Ok start) answer ended (inl h) =
     let same : No ≡ Refuted = other No Refuted answer h.status ended in absurd (cc)
-said-refuted league budgets (Ok start) answer ended (inr h) = encoded-refuted league budgets start answer ended h.1
-said-refuted league budgets (Err fault) answer ended is =
+said-refuted league budgets may_stop (Ok start) answer ended (inr h) = encoded-refuted league budgets may_stop start answer ended h.1
+said-refuted league budgets may_stop (Err fault) answer ended is =
     let same : File ≡ Refuted = other File Refuted answer (ap (λ (a : Answer). a.status) is) ended in absurd (cc)
 
-staged-refuted : (store : Store) (solution : List ℕ) (budgets : Budgets) (front : ℕ) (league : Instance)
-    (answer : Answer) → answer.status ≡ Refuted → start_stages store solution budgets front league answer
+staged-refuted : (store : Store) (solution : List ℕ) (budgets : Budgets) (may_stop : Type 0) (front : ℕ) (league : Instance)
+    (answer : Answer) → answer.status ≡ Refuted → start_stages store solution budgets may_stop front league answer
     → NoneAccepted league
-staged-refuted store solution budgets front league answer ended (inl read) =
-    said-refuted league budgets (solution_of league.n (pieces read.0)) answer ended read.2
-staged-refuted store solution budgets front league answer ended (inr (inl h)) =
+staged-refuted store solution budgets may_stop front league answer ended (inl read) =
+    said-refuted league budgets may_stop (solution_of league.n (pieces read.0)) answer ended read.2
+staged-refuted store solution budgets may_stop front league answer ended (inr (inl h)) =
     let same : File ≡ Refuted = other File Refuted answer (ap (λ (a : Answer). a.status) h.2) ended in absurd (cc)
-staged-refuted store solution budgets front league answer ended (inr (inr h)) =
+staged-refuted store solution budgets may_stop front league answer ended (inr (inr h)) =
     let same : ReadFault ≡ Refuted = other ReadFault Refuted answer (ap (λ (a : Answer). a.status) h.1) ended in absurd (cc)
 
 -- where the answer is a refutation, the league of the instance file accepts no list of games
-pub begun-refuted : (store : Store) (instance solution bytes : List ℕ) (budgets : Budgets) (league : Instance)
+pub begun-refuted : (store : Store) (instance solution bytes : List ℕ) (budgets : Budgets) (may_stop : Type 0) (league : Instance)
     (answer : Answer) → store.contents instance ≡ Some bytes → instance_of (pieces bytes) ≡ Ok league
-    → answer.status ≡ Refuted → begun store instance solution budgets answer → NoneAccepted league
-begun-refuted store instance solution bytes budgets league answer known says_league ended given =
-    staged-refuted store solution budgets (length bytes) league answer ended
+    → answer.status ≡ Refuted → begun store instance solution budgets may_stop answer → NoneAccepted league
+begun-refuted store instance solution bytes budgets may_stop league answer known says_league ended given =
+    staged-refuted store solution budgets may_stop (length bytes) league answer ended
     (says-known (codes "instance") (instance_of (pieces bytes)) league
-    (start_stages store solution budgets (length bytes)) answer says_league
+    (start_stages store solution budgets may_stop (length bytes)) answer says_league
     (takes-refuted (codes "instance") (store.contents instance) INSTANCE_LIMIT (store.took_more INSTANCE_LIMIT)
     (store.failed instance)
-    (λ first. says (codes "instance") (instance_of (pieces first)) (start_stages store solution budgets (length first)))
+    (λ first. says (codes "instance") (instance_of (pieces first)) (start_stages store solution budgets may_stop (length first)))
     answer bytes known ended given))

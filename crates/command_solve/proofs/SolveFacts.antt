@@ -7,6 +7,7 @@ use Rattle.answers.specs.Stages.{NoneFails}
 use Rattle.robin_io.specs.Outside.{Store}
 use Rattle.robinx_tags.specs.Pieces.{pieces, pieces_from}
 use Rattle.robinx_tags.specs.Tags.{attributes_at}
+use Rattle.robin_watch.proofs.LimitLemmas.{kept-unstopped}
 use Rattle.budgets.specs.declared.budgets.Budgets.{Budgets}
 use Rattle.league.specs.Accepted.{IsAccepted}
 use Rattle.league.specs.Counts.{counts_of}
@@ -32,7 +33,7 @@ use Rattle.season_check.proofs.SeasonLemmas.{accepted_logs_exclude}
 use Rattle.command_check.proofs.CheckFacts.{good_steps, homeless, league_file, never, nowhere}
 use Rattle.moves.specs.declared.swap.Swap.TheVariants.{HomeSwap, RoundSwap, TeamSwap, PartRoundSwap, PartTeamSwap}
 use Rattle.descent.specs.Descended.{Descended}
-use Rattle.command_solve.specs.Solve.{IsFound, IsWellFormedInstance, descent_text, move_line, solved}
+use Rattle.command_solve.specs.Solve.{IsFoundBy, IsWellFormedInstance, descent_text, move_line, solved}
 use Rattle.command_solve.proofs.AnswerLemmas.{solved-well_formed}
 use Rattle.encoding.specs.Limit.{most_terms}
 
@@ -86,11 +87,11 @@ homeless-instance = record { teams = two; few = omega arith; fit = homeless-fits
 none : NoneAccepted homeless
 none = accepted_logs_exclude homeless good_steps homeless-instance homeless-verdict
 
--- whatever the budget, no schedule is the answer to `solve homeless`
-pub solve-no_schedule : (budgets : Budgets) (answer : Answer) → solved store (codes "homeless") budgets answer → answer.status ≡ Yes → ⊥
-solve-no_schedule budgets answer given ended =
-    let told : IsFound homeless budgets (rows_of homeless) answer = solved-well_formed store (codes "homeless") budgets homeless answer homeless-formed (nothing_fails (codes "homeless" ∷ [])) given in
-    elim told.found [
+-- whatever the budget, and stopped or not, no schedule is the answer to `solve homeless`
+pub solve-no_schedule : (budgets : Budgets) (may_stop : Type 0) (answer : Answer) → solved store (codes "homeless") budgets may_stop answer → answer.status ≡ Yes → ⊥
+solve-no_schedule budgets may_stop answer given ended =
+    let told : IsFoundBy homeless budgets may_stop (rows_of homeless) answer = solved-well_formed store (codes "homeless") budgets may_stop homeless answer homeless-formed (nothing_fails (codes "homeless" ∷ [])) given in
+    elim told.is_found.found [
       | inl schedule ↦ none schedule.games schedule.accepted
       | inr (inl refuted) ↦ let same : Refuted ≡ Yes = sym refuted.status ∙ ended in cc
       | inr (inr spent) ↦ let same : Spent ≡ Yes = sym spent.status ∙ ended in cc
@@ -99,14 +100,16 @@ solve-no_schedule budgets answer given ended =
 abbrev unlimited : Budgets
 unlimited = record { conflicts = None; moves = 0; tries = 1; patterns = 0; seed = 0 }
 
--- without a budget `solve homeless` refutes the league
-pub solve-refuted : (answer : Answer) → solved store (codes "homeless") unlimited answer → answer.status ≡ Refuted
+-- without a budget, and where nothing may stop it, `solve homeless` refutes the league
+pub solve-refuted : (answer : Answer) → solved store (codes "homeless") unlimited ⊥ answer → answer.status ≡ Refuted
 solve-refuted answer given =
-    let told : IsFound homeless unlimited (rows_of homeless) answer = solved-well_formed store (codes "homeless") unlimited homeless answer homeless-formed (nothing_fails (codes "homeless" ∷ [])) given in
-    elim told.found [
+    let told : IsFoundBy homeless unlimited ⊥ (rows_of homeless) answer = solved-well_formed store (codes "homeless") unlimited ⊥ homeless answer homeless-formed (nothing_fails (codes "homeless" ∷ [])) given in
+    elim told.is_found.found [
       | inl schedule ↦ absurd (none schedule.games schedule.accepted)
       | inr (inl refuted) ↦ refuted.status
-      | inr (inr spent) ↦ let same = spent.budget in absurd (cc)
+      | inr (inr spent) ↦
+          let same = sym (kept-unstopped None ⊥ told.kept.conflicts (λ never. never) told.are_kept.conflicts)
+          ∙ spent.budget in absurd (cc)
     ]
 
 -- ---- any schedule will do
@@ -127,9 +130,9 @@ plain-formed = record { bytes = plain_file; known = refl; within = omega arith; 
 circle-accepted : IsAccepted plain (counts_of (double_games 2))
 circle-accepted = record { round_robin = IsRoundRobin-double_games 2 two; hard = λ k d h. absurd (omega arith) }
 
--- whatever the budget, a schedule is the answer to `solve plain`, since its league accepts that of the circle method
-pub solve-circle : (budgets : Budgets) (answer : Answer) → solved store (codes "plain") budgets answer → answer.status ≡ Yes
-solve-circle budgets answer given = (solved-well_formed store (codes "plain") budgets plain answer plain-formed (nothing_fails (codes "plain" ∷ [])) given).circle circle-accepted
+-- whatever the budget, and stopped or not, a schedule is the answer to `solve plain`, since its league accepts that of the circle method
+pub solve-circle : (budgets : Budgets) (may_stop : Type 0) (answer : Answer) → solved store (codes "plain") budgets may_stop answer → answer.status ≡ Yes
+solve-circle budgets may_stop answer given = (solved-well_formed store (codes "plain") budgets may_stop plain answer plain-formed (nothing_fails (codes "plain" ∷ [])) given).is_found.circle circle-accepted
 
 -- ---- texts
 

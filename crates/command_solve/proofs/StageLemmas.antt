@@ -10,10 +10,12 @@ use Rattle.answers.specs.Reply.{Answer}
 use Rattle.answers.specs.Stages.{IsFile}
 use Rattle.answers.proofs.StageLemmas.{says-value}
 use Rattle.command_check.specs.Check.{encodes}
-use Rattle.command_solve.specs.Solve.{IsFound, solved}
+use Rattle.command_solve.specs.Solve.{IsFoundBy, solved}
 
 -- the instance file is read and says a league: what its rows come to is the answer
-pub solved-league : (store : Store) (instance bytes : List ℕ) (budgets : Budgets) (league : Instance) → IsFile (store.contents instance) INSTANCE_LIMIT bytes → instance_of (pieces bytes) ≡ Ok league
-    → (answer : Answer) → encodes league (IsFound league budgets) answer → solved store instance budgets answer
-solved-league store instance bytes budgets league is_file says_league answer rest =
-    inl (bytes, is_file, says-value (codes "instance") (instance_of (pieces bytes)) league (λ l. encodes l (IsFound l budgets)) answer says_league rest)
+pub solved-league : (store : Store) (instance bytes : List ℕ) (budgets : Budgets) (may_stop : Type 0) (league : Instance)
+    → IsFile (store.contents instance) INSTANCE_LIMIT bytes → instance_of (pieces bytes) ≡ Ok league
+    → (answer : Answer) → encodes league (IsFoundBy league budgets may_stop) answer
+    → solved store instance budgets may_stop answer
+solved-league store instance bytes budgets may_stop league is_file says_league answer rest =
+    inl (bytes, is_file, says-value (codes "instance") (instance_of (pieces bytes)) league (λ l. encodes l (IsFoundBy l budgets may_stop)) answer says_league rest)

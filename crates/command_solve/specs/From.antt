@@ -19,7 +19,7 @@ use Rattle.encoding_base.specs.Encoding.{encoding_size}
 use Rattle.budgets.specs.declared.budgets.Budgets.{Budgets}
 use Rattle.command_check.specs.Check.{encodes}
 use Rattle.command_validate.specs.Validate.{IsJudgement, IsWellFormedPair}
-use Rattle.command_solve.specs.Solve.{IsFound, IsSchedule}
+use Rattle.command_solve.specs.Solve.{IsFoundBy, IsSchedule}
 
 -- The season is no start: it isn't a double round robin of the league, in two phases where the league is phased. The
 -- report of `validate` says what is wrong with it.
@@ -34,27 +34,27 @@ pub record IsScheduleWithin (league : Instance) (moves most : ℕ) (answer : Ans
   pub within : objective league (counts_of schedule.games) ≤ most
 
 -- What is found from a start: what `solve` finds, and where the league accepts the start, a season that costs no more.
-pub record IsFoundFrom (league : Instance) (start : List Game) (budgets : Budgets) (rows : List Row) (answer : Answer)
-    : Type 0 where
-  pub found : IsFound league budgets rows answer
+pub record IsFoundFrom (league : Instance) (start : List Game) (budgets : Budgets) (may_stop : Type 0) (rows : List Row)
+    (answer : Answer) : Type 0 where
+  pub found : IsFoundBy league budgets may_stop rows answer
   pub no_worse : IsAccepted league (counts_of start)
-      → IsScheduleWithin league budgets.moves (objective league (counts_of start)) answer
+      → IsScheduleWithin league found.kept.moves (objective league (counts_of start)) answer
 
 -- what is found from a season that is given, if it is a start and the league's rows aren't too many
-abbrev pub IsBegun : Instance → Budgets → List Game → Outcome
-IsBegun league budgets start answer =
+abbrev pub IsBegun : Instance → Budgets → Type 0 → List Game → Outcome
+IsBegun league budgets may_stop start answer =
     IsNoStart league start answer
     ⊎ (IsRoundRobin league.n league.phased (counts_of start)
-    × encodes league (IsFoundFrom league start budgets) answer)
+    × encodes league (IsFoundFrom league start budgets may_stop) answer)
 
--- `solve` from a season, over what a store shows
-abbrev pub begun : Store → List ℕ → List ℕ → Budgets → Outcome
-begun store instance solution budgets = do
+-- `solve` from a season, over what a store shows, by a run that may be stopped where `may_stop` says so
+abbrev pub begun : Store → List ℕ → List ℕ → Budgets → Type 0 → Outcome
+begun store instance solution budgets may_stop = do
   first ← reads store (codes "instance") instance INSTANCE_LIMIT 0
   league ← says (codes "instance") (instance_of (pieces first))
   second ← reads store (codes "solution") solution SOLUTION_LIMIT (length first)
   start ← says (codes "solution") (solution_of league.n (pieces second))
-  IsBegun league budgets start
+  IsBegun league budgets may_stop start
 
 -- ---- a run
 

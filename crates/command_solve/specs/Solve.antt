@@ -32,6 +32,7 @@ use Rattle.moves.specs.declared.swap.Swap.TheVariants.{HomeSwap, RoundSwap, Team
 use Rattle.descent.specs.Descended.{Descended}
 use Rattle.descent.specs.Trail.{IsClimb}
 use Rattle.pattern_search.specs.declared.found.PatternFound.{PatternFound}
+use Rattle.solve.specs.Kept.{AreKeptTo}
 use Rattle.solve.specs.Solutions.{IsDescent, LeavesOpen, league_score}
 use Rattle.venue_counts.specs.VenueCounts.{are_crowded, are_short}
 use Rattle.break_counts.specs.BreakCounts.{are_few}
@@ -127,15 +128,22 @@ pub record IsFound (league : Instance) (budgets : Budgets) (rows : List Row) (an
   pub crowded : are_crowded league ≡ true → answer.status ≡ Refuted
   pub few : are_few league ≡ true → answer.status ≡ Refuted
 
+-- What is found within the budgets to which a run kept: those that were set, or, where it may be stopped, lower ones.
+pub record IsFoundBy (league : Instance) (budgets : Budgets) (may_stop : Type 0) (rows : List Row) (answer : Answer)
+    : Type 0 where
+  pub kept : Budgets
+  pub are_kept : AreKeptTo budgets may_stop kept
+  pub is_found : IsFound league kept rows answer
+
 -- ---- stages
 
--- `solve`, over what a store shows
-abbrev pub solved : Store → List ℕ → Budgets → Outcome
-solved store instance budgets = do
+-- `solve`, over what a store shows, by a run that may be stopped where `may_stop` says so
+abbrev pub solved : Store → List ℕ → Budgets → Type 0 → Outcome
+solved store instance budgets may_stop = do
   bytes ← reads store (codes "instance") instance INSTANCE_LIMIT 0
   league ← says (codes "instance") (instance_of (pieces bytes))
   rows ← encodes league
-  IsFound league budgets rows
+  IsFoundBy league budgets may_stop rows
 
 -- ---- a run
 

@@ -34,10 +34,10 @@ fn found_from<W: Listener>(
 ) -> Result<Reply, NoValue>
     requires fit { All (IsGame league.now.n) start.now }
     requires round_robin { IsRoundRobin league.now.n league.now.phased (counts_of start.now) }
-    ensures { Answers (encodes league.now (IsFoundFrom league.now start.now budgets)) result }
+    ensures { Answers (encodes league.now (IsFoundFrom league.now start.now budgets (W.may_stop watch.now))) result }
 {
     match solve_from(alloc, league, start, budgets, watch) {
-        Ok(solved) => Ok(found_reply(alloc, league, budgets, &solved)?),
+        Ok(solved) => Ok(found_reply(alloc, league, &solved)?),
         Err(EncodeFault::TooLarge { terms }) => Err(NoValue::Refused(rows_refused(alloc, terms)?)),
         Err(EncodeFault::Mem) => Err(NoValue::Memory),
     }
@@ -53,7 +53,7 @@ fn begin_at<W: Listener>(
 ) -> Result<Reply, NoValue>
     requires few { length start.now ≤ 10000 }
     requires fit { All (IsGame league.now.n) start.now }
-    ensures { Answers (IsBegun league.now budgets start.now) result }
+    ensures { Answers (IsBegun league.now budgets (W.may_stop watch.now) start.now) result }
 {
     if is_start(league, start) {
         return found_from(alloc, league, start, budgets, watch);
@@ -82,7 +82,7 @@ fn begin_at_file<W: Listener>(
 ) -> Result<Reply, NoValue>
     requires { length bytes.now ≤ SOLUTION_LIMIT }
     ensures { Answers
-        (says (codes "solution") (solution_of league.now.n (pieces bytes.now)) (IsBegun league.now budgets))
+        (says (codes "solution") (solution_of league.now.n (pieces bytes.now)) (IsBegun league.now budgets (W.may_stop watch.now)))
         result }
 {
     let start = schedule_in(alloc, name, bytes, league)?;
@@ -104,7 +104,7 @@ pub fn solve_from_file<S: Shelf, W: Listener>(
     watch: &W,
 ) -> Result<Reply, NoValue>
     ensures answer { Answers (begun (store_between S.Shelf shelf.old shelf.new)
-        instance.now solution.now budgets) result }
+        instance.now solution.now budgets (W.may_stop watch.now)) result }
     ensures contents { (n : List ℕ) → S.contents shelf.new n ≡ S.contents shelf.old n }
 {
     let first = file(alloc, shelf, "instance", instance, INSTANCE_LIMIT)?;

@@ -1,5 +1,6 @@
 //! The answers of `solve`.
 ghost use Rattle.std.specs.Prelude.{true, ◌≡◌, ℕ, ◌≤◌, ◌++◌, length, IfOk, Ok, Some};
+ghost use Rattle.budgets.specs.declared.budgets.Budgets.{Budgets};
 ghost use Rattle.std.specs.List.{All};
 ghost use Rattle.league.specs.Accepted as costs;
 ghost use Rattle.league.specs.Accepted.{IsAccepted};
@@ -22,7 +23,6 @@ ghost use Rattle.command_solve.specs.Solve.{IsFound, descent_text};
 
 use crate::schedules::{first_objective, schedule_text};
 use answers::{Reply, Status};
-use budgets::Budgets;
 use descent::Descent;
 use league::{League, Schedule};
 use refutation::{Log, log_text};
@@ -64,20 +64,20 @@ fn log_reply(alloc: Global, status: Status, log: &Log) -> Result<Reply, AllocErr
     Ok(Reply { status, text })
 }
 
-/// What is found of a league within budgets.
+/// What is found of a league, whatever the budgets within which it was found.
 pub(crate) fn found_reply(
     alloc: Global,
     league: &League,
-    budgets: Budgets,
     solved: &Solved,
 ) -> Result<Reply, AllocError>
-    requires solution { IsSolution league.now budgets solved.now }
+    requires solution { (budgets : Budgets) × IsSolution league.now budgets solved.now }
     requires circle { IsAccepted league.now (counts_of (double_games league.now.n)) → HasSchedule solved.now }
     requires short { are_short league.now ≡ true → IsRefuted solved.now }
     requires crowded { are_crowded league.now ≡ true → IsRefuted solved.now }
     requires few { are_few league.now ≡ true → IsRefuted solved.now }
-    ensures found { IfOk result (λ reply. IsFound league.now budgets (rows_of league.now) (answer_of reply)) }
-    ensures within { (most : ℕ) → CostsAtMost most solved.now
+    ensures found { (budgets : Budgets) → IsSolution league.now budgets solved.now
+        → IfOk result (λ reply. IsFound league.now budgets (rows_of league.now) (answer_of reply)) }
+    ensures within { (budgets : Budgets) (most : ℕ) → IsSolution league.now budgets solved.now → CostsAtMost most solved.now
         → IfOk result (λ reply. IsScheduleWithin league.now budgets.moves most (answer_of reply)) }
 {
     let _n = league.n();

@@ -3,7 +3,7 @@ ghost use Rattle.std.specs.Prelude.{◌≡◌, ℕ, List};
 ghost use Rattle.robin_io.specs.Outside.{store_between};
 ghost use Rattle.answers.specs.SeenReply.{Answers};
 ghost use Rattle.command_check.specs.Check.{encodes};
-ghost use Rattle.command_solve.specs.Solve.{IsFound, solved};
+ghost use Rattle.command_solve.specs.Solve.{IsFoundBy, solved};
 
 use crate::replies::found_reply;
 use answers::{NoValue, Reply, file, league_in, rows_refused};
@@ -23,10 +23,10 @@ fn found_of<W: Listener>(
     budgets: Budgets,
     watch: &W,
 ) -> Result<Reply, NoValue>
-    ensures { Answers (encodes league.now (IsFound league.now budgets)) result }
+    ensures { Answers (encodes league.now (IsFoundBy league.now budgets (W.may_stop watch.now))) result }
 {
     match solve(alloc, league, budgets, watch) {
-        Ok(solved) => Ok(found_reply(alloc, league, budgets, &solved)?),
+        Ok(solved) => Ok(found_reply(alloc, league, &solved)?),
         Err(EncodeFault::TooLarge { terms }) => Err(NoValue::Refused(rows_refused(alloc, terms)?)),
         Err(EncodeFault::Mem) => Err(NoValue::Memory),
     }
@@ -46,7 +46,7 @@ pub fn solve_file<S: Shelf, W: Listener>(
     watch: &W,
 ) -> Result<Reply, NoValue>
     ensures answer { Answers (solved (store_between S.Shelf shelf.old shelf.new)
-        instance.now budgets) result }
+        instance.now budgets (W.may_stop watch.now)) result }
     ensures contents { (n : List ℕ) → S.contents shelf.new n ≡ S.contents shelf.old n }
 {
     let bytes = file(alloc, shelf, "instance", instance, INSTANCE_LIMIT)?;

@@ -1,7 +1,7 @@
 -- Descents of the league of SolveExamples, what a search leaves open, whole answers, and the best of two tries.
 use Rattle.std.proofs.Common.{lit<, lit≤, ◌≡◌, ℕ, zero, suc, ◌+◌, ◌<◌, ◌≤◌, ◌==◌, Bool, true, false, ◌&&◌, ◌||◌, nat_lt, cond}
 use Rattle.std.proofs.Common.{if◌then◌else◌, List, [], ◌∷◌, length, Option, Some, None, IfSome}
-use Rattle.std.proofs.Common.{refl, sym, arith, ap, ap₂, IsTrue}
+use Rattle.std.proofs.Common.{inl, refl, sym, arith, ap, ap₂, IsTrue}
 use Rattle.std.proofs.Math.Path.{fun_ext}
 use Rattle.std.proofs.lemmas.Bool.Decides.{nat_tests}
 use Rattle.std.proofs.lemmas.List.Elements.{All-from_recursion, All-nil}
@@ -28,7 +28,7 @@ use Rattle.budgets.specs.declared.budgets.Budgets.{Budgets}
 use Rattle.solve.specs.Solutions.{IsDescent, IsSchedule, IsSolution, LeavesOpen}
 use Rattle.solve.specs.Solutions.{league_score}
 use Rattle.solve.specs.Earliest.{IsBestOf, IsBestOfTries, IsEarliestLeast}
-use Rattle.solve.specs.Tried.{IsSeason}
+use Rattle.solve.specs.Tried.{IsSeasonBy}
 use Rattle.solve.specs.declared.lower.Season.{Season}
 use Rattle.solve.specs.declared.solved.Solved.TheVariants as solved
 use Rattle.example_answers.proofs.SolveExamples.{accepted_home, accepted_out, false_true, fits_home, fits_out}
@@ -302,8 +302,10 @@ two_tries = record { conflicts = None; moves = 0; tries = 2; patterns = 0; seed 
 pub best-tries : IsBestOfTries wishful two_tries ⊥ (solved.Schedule out 0 resting)
 best-tries = record {
   found = Some dear ∷ Some cheap ∷ [];
-  each = All-from_recursion (λ (o : Option Season). IfSome o (IsSeason wishful 0)) (Some dear ∷ Some cheap ∷ [])
-      (schedule-stopped, (season_out, tt));
+  each = All-from_recursion (λ (o : Option Season). IfSome o (IsSeasonBy wishful 0 ⊥)) (Some dear ∷ Some cheap ∷ []) (
+    record { kept = 0; is_kept = inl refl; is_season = schedule-stopped },
+    (record { kept = 0; is_kept = inl refl; is_season = season_out }, tt),
+  );
   few = λ some. lit≤ tt;
   all = λ no unstopped. lit≤ tt;
   best = record {

@@ -43,7 +43,7 @@ use Rattle.command_show.specs.declared.form.Form.TheVariants.{Text, Csv}
 use Rattle.command_check.specs.Check.{IsVerdict, checked, encodes, most_log_bytes, says_log, verdict_answer}
 use Rattle.command_patterns.specs.Patterns.{AreFound, patterned}
 use Rattle.command_solve.specs.From.{IsBegun, IsFoundFrom, begun}
-use Rattle.command_solve.specs.Solve.{IsFound, solved}
+use Rattle.command_solve.specs.Solve.{IsFound, IsFoundBy, solved}
 use Rattle.command_explain.specs.Explained as explaining
 use Rattle.command_explain.specs.Explained.{explained}
 use Rattle.command_explain.specs.Parted.{IsPart, part_answer, parted}
@@ -58,7 +58,7 @@ use Rattle.command_resume.specs.Resumed.{resumed}
 use Rattle.command_resume.specs.Seasons.{has_size, has_slots}
 use Rattle.instance_gen.specs.Draws.{seeded}
 use Rattle.instance_gen.specs.Made.{made_league}
-use Rattle.command_make.specs.Trial.{IsTrial, tried}
+use Rattle.command_make.specs.Trial.{IsTrialBy, tried}
 use Rattle.command_rows.specs.Rowed.{league_rows, rowed, rows_answer, system_of}
 use Rattle.values_read.specs.Values.{values_of}
 use Rattle.command_values.specs.Valued.{IsValued, found_of, missed_from, says_values, valued}
@@ -241,34 +241,36 @@ searched-ends Ends ends_yes refuted spent league budgets rows answer found =
 
 solved-ends : (Ends : Status → Type 0) → Ends File → Ends ReadFault → Ends Yes → Ends Refuted → Ends Spent
     → (store : Store) (instance : List ℕ)
-    (budgets : Budgets) (answer : Answer) → solved store instance budgets answer
+    (budgets : Budgets) (may_stop : Type 0) (answer : Answer) → solved store instance budgets may_stop answer
     → Ends answer.status
-solved-ends Ends file fault ends_yes refuted spent store instance budgets answer given =
+solved-ends Ends file fault ends_yes refuted spent store instance budgets may_stop answer given =
     league-ends Ends file fault (store.contents instance) (store.took_more INSTANCE_LIMIT) (store.failed instance)
-    (λ bytes league. encodes league (IsFound league budgets)) answer
-    (λ bytes league at_league. encodes-ends Ends file league (IsFound league budgets) answer
-    (λ rows found. searched-ends Ends ends_yes refuted spent league budgets rows answer found) at_league) given
+    (λ bytes league. encodes league (IsFoundBy league budgets may_stop)) answer
+    (λ bytes league at_league. encodes-ends Ends file league (IsFoundBy league budgets may_stop) answer
+    (λ rows found. searched-ends Ends ends_yes refuted spent league found.kept rows answer found.is_found) at_league)
+    given
 
 started-ends : (Ends : Status → Type 0) → Ends File → Ends Yes → Ends No → Ends Refuted → Ends Spent → (league : Instance)
-    (budgets : Budgets) (start : List Game) (answer : Answer) → IsBegun league budgets start answer
-    → Ends answer.status
-started-ends Ends file ends_yes ends_no refuted spent league budgets start answer (inl none) =
+    (budgets : Budgets) (may_stop : Type 0) (start : List Game) (answer : Answer)
+    → IsBegun league budgets may_stop start answer → Ends answer.status
+started-ends Ends file ends_yes ends_no refuted spent league budgets may_stop start answer (inl none) =
     ends-with Ends answer No none.status ends_no
-started-ends Ends file ends_yes ends_no refuted spent league budgets start answer (inr begun) =
-    encodes-ends Ends file league (IsFoundFrom league start budgets) answer
-    (λ rows found. searched-ends Ends ends_yes refuted spent league budgets rows answer found.found) begun.1
+started-ends Ends file ends_yes ends_no refuted spent league budgets may_stop start answer (inr begun) =
+    encodes-ends Ends file league (IsFoundFrom league start budgets may_stop) answer
+    (λ rows found. searched-ends Ends ends_yes refuted spent league found.found.kept rows answer found.found.is_found)
+    begun.1
 
 begun-ends : (Ends : Status → Type 0) → Ends File → Ends ReadFault → Ends Yes → Ends No → Ends Refuted → Ends Spent
-    → (store : Store) (instance solution : List ℕ) (budgets : Budgets) (answer : Answer)
-    → begun store instance solution budgets answer → Ends answer.status
-begun-ends Ends file fault ends_yes ends_no refuted spent store instance solution budgets answer given =
+    → (store : Store) (instance solution : List ℕ) (budgets : Budgets) (may_stop : Type 0) (answer : Answer)
+    → begun store instance solution budgets may_stop answer → Ends answer.status
+begun-ends Ends file fault ends_yes ends_no refuted spent store instance solution budgets may_stop answer given =
     league-ends Ends file fault (store.contents instance) (store.took_more INSTANCE_LIMIT) (store.failed instance)
     (λ first league. takes (codes "solution") (store.contents solution) SOLUTION_LIMIT
     (store.took_more (length first + SOLUTION_LIMIT)) (store.failed solution)
-    (λ second. says (codes "solution") (solution_of league.n (pieces second)) (IsBegun league budgets))) answer
+    (λ second. says (codes "solution") (solution_of league.n (pieces second)) (IsBegun league budgets may_stop))) answer
     (λ first league at_league. games-ends Ends file fault league.n (store.contents solution)
-    (store.took_more (length first + SOLUTION_LIMIT)) (store.failed solution) (λ second. IsBegun league budgets) answer
-    (λ second start at_start. started-ends Ends file ends_yes ends_no refuted spent league budgets start answer at_start)
+    (store.took_more (length first + SOLUTION_LIMIT)) (store.failed solution) (λ second. IsBegun league budgets may_stop) answer
+    (λ second start at_start. started-ends Ends file ends_yes ends_no refuted spent league budgets may_stop start answer at_start)
     at_league) given
 
 patterns-ends : (Ends : Status → Type 0) → Ends Yes → Ends Refuted → Ends Spent → (league : Instance)
@@ -528,12 +530,12 @@ valued-ends Ends file fault ends_yes ends_no store instance values answer given 
 
 -- ---- `trial`
 
-tried-ends : (Ends : Status → Type 0) → Ends File → Ends Yes → (n seed : ℕ) (budgets : Budgets) (answer : Answer)
-    → tried n seed budgets answer → Ends answer.status
-tried-ends Ends file ends_yes n seed budgets answer given =
+tried-ends : (Ends : Status → Type 0) → Ends File → Ends Yes → (n seed : ℕ) (budgets : Budgets) (may_stop : Type 0)
+    (answer : Answer) → tried n seed budgets may_stop answer → Ends answer.status
+tried-ends Ends file ends_yes n seed budgets may_stop answer given =
     encodes-ends Ends file (made_league n (seeded seed))
-    (λ rows. IsTrial n seed (made_league n (seeded seed)) budgets.moves) answer
-    (λ rows trial. ends-with Ends answer Yes trial.status ends_yes) given
+    (λ rows. IsTrialBy n seed (made_league n (seeded seed)) budgets.moves may_stop) answer
+    (λ rows trial. ends-with Ends answer Yes trial.is_trial.status ends_yes) given
 
 -- ---- a run
 
@@ -541,72 +543,72 @@ tried-ends Ends file ends_yes n seed budgets answer given =
 abbrev EndsBy : Option Command → Status → Type 0
 EndsBy words status = may_end words status ≡ true
 
-answer-ends : (words : Option Command) (store : Store) (answer : Answer) → IsAnswer words store answer
+answer-ends : (may_stop : Type 0) (words : Option Command) (store : Store) (answer : Answer) → IsAnswer may_stop words store answer
     → EndsBy words answer.status
-answer-ends None store answer given = ends-as (EndsBy None) answer _ given refl
-answer-ends (Some (Validate instance solution)) store answer given =
+answer-ends may_stop None store answer given = ends-as (EndsBy None) answer _ given refl
+answer-ends may_stop (Some (Validate instance solution)) store answer given =
     validated-ends (EndsBy (Some (Validate instance solution))) refl refl refl refl store instance
     solution answer given
-answer-ends (Some (Show instance solution most width)) store answer given =
+answer-ends may_stop (Some (Show instance solution most width)) store answer given =
     seen-ends (EndsBy (Some (Show instance solution most width))) refl refl refl refl store instance
     solution (Text most width) answer given
-answer-ends (Some (Demands instance members)) store answer given =
+answer-ends may_stop (Some (Demands instance members)) store answer given =
     demanded-ends (EndsBy (Some (Demands instance members))) refl refl refl store instance members answer given
-answer-ends (Some (Sheet instance solution)) store answer given =
+answer-ends may_stop (Some (Sheet instance solution)) store answer given =
     seen-ends (EndsBy (Some (Sheet instance solution))) refl refl refl refl store instance
     solution Csv answer given
-answer-ends (Some (Check instance log)) store answer given =
+answer-ends may_stop (Some (Check instance log)) store answer given =
     checked-ends (EndsBy (Some (Check instance log))) refl refl refl refl store instance log answer
     given
-answer-ends (Some (Solve instance budgets)) store answer given =
+answer-ends may_stop (Some (Solve instance budgets)) store answer given =
     solved-ends (EndsBy (Some (Solve instance budgets))) refl refl refl refl refl store instance
-    budgets answer given
-answer-ends (Some (SolveFrom instance solution budgets)) store answer given =
+    budgets may_stop answer given
+answer-ends may_stop (Some (SolveFrom instance solution budgets)) store answer given =
     begun-ends (EndsBy (Some (SolveFrom instance solution budgets))) refl refl refl refl refl refl store instance
-    solution budgets answer given
-answer-ends (Some (Patterns instance conflicts)) store answer given =
+    solution budgets may_stop answer given
+answer-ends may_stop (Some (Patterns instance conflicts)) store answer given =
     patterned-ends (EndsBy (Some (Patterns instance conflicts))) refl refl refl refl refl store
     instance conflicts answer given
-answer-ends (Some (Explain instance conflicts)) store answer given =
+answer-ends may_stop (Some (Explain instance conflicts)) store answer given =
     explained-ends (EndsBy (Some (Explain instance conflicts))) refl refl refl refl refl store
     instance conflicts answer given
-answer-ends (Some (Part instance members)) store answer given =
+answer-ends may_stop (Some (Part instance members)) store answer given =
     parted-ends (EndsBy (Some (Part instance members))) refl refl refl store instance members answer
     given
-answer-ends (Some (Prove instance solution conflicts)) store answer given =
+answer-ends may_stop (Some (Prove instance solution conflicts)) store answer given =
     proved-ends (EndsBy (Some (Prove instance solution conflicts))) refl refl refl refl refl refl store instance solution conflicts answer given
-answer-ends (Some (Bound instance log)) store answer given =
+answer-ends may_stop (Some (Bound instance log)) store answer given =
     bounded-ends (EndsBy (Some (Bound instance log))) refl refl refl refl store instance log answer
     given
-answer-ends (Some (Resume instance solution k conflicts)) store answer given =
+answer-ends may_stop (Some (Resume instance solution k conflicts)) store answer given =
     resumed-ends (EndsBy (Some (Resume instance solution k conflicts))) refl refl refl refl refl store instance solution k conflicts answer given
-answer-ends (Some (Audit instance solution k log)) store answer given =
+answer-ends may_stop (Some (Audit instance solution k log)) store answer given =
     audited-ends (EndsBy (Some (Audit instance solution k log))) refl refl refl refl store instance
     solution k log answer given
-answer-ends (Some (Rows instance goal)) store answer given =
+answer-ends may_stop (Some (Rows instance goal)) store answer given =
     rowed-ends (EndsBy (Some (Rows instance goal))) refl refl refl store instance goal answer given
-answer-ends (Some (Values instance values)) store answer given =
+answer-ends may_stop (Some (Values instance values)) store answer given =
     valued-ends (EndsBy (Some (Values instance values))) refl refl refl refl store instance values answer given
-answer-ends (Some (Circle n)) store answer given =
+answer-ends may_stop (Some (Circle n)) store answer given =
     ends-as (EndsBy (Some (Circle n))) answer _ given refl
-answer-ends (Some (Make n seed)) store answer given =
+answer-ends may_stop (Some (Make n seed)) store answer given =
     ends-as (EndsBy (Some (Make n seed))) answer _ given.made refl
-answer-ends (Some (Trial n seed budgets)) store answer given =
-    tried-ends (EndsBy (Some (Trial n seed budgets))) refl refl n seed budgets answer given
-answer-ends (Some (Help topic)) store answer given = ends-as (EndsBy (Some (Help topic))) answer _ given refl
-answer-ends (Some Version) store answer given = ends-as (EndsBy (Some Version)) answer _ given refl
+answer-ends may_stop (Some (Trial n seed budgets)) store answer given =
+    tried-ends (EndsBy (Some (Trial n seed budgets))) refl refl n seed budgets may_stop answer given
+answer-ends may_stop (Some (Help topic)) store answer given = ends-as (EndsBy (Some (Help topic))) answer _ given refl
+answer-ends may_stop (Some Version) store answer given = ends-as (EndsBy (Some Version)) answer _ given refl
 
-written-ends : (words : Option Command) (store : Store) (answer : Answer) (ended : Status) (output : Output)
-    → IsAnswer words store answer → IsWritten answer ended output → (ended ≡ WriteFault → ⊥) → may_end words ended ≡ true
-written-ends words store answer ended output answered (inl h) whole =
-    subst (EndsBy words) (sym h.0) (answer-ends words store answer answered)
-written-ends words store answer ended output answered (inr h) whole = absurd (whole h.0)
+written-ends : (may_stop : Type 0) (words : Option Command) (store : Store) (answer : Answer) (ended : Status) (output : Output)
+    → IsAnswer may_stop words store answer → IsWritten answer ended output → (ended ≡ WriteFault → ⊥) → may_end words ended ≡ true
+written-ends may_stop words store answer ended output answered (inl h) whole =
+    subst (EndsBy words) (sym h.0) (answer-ends may_stop words store answer answered)
+written-ends may_stop words store answer ended output answered (inr h) whole = absurd (whole h.0)
 
 -- a run whose text is written whole ends as its words may
 pub ends-by-words : (run : Run) → Answered run → EndsByWords run
 ends-by-words run answered memory whole =
     let told = answered memory in
-    written-ends run.command run.store told.0 run.ended run.output told.1 told.2 whole
+    written-ends run.may_stop run.command run.store told.0 run.ended run.output told.1 told.2 whole
 
 no_memory : (words : Option Command) → may_end words Memory ≡ false
 no_memory None = refl
@@ -633,12 +635,12 @@ no_memory (Some (Help topic)) = refl
 no_memory (Some Version) = refl
 
 -- where an answer is written, the run doesn't end as want of memory does
-pub written-memory : (words : Option Command) (store : Store) (answer : Answer) (ended : Status) (output : Output)
-    → IsAnswer words store answer → IsWritten answer ended output → ended ≡ Memory → ⊥
-written-memory words store answer ended output answered (inl h) memory =
+pub written-memory : (may_stop : Type 0) (words : Option Command) (store : Store) (answer : Answer) (ended : Status) (output : Output)
+    → IsAnswer may_stop words store answer → IsWritten answer ended output → ended ≡ Memory → ⊥
+written-memory may_stop words store answer ended output answered (inl h) memory =
     let may : may_end words Memory ≡ true =
-    subst (EndsBy words) (sym h.0 ∙ memory) (answer-ends words store answer answered) in
+    subst (EndsBy words) (sym h.0 ∙ memory) (answer-ends may_stop words store answer answered) in
     let none : may_end words Memory ≡ false = no_memory words in
     cc
-written-memory words store answer ended output answered (inr h) memory =
+written-memory may_stop words store answer ended output answered (inr h) memory =
     let same : WriteFault ≡ Memory = sym h.0 ∙ memory in cc

@@ -10,7 +10,7 @@ use Rattle.command_help.specs.Help.{help_answer, version_answer}
 use Rattle.instance_gen.specs.Draws.{seeded}
 use Rattle.instance_gen.specs.Made.{made_league}
 use Rattle.command_make.specs.MadeInstance.{IsMade}
-use Rattle.command_make.specs.Trial.{IsTrial, tried}
+use Rattle.command_make.specs.Trial.{IsTrialBy, tried}
 use Rattle.robin_run.specs.Circle.{WritesCircle}
 use Rattle.robin_run.specs.Help.{Helps, TellsVersion}
 use Rattle.robin_run.specs.Make.{Makes}
@@ -30,13 +30,14 @@ makes run answered n seed is = record {
 }
 
 -- the answer's status is that of a schedule, or of rows that are too many
-tried-status : (n seed : ℕ) (budgets : Budgets) (answer : Answer) → tried n seed budgets answer
+tried-status : (n seed : ℕ) (budgets : Budgets) (may_stop : Type 0) (answer : Answer)
+    → tried n seed budgets may_stop answer
     → (answer.status ≢ Refuted) × (answer.status ≢ Spent)
-tried-status n seed budgets answer (inl h) = (
-  λ ended. let same : Yes ≡ Refuted = sym h.1.status ∙ ended in cc,
-  λ ended. let same : Yes ≡ Spent = sym h.1.status ∙ ended in cc,
+tried-status n seed budgets may_stop answer (inl h) = (
+  λ ended. let same : Yes ≡ Refuted = sym h.1.is_trial.status ∙ ended in cc,
+  λ ended. let same : Yes ≡ Spent = sym h.1.is_trial.status ∙ ended in cc,
 )
-tried-status n seed budgets answer (inr h) =
+tried-status n seed budgets may_stop answer (inr h) =
     let is : answer.status ≡ File = ap (λ (a : Answer). a.status) h.1 in (
       λ ended. let same : File ≡ Refuted = sym is ∙ ended in cc,
       λ ended. let same : File ≡ Spent = sym is ∙ ended in cc,
@@ -45,16 +46,17 @@ tried-status n seed budgets answer (inr h) =
 pub tries : (run : Run) → Answered run → Tries run
 tries run answered n seed budgets is = record {
   tried = λ small works.
-      writes run [] (Trial n seed budgets) (IsTrial n seed (made_league n (seeded seed)) budgets.moves) answered is works
+      writes run [] (Trial n seed budgets)
+      (IsTrialBy n seed (made_league n (seeded seed)) budgets.moves run.may_stop) answered is works
       (λ answer given. encodes-small (made_league n (seeded seed))
-      (λ rows. IsTrial n seed (made_league n (seeded seed)) budgets.moves) answer small given);
+      (λ rows. IsTrialBy n seed (made_league n (seeded seed)) budgets.moves run.may_stop) answer small given);
   found = (
     λ ended.
         let whole = writes-as run (Trial n seed budgets) Refuted answered is ended (λ same. cc) (λ same. cc) in
-        (tried-status n seed budgets whole.answer whole.given).0 whole.status_is,
+        (tried-status n seed budgets run.may_stop whole.answer whole.given).0 whole.status_is,
     λ ended.
         let whole = writes-as run (Trial n seed budgets) Spent answered is ended (λ same. cc) (λ same. cc) in
-        (tried-status n seed budgets whole.answer whole.given).1 whole.status_is,
+        (tried-status n seed budgets run.may_stop whole.answer whole.given).1 whole.status_is,
   );
 }
 

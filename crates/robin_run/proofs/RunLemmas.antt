@@ -31,19 +31,19 @@ given-gives outcome (Err without.Memory) given is holds =
     subst (λ (g : Result Given NoValue). Gives outcome g) (sym is) holds
 
 -- the answer of a reply is written, unless memory ran out
-pub answered-by : (run : Run) (given : Result Given NoValue) → Gives (IsAnswer run.command run.store) given
+pub answered-by : (run : Run) (given : Result Given NoValue) → Gives (IsAnswer run.may_stop run.command run.store) given
     → IsFolded given run.ended run.output → Answered run
 answered-by run (Ok given) answer written memory = (given_answer given, answer, written)
 answered-by run (Err (without.Refused refusal)) answer written memory = (answer_of refusal.reply, answer, written)
 answered-by run (Err without.Memory) answer ended memory = absurd (memory ended.0)
 
 -- where the run ends with want of memory, nothing is written
-pub kept-by : (run : Run) (given : Result Given NoValue) → Gives (IsAnswer run.command run.store) given
+pub kept-by : (run : Run) (given : Result Given NoValue) → Gives (IsAnswer run.may_stop run.command run.store) given
     → IsFolded given run.ended run.output → run.ended ≡ Memory → Keeps run.output.before run.output.after
 kept-by run (Ok given) answer written memory =
-    absurd (written-memory run.command run.store (given_answer given) run.ended run.output answer written memory)
+    absurd (written-memory run.may_stop run.command run.store (given_answer given) run.ended run.output answer written memory)
 kept-by run (Err (without.Refused refusal)) answer written memory =
-    absurd (written-memory run.command run.store (answer_of refusal.reply) run.ended run.output answer written memory)
+    absurd (written-memory run.may_stop run.command run.store (answer_of refusal.reply) run.ended run.output answer written memory)
 kept-by run (Err without.Memory) answer ended memory = ended.1
 
 -- ---- what is written
@@ -56,11 +56,11 @@ written-whole run kind answer is works (inr h) = absurd (works h.1)
 -- where nothing fails, an answer of each kind that all answers to the command have is written whole
 pub writes : (run : Run) (files : List (List ℕ)) (command : Command) (kind : Outcome) → Answered run
     → run.command ≡ Some command → NothingFails run files
-    → ((answer : Answer) → IsAnswer (Some command) run.store answer → kind answer) → Writes run kind
+    → ((answer : Answer) → IsAnswer run.may_stop (Some command) run.store answer → kind answer) → Writes run kind
 writes run files command kind answered is works tells =
     let told = answered works.memory in
-    let given : IsAnswer (Some command) run.store told.0 =
-    subst (λ (words : Option Command). IsAnswer words run.store told.0) is told.1 in
+    let given : IsAnswer run.may_stop (Some command) run.store told.0 =
+    subst (λ (words : Option Command). IsAnswer run.may_stop words run.store told.0) is told.1 in
     written-whole run kind told.0 (tells told.0 given) works.sink told.2
 
 written-as : (answer : Answer) (ended status : Status) (output : Output) → ended ≡ status
@@ -72,7 +72,7 @@ written-as answer ended status output is other (inr h) = absurd (other (sym is �
 -- where a run ends with this status, an answer to the command with it is written whole
 pub record WritesAs (run : Run) (command : Command) (status : Status) : Type 0 where
   pub answer : Answer
-  pub given : IsAnswer (Some command) run.store answer
+  pub given : IsAnswer run.may_stop (Some command) run.store answer
   pub status_is : answer.status ≡ status
   pub written : Appends run.output.before run.output.after answer.text
 
@@ -84,7 +84,7 @@ writes-as run command status answered is ended no_memory no_fault =
     written-as told.0 run.ended status run.output ended no_fault told.2 in
     record {
       answer = told.0;
-      given = subst (λ (words : Option Command). IsAnswer words run.store told.0) is told.1;
+      given = subst (λ (words : Option Command). IsAnswer run.may_stop words run.store told.0) is told.1;
       status_is = whole.0;
       written = whole.1;
     }

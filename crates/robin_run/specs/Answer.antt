@@ -27,28 +27,32 @@ use Rattle.command_make.specs.Trial.{tried}
 use Rattle.command_validate.specs.Validate.{validated}
 use Rattle.command_values.specs.Valued.{valued}
 
--- the answer to the words
-abbrev pub IsAnswer : Option Command → Store → Outcome
-IsAnswer None store answer = answer ≡ refused_words
-IsAnswer (Some (Validate instance solution)) store answer = validated store instance solution answer
-IsAnswer (Some (Show instance solution most width)) store answer =
+-- the answer to the words, of a run that may be stopped where `may_stop` says so
+abbrev pub IsAnswer : Type 0 → Option Command → Store → Outcome
+IsAnswer may_stop None store answer = answer ≡ refused_words
+IsAnswer may_stop (Some (Validate instance solution)) store answer = validated store instance solution answer
+IsAnswer may_stop (Some (Show instance solution most width)) store answer =
     shown store instance solution (Text most width) answer
-IsAnswer (Some (Demands instance members)) store answer = demanded store instance members answer
-IsAnswer (Some (Sheet instance solution)) store answer = shown store instance solution Csv answer
-IsAnswer (Some (Check instance log)) store answer = checked store instance log answer
-IsAnswer (Some (Solve instance budgets)) store answer = solved store instance budgets answer
-IsAnswer (Some (SolveFrom instance solution budgets)) store answer = begun store instance solution budgets answer
-IsAnswer (Some (Patterns instance conflicts)) store answer = patterned store instance conflicts answer
-IsAnswer (Some (Explain instance conflicts)) store answer = explained store instance conflicts answer
-IsAnswer (Some (Part instance members)) store answer = parted store instance members answer
-IsAnswer (Some (Prove instance solution conflicts)) store answer = proved store instance solution conflicts answer
-IsAnswer (Some (Bound instance log)) store answer = bounded store instance log answer
-IsAnswer (Some (Resume instance solution k conflicts)) store answer = resumed store instance solution k conflicts answer
-IsAnswer (Some (Audit instance solution k log)) store answer = audited store instance solution k log answer
-IsAnswer (Some (Rows instance goal)) store answer = rowed store instance goal answer
-IsAnswer (Some (Values instance values)) store answer = valued store instance values answer
-IsAnswer (Some (Circle n)) store answer = answer ≡ circle_season n
-IsAnswer (Some (Make n seed)) store answer = IsMade n seed answer
-IsAnswer (Some (Trial n seed budgets)) store answer = tried n seed budgets answer
-IsAnswer (Some (Help topic)) store answer = answer ≡ help_answer topic
-IsAnswer (Some Version) store answer = answer ≡ version_answer
+IsAnswer may_stop (Some (Demands instance members)) store answer = demanded store instance members answer
+IsAnswer may_stop (Some (Sheet instance solution)) store answer = shown store instance solution Csv answer
+IsAnswer may_stop (Some (Check instance log)) store answer = checked store instance log answer
+IsAnswer may_stop (Some (Solve instance budgets)) store answer = solved store instance budgets may_stop answer
+IsAnswer may_stop (Some (SolveFrom instance solution budgets)) store answer =
+    begun store instance solution budgets may_stop answer
+IsAnswer may_stop (Some (Patterns instance conflicts)) store answer = patterned store instance conflicts answer
+IsAnswer may_stop (Some (Explain instance conflicts)) store answer = explained store instance conflicts answer
+IsAnswer may_stop (Some (Part instance members)) store answer = parted store instance members answer
+IsAnswer may_stop (Some (Prove instance solution conflicts)) store answer =
+    proved store instance solution conflicts answer
+IsAnswer may_stop (Some (Bound instance log)) store answer = bounded store instance log answer
+IsAnswer may_stop (Some (Resume instance solution k conflicts)) store answer =
+    resumed store instance solution k conflicts answer
+IsAnswer may_stop (Some (Audit instance solution k log)) store answer =
+    audited store instance solution k log answer
+IsAnswer may_stop (Some (Rows instance goal)) store answer = rowed store instance goal answer
+IsAnswer may_stop (Some (Values instance values)) store answer = valued store instance values answer
+IsAnswer may_stop (Some (Circle n)) store answer = answer ≡ circle_season n
+IsAnswer may_stop (Some (Make n seed)) store answer = IsMade n seed answer
+IsAnswer may_stop (Some (Trial n seed budgets)) store answer = tried n seed budgets may_stop answer
+IsAnswer may_stop (Some (Help topic)) store answer = answer ≡ help_answer topic
+IsAnswer may_stop (Some Version) store answer = answer ≡ version_answer

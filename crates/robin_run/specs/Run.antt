@@ -14,6 +14,8 @@ use Rattle.robin_run.specs.Answer.{IsAnswer}
 pub record Run : Type 1 where
   -- the command that the words of the command line are, if they are one
   pub command : Option Command
+  -- it may be stopped before its budgets are spent
+  pub may_stop : Type 0
   -- the store of files, from the beginning of the run to its end
   pub store : Store
   -- the sink to which the text goes
@@ -21,9 +23,11 @@ pub record Run : Type 1 where
   -- how the run ended
   pub ended : Status
 
-abbrev pub run_of : {S K Z : Type 0} → shelf.Ghosts S → sink.Ghosts K → List (String Z) → S → S → K → K → Status → Run
-run_of shelf sink words store_old store_new sink_old sink_new ended = record {
+abbrev pub run_of : {S K Z : Type 0} → shelf.Ghosts S → sink.Ghosts K → List (String Z) → Type 0 → S → S → K → K → Status
+    → Run
+run_of shelf sink words may_stop store_old store_new sink_old sink_new ended = record {
   command = reading (map string_bytes words);
+  may_stop = may_stop;
   store = store_between shelf store_old store_new;
   output = output_between sink sink_old sink_new;
   ended = ended;
@@ -33,7 +37,7 @@ run_of shelf sink words store_old store_new sink_old sink_new ended = record {
 abbrev pub Answered : Run → Type 0
 Answered run =
     run.ended ≢ Memory
-    → (answer : Answer) × IsAnswer run.command run.store answer × IsWritten answer run.ended run.output
+    → (answer : Answer) × IsAnswer run.may_stop run.command run.store answer × IsWritten answer run.ended run.output
 
 -- Nothing fails: memory doesn't run out, the sink takes every byte, and the store fails at none of these files.
 pub record NothingFails (run : Run) (files : List (List ℕ)) : Type 0 where

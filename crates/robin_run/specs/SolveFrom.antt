@@ -2,6 +2,7 @@
 use Rattle.std.specs.Prelude.{◌≡◌, ℕ, List, [], ◌∷◌, Some}
 use Rattle.std.specs.Io.KnownBytes.{Appends}
 use Rattle.robin_io.specs.Outside.{Output}
+use Rattle.robin_watch.specs.Limits.{IsKeptTo}
 use Rattle.league.specs.Accepted.{IsAccepted, objective}
 use Rattle.league.specs.Counts.{counts_of}
 use Rattle.league.specs.Instance.{Instance}
@@ -19,10 +20,12 @@ use Rattle.command_solve.specs.From.{IsFoundFrom, IsNoStart, IsScheduleWithin, I
 use Rattle.robin_run.specs.Said.{SaysLeague}
 use Rattle.robin_run.specs.Run.{NothingFails, Run, Writes}
 
--- the season that is written is accepted, and costs no more than the start
-pub record IsNoWorse (league : Instance) (start : List Game) (moves : ℕ) (output : Output) : Type 0 where
+-- the season that is written is accepted, and costs no more than the start, by a descent of the moves that were kept to
+pub record IsNoWorse (league : Instance) (start : List Game) (moves : ℕ) (may_stop : Type 0) (output : Output) : Type 0 where
+  pub kept : ℕ
+  pub is_kept : IsKeptTo (Some moves) may_stop (Some kept)
   pub answer : Answer
-  pub season : IsScheduleWithin league moves (objective league (counts_of start)) answer
+  pub season : IsScheduleWithin league kept (objective league (counts_of start)) answer
   pub written : Appends output.before output.after answer.text
 
 pub record Promise (run : Run) (instance solution : List ℕ) (budgets : Budgets) : Type 0 where
@@ -33,17 +36,17 @@ pub record Promise (run : Run) (instance solution : List ℕ) (budgets : Budgets
       → NothingFails run (instance ∷ solution ∷ [])
       → Writes run (IsNoStart league season)
   -- What is found from a well-formed start, accepted or not, is written, where nothing fails: what `solve` finds of the
-  -- league, and where the league accepts the start, a season that costs no more.
+  -- league, by budgets that it kept to, and where the league accepts the start, a season that costs no more.
   pub solved : (league : Instance) (start : List Game)
       → IsWellFormedStart run.store instance solution league start
       → NothingFails run (instance ∷ solution ∷ [])
-      → Writes run (IsFoundFrom league start budgets (rows_of league))
+      → Writes run (IsFoundFrom league start budgets run.may_stop (rows_of league))
   -- Where the run ends well and the league accepts the start, the season that is written costs no more.
   pub no_worse : (league : Instance) (start : List Game)
       → SaySeason run.store instance solution league start
       → IsAccepted league (counts_of start)
       → run.ended ≡ Yes
-      → IsNoWorse league start budgets.moves run.output
+      → IsNoWorse league start budgets.moves run.may_stop run.output
   -- Where the run ends with a refutation, the league accepts no list of games.
   pub unsolvable : (league : Instance)
       → SaysLeague run.store instance league

@@ -6,16 +6,16 @@ use Rattle.answers.specs.declared.status.Status.TheVariants.{Refuted, Spent}
 use Rattle.encoding_base.specs.Encoding.{encoding_size}
 use Rattle.instance_gen.specs.Draws.{seeded}
 use Rattle.instance_gen.specs.Made.{made_league}
-use Rattle.command_make.specs.Trial.{IsTrial}
+use Rattle.command_make.specs.Trial.{IsTrialBy}
 use Rattle.robin_run.specs.Run.{NothingFails, Run, Writes}
 use Rattle.encoding.specs.Limit.{most_terms}
 
 pub record Promise (run : Run) (n seed : ℕ) (budgets : Budgets) : Type 0 where
   -- Where the rows of the made league aren't too many, seven lines and a season that it accepts are written, where
-  -- nothing fails.
+  -- nothing fails. Its descent may make as many moves as were set, or, where the run may be stopped, fewer.
   pub tried : encoding_size (made_league n (seeded seed)) ≤ most_terms
       → NothingFails run []
-      → Writes run (IsTrial n seed (made_league n (seeded seed)) budgets.moves)
+      → Writes run (IsTrialBy n seed (made_league n (seeded seed)) budgets.moves run.may_stop)
   -- The run never ends with a refutation or a spent budget.
   pub found : (run.ended ≢ Refuted) × (run.ended ≢ Spent)
 

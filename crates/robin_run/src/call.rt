@@ -95,7 +95,7 @@ fn follow<S: Shelf, W: Listener>(
     watch: &W,
 ) -> Result<Given, NoValue>
     requires { HasTeams (command_of command) }
-    ensures answer { Gives (IsAnswer (Some (command_of command.entry))
+    ensures answer { Gives (IsAnswer (W.may_stop watch.now) (Some (command_of command.entry))
         (store_between S.Shelf shelf.old shelf.new)) result }
     ensures contents { (n : List ℕ) → S.contents shelf.new n ≡ S.contents shelf.old n }
     ensures untouched { NeedsNoFile (Some (command_of command.entry)) → shelf.new ≡ shelf.old }
@@ -165,7 +165,7 @@ fn answer<S: Shelf, W: Listener>(
     shelf: &mut S,
     watch: &W,
 ) -> Result<Given, NoValue>
-    ensures answer { Gives (IsAnswer (reading (map string_bytes words.now))
+    ensures answer { Gives (IsAnswer (W.may_stop watch.now) (reading (map string_bytes words.now))
         (store_between S.Shelf shelf.old shelf.new)) result }
     ensures contents { (n : List ℕ) → S.contents shelf.new n ≡ S.contents shelf.old n }
     ensures untouched { NeedsNoFile (reading (map string_bytes words.now)) → shelf.new ≡ shelf.old }
@@ -229,8 +229,8 @@ fn write_given<K: Sink, T: Sink>(out: &mut K, told: &mut T, given: Result<Given,
 ///
 /// `words` are the words of the command line without the program's name. The whole text is made before its first byte
 /// is written, but for that of `rows`, which is made as it is written. What a person is told of a run that went wrong
-/// goes to `told`: no clause says anything of it, and its faults change nothing. The watch may end walks and further
-/// tries of `solve` and `trial`, and hears how they go.
+/// goes to `told`: no clause says anything of it, and its faults change nothing. The watch may end the searches, walks,
+/// descents and further tries of `solve` and `trial`, and hears how they go.
 ///
 /// - `answer`: whatever the store, the sink and the files do, an answer to the words is written, and each refusal has
 ///   its cause.
@@ -248,9 +248,12 @@ pub fn run<S: Shelf, K: Sink, T: Sink, W: Listener>(
     told: &mut T,
     watch: &W,
 ) -> Status
-    ensures answer { Answered (run_of S.Shelf K.Sink words.now shelf.old shelf.new out.old out.new result) }
-    ensures ends { EndsByWords (run_of S.Shelf K.Sink words.now shelf.old shelf.new out.old out.new result) }
-    ensures commands { KeepsPromises (run_of S.Shelf K.Sink words.now shelf.old shelf.new out.old out.new result) }
+    ensures answer { Answered (run_of S.Shelf K.Sink words.now (W.may_stop watch.now) shelf.old shelf.new out.old
+        out.new result) }
+    ensures ends { EndsByWords (run_of S.Shelf K.Sink words.now (W.may_stop watch.now) shelf.old shelf.new out.old
+        out.new result) }
+    ensures commands { KeepsPromises (run_of S.Shelf K.Sink words.now (W.may_stop watch.now) shelf.old shelf.new out.old
+        out.new result) }
     ensures contents { (n : List ℕ) → S.contents shelf.new n ≡ S.contents shelf.old n }
     ensures untouched { NeedsNoFile (reading (map string_bytes words.now)) → shelf.new ≡ shelf.old }
     ensures memory { result ≡ Status.Memory → Keeps (K.written out.old) (K.written out.new) }

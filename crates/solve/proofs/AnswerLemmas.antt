@@ -1,6 +1,6 @@
 -- What the search's answers say of a league.
 use Rattle.std.proofs.Common.{◌≡◌, ℕ, ◌<◌, ◌≤◌, ◌^◌, Bool, true, false, not, List, [], ◌∷◌, get_or}
-use Rattle.std.proofs.Common.{zero, suc, Option, Some, refl, arith, ap, sym, subst, ◌∙◌}
+use Rattle.std.proofs.Common.{zero, suc, length, Option, Some, refl, arith, ap, sym, subst, ◌∙◌}
 use Rattle.std.specs.Prelude.{IsTrue, slice_get}
 use Rattle.std.specs.List.{All}
 use Rattle.std.specs.List.Sorted.{IsPermutation}
@@ -20,10 +20,12 @@ use Rattle.season_check.proofs.SeasonLemmas.{accepted_logs_exclude}
 use Rattle.clause_search.specs.Answers.{IsSpentAt, Refutes}
 use Rattle.clause_search.specs.News.{IsTidy}
 use Rattle.clause_search.proofs.LineLemmas.{step_named, step_short}
-use Rattle.pattern_search.specs.Answers.{IsPatternAnswer}
-use Rattle.pattern_search.specs.PatternLogs.{RefutesPatterns}
+use Rattle.robin_watch.specs.Limits.{IsKeptTo}
+use Rattle.pattern_search.specs.Answers.{IsPatternAnswer, IsPatternAnswerBy}
+use Rattle.pattern_search.specs.PatternLogs.{IsPatternSpent, RefutesPatterns}
 use Rattle.pattern_search.specs.PatternRows.{pattern_rows}
 use Rattle.pattern_search.specs.declared.found.PatternFound.{PatternFound}
+use Rattle.pattern_search.specs.declared.found.PatternFound.TheVariants.{Spent}
 use Rattle.pattern_search.proofs.NewsLemmas.{news-clauses, pattern_news-clauses}
 use Rattle.break_counts.proofs.SearchLemmas.{refuting}
 use Rattle.solve.specs.Solutions.{IsSpentOn, IsWritable, RefutesLeague}
@@ -83,6 +85,17 @@ pub found_here : (league other : Instance) (limit : Option ℕ) (found variant :
 found_here league other limit found variant same is answer =
     subst (λ (l : Instance). IsPatternAnswer l limit variant) same
     (subst (λ (f : PatternFound). IsPatternAnswer other limit f) is answer)
+
+-- a log that is spent is so at the limit to which the search kept, which is its number of steps
+pub spent_here : (league other : Instance) (limit : Option ℕ) (may_stop : Type 0) (found : PatternFound)
+    (log : List Step) → other ≡ league → found ≡ Spent log → IsPatternAnswerBy other limit may_stop found
+    → IsKeptTo limit may_stop (Some (length log)) × IsPatternSpent league (Some (length log)) log
+spent_here league other limit may_stop found log same is by =
+    let spent : IsPatternSpent league by.kept log =
+    found_here league other by.kept found (Spent log) same is by.answer in (
+      subst (λ (l : Option ℕ). IsKeptTo limit may_stop l) spent.limited by.is_kept,
+      subst (λ (l : Option ℕ). IsPatternSpent league l log) spent.limited spent,
+    )
 
 -- ---- an item of a list
 

@@ -7,8 +7,8 @@ use Rattle.std.proofs.lemmas.List.Elements.{All-append, All-cons, All-nil, All-p
 use Rattle.budgets.specs.declared.budgets.Budgets.{Budgets}
 use Rattle.league.specs.Instance.{Instance}
 use Rattle.solve.specs.Earliest.{IsBestOf, IsBestOfTries, season_of, season_tried}
-use Rattle.solve.specs.Solutions.{IsSolution}
-use Rattle.solve.specs.Tried.{IsSeason, IsTried}
+use Rattle.solve.specs.Solutions.{IsSolutionBy}
+use Rattle.solve.specs.Tried.{IsSeasonBy, IsTriedBy}
 use Rattle.solve.specs.declared.lower.Season.{Season}
 use Rattle.solve.specs.declared.solved.Solved.{Solved}
 use Rattle.solve.specs.declared.solved.Solved.TheVariants as answers
@@ -122,26 +122,32 @@ one-best (Some season) = record {
 }
 
 -- what an answer, and a try, has found is accepted
-pub season-solved : (league : Instance) (budgets : Budgets) (answer : Solved) → IsSolution league budgets answer
-    → IfSome (season_of answer) (IsSeason league budgets.moves)
-season-solved league budgets (answers.Schedule games objective descent) is = is
-season-solved league budgets (answers.Refuted log) is = tt
-season-solved league budgets (answers.Spent log patterns) is = tt
+pub season-solved : (league : Instance) (budgets : Budgets) (may_stop : Type 0) (answer : Solved)
+    → IsSolutionBy league budgets may_stop answer
+    → IfSome (season_of answer) (IsSeasonBy league budgets.moves may_stop)
+season-solved league budgets may_stop (answers.Schedule games objective descent) is =
+    record { kept = is.kept.moves; is_kept = is.are_kept.moves; is_season = is.solution }
+season-solved league budgets may_stop (answers.Refuted log) is = tt
+season-solved league budgets may_stop (answers.Spent log patterns) is = tt
 
-pub season-is_tried : (league : Instance) (budgets : Budgets) (tried : Tried) → IsTried league budgets tried
-    → IfSome (season_tried tried) (IsSeason league budgets.moves)
-season-is_tried league budgets (tries.Found season) is = is
-season-is_tried league budgets (tries.Refuted log) is = tt
-season-is_tried league budgets (tries.Spent log) is = tt
+pub season-is_tried : (league : Instance) (budgets : Budgets) (may_stop : Type 0) (tried : Tried)
+    → IsTriedBy league budgets may_stop tried
+    → IfSome (season_tried tried) (IsSeasonBy league budgets.moves may_stop)
+season-is_tried league budgets may_stop (tries.Found season) is =
+    record { kept = is.kept.moves; is_kept = is.are_kept.moves; is_season = is.is_tried }
+season-is_tried league budgets may_stop (tries.Refuted log) is = tt
+season-is_tried league budgets may_stop (tries.Spent log) is = tt
 
 -- an answer of one try, where there may be no more
 pub one_try : (league : Instance) (budgets : Budgets) (may_stop : Type 0) (answer : Solved)
-    → IsSolution league budgets answer → budgets.tries ≤ 1 → IsBestOfTries league budgets may_stop answer
-one_try league budgets may_stop answer is most = record {
-  found = season_of answer ∷ [];
-  each = All-cons (λ o. IfSome o (IsSeason league budgets.moves)) (season_of answer) []
-      (season-solved league budgets answer is) (All-nil (λ o. IfSome o (IsSeason league budgets.moves)));
-  few = λ more. absurd (omega (arith, more));
-  all = λ goes_on unstopped. most;
-  best = one-best (season_of answer);
-}
+    → IsSolutionBy league budgets may_stop answer → budgets.tries ≤ 1
+    → IsBestOfTries league budgets may_stop answer
+one_try league budgets may_stop answer is most =
+    let P : Option Season → Type 0 = λ o. IfSome o (IsSeasonBy league budgets.moves may_stop) in
+    record {
+      found = season_of answer ∷ [];
+      each = All-cons P (season_of answer) [] (season-solved league budgets may_stop answer is) (All-nil P);
+      few = λ more. absurd (omega (arith, more));
+      all = λ goes_on unstopped. most;
+      best = one-best (season_of answer);
+    }

@@ -2,6 +2,8 @@
 mod CircleLemmas
 -- How many games a double round robin has:
 pub mod FewLemmas
+-- The budgets to which a run kept:
+pub mod KeptLemmas
 -- What a descent makes of an accepted schedule:
 pub mod LowerLemmas
 -- What a walk from an accepted start leads to:
@@ -12,5 +14,6 @@ pub mod CountingLemmas
 pub mod EarliestLemmas
 -- What the answers say:
 pub mod AnswerLemmas
--- Worked answers:
+-- Worked budgets and answers:
+mod KeptFacts
 mod SolutionFacts

@@ -140,6 +140,15 @@ IsSchedule-settled league moves cost games descent is some none_lower =
     is.descends.trail)
     (settled-end league moves games descent descent.settled refl is.descends some none)
 
+-- a descent that may make a move and doesn't better its start leaves no move that does
+pub settled-start : (league : Instance) (m : Counts) (moves cost : ℕ) (games : List Game) (descent : Descended)
+    → IsSchedule league moves games cost descent → counts_of descent.first ≡ m → 1 ≤ moves → objective league m ≤ cost
+    → IsSettled league.n league.phased (league_score league) m
+settled-start league m moves cost games descent is first some none_lower =
+    subst (λ (k : Counts). IsSettled league.n league.phased (league_score league) k) first
+    (IsSchedule-settled league moves cost games descent is some
+    (subst (λ (k : Counts). objective league k ≤ cost) (sym first) none_lower))
+
 -- with as many moves as the first objective says it is settled
 pub IsDescent-settles : (league : Instance) (moves : ℕ) (games : List Game) (descent : Descended)
     → IsDescent league moves games descent → objective league (counts_of descent.first) ≤ moves

@@ -4,7 +4,7 @@ use Rattle.budgets.specs.declared.budgets.Budgets.{Budgets}
 use Rattle.league.specs.Instance.{Instance}
 use Rattle.std.specs.List.{All}
 use Rattle.solve.specs.Solutions.{IsRefuted}
-use Rattle.solve.specs.Tried.{IsSeason}
+use Rattle.solve.specs.Tried.{IsSeasonBy}
 use Rattle.solve.specs.declared.lower.Season.{Season}
 use Rattle.solve.specs.declared.solved.Solved.{Solved}
 use Rattle.solve.specs.declared.solved.Solved.TheVariants as answers
@@ -41,7 +41,7 @@ IsBestOf found None = All IsNone found
 -- many as there may be, and of fewer only where it refutes, or where the run may be stopped
 pub record IsBestOfTries (league : Instance) (budgets : Budgets) (may_stop : Type 0) (answer : Solved) : Type 0 where
   pub found : List (Option Season)
-  pub each : All (λ o. IfSome o (IsSeason league budgets.moves)) found
+  pub each : All (λ o. IfSome o (IsSeasonBy league budgets.moves may_stop)) found
   pub few : 1 < length found → length found ≤ budgets.tries
   pub all : (IsRefuted answer → ⊥) → (may_stop → ⊥) → budgets.tries ≤ length found
   pub best : IsBestOf found (season_of answer)

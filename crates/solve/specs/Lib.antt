@@ -1,6 +1,7 @@
 -- What a reader of a claim must believe:
 --
--- What each answer says of a league:
+-- What each answer says of a league, within the budgets to which a run kept:
+pub mod Kept
 pub mod Solutions
 -- Kept inside (laws, and how fields are seen):
 --

@@ -26,6 +26,7 @@ use Rattle.pattern_search.specs.PatternSets.{IsPatternSet}
 use Rattle.pattern_search.specs.declared.found.PatternFound.{PatternFound}
 use Rattle.pattern_search.specs.declared.found.PatternFound.TheVariants as found
 use Rattle.season_check.specs.Excluded.{NoneAccepted}
+use Rattle.solve.specs.Kept.{AreKeptTo}
 use Rattle.solve.specs.declared.solved.Solved.{Solved}
 use Rattle.solve.specs.declared.solved.Solved.TheVariants.{Schedule, Refuted, Spent}
 
@@ -88,6 +89,12 @@ IsSolution league budgets (Schedule games objective descent) = IsSchedule league
 IsSolution league budgets (Refuted log) = RefutesLeague league log
 IsSolution league budgets (Spent log patterns) =
     IsSpentOn league budgets.conflicts log × LeavesOpen league budgets.patterns patterns
+
+-- what an answer says of the league within the budgets to which the run kept
+pub record IsSolutionBy (league : Instance) (budgets : Budgets) (may_stop : Type 0) (answer : Solved) : Type 0 where
+  pub kept : Budgets
+  pub are_kept : AreKeptTo budgets may_stop kept
+  pub solution : IsSolution league kept answer
 
 -- the answer is a schedule
 abbrev pub HasSchedule : Solved → Type 0

@@ -1,7 +1,9 @@
 -- What one try says of a league.
 use Rattle.std.specs.Prelude.{ℕ, ◌≤◌, Option, None, Some}
 use Rattle.budgets.specs.declared.budgets.Budgets.{Budgets}
+use Rattle.robin_watch.specs.Limits.{IsKeptTo}
 use Rattle.league.specs.Instance.{Instance}
+use Rattle.solve.specs.Kept.{AreKeptTo}
 use Rattle.solve.specs.Solutions.{IsSchedule, IsSpentOn, RefutesLeague}
 use Rattle.solve.specs.declared.lower.Season.{Season}
 use Rattle.solve.specs.declared.tries.Tried.{Tried}
@@ -11,11 +13,23 @@ use Rattle.solve.specs.declared.tries.Tried.TheVariants.{Found, Refuted, Spent}
 abbrev pub IsSeason : Instance → ℕ → Season → Type 0
 IsSeason league moves season = IsSchedule league moves season.schedule season.objective season.descent
 
+-- a schedule, and the descent that led to it, of at most as many moves as the run kept to
+pub record IsSeasonBy (league : Instance) (moves : ℕ) (may_stop : Type 0) (season : Season) : Type 0 where
+  pub kept : ℕ
+  pub is_kept : IsKeptTo (Some moves) may_stop (Some kept)
+  pub is_season : IsSeason league kept season
+
 -- what a try comes to: an accepted schedule, a log that refutes the league, or one spent at the limit of conflicts
 abbrev pub IsTried : Instance → Budgets → Tried → Type 0
 IsTried league budgets (Found season) = IsSeason league budgets.moves season
 IsTried league budgets (Refuted log) = RefutesLeague league log
 IsTried league budgets (Spent log) = IsSpentOn league budgets.conflicts log
+
+-- what a try comes to within the budgets to which the run kept
+pub record IsTriedBy (league : Instance) (budgets : Budgets) (may_stop : Type 0) (tried : Tried) : Type 0 where
+  pub kept : Budgets
+  pub are_kept : AreKeptTo budgets may_stop kept
+  pub is_tried : IsTried league kept tried
 
 -- a schedule is found that costs at most so much
 abbrev pub FindsAtMost : ℕ → Option Season → Type 0

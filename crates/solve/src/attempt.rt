@@ -5,25 +5,26 @@ ghost use Rattle.rows.specs.Rows.{SatisfiesAll};
 ghost use Rattle.rows.specs.Values.{assigned};
 ghost use Rattle.encoding_base.specs.Encoding.{rows_of};
 ghost use Rattle.encoding_base.specs.Variables.{var_count};
-ghost use Rattle.clause_search.specs.Answers.{IsAnswer};
-ghost use Rattle.solve.specs.Tried.{IsSeason, IsTried};
+ghost use Rattle.clause_search.specs.Answers.{IsAnswerBy};
+ghost use Rattle.solve.specs.Tried.{IsSeasonBy, IsTriedBy};
 
 use crate::from_walk::try_walk;
-use crate::lower::{Season, lowered};
+use crate::lower::{Season, lowered_watched};
 use crate::tries::{Tried, with_walked};
 use budgets::Budgets;
-use clause_search::{Found, note_numbers, search};
+use clause_search::{Found, note_numbers, search_watched};
 use decoding::decode;
 use encoding::Encoding;
 use league::League;
 use robin_news::Listener;
+use robin_watch::Watch;
 use rows::{Assignment, Lit};
 use std::alloc::{AllocError, Global};
 
-/// One try: a search that decides these literals first, and a walk by the moves that the seed draws, until the watch
-/// ends it. Where a limit is set to the search it comes first: unless it refutes the league, the walk follows, and the
-/// better schedule of both stays. Where none is set the walk comes first, and the search only if the walk finds no
-/// schedule.
+/// One try: a search that decides these literals first, and a walk by the moves that the seed draws. The watch may end
+/// each of them, and each descent. Where a limit is set to the search it comes first: unless it refutes the league, the
+/// walk follows, and the better schedule of both stays. Where none is set the walk comes first, and the search only if
+/// the walk finds no schedule.
 ///
 /// # Errors
 /// Only where memory runs out.
@@ -37,7 +38,7 @@ pub(crate) fn try_both<W: Listener>(
 ) -> Result<Tried, AllocError>
     requires league { encoding.now ≡ league.now }
     requires known { All (λ l. l.var ≤ var_count encoding.now) prefer.now }
-    ensures { IfOk result (IsTried league.now budgets) }
+    ensures { IfOk result (IsTriedBy league.now budgets (W.may_stop watch.now)) }
 {
     match budgets.conflicts {
         Some(_) => search_then_walk(alloc, league, encoding, prefer, budgets, watch),
@@ -59,9 +60,9 @@ fn search_then_walk<W: Listener>(
 ) -> Result<Tried, AllocError>
     requires league { encoding.now ≡ league.now }
     requires known { All (λ l. l.var ≤ var_count encoding.now) prefer.now }
-    ensures { IfOk result (IsTried league.now budgets) }
+    ensures { IfOk result (IsTriedBy league.now budgets (W.may_stop watch.now)) }
 {
-    let found = try_search(alloc, league, encoding, prefer, budgets)?;
+    let found = try_search(alloc, league, encoding, prefer, budgets, watch)?;
     if matches!(found, Tried::Refuted(_)) {
         return Ok(found);
     }
@@ -83,11 +84,11 @@ fn walk_or_search<W: Listener>(
 ) -> Result<Tried, AllocError>
     requires league { encoding.now ≡ league.now }
     requires known { All (λ l. l.var ≤ var_count encoding.now) prefer.now }
-    ensures { IfOk result (IsTried league.now budgets) }
+    ensures { IfOk result (IsTriedBy league.now budgets (W.may_stop watch.now)) }
 {
     match try_walk(alloc, league, budgets.moves, budgets.seed, watch)? {
         Some(season) => Ok(Tried::Found(season)),
-        None => try_search(alloc, league, encoding, prefer, budgets),
+        None => try_search(alloc, league, encoding, prefer, budgets, watch),
     }
 }
 
@@ -95,46 +96,50 @@ fn walk_or_search<W: Listener>(
 ///
 /// # Errors
 /// Only where memory runs out.
-pub(crate) fn try_search(
+pub(crate) fn try_search<W: Watch>(
     alloc: Global,
     league: &League,
     encoding: &Encoding,
     prefer: &[Lit],
     budgets: Budgets,
+    watch: &W,
 ) -> Result<Tried, AllocError>
     requires league { encoding.now ≡ league.now }
     requires known { All (λ l. l.var ≤ var_count encoding.now) prefer.now }
-    ensures { IfOk result (IsTried league.now budgets) }
+    ensures { IfOk result (IsTriedBy league.now budgets (W.may_stop watch.now)) }
 {
-    let found = search(
+    let found = search_watched(
         alloc,
         encoding.rows(),
         encoding.vars(),
         prefer,
         budgets.conflicts,
+        watch,
     )?;
-    answer(alloc, league, encoding, found, budgets)
+    answer(alloc, league, encoding, found, budgets, watch)
 }
 
 /// What the search found, said of the league.
 ///
 /// # Errors
 /// Only where memory runs out.
-fn answer(
+fn answer<W: Watch>(
     alloc: Global,
     league: &League,
     encoding: &Encoding,
     found: Found,
     budgets: Budgets,
+    watch: &W,
 ) -> Result<Tried, AllocError>
     requires league { encoding.now ≡ league.now }
-    requires found { IsAnswer (rows_of league.now) (var_count league.now) budgets.conflicts found }
-    ensures { IfOk result (IsTried league.now budgets) }
+    requires found { IsAnswerBy (rows_of league.now) (var_count league.now) budgets.conflicts
+        (W.may_stop watch.now) found }
+    ensures { IfOk result (IsTriedBy league.now budgets (W.may_stop watch.now)) }
 {
     let _vars = encoding.vars();
     match found {
         Found::Sat(values) => {
-            let season = accepted(alloc, league, encoding, &values, budgets.moves)?;
+            let season = accepted(alloc, league, encoding, &values, budgets.moves, watch)?;
             Ok(Tried::Found(season))
         }
         Found::Refuted(log) => {
@@ -152,19 +157,20 @@ fn answer(
 ///
 /// # Errors
 /// Only where memory runs out.
-fn accepted(
+fn accepted<W: Watch>(
     alloc: Global,
     league: &League,
     encoding: &Encoding,
     values: &Assignment,
     moves: u64,
+    watch: &W,
 ) -> Result<Season, AllocError>
     requires league { encoding.now ≡ league.now }
     requires count { length values.now ≡ var_count league.now }
     requires satisfied { SatisfiesAll (assigned values.now) (rows_of league.now) }
-    ensures { IfOk result (IsSeason league.now moves) }
+    ensures { IfOk result (IsSeasonBy league.now moves (W.may_stop watch.now)) }
 {
     let _n = league.n();
     let schedule = decode(alloc, encoding, values)?;
-    lowered(alloc, league, &schedule, moves)
+    lowered_watched(alloc, league, &schedule, moves, watch)
 }

@@ -3,24 +3,27 @@ ghost use Rattle.std.specs.Prelude.{◌≡◌, None, Some, Ok, IfOk, IfSome};
 ghost use Rattle.league.specs.Accepted.{IsAccepted};
 ghost use Rattle.league.specs.Counts.{counts_of};
 ghost use Rattle.circle_method.specs.Circle.{double_games};
-ghost use Rattle.solve.specs.Tried.{IsSeason};
+ghost use Rattle.solve.specs.Tried.{IsSeasonBy};
 
-use crate::lower::{Season, lowered};
+use crate::lower::{Season, lowered_watched};
 use circle_method::double;
 use deviation::assess;
 use league::League;
+use robin_watch::Watch;
 use std::alloc::{AllocError, Global};
 
-/// What a descent of at most so many moves makes of the schedule of the circle method, where the league accepts that.
+/// What a descent of at most so many moves makes of the schedule of the circle method, where the league accepts that,
+/// until the watch ends it.
 ///
 /// # Errors
 /// Only where memory runs out.
-pub(crate) fn try_circle(
+pub(crate) fn try_circle<W: Watch>(
     alloc: Global,
     league: &League,
     moves: u64,
+    watch: &W,
 ) -> Result<Option<Season>, AllocError>
-    ensures schedule { IfOk result (λ tried. IfSome tried (IsSeason league.now moves)) }
+    ensures schedule { IfOk result (λ tried. IfSome tried (IsSeasonBy league.now moves (W.may_stop watch.now))) }
     ensures refused { result ≡ Ok None → IsAccepted league.now (counts_of (double_games league.now.n)) → ⊥ }
 {
     let mut schedule = double(alloc, league.n())?;
@@ -29,6 +32,6 @@ pub(crate) fn try_circle(
     if !assessment.feasible {
         return Ok(None);
     }
-    let lowered = lowered(alloc, league, &schedule, moves)?;
-    Ok(Some(lowered))
+    let season = lowered_watched(alloc, league, &schedule, moves, watch)?;
+    Ok(Some(season))
 }

@@ -10,7 +10,7 @@ ghost use Rattle.break_counts.specs.BreakCounts.{are_few};
 ghost use Rattle.circle_method.specs.Circle.{double_games};
 ghost use Rattle.encoding.specs.Limit.{KeepsLimit, most_terms};
 ghost use Rattle.encoding_base.specs.Encoding.{encoding_size};
-ghost use Rattle.solve.specs.Solutions.{CostsAtMost, HasSchedule, IsRefuted, IsSolution, LeavesOpen};
+ghost use Rattle.solve.specs.Solutions.{CostsAtMost, HasSchedule, IsRefuted, IsSolution, IsSolutionBy};
 ghost use Rattle.venue_counts.specs.VenueCounts.{are_crowded, are_short};
 
 use crate::attempt::try_search;
@@ -24,8 +24,9 @@ use budgets::Budgets;
 use clause_search::note_numbers;
 use encoding::{EncodeFault, Encoding, check_size, encode_small};
 use league::{League, Schedule};
-use pattern_search::{PatternFound, pattern_set};
+use pattern_search::{PatternFound, pattern_set_watched};
 use robin_news::Listener;
+use robin_watch::Watch;
 use std::alloc::{AllocError, Global};
 
 /// Finds a schedule that the league accepts, or a proof that there is none, from a double round robin of the league.
@@ -51,7 +52,10 @@ pub fn solve_from<W: Listener>(
     requires fit { All (IsGame league.now.n) start.now }
     requires round_robin { IsRoundRobin league.now.n league.now.phased (counts_of start.now) }
     ensures limit { KeepsLimit (encoding_size league.now) (encoding_size league.now) result }
-    ensures solution { IfOk result (IsSolution league.now budgets) }
+    ensures solution { IfOk result (IsSolutionBy league.now budgets (W.may_stop watch.now)) }
+
+    // Where nothing may stop the run, it keeps to the budgets that were set.
+    ensures unstopped { (W.may_stop watch.now → ⊥) → IfOk result (IsSolution league.now budgets) }
 
     // Where the league accepts the start, the answer is a schedule that costs no more.
     ensures no_worse { IsAccepted league.now (counts_of start.now)
@@ -89,7 +93,7 @@ fn first_try<W: Listener>(
     requires small { encoding_size league.now ≤ most_terms }
     requires fit { All (IsGame league.now.n) start.now }
     requires round_robin { IsRoundRobin league.now.n league.now.phased (counts_of start.now) }
-    ensures solution { IfOk result (IsSolution league.now budgets) }
+    ensures solution { IfOk result (IsSolutionBy league.now budgets (W.may_stop watch.now)) }
     ensures no_worse { IsAccepted league.now (counts_of start.now)
         → IfOk result (CostsAtMost (costs.objective league.now (counts_of start.now))) }
     ensures circle { IsAccepted league.now (counts_of (double_games league.now.n)) → IfOk result HasSchedule }
@@ -97,11 +101,11 @@ fn first_try<W: Listener>(
     if let Some(season) = walk_from(alloc, league, start, budgets.moves, budgets.seed, watch)? {
         return Ok(schedule_found(season));
     }
-    if let Some(season) = try_circle(alloc, league, budgets.moves)? {
+    if let Some(season) = try_circle(alloc, league, budgets.moves, watch)? {
         return Ok(schedule_found(season));
     }
     let encoding = encode_small(alloc, league)?;
-    search_near(alloc, league, &encoding, start, budgets)
+    search_near(alloc, league, &encoding, start, budgets, watch)
 }
 
 /// The best of what the first try came to, and of further walks from the start.
@@ -118,14 +122,14 @@ fn best_walk<W: Listener>(
 ) -> Result<Solved, AllocError>
     requires fit { All (IsGame league.now.n) start.now }
     requires round_robin { IsRoundRobin league.now.n league.now.phased (counts_of start.now) }
-    requires first { IsSolution league.now budgets first }
-    ensures solution { IfOk result (IsSolution league.now budgets) }
+    requires first { IsSolutionBy league.now budgets (W.may_stop watch.now) first }
+    ensures solution { IfOk result (IsSolutionBy league.now budgets (W.may_stop watch.now)) }
     ensures at_most { (most : ℕ) → CostsAtMost most first → IfOk result (CostsAtMost most) }
     ensures schedule { HasSchedule first → IfOk result HasSchedule }
 {
     let mut best = first;
     for k in 1..budgets.tries {
-        if is_refuted(&best) || watch.is_over(k) {
+        if is_refuted(&best) || watch.is_over_now(k) {
             return Ok(best);
         }
         let seed = budgets.seed.wrapping_add(k);
@@ -135,65 +139,38 @@ fn best_walk<W: Listener>(
     Ok(best)
 }
 
-/// Searches patterns, and then a schedule.
+/// Searches patterns, and then a schedule: what is true of the start is decided first.
 ///
 /// # Errors
 /// Only where memory runs out.
-fn search_near(
+fn search_near<W: Watch>(
     alloc: Global,
     league: &League,
     encoding: &Encoding,
     start: &Schedule,
     budgets: Budgets,
+    watch: &W,
 ) -> Result<Solved, AllocError>
     requires league { encoding.now ≡ league.now }
     requires fit { All (IsGame league.now.n) start.now }
-    ensures { IfOk result (IsSolution league.now budgets) }
+    ensures { IfOk result (IsSolutionBy league.now budgets (W.may_stop watch.now)) }
 {
     let _vars = encoding.vars();
-    let found = pattern_set(alloc, encoding, Some(budgets.patterns))?;
+    let found = pattern_set_watched(alloc, encoding, Some(budgets.patterns), watch)?;
     match found {
+        PatternFound::Patterns(patterns) => {
+            let prefer = true_in(alloc, encoding, start)?;
+            let tried = try_search(alloc, league, encoding, &prefer, budgets, watch)?;
+            Ok(solved_by(tried, PatternFound::Patterns(patterns)))
+        }
         PatternFound::Refuted(log) => {
             note_numbers(&log);
             Ok(Solved::Refuted(log))
         }
-        PatternFound::Patterns(patterns) => search_knowing(
-            alloc,
-            league,
-            encoding,
-            start,
-            budgets,
-            PatternFound::Patterns(patterns),
-        ),
-        PatternFound::Spent(log) => search_knowing(
-            alloc,
-            league,
-            encoding,
-            start,
-            budgets,
-            PatternFound::Spent(log),
-        ),
+        PatternFound::Spent(log) => {
+            let prefer = true_in(alloc, encoding, start)?;
+            let tried = try_search(alloc, league, encoding, &prefer, budgets, watch)?;
+            Ok(solved_by(tried, PatternFound::Spent(log)))
+        }
     }
-}
-
-/// Searches a schedule where this is known of the league's patterns: what is true of the start is decided first.
-///
-/// # Errors
-/// Only where memory runs out.
-fn search_knowing(
-    alloc: Global,
-    league: &League,
-    encoding: &Encoding,
-    start: &Schedule,
-    budgets: Budgets,
-    patterns: PatternFound,
-) -> Result<Solved, AllocError>
-    requires league { encoding.now ≡ league.now }
-    requires fit { All (IsGame league.now.n) start.now }
-    requires patterns { LeavesOpen league.now budgets.patterns patterns }
-    ensures { IfOk result (IsSolution league.now budgets) }
-{
-    let prefer = true_in(alloc, encoding, start)?;
-    let tried = try_search(alloc, league, encoding, &prefer, budgets)?;
-    Ok(solved_by(tried, patterns))
 }

@@ -6,9 +6,9 @@ ghost use Rattle.league.specs.Accepted.{IsAccepted};
 ghost use Rattle.league.specs.Counts.{counts_of};
 ghost use Rattle.league.specs.Instance.{IsGame};
 ghost use Rattle.league.specs.Structure.{IsRoundRobin};
-ghost use Rattle.solve.specs.Tried.{FindsAtMost, IsSeason};
+ghost use Rattle.solve.specs.Tried.{FindsAtMost, IsSeasonBy};
 
-use crate::lower::{Season, lowered};
+use crate::lower::{Season, lowered_watched};
 use circle_method::double;
 use league::{League, Schedule};
 use robin_news::Listener;
@@ -22,7 +22,7 @@ const TRIED: u64 = 100;
 const USUAL: u64 = 10_000;
 
 /// What a descent of at most so many moves makes of the schedule that a walk finds, where the league accepts that. The
-/// walk goes from the schedule of the circle method by the moves that a seed draws, until the watch ends it. Without
+/// walk goes from the schedule of the circle method by the moves that a seed draws. The watch may end both. Without
 /// moves there is none.
 ///
 /// # Errors
@@ -34,7 +34,7 @@ pub(crate) fn try_walk<W: Listener>(
     seed: u64,
     watch: &W,
 ) -> Result<Option<Season>, AllocError>
-    ensures { IfOk result (λ tried. IfSome tried (IsSeason league.now moves)) }
+    ensures { IfOk result (λ tried. IfSome tried (IsSeasonBy league.now moves (W.may_stop watch.now))) }
 {
     if moves == 0 {
         return Ok(None);
@@ -44,7 +44,7 @@ pub(crate) fn try_walk<W: Listener>(
 }
 
 /// What a descent of at most so many moves makes of the schedule that a walk finds, where the league accepts that. The
-/// walk goes from a double round robin by the moves that a seed draws, until the watch ends it.
+/// walk goes from a double round robin by the moves that a seed draws. The watch may end both.
 ///
 /// # Errors
 /// Only where memory runs out.
@@ -58,7 +58,7 @@ pub(crate) fn walk_from<W: Listener>(
 ) -> Result<Option<Season>, AllocError>
     requires fit { All (IsGame league.now.n) start.now }
     requires round_robin { IsRoundRobin league.now.n league.now.phased (counts_of start.now) }
-    ensures season { IfOk result (λ tried. IfSome tried (IsSeason league.now moves)) }
+    ensures season { IfOk result (λ tried. IfSome tried (IsSeasonBy league.now moves (W.may_stop watch.now))) }
 
     // From an accepted start the walk finds a schedule that costs no more.
     ensures no_worse { IsAccepted league.now (counts_of start.now)
@@ -69,7 +69,7 @@ pub(crate) fn walk_from<W: Listener>(
     if walked.best.score.infeasibility > 0 {
         return Ok(None);
     }
-    let season = lowered(alloc, league, &walked.best.games, moves)?;
+    let season = lowered_watched(alloc, league, &walked.best.games, moves, watch)?;
     Ok(Some(season))
 }
 

@@ -15,6 +15,6 @@ mod solver;
 mod tries;
 
 pub use from_season::solve_from;
-pub use lower::{Season, lowered};
+pub use lower::{Season, lowered, lowered_watched};
 pub use solved::Solved;
 pub use solver::solve;

@@ -2,12 +2,16 @@
 ghost use Rattle.std.specs.Prelude.{◌≡◌, ◌≤◌, length, IfOk};
 ghost use Rattle.std.specs.List.{All};
 ghost use Rattle.league.specs.Accepted.{IsAccepted};
+ghost use Rattle.league.specs.Accepted as costs;
 ghost use Rattle.league.specs.Counts.{counts_of};
 ghost use Rattle.league.specs.Instance.{IsGame};
-ghost use Rattle.solve.specs.Solutions.{IsSchedule};
+ghost use Rattle.descent.specs.Settled.{IsSettled};
+ghost use Rattle.solve.specs.Solutions.{IsSchedule, league_score};
+ghost use Rattle.solve.specs.Tried.{IsSeasonBy};
 
-use descent::{Descent, descend, season_of};
+use descent::{Descent, descend_watched, season_of};
 use league::{League, Schedule};
+use robin_watch::{Unwatched, Watch};
 use rule_core::{Plain, Steps};
 use std::alloc::{AllocError, Global};
 use tally::league_tally;
@@ -37,10 +41,35 @@ pub fn lowered(
         IsSchedule league.now moves season.schedule season.objective season.descent) }
     ensures first { IfOk result (λ season. counts_of season.descent.first ≡ counts_of start.now) }
 {
+    lowered_watched(alloc, league, start, moves, &Unwatched)
+}
+
+/// The schedule to which such a descent leads, until the watch ends it.
+///
+/// # Errors
+/// Only where memory runs out.
+pub fn lowered_watched<W: Watch>(
+    alloc: Global,
+    league: &League,
+    start: &Schedule,
+    moves: u64,
+    watch: &W,
+) -> Result<Season, AllocError>
+    requires accepted { IsAccepted league.now (counts_of start.now) }
+    requires fit { All (IsGame league.now.n) start.now }
+    requires few { length start.now ≤ 10000 }
+    ensures season { IfOk result (IsSeasonBy league.now moves (W.may_stop watch.now)) }
+
+    // A descent that may make a move and betters nothing leaves no move that does, stopped or not.
+    ensures settles { 1 ≤ moves → IfOk result (λ season.
+        costs.objective league.now (counts_of start.now) ≤ season.objective
+        → IsSettled league.now.n league.now.phased (league_score league.now) (counts_of start.now)) }
+    ensures first { IfOk result (λ season. counts_of season.descent.first ≡ counts_of start.now) }
+{
     let mut steps = Steps::<Plain>::start();
     let mut tally = league_tally(alloc, league, 1, start.games(), &mut steps)?;
     let phased = league.phased();
-    let descent = descend(alloc, phased, &mut tally, moves, &mut steps)?;
+    let descent = descend_watched(alloc, phased, &mut tally, moves, &mut steps, watch)?;
     let schedule = season_of(alloc, phased, tally.cells())?;
     Ok(Season {
         schedule,

@@ -1,5 +1,5 @@
 //! The solver.
-ghost use Rattle.std.specs.Prelude.{◌≡◌, ◌≤◌, true, Some, IfOk};
+ghost use Rattle.std.specs.Prelude.{◌≡◌, ◌≤◌, length, true, Some, IfOk};
 ghost use Rattle.league.specs.Accepted.{IsAccepted};
 ghost use Rattle.league.specs.Counts.{counts_of};
 ghost use Rattle.break_counts.specs.BreakCounts.{are_few};
@@ -7,9 +7,10 @@ ghost use Rattle.circle_method.specs.Circle.{double_games};
 ghost use Rattle.encoding_base.specs.Encoding.{encoding_size};
 ghost use Rattle.pattern_search.specs.PatternLogs.{IsPatternSpent};
 ghost use Rattle.pattern_search.specs.PatternSets.{IsPatternSet};
+ghost use Rattle.robin_watch.specs.Limits.{IsKeptTo};
 ghost use Rattle.solve.specs.Earliest.{IsBestOfTries};
-ghost use Rattle.solve.specs.Solutions.{HasSchedule, IsRefuted, IsSolution};
-ghost use Rattle.solve.specs.Tried.{IsSeason, IsTried};
+ghost use Rattle.solve.specs.Solutions.{HasSchedule, IsRefuted, IsSolution, IsSolutionBy};
+ghost use Rattle.solve.specs.Tried.{IsSeasonBy, IsTriedBy};
 ghost use Rattle.venue_counts.specs.VenueCounts.{are_crowded, are_short};
 ghost use Rattle.encoding.specs.Limit.{KeepsLimit, most_terms};
 
@@ -24,7 +25,7 @@ use budgets::Budgets;
 use clause_search::note_numbers;
 use encoding::{EncodeFault, Encoding, check_size, encode_small};
 use league::League;
-use pattern_search::{PatternFound, pattern_set};
+use pattern_search::{PatternFound, pattern_set_watched};
 use patterns::PatternSet;
 use refutation::Log;
 use robin_news::Listener;
@@ -33,19 +34,19 @@ use std::alloc::{AllocError, Global};
 
 /// Finds a schedule that the league accepts, or a proof that there is none.
 ///
-/// Where the venue counts or the break counts of the league refute it, that is the answer. The first try starts from the schedule of the
-/// circle method where the league accepts it. Where it doesn't, a search for patterns comes first, which learns at most
-/// as many clauses as the budget of patterns says: a log that refutes the pattern rows is the answer, and patterns that
-/// it finds are what the search over all rows decides first. Each later try searches in another random order. Each try
-/// that doesn't start from that schedule also walks, first from it and then from random ones, by moves that its seed
-/// draws: at most a hundred for each that its descent may make, and a hundred for each move that there is of so many
-/// teams, as often as 10,000 go into the moves of the descent; behind its search, where that is limited, and else
-/// before it, and then a schedule that the walk finds takes the search's place. With a limit of conflicts the search of
-/// a try learns at most so many clauses, and then its log is the answer, with what is known of the patterns; without
-/// one it goes on to the end. The watch may end each walk, and the tries behind the first. From a schedule that is
-/// accepted a descent goes on by moves to better ones, at most so many moves a try. The schedule of the least objective
-/// is the answer, of equal ones the earliest; a refutation is the answer at once. What a search finds first is not
-/// promised, and an objective is the schedule's own, not the least of all.
+/// Where the venue counts or the break counts of the league refute it, that is the answer. The first try starts from
+/// the schedule of the circle method where the league accepts it. Where it doesn't, a search for patterns comes first,
+/// which learns at most as many clauses as the budget of patterns says: a log that refutes the pattern rows is the
+/// answer, and patterns that it finds are what the search over all rows decides first. Each later try searches in
+/// another random order. Each try that doesn't start from that schedule also walks, first from it and then from random
+/// ones, by moves that its seed draws: at most a hundred for each that its descent may make, and a hundred for each
+/// move that there is of so many teams, as often as 10,000 go into the moves of the descent; behind its search, where
+/// that is limited, and else before it, and then a schedule that the walk finds takes the search's place. With a limit
+/// of conflicts the search of a try learns at most so many clauses, and then its log is the answer, with what is known
+/// of the patterns; without one it goes on to the end. The watch may end each search, walk and descent, and the tries
+/// behind the first. From a schedule that is accepted a descent goes on by moves to better ones, at most so many moves
+/// a try. The schedule of the least objective is the answer, of equal ones the earliest; a refutation is the answer at
+/// once. What a search finds first is not promised, and an objective is the schedule's own, not the least of all.
 ///
 /// # Errors
 /// `TooLarge` exactly where the league's rows have more than 40,000,000 terms, with their number, before anything
@@ -57,7 +58,10 @@ pub fn solve<W: Listener>(
     watch: &W,
 ) -> Result<Solved, EncodeFault>
     ensures limit { KeepsLimit (encoding_size league.now) (encoding_size league.now) result }
-    ensures solution { IfOk result (IsSolution league.now budgets) }
+    ensures solution { IfOk result (IsSolutionBy league.now budgets (W.may_stop watch.now)) }
+
+    // Where nothing may stop the run, it keeps to the budgets that were set.
+    ensures unstopped { (W.may_stop watch.now → ⊥) → IfOk result (IsSolution league.now budgets) }
 
     // Where the league accepts the schedule of the circle method, the answer is a schedule.
     ensures circle { IsAccepted league.now (counts_of (double_games league.now.n)) → IfOk result HasSchedule }
@@ -87,11 +91,11 @@ fn best_try<W: Listener>(
     watch: &W,
 ) -> Result<Solved, AllocError>
     requires small { encoding_size league.now ≤ most_terms }
-    ensures solution { IfOk result (IsSolution league.now budgets) }
+    ensures solution { IfOk result (IsSolutionBy league.now budgets (W.may_stop watch.now)) }
     ensures circle { IsAccepted league.now (counts_of (double_games league.now.n)) → IfOk result HasSchedule }
     ensures best { IfOk result (IsBestOfTries league.now budgets (W.may_stop watch.now)) }
 {
-    if let Some(season) = try_circle(alloc, league, budgets.moves)? {
+    if let Some(season) = try_circle(alloc, league, budgets.moves, watch)? {
         return best_with_circle(alloc, league, budgets, season, watch);
     }
     let encoding = encode_small(alloc, league)?;
@@ -112,8 +116,8 @@ fn best_with_circle<W: Listener>(
     watch: &W,
 ) -> Result<Solved, AllocError>
     requires small { encoding_size league.now ≤ most_terms }
-    requires season { IsSeason league.now budgets.moves season }
-    ensures solution { IfOk result (IsSolution league.now budgets) }
+    requires season { IsSeasonBy league.now budgets.moves (W.may_stop watch.now) season }
+    ensures solution { IfOk result (IsSolutionBy league.now budgets (W.may_stop watch.now)) }
     ensures schedule { IfOk result HasSchedule }
     ensures best { IfOk result (IsBestOfTries league.now budgets (W.may_stop watch.now)) }
 {
@@ -138,8 +142,8 @@ fn best_from<W: Listener>(
     watch: &W,
 ) -> Result<Solved, AllocError>
     requires league { encoding.now ≡ league.now }
-    requires first { IsSolution league.now budgets first }
-    ensures solution { IfOk result (IsSolution league.now budgets) }
+    requires first { IsSolutionBy league.now budgets (W.may_stop watch.now) first }
+    ensures solution { IfOk result (IsSolutionBy league.now budgets (W.may_stop watch.now)) }
     ensures schedule { HasSchedule first → IfOk result HasSchedule }
     ensures best { IfOk result (IsBestOfTries league.now budgets (W.may_stop watch.now)) }
 {
@@ -148,7 +152,7 @@ fn best_from<W: Listener>(
         if is_refuted(&best) {
             return Ok(best);
         }
-        if watch.is_over(k) {
+        if watch.is_over_now(k) {
             return Ok(best);
         }
         let later = later_try(alloc, league, encoding, budgets, k, watch)?;
@@ -169,10 +173,10 @@ fn try_patterns<W: Listener>(
     watch: &W,
 ) -> Result<Solved, AllocError>
     requires league { encoding.now ≡ league.now }
-    ensures { IfOk result (IsSolution league.now budgets) }
+    ensures { IfOk result (IsSolutionBy league.now budgets (W.may_stop watch.now)) }
 {
     let _vars = encoding.vars();
-    let found = pattern_set(alloc, encoding, Some(budgets.patterns))?;
+    let found = pattern_set_watched(alloc, encoding, Some(budgets.patterns), watch)?;
     match found {
         PatternFound::Patterns(patterns) => {
             try_with(alloc, league, encoding, patterns, budgets, watch)
@@ -199,7 +203,7 @@ fn try_with<W: Listener>(
 ) -> Result<Solved, AllocError>
     requires league { encoding.now ≡ league.now }
     requires set { IsPatternSet league.now patterns }
-    ensures { IfOk result (IsSolution league.now budgets) }
+    ensures { IfOk result (IsSolutionBy league.now budgets (W.may_stop watch.now)) }
 {
     let prefer = venues(alloc, encoding, &patterns)?;
     let tried = try_both(alloc, league, encoding, &prefer, budgets, watch)?;
@@ -219,8 +223,9 @@ fn try_without<W: Listener>(
     watch: &W,
 ) -> Result<Solved, AllocError>
     requires league { encoding.now ≡ league.now }
-    requires spent { IsPatternSpent league.now (Some budgets.patterns) log }
-    ensures { IfOk result (IsSolution league.now budgets) }
+    requires kept { IsKeptTo (Some budgets.patterns) (W.may_stop watch.now) (Some (length log)) }
+    requires spent { IsPatternSpent league.now (Some (length log)) log }
+    ensures { IfOk result (IsSolutionBy league.now budgets (W.may_stop watch.now)) }
 {
     let prefer = preferred(alloc, encoding)?;
     let tried = try_both(alloc, league, encoding, &prefer, budgets, watch)?;
@@ -240,7 +245,7 @@ fn later_try<W: Listener>(
     watch: &W,
 ) -> Result<Tried, AllocError>
     requires league { encoding.now ≡ league.now }
-    ensures { IfOk result (IsTried league.now budgets) }
+    ensures { IfOk result (IsTriedBy league.now budgets (W.may_stop watch.now)) }
 {
     let seed = budgets.seed.wrapping_add(k);
     let prefer = shuffled(alloc, encoding, seed)?;

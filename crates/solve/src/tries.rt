@@ -1,5 +1,5 @@
 //! Several tries, of which the best answer is kept.
-ghost use Rattle.std.specs.Prelude.{◌≡◌, ◌↔◌, ◌∷◌, ◌++◌, [], ℕ, ◌≤◌, nat_lt, if◌then◌else◌, List, Option, Some, IfSome, IsTrue};
+ghost use Rattle.std.specs.Prelude.{◌≡◌, ◌↔◌, ◌⊎◌, ◌∷◌, ◌++◌, [], ℕ, ◌≤◌, nat_lt, if◌then◌else◌, List, Option, Some, IfSome, IsTrue};
 ghost use Rattle.budgets.specs.declared.budgets.Budgets.{Budgets};
 ghost use Rattle.league.specs.Instance.{Instance};
 ghost use Rattle.solve.specs.Earliest.{IsBestOf, season_of, season_tried};
@@ -66,8 +66,10 @@ pub(crate) fn is_refuted(answer: &Solved) -> bool
 /// The better one of an answer and of a later try: a refutation stays, the schedule of the lesser objective is kept, of
 /// equal ones the earlier, and a spent search gives way to what comes later.
 pub(crate) fn better(best: Solved, later: Tried) -> Solved
-    ensures solution { (league : Instance) (budgets : Budgets) → IsSolution league budgets best
-        → IsTried league budgets later → IsSolution league budgets result }
+    // It is one of the earlier budgets, or of those of the later try with the earlier ones of patterns.
+    ensures solution { (league : Instance) (earlier kept : Budgets) → IsSolution league earlier best
+        → IsTried league kept later → IsSolution league earlier result
+        ⊎ IsSolution league (record kept { patterns = earlier.patterns }) result }
     ensures schedule { HasSchedule best → HasSchedule result }
     ensures at_most { (most : ℕ) → CostsAtMost most best → CostsAtMost most result }
 
@@ -95,8 +97,10 @@ pub(crate) fn better(best: Solved, later: Tried) -> Solved
 
 /// The better one of an answer and of the schedule of a later walk, if there is one.
 pub(crate) fn with_later(best: Solved, walked: Option<Season>) -> Solved
-    ensures solution { (league : Instance) (budgets : Budgets) → IsSolution league budgets best
-        → IfSome walked (IsSeason league budgets.moves) → IsSolution league budgets result }
+    // It is one of the earlier budgets, or of these with the moves of the walk's descent.
+    ensures solution { (league : Instance) (earlier : Budgets) (moves : ℕ) → IsSolution league earlier best
+        → IfSome walked (IsSeason league moves) → IsSolution league earlier result
+        ⊎ IsSolution league (record earlier { moves = moves }) result }
     ensures schedule { HasSchedule best → HasSchedule result }
     ensures at_most { (most : ℕ) → CostsAtMost most best → CostsAtMost most result }
 {
@@ -108,8 +112,12 @@ pub(crate) fn with_later(best: Solved, walked: Option<Season>) -> Solved
 
 /// What a search comes to, or the schedule of a walk where there is one and it isn't worse.
 pub(crate) fn with_walked(found: Tried, walked: Option<Season>) -> Tried
-    ensures { (league : Instance) (budgets : Budgets) → IsTried league budgets found
-        → IfSome walked (IsSeason league budgets.moves) → IsTried league budgets result }
+    ensures tried { (league : Instance) (budgets : Budgets) (moves : ℕ) → IsTried league budgets found
+        → IfSome walked (IsSeason league moves)
+        → IsTried league budgets result ⊎ IsTried league (record budgets { moves = moves }) result }
+
+    // Of the walk's schedule and the search's the better one stays, and the walk's where they cost the same.
+    ensures best { IsBestOf (walked ∷ season_tried found ∷ []) (season_tried result) }
 {
     match walked {
         Some(season) => Tried::Found(better_season(season, found)),
@@ -120,8 +128,8 @@ pub(crate) fn with_walked(found: Tried, walked: Option<Season>) -> Tried
 /// The better one of a schedule and of what a later try comes to.
 fn better_season(best: Season, later: Tried) -> Season
     ensures at_most { result.objective ≤ best.objective }
-    ensures season { (league : Instance) (budgets : Budgets) → IsSeason league budgets.moves best
-        → IsTried league budgets later → IsSeason league budgets.moves result }
+    ensures season { (league : Instance) (moves : ℕ) (budgets : Budgets) → IsSeason league moves best
+        → IsTried league budgets later → IsSeason league moves result ⊎ IsSeason league budgets.moves result }
     ensures best { (found : List (Option Season)) → IsBestOf found (Some best)
         → IsBestOf (found ++ season_tried later ∷ []) (Some result) }
 {

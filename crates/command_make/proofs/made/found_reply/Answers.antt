@@ -3,15 +3,15 @@ use Rattle.command_make.proofs.TrialLemmas.{replied-trial}
 use Rattle.command_make.proofs.made.found_reply.Goals as goal
 
 pub returns : goal.returns
-returns c =
-    replied-trial c.args.seed c.args.league.now c.args.budgets.moves c.in-Schedule.schedule c.in-Schedule.objective
+returns c = λ budgets solution.
+    replied-trial c.args.seed c.args.league.now budgets.moves c.in-Schedule.schedule c.in-Schedule.objective
     c.in-Schedule.descent c.schedule_reply.result c.n-n.ensures.instance.teams
-    (rw c.in-Schedule.is at c.requires.solution)
+    (rw c.in-Schedule.is at solution)
     c.schedule_reply.ensures.status c.schedule_reply.ensures.text
 
 pub schedule_reply-requires : goal.schedule_reply-requires
 schedule_reply-requires c =
-    let descends = (rw c.in-Schedule.is at c.requires.solution).descends in
+    let descends = (rw c.in-Schedule.is at c.requires.solution.1).descends in
     record {
       fit = descends.fit;
       few = round_robin-few c.args.league.now.n c.args.league.now.phased c.in-Schedule.descent.first

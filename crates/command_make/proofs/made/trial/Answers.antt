@@ -9,5 +9,5 @@ solve_made-requires g c = record {
 
 pub returns : goal.returns
 returns g c =
-    replied-tried c.args.n c.args.seed c.args.budgets c.in_ok-league.league c.solve_made.result
+    replied-tried c.args.n c.args.seed c.args.budgets (g.W.Watch.may_stop c.args.watch.now) c.in_ok-league.league c.solve_made.result
     c.in_ok-league.ensures.league c.solve_made.ensures

@@ -15,7 +15,7 @@ returns-clause-answer g c =
     (λ (bytes : List ℕ). IsFile (store.contents c.args.solution.now) SOLUTION_LIMIT bytes) (sym c.deref-2.ensures.value)
     (subst (λ (known : Option (List ℕ)). IsFile known SOLUTION_LIMIT c.in_ok-second.second.items)
     (c.file.ensures.contents c.args.solution.now) c.in_ok-second.ensures.stage) in
-    Answers-wider _ _ (begun-last store c.args.instance.now c.args.solution.now c.args.budgets _ _ _ is_first c.in_ok-league.ensures is_second) _ c.begin_at_file.ensures
+    Answers-wider _ _ (begun-last store c.args.instance.now c.args.solution.now c.args.budgets (g.W.Watch.may_stop c.args.watch.now) _ _ _ is_first c.in_ok-league.ensures is_second) _ c.begin_at_file.ensures
 
 -- the second file isn't read, or memory ran out
 pub returns-in_err-second-clause-answer : goal.returns-in_err-second-clause-answer
@@ -24,5 +24,5 @@ returns-in_err-second-clause-answer g c =
     let is_first : IsFile (store.contents c.args.instance.now) INSTANCE_LIMIT c.deref.result.now = subst (λ (bytes : List ℕ). IsFile (store.contents c.args.instance.now) INSTANCE_LIMIT bytes) (sym c.deref.ensures.value) c.in_ok-first.ensures.stage in
     Answers-wider (λ answer. IsUnread (codes "solution") (store.contents c.args.solution.now) SOLUTION_LIMIT
     (store.took_more (length c.deref.result.now + SOLUTION_LIMIT)) (store.failed c.args.solution.now) answer) _
-    (begun-unread store c.args.instance.now c.args.solution.now c.args.budgets _ _ is_first c.in_ok-league.ensures) _
+    (begun-unread store c.args.instance.now c.args.solution.now c.args.budgets (g.W.Watch.may_stop c.args.watch.now) _ _ is_first c.in_ok-league.ensures) _
     (search rules)

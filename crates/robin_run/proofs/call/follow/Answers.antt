@@ -60,14 +60,15 @@ pub returns-in-Solve-clause-answer : goal.returns-in-Solve-clause-answer
 returns-in-Solve-clause-answer g c =
     rw c.in-Solve.is
     (given-gives
-    (solved (store_between g.S.Shelf c.args.shelf.now c.solve_file.new.shelf) c.in-Solve.instance.now c.in-Solve.budgets)
+    (solved (store_between g.S.Shelf c.args.shelf.now c.solve_file.new.shelf) c.in-Solve.instance.now c.in-Solve.budgets
+    (g.W.Watch.may_stop c.args.watch.now))
     _ _ c.give-in-Solve.ensures c.solve_file.ensures.answer)
 
 pub returns-in-SolveFrom-clause-answer : goal.returns-in-SolveFrom-clause-answer
 returns-in-SolveFrom-clause-answer g c =
     rw c.in-SolveFrom.is
     (given-gives
-    (begun (store_between g.S.Shelf c.args.shelf.now c.solve_from_file.new.shelf) c.in-SolveFrom.instance.now c.in-SolveFrom.solution.now c.in-SolveFrom.budgets)
+    (begun (store_between g.S.Shelf c.args.shelf.now c.solve_from_file.new.shelf) c.in-SolveFrom.instance.now c.in-SolveFrom.solution.now c.in-SolveFrom.budgets (g.W.Watch.may_stop c.args.watch.now))
     _ _ c.give-in-SolveFrom.ensures c.solve_from_file.ensures.answer)
 
 pub returns-in-Patterns-clause-answer : goal.returns-in-Patterns-clause-answer
@@ -130,7 +131,7 @@ pub returns-in-Trial-clause-answer : goal.returns-in-Trial-clause-answer
 returns-in-Trial-clause-answer g c =
     rw c.in-Trial.is
     (given-gives
-    (tried c.in-Trial.n c.in-Trial.seed c.in-Trial.budgets)
+    (tried c.in-Trial.n c.in-Trial.seed c.in-Trial.budgets (g.W.Watch.may_stop c.args.watch.now))
     _ _ c.give-in-Trial.ensures c.trial.ensures)
 
 pub returns-in-Rows-clause-answer : goal.returns-in-Rows-clause-answer

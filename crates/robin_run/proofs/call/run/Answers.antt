@@ -6,20 +6,20 @@ use Rattle.robin_run.proofs.call.run.Goals as goal
 
 pub returns-clause-ends : goal.returns-clause-ends
 returns-clause-ends g c =
-    ends-by-words _ (answered-by (run_of g.S.Shelf g.K.Sink c.args.words.now c.args.shelf.now c.answer-given.new.shelf c.args.out.now
+    ends-by-words _ (answered-by (run_of g.S.Shelf g.K.Sink c.args.words.now (g.W.Watch.may_stop c.args.watch.now) c.args.shelf.now c.answer-given.new.shelf c.args.out.now
     c.write_given.new.out c.write_given.result) c.answer-given.result c.answer-given.ensures.answer c.write_given.ensures)
 
 pub returns-clause-commands : goal.returns-clause-commands
 returns-clause-commands g c =
-    keeps-promises _ (answered-by (run_of g.S.Shelf g.K.Sink c.args.words.now c.args.shelf.now c.answer-given.new.shelf c.args.out.now
+    keeps-promises _ (answered-by (run_of g.S.Shelf g.K.Sink c.args.words.now (g.W.Watch.may_stop c.args.watch.now) c.args.shelf.now c.answer-given.new.shelf c.args.out.now
     c.write_given.new.out c.write_given.result) c.answer-given.result c.answer-given.ensures.answer c.write_given.ensures)
 
 pub returns-clause-answer : goal.returns-clause-answer
 returns-clause-answer g c =
-    answered-by (run_of g.S.Shelf g.K.Sink c.args.words.now c.args.shelf.now c.answer-given.new.shelf c.args.out.now
+    answered-by (run_of g.S.Shelf g.K.Sink c.args.words.now (g.W.Watch.may_stop c.args.watch.now) c.args.shelf.now c.answer-given.new.shelf c.args.out.now
     c.write_given.new.out c.write_given.result) c.answer-given.result c.answer-given.ensures.answer c.write_given.ensures
 
 pub returns-clause-memory : goal.returns-clause-memory
 returns-clause-memory g c =
-    kept-by (run_of g.S.Shelf g.K.Sink c.args.words.now c.args.shelf.now c.answer-given.new.shelf c.args.out.now
+    kept-by (run_of g.S.Shelf g.K.Sink c.args.words.now (g.W.Watch.may_stop c.args.watch.now) c.args.shelf.now c.answer-given.new.shelf c.args.out.now
     c.write_given.new.out c.write_given.result) c.answer-given.result c.answer-given.ensures.answer c.write_given.ensures

@@ -6,20 +6,20 @@ use Rattle.decoding.proofs.DecodeLemmas.{accepted}
 use Rattle.decoding.proofs.GameLemmas.{accepted_few, accepted_fit}
 use Rattle.solve.proofs.attempt.accepted.Goals as goal
 
-pub lowered-requires-clause-accepted : goal.lowered-requires-clause-accepted
-lowered-requires-clause-accepted c =
+pub lowered_watched-requires-clause-accepted : goal.lowered_watched-requires-clause-accepted
+lowered_watched-requires-clause-accepted g c =
     let games : c.in_ok-schedule.schedule ≡ decoded c.args.league.now.n (assigned c.args.values.now) =
     c.in_ok-schedule.ensures.games ∙ ap (λ (e : Instance). decoded e.n (assigned c.args.values.now)) c.requires.league in
     accepted c.args.league.now (assigned c.args.values.now) c.in_ok-schedule.schedule c.n-n.ensures.instance games
     c.requires.satisfied
 
-pub lowered-requires-clause-fit : goal.lowered-requires-clause-fit
-lowered-requires-clause-fit c =
+pub lowered_watched-requires-clause-fit : goal.lowered_watched-requires-clause-fit
+lowered_watched-requires-clause-fit g c =
     accepted_fit c.args.league.now.n (assigned c.args.values.now) c.in_ok-schedule.schedule
     (c.in_ok-schedule.ensures.games ∙ ap (λ (e : Instance). decoded e.n (assigned c.args.values.now)) c.requires.league)
 
-pub lowered-requires-clause-few : goal.lowered-requires-clause-few
-lowered-requires-clause-few c =
+pub lowered_watched-requires-clause-few : goal.lowered_watched-requires-clause-few
+lowered_watched-requires-clause-few g c =
     let games : c.in_ok-schedule.schedule ≡ decoded c.args.league.now.n (assigned c.args.values.now) =
     c.in_ok-schedule.ensures.games ∙ ap (λ (e : Instance). decoded e.n (assigned c.args.values.now)) c.requires.league in
     accepted_few c.args.league.now.n (assigned c.args.values.now) c.in_ok-schedule.schedule games

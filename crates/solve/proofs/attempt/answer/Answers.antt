@@ -5,23 +5,36 @@ use Rattle.encoding_base.specs.Variables.{var_count}
 use Rattle.clause_search.specs.Answers.{IsAnswer}
 use Rattle.clause_search.specs.declared.found.Found.{Found}
 use Rattle.solve.proofs.AnswerLemmas.{few_variables, refuted, spent}
+use Rattle.solve.proofs.KeptLemmas.{as-set, tried-season, with-conflicts}
 use Rattle.solve.proofs.attempt.answer.Goals as goal
 
+pub returns-in_ok-season-in-Sat : goal.returns-in_ok-season-in-Sat
+returns-in_ok-season-in-Sat g c =
+    tried-season c.args.league.now c.args.budgets (g.W.Watch.may_stop c.args.watch.now) c.in_ok-season-in-Sat.season
+    c.in_ok-season-in-Sat.ensures
+
 pub returns-in-Refuted : goal.returns-in-Refuted
-returns-in-Refuted c =
-    refuted c.args.league.now c.args.budgets.conflicts c.in-Refuted.log
-    (subst (λ (l : Instance). IsInstance l) c.requires.league c.vars-vars.ensures.instance)
-    (few_variables c.args.league.now c.args.encoding.now c.vars-vars.result c.requires.league c.vars-vars.ensures.vars
-    c.vars-vars.ensures.at_most)
-    (subst
-    (λ (f : Found). IsAnswer (rows_of c.args.league.now) (var_count c.args.league.now) c.args.budgets.conflicts f)
-    c.in-Refuted.is c.requires.found) c.note_numbers.ensures
+returns-in-Refuted g c = record {
+  kept = c.args.budgets;
+  are_kept = as-set c.args.budgets (g.W.Watch.may_stop c.args.watch.now);
+  is_tried = refuted c.args.league.now c.requires.found.kept c.in-Refuted.log
+      (subst (λ (l : Instance). IsInstance l) c.requires.league c.vars-vars.ensures.instance)
+      (few_variables c.args.league.now c.args.encoding.now c.vars-vars.result c.requires.league
+      c.vars-vars.ensures.vars c.vars-vars.ensures.at_most)
+      (subst
+      (λ (f : Found). IsAnswer (rows_of c.args.league.now) (var_count c.args.league.now) c.requires.found.kept f)
+      c.in-Refuted.is c.requires.found.answer) c.note_numbers.ensures;
+}
 
 pub returns-in-Spent : goal.returns-in-Spent
-returns-in-Spent c =
-    spent c.args.league.now c.args.budgets.conflicts c.in-Spent.log
-    (few_variables c.args.league.now c.args.encoding.now c.vars-vars.result c.requires.league c.vars-vars.ensures.vars
-    c.vars-vars.ensures.at_most)
-    (subst
-    (λ (f : Found). IsAnswer (rows_of c.args.league.now) (var_count c.args.league.now) c.args.budgets.conflicts f)
-    c.in-Spent.is c.requires.found) c.note_numbers-in-Spent.ensures
+returns-in-Spent g c = record {
+  kept = record c.args.budgets { conflicts = c.requires.found.kept };
+  are_kept = with-conflicts c.args.budgets (g.W.Watch.may_stop c.args.watch.now) c.requires.found.kept
+      c.requires.found.is_kept;
+  is_tried = spent c.args.league.now c.requires.found.kept c.in-Spent.log
+      (few_variables c.args.league.now c.args.encoding.now c.vars-vars.result c.requires.league
+      c.vars-vars.ensures.vars c.vars-vars.ensures.at_most)
+      (subst
+      (λ (f : Found). IsAnswer (rows_of c.args.league.now) (var_count c.args.league.now) c.requires.found.kept f)
+      c.in-Spent.is c.requires.found.answer) c.note_numbers-in-Spent.ensures;
+}

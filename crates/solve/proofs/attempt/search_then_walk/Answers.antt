@@ -1,4 +1,10 @@
+use Rattle.std.proofs.Common.{ℕ}
+use Rattle.budgets.specs.declared.budgets.Budgets.{Budgets}
+use Rattle.solve.proofs.KeptLemmas.{walked-by}
 use Rattle.solve.proofs.attempt.search_then_walk.Goals as goal
 
 pub returns : goal.returns
-returns g c = c.with_walked.ensures c.args.league.now c.args.budgets c.in_ok-found.ensures c.in_ok-walked.ensures
+returns g c =
+    walked-by c.args.league.now c.args.budgets (g.W.Watch.may_stop c.args.watch.now) c.in_ok-found.found
+    c.in_ok-walked.walked c.with_walked.result c.in_ok-found.ensures c.in_ok-walked.ensures
+    (λ moves kept. c.with_walked.ensures.tried c.args.league.now kept moves)

@@ -7,35 +7,35 @@ use Rattle.solve.proofs.CircleLemmas.{double_few}
 use Rattle.solve.proofs.circle.try_circle.Goals as goal
 
 pub assess-requires-clause-few : goal.assess-requires-clause-few
-assess-requires-clause-few c =
+assess-requires-clause-few g c =
     double_few c.args.league.now.n c.n.result c.in_ok-schedule.schedule c.put_in_order.new.self c.n.ensures.n
     c.n.ensures.instance.teams.at_most c.in_ok-schedule.ensures.count c.put_in_order.ensures.permutation
 
 pub assess-requires-clause-fit : goal.assess-requires-clause-fit
-assess-requires-clause-fit c =
+assess-requires-clause-fit g c =
     All-permutation (IsGame c.args.league.now.n) c.in_ok-schedule.schedule c.put_in_order.new.self
     c.put_in_order.ensures.permutation
     (subst (λ (k : ℕ). All (IsGame k) c.in_ok-schedule.schedule) c.n.ensures.n c.in_ok-schedule.ensures.fit)
 
 pub returns-then-not-assessment-clause-refused : goal.returns-then-not-assessment-clause-refused
-returns-then-not-assessment-clause-refused c is accepted =
+returns-then-not-assessment-clause-refused g c is accepted =
     not_passed c.in_ok-assessment.assessment.feasible c.if-not-assessment.true
     (c.in_ok-assessment.ensures.feasible.1
     (circle_accepted c.args.league.now c.n.result c.in_ok-schedule.schedule c.put_in_order.new.self
     c.in_ok-schedule.ensures.games c.n.ensures.n c.put_in_order.ensures.permutation accepted))
 
-pub lowered-requires-clause-accepted : goal.lowered-requires-clause-accepted
-lowered-requires-clause-accepted c =
+pub lowered_watched-requires-clause-accepted : goal.lowered_watched-requires-clause-accepted
+lowered_watched-requires-clause-accepted g c =
     c.in_ok-assessment.ensures.feasible.0
     (passed c.in_ok-assessment.assessment.feasible c.if-not-assessment.false)
 
-pub lowered-requires-clause-few : goal.lowered-requires-clause-few
-lowered-requires-clause-few c =
+pub lowered_watched-requires-clause-few : goal.lowered_watched-requires-clause-few
+lowered_watched-requires-clause-few g c =
     double_few c.args.league.now.n c.n.result c.in_ok-schedule.schedule c.put_in_order.new.self c.n.ensures.n
     c.n.ensures.instance.teams.at_most c.in_ok-schedule.ensures.count c.put_in_order.ensures.permutation
 
-pub lowered-requires-clause-fit : goal.lowered-requires-clause-fit
-lowered-requires-clause-fit c =
+pub lowered_watched-requires-clause-fit : goal.lowered_watched-requires-clause-fit
+lowered_watched-requires-clause-fit g c =
     All-permutation (IsGame c.args.league.now.n) c.in_ok-schedule.schedule c.put_in_order.new.self
     c.put_in_order.ensures.permutation
     (subst (λ (k : ℕ). All (IsGame k) c.in_ok-schedule.schedule) c.n.ensures.n c.in_ok-schedule.ensures.fit)

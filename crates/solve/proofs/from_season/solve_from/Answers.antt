@@ -3,6 +3,7 @@ use Rattle.std.specs.Prelude.{IfSome}
 use Rattle.circle_method.specs.Circle.{double_games}
 use Rattle.refutation.specs.Steps.{Step}
 use Rattle.solve.specs.Solutions.{RefutesLeague}
+use Rattle.solve.proofs.KeptLemmas.{as-set, solution-unstopped}
 use Rattle.solve.proofs.from_season.solve_from.Goals as goal
 
 pub returns-in-Some-clause-circle : goal.returns-in-Some-clause-circle
@@ -21,3 +22,11 @@ returns-in-Some-clause-no_worse g c = λ accepted.
 
 pub returns-clause-no_worse : goal.returns-clause-no_worse
 returns-clause-no_worse g c = λ accepted. c.in_ok-best.ensures.at_most _ (c.in_ok-first.ensures.no_worse accepted)
+
+pub returns-in-Some-clause-solution : goal.returns-in-Some-clause-solution
+returns-in-Some-clause-solution g c = record {
+  kept = c.args.budgets;
+  are_kept = as-set c.args.budgets (g.W.Watch.may_stop c.args.watch.now);
+  solution = subst (λ (found : Option (List Step)). IfSome found (RefutesLeague c.args.league.now)) c.in-Some.is
+      c.in_ok-log.ensures.refuted;
+}

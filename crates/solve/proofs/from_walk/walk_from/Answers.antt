@@ -3,11 +3,12 @@ use Rattle.league.specs.Counts.{counts_of}
 use Rattle.solve.proofs.StartLemmas.{found-no_higher}
 use Rattle.solve.proofs.from_walk.walk_from.Goals as goal
 
-pub lowered-requires-clause-accepted : goal.lowered-requires-clause-accepted
-lowered-requires-clause-accepted g c = c.in_ok-walked.ensures.feasible.0 (omega arith)
+pub lowered_watched-requires-clause-accepted : goal.lowered_watched-requires-clause-accepted
+lowered_watched-requires-clause-accepted g c = c.in_ok-walked.ensures.feasible.0 (omega arith)
 
 pub returns-clause-no_worse : goal.returns-clause-no_worse
 returns-clause-no_worse g c = λ accepted.
-    found-no_higher c.args.league.now c.args.moves c.in_ok-season.season c.in_ok-walked.walked.best
-    (counts_of c.args.start.now) c.in_ok-season.ensures.descends c.in_ok-season.ensures.first
+    found-no_higher c.args.league.now c.in_ok-season.ensures.season.kept c.in_ok-season.season
+    c.in_ok-walked.walked.best (counts_of c.args.start.now) c.in_ok-season.ensures.season.is_season
+    c.in_ok-season.ensures.first
     c.in_ok-walked.ensures.season c.in_ok-walked.ensures.no_worse accepted

@@ -1,64 +1,7 @@
-use Rattle.std.proofs.Common.{◌≡◌, ℕ, Bool, List, ap, subst, sym, ◌∙◌}
-use Rattle.std.specs.List.{All}
-use Rattle.league.specs.Counts.{Counts, counts_of}
-use Rattle.league.specs.Instance.{IsGame}
-use Rattle.league.specs.Structure.{IsRoundRobin}
-use Rattle.league.specs.declared.game.Game.{Game}
-use Rattle.cells.specs.Table.{Table, table_counts}
-use Rattle.solve.specs.Solutions.{league_score}
-use Rattle.solve.proofs.LowerLemmas.{Descends-same, IsSchedule-of, cost-is}
+use Rattle.solve.proofs.KeptLemmas.{season-unstopped}
 use Rattle.solve.proofs.lower.lowered.Goals as goal
-use Rattle.walk.proofs.WalkLemmas.{scores-are}
-
-pub descend-requires : goal.descend-requires
-descend-requires c = record {
-  round_robin = subst (λ (m : Counts). IsRoundRobin c.in_ok-tally.tally.table.n c.phased-phased.result m)
-      (sym (c.in_ok-tally.ensures.counts ∙ ap (λ (games : List Game). counts_of games) c.games.ensures))
-      (subst (λ (b : Bool). IsRoundRobin c.in_ok-tally.tally.table.n b (counts_of c.args.start.now))
-      (sym c.phased-phased.ensures)
-      (subst (λ (n : ℕ). IsRoundRobin n c.args.league.now.phased (counts_of c.args.start.now))
-      (sym c.in_ok-tally.ensures.n) c.requires.accepted.round_robin));
-}
-
-pub season_of-requires : goal.season_of-requires
-season_of-requires c = record {
-  round_robin = subst (λ (t : Table). IsRoundRobin t.n c.phased-phased.result (table_counts t)) (sym c.cells.ensures)
-      (subst (λ (n : ℕ). IsRoundRobin n c.phased-phased.result (table_counts c.descend.new.tally.table))
-      (sym c.descend.ensures.teams) c.descend.ensures.round_robin);
-}
 
 pub returns-clause-descends : goal.returns-clause-descends
 returns-clause-descends c =
-    let end : Counts = table_counts c.descend.new.tally.table in
-    let counts : counts_of c.in_ok-schedule.schedule ≡ end =
-    c.in_ok-schedule.ensures.counts ∙ ap (λ (t : Table). table_counts t) c.cells.ensures in
-    let teams : c.cells.result.now.n ≡ c.args.league.now.n =
-    ap (λ (t : Table). t.n) c.cells.ensures ∙ c.descend.ensures.teams ∙ c.in_ok-tally.ensures.n in
-    IsSchedule-of c.args.league.now (counts_of c.args.start.now) end c.args.moves c.in_ok-descent.descent
-    c.in_ok-schedule.schedule c.objective.result
-    (Descends-same c.in_ok-tally.tally.table.n c.args.league.now.n c.phased-phased.result c.args.league.now.phased
-    _ (league_score c.args.league.now) (table_counts c.in_ok-tally.tally.table) (counts_of c.args.start.now) end
-    c.args.moves c.in_ok-descent.descent c.in_ok-tally.ensures.n c.phased-phased.ensures
-    (scores-are _ c.args.league.now c.in_ok-tally.tally.weights c.in_ok-tally.ensures.rules)
-    (c.in_ok-tally.ensures.counts ∙ ap (λ (games : List Game). counts_of games) c.games.ensures)
-    (record {
-      round_robin = c.descend.ensures.round_robin;
-      first = c.in_ok-descent.ensures.first;
-      fit = c.in_ok-descent.ensures.fit;
-      in_order = c.in_ok-descent.ensures.in_order;
-      trail = c.in_ok-descent.ensures.trail;
-      few = c.in_ok-descent.ensures.few;
-      settled = c.in_ok-descent.ensures.settled;
-      spent = c.in_ok-descent.ensures.spent;
-    }))
-    c.requires.accepted counts
-    (subst (λ (n : ℕ). All (IsGame n) c.in_ok-schedule.schedule) teams c.in_ok-schedule.ensures.fit)
-    c.in_ok-schedule.ensures.in_order
-    (c.objective.ensures
-    ∙ cost-is _ c.args.league.now c.in_ok-tally.tally.weights c.descend.new.tally.weights end
-    c.in_ok-tally.ensures.rules c.descend.ensures.weights)
-
-pub returns-clause-first : goal.returns-clause-first
-returns-clause-first c =
-    c.in_ok-descent.ensures.first
-    ∙ (c.in_ok-tally.ensures.counts ∙ ap (λ (games : List Game). counts_of games) c.games.ensures)
+    season-unstopped c.args.league.now c.args.moves _ c.lowered_watched.result (λ never. never)
+    c.lowered_watched.ensures.season

@@ -1,8 +1,23 @@
 use Rattle.solve.proofs.EarliestLemmas.{one_try}
+use Rattle.solve.proofs.KeptLemmas.{solved-season}
 use Rattle.solve.proofs.solver.best_with_circle.Goals as goal
 
 pub returns-then-budgets-le1-clause-best : goal.returns-then-budgets-le1-clause-best
 returns-then-budgets-le1-clause-best g c =
     one_try c.args.league.now c.args.budgets (g.W.Watch.may_stop c.args.watch.now) c.schedule_found-first.result
-    (c.schedule_found-first.ensures.solution c.args.league.now c.args.budgets c.requires.season)
+    (solved-season c.args.league.now c.args.budgets (g.W.Watch.may_stop c.args.watch.now) c.args.season
+    c.schedule_found-first.result c.requires.season
+    (λ kept. c.schedule_found-first.ensures.solution c.args.league.now kept))
     c.if-budgets-le1.true
+
+pub returns-then-budgets-le1-clause-solution : goal.returns-then-budgets-le1-clause-solution
+returns-then-budgets-le1-clause-solution g c =
+    solved-season c.args.league.now c.args.budgets (g.W.Watch.may_stop c.args.watch.now) c.args.season
+    c.schedule_found-first.result c.requires.season
+    (λ kept. c.schedule_found-first.ensures.solution c.args.league.now kept)
+
+pub best_from-requires-clause-first : goal.best_from-requires-clause-first
+best_from-requires-clause-first g c =
+    solved-season c.args.league.now c.args.budgets (g.W.Watch.may_stop c.args.watch.now) c.args.season
+    c.schedule_found-first.result c.requires.season
+    (λ kept. c.schedule_found-first.ensures.solution c.args.league.now kept)

@@ -1,4 +1,16 @@
+use Rattle.std.proofs.Common.{length}
+use Rattle.solve.proofs.KeptLemmas.{tried-patterns, with-patterns}
 use Rattle.solve.proofs.solver.try_without.Goals as goal
 
 pub returns : goal.returns
-returns g c = c.solved_by.ensures.solution c.args.league.now c.args.budgets c.in_ok-tried.ensures c.requires.spent
+returns g c =
+    let by = c.in_ok-tried.ensures in
+    record {
+      kept = record by.kept { patterns = length c.args.log };
+      are_kept = with-patterns c.args.budgets (g.W.Watch.may_stop c.args.watch.now) by.kept (length c.args.log)
+          by.are_kept c.requires.kept;
+      solution = c.solved_by.ensures.solution c.args.league.now
+          (record by.kept { patterns = length c.args.log })
+          (tried-patterns c.args.league.now by.kept (length c.args.log) c.in_ok-tried.tried by.is_tried)
+          c.requires.spent;
+    }
