@@ -29,9 +29,10 @@ def commands(table):
     ]
 
 
-def options(page):
-    """The options that a command's page names, each once."""
-    return sorted(set(re.findall(r"--[a-z]+", page)) - {"--help"})
+def options(table, name):
+    """The options that a command's page names, and those of every command, each once."""
+    common = table["ALL"].split("With every command:")[1].split("\n\n")[0]
+    return sorted(set(re.findall(r"--[a-z]+", table[name.upper()] + common)) - {"--help"})
 
 
 def escaped(text):
@@ -52,7 +53,7 @@ def manual(table, all_commands):
 
 def bash(table, all_commands):
     names = " ".join(name for name, _, _ in all_commands)
-    cases = "".join(f"        {name}) options=\"{' '.join(options(table[name.upper()]))}\" ;;\n" for name, _, _ in all_commands)
+    cases = "".join(f"        {name}) options=\"{' '.join(options(table, name))}\" ;;\n" for name, _, _ in all_commands)
     return f"""# Completion of robin for bash: source this file, or put it into /usr/share/bash-completion/completions as robin. Made by share/make.py.
 _robin() {{
     local word=${{COMP_WORDS[COMP_CWORD]}} options=
@@ -73,7 +74,7 @@ complete -o filenames -F _robin robin
 
 def zsh(table, all_commands):
     names = "".join(f"        '{name}:{does}'\n" for name, _, does in all_commands)
-    cases = "".join(f"        {name}) options=({' '.join(options(table[name.upper()]))}) ;;\n" for name, _, _ in all_commands)
+    cases = "".join(f"        {name}) options=({' '.join(options(table, name))}) ;;\n" for name, _, _ in all_commands)
     return f"""#compdef robin
 # Completion of robin for zsh: put it into a folder of $fpath as _robin. Made by share/make.py.
 _robin() {{

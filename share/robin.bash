@@ -6,22 +6,22 @@ _robin() {
         return
     fi
     case ${COMP_WORDS[1]} in
-        validate) options="" ;;
-        show) options="--demands --form --most --width" ;;
-        solve) options="--conflicts --from --moves --patterns --seconds --seed --tries" ;;
-        patterns) options="--conflicts" ;;
-        explain) options="--conflicts" ;;
-        part) options="" ;;
-        check) options="" ;;
-        prove) options="--conflicts" ;;
-        bound) options="" ;;
-        resume) options="--conflicts" ;;
-        audit) options="" ;;
-        rows) options="--bound --objective" ;;
-        values) options="" ;;
-        circle) options="" ;;
-        make) options="" ;;
-        trial) options="--conflicts --moves --patterns --seconds --seed --tries" ;;
+        validate) options="--log --out --quiet" ;;
+        show) options="--demands --form --log --most --out --quiet --width" ;;
+        solve) options="--conflicts --from --log --moves --out --patterns --quiet --seconds --seed --tries" ;;
+        patterns) options="--conflicts --log --out --quiet" ;;
+        explain) options="--conflicts --log --out --quiet" ;;
+        part) options="--log --out --quiet" ;;
+        check) options="--log --out --quiet" ;;
+        prove) options="--conflicts --log --out --quiet" ;;
+        bound) options="--log --out --quiet" ;;
+        resume) options="--conflicts --log --out --quiet" ;;
+        audit) options="--log --out --quiet" ;;
+        rows) options="--bound --log --objective --out --quiet" ;;
+        values) options="--log --out --quiet" ;;
+        circle) options="--log --out --quiet" ;;
+        make) options="--log --out --quiet" ;;
+        trial) options="--conflicts --log --moves --out --patterns --quiet --seconds --seed --tries" ;;
     esac
     case $word in
         -*) COMPREPLY=($(compgen -W "$options --help" -- "$word")) ;;

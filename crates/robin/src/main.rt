@@ -1,14 +1,16 @@
 //! robin judges and makes schedules of sports leagues, and checks what refutes a league: the program, which calls `run`
-//! over the machine's files.
+//! over the machine's files, and brings its text to where it goes.
 #![tactic(auto)]
 
+mod kept;
+mod line;
+
+use crate::kept::run_kept;
+use crate::line::{WordsFault, line_of};
 use answers::{Status, code};
-use command_line::seconds_of;
-use robin_clock::{HostWatch, Telling};
-use robin_io::{HostShelf, HostSink};
-use robin_run::run;
+use robin_io::{HostSink, put_all};
 use std::env;
-use std::io::{self, IsTerminal};
+use std::io;
 use std::process::ExitCode;
 
 /// The exit status where the system gives no arguments, or one that isn't UTF-8.
@@ -37,60 +39,45 @@ fn reason_of(status: u8) -> &'static str {
     }
 }
 
-/// The word that asks to be told nothing of how a run goes.
-const QUIET: &str = "--quiet";
-
-/// The words of the command line.
-#[derive(Drop)]
-struct Line {
-    /// The command's words, without the program's name and `--quiet`.
-    words: Vec<String>,
-    /// Whether nothing is to be told of how the run goes.
-    quiet: bool,
-}
-
-/// The words of the command line, or the exit status where there are none.
-fn line_of(rt: &HostRuntime) -> Result<Line, u8> {
+/// The words without the program's name, or the exit status where there are none.
+fn arguments_of(rt: &HostRuntime) -> Result<Vec<String>, u8> {
     let arguments = match env::args(rt) {
         Ok(arguments) => arguments,
         Err(error) => return Err(without_words(&error)),
     };
     let mut words = Vec::new(rt.alloc());
-    let mut quiet = false;
     for word in arguments.skip(1) {
-        if word.as_str() == QUIET {
-            quiet = true;
-        } else if words.push(word).is_err() {
+        if words.push(word).is_err() {
             return Err(code(Status::Memory));
         }
     }
-    Ok(Line { words, quiet })
+    Ok(words)
 }
 
-/// Who is told how a run goes.
-fn telling_of(rt: &HostRuntime, quiet: bool) -> Telling {
-    if quiet {
-        Telling::Nobody
-    } else if rt.stderr().is_terminal() {
-        Telling::Terminal
-    } else {
-        Telling::File
+/// Refuses words that the program itself takes.
+fn refuse(rt: &HostRuntime, option: &str, fault: &str) -> Status {
+    let _told = eprint!(rt; "robin: {option}{fault}\nrobin: robin --help lists the commands and their options\n");
+    match put_all(&mut HostSink::new(io::writer(rt)), b"refused words\n") {
+        Ok(()) => Status::Words,
+        Err(_) => Status::WriteFault,
     }
 }
 
-/// Runs the command over the machine's files, its standard output and its standard error, and gives the exit status.
-fn status_of(rt: &HostRuntime, line: &Line) -> u8 {
-    let words = &line.words;
-    let mut shelf = HostShelf::new(rt);
-    let mut out = HostSink::new(io::writer(rt));
-    let mut told = HostSink::new(rt.stderr());
-    let watch = HostWatch::new(rt, seconds_of(words), telling_of(rt, line.quiet));
-    code(run(rt.alloc(), words, &mut shelf, &mut out, &mut told, &watch))
+/// Follows the words, and gives the exit status.
+fn status_of(rt: &HostRuntime, arguments: &[String]) -> u8 {
+    match line_of(rt.alloc(), arguments) {
+        Ok(line) => code(run_kept(rt, &line)),
+        Err(WordsFault::Wrong { option, fault }) => code(refuse(rt, option, fault)),
+        Err(WordsFault::Memory) => {
+            let _told = eprint!(rt; "{NO_MEMORY}");
+            code(Status::Memory)
+        }
+    }
 }
 
 fn main(rt: HostRuntime) -> ExitCode {
-    match line_of(&rt) {
-        Ok(line) => ExitCode::from(status_of(&rt, &line)),
+    match arguments_of(&rt) {
+        Ok(arguments) => ExitCode::from(status_of(&rt, &arguments)),
         Err(status) => {
             // The status says it too, so it doesn't matter whether this is written.
             let reason = reason_of(status);

@@ -1,0 +1,2 @@
+-- The text of an accepted season:
+pub mod SeasonLemmas

@@ -1,9 +1,13 @@
-//! The machine's watch: its clock, the signals that wait for the program, and its standard error.
+//! The machine's watch: its clock, the signals that wait for the program, its standard error, and the file that keeps
+//! the best season so far.
 #![tactic(auto)]
 
+mod keeper;
+mod season;
 mod signals;
 mod telling;
 mod watch;
 
+pub use keeper::SeasonKeeper;
 pub use telling::Telling;
 pub use watch::HostWatch;

@@ -1,0 +1,2 @@
+-- Worked examples, so that a wrong definition does not check:
+mod FileFacts
