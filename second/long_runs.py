@@ -1,11 +1,11 @@
 #!/usr/bin/env python3
-"""Tries what a time limit and the signals do to `solve` and `trial`, from outside, and counts what is lost.
+"""Tries what a time limit and the signals do to `solve`, `prove` and `resume`, from outside, and counts what is lost.
 
     python3 second/long_runs.py ./robin
     python3 second/long_runs.py PROGRAM
 
 With PROGRAM the signals are blocked here, as ./robin blocks them. Each run has to end within SLACK seconds of its limit or of the signal; each season that
-is written is given to `validate`, and each log to `check`. What differs is said, and the status is 1 then. An idle machine is wanted: the limits are of
+is written is given to `validate`, and each log or certificate to `check`, `bound` or `audit`. What differs is said, and the status is 1 then. An idle machine is wanted: the limits are of
 the clock.
 """
 import os
@@ -78,6 +78,47 @@ def limited(command, league, seconds, options=()):
     if passed > seconds + SLACK:
         fault = fault or "late"
     say("solve %s --seconds %d %s" % (os.path.basename(league), seconds, " ".join(options)), fault, "status %d after %.2f s" % (done.returncode, passed))
+
+
+def written(command, words, text):
+    """What is wrong with a text, by a command over files of which the last is the text's: nothing where the command says yes."""
+    with tempfile.NamedTemporaryFile("wb") as file:
+        file.write(text)
+        file.flush()
+        done = subprocess.run(command + words + [file.name], capture_output=True, cwd=TOP)
+    return None if done.returncode == 0 else "%s says %d" % (words[0], done.returncode)
+
+
+def searched(command, words, checks, seconds):
+    """One run of `prove` or `resume` with a time limit. `checks` has, for a status, the command that judges the text, or none for a spent log."""
+    began = time.monotonic()
+    done = subprocess.run(command + words + ["--conflicts", "all", "--seconds", str(seconds)], capture_output=True, cwd=TOP, timeout=seconds + 60)
+    passed = time.monotonic() - began
+    if done.returncode == 5:
+        fault = None if done.stdout.startswith(b"refutation ") and done.stdout.endswith(b"end\n") else "no log"
+    elif done.returncode in checks:
+        fault = written(command, checks[done.returncode], done.stdout)
+    else:
+        fault = "status %d" % done.returncode
+    if passed > seconds + SLACK:
+        fault = fault or "late"
+    names = " ".join(os.path.basename(word) for word in words)
+    say("%s --seconds %d" % (names, seconds), fault, "status %d after %.2f s" % (done.returncode, passed))
+
+
+def prove_and_resume(command, folder):
+    """Time limits of `prove` over a season that no single move betters, and of `resume` over one that its league doesn't accept."""
+    league, season, circle = (os.path.join(folder, name) for name in ("made.xml", "season.xml", "circle.xml"))
+    for name, words in ((league, ["make", "16", "7"]), (circle, ["circle", "16"]), (season, ["solve", league])):
+        with open(name, "wb") as file:
+            subprocess.run(command + words, stdout=file, cwd=TOP)
+    for seconds in (0, 1, 5):
+        searched(command, ["prove", league, season], {0: ["bound", league], 9: ["validate", league]}, seconds)
+        for k in (2, 20):
+            checks = {0: ["validate", MIDDLE], 4: ["audit", MIDDLE, circle, str(k)]}
+            searched(command, ["resume", MIDDLE, circle, str(k)], checks, seconds)
+    for name in (league, season, circle):
+        os.remove(name)
 
 
 def asked(command, league, name, number, behind):
@@ -170,6 +211,9 @@ def main():
         for seconds in (0, 1, 5):
             limited(command, league, seconds)
     limited(command, TIGHT, 1, ("--tries", "3"))
+    for seconds in (0, 1, 5):
+        limited(command, TIGHT, seconds, ("--conflicts", "all", "--moves", "0"))
+    prove_and_resume(command, folder)
     for league in (EASY, MIDDLE):
         for name, number in SIGNALS:
             asked(command, league, name, number, 3.0)

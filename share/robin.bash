@@ -13,9 +13,9 @@ _robin() {
         explain) options="--conflicts" ;;
         part) options="" ;;
         check) options="" ;;
-        prove) options="--conflicts" ;;
+        prove) options="--conflicts --seconds" ;;
         bound) options="" ;;
-        resume) options="--conflicts" ;;
+        resume) options="--conflicts --seconds" ;;
         audit) options="" ;;
         rows) options="--bound --objective" ;;
         values) options="" ;;

@@ -41,7 +41,7 @@ Options stand before, between or behind the words, each once at most:
   --tries N          tries, from 1 to 100 (1); of solve and trial
   --patterns N       clauses of a search for patterns (500); of solve and trial
   --seed N           what random moves are drawn by (0); of solve and trial
-  --seconds N        a time limit of N seconds; of solve and trial
+  --seconds N        a limit of N seconds; of solve, trial, prove and resume
   --from SOLUTION    a season to begin at; of solve
   --bound B          seasons that cost at most B; of rows
   --objective        a season that costs least; of rows, and not with --bound
@@ -232,7 +232,7 @@ Example: robin check league.xml found.log
 ";
 
 pub const PROVE: &str = "\
-usage: robin prove INSTANCE SOLUTION [--conflicts N|all]
+usage: robin prove INSTANCE SOLUTION [--conflicts N|all] [--seconds N]
 
 Finds a season of the league of the file INSTANCE that costs less than the
 season of the file SOLUTION, or writes a certificate that none does.
@@ -240,6 +240,8 @@ season of the file SOLUTION, or writes a certificate that none does.
 Options stand before, between or behind the files, each once at most:
   --conflicts N  the search learns at most N clauses (2000), a number from 0 to
                  18446744073709551615; all in place of N: any number
+  --seconds N    after N seconds the search ends, as if its budget were spent
+Ctrl-C ends it as a time limit does; Ctrl-\\ ends it at once.
 
 Status:  0  no accepted season costs less: the certificate proves it
          1  the season isn't accepted, and the report says why
@@ -270,7 +272,7 @@ Example: robin bound league.xml least.log
 ";
 
 pub const RESUME: &str = "\
-usage: robin resume INSTANCE SOLUTION K [--conflicts N|all]
+usage: robin resume INSTANCE SOLUTION K [--conflicts N|all] [--seconds N]
 
 Plans the rest of a season of which the first K slots were played: finds a
 season that the league of the file INSTANCE accepts and that has, in these
@@ -280,6 +282,8 @@ none. K is a number from 0 to 18446744073709551615.
 Options stand before, between or behind the words, each once at most:
   --conflicts N  the search learns at most N clauses (2000), a number from 0 to
                  18446744073709551615; all in place of N: any number
+  --seconds N    after N seconds the search ends, as if its budget were spent
+Ctrl-C ends it as a time limit does; Ctrl-\\ ends it at once.
 
 Status:  0  a season is found, and written with its objective
          3  a file is refused, or the league is too large, or the season has

@@ -9,6 +9,8 @@ pub option_role-some : (option_role topic.Solve (codes "--seed") ≡ Some role.D
     × (option_role topic.Solve (codes "--seconds") ≡ Some role.Seconds)
     × (option_role topic.Explain (codes "--conflicts") ≡ Some role.Conflicts)
     × (option_role topic.Prove (codes "--moves") ≡ None)
+    × (option_role topic.Resume (codes "--seconds") ≡ Some role.Seconds)
+    × (option_role topic.Explain (codes "--seconds") ≡ None)
     × (option_role topic.Check (codes "--conflicts") ≡ None)
     × (option_role topic.Solve (codes "--from") ≡ Some role.Solution)
     × (option_role topic.Trial (codes "--from") ≡ None)

@@ -106,6 +106,15 @@ pub solve-seconds : (reading (codes "solve" ∷ codes "a" ∷ codes "--seconds" 
     × (reading (codes "patterns" ∷ codes "a" ∷ codes "--seconds" ∷ codes "5" ∷ []) ≡ None)
 solve-seconds = (refl, refl, refl, refl, refl)
 
+-- a time limit of `prove` and `resume` changes nothing of what they are asked
+pub timed-seconds : (reading (codes "prove" ∷ codes "a" ∷ codes "b" ∷ codes "--seconds" ∷ codes "5" ∷ [])
+    ≡ Some (Prove (codes "a") (codes "b") (Some 2000)))
+    × (reading (codes "resume" ∷ codes "--seconds" ∷ codes "0" ∷ codes "a" ∷ codes "b" ∷ codes "3" ∷ codes "--conflicts"
+    ∷ codes "all" ∷ []) ≡ Some (Resume (codes "a") (codes "b") 3 None))
+    × (reading (codes "prove" ∷ codes "a" ∷ codes "b" ∷ codes "--seconds" ∷ codes "x" ∷ []) ≡ None)
+    × (reading (codes "explain" ∷ codes "a" ∷ codes "--seconds" ∷ codes "5" ∷ []) ≡ None)
+timed-seconds = (refl, refl, refl, refl)
+
 pub time_limit-some : (time_limit (codes "solve" ∷ codes "a" ∷ codes "--seconds" ∷ codes "5" ∷ []) ≡ Some 5)
     × (time_limit (codes "trial" ∷ codes "--seconds" ∷ codes "0" ∷ codes "8" ∷ codes "7" ∷ []) ≡ Some 0)
     × (time_limit (codes "solve" ∷ codes "a" ∷ []) ≡ None) × (time_limit [] ≡ None)
