@@ -294,8 +294,9 @@ patterned-ends Ends file fault ends_yes refuted spent store instance conflicts a
     (λ rows found. patterns-ends Ends ends_yes refuted spent league conflicts answer found) at_league) given
 
 explaining-ends : (Ends : Status → Type 0) → Ends Yes → Ends Refuted → Ends Spent → (league : Instance)
-    (conflicts : Option ℕ) (answer : Answer) → explaining.IsFound league conflicts answer → Ends answer.status
-explaining-ends Ends ends_yes refuted spent league conflicts answer found =
+    (conflicts : Option ℕ) (may_stop : Type 0) (answer : Answer) → explaining.IsFound league conflicts may_stop answer
+    → Ends answer.status
+explaining-ends Ends ends_yes refuted spent league conflicts may_stop answer found =
     elim found.found [
       | inl met ↦ ends-with Ends answer Yes met.status ends_yes
       | inr (inl named) ↦ ends-with Ends answer Refuted named.status refuted
@@ -304,13 +305,13 @@ explaining-ends Ends ends_yes refuted spent league conflicts answer found =
 
 explained-ends : (Ends : Status → Type 0) → Ends File → Ends ReadFault → Ends Yes → Ends Refuted → Ends Spent
     → (store : Store) (instance : List ℕ)
-    (conflicts : Option ℕ) (answer : Answer) → explained store instance conflicts answer
+    (conflicts : Option ℕ) (may_stop : Type 0) (answer : Answer) → explained store instance conflicts may_stop answer
     → Ends answer.status
-explained-ends Ends file fault ends_yes refuted spent store instance conflicts answer given =
+explained-ends Ends file fault ends_yes refuted spent store instance conflicts may_stop answer given =
     league-ends Ends file fault (store.contents instance) (store.took_more INSTANCE_LIMIT) (store.failed instance)
-    (λ bytes league. encodes league (λ rows. explaining.IsFound league conflicts)) answer
-    (λ bytes league at_league. encodes-ends Ends file league (λ rows. explaining.IsFound league conflicts) answer
-    (λ rows found. explaining-ends Ends ends_yes refuted spent league conflicts answer found) at_league) given
+    (λ bytes league. encodes league (λ rows. explaining.IsFound league conflicts may_stop)) answer
+    (λ bytes league at_league. encodes-ends Ends file league (λ rows. explaining.IsFound league conflicts may_stop) answer
+    (λ rows found. explaining-ends Ends ends_yes refuted spent league conflicts may_stop answer found) at_league) given
 
 -- ---- `part`
 
@@ -572,7 +573,7 @@ answer-ends may_stop (Some (Patterns instance conflicts)) store answer given =
     instance conflicts answer given
 answer-ends may_stop (Some (Explain instance conflicts)) store answer given =
     explained-ends (EndsBy (Some (Explain instance conflicts))) refl refl refl refl refl store
-    instance conflicts answer given
+    instance conflicts may_stop answer given
 answer-ends may_stop (Some (Part instance members)) store answer given =
     parted-ends (EndsBy (Some (Part instance members))) refl refl refl store instance members answer
     given

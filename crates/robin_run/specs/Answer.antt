@@ -41,7 +41,7 @@ IsAnswer may_stop (Some (Solve instance budgets)) store answer = solved store in
 IsAnswer may_stop (Some (SolveFrom instance solution budgets)) store answer =
     begun store instance solution budgets may_stop answer
 IsAnswer may_stop (Some (Patterns instance conflicts)) store answer = patterned store instance conflicts answer
-IsAnswer may_stop (Some (Explain instance conflicts)) store answer = explained store instance conflicts answer
+IsAnswer may_stop (Some (Explain instance conflicts)) store answer = explained store instance conflicts may_stop answer
 IsAnswer may_stop (Some (Part instance members)) store answer = parted store instance members answer
 IsAnswer may_stop (Some (Prove instance solution conflicts)) store answer =
     proved store instance solution (IsKeptTo conflicts may_stop) answer

@@ -128,7 +128,7 @@ fn follow<S: Shelf, W: Listener>(
         Words::Explain {
             instance,
             conflicts,
-        } => give(explain_file(alloc, shelf, instance, conflicts)),
+        } => give(explain_file(alloc, shelf, instance, conflicts, watch)),
         Words::Part { instance, list } => give(part_of_list(alloc, shelf, instance, list)),
         Words::Prove {
             instance,

@@ -83,7 +83,8 @@ pub returns-in-Explain-clause-answer : goal.returns-in-Explain-clause-answer
 returns-in-Explain-clause-answer g c =
     rw c.in-Explain.is
     (given-gives
-    (explained (store_between g.S.Shelf c.args.shelf.now c.explain_file.new.shelf) c.in-Explain.instance.now c.in-Explain.conflicts)
+    (explained (store_between g.S.Shelf c.args.shelf.now c.explain_file.new.shelf) c.in-Explain.instance.now c.in-Explain.conflicts
+    (g.W.Watch.may_stop c.args.watch.now))
     _ _ c.give-in-Explain.ensures c.explain_file.ensures.answer)
 
 pub returns-in-Part-clause-answer : goal.returns-in-Part-clause-answer
