@@ -10,7 +10,7 @@ _robin() {
         show) options="--demands --form --most --width" ;;
         solve) options="--conflicts --from --moves --patterns --seconds --seed --tries" ;;
         patterns) options="--conflicts" ;;
-        explain) options="--conflicts" ;;
+        explain) options="--conflicts --seconds" ;;
         part) options="" ;;
         check) options="" ;;
         prove) options="--conflicts --seconds" ;;

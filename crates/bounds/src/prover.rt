@@ -141,14 +141,7 @@ fn searched<W: Watch>(
         → IsProvedBy league.now m (IsKeptTo conflicts (W.may_stop watch.now)) proved) }
 {
     let system = bound_system(alloc, league, objective - 1, terms)?;
-    let found = search_watched(
-        alloc,
-        system.rows(),
-        system.vars(),
-        &[],
-        conflicts,
-        watch,
-    )?;
+    let found = search_watched(alloc, system.rows(), system.vars(), &[], conflicts, watch)?;
     match found {
         Found::Sat(values) => {
             let proved = decoded(alloc, league, &values, objective, watch)?;

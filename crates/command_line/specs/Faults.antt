@@ -73,7 +73,7 @@ abbrev pub option_role : Topic → List ℕ → Option Role
 option_role topic.Solve word = start_option word
 option_role topic.Trial word = solve_option word
 option_role topic.Patterns word = search_option word
-option_role topic.Explain word = search_option word
+option_role topic.Explain word = timed_option word
 option_role topic.Prove word = timed_option word
 option_role topic.Resume word = timed_option word
 option_role topic.Rows word = row_option word

@@ -210,18 +210,19 @@ solving words =
     (one_file (arguments_of words))
     else None
 
--- a command over one file, with how many clauses a search may learn said before or behind it
-abbrev pub searching : (List ℕ → Option ℕ → Command) → List (List ℕ) → Option Command
-searching command words =
+-- `patterns` over one file, with how many clauses its search may learn said before or behind it
+abbrev pub patterning : List (List ℕ) → Option Command
+patterning words =
     if has_options search_options words
-    then option_and_then (λ file. option_map (command file) (conflicts_in words)) (one_file (arguments_of words))
+    then option_and_then (λ file. option_map (Patterns file) (conflicts_in words)) (one_file (arguments_of words))
     else None
 
-abbrev pub patterning : List (List ℕ) → Option Command
-patterning words = searching Patterns words
-
+-- `explain` over one file, with how many clauses each search may learn, and a time limit, said before or behind it
 abbrev pub explaining : List (List ℕ) → Option Command
-explaining words = searching Explain words
+explaining words =
+    if has_options timed_options words
+    then option_and_then (λ file. option_map (Explain file) (timed_conflicts_in words)) (one_file (arguments_of words))
+    else None
 
 -- `prove` over two files, with how many clauses its search may learn, and a time limit, said before, between or behind
 -- them

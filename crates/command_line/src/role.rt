@@ -88,8 +88,8 @@ pub(crate) fn option_role(command: Topic, word: &str) -> Option<Role>
     match command {
         Topic::Solve => start_option(word),
         Topic::Trial => solve_option(word),
-        Topic::Patterns | Topic::Explain => search_option(word),
-        Topic::Prove | Topic::Resume => timed_option(word),
+        Topic::Patterns => search_option(word),
+        Topic::Explain | Topic::Prove | Topic::Resume => timed_option(word),
         Topic::Rows => row_option(word),
         Topic::Show => show_option(word),
         _ => None,
@@ -106,7 +106,7 @@ fn search_option(word: &str) -> Option<Role>
     }
 }
 
-/// The same of a command that takes a time limit too.
+/// What the value of an option of a command that searches is to be, if a time limit is one too.
 fn timed_option(word: &str) -> Option<Role>
     ensures { result ≡ faults.timed_option word.now }
 {

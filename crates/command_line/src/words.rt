@@ -407,23 +407,23 @@ fn read_patterns(words: &[String]) -> Option<Words<'_>>
     })
 }
 
-/// `explain` over one file, with its option.
+/// `explain` over one file, with its options.
 fn read_explain(words: &[String]) -> Option<Words<'_>>
     ensures reading { option_map command_of result ≡ explaining (map string_bytes words.now) }
     ensures teams { IfSome result (λ command. HasTeams (command_of command)) }
 {
-    if !has_search_options(words) {
+    if !has_timed_options(words) {
         return None;
     }
     let instance = one_file(words)?;
-    let conflicts = conflicts_said(words)?;
+    let conflicts = timed_conflicts_said(words)?;
     Some(Words::Explain {
         instance,
         conflicts,
     })
 }
 
-/// `prove` over two files, with its option.
+/// `prove` over two files, with its options.
 fn read_prove(words: &[String]) -> Option<Words<'_>>
     ensures reading { option_map command_of result ≡ proving (map string_bytes words.now) }
     ensures teams { IfSome result (λ command. HasTeams (command_of command)) }

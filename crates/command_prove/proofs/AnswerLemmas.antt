@@ -167,14 +167,14 @@ pub proved-known : (store : Store)
     → proved store instance solution limits answer → ShowsAs league limits games answer
 proved-known store instance solution first second league games limits answer first_known second_known says_league
     says_games given = record {
-  least = λ is.
-      let shown : IsShownBy league limits games answer =
-      proved-goes store instance solution first second league games limits answer first_known second_known says_league
-      says_games (yes-no_file answer is) (yes-no_fault answer is) given in
-      (shown.0, shown-yes league shown.0 games answer shown.2 is);
-  better = λ is.
-      let shown : IsShownBy league limits games answer =
-      proved-goes store instance solution first second league games limits answer first_known second_known says_league
-      says_games (better-no_file answer is) (better-no_fault answer is) given in
-      shown-better league shown.0 games answer shown.2 is;
-}
+      least = λ is.
+          let shown : IsShownBy league limits games answer =
+          proved-goes store instance solution first second league games limits answer first_known second_known says_league
+          says_games (yes-no_file answer is) (yes-no_fault answer is) given in
+          (shown.0, shown-yes league shown.0 games answer shown.2 is);
+      better = λ is.
+          let shown : IsShownBy league limits games answer =
+          proved-goes store instance solution first second league games limits answer first_known second_known says_league
+          says_games (better-no_file answer is) (better-no_fault answer is) given in
+          shown-better league shown.0 games answer shown.2 is;
+    }

@@ -114,14 +114,7 @@ fn lower_season<W: Watch>(
     if season.schedule.len() > MOST_GAMES {
         return Ok(season);
     }
-    let found = lowered(
-        alloc,
-        league,
-        &season.schedule,
-        season.objective,
-        k,
-        watch,
-    )?;
+    let found = lowered(alloc, league, &season.schedule, season.objective, k, watch)?;
     match found {
         Some(lower) => Ok(lower),
         None => Ok(season),

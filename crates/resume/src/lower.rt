@@ -80,14 +80,7 @@ fn descended<W: Watch>(
     let mut steps = Steps::<Plain>::start();
     let mut tally = league_tally(alloc, league, 1, start.games(), &mut steps)?;
     let phased = league.phased();
-    let _descent = descend_watched(
-        alloc,
-        phased,
-        &mut tally,
-        MOST_MOVES,
-        &mut steps,
-        watch,
-    )?;
+    let _descent = descend_watched(alloc, phased, &mut tally, MOST_MOVES, &mut steps, watch)?;
     season_of(alloc, phased, tally.cells())
 }
 

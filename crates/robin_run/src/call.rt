@@ -134,9 +134,7 @@ fn follow<S: Shelf, W: Listener>(
             instance,
             solution,
             conflicts,
-        } => give(prove_file(
-            alloc, shelf, instance, solution, conflicts, watch,
-        )),
+        } => give(prove_file(alloc, shelf, instance, solution, conflicts, watch)),
         Words::Bound { instance, log } => give(bound_file(alloc, shelf, instance, log)),
         Words::Resume {
             instance,
@@ -145,9 +143,7 @@ fn follow<S: Shelf, W: Listener>(
             conflicts,
         } => {
             let resumption = Resumption { k, conflicts };
-            give(resume_file(
-                alloc, shelf, instance, solution, resumption, watch,
-            ))
+            give(resume_file(alloc, shelf, instance, solution, resumption, watch))
         }
         Words::Audit {
             instance,

@@ -31,9 +31,9 @@ returns-then-objective-eq0 g c = (
   c.args.conflicts,
   inl refl,
   subst (λ (p : Proved). IsProved c.args.league.now (counts_of c.args.schedule.now) c.args.conflicts p)
-        (sym c.least_of_all.ensures)
-        (least_of_none c.args.league.now (counts_of c.args.schedule.now) c.args.conflicts
-        (omega (arith, c.in_64_bits-objective.ensures, c.requires.assessed))),
+      (sym c.least_of_all.ensures)
+      (least_of_none c.args.league.now (counts_of c.args.schedule.now) c.args.conflicts
+      (omega (arith, c.in_64_bits-objective.ensures, c.requires.assessed))),
 )
 
 pub returns-then-lower-lt-from : goal.returns-then-lower-lt-from
@@ -41,11 +41,11 @@ returns-then-lower-lt-from g c = (
   c.args.conflicts,
   inl refl,
   subst (λ (p : Proved). IsProved c.args.league.now (counts_of c.args.schedule.now) c.args.conflicts p)
-        (sym c.bettered.ensures)
-        (better-of c.args.league.now (counts_of c.args.schedule.now) c.in_ok-lower.ensures.season.kept
-        c.in_ok-lower.lower.objective c.in_ok-lower.lower.schedule c.in_ok-lower.lower.descent
-        c.in_ok-lower.ensures.season.is_season
-        (omega (arith, c.if-lower-from.true, c.from.ensures, c.in_64_bits-objective.ensures, c.requires.assessed))),
+      (sym c.bettered.ensures)
+      (better-of c.args.league.now (counts_of c.args.schedule.now) c.in_ok-lower.ensures.season.kept
+      c.in_ok-lower.lower.objective c.in_ok-lower.lower.schedule c.in_ok-lower.lower.descent
+      c.in_ok-lower.ensures.season.is_season
+      (omega (arith, c.if-lower-from.true, c.from.ensures, c.in_64_bits-objective.ensures, c.requires.assessed))),
 )
 
 pub returns : goal.returns

@@ -36,8 +36,7 @@ returns-in-Refuted g c = λ m cost settled.
     let answer = answer-of c.args.league.now (c.args.objective - 1) c.vars.result c.rows.result.now c.in_ok-found.ensures.kept
     c.in_ok-found.found (c.rows.ensures ∙ ap (λ (b : Bounded). bound_rows b.league b.bound) c.in_ok-system.ensures)
     (c.vars.ensures.vars ∙ ap (λ (b : Bounded). bound_vars b.league) c.in_ok-system.ensures) c.in_ok-found.ensures.answer
-    in
-    (
+    in (
       c.in_ok-found.ensures.kept,
       c.in_ok-found.ensures.is_kept,
       least-of c.args.league.now m c.in_ok-found.ensures.kept c.args.objective c.in-Refuted.log
@@ -49,8 +48,7 @@ returns g c = λ m cost settled.
     let answer = answer-of c.args.league.now (c.args.objective - 1) c.vars.result c.rows.result.now c.in_ok-found.ensures.kept
     c.in_ok-found.found (c.rows.ensures ∙ ap (λ (b : Bounded). bound_rows b.league b.bound) c.in_ok-system.ensures)
     (c.vars.ensures.vars ∙ ap (λ (b : Bounded). bound_vars b.league) c.in_ok-system.ensures) c.in_ok-found.ensures.answer
-    in
-    (
+    in (
       c.in_ok-found.ensures.kept,
       c.in_ok-found.ensures.is_kept,
       spent-of c.args.league.now m c.in_ok-found.ensures.kept c.args.objective c.in-Spent.log cost settled

@@ -66,4 +66,3 @@ returns-in_ok-smaller-in-Refuted-clause-less g c =
     narrowed-less c.narrow.result members c.in_ok-smaller-in-Refuted.smaller.members.items c.narrow.ensures.no_longer
     (dropped-shorter members c.in_ok-smaller-in-Refuted.smaller.members.items c.args.place c.index.result.now at.0
     c.in_ok-smaller-in-Refuted.ensures.members)
-

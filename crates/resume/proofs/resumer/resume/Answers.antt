@@ -9,7 +9,7 @@ returns-in-Some-clause-answer g c = (
   c.args.conflicts,
   inl refl,
   subst
-        (λ (found : Option Resumed). IfSome found (λ resumed. (k : ℕ) (limit : Option ℕ)
-        → IsResumed c.args.league.now c.args.played.now k limit resumed))
-        c.in-Some.is c.in_ok-plan.ensures.resumed c.args.k c.args.conflicts,
+      (λ (found : Option Resumed). IfSome found (λ resumed. (k : ℕ) (limit : Option ℕ)
+      → IsResumed c.args.league.now c.args.played.now k limit resumed))
+      c.in-Some.is c.in_ok-plan.ensures.resumed c.args.k c.args.conflicts,
 )

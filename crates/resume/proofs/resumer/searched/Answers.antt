@@ -23,9 +23,9 @@ returns-clause-answer g c =
       by.kept,
       by.is_kept,
       told_resumed c.args.league.now c.args.played.now c.args.k by.kept c.in_ok-found.found
-            c.in_ok-resumed.resumed c.n-n.ensures.instance c.requires.fit c.requires.slots
-            (subst
-            (λ (r : PartlyPlayed). IsAnswer (rows_for r) (var_count r.league) by.kept c.in_ok-found.found)
-            c.in_ok-system.ensures.of by.answer)
-            c.in_ok-resumed.ensures,
+          c.in_ok-resumed.resumed c.n-n.ensures.instance c.requires.fit c.requires.slots
+          (subst
+          (λ (r : PartlyPlayed). IsAnswer (rows_for r) (var_count r.league) by.kept c.in_ok-found.found)
+          c.in_ok-system.ensures.of by.answer)
+          c.in_ok-resumed.ensures,
     )
