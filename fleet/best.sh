@@ -10,26 +10,9 @@ set -u
 [ $# -eq 1 ] && [ -r "$1/league.xml" ] || fail 2 "usage: $0 DIR, a folder that tries.sh or slurm.sh made"
 dir=$(cd "$1" && pwd) || exit 6
 table=$dir/.table.$host.$$.part
-season=$dir/.best.$host.$$.part
-report=$dir/.report.$host.$$.part
-trap 'rm -f "$table" "$season" "$report"' EXIT
+trap 'rm -f "$dir"/.*".$host.$$.part"' EXIT
 trap 'exit 143' HUP INT TERM
 "$robin" --version >/dev/null || fail 6 "$robin doesn't run"
-
-# judge SEASON: sets status, and the objective of a season that the league accepts.
-judge() {
-    said=$("$robin" validate "$dir/league.xml" "$1" 2>/dev/null)
-    case $? in
-    0)
-        status=season
-        objective=${said##*objective }
-        objective=${objective%%[!0-9]*}
-        ;;
-    1) status=rejected ;;
-    3) status=broken ;;
-    *) status=unjudged ;;
-    esac
-}
 
 # judge_log LOG: sets status. A log that is spent has steps that follow, and no empty clause.
 judge_log() {
@@ -77,35 +60,18 @@ not_accepted=$(awk '$2 == "rejected" || $2 == "broken" || $2 == "unjudged" { pri
 leave_refutation() {
     seed=$(awk '$2 == "refuted" { print $1; exit }' "$dir/table.txt")
     if [ -n "$seed" ]; then
-        { cp "$dir/$seed.log" "$season" && mv "$season" "$dir/refutation.log"; } || fail 7 "the refutation can't be written"
+        part=$dir/.refutation.$host.$$.part
+        { cp "$dir/$seed.log" "$part" && mv "$part" "$dir/refutation.log"; } || fail 7 "the refutation can't be written"
     fi
     [ -e "$dir/refutation.log" ] || return 1
     judge_log "$dir/refutation.log"
     [ "$status" = refuted ]
 }
 
-# Leaves the best season, unless the one that is there is as good, and says whether there is one. The report is made of
-# the season that lies there then, until it is that one's, also where another run puts a better one there meanwhile.
+# Leaves the best season, and says whether there is one.
 leave_best() {
     seed=$(awk '$2 == "season"' "$dir/table.txt" | LC_ALL=C sort -k 3,3n -k 1,1n | sed -n '1s/ .*//p')
-    status=none
-    [ -e "$dir/best.xml" ] && judge "$dir/best.xml"
-    if [ "$status" = season ]; then least=$objective; else least=''; fi
-    if [ -n "$seed" ]; then
-        cp "$dir/$seed.xml" "$season" || fail 7 "the best season can't be written"
-        judge "$season"
-        if [ "$status" = season ] && { [ -z "$least" ] || [ "$objective" -lt "$least" ]; }; then
-            mv "$season" "$dir/best.xml" || fail 7 "the best season can't be renamed"
-            least=$objective
-        fi
-    fi
-    [ -n "$least" ] || return 1
-    for time in 1 2 3 4 5 6 7 8 9; do
-        "$robin" validate "$dir/league.xml" "$dir/best.xml" >"$report" || fail 7 "the report can't be written"
-        cmp -s "$report" "$dir/best.txt" && return
-        mv "$report" "$dir/best.txt" || fail 7 "the report can't be renamed"
-    done
-    fail 7 "$dir/best.xml changed $time times meanwhile"
+    leave_season "${seed:+$dir/$seed.xml}"
 }
 
 if leave_refutation; then

@@ -100,26 +100,76 @@ keep() {
     return "$kept"
 }
 
-# Makes the folder, with the league and the options of `solve`, or finds them there. What processes of this machine left
-# that are no more is taken away: the front of an answer, under another name.
-prepare() {
+# Makes the folder with the league, or finds it there. The front of a file, under another name, is taken away: what processes
+# of this machine left that are no more, and at its end what this one left.
+prepare_league() {
     [ -r "$instance" ] || fail 6 "can't read $instance"
     mkdir -p "$dir" && dir=$(cd "$dir" && pwd) || fail 6 "can't make the folder"
+    trap 'rm -f "$dir"/.*".$host.$$.part"' EXIT
+    trap 'exit 143' HUP INT TERM
     for part in "$dir"/.*."$host".*.part; do
         process=${part%.part}
         process=${process##*.}
         is_number "$process" && ! kill -0 "$process" 2>/dev/null && rm -f "$part"
     done
     keep league.xml <"$instance" || fail 6 "$dir isn't of this league, or can't be written: take another folder"
+    "$robin" --version >/dev/null || fail 6 "$robin doesn't run"
+}
+
+# Makes the folder of tries, with the league and the options of `solve`, or finds them there. Where the league is refuted
+# there already, the caller ends.
+prepare() {
+    prepare_league
     echo "--moves $moves --conflicts $conflicts" | keep words ||
         fail 6 "$dir has tries with $(cat "$dir/words"): say the same, or take another folder"
-    "$robin" --version >/dev/null || fail 6 "$robin doesn't run"
     if [ -e "$dir/refutation.log" ]; then
         "$robin" check "$dir/league.xml" "$dir/refutation.log" >/dev/null ||
             fail 6 "$dir/refutation.log isn't accepted: take it away"
         echo "the league accepts no season: $dir/refutation.log is an accepted refutation"
         exit 4
     fi
+}
+
+# judge SEASON: sets status, and the objective of a season that the league accepts.
+judge() {
+    said=$("$robin" validate "$dir/league.xml" "$1" 2>/dev/null)
+    case $? in
+    0)
+        status=season
+        objective=${said##*objective }
+        objective=${objective%%[!0-9]*}
+        ;;
+    1) status=rejected ;;
+    3) status=broken ;;
+    *) status=unjudged ;;
+    esac
+}
+
+# leave_season FILE: makes a copy of this season the best one of the folder, unless the one that is there costs no more, and
+# sets least, to nothing where there is none. The report is made of the season that lies there then, until it is that one's,
+# also where another run puts a better one there meanwhile.
+leave_season() {
+    season=$dir/.best.$host.$$.part
+    report=$dir/.report.$host.$$.part
+    status=none
+    [ -e "$dir/best.xml" ] && judge "$dir/best.xml"
+    if [ "$status" = season ]; then least=$objective; else least=''; fi
+    if [ -n "$1" ]; then
+        cp "$1" "$season" || fail 7 "the best season can't be written"
+        judge "$season"
+        if [ "$status" = season ] && { [ -z "$least" ] || [ "$objective" -lt "$least" ]; }; then
+            mv "$season" "$dir/best.xml" || fail 7 "the best season can't be renamed"
+            least=$objective
+        fi
+        rm -f "$season"
+    fi
+    [ -n "$least" ] || return 1
+    for time in 1 2 3 4 5 6 7 8 9; do
+        "$robin" validate "$dir/league.xml" "$dir/best.xml" >"$report" || fail 7 "the report can't be written"
+        cmp -s "$report" "$dir/best.txt" && rm -f "$report" && return
+        mv "$report" "$dir/best.txt" || fail 7 "the report can't be renamed"
+    done
+    fail 7 "$dir/best.xml changed $time times meanwhile"
 }
 
 has_answer() {

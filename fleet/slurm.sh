@@ -44,7 +44,8 @@ program="ROBIN=$(quoted "$robin")"
 behind=''
 while read -r seed list && [ -n "$list" ]; do
     job=$(ask --job-name=robin-tries --time="$minutes" --array="$list${jobs:+%$jobs}" \
-        --wrap="$program $(quoted "$here/try.sh") $(quoted "$dir") \$(($seed + SLURM_ARRAY_TASK_ID))
+        --wrap="trap : HUP INT TERM
+$program $(quoted "$here/try.sh") $(quoted "$dir") \$(($seed + SLURM_ARRAY_TASK_ID))
 status=\$?
 [ ! -e $(quoted "$dir/refutation.log") ] || scancel \$SLURM_ARRAY_JOB_ID
 case \$status in 0 | 4 | 5) exit 0 ;; *) exit \$status ;; esac" </dev/null)

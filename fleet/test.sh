@@ -6,6 +6,10 @@
 set -u
 here=$(cd "$(dirname "$0")" && pwd) || exit 1
 examples=$here/../examples
+leagues=$here/../bench/leagues
+# A league in which a try finds a season in a second, and the options of a try that goes on for minutes.
+easy=$leagues/easy-16-phased.xml
+long='--moves 10000000 --conflicts 0'
 FLEET_PROGRAM=${ROBIN:-$here/../robin}
 wrong=0
 skipped=0
@@ -131,13 +135,16 @@ install_missing() {
 make_program() {
     cat >"$folder/slow" <<'END'
 #!/bin/sh
-folder=$(dirname "$0")
+# Without commands as far as may be, since some shells forget at the first which signals are to wait.
+folder=${0%/*}
+read -r program <"$folder/program"
+read -r delay <"$folder/delay"
 if [ "$1" = solve ]; then
     for seed; do :; done
     echo "$$ $seed" >>"$folder/calls"
-    sleep "$(cat "$folder/delay")"
+    [ "$delay" = 0 ] || sleep "$delay"
 fi
-exec "$(cat "$folder/program")" "$@"
+exec "$program" "$@"
 END
     chmod 755 "$folder/slow"
     case $FLEET_PROGRAM in
@@ -215,10 +222,54 @@ interrupted() {
     wait "$run"
     expect "interrupted: the run ends" [ $? -eq 143 ]
     expect "interrupted: nothing is left under another name" [ -z "$(find "$dir" -name '.*.part')" ]
-    expect "interrupted: no try goes on" [ "$(wc -l <"$folder/calls") $(find "$dir" -name '3?.xml' | wc -l)" = "2 0" ]
+    expect "interrupted: no further try begins" has_calls 2
     echo 0 >"$folder/delay"
     expect "interrupted: the same command goes on" gives 0 tries "$dir" --seeds 30-35 --jobs 2
     expect "interrupted: whole answers" whole "$dir" 30 35
+}
+
+# has_worked: whether the process has had a second of processor time.
+has_worked() {
+    [ "$(awk '{ print $14 }' "/proc/$process/stat")" -ge 100 ]
+}
+
+# stops SEED STATUS COMMAND ..: whether a command that tries this seed, and gets a signal after some work, ends soon and with
+# this status.
+stops() {
+    : >"$folder/calls"
+    try=$1
+    awaited=$2
+    shift 2
+    "$@" >"$folder/said" 2>&1 &
+    run=$!
+    await 60 runs "$try" && await 60 has_worked && kill -TERM "$run" && await 30 gone "$run" || kill -KILL "$process"
+    wait "$run"
+    got=$?
+    [ "$got" -eq "$awaited" ] || { sed 's/^/    /' "$folder/said" && echo "    status $got" && false; }
+}
+
+# Long tries that are told to end: one that has a season, one that has none, and one that can't wait for a signal.
+stopped() {
+    dir=$folder/stopped
+    mkdir "$dir" && cp "$easy" "$dir/league.xml" && echo "$long" >"$dir/words"
+    expect "stopped: a try ends" stops 1 0 "$here/try.sh" "$dir" 1
+    expect "stopped: and leaves its season" whole "$dir" 1 1
+    cp "$leagues/tight-20.xml" "$dir/league.xml"
+    expect "stopped: a try without a season ends" stops 2 143 "$here/try.sh" "$dir" 2
+    echo "--moves 0 --conflicts all" >"$dir/words"
+    expect "stopped: a search without a limit ends" stops 3 143 "$here/try.sh" "$dir" 3
+    expect "stopped: neither leaves an answer" [ -z "$(find "$dir" -name '[23].*' -o -name '.*.part')" ]
+}
+
+# Long tries, all told to end.
+long_tries() {
+    dir=$folder/$1-long
+    # The words are options.
+    # shellcheck disable=SC2086
+    expect "$1: long tries end" stops 1 143 "$here/tries.sh" "$easy" "$dir" $long --seeds 0-5 --jobs 2
+    [ "$1" = parallel ] || await 30 whole "$dir" 0 1
+    expect "$1: and leave their seasons" whole "$dir" 0 1
+    expect "$1: no further try began" has_calls 2
 }
 
 # Answers that lie about themselves, or are no answers.
@@ -279,6 +330,13 @@ full_disk() {
     rm -f "$mounted/fill"
     expect "full disk: with room the same command goes on" gives 0 tries "$dir" --seeds 0-3
     expect "full disk: whole answers" whole "$dir" 0 3
+    rm -r "$dir"
+    dir=$mounted/rounds
+    rounds_of --seconds 60 >"$folder/said" 2>&1
+    status=$?
+    expect "full disk: rounds end, since answers or the table can't be written" [ "$status" -eq 1 -o "$status" -eq 7 ]
+    expect "full disk: no season costs more than its start" no_dearer
+    expect "full disk: the best is accepted" gives 0 "$FLEET_PROGRAM" validate "$dir/league.xml" "$dir/best.xml"
     umount "$mounted"
     mounted=''
 }
@@ -311,7 +369,7 @@ SelectType=select/cons_tres
 SelectTypeParameters=CR_Core
 SchedulerParameters=sched_interval=1,bf_interval=1
 ReturnToService=2
-KillWait=2
+KillWait=10
 SlurmctldPort=16817
 SlurmdPort=16818
 MpiDefault=none
@@ -366,6 +424,17 @@ under_slurm() {
     expect "Slurm: whole answers" whole "$dir" 10 12
     expect "Slurm: the best is the least" best_is "$dir" "$(least "$dir")"
 
+    dir=$folder/slurm-cancelled
+    # The words are options.
+    # shellcheck disable=SC2086
+    expect "Slurm: a long try" gives 0 "$here/slurm.sh" "$easy" "$dir" --seeds 15-15 $long
+    job=$(sed -n 's/^job \([0-9]*\): seeds .*/\1/p' "$folder/said")
+    expect "Slurm: it runs" await 60 runs 15
+    await 60 has_worked
+    scancel "$job"
+    expect "Slurm: it is cancelled, and all ends" await 60 no_jobs
+    expect "Slurm: and leaves its season" whole "$dir" 15 15
+
     dir=$folder/slurm-drained
     echo 5 >"$folder/delay"
     : >"$folder/calls"
@@ -410,35 +479,70 @@ under_slurm() {
     echo 0 >"$folder/delay"
 }
 
-# no_dearer ROUND: whether each season of the round costs no more than the one at which it began.
-no_dearer() {
-    set -- "$1" "$1"/starts/*.xml
-    for file in "$1"/[0-9]*.xml; do
-        seed=$(basename "$file" .xml)
-        [ "$(objective_of "$1" "$file")" -le "$(objective_of "$1" "$1/starts/$((seed % ($# - 1))).xml")" ] || return 1
-    done
+
+# start_of SEASON: the season at which the try that found it began.
+start_of() {
+    seed=${1##*/}
+    seed=${seed%.xml}
+    echo "${1%/*}/$(sed -n "$((seed % $(wc -l <"${1%/*}/starts") + 1))p" "${1%/*}/starts")"
 }
 
 objective_of() {
-    "$FLEET_PROGRAM" validate "$1/league.xml" "$2" | sed -n 's/^objective //p'
+    "$FLEET_PROGRAM" validate "$dir/league.xml" "$1" | sed -n 's/^objective //p'
+}
+
+# no_dearer: whether each season of the rounds is accepted, and costs no more than the one at which it began.
+no_dearer() {
+    for file in "$dir"/[0-9]*/[0-9]*.xml; do
+        cost=$(objective_of "$file")
+        [ -n "$cost" ] || return 1
+        [ ! -e "${file%/*}/starts" ] || [ "$cost" -le "$(objective_of "$(start_of "$file")")" ] || return 1
+    done
+}
+
+rounds_of() {
+    "$here/next.sh" "$league" "$dir" --moves 100 --seeds 0-3 --jobs 2 --keep 2 "$@"
+}
+
+# The lowest objective of all rounds.
+least_of_all() {
+    for folder_of_tries in "$dir"/[0-9]*; do
+        least "$folder_of_tries"
+    done | sort -n | head -n 1
 }
 
 # Rounds, of which each begins at the best seasons of the one before it.
 rounds() {
     dir="$folder/rounds aren't one word"
-    rounds_of() {
-        "$here/next.sh" "$league" "$dir" --moves 100 --seeds 0-3 --jobs 2 --keep 2 "$@"
-    }
     : >"$folder/calls"
-    expect "rounds: for some seconds" gives 0 rounds_of --seconds 8
-    expect "rounds: a second one began at a season of the first" \
-        [ "$(objective_of "$dir/1" "$dir/2/starts/0.xml")" = "$(least "$dir/1")" ]
-    expect "rounds: with other seeds" [ "$(calls 4) $(calls 0)" = "1 1" ]
-    expect "rounds: no season costs more than its start" no_dearer "$dir/2"
-    expect "rounds: the best costs no more than the first round's" [ "$(objective_of "$dir" "$dir/best.xml")" -le "$(least "$dir/1")" ]
+    # By its own name, so that the process is that of the script.
+    "$here/next.sh" "$league" "$dir" --moves 100 --seeds 0-3 --jobs 2 --keep 2 --seconds 600 >"$folder/said" 2>&1 &
+    run=$!
+    expect "rounds: a third one begins" await 120 [ -d "$dir/3" ]
+    kill -TERM "$run"
+    wait "$run"
+    expect "rounds: a signal ends them as the time does" [ $? -eq 0 ]
+    expect "rounds: the second begins at the best of the first" [ "$(objective_of "$(start_of "$dir/2/4.xml")")" = "$(least "$dir/1")" ]
+    expect "rounds: with other seeds" [ "$(calls 0) $(calls 4)" = "1 1" ]
+    expect "rounds: no season costs more than its start" no_dearer
+    expect "rounds: the best is the least of all" best_is "$dir" "$(least_of_all)"
     : >"$folder/calls"
-    expect "rounds: the same command goes on" gives 0 rounds_of --seconds 3
-    expect "rounds: and not from the beginning" [ "$(calls 0)" -eq 0 ]
+    expect "rounds: the same command goes on for some seconds" gives 0 rounds_of --seconds 3
+    expect "rounds: and not from the beginning" [ "$(calls 0) $(calls 4)" = "0 0" ]
+    expect "rounds: another league is refused" gives 6 "$here/next.sh" "$examples/four-teams.xml" "$dir"
+    expect "rounds: a league that is refuted ends them" gives 4 "$here/next.sh" "$examples/one-home-game.xml" "$folder/rounds-refuted"
+
+    dir=$folder/rounds-long
+    # The words are options.
+    # shellcheck disable=SC2086
+    expect "rounds: long tries end" stops 1 0 "$here/next.sh" "$easy" "$dir" $long --seeds 0-5 --jobs 2
+    expect "rounds: and leave the best of their seasons" best_is "$dir" "$(least_of_all)"
+
+    dir=$folder/rounds-twice
+    expect "rounds: the same command twice at once" twice rounds_of --seconds 12
+    expect "rounds: no season costs more than its start" no_dearer
+    expect "rounds: the best is the least of all" best_is "$dir" "$(least_of_all)"
+    expect "rounds: nothing is left under another name" [ -z "$(find "$dir" -name '.*.part')" ]
 }
 
 install_missing
@@ -448,6 +552,8 @@ league=$examples/nine-classes.xml
 if parallel --version 2>/dev/null | grep -q '^GNU parallel'; then
     on_one_machine parallel
     interrupted
+    stopped
+    long_tries parallel
 else
     skip "GNU parallel isn't there"
 fi

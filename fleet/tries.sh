@@ -12,16 +12,17 @@ read_words "$@"
 prepare
 jobs=${jobs:-$(processors)}
 
+# The shells of both engines outlive a signal, so that try.sh can keep what it has.
+try='trap : HUP INT TERM; [ $# -eq 0 ] || "$FLEET_TRY" "$FLEET_DIR" "$1"; [ -e "$FLEET_DIR/refutation.log" ]'
+
 # A job that ends well ends all: one behind which there is a refutation.
 by_parallel() {
     bar=''
     # At a second signal parallel ends the tries that run.
     trap '[ -z "${!:-}" ] || { kill "$!"; sleep 1; kill "$!" 2>/dev/null; wait "$!"; }; exit 143' HUP INT TERM
     [ -t 2 ] && bar=--bar
-    # The words are expanded by the shells that parallel starts.
-    # shellcheck disable=SC2016
     missing | PARALLEL_SHELL=/bin/sh parallel --jobs "$jobs" --ungroup --halt now,success=1 --termseq TERM,10000,KILL,25 $bar \
-        '"$FLEET_TRY" "$FLEET_DIR" {}; [ -e "$FLEET_DIR/refutation.log" ]' &
+        "set -- {}; $try" &
     wait "$!"
     trap - HUP INT TERM
 }
@@ -29,9 +30,7 @@ by_parallel() {
 # A status of 255 lets xargs begin no further one, and so does a signal. The tries that run go on to their end.
 by_xargs() {
     trap '[ -z "${!:-}" ] || { kill "$!" 2>/dev/null; wait "$!"; }; exit 143' HUP INT TERM
-    # The words are expanded by the shells that xargs starts.
-    # shellcheck disable=SC2016
-    missing | xargs -n 1 -P "$jobs" sh -c '[ $# -eq 0 ] || "$FLEET_TRY" "$FLEET_DIR" "$1"; [ ! -e "$FLEET_DIR/refutation.log" ] || exit 255' try &
+    missing | xargs -n 1 -P "$jobs" sh -c "$try && exit 255" try &
     wait "$!"
     trap - HUP INT TERM
 }

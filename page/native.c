@@ -19,8 +19,9 @@ static struct slice all_of(const char *name) {
 int main(int count, char **args) {
     struct slice files[4] = {{"", 0}, {"", 0}, {"", 0}, {"", 0}};
     struct lengths lengths;
-    size_t size = getenv("ROOM") ? strtoul(getenv("ROOM"), 0, 10) : 1 << 26;
-    char *room = malloc(size ? size : 1), *words = args[1];
+    size_t size = 1 << 26;
+    char *room = malloc(size), *words = args[1];
+    if (!room) exit(99);
     for (char *p = words; *p; p++) if (*p == ',') *p = '\n';
     for (int i = 2; i < count && i < 6; i++) files[i - 2] = all_of(args[i]);
     int status = page_run(words, strlen(words), files, room, size, &lengths);

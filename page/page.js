@@ -134,7 +134,7 @@ async function shown(files) {
   return null;
 }
 
-// What the league's demands ask, by their numbers, in the words of `show`; all demands, or those of a list. Empty where the module knows no such words.
+// What the league's demands ask, by their numbers, in the words of `show`; all demands, or those of a list. Empty where that run ends with another status.
 async function demanded(...list) {
   const answer = await robin(['show', '1', '--demands', ...list], [state.league]);
   return answer.status === 0 ? sentencesOf(answer.text) : new Map();
@@ -332,7 +332,7 @@ async function explainLeague(own) {
   return 'Done.';
 }
 
-// Says the members of a conflict, each in the words of `show`, or by its number alone where the module knows no such words.
+// Says the members of a conflict, each in the words of `show`, or by its number alone where there are none.
 async function tellConflict(text) {
   const [first, second] = text.split('\n'), members = first.split(' ').slice(1).map(Number), many = members.length > 1;
   const sentences = members.length ? await demanded(members.join(';')) : new Map();

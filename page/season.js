@@ -118,7 +118,7 @@ function cellOf(league, team, games, before) {
     return td;
   }
   const [game] = games, isHome = game.home === team, other = isHome ? game.away : game.home;
-  const isBreak = before.length === 1 && (before[0].home === team) === isHome;
+  const isBreak = before.some(it => (it.home === team) === isHome);
   td.append(element('span', isHome ? 'H' : 'A', 'side'), league.codes[other] + (isBreak ? '*' : ''));
   td.className = (isHome ? 'home' : 'away') + (isBreak ? ' break' : '');
   td.title = `${league.labels[team]} ${isHome ? 'at home to' : 'away at'} ${league.labels[other]}, ${slotName(league, game.slot)}${isBreak ? ', a break' : ''}`;

@@ -3,6 +3,7 @@
 import argparse
 import base64
 import contextlib
+import datetime
 import glob
 import json
 import os
@@ -108,6 +109,11 @@ class Browser:
             os.makedirs(self.shots, exist_ok=True)
             self.driver.save_screenshot(f"{self.shots}/{name}.png")
 
+    def saved_text(self, name):
+        """What is saved of the text below, under this name."""
+        self.js("document.getElementById('text-box').open = true")
+        return self.saved("save-text", name)
+
     def saved(self, button, name):
         """What a button saves under this name."""
         target = f"{self.folder}/{name}"
@@ -121,6 +127,14 @@ class Browser:
 def same(ours, theirs, what):
     if ours != theirs:
         raise AssertionError(f"{what}: {ours!r:.400} and not {theirs!r:.400}")
+
+
+def judged(command, league, data, *words):
+    """The status of the program over a league and these bytes."""
+    with tempfile.NamedTemporaryFile() as file:
+        file.write(data)
+        file.flush()
+        return native(command, league, *words, file.name)[0]
 
 
 # ---- the tries
@@ -147,6 +161,49 @@ def try_reports(it):
         same(answer["text"], want, report)
     answer = it.run(["check", "1", "2"], read(example("no-home-game.xml")), read(example("no-home-game.log")))
     same(answer["text"], read(example("no-home-game.txt")), "no-home-game.txt")
+
+
+GRID = """return Array.from(document.querySelectorAll('#grid tbody tr'), row => Array.from(row.querySelectorAll('td'),
+  cell => [cell.textContent, cell.title, cell.classList.contains('break')]));"""
+
+
+def grid_shown(text):
+    """The cells of the grid that `show` writes, each a sign with its marks, by team and slot."""
+    head, *rows = text.split("\n\n", maxsplit=1)[0].splitlines()
+    start = re.search(" 0( |$)", head).start()
+    return [[row[at:at + 3].strip() for at in range(start, len(head), 3)] for row in rows]
+
+
+def season_that_is_none(room):
+    """A season of four teams without one of its games, and with another in a slot that is taken."""
+    season = read(example("four-teams-season.xml")).replace(b'home="2" away="3" slot="5"', b'home="2" away="3" slot="0"')
+    with open(f"{room}/none.xml", "wb") as file:
+        file.write(b"\n".join(line for line in season.splitlines() if b'home="3" away="0"' not in line))
+    return f"{room}/none.xml"
+
+
+def try_grid(it):
+    """The grid has the games, sides and breaks of the one that `show` writes, also of a season that is none."""
+    room = tempfile.mkdtemp()
+    cases = [("northern-league", example("northern-season.xml")), ("competition", example("competition-season.xml")), ("nine-classes", example("refused-season.xml")),
+             ("four-teams", season_that_is_none(room))]
+    for league, season in cases:
+        league = example(f"{league}.xml")
+        want = grid_shown(native("show", league, season)[1].decode())
+        it.open()
+        it.give(league, season)
+        it.wait(lambda: len(it.js(GRID)) == len(want))
+        labels = it.js("return state.view.labels")
+        for team, row in enumerate(it.js(GRID)):
+            for slot, (text, title, is_break) in enumerate(row):
+                wanted, where = want[team][slot], f"team {team} in slot {slot} of {league}"
+                if wanted[0] in "#-":
+                    same(text.replace("–", "-"), re.match(r"-|#.", wanted)[0], where)
+                    continue
+                sign, other = re.match(r"(@?)(\d+)", wanted).groups()
+                same(title.split(", slot")[0].startswith(f"{labels[team]} {'away at' if sign else 'at home to'} {labels[int(other)]}"), True, f"{where}, {title!r} and {wanted}")
+                same((is_break, text.endswith("*")), (wanted[-1] in "*%",) * 2, f"a break of {where}")
+    assert it.text("verdict").startswith("Not accepted: it is no double round robin, and 1 hard demand is missed"), it.text("verdict")
 
 
 def try_commands(it):
@@ -331,7 +388,7 @@ def try_keyboard(it):
 
 
 def try_searches(it):
-    """What the buttons say: found, stopped, proved, explained, resumed."""
+    """What the buttons say: found, stopped, none, explained."""
     it.open()
     it.give(example("northern-league.xml"))
     it.js("document.getElementById('tries').value = 100")
@@ -344,26 +401,75 @@ def try_searches(it):
     found = it.js("return new TextDecoder().decode(state.season)").encode()
     assert b"<Solution>" in found
     same(it.saved("save-xml", "season.xml"), found, "the saved season")
+    league = example("no-home-game.xml")
     it.open()
-    it.give(example("two-home-unwished.xml"), example("two-games-home-first.xml"))
-    it.find("prove").click()
-    it.wait(lambda: it.text("verdict") == "No accepted season costs less than 5.")
-    it.open()
-    it.give(example("no-home-game.xml"))
+    it.give(league)
     it.find("solve").click()
     it.wait(lambda: it.text("verdict").startswith("There is no season"))
     it.done()
+    same(judged("check", league, it.saved_text("refutation.log")), 0, "the log that is saved")
     it.find("explain").click()
     it.wait(lambda: it.text("verdict") == "No season meets this demand:")
+    same(it.saved_text("conflict.txt"), native("explain", league)[1], "why there is none, saved")
+
+
+def try_least(it):
+    """A season is bettered until none is cheaper, with a certificate that `bound` accepts."""
+    room = tempfile.mkdtemp()
+    league, season = f"{room}/league.xml", f"{room}/season.xml"
+    for name, words in ((league, ("make", "4", "1")), (season, ("circle", "4"))):
+        with open(name, "wb") as file:
+            file.write(native(*words)[1])
     it.open()
-    it.give(example("home-games-last.xml"), example("four-teams-season.xml"))
-    for slot, word in ((2, "Slots 0 to 1 stay"), (3, "No season keeps")):
+    it.give(league, season)
+    it.wait(lambda: it.text("verdict") == "Accepted. It costs 72.")
+    times = 0
+    while times == 0 or it.text("verdict").startswith("A cheaper season. Accepted."):
+        it.find("prove").click()
+        it.done()
+        times += 1
+    same(it.text("verdict"), "No accepted season costs less than 52.", "the last verdict")
+    same(judged("bound", league, it.saved_text("least.log")), 0, "the certificate that is saved")
+    same(judged("validate", league, it.saved("save-xml", "season.xml")), 0, "the season that is saved")
+    it.open()
+    it.give(example("nine-classes.xml"), example("refused-season.xml"))
+    it.find("prove").click()
+    it.wait(lambda: it.text("verdict").startswith("The season is not accepted"))
+    return f"{times} times"
+
+
+def try_resume(it):
+    """A click on a slot says which were played; the others are planned again, or a log says that they can't be."""
+    league, season = example("home-games-last.xml"), example("four-teams-season.xml")
+    for slot, word in ((2, "Slots 0 to 1 stay as they were played. Accepted."), (3, "No season keeps the games of slots 0 to 2.")):
         it.open()
-        it.give(example("home-games-last.xml"), example("four-teams-season.xml"))
+        it.give(league, season)
         it.wait(lambda: it.js("return document.querySelectorAll('#grid thead button').length") == 6)
-        it.driver.find_elements(By.CSS_SELECTOR, "#grid thead button")[slot].click()
+        it.wait(lambda: it.js("return !document.getElementById('demands').hidden"))
+        pick = lambda: it.driver.find_elements(By.CSS_SELECTOR, "#grid thead button")[slot].click()
+        assert not it.find("resume").is_enabled()
+        for is_played in (True, False, True):
+            pick()
+            same(it.find("resume").is_enabled(), is_played, "whether slots can be planned again")
+            same(len(it.driver.find_elements(By.CSS_SELECTOR, "#grid td.played")), 4 * slot * is_played, "cells of slots that were played")
+        same(it.text("resume"), f"Plan slots {slot} to 5 again", "the button")
         it.find("resume").click()
         it.wait(lambda: it.text("verdict").startswith(word))
+        it.done()
+        if slot == 2:
+            same(it.saved("save-xml", "season.xml"), native("resume", league, season, "2")[1], "the season")
+        else:
+            log = it.saved_text("resume.log")
+            same(judged("audit", league, log, season, "3"), 0, "the log that is saved")
+
+
+def try_made(it):
+    """A league that the page makes is that of `make` with the seed that stands there, and is saved as it is."""
+    it.open()
+    it.find("made").click()
+    it.wait(lambda: it.text("verdict").startswith("A league of 8 teams"))
+    seed = re.search(r"seed (\d+)", it.text("files-said"))[1]
+    same(it.saved("save-league", "league.xml"), native("make", "8", seed)[1], f"the league of seed {seed}")
 
 
 def items(it, where):
@@ -372,10 +478,9 @@ def items(it, where):
 
 
 def sentences(*words):
-    """The same by the program, or None where it knows no such words."""
-    status, text = native("show", *words)
-    found = [re.fullmatch(r"(hard|soft) (\d+) ([A-Z0-9]+): (.*)", line) for line in text.decode().splitlines()]
-    return [[f"{one[2]} {one[3]} {one[1]}", one[4]] for one in found] if status == 0 else None
+    """The same by the program."""
+    found = [re.fullmatch(r"(hard|soft) (\d+) ([A-Z0-9]+): (.*)", line) for line in native("show", *words)[1].decode().splitlines()]
+    return [[f"{one[2]} {one[3]} {one[1]}", one[4]] for one in found]
 
 
 def try_members(it):
@@ -385,13 +490,13 @@ def try_members(it):
     it.open()
     it.give(league)
     all_demands, members = sentences(league, "--demands"), sentences(league, "--demands", "1;10")
-    if all_demands:
-        it.wait(lambda: it.js("return !document.getElementById('demands').hidden"))
-        same(items(it, "#missed"), all_demands, "the demands of a league alone")
+    it.wait(lambda: it.js("return !document.getElementById('demands').hidden"))
+    same(items(it, "#missed"), all_demands, "the demands of a league alone")
+    same(len(members), 2, "members")
     it.find("explain").click()
     it.wait(lambda: it.text("verdict") == "No season meets these demands together:")
     it.wait(lambda: items(it, "#members"))
-    same(items(it, "#members"), members or [["demand 1", None], ["demand 10", None]], "the members")
+    same(items(it, "#members"), members, "the members")
     assert "Without any one of them" in it.text("advice"), it.text("advice")
     it.shot("members")
     # With a season drawn, a click on a member lights the cells that it speaks of.
@@ -408,21 +513,29 @@ def try_members(it):
     width = it.js("return document.documentElement.scrollWidth")
     it.size(*WIDE)
     assert width <= NARROW[0], f"the members are {width} wide at {NARROW[0]}"
-    return "by their numbers alone: the program knows no --demands" if members is None else ""
 
 
 def try_season_at_hand(it):
-    """A season that is found doesn't take the place of a cheaper one; one that is put away does no more harm."""
+    """A season that is found takes the place of a dearer one alone; one that is put away does no more harm."""
+    replaced = set()
+    for league, season, cost in (("northern-league", "northern-season", 6), ("nine-classes", "accepted-season", 25)):
+        league = example(f"{league}.xml")
+        it.open()
+        it.give(league, example(f"{season}.xml"))
+        it.wait(lambda: it.text("verdict") == f"Accepted. It costs {cost}.")
+        it.js("document.getElementById('tries').value = 1")
+        it.find("solve").click()
+        it.wait(lambda: it.text("progress").startswith("Done"))
+        found = native("solve", league)[1]
+        least = int(re.search(rb'objective="(\d+)"', found)[1])
+        assert f"costs {least}" in it.text("progress"), it.text("progress")
+        same(it.saved("save-xml", "season.xml"), found if least < cost else read(example(f"{season}.xml")), f"the season, where {least} was found")
+        same(it.text("verdict"), f"Found. Accepted. It costs {least}." if least < cost else f"Accepted. It costs {cost}.", "the verdict")
+        replaced.add(least < cost)
+    same(len(replaced), 2, "seasons that stay and seasons that don't")
+    # A season of another league is refused, and put away.
     it.open()
     it.give(example("northern-league.xml"), example("northern-season.xml"))
-    it.wait(lambda: it.text("verdict") == "Accepted. It costs 6.")
-    given = it.js("return new TextDecoder().decode(state.season)")
-    it.js("document.getElementById('tries').value = 1")
-    it.find("solve").click()
-    it.wait(lambda: it.text("progress").startswith("Done"))
-    cost = int(re.search(r"costs (\d+)", it.text("progress"))[1])
-    same(it.js("return new TextDecoder().decode(state.season)") == given, cost >= 6, f"whether the season stays where {cost} was found")
-    # A season of another league is refused, and put away.
     it.give(example("four-teams.xml"))
     it.wait(lambda: it.text("verdict").startswith("Not read"))
     it.find("put-away").click()
@@ -492,6 +605,41 @@ def try_saving(it):
     same(sorted(set(re.findall(rb"DTSTART;VALUE=DATE:(\d+)", calendar)))[:3], [b"20260905", b"20260912", b"20260919"], "days")
     it.js("document.getElementById('calendar-team').value = '3'")
     same(it.saved("save-calendar", "season.ics").count(b"BEGIN:VEVENT"), 14, "games of one team")
+    # Without a first day nothing is saved.
+    os.remove(f"{it.folder}/season.ics")
+    it.js("document.getElementById('calendar-first').value = ''")
+    it.find("save-calendar").click()
+    time.sleep(0.5)
+    assert not os.path.exists(f"{it.folder}/season.ics"), "a calendar without a first day"
+
+
+def try_calendar(it):
+    """Names that a calendar writes in another way, lines that it folds, and days between slots across the end of a year."""
+    name = "Ó" * 20 + ", a; b\\c " + "é" * 9
+    league = read(example("northern-league.xml")).replace(b'name="Dunmore"', f'name="{name}"'.encode())
+    with tempfile.NamedTemporaryFile(suffix=".xml") as file:
+        file.write(league)
+        file.flush()
+        it.open()
+        it.give(file.name, example("northern-season.xml"))
+        it.wait(lambda: it.js("return !!state.games"))
+        it.js("document.getElementById('calendar-first').value = '2026-12-28'; document.getElementById('calendar-step').value = 3; document.getElementById('calendar-team').value = '4'")
+        calendar = it.saved("save-calendar", "season.ics")
+    lines = calendar.split(b"\r\n")
+    assert all(len(line) <= 75 for line in lines) and b"\n" not in calendar.replace(b"\r\n", b"") and any(line.startswith(b" ") for line in lines), lines[:12]
+    whole = calendar.replace(b"\r\n ", b"").decode().split("\r\n")
+    told = name.replace("\\", "\\\\").replace(",", "\\,").replace(";", "\\;")
+    assert whole[:3] == ["BEGIN:VCALENDAR", "VERSION:2.0", "PRODID:-//robin//season//EN"] and whole[-2:] == ["END:VCALENDAR", ""], whole
+    games = re.findall(r'home="(\d+)" away="(\d+)" slot="(\d+)"', read(example("northern-season.xml")).decode())
+    labels = it.js("return state.view.labels")
+    wanted = []
+    for home, away, slot in sorted((tuple(map(int, game)) for game in games if "4" in game[:2]), key=lambda game: game[2]):
+        day = datetime.date(2026, 12, 28) + datetime.timedelta(days=3 * slot)
+        pair = " - ".join(told if team == 4 else labels[team] for team in (home, away))
+        wanted.append([f"DTSTART;VALUE=DATE:{day:%Y%m%d}", f"DTEND;VALUE=DATE:{day + datetime.timedelta(days=1):%Y%m%d}", f"SUMMARY:{pair}"])
+    found = [line for line in whole if line.startswith(("DTSTART", "DTEND", "SUMMARY"))]
+    same([found[at:at + 3] for at in range(0, len(found), 3)], wanted, "the games of a team")
+    same(len({line for line in whole if line.startswith("UID:")}), len(wanted), "their names")
 
 
 def pages_of(it):

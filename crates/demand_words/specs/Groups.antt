@@ -3,13 +3,17 @@ use Rattle.std.specs.Prelude.{Bool, true, false}
 use Rattle.league.specs.declared.class.Class.{Class}
 use Rattle.league.specs.declared.class.Class.TheVariants.{Ca1, Ca2, Ca3, Ca4, Br1, Br2, Fa2, Se1}
 
--- games of teams
+-- games of each of some teams, in some slots
 abbrev pub is_of_games : Class → Bool
 is_of_games (Ca1 teams min max side slots) = true
 is_of_games (Ca2 teams1 teams2 min max side slots) = true
-is_of_games (Ca3 teams1 teams2 min max intp side) = true
-is_of_games (Ca4 teams1 teams2 min max side span slots) = true
 is_of_games _ = false
+
+-- games in slots in a row, or of some teams together
+abbrev pub is_of_crowds : Class → Bool
+is_of_crowds (Ca3 teams1 teams2 min max intp side) = true
+is_of_crowds (Ca4 teams1 teams2 min max side span slots) = true
+is_of_crowds _ = false
 
 -- breaks
 abbrev pub is_of_breaks : Class → Bool

@@ -4,7 +4,7 @@ ghost use Rattle.std.specs.List.{All};
 ghost use Rattle.league.specs.Instance.{are_meetings, class_fits};
 ghost use Rattle.league.specs.declared.class.Class.TheVariants.{Ga1};
 ghost use Rattle.demand_words.specs.Demands as demands;
-ghost use Rattle.demand_words.specs.Groups.{is_of_breaks, is_of_games, is_of_pairs};
+ghost use Rattle.demand_words.specs.Groups.{is_of_breaks, is_of_crowds, is_of_games, is_of_pairs};
 
 use crate::label::Label;
 use crate::lists::listed;
@@ -74,7 +74,7 @@ fn meeting_labels(
     Ok(labels)
 }
 
-/// A GA1 of one meeting.
+/// The sentence of a GA1 of one meeting.
 fn one_meeting(
     alloc: Global,
     names: &[Label],
@@ -98,7 +98,7 @@ fn one_meeting(
     format!(in alloc; "of the games {game}: {bare} in {season}")
 }
 
-/// A GA1 of some meetings.
+/// The sentence of a GA1 of some meetings.
 fn meetings_text(
     alloc: Global,
     names: &[Label],
@@ -125,7 +125,7 @@ fn meetings_text(
     }
 }
 
-/// GA1.
+/// The sentence of a GA1.
 fn ga1_words(
     alloc: Global,
     names: &[Label],
@@ -142,7 +142,7 @@ fn ga1_words(
     meetings_text(alloc, names, bounds, meetings.numbers(), &season)
 }
 
-/// CA1 to CA4.
+/// The sentence of a CA1 or a CA2.
 fn games_words(alloc: Global, names: &[Label], class: &Class) -> Result<String, AllocError>
     requires few { length names.now ≤ 40 }
     requires fits { IsTrue (class_fits (length names.now) class.now) }
@@ -177,6 +177,19 @@ fn games_words(alloc: Global, names: &[Label], class: &Class) -> Result<String, 
             let season = all_slots(alloc, n, slots)?;
             format!(in alloc; "{who}: {what}{against} in {season}")
         }
+        _ => unreachable!(),
+    }
+}
+
+/// The sentence of a CA3 or a CA4.
+fn crowds_words(alloc: Global, names: &[Label], class: &Class) -> Result<String, AllocError>
+    requires few { length names.now ≤ 40 }
+    requires fits { IsTrue (class_fits (length names.now) class.now) }
+    requires group { IsTrue (is_of_crowds class.now) }
+    ensures { IfOk result (λ text. string_bytes text ≡ demands.demand_text (length names.now) names.now class.now) }
+{
+    let n = names.len() as u16;
+    match class {
         Class::Ca3 {
             teams1,
             teams2,
@@ -210,7 +223,7 @@ fn games_words(alloc: Global, names: &[Label], class: &Class) -> Result<String, 
     }
 }
 
-/// BR1 and BR2.
+/// The sentence of a BR1 or a BR2.
 fn breaks_words(alloc: Global, names: &[Label], class: &Class) -> Result<String, AllocError>
     requires few { length names.now ≤ 40 }
     requires fits { IsTrue (class_fits (length names.now) class.now) }
@@ -262,7 +275,7 @@ fn between(alloc: Global, min: u32) -> Result<String, AllocError>
     format!(in alloc; "at least {slots} between their games")
 }
 
-/// FA2 and SE1.
+/// The sentence of an FA2 or an SE1.
 fn pairs_words(alloc: Global, names: &[Label], class: &Class) -> Result<String, AllocError>
     requires few { length names.now ≤ 40 }
     requires fits { IsTrue (class_fits (length names.now) class.now) }
@@ -304,6 +317,7 @@ pub fn demand_words(alloc: Global, names: &[Label], class: &Class) -> Result<Str
             let (min, max) = (*min, *max);
             ga1_words(alloc, names, Bounds { min, max }, meetings, slots)
         }
+        Class::Ca3 { .. } | Class::Ca4 { .. } => crowds_words(alloc, names, class),
         Class::Br1 { .. } | Class::Br2 { .. } => breaks_words(alloc, names, class),
         Class::Fa2 { .. } | Class::Se1 { .. } => pairs_words(alloc, names, class),
         _ => games_words(alloc, names, class),

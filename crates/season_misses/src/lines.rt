@@ -143,32 +143,17 @@ fn team_line(
             min,
             max,
             ..
-        } => {
-            let (min, max) = (*min, *max);
-            let who = name_at(names, number_at(teams.numbers(), key));
-            has_line(
-                alloc,
-                names,
-                who,
-                Bounds { min, max },
-                games_told(&row.reason.cause),
-            )
         }
-        Class::Ca2 {
-            teams1,
+        | Class::Ca2 {
+            teams1: teams,
             min,
             max,
             ..
         } => {
             let (min, max) = (*min, *max);
-            let who = name_at(names, number_at(teams1.numbers(), key));
-            has_line(
-                alloc,
-                names,
-                who,
-                Bounds { min, max },
-                games_told(&row.reason.cause),
-            )
+            let who = name_at(names, number_at(teams.numbers(), key));
+            let games = games_told(&row.reason.cause);
+            has_line(alloc, names, who, Bounds { min, max }, games)
         }
         Class::Ca3 {
             teams1,
@@ -179,13 +164,8 @@ fn team_line(
         } => {
             let (min, max, intp) = (*min, *max, *intp);
             let who = name_at(names, number_at(teams1.numbers(), key));
-            window_line(
-                alloc,
-                names,
-                who,
-                Bounds { min, max },
-                Windows { n, intp, row },
-            )
+            let windows = Windows { n, intp, row };
+            window_line(alloc, names, who, Bounds { min, max }, windows)
         }
         _ => unreachable!(),
     }
