@@ -1,12 +1,12 @@
 #!/usr/bin/env python3
-"""Tries what a time limit and the signals do to `solve` and `trial`, from outside, and counts what is lost.
+"""Tries what a time limit and the signals do to `solve`, `prove`, `resume` and `explain`, from outside, and counts what is lost.
 
     python3 second/long_runs.py ./robin
     python3 second/long_runs.py PROGRAM
 
-With PROGRAM the signals are blocked here, as ./robin blocks them. Each run has to end within SLACK seconds of its limit or of the signal; each season that
-is written is given to `validate`, and each log to `check`. What differs is said, and the status is 1 then. An idle machine is wanted: the limits are of
-the clock.
+With PROGRAM the signals are blocked here, as ./robin blocks them. Each run has to end within SLACK seconds of its limit or of the signal. Each season that is
+written is given to `validate`, each log or certificate to `check`, `bound` or `audit`, and of a conflict the log and each season to these over the league's part.
+What differs is said, and the status is 1 then. An idle machine is wanted: the limits are of the clock.
 """
 import os
 import pty
@@ -22,6 +22,7 @@ SLACK = float(os.environ.get("SLACK", "0.5"))
 EASY = "examples/northern-league.xml"
 TIGHT = "bench/leagues/tight-16-phased.xml"
 MIDDLE = "bench/leagues/middle-16-phased.xml"
+CLOSED = "examples/northern-closed.xml"
 SIGNALS = [("Ctrl-C", signal.SIGINT), ("TERM", signal.SIGTERM), ("HUP", signal.SIGHUP)]
 FEW_BREAKS = """<Instance>
 <Structure><Format leagueIds="0"><numberRoundRobin>2</numberRoundRobin><compactness>C</compactness><gameMode>P</gameMode></Format></Structure>
@@ -80,19 +81,151 @@ def limited(command, league, seconds, options=()):
     say("solve %s --seconds %d %s" % (os.path.basename(league), seconds, " ".join(options)), fault, "status %d after %.2f s" % (done.returncode, passed))
 
 
-def asked(command, league, name, number, behind):
-    """One run that is asked to end by a signal."""
-    run = subprocess.Popen(command + ["solve", league, "--seconds", "60"], stdout=subprocess.PIPE, stderr=subprocess.DEVNULL, cwd=TOP)
-    time.sleep(behind)
-    run.send_signal(number)
+def run(command, words):
+    return subprocess.run(command + words, capture_output=True, cwd=TOP)
+
+
+def written(command, words, text):
+    """What is wrong with a text, by a command over files of which the last is the text's: nothing where the command says yes."""
+    with tempfile.NamedTemporaryFile("wb") as file:
+        file.write(text)
+        file.flush()
+        done = run(command, words + [file.name])
+    return None if done.returncode == 0 else "%s says %d" % (words[0], done.returncode)
+
+
+def conflict_parts(text):
+    """The members of a conflict, whether it says that all are needed, its log, and of each member the word and the text of its case."""
+    first, second, rest = text.split(b"\n", 2)
+    log, rest = rest[: rest.index(b"\nend\n") + 5], rest[rest.index(b"\nend\n") + 5 :]
+    cases = []
+    while rest:
+        head, rest = rest.split(b"\n", 1)
+        word, number = head.split()
+        end = b"</Solution>\n" if word == b"without" else b"end\n"
+        size = rest.index(end) + len(end)
+        cases.append((word, int(number), rest[:size]))
+        rest = rest[size:]
+    return [int(word) for word in first.split()[1:]], second, log, cases
+
+
+def conflict_fault(command, league, text):
+    """What is wrong with a conflict: nothing where its log refutes the part of its members, and each season is one of the part of the others."""
+    members, minimal, log, cases = conflict_parts(text)
+    if [number for _, number, _ in cases] != members:
+        return "other cases than members"
+    if (minimal == b"minimal yes") != all(word == b"without" for word, _, _ in cases):
+        return minimal.decode() + " is wrong"
+    with tempfile.NamedTemporaryFile("wb") as part:
+        for number, command_word, case in [(0, "check", log)] + [(number, "validate", case) for word, number, case in cases if word == b"without"]:
+            others = ";".join(str(member) for member in members if member != number)
+            if others:
+                part.seek(0)
+                part.truncate()
+                part.write(run(command, ["part", league, others]).stdout)
+                part.flush()
+                fault = written(command, [command_word, part.name], case)
+                if fault:
+                    return "%s of member %d" % (fault, number)
+    return None
+
+
+def answer_fault(command, checks, status, text):
+    """What is wrong with an answer. `checks` has, for a status, the command that judges its text; a spent log is looked at."""
+    if status == 5:
+        return None if text.startswith(b"refutation ") and text.endswith(b"end\n") else "no log"
+    if status not in checks:
+        return "status %d" % status
+    words = checks[status]
+    return conflict_fault(command, words[1], text) if words[0] == "explain" else written(command, words, text)
+
+
+def left_open(status, text):
+    """How many members a conflict leaves undecided, and how many of them weren't tried."""
+    if status != 4 or not text.startswith(b"conflict "):
+        return ""
+    logs = [case for word, _, case in conflict_parts(text)[3] if word == b"undecided"]
+    return ", %d members undecided, %d of them untried" % (len(logs), sum(log.count(b"\n") == 2 for log in logs))
+
+
+def searched(command, words, checks, seconds):
+    """One run with a time limit, and no other."""
     began = time.monotonic()
-    text, _ = run.communicate(timeout=60)
+    done = subprocess.run(command + words + ["--conflicts", "all", "--seconds", str(seconds)], capture_output=True, cwd=TOP, timeout=seconds + 60)
     passed = time.monotonic() - began
-    lost = run.returncode < 0 or not text
-    fault = "the season is lost" if lost else judged(command, league, run.returncode, text)
+    fault = answer_fault(command, checks, done.returncode, done.stdout)
+    if passed > seconds + SLACK:
+        fault = fault or "late"
+    names = " ".join(os.path.basename(word) for word in words)
+    detail = "status %d after %.2f s%s" % (done.returncode, passed, left_open(done.returncode, done.stdout))
+    say("%s --seconds %d" % (names, seconds), fault, detail)
+
+
+def interrupted(command, words, checks, name, number, behind):
+    """One run that a signal asks to end."""
+    words = words + ["--conflicts", "all"]
+    going = subprocess.Popen(command + words, stdout=subprocess.PIPE, stderr=subprocess.DEVNULL, cwd=TOP)
+    time.sleep(behind)
+    going.send_signal(number)
+    began = time.monotonic()
+    text, _ = going.communicate(timeout=60)
+    passed = time.monotonic() - began
+    fault = "the answer is lost" if going.returncode < 0 else answer_fault(command, checks, going.returncode, text)
     if passed > SLACK + 0.1:
         fault = fault or "late"
-    say("solve %s, %s after %.1f s" % (os.path.basename(league), name, behind), fault, "status %d, %.2f s later" % (run.returncode, passed))
+    names = " ".join(os.path.basename(word) for word in words[:-2])
+    detail = "status %d, %.2f s later%s" % (going.returncode, passed, left_open(going.returncode, text))
+    say("%s, %s after %.1f s" % (names, name, behind), fault, detail)
+
+
+def crowded(path):
+    """Twenty teams, of which the first may not be at home in 20 slots of 38: a conflict of 20 members, each of which takes a search."""
+    teams = "".join('<team id="%d"/>' % team for team in range(20))
+    slots = "".join('<slot id="%d"/>' % slot for slot in range(38))
+    away = "".join('<CA1 teams="0" max="0" mode="H" slots="%d" type="HARD"/>\n' % slot for slot in range(20))
+    text = FEW_BREAKS.replace(">P<", "><") % (teams, slots, "0", "0")
+    first, last = text.index("<BreakConstraints>"), text.index("</Constraints>")
+    with open(path, "w") as file:
+        file.write(text[:first] + "<CapacityConstraints>\n" + away + "</CapacityConstraints>\n" + text[last:])
+
+
+def other_commands(command, folder):
+    """`prove` over a season that no single move betters, `resume` over one that its league doesn't accept, `explain` over three leagues."""
+    names = ("made.xml", "season.xml", "circle.xml", "crowded.xml")
+    league, season, circle, crowd = (os.path.join(folder, name) for name in names)
+    for name, words in ((league, ["make", "16", "7"]), (circle, ["circle", "16"]), (season, ["solve", league])):
+        with open(name, "wb") as file:
+            subprocess.run(command + words, stdout=file, cwd=TOP)
+    crowded(crowd)
+    cases = [(["prove", league, season], {0: ["bound", league], 9: ["validate", league]})]
+    for k in ("2", "20"):
+        cases.append((["resume", MIDDLE, circle, k], {0: ["validate", MIDDLE], 4: ["audit", MIDDLE, circle, k]}))
+    for file in (crowd, TIGHT, CLOSED):
+        cases.append((["explain", file], {0: ["validate", file], 4: ["explain", file]}))
+    for words, checks in cases:
+        for seconds in (0, 1, 5):
+            searched(command, words, checks, seconds)
+        for name, number in SIGNALS:
+            interrupted(command, words, checks, name, number, 2.0)
+    for words, _ in (cases[0], cases[1], cases[5]):
+        same_text(command, words + ["--conflicts", "50"])
+    for name in (league, season, circle, crowd):
+        os.remove(name)
+
+
+def asked(command, league, name, number, behind):
+    """One run that is asked to end by a signal."""
+    going = subprocess.Popen(command + ["solve", league, "--seconds", "60"], stdout=subprocess.PIPE, stderr=subprocess.DEVNULL, cwd=TOP)
+    time.sleep(behind)
+    going.send_signal(number)
+    began = time.monotonic()
+    text, _ = going.communicate(timeout=60)
+    passed = time.monotonic() - began
+    lost = going.returncode < 0 or not text
+    fault = "the season is lost" if lost else judged(command, league, going.returncode, text)
+    if passed > SLACK + 0.1:
+        fault = fault or "late"
+    say("solve %s, %s after %.1f s" % (os.path.basename(league), name, behind), fault, "status %d, %.2f s later" % (going.returncode, passed))
 
 
 def by_timeout(command, league):
@@ -102,11 +235,12 @@ def by_timeout(command, league):
     say("timeout 2 .. solve %s" % os.path.basename(league), fault, "status %d" % done.returncode)
 
 
-def same_text(command):
-    """The text is the same, whoever hears how the run goes."""
-    words = command + ["solve", MIDDLE, "--moves", "2000", "--seed", "3"]
-    whole = subprocess.run(words + ["--quiet"], capture_output=True, cwd=TOP)
-    say("--quiet: standard error is empty", "it isn't" if whole.stderr else None)
+def same_text(command, words):
+    """The text is the same, whoever hears how the run goes. Only what is said of a conflict comes on standard error with `--quiet` too."""
+    print(" ".join(os.path.basename(word) for word in words))
+    whole = subprocess.run(command + words + ["--quiet"], capture_output=True, cwd=TOP)
+    say("--quiet: standard error is empty", "it isn't" if b" s: " in whole.stderr or whole.stderr and whole.returncode != 4 else None)
+    words = command + words
     closed = subprocess.run(["sh", "-c", '"$@" 2>&-', "sh"] + words, stdout=subprocess.PIPE, cwd=TOP)
     say("2>&-: the same text", None if closed.stdout == whole.stdout and closed.returncode == whole.returncode else "another text")
     full = subprocess.run(["sh", "-c", '"$@" 2>/dev/full', "sh"] + words, stdout=subprocess.PIPE, cwd=TOP)
@@ -121,10 +255,10 @@ def same_text(command):
 def on_terminal(words):
     """What goes to standard output, and what to a terminal on standard error."""
     ours, theirs = pty.openpty()
-    run = subprocess.Popen(words, stdout=subprocess.PIPE, stderr=theirs, cwd=TOP)
+    going = subprocess.Popen(words, stdout=subprocess.PIPE, stderr=theirs, cwd=TOP)
     os.close(theirs)
-    text = run.stdout.read()
-    run.wait()
+    text = going.stdout.read()
+    going.wait()
     os.set_blocking(ours, False)
     screen = b""
     try:
@@ -170,11 +304,14 @@ def main():
         for seconds in (0, 1, 5):
             limited(command, league, seconds)
     limited(command, TIGHT, 1, ("--tries", "3"))
+    for seconds in (0, 1, 5):
+        limited(command, TIGHT, seconds, ("--conflicts", "all", "--moves", "0"))
+    other_commands(command, folder)
     for league in (EASY, MIDDLE):
         for name, number in SIGNALS:
             asked(command, league, name, number, 3.0)
     by_timeout(command, EASY)
-    same_text(command)
+    same_text(command, ["solve", MIDDLE, "--moves", "2000", "--seed", "3"])
     told(command)
     os.remove(none)
     os.rmdir(folder)

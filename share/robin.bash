@@ -10,12 +10,12 @@ _robin() {
         show) options="--demands --form --log --most --out --quiet --width" ;;
         solve) options="--conflicts --from --log --moves --out --patterns --quiet --seconds --seed --tries" ;;
         patterns) options="--conflicts --log --out --quiet" ;;
-        explain) options="--conflicts --log --out --quiet" ;;
+        explain) options="--conflicts --log --out --quiet --seconds" ;;
         part) options="--log --out --quiet" ;;
         check) options="--log --out --quiet" ;;
-        prove) options="--conflicts --log --out --quiet" ;;
+        prove) options="--conflicts --log --out --quiet --seconds" ;;
         bound) options="--log --out --quiet" ;;
-        resume) options="--conflicts --log --out --quiet" ;;
+        resume) options="--conflicts --log --out --quiet --seconds" ;;
         audit) options="--log --out --quiet" ;;
         rows) options="--bound --log --objective --out --quiet" ;;
         values) options="--log --out --quiet" ;;

@@ -29,7 +29,6 @@ use Rattle.descent.specs.Settled.{IsSettled}
 use Rattle.descent.proofs.TrailLemmas.{trails-stay_feasible}
 use Rattle.solve.specs.Solutions.{IsSchedule, league_score}
 use Rattle.decoding.proofs.GameLemmas.{accepted_few, decoded_fit}
-use Rattle.solve.proofs.LowerLemmas.{IsSchedule-settled}
 use Rattle.walk.proofs.WalkLemmas.{met}
 use Rattle.bound_base.specs.BoundRows.{bound_rows, bound_size, bound_vars}
 use Rattle.bound_laws.proofs.CostLaws.{costs-bounded}
@@ -126,15 +125,6 @@ spent-of league m limit cost steps costs settled some spent = record {
   spent = subst (λ (c : ℕ). IsSpentAt (bound_rows league (c - 1)) (bound_vars league) limit steps) (sym costs) spent;
   named = spent-named (bound_rows league (cost - 1)) (bound_vars league) limit steps spent;
 }
-
--- a descent that doesn't better a schedule leaves no move that does
-pub settled-of : (league : Instance) (m : Counts) (moves cost : ℕ) (games : List Game) (descent : Descended)
-    → IsSchedule league moves games cost descent → counts_of descent.first ≡ m → 1 ≤ moves → objective league m ≤ cost
-    → IsSettled league.n league.phased (league_score league) m
-settled-of league m moves cost games descent is first some none_lower =
-    subst (λ (k : Counts). IsSettled league.n league.phased (league_score league) k) first
-    (IsSchedule-settled league moves cost games descent is some
-    (subst (λ (k : Counts). objective league k ≤ cost) (sym first) none_lower))
 
 pub least_of_none : (league : Instance) (m : Counts) (limit : Option ℕ) → objective league m ≡ 0
     → IsLeast league m limit 0 []

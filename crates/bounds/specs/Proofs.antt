@@ -48,3 +48,7 @@ abbrev pub IsProved : Instance → Counts → Option ℕ → Proved → Type 0
 IsProved league m limit (Least objective log) = IsLeast league m limit objective log
 IsProved league m limit (Better games objective) = IsBetter league m games objective
 IsProved league m limit (Spent log) = IsSpentBelow league m limit log
+
+-- what each answer says, if the search keeps to one of these limits
+abbrev pub IsProvedBy : Instance → Counts → (Option ℕ → Type 0) → Proved → Type 0
+IsProvedBy league m limits proved = (limit : Option ℕ) × limits limit × IsProved league m limit proved

@@ -7,4 +7,4 @@ mod proved;
 mod prover;
 
 pub use proved::Proved;
-pub use prover::prove;
+pub use prover::{Counted, prove};

@@ -14,57 +14,68 @@ ghost use Rattle.solve.specs.Solutions.{league_score};
 ghost use Rattle.bound_base.specs.BoundRows.{bound_rows, bound_vars};
 ghost use Rattle.bound_rows.specs.Bounded.{IsCounted};
 ghost use Rattle.bounds.specs.Lower.{IsLower};
-ghost use Rattle.bounds.specs.Proofs.{IsProved};
+ghost use Rattle.robin_watch.specs.Limits.{IsKeptTo};
+ghost use Rattle.bounds.specs.Proofs.{IsProved, IsProvedBy};
 
 use crate::proved::Proved;
 use bound_rows::bound_system;
-use clause_search::{Found, search};
+use clause_search::{Found, search_watched};
 use decoding::decode_games;
 use league::{Constraint, League, Schedule};
 use refutation::Log;
+use robin_watch::Watch;
 use rows::Assignment;
-use solve::{Season, lowered};
+use solve::{Season, lowered_watched};
 use std::alloc::{AllocError, Global};
 
 /// The most moves of a descent.
 const MOVES: u64 = 1_000_000;
 
-/// Shows that an accepted schedule can't be bettered, betters it, or spends its budget of `conflicts`. `cost` is the
-/// schedule's objective, as `assess` of `deviation` says it. `terms` is how many terms the league's bound rows have, as
-/// `bound_terms` of `bound_rows` counts them.
+/// What is counted of a schedule and its league beforehand.
+#[derive(Clone, Copy, Debug)]
+pub struct Counted {
+    /// The schedule's objective, as `assess` of `deviation` says it.
+    pub cost: u128,
+    /// How many terms the league's bound rows have, as `bound_terms` of `bound_rows` counts them.
+    pub terms: u64,
+}
+
+/// Shows that an accepted schedule can't be bettered, betters it, or spends its budget of `conflicts`.
 ///
 /// A descent goes on from the schedule by moves. If the descent betters the schedule, the answer is the schedule at its
 /// end. If not, a search goes over the bound rows of one less than the objective; it learns at most `conflicts`
 /// clauses. From a schedule that the search finds, a descent goes on, too. So the budget is spent only if no single
-/// move betters the schedule. Which better schedule is found is not promised.
+/// move betters the schedule. The watch may end the search, and each descent behind its first move. Which better
+/// schedule is found is not promised.
 ///
 /// # Errors
 /// Only where memory runs out.
-pub fn prove(
+pub fn prove<W: Watch>(
     alloc: Global,
     league: &League,
     schedule: &Schedule,
-    cost: u128,
+    counted: Counted,
     conflicts: Option<u64>,
-    terms: u64,
+    watch: &W,
 ) -> Result<Proved, AllocError>
     requires accepted { IsAccepted league.now (counts_of schedule.now) }
     requires fit { All (IsGame league.now.n) schedule.now }
-    requires assessed { cost ≡ costs.objective league.now (counts_of schedule.now) }
-    requires counted { IsCounted league.now terms }
-    ensures { IfOk result (IsProved league.now (counts_of schedule.now) conflicts) }
+    requires assessed { counted.cost ≡ costs.objective league.now (counts_of schedule.now) }
+    requires terms { IsCounted league.now counted.terms }
+    ensures { IfOk result (IsProvedBy league.now (counts_of schedule.now)
+        (IsKeptTo conflicts (W.may_stop watch.now))) }
 {
     // An accepted schedule pays the greatest penalty at most once for each term, so that 64 bits hold its objective.
     let _greatest = greatest_penalty(league.constraints());
-    let objective = in_64_bits(cost);
+    let objective = in_64_bits(counted.cost);
     if objective == 0 {
         return Ok(least_of_all(alloc));
     }
-    let lower = lowered(alloc, league, schedule, MOVES)?;
+    let lower = lowered_watched(alloc, league, schedule, MOVES, watch)?;
     if lower.objective < u128::from(objective) {
         return Ok(bettered(lower));
     }
-    let proved = searched(alloc, league, objective, conflicts, terms)?;
+    let proved = searched(alloc, league, objective, conflicts, counted.terms, watch)?;
     Ok(proved)
 }
 
@@ -115,24 +126,25 @@ fn bettered(lower: Season) -> Proved
 
 /// The answer of a search over the bound rows of one less than an objective. It holds for each schedule of this
 /// objective that no single move betters.
-fn searched(
+fn searched<W: Watch>(
     alloc: Global,
     league: &League,
     objective: u64,
     conflicts: Option<u64>,
     terms: u64,
+    watch: &W,
 ) -> Result<Proved, AllocError>
     requires some { 1 ≤ objective }
     requires counted { IsCounted league.now terms }
     ensures { IfOk result (λ proved. (m : Counts) → costs.objective league.now m ≡ objective
         → IsSettled league.now.n league.now.phased (league_score league.now) m
-        → IsProved league.now m conflicts proved) }
+        → IsProvedBy league.now m (IsKeptTo conflicts (W.may_stop watch.now)) proved) }
 {
     let system = bound_system(alloc, league, objective - 1, terms)?;
-    let found = search(alloc, system.rows(), system.vars(), &[], conflicts)?;
+    let found = search_watched(alloc, system.rows(), system.vars(), &[], conflicts, watch)?;
     match found {
         Found::Sat(values) => {
-            let proved = decoded(alloc, league, &values, objective)?;
+            let proved = decoded(alloc, league, &values, objective, watch)?;
             Ok(proved)
         }
         Found::Refuted(log) => Ok(Proved::Least { objective, log }),
@@ -141,11 +153,12 @@ fn searched(
 }
 
 /// The answer if values satisfy the bound rows: the schedule at the end of a descent from the one that the values say.
-fn decoded(
+fn decoded<W: Watch>(
     alloc: Global,
     league: &League,
     values: &Assignment,
     objective: u64,
+    watch: &W,
 ) -> Result<Proved, AllocError>
     requires some { 1 ≤ objective }
     requires count { length values.now ≡ bound_vars league.now }
@@ -154,7 +167,7 @@ fn decoded(
         → costs.objective league.now m ≡ objective → IsProved league.now m limit proved) }
 {
     let schedule = schedule_of(alloc, league, values, objective)?;
-    let lower = lowered(alloc, league, &schedule, MOVES)?;
+    let lower = lowered_watched(alloc, league, &schedule, MOVES, watch)?;
     Ok(bettered(lower))
 }
 

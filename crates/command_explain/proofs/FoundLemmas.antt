@@ -1,6 +1,6 @@
 -- What is found of a league, answered.
-use Rattle.std.proofs.Common.{◌≡◌, ℕ, true, List, [], ◌∷◌, length, Option, None, Some, Result, Ok, Err, arith, ap}
-use Rattle.std.proofs.Common.{inl, inr, sym, ◌∙◌}
+use Rattle.std.proofs.Common.{◌≡◌, ◌≤◌, ℕ, true, List, [], ◌∷◌, length, Option, None, Some, Result, Ok, Err, arith, ap}
+use Rattle.std.proofs.Common.{inl, inr, subst, sym, ◌∙◌}
 use Rattle.std.specs.Prelude.{IfOk}
 use Rattle.std.specs.List.{All, AllZip}
 use Rattle.std.proofs.lemmas.List.Elements.{All-cons, All-head, All-nil, All-tail}
@@ -15,19 +15,19 @@ use Rattle.robinx_form.specs.SolutionFile.{solution_of}
 use Rattle.robinx_form.specs.Texts.{solution_text}
 use Rattle.robinx_write.proofs.SolutionLemmas.{solution-reads_back}
 use Rattle.encoding_base.specs.Variables.{var_count}
-use Rattle.refutation.specs.Steps.{Step}
-use Rattle.refutation.specs.Logs.{log_of}
-use Rattle.refutation.specs.Texts.{log_text}
+use Rattle.refutation.specs.Steps.{NamesRows, Step}
+use Rattle.refutation.specs.Logs.{log_of, most_bytes}
+use Rattle.refutation.specs.Texts.{log_text, step_text, version_of}
 use Rattle.answers.specs.SeenReply.{answer_of}
 use Rattle.answers.specs.declared.reply.Reply.{Reply}
 use Rattle.answers.specs.declared.status.Status.{Status}
 use Rattle.answers.specs.declared.status.Status.TheVariants.{Yes, Refuted, Spent}
-use Rattle.solve.specs.Solutions.{IsSpentOn}
+use Rattle.solve.specs.Solutions.{IsWritable}
 use Rattle.solve.proofs.FewLemmas.{round_robin-few}
 use Rattle.venue_counts.specs.VenueCounts.{are_crowded, are_short}
 use Rattle.break_counts.specs.BreakCounts.{are_few}
 use Rattle.explain.specs.Parts.{part_of, without}
-use Rattle.explain.specs.Conflicts.{AreDecided, IsAmple, IsCase, IsConflict, IsIrreducible, IsSeason}
+use Rattle.explain.specs.Conflicts.{AreDecided, IsAmple, IsCase, IsConflict, IsIrreducible, IsOpenLog, IsSeason, IsSpentBy}
 use Rattle.explain.specs.declared.cases.Case.{Case}
 use Rattle.explain.specs.declared.cases.Case.TheVariants.{Without, Undecided}
 use Rattle.command_explain.specs.Explained.{IsFound}
@@ -35,32 +35,45 @@ use Rattle.command_explain.specs.Texts.{IsWritableCase, LogReadsBack, ReadsBack,
 
 -- ---- a conflict can be written
 
-each_writable : (league : Instance) (limit : Option ℕ) (whole members : List ℕ) (cases : List Case)
-    → AllZip (IsCase league limit whole) members cases → All IsWritableCase cases
-each_writable league limit whole [] [] each = All-nil IsWritableCase
-each_writable league limit whole [] (case ∷ cases) each = absurd each
-each_writable league limit whole (k ∷ members) [] each = absurd each
-each_writable league limit whole (k ∷ members) (Without games ∷ cases) each =
-    All-cons IsWritableCase (Without games) cases tt (each_writable league limit whole members cases each.1)
-each_writable league limit whole (k ∷ members) (Undecided log ∷ cases) each =
-    All-cons IsWritableCase (Undecided log) cases each.0.writable
-    (each_writable league limit whole members cases each.1)
+writable-none : IsWritable []
+writable-none = record {
+  named = All-nil NamesRows;
+  short = All-nil (λ (step : Step). length (step_text (version_of []) step) ≤ most_bytes);
+}
 
-same_length : (league : Instance) (limit : Option ℕ) (whole members : List ℕ) (cases : List Case)
-    → AllZip (IsCase league limit whole) members cases → length cases ≡ length members
-same_length league limit whole [] [] each = omega arith
-same_length league limit whole [] (case ∷ cases) each = absurd each
-same_length league limit whole (k ∷ members) [] each = absurd each
-same_length league limit whole (k ∷ members) (case ∷ cases) each =
-    omega (arith, same_length league limit whole members cases each.1)
+open-writable : (league : Instance) (limit : Option ℕ) (may_stop : Type 0) (log : List Step)
+    → IsOpenLog league limit may_stop log → IsWritable log
+open-writable league limit may_stop log (inl is) = is.spent.writable
+open-writable league limit may_stop log (inr untried) =
+    subst (λ (steps : List Step). IsWritable steps) (sym untried.1) writable-none
 
-pub conflict-writable : (league : Instance) (limit : Option ℕ) (members : List ℕ) (log : List Step)
-    (cases : List Case) → IsConflict league limit members log cases → All IsWritableCase cases
-conflict-writable league limit members log cases is = each_writable league limit members members cases is.each
+each_writable : (league : Instance) (limit : Option ℕ) (may_stop : Type 0) (whole members : List ℕ) (cases : List Case)
+    → AllZip (IsCase league limit may_stop whole) members cases → All IsWritableCase cases
+each_writable league limit may_stop whole [] [] each = All-nil IsWritableCase
+each_writable league limit may_stop whole [] (case ∷ cases) each = absurd each
+each_writable league limit may_stop whole (k ∷ members) [] each = absurd each
+each_writable league limit may_stop whole (k ∷ members) (Without games ∷ cases) each =
+    All-cons IsWritableCase (Without games) cases tt (each_writable league limit may_stop whole members cases each.1)
+each_writable league limit may_stop whole (k ∷ members) (Undecided log ∷ cases) each =
+    All-cons IsWritableCase (Undecided log) cases
+    (open-writable (part_of league (without k whole)) limit may_stop log each.0)
+    (each_writable league limit may_stop whole members cases each.1)
 
-pub conflict-each : (league : Instance) (limit : Option ℕ) (members : List ℕ) (log : List Step) (cases : List Case)
-    → IsConflict league limit members log cases → length cases ≡ length members
-conflict-each league limit members log cases is = same_length league limit members members cases is.each
+same_length : (league : Instance) (limit : Option ℕ) (may_stop : Type 0) (whole members : List ℕ) (cases : List Case)
+    → AllZip (IsCase league limit may_stop whole) members cases → length cases ≡ length members
+same_length league limit may_stop whole [] [] each = omega arith
+same_length league limit may_stop whole [] (case ∷ cases) each = absurd each
+same_length league limit may_stop whole (k ∷ members) [] each = absurd each
+same_length league limit may_stop whole (k ∷ members) (case ∷ cases) each =
+    omega (arith, same_length league limit may_stop whole members cases each.1)
+
+pub conflict-writable : (league : Instance) (limit : Option ℕ) (may_stop : Type 0) (members : List ℕ) (log : List Step)
+    (cases : List Case) → IsConflict league limit may_stop members log cases → All IsWritableCase cases
+conflict-writable league limit may_stop members log cases is = each_writable league limit may_stop members members cases is.each
+
+pub conflict-each : (league : Instance) (limit : Option ℕ) (may_stop : Type 0) (members : List ℕ) (log : List Step) (cases : List Case)
+    → IsConflict league limit may_stop members log cases → length cases ≡ length members
+conflict-each league limit may_stop members log cases is = same_length league limit may_stop members members cases is.each
 
 -- ---- what is written reads back
 
@@ -71,18 +84,18 @@ season-reads_back league games score teams is =
     solution-reads_back league.n games score teams.at_most
     (round_robin-few league.n league.phased games teams is.fit is.accepted.round_robin) is.fit
 
-each_read : (league : Instance) (limit : Option ℕ) (whole members : List ℕ) (cases : List Case) → IsTeamCount league.n
-    → AllZip (IsCase league limit whole) members cases → All LogReadsBack cases → All (ReadsBack league.n) cases
-each_read league limit whole [] [] teams each logs = All-nil (ReadsBack league.n)
-each_read league limit whole [] (case ∷ cases) teams each logs = absurd each
-each_read league limit whole (k ∷ members) [] teams each logs = absurd each
-each_read league limit whole (k ∷ members) (Without games ∷ cases) teams each logs =
+each_read : (league : Instance) (limit : Option ℕ) (may_stop : Type 0) (whole members : List ℕ) (cases : List Case) → IsTeamCount league.n
+    → AllZip (IsCase league limit may_stop whole) members cases → All LogReadsBack cases → All (ReadsBack league.n) cases
+each_read league limit may_stop whole [] [] teams each logs = All-nil (ReadsBack league.n)
+each_read league limit may_stop whole [] (case ∷ cases) teams each logs = absurd each
+each_read league limit may_stop whole (k ∷ members) [] teams each logs = absurd each
+each_read league limit may_stop whole (k ∷ members) (Without games ∷ cases) teams each logs =
     All-cons (ReadsBack league.n) (Without games) cases
     (season-reads_back (part_of league (without k whole)) games None teams each.0)
-    (each_read league limit whole members cases teams each.1 (All-tail LogReadsBack (Without games) cases logs))
-each_read league limit whole (k ∷ members) (Undecided log ∷ cases) teams each logs =
+    (each_read league limit may_stop whole members cases teams each.1 (All-tail LogReadsBack (Without games) cases logs))
+each_read league limit may_stop whole (k ∷ members) (Undecided log ∷ cases) teams each logs =
     All-cons (ReadsBack league.n) (Undecided log) cases (All-head LogReadsBack (Undecided log) cases logs)
-    (each_read league limit whole members cases teams each.1 (All-tail LogReadsBack (Undecided log) cases logs))
+    (each_read league limit may_stop whole members cases teams each.1 (All-tail LogReadsBack (Undecided log) cases logs))
 
 -- ---- replies, unless memory ran out
 
@@ -92,14 +105,14 @@ not_spent status is ended = let same : Yes ≡ Spent = sym is ∙ ended in cc
 not_spent_either : (status : Status) → status ≡ Refuted → status ≡ Spent → ⊥
 not_spent_either status is ended = let same : Refuted ≡ Spent = sym is ∙ ended in cc
 
-pub replied-met : {E : Type 0} (league : Instance) (conflicts : Option ℕ) (games : List Game) (objective : ℕ)
+pub replied-met : {E : Type 0} (league : Instance) (conflicts : Option ℕ) (may_stop : Type 0) (games : List Game) (objective : ℕ)
     (result : Result Reply E) → IsTeamCount league.n
     → IsSeason league games × (objective ≡ costs.objective league (counts_of games))
     → (are_short league ≡ true → ⊥) → (are_crowded league ≡ true → ⊥) → (are_few league ≡ true → ⊥)
     → IfOk result (λ reply. (answer_of reply).status ≡ Yes)
     → IfOk result (λ reply. (answer_of reply).text ≡ solution_text games (Some (0, objective)))
-    → IfOk result (λ reply. IsFound league conflicts (answer_of reply))
-replied-met {E} league conflicts games objective (Ok reply) teams is not_short not_crowded enough status text = record {
+    → IfOk result (λ reply. IsFound league conflicts may_stop (answer_of reply))
+replied-met {E} league conflicts may_stop games objective (Ok reply) teams is not_short not_crowded enough status text = record {
   found = inl (record {
     games = games;
     season = is.0;
@@ -108,23 +121,23 @@ replied-met {E} league conflicts games objective (Ok reply) teams is not_short n
     reads_back = ap (λ (written : List ℕ). solution_of league.n (pieces written)) text
         ∙ season-reads_back league games (Some (0, objective)) teams is.0;
   });
-  ample = λ ample ended. not_spent (answer_of reply).status status ended;
+  ample = λ never ample ended. not_spent (answer_of reply).status status ended;
   circle = λ accepted. status;
   short = λ short. absurd (not_short short);
   crowded = λ crowded. absurd (not_crowded crowded);
   few = λ is. absurd (enough is);
 }
-replied-met {E} league conflicts games objective (Err error) teams is not_short not_crowded enough status text = tt
+replied-met {E} league conflicts may_stop games objective (Err error) teams is not_short not_crowded enough status text = tt
 
-pub replied-conflict : {E : Type 0} (league : Instance) (conflicts : Option ℕ) (members : List ℕ) (log : List Step)
+pub replied-conflict : {E : Type 0} (league : Instance) (conflicts : Option ℕ) (may_stop : Type 0) (members : List ℕ) (log : List Step)
     (cases : List Case) (result : Result Reply E) → IsTeamCount league.n
-    → IsConflict league conflicts members log cases → (AreDecided cases → IsIrreducible league members) → (IsAmple (var_count league) conflicts → AreDecided cases)
+    → IsConflict league conflicts may_stop members log cases → (AreDecided cases → IsIrreducible league members) → ((may_stop → ⊥) → IsAmple (var_count league) conflicts → AreDecided cases)
     → (IsAccepted league (counts_of (double_games league.n)) → ⊥)
     → IfOk result (λ reply. (answer_of reply).status ≡ Refuted)
     → IfOk result (λ reply. (answer_of reply).text ≡ conflict_text members log cases)
     → IfOk result (λ reply. log_of (log_text log) ≡ Ok log) → IfOk result (λ reply. All LogReadsBack cases)
-    → IfOk result (λ reply. IsFound league conflicts (answer_of reply))
-replied-conflict {E} league conflicts members log cases (Ok reply) teams is irreducible decided no_circle status text log_back cases_back =
+    → IfOk result (λ reply. IsFound league conflicts may_stop (answer_of reply))
+replied-conflict {E} league conflicts may_stop members log cases (Ok reply) teams is irreducible decided no_circle status text log_back cases_back =
     record {
       found = inr (inl (record {
         members = members;
@@ -136,25 +149,25 @@ replied-conflict {E} league conflicts members log cases (Ok reply) teams is irre
         status = status;
         text = text;
         log_reads_back = log_back;
-        cases_read_back = each_read league conflicts members members cases teams is.each cases_back;
+        cases_read_back = each_read league conflicts may_stop members members cases teams is.each cases_back;
       }));
-      ample = λ ample ended. not_spent_either (answer_of reply).status status ended;
+      ample = λ never ample ended. not_spent_either (answer_of reply).status status ended;
       circle = λ accepted. absurd (no_circle accepted);
       short = λ short. status;
       crowded = λ crowded. status;
       few = λ is. status;
     }
-replied-conflict {E} league conflicts members log cases (Err error) teams is irreducible decided no_circle status text log_back cases_back =
+replied-conflict {E} league conflicts may_stop members log cases (Err error) teams is irreducible decided no_circle status text log_back cases_back =
     tt
 
-pub replied-spent : {E : Type 0} (league : Instance) (conflicts : Option ℕ) (steps : List Step)
-    (result : Result Reply E) → IsSpentOn league conflicts steps → (IsAmple (var_count league) conflicts → ⊥)
+pub replied-spent : {E : Type 0} (league : Instance) (conflicts : Option ℕ) (may_stop : Type 0) (steps : List Step)
+    (result : Result Reply E) → IsSpentBy league conflicts may_stop steps → ((may_stop → ⊥) → IsAmple (var_count league) conflicts → ⊥)
     → (IsAccepted league (counts_of (double_games league.n)) → ⊥) → (are_short league ≡ true → ⊥)
     → (are_crowded league ≡ true → ⊥) → (are_few league ≡ true → ⊥) → IfOk result (λ reply. (answer_of reply).status ≡ Spent)
     → IfOk result (λ reply. (answer_of reply).text ≡ log_text steps)
     → IfOk result (λ reply. log_of (answer_of reply).text ≡ Ok steps)
-    → IfOk result (λ reply. IsFound league conflicts (answer_of reply))
-replied-spent {E} league conflicts steps (Ok reply) spent not_ample no_circle not_short not_crowded enough status text back =
+    → IfOk result (λ reply. IsFound league conflicts may_stop (answer_of reply))
+replied-spent {E} league conflicts may_stop steps (Ok reply) spent not_ample no_circle not_short not_crowded enough status text back =
     record {
       found = inr (inr (record {
         steps = steps;
@@ -163,11 +176,11 @@ replied-spent {E} league conflicts steps (Ok reply) spent not_ample no_circle no
         text = text;
         reads_back = back;
       }));
-      ample = λ ample ended. not_ample ample;
+      ample = λ never ample ended. not_ample never ample;
       circle = λ accepted. absurd (no_circle accepted);
       short = λ short. absurd (not_short short);
       crowded = λ crowded. absurd (not_crowded crowded);
       few = λ is. absurd (enough is);
     }
-replied-spent {E} league conflicts steps (Err error) spent not_ample no_circle not_short not_crowded enough status text back =
+replied-spent {E} league conflicts may_stop steps (Err error) spent not_ample no_circle not_short not_crowded enough status text back =
     tt

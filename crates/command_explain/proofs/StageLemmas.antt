@@ -27,14 +27,14 @@ parted-league store instance bytes members league is_file says_league answer res
 
 -- what its rows come to is the answer
 pub explained-league : (store : Store)
-    (instance bytes : List ℕ) (conflicts : Option ℕ) (league : Instance)
+    (instance bytes : List ℕ) (conflicts : Option ℕ) (may_stop : Type 0) (league : Instance)
     → IsFile (store.contents instance) INSTANCE_LIMIT bytes → instance_of (pieces bytes) ≡ Ok league → (answer : Answer)
-    → encodes league (λ rows. IsFound league conflicts) answer
-    → explained store instance conflicts answer
-explained-league store instance bytes conflicts league is_file says_league answer rest =
+    → encodes league (λ rows. IsFound league conflicts may_stop) answer
+    → explained store instance conflicts may_stop answer
+explained-league store instance bytes conflicts may_stop league is_file says_league answer rest =
     inl (
       bytes,
       is_file,
       says-value (codes "instance") (instance_of (pieces bytes)) league
-          (λ l. encodes l (λ rows. IsFound l conflicts)) answer says_league rest,
+          (λ l. encodes l (λ rows. IsFound l conflicts may_stop)) answer says_league rest,
     )

@@ -24,6 +24,7 @@ use answers::{Reply, Status};
 use explain::{Cases, Explained, Members};
 use league::{League, Schedule};
 use refutation::{Log, log_text};
+use robin_watch::Watch;
 use robinx_write::solution_text;
 use std::alloc::{AllocError, Global};
 
@@ -77,21 +78,23 @@ fn spent_reply(alloc: Global, log: &Log) -> Result<Reply, AllocError>
     })
 }
 
-/// What is found of a league within a budget of conflicts.
-pub(crate) fn found_reply(
+/// What is found of a league within a budget of conflicts, in a run that the watch may end.
+pub(crate) fn found_reply<W: Watch>(
     alloc: Global,
     league: &League,
     conflicts: Option<u64>,
     explained: &Explained,
+    watch: &W,
 ) -> Result<Reply, AllocError>
-    requires explanation { IsExplanation league.now conflicts explained.now }
+    requires explanation { IsExplanation league.now conflicts (W.may_stop watch.now) explained.now }
     requires irreducible { IsIrreducibleIfDecided league.now explained.now }
-    requires decided { IsAmple (var_count league.now) conflicts → IsDecided explained.now }
+    requires decided { (W.may_stop watch.now → ⊥) → IsAmple (var_count league.now) conflicts
+        → IsDecided explained.now }
     requires circle { IsAccepted league.now (counts_of (double_games league.now.n)) → HasSchedule explained.now }
     requires short { are_short league.now ≡ true → HasConflict explained.now }
     requires crowded { are_crowded league.now ≡ true → HasConflict explained.now }
     requires few { are_few league.now ≡ true → HasConflict explained.now }
-    ensures { IfOk result (λ reply. IsFound league.now conflicts (answer_of reply)) }
+    ensures { IfOk result (λ reply. IsFound league.now conflicts (W.may_stop watch.now) (answer_of reply)) }
 {
     // For its contract: the games of a season are few.
     let _n = league.n();

@@ -12,6 +12,7 @@ use encoding::EncodeFault;
 use explain::{Explained, explain};
 use league::League;
 use robin_io::Shelf;
+use robin_news::Listener;
 use robinx_read::INSTANCE_LIMIT;
 use std::alloc::{AllocError, Global};
 
@@ -34,17 +35,18 @@ fn told(
 }
 
 /// Explains the league of a file, and answers it.
-fn found_of(
+fn found_of<W: Listener>(
     alloc: Global,
     instance: &str,
     league: &League,
     conflicts: Option<u64>,
+    watch: &W,
 ) -> Result<Reply, NoValue>
-    ensures { Answers (encodes league.now (λ rows. IsFound league.now conflicts)) result }
+    ensures { Answers (encodes league.now (λ rows. IsFound league.now conflicts (W.may_stop watch.now))) result }
 {
-    match explain(alloc, league, conflicts) {
+    match explain(alloc, league, conflicts, watch) {
         Ok(explained) => {
-            let reply = found_reply(alloc, league, conflicts, &explained)?;
+            let reply = found_reply(alloc, league, conflicts, &explained, watch)?;
             told(alloc, instance, &explained, reply)
         }
         Err(EncodeFault::TooLarge { terms }) => Err(NoValue::Refused(rows_refused(alloc, terms)?)),
@@ -54,21 +56,23 @@ fn found_of(
 
 /// Finds hard constraints of the league of a file that contradict each other, with a case for each, or a schedule that
 /// the league accepts. With a budget each search learns at most so many clauses; where that of the whole league is
-/// spent, its log is the answer.
+/// spent, its log is the answer. The watch may end each search, and then the constraints that are still to be tried stay
+/// undecided.
 ///
 /// # Errors
 /// Where a file is refused, with the reply that says why, and where memory runs out.
-pub fn explain_file<S: Shelf>(
+pub fn explain_file<S: Shelf, W: Listener>(
     alloc: Global,
     shelf: &mut S,
     instance: &str,
     conflicts: Option<u64>,
+    watch: &W,
 ) -> Result<Reply, NoValue>
     ensures answer { Answers (explained (store_between S.Shelf shelf.old shelf.new)
-        instance.now conflicts) result }
+        instance.now conflicts (W.may_stop watch.now)) result }
     ensures contents { (n : List ℕ) → S.contents shelf.new n ≡ S.contents shelf.old n }
 {
     let bytes = file(alloc, shelf, "instance", instance, INSTANCE_LIMIT)?;
     let league = league_in(alloc, instance, &bytes)?;
-    found_of(alloc, instance, &league, conflicts)
+    found_of(alloc, instance, &league, conflicts, watch)
 }

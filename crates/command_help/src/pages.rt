@@ -41,7 +41,8 @@ Options stand before, between or behind the words, each once at most:
   --tries N          tries, from 1 to 100 (1); of solve and trial
   --patterns N       clauses of a search for patterns (500); of solve and trial
   --seed N           what random moves are drawn by (0); of solve and trial
-  --seconds N        a time limit of N seconds; of solve and trial
+  --seconds N        a limit of N seconds; of solve, trial, explain, prove and
+                     resume
   --from SOLUTION    a season to begin at; of solve
   --bound B          seasons that cost at most B; of rows
   --objective        a season that costs least; of rows, and not with --bound
@@ -183,7 +184,7 @@ Example: robin patterns league.xml --conflicts all
 ";
 
 pub const EXPLAIN: &str = "\
-usage: robin explain INSTANCE [--conflicts N|all]
+usage: robin explain INSTANCE [--conflicts N|all] [--seconds N]
 
 Names hard demands of the file INSTANCE that contradict each other, by their
 numbers in file order from 1, with a log that proves it, and for each of them a
@@ -192,6 +193,9 @@ season that meets the others. Or finds a season.
 Options stand before or behind the file, each once at most:
   --conflicts N  each search learns at most N clauses (2000), a number from 0
                  to 18446744073709551615; all in place of N: any number
+  --seconds N    after N seconds the searches end, as if their budget were
+                 spent; demands that are left to try stay undecided
+Ctrl-C ends it as a time limit does; Ctrl-\\ ends it at once.
 
 Status:  0  a season is found, and written with its objective
          3  the file is refused, or its league is too large
@@ -238,7 +242,7 @@ Example: robin check league.xml found.log
 ";
 
 pub const PROVE: &str = "\
-usage: robin prove INSTANCE SOLUTION [--conflicts N|all]
+usage: robin prove INSTANCE SOLUTION [--conflicts N|all] [--seconds N]
 
 Finds a season of the league of the file INSTANCE that costs less than the
 season of the file SOLUTION, or writes a certificate that none does.
@@ -246,6 +250,8 @@ season of the file SOLUTION, or writes a certificate that none does.
 Options stand before, between or behind the files, each once at most:
   --conflicts N  the search learns at most N clauses (2000), a number from 0 to
                  18446744073709551615; all in place of N: any number
+  --seconds N    after N seconds the search ends, as if its budget were spent
+Ctrl-C ends it as a time limit does; Ctrl-\\ ends it at once.
 
 Status:  0  no accepted season costs less: the certificate proves it
          1  the season isn't accepted, and the report says why
@@ -276,7 +282,7 @@ Example: robin bound league.xml least.log
 ";
 
 pub const RESUME: &str = "\
-usage: robin resume INSTANCE SOLUTION K [--conflicts N|all]
+usage: robin resume INSTANCE SOLUTION K [--conflicts N|all] [--seconds N]
 
 Plans the rest of a season of which the first K slots were played: finds a
 season that the league of the file INSTANCE accepts and that has, in these
@@ -286,6 +292,8 @@ none. K is a number from 0 to 18446744073709551615.
 Options stand before, between or behind the words, each once at most:
   --conflicts N  the search learns at most N clauses (2000), a number from 0 to
                  18446744073709551615; all in place of N: any number
+  --seconds N    after N seconds the search ends, as if its budget were spent
+Ctrl-C ends it as a time limit does; Ctrl-\\ ends it at once.
 
 Status:  0  a season is found, and written with its objective
          3  a file is refused, or the league is too large, or the season has

@@ -106,11 +106,22 @@ pub solve-seconds : (reading (codes "solve" ∷ codes "a" ∷ codes "--seconds" 
     × (reading (codes "patterns" ∷ codes "a" ∷ codes "--seconds" ∷ codes "5" ∷ []) ≡ None)
 solve-seconds = (refl, refl, refl, refl, refl)
 
+-- a time limit of `prove`, `resume` and `explain` changes nothing of what they are asked
+pub timed-seconds : (reading (codes "prove" ∷ codes "a" ∷ codes "b" ∷ codes "--seconds" ∷ codes "5" ∷ [])
+    ≡ Some (Prove (codes "a") (codes "b") (Some 2000)))
+    × (reading (codes "resume" ∷ codes "--seconds" ∷ codes "0" ∷ codes "a" ∷ codes "b" ∷ codes "3" ∷ codes "--conflicts"
+    ∷ codes "all" ∷ []) ≡ Some (Resume (codes "a") (codes "b") 3 None))
+    × (reading (codes "prove" ∷ codes "a" ∷ codes "b" ∷ codes "--seconds" ∷ codes "x" ∷ []) ≡ None)
+    × (reading (codes "explain" ∷ codes "a" ∷ codes "--seconds" ∷ codes "5" ∷ [])
+    ≡ Some (Explain (codes "a") (Some 2000)))
+timed-seconds = (refl, refl, refl, refl)
+
 pub time_limit-some : (time_limit (codes "solve" ∷ codes "a" ∷ codes "--seconds" ∷ codes "5" ∷ []) ≡ Some 5)
     × (time_limit (codes "trial" ∷ codes "--seconds" ∷ codes "0" ∷ codes "8" ∷ codes "7" ∷ []) ≡ Some 0)
+    × (time_limit (codes "explain" ∷ codes "a" ∷ codes "--seconds" ∷ codes "7" ∷ []) ≡ Some 7)
     × (time_limit (codes "solve" ∷ codes "a" ∷ []) ≡ None) × (time_limit [] ≡ None)
     × (time_limit (codes "solve" ∷ codes "a" ∷ codes "--seconds" ∷ codes "x" ∷ []) ≡ None)
-time_limit-some = (refl, refl, refl, refl, refl)
+time_limit-some = (refl, refl, refl, refl, refl, refl)
 
 -- a leading zero, an option twice, its value behind `=`, no try and too many
 pub solve-wrong_values : (reading (codes "solve" ∷ codes "a" ∷ codes "--moves" ∷ codes "01" ∷ []) ≡ None)

@@ -35,9 +35,14 @@ fits Form word = is_some (form_in word)
 fits Most word = is_some (most_in word)
 fits Width word = is_some (small_in word)
 
--- of the options of commands that search, and of `solve` and `trial`
+-- of the options of commands that search, of those that take a time limit too, and of `solve` and `trial`
 abbrev pub search_option : List ℕ → Option Role
 search_option word = if bytes_eq word (codes "--conflicts") then Some Conflicts else None
+
+abbrev pub timed_option : List ℕ → Option Role
+timed_option word =
+    if bytes_eq word (codes "--conflicts") then Some Conflicts
+    else (if bytes_eq word (codes "--seconds") then Some Seconds else None)
 
 abbrev pub solve_option : List ℕ → Option Role
 solve_option word =
@@ -68,9 +73,9 @@ abbrev pub option_role : Topic → List ℕ → Option Role
 option_role topic.Solve word = start_option word
 option_role topic.Trial word = solve_option word
 option_role topic.Patterns word = search_option word
-option_role topic.Explain word = search_option word
-option_role topic.Prove word = search_option word
-option_role topic.Resume word = search_option word
+option_role topic.Explain word = timed_option word
+option_role topic.Prove word = timed_option word
+option_role topic.Resume word = timed_option word
 option_role topic.Rows word = row_option word
 option_role topic.Show word = show_option word
 option_role _ word = None

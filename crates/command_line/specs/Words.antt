@@ -175,9 +175,19 @@ budgets_in words = do
   seed ← said 0 number_in (values_of (codes "--seed") words)
   Some (record { conflicts = conflicts; moves = moves; tries = tries; patterns = patterns; seed = seed })
 
--- the names of options: of those that say how far a search goes, how far `solve` and `trial` go, and of all of `solve`
+-- how many clauses a search may learn, where a time limit may be said too
+abbrev pub timed_conflicts_in : List (List ℕ) → Option (Option ℕ)
+timed_conflicts_in words = do
+  seconds ← seconds_in words
+  conflicts_in words
+
+-- the names of options: of those that say how far a search goes, without a time limit and with it, how far `solve` and
+-- `trial` go, and of all of `solve`
 abbrev pub search_options : List (List ℕ)
 search_options = codes "--conflicts" ∷ []
+
+abbrev pub timed_options : List (List ℕ)
+timed_options = codes "--conflicts" ∷ codes "--seconds" ∷ []
 
 abbrev pub solve_options : List (List ℕ)
 solve_options =
@@ -200,32 +210,34 @@ solving words =
     (one_file (arguments_of words))
     else None
 
--- a command over one file, with how many clauses a search may learn said before or behind it
-abbrev pub searching : (List ℕ → Option ℕ → Command) → List (List ℕ) → Option Command
-searching command words =
+-- `patterns` over one file, with how many clauses its search may learn said before or behind it
+abbrev pub patterning : List (List ℕ) → Option Command
+patterning words =
     if has_options search_options words
-    then option_and_then (λ file. option_map (command file) (conflicts_in words)) (one_file (arguments_of words))
+    then option_and_then (λ file. option_map (Patterns file) (conflicts_in words)) (one_file (arguments_of words))
     else None
 
-abbrev pub patterning : List (List ℕ) → Option Command
-patterning words = searching Patterns words
-
+-- `explain` over one file, with how many clauses each search may learn, and a time limit, said before or behind it
 abbrev pub explaining : List (List ℕ) → Option Command
-explaining words = searching Explain words
+explaining words =
+    if has_options timed_options words
+    then option_and_then (λ file. option_map (Explain file) (timed_conflicts_in words)) (one_file (arguments_of words))
+    else None
 
--- `prove` over two files, with how many clauses its search may learn said before, between or behind them
+-- `prove` over two files, with how many clauses its search may learn, and a time limit, said before, between or behind
+-- them
 abbrev pub proving : List (List ℕ) → Option Command
 proving words =
-    if has_options search_options words
-    then option_and_then (λ files. option_map (Prove files.0 files.1) (conflicts_in words))
+    if has_options timed_options words
+    then option_and_then (λ files. option_map (Prove files.0 files.1) (timed_conflicts_in words))
     (two_files (arguments_of words))
     else None
 
--- `resume` over two files, with a number of slots, and with the same option
+-- `resume` over two files, with a number of slots, and with the same options
 abbrev pub resuming : List (List ℕ) → Option Command
 resuming words =
-    if has_options search_options words
-    then option_and_then (λ found. option_map (Resume found.0 found.1 found.2) (conflicts_in words))
+    if has_options timed_options words
+    then option_and_then (λ found. option_map (Resume found.0 found.1 found.2) (timed_conflicts_in words))
     (files_and_number (arguments_of words))
     else None
 

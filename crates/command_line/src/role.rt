@@ -88,7 +88,8 @@ pub(crate) fn option_role(command: Topic, word: &str) -> Option<Role>
     match command {
         Topic::Solve => start_option(word),
         Topic::Trial => solve_option(word),
-        Topic::Patterns | Topic::Explain | Topic::Prove | Topic::Resume => search_option(word),
+        Topic::Patterns => search_option(word),
+        Topic::Explain | Topic::Prove | Topic::Resume => timed_option(word),
         Topic::Rows => row_option(word),
         Topic::Show => show_option(word),
         _ => None,
@@ -101,6 +102,17 @@ fn search_option(word: &str) -> Option<Role>
 {
     match word {
         "--conflicts" => Some(Role::Conflicts),
+        _ => None,
+    }
+}
+
+/// What the value of an option of a command that searches is to be, if a time limit is one too.
+fn timed_option(word: &str) -> Option<Role>
+    ensures { result ≡ faults.timed_option word.now }
+{
+    match word {
+        "--conflicts" => Some(Role::Conflicts),
+        "--seconds" => Some(Role::Seconds),
         _ => None,
     }
 }

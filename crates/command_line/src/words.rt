@@ -13,7 +13,7 @@ ghost use Rattle.command_line.specs.Words.{demanding, demanding_all, demanding_s
 ghost use Rattle.command_line.specs.Words.{showing, showing_season, small_in};
 ghost use Rattle.command_line.specs.Words.{search_options, solve_options, solving, start_options, starting};
 ghost use Rattle.command_line.specs.Words.{team_count_in, tries_in, trying};
-ghost use Rattle.command_line.specs.Words.{seconds_in, time_limit, values_of};
+ghost use Rattle.command_line.specs.Words.{seconds_in, time_limit, timed_conflicts_in, timed_options, values_of};
 ghost use Rattle.command_line.specs.Words.Command.{Circle, Solve};
 ghost use Rattle.command_line.specs.declared.goal.Goal.TheVariants.{Accepted};
 ghost use Rattle.command_line.specs.SeenWords.{command_of};
@@ -407,32 +407,32 @@ fn read_patterns(words: &[String]) -> Option<Words<'_>>
     })
 }
 
-/// `explain` over one file, with its option.
+/// `explain` over one file, with its options.
 fn read_explain(words: &[String]) -> Option<Words<'_>>
     ensures reading { option_map command_of result ≡ explaining (map string_bytes words.now) }
     ensures teams { IfSome result (λ command. HasTeams (command_of command)) }
 {
-    if !has_search_options(words) {
+    if !has_timed_options(words) {
         return None;
     }
     let instance = one_file(words)?;
-    let conflicts = conflicts_said(words)?;
+    let conflicts = timed_conflicts_said(words)?;
     Some(Words::Explain {
         instance,
         conflicts,
     })
 }
 
-/// `prove` over two files, with its option.
+/// `prove` over two files, with its options.
 fn read_prove(words: &[String]) -> Option<Words<'_>>
     ensures reading { option_map command_of result ≡ proving (map string_bytes words.now) }
     ensures teams { IfSome result (λ command. HasTeams (command_of command)) }
 {
-    if !has_search_options(words) {
+    if !has_timed_options(words) {
         return None;
     }
     let (instance, solution) = two_files(words)?;
-    let conflicts = conflicts_said(words)?;
+    let conflicts = timed_conflicts_said(words)?;
     Some(Words::Prove {
         instance,
         solution,
@@ -440,16 +440,16 @@ fn read_prove(words: &[String]) -> Option<Words<'_>>
     })
 }
 
-/// `resume` over two files, with a number of slots and its option.
+/// `resume` over two files, with a number of slots and its options.
 fn read_resume(words: &[String]) -> Option<Words<'_>>
     ensures reading { option_map command_of result ≡ resuming (map string_bytes words.now) }
     ensures teams { IfSome result (λ command. HasTeams (command_of command)) }
 {
-    if !has_search_options(words) {
+    if !has_timed_options(words) {
         return None;
     }
     let (instance, solution, k) = files_and_number(words)?;
-    let conflicts = conflicts_said(words)?;
+    let conflicts = timed_conflicts_said(words)?;
     Some(Words::Resume {
         instance,
         solution,
@@ -736,6 +736,14 @@ fn conflicts_said(words: &[String]) -> Option<Option<u64>>
     }
 }
 
+/// How many clauses a search may learn, where a time limit may be said too.
+fn timed_conflicts_said(words: &[String]) -> Option<Option<u64>>
+    ensures { result ≡ timed_conflicts_in (map string_bytes words.now) }
+{
+    let _seconds = seconds_said(words)?;
+    conflicts_said(words)
+}
+
 /// What is asked for, with the bound that the words say, if any.
 fn goal_said(words: &[String]) -> Option<Goal>
     ensures { result ≡ said Accepted bound_in (values_of (codes "--bound") (map string_bytes words.now)) }
@@ -930,6 +938,19 @@ fn has_search_options(words: &[String]) -> bool
     }
 }
 
+/// Whether each option says how far a search goes, or for how long, and has a value.
+fn has_timed_options(words: &[String]) -> bool
+    ensures { result ≡ has_options timed_options (map string_bytes words.now) }
+{
+    match words {
+        [first, _, rest @ ..] if is_option(first.as_str()) => {
+            is_timed_option(first.as_str()) && has_timed_options(rest)
+        }
+        [first, rest @ ..] => !is_option(first.as_str()) && has_timed_options(rest),
+        [] => true,
+    }
+}
+
 /// Whether each option is that of `rows` that has a value, and has it.
 fn has_row_options(words: &[String]) -> bool
     ensures { result ≡ has_options row_options (map string_bytes words.now) }
@@ -961,6 +982,13 @@ fn is_show_option(word: &str) -> bool
     ensures { result ≡ list_any (λ name. bytes_eq word.now name) show_options }
 {
     word == "--form" || word == "--most" || word == "--width"
+}
+
+/// Whether a word is the name of an option that says how far a search goes, or for how long.
+fn is_timed_option(word: &str) -> bool
+    ensures { result ≡ list_any (λ name. bytes_eq word.now name) timed_options }
+{
+    word == "--conflicts" || word == "--seconds"
 }
 
 /// Whether a word is the name of an option of `solve`.

@@ -17,29 +17,29 @@ use Rattle.answers.specs.declared.status.Status.{Status}
 use Rattle.answers.specs.declared.status.Status.TheVariants.{Yes, No, File, Spent, ReadFault, Better}
 use Rattle.answers.proofs.StageLemmas.{first-works, says-known, second-works, takes-known}
 use Rattle.command_bound.proofs.AnswerLemmas.{few-small, few-yes}
-use Rattle.command_prove.specs.Prove.{IsBettered, IsLeast, IsShown, IsWellFormedCase, proved}
+use Rattle.command_prove.specs.Prove.{IsBettered, IsLeast, IsShown, IsShownBy, IsWellFormedCase, proved}
 use Rattle.command_prove.proofs.StageLemmas.{solution_stages}
 
 -- ---- what is shown
 
 -- a well-formed case at which nothing fails is shown something
 pub proved-well_formed : (store : Store)
-    (instance solution : List ℕ) (league : Instance) (games : List Game) (conflicts : Option ℕ) (answer : Answer)
+    (instance solution : List ℕ) (league : Instance) (games : List Game) (limits : Option ℕ → Type 0) (answer : Answer)
     → IsWellFormedCase store instance solution league games → NoneFails store (instance ∷ solution ∷ [])
-    → proved store instance solution conflicts answer → IsShown league conflicts games answer
-proved-well_formed store instance solution league games conflicts answer good works given =
+    → proved store instance solution limits answer → IsShownBy league limits games answer
+proved-well_formed store instance solution league games limits answer good works given =
     let pair = good.pair in
     let front : ℕ = length pair.first in
     let next : List ℕ → Outcome = λ first. says (codes "instance") (instance_of (pieces first))
-    (solution_stages store solution conflicts (length first)) in
+    (solution_stages store solution limits (length first)) in
     let at_instance : next pair.first answer =
     takes-known (codes "instance") (store.contents instance) INSTANCE_LIMIT (store.took_more INSTANCE_LIMIT) (store.failed instance) next
     answer pair.first pair.first_known pair.first_within (first-works store instance (solution ∷ []) works) given in
-    let at_league : solution_stages store solution conflicts front league answer =
+    let at_league : solution_stages store solution limits front league answer =
     says-known (codes "instance") (instance_of (pieces pair.first)) league
-    (solution_stages store solution conflicts front) answer pair.says_league at_instance in
+    (solution_stages store solution limits front) answer pair.says_league at_instance in
     let shown : List ℕ → Outcome = λ bytes. says (codes "solution") (solution_of league.n (pieces bytes))
-    (IsShown league conflicts) in
+    (IsShownBy league limits) in
     let at_solution : takes (codes "solution") (store.contents solution) SOLUTION_LIMIT (store.took_more (front + SOLUTION_LIMIT))
     (store.failed solution) shown answer =
     few-small league (λ few. takes (codes "solution") (store.contents solution) SOLUTION_LIMIT
@@ -47,7 +47,7 @@ proved-well_formed store instance solution league games conflicts answer good wo
     let at_games : shown pair.second answer =
     takes-known (codes "solution") (store.contents solution) SOLUTION_LIMIT (store.took_more (front + SOLUTION_LIMIT))
     (store.failed solution) shown answer pair.second pair.second_known pair.second_within (second-works store instance solution [] works) at_solution in
-    says-known (codes "solution") (solution_of league.n (pieces pair.second)) games (IsShown league conflicts) answer
+    says-known (codes "solution") (solution_of league.n (pieces pair.second)) games (IsShownBy league limits) answer
     pair.says_games at_games
 
 -- a file that wasn't refused was read
@@ -64,24 +64,24 @@ reads-goes which known limit long failed next answer file is no_file no_fault (i
 
 -- files that are known, where none is refused
 proved-goes : (store : Store)
-    (instance solution first second : List ℕ) (league : Instance) (games : List Game) (conflicts : Option ℕ)
+    (instance solution first second : List ℕ) (league : Instance) (games : List Game) (limits : Option ℕ → Type 0)
     (answer : Answer) → store.contents instance ≡ Some first → store.contents solution ≡ Some second
     → instance_of (pieces first) ≡ Ok league → solution_of league.n (pieces second) ≡ Ok games
     → (answer.status ≡ File → ⊥) → (answer.status ≡ ReadFault → ⊥)
-    → proved store instance solution conflicts answer → IsShown league conflicts games answer
-proved-goes store instance solution first second league games conflicts answer first_known
+    → proved store instance solution limits answer → IsShownBy league limits games answer
+proved-goes store instance solution first second league games limits answer first_known
     second_known says_league says_games no_file no_fault given =
     let front : ℕ = length first in
     let next : List ℕ → Outcome = λ bytes. says (codes "instance") (instance_of (pieces bytes))
-    (solution_stages store solution conflicts (length bytes)) in
+    (solution_stages store solution limits (length bytes)) in
     let at_instance : next first answer =
     reads-goes (codes "instance") (store.contents instance) INSTANCE_LIMIT (store.took_more INSTANCE_LIMIT) (store.failed instance) next
     answer first first_known no_file no_fault given in
-    let at_league : solution_stages store solution conflicts front league answer =
+    let at_league : solution_stages store solution limits front league answer =
     says-known (codes "instance") (instance_of (pieces first)) league
-    (solution_stages store solution conflicts front) answer says_league at_instance in
+    (solution_stages store solution limits front) answer says_league at_instance in
     let shown : List ℕ → Outcome = λ bytes. says (codes "solution") (solution_of league.n (pieces bytes))
-    (IsShown league conflicts) in
+    (IsShownBy league limits) in
     let at_solution : takes (codes "solution") (store.contents solution) SOLUTION_LIMIT (store.took_more (front + SOLUTION_LIMIT))
     (store.failed solution) shown answer =
     few-yes league (λ few. takes (codes "solution") (store.contents solution) SOLUTION_LIMIT
@@ -89,7 +89,7 @@ proved-goes store instance solution first second league games conflicts answer f
     let at_games : shown second answer =
     reads-goes (codes "solution") (store.contents solution) SOLUTION_LIMIT (store.took_more (front + SOLUTION_LIMIT))
     (store.failed solution) shown answer second second_known no_file no_fault at_solution in
-    says-known (codes "solution") (solution_of league.n (pieces second)) games (IsShown league conflicts) answer
+    says-known (codes "solution") (solution_of league.n (pieces second)) games (IsShownBy league limits) answer
     says_games at_games
 
 -- ---- statuses
@@ -154,21 +154,27 @@ better-no_file answer is refused = let same : Better ≡ File = other Better Fil
 better-no_fault : (answer : Answer) → answer.status ≡ Better → answer.status ≡ ReadFault → ⊥
 better-no_fault answer is refused = let same : Better ≡ ReadFault = other Better ReadFault answer is refused in cc
 
--- where the answer is yes, the schedule's objective is the least; where it is a better schedule, the league accepts
--- that
+-- what an answer says by its status: where it is yes, the schedule's objective is the least; where it is a better
+-- schedule, the league accepts that
+pub record ShowsAs (league : Instance) (limits : Option ℕ → Type 0) (games : List Game) (answer : Answer) : Type 0 where
+  pub least : answer.status ≡ Yes → (conflicts : Option ℕ) × IsLeast league conflicts games answer
+  pub better : answer.status ≡ Better → IsBettered league games answer
+
 pub proved-known : (store : Store)
-    (instance solution first second : List ℕ) (league : Instance) (games : List Game) (conflicts : Option ℕ)
+    (instance solution first second : List ℕ) (league : Instance) (games : List Game) (limits : Option ℕ → Type 0)
     (answer : Answer) → store.contents instance ≡ Some first → store.contents solution ≡ Some second
     → instance_of (pieces first) ≡ Ok league → solution_of league.n (pieces second) ≡ Ok games
-    → proved store instance solution conflicts answer
-    → (answer.status ≡ Yes → IsLeast league conflicts games answer) × (answer.status ≡ Better → IsBettered league games answer)
-proved-known store instance solution first second league games conflicts answer first_known
-    second_known says_league says_games given = (
-      λ is. shown-yes league conflicts games answer
-          (proved-goes store instance solution first second league games conflicts answer
-          first_known second_known says_league says_games (yes-no_file answer is) (yes-no_fault answer is) given) is,
-      λ is. shown-better league conflicts games answer
-          (proved-goes store instance solution first second league games conflicts answer
-          first_known second_known says_league says_games (better-no_file answer is) (better-no_fault answer is) given)
-          is,
-    )
+    → proved store instance solution limits answer → ShowsAs league limits games answer
+proved-known store instance solution first second league games limits answer first_known second_known says_league
+    says_games given = record {
+      least = λ is.
+          let shown : IsShownBy league limits games answer =
+          proved-goes store instance solution first second league games limits answer first_known second_known says_league
+          says_games (yes-no_file answer is) (yes-no_fault answer is) given in
+          (shown.0, shown-yes league shown.0 games answer shown.2 is);
+      better = λ is.
+          let shown : IsShownBy league limits games answer =
+          proved-goes store instance solution first second league games limits answer first_known second_known says_league
+          says_games (better-no_file answer is) (better-no_fault answer is) given in
+          shown-better league shown.0 games answer shown.2 is;
+    }

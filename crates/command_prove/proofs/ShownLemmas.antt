@@ -34,7 +34,7 @@ use Rattle.bounds.specs.declared.proved.Proved.{Proved}
 use Rattle.bounds.specs.declared.proved.Proved.TheVariants.{Least, Better, Spent}
 use Rattle.command_validate.specs.Validate.{IsJudgement}
 use Rattle.command_bound.specs.Bound.{bound_verdict}
-use Rattle.command_prove.specs.Prove.{IsShown}
+use Rattle.command_prove.specs.Prove.{IsShown, IsShownBy}
 use Rattle.command_prove.specs.Told.{CanBeWritten, Tells}
 
 -- ---- what a test says
@@ -151,3 +151,11 @@ pub replied-told : {E : Type 0} (league : Instance) (limit : Option ℕ) (games 
 replied-told league limit games proved (Ok reply) teams accepted is told =
     shown-told league limit games proved (answer_of reply) teams accepted is told
 replied-told league limit games proved (Err error) teams accepted is told = tt
+
+-- a reply within the limit to which the search kept
+pub replied-by : {E : Type 0} (league : Instance) (limits : Option ℕ → Type 0) (games : List Game)
+    (result : Result Reply E) (conflicts : Option ℕ) → limits conflicts
+    → IfOk result (λ reply. IsShown league conflicts games (answer_of reply))
+    → IfOk result (λ reply. IsShownBy league limits games (answer_of reply))
+replied-by league limits games (Ok reply) conflicts is shown = (conflicts, is, shown)
+replied-by league limits games (Err error) conflicts is shown = tt

@@ -87,18 +87,22 @@ IsShown league conflicts games answer =
     ⊎ (IsLeast league conflicts games answer
     ⊎ (IsBettered league games answer ⊎ IsSpentBelow league conflicts games answer))
 
+-- what is shown of a schedule, by a search that keeps to one of these limits
+abbrev pub IsShownBy : Instance → (Option ℕ → Type 0) → List Game → Outcome
+IsShownBy league limits games answer =
+    (conflicts : Option ℕ) × limits conflicts × IsShown league conflicts games answer
+
 -- ---- stages
 
 -- `prove`, over what a store shows
-abbrev pub proved : Store → List ℕ → List ℕ → Option ℕ
-    → Outcome
-proved store instance solution conflicts = do
+abbrev pub proved : Store → List ℕ → List ℕ → (Option ℕ → Type 0) → Outcome
+proved store instance solution limits = do
   first ← reads store (codes "instance") instance INSTANCE_LIMIT 0
   league ← says (codes "instance") (instance_of (pieces first))
   few ← has_few_terms league
   second ← reads store (codes "solution") solution SOLUTION_LIMIT (length first)
   games ← says (codes "solution") (solution_of league.n (pieces second))
-  IsShown league conflicts games
+  IsShownBy league limits games
 
 -- ---- a run
 

@@ -23,7 +23,7 @@ use Rattle.command_check.proofs.AnswerLemmas.{said-known}
 use Rattle.resume_rows.specs.Kept.{resume_size}
 use Rattle.resume_rows.specs.Resumable.{NoneResumes}
 use Rattle.command_resume.specs.Audited.{IsVerdict, IsWellFormedAudit, audited}
-use Rattle.command_resume.specs.Resumed.{IsFound, IsPlanned, resumed}
+use Rattle.command_resume.specs.Resumed.{IsFound, IsFoundBy, IsPlanned, resumed}
 use Rattle.command_resume.specs.Seasons.{IsWellFormedSeason, SaySeason, has_size, has_slots, plays}
 use Rattle.command_resume.specs.declared.season.Season.{Season}
 use Rattle.command_resume.proofs.StageLemmas.{after_first, after_league, after_second, after_size, at_log}
@@ -74,12 +74,12 @@ plays-known store instance solution k next league played answer good first_works
     first_works given)))))
 
 pub resumed-well_formed : (store : Store)
-    (instance solution : List ℕ) (k : ℕ) (conflicts : Option ℕ) (league : Instance) (played : List Game)
+    (instance solution : List ℕ) (k : ℕ) (limits : Option ℕ → Type 0) (league : Instance) (played : List Game)
     (answer : Answer) → IsWellFormedSeason store instance solution k league played
-    → NoneFails store (instance ∷ solution ∷ []) → resumed store instance solution k conflicts answer → IsFound league played k conflicts answer
-resumed-well_formed store instance solution k conflicts league played answer good works given =
+    → NoneFails store (instance ∷ solution ∷ []) → resumed store instance solution k limits answer → IsFoundBy league played k limits answer
+resumed-well_formed store instance solution k limits league played answer good works given =
     plays-known store instance solution k
-    (λ season. IsFound season.league season.played k conflicts) league played answer good
+    (λ season. IsFoundBy season.league season.played k limits) league played answer good
     (first-works store instance (solution ∷ []) works) (second-works store instance solution [] works) given
 
 pub audited-well_formed : (store : Store)
@@ -237,28 +237,30 @@ found-excluded league played k conflicts answer ended found =
 
 -- where the answer is a schedule, it is accepted and keeps the played games
 pub resumed-planned : (store : Store)
-    (instance solution : List ℕ) (k : ℕ) (conflicts : Option ℕ) (league : Instance) (played : List Game)
+    (instance solution : List ℕ) (k : ℕ) (limits : Option ℕ → Type 0) (league : Instance) (played : List Game)
     (answer : Answer) → SaySeason store instance solution league played → answer.status ≡ Yes
-    → resumed store instance solution k conflicts answer → IsPlanned league played k answer
-resumed-planned store instance solution k conflicts league played answer say ended given =
-    let next : Season → Outcome = λ season. IsFound season.league season.played k conflicts in
+    → resumed store instance solution k limits answer → IsPlanned league played k answer
+resumed-planned store instance solution k limits league played answer say ended given =
+    let next : Season → Outcome = λ season. IsFoundBy season.league season.played k limits in
     let answered : IsAnswered answer = answered-as answer Yes ended (λ same. cc) (λ same. cc) in
-    found-planned league played k conflicts answer ended
+    let found : IsFoundBy league played k limits answer =
     (of_known store instance solution k next league played answer say
-    (plays-answered store instance solution k next answer answered given)).1
+    (plays-answered store instance solution k next answer answered given)).1 in
+    found-planned league played k found.0 answer ended found.2
 
 -- where it is a refutation, no accepted schedule keeps them
 pub resumed-excluded : (store : Store)
-    (instance solution : List ℕ) (k : ℕ) (conflicts : Option ℕ) (league : Instance) (played : List Game)
+    (instance solution : List ℕ) (k : ℕ) (limits : Option ℕ → Type 0) (league : Instance) (played : List Game)
     (answer : Answer) → SaySeason store instance solution league played → answer.status ≡ Refuted
-    → resumed store instance solution k conflicts answer
+    → resumed store instance solution k limits answer
     → NoneResumes league (counts_of played) k
-resumed-excluded store instance solution k conflicts league played answer say ended given =
-    let next : Season → Outcome = λ season. IsFound season.league season.played k conflicts in
+resumed-excluded store instance solution k limits league played answer say ended given =
+    let next : Season → Outcome = λ season. IsFoundBy season.league season.played k limits in
     let answered : IsAnswered answer = answered-as answer Refuted ended (λ same. cc) (λ same. cc) in
-    found-excluded league played k conflicts answer ended
+    let found : IsFoundBy league played k limits answer =
     (of_known store instance solution k next league played answer say
-    (plays-answered store instance solution k next answer answered given)).1
+    (plays-answered store instance solution k next answer answered given)).1 in
+    found-excluded league played k found.0 answer ended found.2
 
 -- where the verdict on a log says yes, no accepted schedule keeps the played games
 pub audited-excluded : (store : Store)

@@ -30,7 +30,7 @@ use Rattle.clause_search.specs.News.{IsTidy}
 use Rattle.pattern_search.proofs.NewsLemmas.{news-clauses}
 use Rattle.resume_rows.specs.Kept.{resume_rows}
 use Rattle.resume.specs.Answers.{IsResumedSeason, RefutesResuming}
-use Rattle.command_resume.specs.Resumed.{IsFound}
+use Rattle.command_resume.specs.Resumed.{IsFound, IsFoundBy}
 
 -- ---- a league has few variables
 
@@ -141,3 +141,11 @@ replied-spent {E} league played k conflicts steps (Ok reply) spent no_plan statu
   plan = λ accepted. absurd (no_plan accepted);
 }
 replied-spent {E} league played k conflicts steps (Err error) spent no_plan status text reads_back = tt
+
+-- a reply within the limit to which the search kept
+pub replied-by : {E : Type 0} (league : Instance) (played : List Game) (k : ℕ) (limits : Option ℕ → Type 0)
+    (result : Result Reply E) (conflicts : Option ℕ) → limits conflicts
+    → IfOk result (λ reply. IsFound league played k conflicts (answer_of reply))
+    → IfOk result (λ reply. IsFoundBy league played k limits (answer_of reply))
+replied-by league played k limits (Ok reply) conflicts is found = (conflicts, is, found)
+replied-by league played k limits (Err error) conflicts is found = tt

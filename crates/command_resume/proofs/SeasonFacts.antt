@@ -27,7 +27,7 @@ use Rattle.command_check.specs.Check.{verdict_answer}
 use Rattle.resume_rows.specs.Kept.{resume_rows, resume_size}
 use Rattle.resume_rows.specs.Resumable.{NoneResumes}
 use Rattle.command_resume.specs.Audited.{IsVerdict, IsWellFormedAudit, audited}
-use Rattle.command_resume.specs.Resumed.{IsFound, resumed}
+use Rattle.command_resume.specs.Resumed.{IsFoundBy, resumed}
 use Rattle.command_resume.specs.Seasons.{has_size, has_slots, slot_refused}
 use Rattle.command_resume.specs.declared.season.Season.{Season}
 use Rattle.command_resume.proofs.AnswerLemmas.{audited-well_formed}
@@ -100,12 +100,12 @@ too_long : (answer : Answer) (rest : Outcome) → has_slots league 3 (λ slots. 
 too_long answer rest (inl h) = let within : 3 ≤ 2 = h.0 in absurd (omega arith)
 too_long answer rest (inr h) = h.1
 
-pub resumed-three : (solution : List ℕ) (conflicts : Option ℕ) (answer : Answer)
-    → resumed store (codes "league") solution 3 conflicts answer
+pub resumed-three : (solution : List ℕ) (limits : Option ℕ → Type 0) (answer : Answer)
+    → resumed store (codes "league") solution 3 limits answer
     → answer ≡ record { status = File; text = codes "refused slot 3\n" }
 unfolding digits
-resumed-three solution conflicts answer given =
-    let next : Season → Outcome = λ season. IsFound season.league season.played 3 conflicts in
+resumed-three solution limits answer given =
+    let next : Season → Outcome = λ season. IsFoundBy season.league season.played 3 limits in
     too_long answer
     (has_size league 3 (λ size. after_size store solution (length league_file) 3 next league))
     (says-known (codes "instance") (instance_of (pieces league_file)) league

@@ -70,14 +70,18 @@ pub record IsFound (league : Instance) (played : List Game) (k : ℕ) (conflicts
       ⊎ (IsExcluded league played k conflicts answer ⊎ IsBudgetSpent league played k conflicts answer)
   pub plan : IsAccepted league (counts_of played) → IsOldPlan league played answer
 
+-- what is found, by a search that keeps to one of these limits
+abbrev pub IsFoundBy : Instance → List Game → ℕ → (Option ℕ → Type 0) → Outcome
+IsFoundBy league played k limits answer =
+    (conflicts : Option ℕ) × limits conflicts × IsFound league played k conflicts answer
+
 -- ---- stages
 
 -- `resume`, over what a store shows
-abbrev pub resumed : Store → List ℕ → List ℕ → ℕ → Option ℕ
-    → Outcome
-resumed store instance solution k conflicts = do
+abbrev pub resumed : Store → List ℕ → List ℕ → ℕ → (Option ℕ → Type 0) → Outcome
+resumed store instance solution k limits = do
   season ← plays store instance solution k
-  IsFound season.league season.played k conflicts
+  IsFoundBy season.league season.played k limits
 
 -- ---- a run
 

@@ -11,4 +11,4 @@ mod resumed;
 mod season;
 
 pub use audited::audit_file;
-pub use resumed::resume_file;
+pub use resumed::{Resumption, resume_file};

@@ -1,5 +1,5 @@
 //! The answers of `resume`.
-ghost use Rattle.std.specs.Prelude.{◌≡◌, false, IfOk, Ok, Some};
+ghost use Rattle.std.specs.Prelude.{◌≡◌, ℕ, false, IfOk, Ok, Option, Some};
 ghost use Rattle.std.specs.List.{All};
 ghost use Rattle.league.specs.Accepted.{IsAccepted};
 ghost use Rattle.league.specs.Counts.{counts_of};
@@ -46,18 +46,18 @@ fn log_reply(alloc: Global, status: Status, log: &Log) -> Result<Reply, AllocErr
     Ok(Reply { status, text })
 }
 
-/// What is found of a league whose first k slots are played, within this budget.
+/// What is found of a league whose first k slots are played, whatever the budget within which it was found.
 pub(crate) fn found_reply(
     alloc: Global,
     league: &League,
     played: &Schedule,
     k: u16,
-    conflicts: Option<u64>,
     resumed: &Resumed,
 ) -> Result<Reply, AllocError>
-    requires resumed { IsResumed league.now played.now k conflicts resumed.now }
+    requires resumed { (conflicts : Option ℕ) × IsResumed league.now played.now k conflicts resumed.now }
     requires plan { IsAccepted league.now (counts_of played.now) → IsPlan played.now resumed.now }
-    ensures { IfOk result (λ reply. IsFound league.now played.now k conflicts (answer_of reply)) }
+    ensures { (conflicts : Option ℕ) → IsResumed league.now played.now k conflicts resumed.now
+        → IfOk result (λ reply. IsFound league.now played.now k conflicts (answer_of reply)) }
 {
     // For its contract: the variables of a league are few, and so are the games of a season.
     let _n = league.n();

@@ -3,7 +3,7 @@
 -- other. x(0,1,s) is 1 + s, x(1,0,s) 3 + s, h(0,s) 5 + s, and h(1,s) 7 + s.
 use Rattle.std.proofs.Common.{lit<, lit≤, ◌≡◌, ℕ, ◌≤◌, true, List, [], ◌∷◌, drop, length}
 use Rattle.std.proofs.Common.{Option, Some, None, IsTrue}
-use Rattle.std.proofs.Common.{refl, arith}
+use Rattle.std.proofs.Common.{inl, inr, refl, sym, ◌∙◌, arith}
 use Rattle.std.proofs.lemmas.List.Elements.{All-from_recursion, All-nil}
 use Rattle.std.specs.Fmt.{digits}
 use Rattle.std.specs.Ordering.{nat_cmp}
@@ -29,10 +29,11 @@ use Rattle.clause_search.specs.News.{IsTidy}
 use Rattle.season_check.specs.Excluded.{NoneAccepted}
 use Rattle.season_check.proofs.SeasonLemmas.{accepted_logs_exclude}
 use Rattle.explain.specs.Parts.{is_hard_number, part_of, without}
+use Rattle.robin_watch.proofs.LimitLemmas.{kept-unstopped}
 use Rattle.solve.specs.Solutions.{IsSpentOn, IsWritable, RefutesLeague}
 use Rattle.explain.specs.Cases.{is_decided}
 use Rattle.explain.specs.Conflicts.{AreDecided, HasConflict, HasSchedule, IsAmple, IsCase, IsConflict, IsDecided}
-use Rattle.explain.specs.Conflicts.{IsExplanation, IsIrreducible, IsIrreducibleIfDecided, IsSeason}
+use Rattle.explain.specs.Conflicts.{IsExplanation, IsIrreducible, IsIrreducibleIfDecided, IsSeason, IsSpentBy}
 use Rattle.explain.specs.declared.cases.Case.{Case}
 use Rattle.explain.specs.declared.cases.Case.TheVariants.{Without, Undecided}
 use Rattle.explain.specs.declared.explained.Explained.TheVariants as explained
@@ -129,16 +130,16 @@ stays_away accepted = some_left (sum-from_MeetsHard (part_of league (2 ∷ [])) 
 pub season-away : IsSeason (part_of league (without 4 members)) home → ⊥
 season-away is = stays_away is.accepted
 
-pub case-home : IsCase league None members 2 (Without home)
+pub case-home : IsCase league None ⊥ members 2 (Without home)
 case-home = season-home
 
--- ---- the conflict, whatever the limit
+-- ---- the conflict, whatever the limit, and whether the run may be stopped or not
 
 abbrev pub cases : List Case
 cases = Without home ∷ Without out ∷ []
 
-pub conflict-both : (limit : Option ℕ) → IsConflict league limit members log cases
-conflict-both limit = record {
+pub conflict-both : (limit : Option ℕ) (may_stop : Type 0) → IsConflict league limit may_stop members log cases
+conflict-both limit may_stop = record {
   some = lit< tt;
   ascending = IsAscending-ascends nat_cmp members refl;
   hard = All-from_recursion (λ (k : ℕ). is_hard_number league.constraints k ≡ true) members (refl, (refl, tt));
@@ -158,24 +159,27 @@ irreducible-both = record {
 }
 
 -- the cases come in the order of the members
-pub conflict-crossed : (limit : Option ℕ) → IsConflict league limit members log (Without out ∷ Without home ∷ []) → ⊥
-conflict-crossed limit is = season-away is.each.1.0
+pub conflict-crossed : (limit : Option ℕ) (may_stop : Type 0)
+    → IsConflict league limit may_stop members log (Without out ∷ Without home ∷ []) → ⊥
+conflict-crossed limit may_stop is = season-away is.each.1.0
 
 -- the members ascend
 greater_less : Greater ≡ Less → ⊥
 greater_less is = cc
 
-pub conflict-descending : (limit : Option ℕ) → IsConflict league limit (4 ∷ 2 ∷ []) log cases → ⊥
-conflict-descending limit is = greater_less (is.ascending 0 1 0 (lit< tt) (lit< tt))
+pub conflict-descending : (limit : Option ℕ) (may_stop : Type 0)
+    → IsConflict league limit may_stop (4 ∷ 2 ∷ []) log cases → ⊥
+conflict-descending limit may_stop is = greater_less (is.ascending 0 1 0 (lit< tt) (lit< tt))
 
 -- a wish is no member of a conflict
-pub conflict-wish : (limit : Option ℕ) (steps : List Step) (others : List ℕ) (known : List Case)
-    → IsConflict league limit (1 ∷ others) steps known → ⊥
-conflict-wish limit steps others known is = false_true (is.hard 0 0 is.some)
+pub conflict-wish : (limit : Option ℕ) (may_stop : Type 0) (steps : List Step) (others : List ℕ) (known : List Case)
+    → IsConflict league limit may_stop (1 ∷ others) steps known → ⊥
+conflict-wish limit may_stop steps others known is = false_true (is.hard 0 0 is.some)
 
 -- a log without steps doesn't refute the members
-pub conflict-no_steps : (limit : Option ℕ) (known : List Case) → IsConflict league limit members [] known → ⊥
-conflict-no_steps limit known is = refutes-no_steps (part_of league members) is.refuted
+pub conflict-no_steps : (limit : Option ℕ) (may_stop : Type 0) (known : List Case)
+    → IsConflict league limit may_stop members [] known → ⊥
+conflict-no_steps limit may_stop known is = refutes-no_steps (part_of league members) is.refuted
 
 -- with constraint 3 no season meets them either, but it isn't needed
 more_instance : IsInstance (part_of league (2 ∷ 3 ∷ 4 ∷ []))
@@ -254,24 +258,33 @@ spent_bare = record {
   writable = writable-none;
 }
 
-pub case-open : IsCase apart (Some 0) (1 ∷ []) 1 (Undecided [])
-case-open = spent_bare
+spent_by_bare : IsSpentBy (two_with []) (Some 0) ⊥ []
+spent_by_bare = record { kept = Some 0; is_kept = inl refl; spent = spent_bare }
 
-pub conflict-open : IsConflict apart (Some 0) (1 ∷ []) alone (Undecided [] ∷ [])
+pub case-open : IsCase apart (Some 0) ⊥ (1 ∷ []) 1 (Undecided [])
+case-open = inl spent_by_bare
+
+pub conflict-open : IsConflict apart (Some 0) ⊥ (1 ∷ []) alone (Undecided [] ∷ [])
 conflict-open = record {
   some = lit< tt;
   ascending = IsAscending-ascends nat_cmp (1 ∷ []) refl;
   hard = All-from_recursion (λ (k : ℕ). is_hard_number apart.constraints k ≡ true) (1 ∷ []) (refl, tt);
   refuted = refutes-apart;
-  each = (spent_bare, tt);
+  each = (inl spent_by_bare, tt);
 }
 
--- without a limit the case isn't one
+-- without a limit, and where nothing may stop the run, the case isn't one
 none_some : ◌≡◌ {A = Option ℕ} None (Some 0) → ⊥
 none_some is = cc
 
-pub case-unlimited : IsCase apart None (1 ∷ []) 1 (Undecided []) → ⊥
-case-unlimited is = none_some is.limited
+pub case-unlimited : IsCase apart None ⊥ (1 ∷ []) 1 (Undecided []) → ⊥
+case-unlimited (inl is) =
+    none_some (sym (kept-unstopped None ⊥ is.kept (λ never. never) is.is_kept) ∙ is.spent.limited)
+case-unlimited (inr untried) = untried.0
+
+-- where the run may be stopped it is: the others weren't tried
+pub case-untried : IsCase apart None (Unit {0}) (1 ∷ []) 1 (Undecided [])
+case-untried = inr (tt, refl)
 
 pub decided-open : AreDecided (Undecided [] ∷ []) → ⊥
 decided-open decided = false_true (decided 0 (Undecided []) (lit< tt))
@@ -287,20 +300,20 @@ accepted_mild = record {
 pub season_mild : IsSeason (phased (wish ∷ [])) out
 season_mild = record { accepted = accepted_mild; fit = fits_out; in_order = ordered_out }
 
-pub explanation-met : IsExplanation (phased (wish ∷ [])) None (explained.Met out 3)
+pub explanation-met : IsExplanation (phased (wish ∷ [])) None ⊥ (explained.Met out 3)
 explanation-met = (season_mild, refl)
 
-pub explanation-conflict : IsExplanation league None (explained.Conflict members log cases)
-    × IsExplanation apart (Some 0) (explained.Conflict (1 ∷ []) alone (Undecided [] ∷ []))
-explanation-conflict = (conflict-both None, conflict-open)
+pub explanation-conflict : IsExplanation league None ⊥ (explained.Conflict members log cases)
+    × IsExplanation apart (Some 0) ⊥ (explained.Conflict (1 ∷ []) alone (Undecided [] ∷ []))
+explanation-conflict = (conflict-both None ⊥, conflict-open)
 
-pub explanation-spent : IsExplanation (two_with []) (Some 0) (explained.Spent [])
-explanation-spent = spent_bare
+pub explanation-spent : IsExplanation (two_with []) (Some 0) ⊥ (explained.Spent [])
+explanation-spent = spent_by_bare
 
 free_wish : ◌≡◌ {A = ℕ} 0 3 → ⊥
 free_wish is = omega (arith, is)
 
-pub explanation-free : IsExplanation (phased (wish ∷ [])) None (explained.Met out 0) → ⊥
+pub explanation-free : IsExplanation (phased (wish ∷ [])) None ⊥ (explained.Met out 0) → ⊥
 explanation-free is = free_wish is.1
 
 -- a conflict whose cases are schedules is irreducible and leaves nothing open; one that isn't decided leaves it open

@@ -152,15 +152,15 @@ cases_read_back-both =
     All-from_recursion (ReadsBack 2) cases (ap said_by home_written ∙ home_read, (ap said_by out_written ∙ out_read, tt))
 
 -- all that is written behind the two numbers reads back
-pub readable-both : IsReadable league None (written_between (Some []) (Some written))
+pub readable-both : IsReadable league None ⊥ (written_between (Some []) (Some written))
 readable-both = record {
   members = members;
   log = log;
   cases = cases;
   written = sym text-both;
   log_reads_back = log_reads_back-both;
-  accepted = (conflict-both None).refuted.accepted;
-  each = (conflict-both None).each;
+  accepted = (conflict-both None ⊥).refuted.accepted;
+  each = (conflict-both None ⊥).each;
   cases_read_back = cases_read_back-both;
 }
 
@@ -367,10 +367,10 @@ yes_spent : Yes ≡ Spent → ⊥
 yes_spent is = cc
 
 -- the league has no hard CA1, so that its venue counts are neither short nor crowded, and its two teams need no break
-pub found-met : (conflicts : Option ℕ) → IsFound (phased (wish ∷ [])) conflicts (yes_with scored)
-found-met conflicts = record {
+pub found-met : (conflicts : Option ℕ) (may_stop : Type 0) → IsFound (phased (wish ∷ [])) conflicts may_stop (yes_with scored)
+found-met conflicts may_stop = record {
   found = inl met-out;
-  ample = λ ample is. yes_spent is;
+  ample = λ never ample is. yes_spent is;
   circle = λ accepted. refl;
   short = λ short. absurd (false_true short);
   crowded = λ crowded. absurd (false_true crowded);
@@ -380,14 +380,14 @@ found-met conflicts = record {
 abbrev named_reply : Answer
 named_reply = record { status = Refuted; text = written }
 
-pub named-both : (conflicts : Option ℕ) → IsNamed league conflicts named_reply
-named-both conflicts = record {
+pub named-both : (conflicts : Option ℕ) (may_stop : Type 0) → IsNamed league conflicts may_stop named_reply
+named-both conflicts may_stop = record {
   members = members;
   log = log;
   cases = cases;
-  conflict = conflict-both conflicts;
+  conflict = conflict-both conflicts may_stop;
   irreducible = λ decided. irreducible-both;
-  decided = λ ample. decided-both;
+  decided = λ never ample. decided-both;
   status = refl;
   text = sym text-both;
   log_reads_back = log_reads_back-both;
@@ -404,10 +404,10 @@ circle-two = refl
 refuses_circle : IsAccepted league (counts_of (double_games 2)) → ⊥
 refuses_circle accepted = some_left (sum-from_MeetsHard league (counts_of home) accepted.hard)
 
-pub found-named : (conflicts : Option ℕ) → IsFound league conflicts named_reply
-found-named conflicts = record {
-  found = inr (inl (named-both conflicts));
-  ample = λ ample is. refuted_spent is;
+pub found-named : (conflicts : Option ℕ) (may_stop : Type 0) → IsFound league conflicts may_stop named_reply
+found-named conflicts may_stop = record {
+  found = inr (inl (named-both conflicts may_stop));
+  ample = λ never ample is. refuted_spent is;
   circle = λ accepted. absurd (refuses_circle accepted);
   short = λ short. refl;
   crowded = λ crowded. refl;
@@ -441,14 +441,14 @@ open_read : log_of (log_text []) ≡ Ok []
 unfolding lines_from digits
 open_read = refl
 
-pub named-open : IsNamed apart (Some 0) open_reply
+pub named-open : IsNamed apart (Some 0) ⊥ open_reply
 named-open = record {
   members = 1 ∷ [];
   log = alone;
   cases = Undecided [] ∷ [];
   conflict = conflict-open;
   irreducible = λ decided. absurd (decided-open decided);
-  decided = λ ample. absurd (below_ample ample);
+  decided = λ never ample. absurd (below_ample ample);
   status = refl;
   text = open_text;
   log_reads_back = ap (λ (bytes : List ℕ). log_of bytes) alone_written ∙ alone_read;
@@ -462,12 +462,13 @@ accepted_circle = record {
   hard = MeetsHard-from_sum (phased (wish ∷ [])) (counts_of home) refl;
 }
 
-pub found-not_named : (conflicts : Option ℕ) → IsFound (phased (wish ∷ [])) conflicts named_reply → ⊥
-found-not_named conflicts is = yes_refuted (sym (is.circle accepted_circle))
+pub found-not_named : (conflicts : Option ℕ) (may_stop : Type 0) → IsFound (phased (wish ∷ [])) conflicts may_stop named_reply → ⊥
+found-not_named conflicts may_stop is = yes_refuted (sym (is.circle accepted_circle))
 
 -- in a league of wishes no demands are named
-pub named-wishes : (conflicts : Option ℕ) (answer : Answer) → IsNamed (phased (wish ∷ [])) conflicts answer → ⊥
-named-wishes conflicts answer is = no_demand (get_or is.members 0 0) (is.conflict.hard 0 0 is.conflict.some)
+pub named-wishes : (conflicts : Option ℕ) (may_stop : Type 0) (answer : Answer)
+    → IsNamed (phased (wish ∷ [])) conflicts may_stop answer → ⊥
+named-wishes conflicts may_stop answer is = no_demand (get_or is.members 0 0) (is.conflict.hard 0 0 is.conflict.some)
 
 -- where neither team is to be at home in slot 0, or both are, a conflict is found: the venue counts tell
 abbrev deserted : Instance
@@ -482,11 +483,11 @@ spent_refuted is = cc
 abbrev open_log : Answer
 open_log = record { status = Spent; text = codes "refutation 1\nend\n" }
 
-pub found-short : (conflicts : Option ℕ) → IsFound deserted conflicts open_log → ⊥
-found-short conflicts is = spent_refuted (is.short refl)
+pub found-short : (conflicts : Option ℕ) (may_stop : Type 0) → IsFound deserted conflicts may_stop open_log → ⊥
+found-short conflicts may_stop is = spent_refuted (is.short refl)
 
-pub found-crowded : (conflicts : Option ℕ) → IsFound crowded conflicts open_log → ⊥
-found-crowded conflicts is = spent_refuted (is.crowded refl)
+pub found-crowded : (conflicts : Option ℕ) (may_stop : Type 0) → IsFound crowded conflicts may_stop open_log → ⊥
+found-crowded conflicts may_stop is = spent_refuted (is.crowded refl)
 
 -- where four teams may have three breaks, one less than they need in both halves, the break counts tell
 abbrev three_breaks : Instance
@@ -500,8 +501,8 @@ three_breaks = record {
   } ∷ [];
 }
 
-pub found-few : (conflicts : Option ℕ) → IsFound three_breaks conflicts open_log → ⊥
-found-few conflicts is = spent_refuted (is.few refl)
+pub found-few : (conflicts : Option ℕ) (may_stop : Type 0) → IsFound three_breaks conflicts may_stop open_log → ⊥
+found-few conflicts may_stop is = spent_refuted (is.few refl)
 
 -- of a slot between their games they don't tell, and at the limit 0 the search learns nothing: over the row that allows
 -- one of four games, and the others, propagation stands still
@@ -537,25 +538,41 @@ unfolding lines_from
 open_log_read = refl
 
 -- a log that is spent so is what is found, though `apart` is a conflict, which needs more steps
-pub spent-apart : IsBudgetSpent apart (Some 0) open_log
-spent-apart = record { steps = []; spent = spent_apart; status = refl; text = refl; reads_back = open_log_read }
+pub spent-apart : IsBudgetSpent apart (Some 0) ⊥ open_log
+spent-apart = record {
+  steps = [];
+  spent = record { kept = Some 0; is_kept = inl refl; spent = spent_apart };
+  status = refl;
+  text = refl;
+  reads_back = open_log_read;
+}
 
-pub found-open : IsFound apart (Some 0) open_log
+-- without a limit it is so only where the run may be stopped, which kept to none then
+pub spent-stopped : IsBudgetSpent apart None (Unit {0}) open_log
+spent-stopped = record {
+  steps = [];
+  spent = record { kept = Some 0; is_kept = inr (tt, (0, (refl, tt))); spent = spent_apart };
+  status = refl;
+  text = refl;
+  reads_back = open_log_read;
+}
+
+pub found-open : IsFound apart (Some 0) ⊥ open_log
 found-open = record {
   found = inr (inr spent-apart);
-  ample = λ ample is. below_ample ample;
+  ample = λ never ample is. below_ample ample;
   circle = λ accepted. absurd (none-apart home accepted);
   short = λ short. absurd (false_true short);
   crowded = λ crowded. absurd (false_true crowded);
   few = λ few. absurd (false_true few);
 }
 
--- with an ample limit it isn't
-pub found-ample : (IsFound apart None open_log → ⊥) × (IsFound apart (Some 6561) open_log → ⊥)
-found-ample = (λ is. is.ample tt refl, λ is. is.ample (lit≤ tt) refl)
+-- with an ample limit it isn't, where nothing may stop the run
+pub found-ample : (IsFound apart None ⊥ open_log → ⊥) × (IsFound apart (Some 6561) ⊥ open_log → ⊥)
+found-ample = (λ is. is.ample (λ never. never) tt refl, λ is. is.ample (λ never. never) (lit≤ tt) refl)
 
-pub explained-both : Writes (ended_with Refuted (Some []) (Some written)) (IsFound league None)
-explained-both = record { answer = named_reply; of_kind = found-named None; ended = refl; written = refl }
+pub explained-both : Writes (ended_with Refuted (Some []) (Some written)) (IsFound league None ⊥)
+explained-both = record { answer = named_reply; of_kind = found-named None ⊥; ended = refl; written = refl }
 
 -- of a league that accepts no season, `explain` doesn't end with yes
 whole_instance : IsInstance league
@@ -569,14 +586,15 @@ whole_instance = record {
 none-whole : NoneAccepted league
 none-whole = accepted_logs_exclude league (Clause [] (31 ∷ 36 ∷ 20 ∷ 24 ∷ []) ∷ []) whole_instance refl
 
-never_met : (conflicts : Option ℕ) (answer : Answer) → Yes ≡ answer.status
-    → IsMet league answer ⊎ (IsNamed league conflicts answer ⊎ IsBudgetSpent league conflicts answer) → ⊥
-never_met conflicts answer ends (inl met) = none-whole met.games met.season.accepted
-never_met conflicts answer ends (inr (inl named)) = yes_refuted (ends ∙ named.status)
-never_met conflicts answer ends (inr (inr spent)) = yes_spent (ends ∙ spent.status)
+never_met : (conflicts : Option ℕ) (may_stop : Type 0) (answer : Answer) → Yes ≡ answer.status
+    → IsMet league answer ⊎ (IsNamed league conflicts may_stop answer ⊎ IsBudgetSpent league conflicts may_stop answer) → ⊥
+never_met conflicts may_stop answer ends (inl met) = none-whole met.games met.season.accepted
+never_met conflicts may_stop answer ends (inr (inl named)) = yes_refuted (ends ∙ named.status)
+never_met conflicts may_stop answer ends (inr (inr spent)) = yes_spent (ends ∙ spent.status)
 
-pub explained-yes : (limit : Option ℕ) (old new : Option (List ℕ)) → Writes (ended_with Yes old new) (IsFound league limit) → ⊥
-explained-yes limit old new is = never_met limit is.answer is.ended is.of_kind.found
+pub explained-yes : (limit : Option ℕ) (may_stop : Type 0) (old new : Option (List ℕ))
+    → Writes (ended_with Yes old new) (IsFound league limit may_stop) → ⊥
+explained-yes limit may_stop old new is = never_met limit may_stop is.answer is.ended is.of_kind.found
 
 -- ---- the stages of `part` and `explain`, where the league's file is known: these are answers that they may give
 
@@ -627,6 +645,7 @@ sizes = refl
 small : encoding_size league ≤ 40000000
 small = omega (arith, sizes)
 
-pub explained-stages : (conflicts : Option ℕ) → explains (store_of contents nowhere) (codes "league") conflicts named_reply
+pub explained-stages : (conflicts : Option ℕ) (may_stop : Type 0)
+    → explains (store_of contents nowhere) (codes "league") conflicts may_stop named_reply
 unfolding attributes_at pieces_from walk
-explained-stages conflicts = inl (league_file, whole_file, inl (small, found-named conflicts))
+explained-stages conflicts may_stop = inl (league_file, whole_file, inl (small, found-named conflicts may_stop))

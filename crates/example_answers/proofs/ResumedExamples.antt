@@ -304,13 +304,14 @@ file_crowded = record { same = refl; within = omega arith }
 file_log : IsFile (contents (codes "log")) most_log_bytes log_file
 file_log = record { same = refl; within = omega arith }
 
-pub resumed-stages : (conflicts : Option ℕ)
-    → resumes (store_of contents nowhere) (codes "league") (codes "played") 1 conflicts planned_reply
+-- whatever the limit to which the search kept
+pub resumed-stages : (limits : Option ℕ → Type 0) (conflicts : Option ℕ) → limits conflicts
+    → resumes (store_of contents nowhere) (codes "league") (codes "played") 1 limits planned_reply
 unfolding attributes_at pieces_from walk
-resumed-stages conflicts = inl (
+resumed-stages limits conflicts is = inl (
   league_file,
   file_league,
-  inl (lit≤ tt, inl (small, inl (played_file, file_played, found-first conflicts))),
+  inl (lit≤ tt, inl (small, inl (played_file, file_played, (conflicts, is, found-first conflicts)))),
 )
 
 pub audited-stages : audited (store_of contents nowhere) (codes "league") (codes "crowded") 1 (codes "log") accepted_reply

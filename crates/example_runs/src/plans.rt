@@ -6,6 +6,7 @@ ghost use Rattle.league.specs.Instance.{IsGame};
 use crate::session::bytes_of;
 use league::{League, Schedule, slot_count};
 use resume::{Resumed, resume};
+use robin_watch::Unwatched;
 use robinx_read::{SOLUTION_LIMIT, read_instance, read_solution};
 use std::io;
 use std::rt::Files;
@@ -52,7 +53,7 @@ fn show_plan(rt: &(impl AllocGlobal + Print), league: &League, played: &Schedule
     requires fit { All (IsGame league.now.n) played.now }
 {
     let k = slot_count(league.n()).min(PLAYED);
-    match resume(rt.alloc(), league, played, k, None) {
+    match resume(rt.alloc(), league, played, k, None, &Unwatched) {
         Ok(
             Resumed::Schedule {
                 schedule,

@@ -64,13 +64,14 @@ none_fewer : (k : ℕ) → k < 0 → ⊥
 none_fewer k some = omega (arith, some)
 
 -- no member at all
-pub empty_conflict : (league : Instance) (limit : Option ℕ) (log : List Step) → IsConflict league limit [] log [] → ⊥
-empty_conflict league limit log is = none_fewer 0 is.some
+pub empty_conflict : (league : Instance) (limit : Option ℕ) (may_stop : Type 0) (log : List Step)
+    → IsConflict league limit may_stop [] log [] → ⊥
+empty_conflict league limit may_stop log is = none_fewer 0 is.some
 
 -- a member without a case
-pub no_case : (league : Instance) (limit : Option ℕ) (log : List Step) (k : ℕ)
-    → IsConflict league limit (k ∷ []) log [] → ⊥
-no_case league limit log k is = is.each
+pub no_case : (league : Instance) (limit : Option ℕ) (may_stop : Type 0) (log : List Step) (k : ℕ)
+    → IsConflict league limit may_stop (k ∷ []) log [] → ⊥
+no_case league limit may_stop log k is = is.each
 
 -- a case is a schedule, or it isn't decided
 pub decided-two : (games : List Game) → map is_decided (Without games ∷ Undecided [] ∷ []) ≡ true ∷ false ∷ []

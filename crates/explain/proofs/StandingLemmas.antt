@@ -53,34 +53,34 @@ numbers-kept keep (m ∷ members) =
 
 -- ---- what stays known
 
-stays : (league : Instance) (limit : Option ℕ) (numbers : List ℕ) (keep : ℕ → Bool) (k : ℕ) (case : Option Case)
-    → IfSome case (IsCase league limit numbers k) → IfSome (loosened case) (IsCase league limit (filter keep numbers) k)
-stays league limit numbers keep k None known = tt
-stays league limit numbers keep k (Some (Without games)) known = record {
+stays : (league : Instance) (limit : Option ℕ) (may_stop : Type 0) (numbers : List ℕ) (keep : ℕ → Bool) (k : ℕ) (case : Option Case)
+    → IfSome case (IsCase league limit may_stop numbers k) → IfSome (loosened case) (IsCase league limit may_stop (filter keep numbers) k)
+stays league limit may_stop numbers keep k None known = tt
+stays league limit may_stop numbers keep k (Some (Without games)) known = record {
   accepted = still_accepted league keep numbers k (counts_of games) known.accepted;
   fit = known.fit;
   in_order = known.in_order;
 }
-stays league limit numbers keep k (Some (Undecided log)) known = tt
+stays league limit may_stop numbers keep k (Some (Undecided log)) known = tt
 
-all_stay : (league : Instance) (limit : Option ℕ) (numbers : List ℕ) (keep : ℕ → Bool) (members : List Member)
-    → All (λ m. IfSome m.case (IsCase league limit numbers m.number)) members
-    → All (λ m. IfSome m.case (IsCase league limit (filter keep numbers) m.number)) (kept keep members)
-all_stay league limit numbers keep members known =
-    All-map (λ (m : Member). IfSome m.case (IsCase league limit (filter keep numbers) m.number)) reopened
+all_stay : (league : Instance) (limit : Option ℕ) (may_stop : Type 0) (numbers : List ℕ) (keep : ℕ → Bool) (members : List Member)
+    → All (λ m. IfSome m.case (IsCase league limit may_stop numbers m.number)) members
+    → All (λ m. IfSome m.case (IsCase league limit may_stop (filter keep numbers) m.number)) (kept keep members)
+all_stay league limit may_stop numbers keep members known =
+    All-map (λ (m : Member). IfSome m.case (IsCase league limit may_stop (filter keep numbers) m.number)) reopened
     (filter (λ m. keep m.number) members)
-    (All-weaker (λ (m : Member). IfSome m.case (IsCase league limit numbers m.number))
-    (λ (m : Member). IfSome (loosened m.case) (IsCase league limit (filter keep numbers) m.number))
-    (λ m. stays league limit numbers keep m.number m.case) (filter (λ m. keep m.number) members)
+    (All-weaker (λ (m : Member). IfSome m.case (IsCase league limit may_stop numbers m.number))
+    (λ (m : Member). IfSome (loosened m.case) (IsCase league limit may_stop (filter keep numbers) m.number))
+    (λ m. stays league limit may_stop numbers keep m.number m.case) (filter (λ m. keep m.number) members)
     (All-filter (λ (m : Member). keep m.number)
-    (λ (m : Member). IfSome m.case (IsCase league limit numbers m.number)) members known))
+    (λ (m : Member). IfSome m.case (IsCase league limit may_stop numbers m.number)) members known))
 
 -- some of the members, and a log of their own that refutes them
-pub reduced : (league : Instance) (limit : Option ℕ) (members : List Member) (log shorter : List Step)
-    (keep : ℕ → Bool) → IsExplained league limit members log
+pub reduced : (league : Instance) (limit : Option ℕ) (may_stop : Type 0) (members : List Member) (log shorter : List Step)
+    (keep : ℕ → Bool) → IsExplained league limit may_stop members log
     → RefutesLeague (part_of league (filter keep (numbers_of members))) shorter
-    → IsExplained league limit (kept keep members) shorter
-reduced league limit members log shorter keep is refuted =
+    → IsExplained league limit may_stop (kept keep members) shorter
+reduced league limit may_stop members log shorter keep is refuted =
     let numbers : List ℕ = numbers_of members in
     let same : filter keep numbers ≡ numbers_of (kept keep members) = sym (numbers-kept keep members) in
     record {
@@ -94,8 +94,8 @@ reduced league limit members log shorter keep is refuted =
           (omega (arith, fewer_vars league keep numbers, is.few));
       refuted = subst (λ (ks : List ℕ). RefutesLeague (part_of league ks) shorter) same refuted;
       known = subst (λ (ks : List ℕ).
-          All (λ m. IfSome m.case (IsCase league limit ks m.number)) (kept keep members)) same
-          (all_stay league limit numbers keep members is.known);
+          All (λ m. IfSome m.case (IsCase league limit may_stop ks m.number)) (kept keep members)) same
+          (all_stay league limit may_stop numbers keep members is.known);
     }
 
 -- ---- all hard constraints, of which nothing is known
@@ -104,10 +104,10 @@ numbers-open : (numbers : List ℕ) → numbers_of (map open_member numbers) ≡
 numbers-open [] = refl
 numbers-open (k ∷ numbers) = ap (λ (ks : List ℕ). k ∷ ks) (numbers-open numbers)
 
-known-open : (league : Instance) (limit : Option ℕ) (numbers whole : List ℕ)
-    → All (λ m. IfSome m.case (IsCase league limit whole m.number)) (map open_member numbers)
-known-open league limit numbers whole =
-    All-map (λ (m : Member). IfSome m.case (IsCase league limit whole m.number)) open_member numbers (λ k d within. tt)
+known-open : (league : Instance) (limit : Option ℕ) (may_stop : Type 0) (numbers whole : List ℕ)
+    → All (λ m. IfSome m.case (IsCase league limit may_stop whole m.number)) (map open_member numbers)
+known-open league limit may_stop numbers whole =
+    All-map (λ (m : Member). IfSome m.case (IsCase league limit may_stop whole m.number)) open_member numbers (λ k d within. tt)
 
 whole_refuted : (league : Instance) (log : List Step) → RefutesLeague league log
     → RefutesLeague (part_of league (hard_numbers league.constraints)) log
@@ -121,10 +121,10 @@ whole_refuted league log is =
       writable = is.writable;
     }
 
-pub first_explained : (league : Instance) (limit : Option ℕ) (members : List Member) (log : List Step)
+pub first_explained : (league : Instance) (limit : Option ℕ) (may_stop : Type 0) (members : List Member) (log : List Step)
     → members ≡ map open_member (hard_numbers league.constraints) → encoding_size league ≤ 40000000
-    → RefutesLeague league log → IsExplained league limit members log
-first_explained league limit members log are small refuted =
+    → RefutesLeague league log → IsExplained league limit may_stop members log
+first_explained league limit may_stop members log are small refuted =
     let numbers : List ℕ = hard_numbers league.constraints in
     let same : numbers ≡ numbers_of members = sym (ap numbers_of are ∙ numbers-open numbers) in
     record {
@@ -136,17 +136,17 @@ first_explained league limit members log are small refuted =
           (omega (arith, whole_vars league));
       refuted = subst (λ (ks : List ℕ). RefutesLeague (part_of league ks) log) same (whole_refuted league log refuted);
       known = subst (λ (ms : List Member).
-          All (λ m. IfSome m.case (IsCase league limit (numbers_of members) m.number)) ms) (sym are)
-          (known-open league limit numbers (numbers_of members));
+          All (λ m. IfSome m.case (IsCase league limit may_stop (numbers_of members) m.number)) ms) (sym are)
+          (known-open league limit may_stop numbers (numbers_of members));
     }
 
 -- ---- a member that is settled
 
-pub settled : (league : Instance) (limit : Option ℕ) (members : List Member) (log : List Step) (place : ℕ)
-    (m : Member) (case : Case) → IsExplained league limit members log → slice_get members place ≡ Some m
-    → IsCase league limit (numbers_of members) m.number case
-    → IsExplained league limit (set members place (record { number = m.number; case = Some case })) log
-settled league limit members log place m case is there said =
+pub settled : (league : Instance) (limit : Option ℕ) (may_stop : Type 0) (members : List Member) (log : List Step) (place : ℕ)
+    (m : Member) (case : Case) → IsExplained league limit may_stop members log → slice_get members place ≡ Some m
+    → IsCase league limit may_stop (numbers_of members) m.number case
+    → IsExplained league limit may_stop (set members place (record { number = m.number; case = Some case })) log
+settled league limit may_stop members log place m case is there said =
     let later : Member = record { number = m.number; case = Some case } in
     let same : numbers_of members ≡ numbers_of (set members place later) =
     sym (map-set_same (λ (x : Member). x.number) members place later m
@@ -158,8 +158,8 @@ settled league limit members log place m case is there said =
       few = subst (λ (ks : List ℕ). var_count (part_of league ks) ≤ var_count league) same is.few;
       refuted = subst (λ (ks : List ℕ). RefutesLeague (part_of league ks) log) same is.refuted;
       known = subst (λ (ks : List ℕ).
-          All (λ x. IfSome x.case (IsCase league limit ks x.number)) (set members place later)) same
-          (All-set (λ (x : Member). IfSome x.case (IsCase league limit (numbers_of members) x.number)) members place
+          All (λ x. IfSome x.case (IsCase league limit may_stop ks x.number)) (set members place later)) same
+          (All-set (λ (x : Member). IfSome x.case (IsCase league limit may_stop (numbers_of members) x.number)) members place
           later said is.known);
     }
 
@@ -205,24 +205,24 @@ pub of_members : (keep : ℕ → Bool) (seen members : List Member) (made given 
 of_members keep seen members made given same are is =
     is ∙ are ∙ ap (λ (ms : List Member). filter keep (numbers_of ms)) same
 
-pub chosen-ascending : (league : Instance) (limit : Option ℕ) (members : List Member) (log : List Step)
-    (keep : ℕ → Bool) (chosen : List ℕ) → IsExplained league limit members log
+pub chosen-ascending : (league : Instance) (limit : Option ℕ) (may_stop : Type 0) (members : List Member) (log : List Step)
+    (keep : ℕ → Bool) (chosen : List ℕ) → IsExplained league limit may_stop members log
     → chosen ≡ filter keep (numbers_of members) → IsAscending nat_cmp chosen
-chosen-ascending league limit members log keep chosen is same =
+chosen-ascending league limit may_stop members log keep chosen is same =
     subst (IsAscending nat_cmp) (sym same)
     (AllPairs-filter (λ a b. nat_cmp a b ≡ Less) keep (numbers_of members) is.ascending)
 
-pub chosen-hard : (league : Instance) (limit : Option ℕ) (members : List Member) (log : List Step)
-    (keep : ℕ → Bool) (chosen : List ℕ) → IsExplained league limit members log
+pub chosen-hard : (league : Instance) (limit : Option ℕ) (may_stop : Type 0) (members : List Member) (log : List Step)
+    (keep : ℕ → Bool) (chosen : List ℕ) → IsExplained league limit may_stop members log
     → chosen ≡ filter keep (numbers_of members) → All (λ k. is_hard_number league.constraints k ≡ true) chosen
-chosen-hard league limit members log keep chosen is same =
+chosen-hard league limit may_stop members log keep chosen is same =
     subst (All (λ k. is_hard_number league.constraints k ≡ true)) (sym same)
     (All-filter keep (λ k. is_hard_number league.constraints k ≡ true) (numbers_of members) is.hard)
 
-pub chosen-small : (league : Instance) (limit : Option ℕ) (members : List Member) (log : List Step)
-    (keep : ℕ → Bool) (chosen : List ℕ) → IsExplained league limit members log
+pub chosen-small : (league : Instance) (limit : Option ℕ) (may_stop : Type 0) (members : List Member) (log : List Step)
+    (keep : ℕ → Bool) (chosen : List ℕ) → IsExplained league limit may_stop members log
     → chosen ≡ filter keep (numbers_of members) → encoding_size (part_of league chosen) ≤ 40000000
-chosen-small league limit members log keep chosen is same =
+chosen-small league limit may_stop members log keep chosen is same =
     omega (
       arith,
       ap (λ (ks : List ℕ). encoding_size (part_of league ks)) same,
@@ -256,15 +256,15 @@ core-shorter league members smaller core is same =
       is.fewer,
     )
 
-pub core-explained : (league : Instance) (limit : Option ℕ) (members smaller : List Member) (log shorter : List Step)
-    (core : Core) → IsExplained league limit members log → IsCore league members core
+pub core-explained : (league : Instance) (limit : Option ℕ) (may_stop : Type 0) (members smaller : List Member) (log shorter : List Step)
+    (core : Core) → IsExplained league limit may_stop members log → IsCore league members core
     → smaller ≡ kept (λ k. is_in k core.named.items) members → shorter ≡ core.log
-    → IsExplained league limit smaller shorter
-core-explained league limit members smaller log shorter core is found same same_log =
-    subst (λ (ms : List Member). IsExplained league limit ms shorter) (sym same)
-    (subst (λ (steps : List Step). IsExplained league limit (kept (λ k. is_in k core.named.items) members) steps)
+    → IsExplained league limit may_stop smaller shorter
+core-explained league limit may_stop members smaller log shorter core is found same same_log =
+    subst (λ (ms : List Member). IsExplained league limit may_stop ms shorter) (sym same)
+    (subst (λ (steps : List Step). IsExplained league limit may_stop (kept (λ k. is_in k core.named.items) members) steps)
     (sym same_log)
-    (reduced league limit members log core.log (λ k. is_in k core.named.items) is found.refuted))
+    (reduced league limit may_stop members log core.log (λ k. is_in k core.named.items) is found.refuted))
 
 -- ---- a try of a member
 
@@ -275,16 +275,16 @@ untried_at members place found is (m, (there, untried)) =
     let some : Member → Option Member = λ x. Some x in
     (there ∙ ap some (sym same), ap is_open same ∙ untried)
 
-pub settled_so : (league : Instance) (limit : Option ℕ) (members later : List Member) (log later_log : List Step)
-    (place : ℕ) (m : Member) (case : Case) → IsExplained league limit members log → slice_get members place ≡ Some m
-    → IsCase league limit (numbers_of members) m.number case
+pub settled_so : (league : Instance) (limit : Option ℕ) (may_stop : Type 0) (members later : List Member) (log later_log : List Step)
+    (place : ℕ) (m : Member) (case : Case) → IsExplained league limit may_stop members log → slice_get members place ≡ Some m
+    → IsCase league limit may_stop (numbers_of members) m.number case
     → later ≡ set members place (record { number = m.number; case = Some case }) → later_log ≡ log
-    → IsExplained league limit later later_log
-settled_so league limit members later log later_log place m case is there said same same_log =
-    subst (λ (ms : List Member). IsExplained league limit ms later_log) (sym same)
+    → IsExplained league limit may_stop later later_log
+settled_so league limit may_stop members later log later_log place m case is there said same same_log =
+    subst (λ (ms : List Member). IsExplained league limit may_stop ms later_log) (sym same)
     (subst (λ (steps : List Step).
-    IsExplained league limit (set members place (record { number = m.number; case = Some case })) steps)
-    (sym same_log) (settled league limit members log place m case is there said))
+    IsExplained league limit may_stop (set members place (record { number = m.number; case = Some case })) steps)
+    (sym same_log) (settled league limit may_stop members log place m case is there said))
 
 pub settled_so-less : (members later : List Member) (place : ℕ) (m : Member) (case : Case)
     → slice_get members place ≡ Some m → is_open m ≡ true
@@ -293,14 +293,14 @@ settled_so-less members later place m case there untried same =
     subst (λ (ms : List Member). work ms < work members) (sym same)
     (settled-less members place m case there untried)
 
-pub dropped_explained : (league : Instance) (limit : Option ℕ) (members later : List Member) (log shorter : List Step)
-    (steps : List Step) (number : ℕ) → IsExplained league limit members log
+pub dropped_explained : (league : Instance) (limit : Option ℕ) (may_stop : Type 0) (members later : List Member) (log shorter : List Step)
+    (steps : List Step) (number : ℕ) → IsExplained league limit may_stop members log
     → RefutesLeague (part_of league (without number (numbers_of members))) steps
-    → later ≡ kept (λ k. not (k == number)) members → shorter ≡ steps → IsExplained league limit later shorter
-dropped_explained league limit members later log shorter steps number is refuted same same_log =
-    subst (λ (ms : List Member). IsExplained league limit ms shorter) (sym same)
-    (subst (λ (ss : List Step). IsExplained league limit (kept (λ k. not (k == number)) members) ss) (sym same_log)
-    (reduced league limit members log steps (λ k. not (k == number)) is refuted))
+    → later ≡ kept (λ k. not (k == number)) members → shorter ≡ steps → IsExplained league limit may_stop later shorter
+dropped_explained league limit may_stop members later log shorter steps number is refuted same same_log =
+    subst (λ (ms : List Member). IsExplained league limit may_stop ms shorter) (sym same)
+    (subst (λ (ss : List Step). IsExplained league limit may_stop (kept (λ k. not (k == number)) members) ss) (sym same_log)
+    (reduced league limit may_stop members log steps (λ k. not (k == number)) is refuted))
 
 put-shorter : (k : ℕ) (numbers : List ℕ) (most : ℕ) (b : Bool) → length numbers < most
     → length (cond b (k ∷ numbers) numbers) < most + 1

@@ -3,17 +3,17 @@ use Rattle.std.specs.Prelude.{◌≡◌, ℕ, Option}
 use Rattle.league.specs.Accepted as costs
 use Rattle.league.specs.Counts.{counts_of}
 use Rattle.league.specs.Instance.{Instance}
-use Rattle.solve.specs.Solutions.{IsSpentOn, RefutesLeague}
-use Rattle.explain.specs.Conflicts.{IsSeason}
+use Rattle.solve.specs.Solutions.{RefutesLeague}
+use Rattle.explain.specs.Conflicts.{IsSeason, IsSpentBy}
 use Rattle.explain.specs.declared.attempt.Attempt.{Attempt}
 use Rattle.explain.specs.declared.attempt.Attempt.TheVariants.{Met, Refuted, Spent}
 
--- what a try says is true of the league, where a search learns at most so many clauses
-abbrev pub IsAttempt : Instance → Option ℕ → Attempt → Type 0
-IsAttempt league limit (Met games objective) =
+-- what a try says is true of the league, where a search learns at most so many clauses, and the run may be stopped or not
+abbrev pub IsAttempt : Instance → Option ℕ → Type 0 → Attempt → Type 0
+IsAttempt league limit may_stop (Met games objective) =
     IsSeason league games × (objective ≡ costs.objective league (counts_of games))
-IsAttempt league limit (Refuted log) = RefutesLeague league log
-IsAttempt league limit (Spent log) = IsSpentOn league limit log
+IsAttempt league limit may_stop (Refuted log) = RefutesLeague league log
+IsAttempt league limit may_stop (Spent log) = IsSpentBy league limit may_stop log
 
 -- a try came to a schedule
 abbrev pub IsMet : Attempt → Type 0

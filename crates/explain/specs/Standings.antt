@@ -34,13 +34,13 @@ open_member number = record { number = number; case = None }
 
 -- the members are hard constraints, and a log refutes the league of these alone; what is known of each holds; and that
 -- league's rows are few
-pub record IsExplained (league : Instance) (limit : Option ℕ) (members : List Member) (log : List Step) : Type 0 where
+pub record IsExplained (league : Instance) (limit : Option ℕ) (may_stop : Type 0) (members : List Member) (log : List Step) : Type 0 where
   pub ascending : IsAscending nat_cmp (numbers_of members)
   pub hard : All (λ k. is_hard_number league.constraints k ≡ true) (numbers_of members)
   pub small : encoding_size (part_of league (numbers_of members)) ≤ most_terms
   pub few : var_count (part_of league (numbers_of members)) ≤ var_count league
   pub refuted : RefutesLeague (part_of league (numbers_of members)) log
-  pub known : All (λ m. IfSome m.case (IsCase league limit (numbers_of members) m.number)) members
+  pub known : All (λ m. IfSome m.case (IsCase league limit may_stop (numbers_of members) m.number)) members
 
 -- ---- members still to be tried
 

@@ -18,7 +18,7 @@ use budgets::Budgets;
 use encoding::EncodeFault;
 use league::{League, Schedule};
 use refutation::Log;
-use robin_watch::Unwatched;
+use robin_news::Listener;
 use solve::{Solved, solve};
 use std::alloc::{AllocError, Global};
 
@@ -55,24 +55,25 @@ fn budgets_of(conflicts: Option<u64>) -> Budgets
     }
 }
 
-/// What is found of a league.
+/// What is found of a league. The watch may end the search.
 ///
 /// # Errors
 /// `TooLarge` exactly where its rows have more than 40,000,000 terms, with their number; else only where memory runs
 /// out.
-pub(crate) fn searched(
+pub(crate) fn searched<W: Listener>(
     alloc: Global,
     league: &League,
     conflicts: Option<u64>,
+    watch: &W,
 ) -> Result<Attempt, EncodeFault>
     ensures limit { KeepsLimit (encoding_size league.now) (encoding_size league.now) result }
-    ensures attempt { IfOk result (IsAttempt league.now conflicts) }
+    ensures attempt { IfOk result (IsAttempt league.now conflicts (W.may_stop watch.now)) }
     ensures circle { IsAccepted league.now (counts_of (double_games league.now.n)) → IfOk result IsMet }
     ensures short { are_short league.now ≡ true → IfOk result IsRefuted }
     ensures crowded { are_crowded league.now ≡ true → IfOk result IsRefuted }
     ensures few { are_few league.now ≡ true → IfOk result IsRefuted }
 {
-    match solve(alloc, league, budgets_of(conflicts), &Unwatched)? {
+    match solve(alloc, league, budgets_of(conflicts), watch)? {
         Solved::Schedule {
             schedule,
             objective,
@@ -109,23 +110,24 @@ pub(crate) fn known_part(
     }
 }
 
-/// What is found of the league of some hard constraints, whose rows aren't too many.
+/// What is found of the league of some hard constraints, whose rows aren't too many. The watch may end the search.
 ///
 /// # Errors
 /// Only where memory runs out.
-pub(crate) fn try_part(
+pub(crate) fn try_part<W: Listener>(
     alloc: Global,
     league: &League,
     members: &[u32],
     conflicts: Option<u64>,
+    watch: &W,
 ) -> Result<Attempt, AllocError>
     requires ascending { IsAscending nat_cmp members.now }
     requires hard { All (λ k. is_hard_number league.now.constraints k ≡ true) members.now }
     requires small { encoding_size (part_of league.now members.now) ≤ most_terms }
-    ensures { IfOk result (IsAttempt (part_of league.now members.now) conflicts) }
+    ensures { IfOk result (IsAttempt (part_of league.now members.now) conflicts (W.may_stop watch.now)) }
 {
     let part = known_part(alloc, league, members)?;
-    match searched(alloc, &part, conflicts) {
+    match searched(alloc, &part, conflicts, watch) {
         Ok(attempt) => Ok(attempt),
         Err(EncodeFault::TooLarge { .. }) => unreachable!(),
         Err(EncodeFault::Mem) => Err(AllocError),

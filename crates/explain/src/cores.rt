@@ -10,6 +10,7 @@ use crate::member::{Contradiction, listed_members, listed_numbers, numbers_of};
 use crate::names::named;
 use league::League;
 use refutation::Log;
+use robin_news::Listener;
 use std::alloc::{AllocError, Global};
 
 /// Which of the members of a contradiction a log names, and a log of their own that refutes these.
@@ -20,48 +21,57 @@ pub(crate) struct Core {
 }
 
 /// A contradiction of no more members, each of which the log of the last one names, as far as a search over these alone
-/// refutes them.
+/// refutes them, and until the watch ends the run.
 ///
 /// # Errors
 /// Only where memory runs out.
-pub(crate) fn narrow(
+pub(crate) fn narrow<W: Listener>(
     alloc: Global,
     league: &League,
     contradiction: Contradiction,
     conflicts: Option<u64>,
+    watch: &W,
 ) -> Result<Contradiction, AllocError>
-    requires explained { IsExplained league.now conflicts contradiction.members.items contradiction.log }
-    ensures explained { IfOk result (λ smaller. IsExplained league.now conflicts smaller.members.items smaller.log) }
+    requires explained { IsExplained league.now conflicts (W.may_stop watch.now) contradiction.members.items
+        contradiction.log }
+    ensures explained { IfOk result (λ smaller. IsExplained league.now conflicts (W.may_stop watch.now)
+        smaller.members.items smaller.log) }
     ensures no_longer { IfOk result (λ smaller.
         length smaller.members.items ≤ length contradiction.members.items) }
 {
     let mut least = contradiction;
-    'cores: while let Some(core) = core_of(alloc, league, &least, conflicts)? {
+    'cores: while let Some(core) = core_of(alloc, league, &least, conflicts, watch)? {
         least = reduced(alloc, least, core)?;
     }
     Ok(least)
 }
 
 /// The members that the log of a contradiction names, where they are fewer and a search over these alone refutes them.
+/// Where the run is to end nothing is searched.
 ///
 /// # Errors
 /// Only where memory runs out.
-fn core_of(
+fn core_of<W: Listener>(
     alloc: Global,
     league: &League,
     contradiction: &Contradiction,
     conflicts: Option<u64>,
+    watch: &W,
 ) -> Result<Option<Core>, AllocError>
-    requires { IsExplained league.now conflicts contradiction.now.members.items contradiction.now.log }
+    requires { IsExplained league.now conflicts (W.may_stop watch.now) contradiction.now.members.items
+        contradiction.now.log }
     ensures { IfOk result (λ found. IfSome found (IsCore league.now contradiction.now.members.items)) }
 {
+    if watch.is_over_now(0) {
+        return Ok(None);
+    }
     let numbers = numbers_of(alloc, &contradiction.members)?;
     let named = named(alloc, league, &numbers, &contradiction.log)?;
     let listed = listed_numbers(alloc, &contradiction.members, &named)?;
     if listed.len() >= numbers.len() {
         return Ok(None);
     }
-    match try_part(alloc, league, &listed, conflicts)? {
+    match try_part(alloc, league, &listed, conflicts, watch)? {
         Attempt::Refuted(log) => Ok(Some(Core { named, log })),
         _ => Ok(None),
     }

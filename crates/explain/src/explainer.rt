@@ -23,6 +23,7 @@ use crate::smaller::minimise;
 use encoding::EncodeFault;
 use league::League;
 use refutation::Log;
+use robin_news::Listener;
 use std::alloc::{AllocError, Global};
 
 /// Finds hard constraints that contradict each other, or a schedule that the league accepts.
@@ -31,24 +32,27 @@ use std::alloc::{AllocError, Global};
 /// each other is dropped, and then the members that were undecided are tried again. After each refutation those
 /// constraints whose rows its log uses are searched alone, and where that is refuted too, the others are dropped. Each
 /// search learns at most `conflicts` clauses, or goes on to the end; the search for patterns before it learns at most
-/// as many, and at most 500.
+/// as many, and at most 500. The watch may end each search, and then the members that are still to be tried stay
+/// undecided.
 ///
 /// # Errors
 /// `TooLarge` exactly where the league's rows have more than 40,000,000 terms, with their number, before anything
 /// else; else only where memory runs out.
-pub fn explain(
+pub fn explain<W: Listener>(
     alloc: Global,
     league: &League,
     conflicts: Option<u64>,
+    watch: &W,
 ) -> Result<Explained, EncodeFault>
     ensures limit { KeepsLimit (encoding_size league.now) (encoding_size league.now) result }
-    ensures explanation { IfOk result (IsExplanation league.now conflicts) }
+    ensures explanation { IfOk result (IsExplanation league.now conflicts (W.may_stop watch.now)) }
 
     // Where each case of a conflict is a schedule, the conflict is irreducible.
     ensures irreducible { IfOk result (IsIrreducibleIfDecided league.now) }
 
-    // Without a limit, or with an ample one, nothing is left open.
-    ensures decided { IsAmple (var_count league.now) conflicts → IfOk result IsDecided }
+    // Without a limit, or with an ample one, nothing is left open where nothing may stop the run.
+    ensures decided { (W.may_stop watch.now → ⊥) → IsAmple (var_count league.now) conflicts
+        → IfOk result IsDecided }
 
     // Where the league accepts the schedule of the circle method, the answer is a schedule; where its venue counts are
     // short, or crowded, or it allows its teams too few breaks, it is a conflict whatever the limit.
@@ -57,7 +61,7 @@ pub fn explain(
     ensures crowded { are_crowded league.now ≡ true → IfOk result HasConflict }
     ensures few { are_few league.now ≡ true → IfOk result HasConflict }
 {
-    match searched(alloc, league, conflicts)? {
+    match searched(alloc, league, conflicts, watch)? {
         Attempt::Met {
             schedule,
             objective,
@@ -65,7 +69,7 @@ pub fn explain(
             schedule,
             objective,
         }),
-        Attempt::Refuted(log) => Ok(conflict(alloc, league, log, conflicts)?),
+        Attempt::Refuted(log) => Ok(conflict(alloc, league, log, conflicts, watch)?),
         Attempt::Spent(log) => Ok(Explained::Spent { log }),
     }
 }
@@ -74,24 +78,26 @@ pub fn explain(
 ///
 /// # Errors
 /// Only where memory runs out.
-fn conflict(
+fn conflict<W: Listener>(
     alloc: Global,
     league: &League,
     log: Log,
     conflicts: Option<u64>,
+    watch: &W,
 ) -> Result<Explained, AllocError>
     requires small { encoding_size league.now ≤ most_terms }
     requires refuted { RefutesLeague league.now log }
-    ensures explanation { IfOk result (IsExplanation league.now conflicts) }
+    ensures explanation { IfOk result (IsExplanation league.now conflicts (W.may_stop watch.now)) }
     ensures irreducible { IfOk result (IsIrreducibleIfDecided league.now) }
-    ensures decided { IsAmple (var_count league.now) conflicts → IfOk result IsDecided }
+    ensures decided { (W.may_stop watch.now → ⊥) → IsAmple (var_count league.now) conflicts
+        → IfOk result IsDecided }
     ensures conflict { IfOk result HasConflict }
 {
     let _n = league.n();
     let members = all_open(alloc, league)?;
     let whole = Contradiction { members, log };
-    let near = narrow(alloc, league, whole, conflicts)?;
-    let least = minimise(alloc, league, near, conflicts)?;
+    let near = narrow(alloc, league, whole, conflicts, watch)?;
+    let least = minimise(alloc, league, near, conflicts, watch)?;
     said(alloc, least)
 }
 

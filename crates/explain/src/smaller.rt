@@ -11,47 +11,60 @@ use crate::cores::narrow;
 use crate::member::{Contradiction, first_open, others, settle, shrunk};
 use league::League;
 use refutation::Log;
+use robin_news::Listener;
 use std::alloc::{AllocError, Global};
 
-/// A contradiction of which each member was tried: without it there is a schedule, or a search was spent.
+/// A contradiction of which each member was tried: without it there is a schedule, or a search was spent, or the watch
+/// ended the run before it was tried.
 ///
 /// # Errors
 /// Only where memory runs out.
-pub(crate) fn minimise(
+pub(crate) fn minimise<W: Listener>(
     alloc: Global,
     league: &League,
     contradiction: Contradiction,
     conflicts: Option<u64>,
+    watch: &W,
 ) -> Result<Contradiction, AllocError>
-    requires explained { IsExplained league.now conflicts contradiction.members.items contradiction.log }
-    ensures explained { IfOk result (λ least. IsExplained league.now conflicts least.members.items least.log) }
+    requires explained { IsExplained league.now conflicts (W.may_stop watch.now) contradiction.members.items
+        contradiction.log }
+    ensures explained { IfOk result (λ least. IsExplained league.now conflicts (W.may_stop watch.now)
+        least.members.items least.log) }
     ensures closed { IfOk result (λ least. AreClosed least.members.items) }
 {
     let mut least = contradiction;
     'tries: while let Some(place) = first_open(&least.members) {
-        least = tried(alloc, league, least, place, conflicts)?;
+        least = tried(alloc, league, least, place, conflicts, watch)?;
     }
     Ok(least)
 }
 
-/// What is known after a try of the open member at a place: there is less to do.
+/// What is known after a try of the open member at a place: there is less to do. Where the run is to end the member is
+/// left undecided, with a log of no step.
 ///
 /// # Errors
 /// Only where memory runs out.
-fn tried(
+fn tried<W: Listener>(
     alloc: Global,
     league: &League,
     contradiction: Contradiction,
     place: usize,
     conflicts: Option<u64>,
+    watch: &W,
 ) -> Result<Contradiction, AllocError>
-    requires explained { IsExplained league.now conflicts contradiction.members.items contradiction.log }
+    requires explained { IsExplained league.now conflicts (W.may_stop watch.now) contradiction.members.items
+        contradiction.log }
     requires untried { IsOpenAt contradiction.members.items place }
-    ensures explained { IfOk result (λ later. IsExplained league.now conflicts later.members.items later.log) }
+    ensures explained { IfOk result (λ later. IsExplained league.now conflicts (W.may_stop watch.now)
+        later.members.items later.log) }
     ensures less { IfOk result (λ later. work later.members.items < work contradiction.members.items) }
 {
     let number = contradiction.members[place].number;
-    match try_without(alloc, league, &contradiction, number, conflicts)? {
+    if watch.is_over_now(place as u64) {
+        let log = Log::new(alloc);
+        return Ok(settle(contradiction, place, number, Case::Undecided { log }));
+    }
+    match try_without(alloc, league, &contradiction, number, conflicts, watch)? {
         Attempt::Met {
             schedule,
             objective: _objective,
@@ -59,28 +72,30 @@ fn tried(
         Attempt::Spent(log) => Ok(settle(contradiction, place, number, Case::Undecided { log })),
         Attempt::Refuted(log) => {
             let smaller = dropped(alloc, contradiction, number, log)?;
-            narrow(alloc, league, smaller, conflicts)
+            narrow(alloc, league, smaller, conflicts, watch)
         }
     }
 }
 
-/// What is found of the league of the other members alone.
+/// What is found of the league of the other members alone. The watch may end the search.
 ///
 /// # Errors
 /// Only where memory runs out.
-fn try_without(
+fn try_without<W: Listener>(
     alloc: Global,
     league: &League,
     contradiction: &Contradiction,
     number: u32,
     conflicts: Option<u64>,
+    watch: &W,
 ) -> Result<Attempt, AllocError>
-    requires { IsExplained league.now conflicts contradiction.now.members.items contradiction.now.log }
-    ensures { IfOk result (IsAttempt
-        (part_of league.now (without number (numbers_of contradiction.now.members.items))) conflicts) }
+    requires { IsExplained league.now conflicts (W.may_stop watch.now) contradiction.now.members.items
+        contradiction.now.log }
+    ensures { IfOk result (IsAttempt (part_of league.now (without number (numbers_of contradiction.now.members.items)))
+        conflicts (W.may_stop watch.now)) }
 {
     let others = others(alloc, &contradiction.members, number)?;
-    try_part(alloc, league, &others, conflicts)
+    try_part(alloc, league, &others, conflicts, watch)
 }
 
 /// The contradiction of the other members alone, with a log that refutes these.

@@ -35,6 +35,11 @@ IsResumed league played k limit (Refuted log) = RefutesResuming league played k 
 IsResumed league played k limit (Spent log) =
     IsSpentAt (resume_rows league (counts_of played) k) (var_count league) limit log
 
+-- what each answer says, where the search keeps to one of these limits
+abbrev pub IsResumedBy : Instance → List Game → ℕ → (Option ℕ → Type 0) → Resumed → Type 0
+IsResumedBy league played k limits resumed =
+    (conflicts : Option ℕ) × limits conflicts × IsResumed league played k conflicts resumed
+
 -- the answer is a schedule of just these games
 abbrev pub IsPlan : List Game → Resumed → Type 0
 IsPlan played (Schedule games objective) = counts_of games ≡ counts_of played

@@ -1,5 +1,5 @@
 //! A season resumed, and made better.
-ghost use Rattle.std.specs.Prelude.{◌≤◌, length, IfOk};
+ghost use Rattle.std.specs.Prelude.{◌≤◌, ℕ, length, Option, IfOk};
 ghost use Rattle.std.specs.List.{All};
 ghost use Rattle.league.specs.Accepted.{IsAccepted};
 ghost use Rattle.league.specs.Counts as counts;
@@ -7,7 +7,8 @@ ghost use Rattle.league.specs.Counts.{counts_of};
 ghost use Rattle.league.specs.Instance.{IsGame};
 ghost use Rattle.resume_rows.specs.Kept as kept;
 ghost use Rattle.encoding.specs.Capped.{capped};
-ghost use Rattle.resume.specs.Answers.{IsPlan, IsResumed, IsResumedSeason};
+ghost use Rattle.robin_watch.specs.Limits.{IsKeptTo};
+ghost use Rattle.resume.specs.Answers.{IsPlan, IsResumed, IsResumedBy, IsResumedSeason};
 ghost use Rattle.encoding.specs.Limit.{KeepsLimit};
 
 use crate::lower::{MOST_GAMES, Season, lowered};
@@ -15,32 +16,34 @@ use crate::{Resumed, resume};
 use deviation::assess;
 use encoding::EncodeFault;
 use league::{League, Schedule};
+use robin_watch::Watch;
 use std::alloc::{AllocError, Global};
 
 /// Resumes a season as `resume` does. Where that answers with a schedule, and not with the old plan as it is, the
 /// answer is a schedule of a lower objective that keeps the played games too, if a descent of at most 10,000 moves that
-/// leave them alone leads to one.
+/// leave them alone leads to one. The watch may end the search, and the descent.
 ///
 /// # Errors
 /// As `resume`.
-pub fn resume_lowered(
+pub fn resume_lowered<W: Watch>(
     alloc: Global,
     league: &League,
     played: &Schedule,
     k: u16,
     conflicts: Option<u64>,
+    watch: &W,
 ) -> Result<Resumed, EncodeFault>
     requires few { length played.now ≤ 10000 }
     requires fit { All (IsGame league.now.n) played.now }
     requires slots { k ≤ counts.slot_count league.now.n }
     ensures limit { KeepsLimit (kept.resume_size league.now k) (capped (kept.resume_size league.now k)) result }
-    ensures answer { IfOk result (IsResumed league.now played.now k conflicts) }
+    ensures answer { IfOk result (IsResumedBy league.now played.now k (IsKeptTo conflicts (W.may_stop watch.now))) }
 
     // Where the league accepts what `played` has, the answer is a schedule of the same games.
     ensures plan { IsAccepted league.now (counts_of played.now) → IfOk result (IsPlan played.now) }
 {
-    let resumed = resume(alloc, league, played, k, conflicts)?;
-    let answer = bettered(alloc, league, played, k, conflicts, resumed)?;
+    let resumed = resume(alloc, league, played, k, conflicts, watch)?;
+    let answer = bettered(alloc, league, played, k, resumed, watch)?;
     Ok(answer)
 }
 
@@ -48,19 +51,20 @@ pub fn resume_lowered(
 ///
 /// # Errors
 /// Only where memory runs out.
-fn bettered(
+fn bettered<W: Watch>(
     alloc: Global,
     league: &League,
     played: &Schedule,
     k: u16,
-    conflicts: Option<u64>,
     resumed: Resumed,
+    watch: &W,
 ) -> Result<Resumed, AllocError>
     requires few { length played.now ≤ 10000 }
     requires fit { All (IsGame league.now.n) played.now }
-    requires answer { IsResumed league.now played.now k conflicts resumed }
+    requires answer { (conflicts : Option ℕ) × IsResumed league.now played.now k conflicts resumed }
     requires plan { IsAccepted league.now (counts_of played.now) → IsPlan played.now resumed }
-    ensures answer { IfOk result (IsResumed league.now played.now k conflicts) }
+    ensures answer { (conflicts : Option ℕ) → IsResumed league.now played.now k conflicts resumed
+        → IfOk result (IsResumed league.now played.now k conflicts) }
     ensures plan { IsAccepted league.now (counts_of played.now) → IfOk result (IsPlan played.now) }
 {
     let assessment = assess(alloc, league, played)?;
@@ -72,10 +76,14 @@ fn bettered(
             schedule,
             objective,
         } => {
+            let season = Season {
+                schedule,
+                objective,
+            };
             let Season {
                 schedule,
                 objective,
-            } = lower_season(alloc, league, played, k, schedule, objective)?;
+            } = lower_season(alloc, league, played, k, season, watch)?;
             Ok(Resumed::Schedule {
                 schedule,
                 objective,
@@ -90,31 +98,25 @@ fn bettered(
 ///
 /// # Errors
 /// Only where memory runs out.
-fn lower_season(
+fn lower_season<W: Watch>(
     alloc: Global,
     league: &League,
     played: &Schedule,
     k: u16,
-    schedule: Schedule,
-    objective: u128,
+    season: Season,
+    watch: &W,
 ) -> Result<Season, AllocError>
-    requires { IsResumedSeason league.now played.now k schedule objective }
-    ensures season { IfOk result (λ season.
-        IsResumedSeason league.now played.now k season.schedule season.objective) }
-    ensures no_dearer { IfOk result (λ season. season.objective ≤ objective) }
+    requires { IsResumedSeason league.now played.now k season.schedule season.objective }
+    ensures season { IfOk result (λ lower.
+        IsResumedSeason league.now played.now k lower.schedule lower.objective) }
+    ensures no_dearer { IfOk result (λ lower. lower.objective ≤ season.objective) }
 {
-    if schedule.len() > MOST_GAMES {
-        return Ok(Season {
-            schedule,
-            objective,
-        });
+    if season.schedule.len() > MOST_GAMES {
+        return Ok(season);
     }
-    let found = lowered(alloc, league, &schedule, objective, k)?;
+    let found = lowered(alloc, league, &season.schedule, season.objective, k, watch)?;
     match found {
-        Some(season) => Ok(season),
-        None => Ok(Season {
-            schedule,
-            objective,
-        }),
+        Some(lower) => Ok(lower),
+        None => Ok(season),
     }
 }

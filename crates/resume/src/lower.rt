@@ -11,9 +11,10 @@ ghost use Rattle.resume.specs.Answers.{IsResumedSeason};
 
 use crate::fixed::fixed_league;
 use crate::merge::merged;
-use descent::{descend, season_of};
+use descent::{descend_watched, season_of};
 use deviation::assess;
 use league::{League, Schedule};
+use robin_watch::Watch;
 use rule_core::{Plain, Steps};
 use std::alloc::{AllocError, Global};
 use tally::league_tally;
@@ -33,16 +34,17 @@ pub(crate) struct Season {
 
 /// A schedule that the league accepts, that has the games of `start` in the slots below k, and whose objective is below
 /// `cost`; if a descent of at most 10,000 moves from `start` leads to one. Nothing where it doesn't, and where the
-/// league with a constraint more for each of these slots would have more than 20,000.
+/// league with a constraint more for each of these slots would have more than 20,000. The watch may end the descent.
 ///
 /// # Errors
 /// Only where memory runs out.
-pub(crate) fn lowered(
+pub(crate) fn lowered<W: Watch>(
     alloc: Global,
     league: &League,
     start: &Schedule,
     cost: u128,
     k: u16,
+    watch: &W,
 ) -> Result<Option<Season>, AllocError>
     requires accepted { IsAccepted league.now (counts_of start.now) }
     requires fit { All (IsGame league.now.n) start.now }
@@ -55,7 +57,7 @@ pub(crate) fn lowered(
     let Some(fixed) = made else {
         return Ok(None);
     };
-    let end = descended(alloc, &fixed, start)?;
+    let end = descended(alloc, &fixed, start, watch)?;
     let schedule = merged(alloc, start, &end, k)?;
     better(alloc, league, start, k, schedule, cost)
 }
@@ -64,7 +66,12 @@ pub(crate) fn lowered(
 ///
 /// # Errors
 /// Only where memory runs out.
-fn descended(alloc: Global, league: &League, start: &Schedule) -> Result<Schedule, AllocError>
+fn descended<W: Watch>(
+    alloc: Global,
+    league: &League,
+    start: &Schedule,
+    watch: &W,
+) -> Result<Schedule, AllocError>
     requires round_robin { IsRoundRobin league.now.n league.now.phased (counts_of start.now) }
     requires fit { All (IsGame league.now.n) start.now }
     requires few { length start.now ≤ 10000 }
@@ -73,7 +80,7 @@ fn descended(alloc: Global, league: &League, start: &Schedule) -> Result<Schedul
     let mut steps = Steps::<Plain>::start();
     let mut tally = league_tally(alloc, league, 1, start.games(), &mut steps)?;
     let phased = league.phased();
-    let _descent = descend(alloc, phased, &mut tally, MOST_MOVES, &mut steps)?;
+    let _descent = descend_watched(alloc, phased, &mut tally, MOST_MOVES, &mut steps, watch)?;
     season_of(alloc, phased, tally.cells())
 }
 

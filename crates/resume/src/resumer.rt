@@ -11,28 +11,30 @@ ghost use Rattle.rows.specs.Values.{assigned};
 ghost use Rattle.encoding_base.specs.Encoding.{rows_of};
 ghost use Rattle.encoding_base.specs.Shadow.{decoded};
 ghost use Rattle.encoding_base.specs.Variables.{var_count};
-ghost use Rattle.clause_search.specs.Answers.{IsAnswer};
+ghost use Rattle.robin_watch.specs.Limits.{IsKeptTo};
+ghost use Rattle.clause_search.specs.Answers.{IsAnswerBy};
 ghost use Rattle.resume_rows.specs.Kept as kept;
 ghost use Rattle.encoding.specs.Capped.{capped};
 ghost use Rattle.resume_rows.specs.Systems.{rows_for};
-ghost use Rattle.resume.specs.Answers.{IsPlan, IsResumed};
+ghost use Rattle.resume.specs.Answers.{IsPlan, IsResumedBy};
 ghost use Rattle.resume.specs.Found.{MeetsLeague, Tells};
 ghost use Rattle.encoding.specs.Limit.{KeepsLimit};
 
 use crate::plan::{old_plan, preferred};
 use crate::resumed::Resumed;
 use crate::season::season_of;
-use clause_search::{Found, search};
+use clause_search::{Found, search_watched};
 use deviation::assess;
 use encoding::{EncodeFault, MOST_TERMS};
 use league::{League, Schedule};
 use resume_rows::{ResumeSystem, resume_size, resume_system};
+use robin_watch::Watch;
 use rows::Assignment;
 use std::alloc::{AllocError, Global};
 
 /// Finds a schedule that the league accepts and that holds, in the first k slots, the same set of games as `played`; or
 /// a log that there is none. With a limit the search learns at most so many clauses, and then its log is the answer;
-/// without one, or with one of 3 to the number of variables, it goes on to the end.
+/// without one, or with one of 3 to the number of variables, it goes on to the end. The watch may end the search.
 ///
 /// The games of `played` from slot k on are the old plan: where the league accepts the whole of it, it is the answer;
 /// and else the search decides its games first, to be true, so that the new plan is near it.
@@ -40,18 +42,19 @@ use std::alloc::{AllocError, Global};
 /// # Errors
 /// `TooLarge` exactly where the resume rows have more than 40,000,000 terms, with their number as far as a number of
 /// 64 bits holds it, before anything else; else only where memory runs out.
-pub fn resume(
+pub fn resume<W: Watch>(
     alloc: Global,
     league: &League,
     played: &Schedule,
     k: u16,
     conflicts: Option<u64>,
+    watch: &W,
 ) -> Result<Resumed, EncodeFault>
     requires few { length played.now ≤ 10000 }
     requires fit { All (IsGame league.now.n) played.now }
     requires slots { k ≤ counts.slot_count league.now.n }
     ensures limit { KeepsLimit (kept.resume_size league.now k) (capped (kept.resume_size league.now k)) result }
-    ensures answer { IfOk result (IsResumed league.now played.now k conflicts) }
+    ensures answer { IfOk result (IsResumedBy league.now played.now k (IsKeptTo conflicts (W.may_stop watch.now))) }
 
     // Where the league accepts what `played` has, the answer is a schedule of the same games.
     ensures plan { IsAccepted league.now (counts_of played.now) → IfOk result (IsPlan played.now) }
@@ -61,29 +64,30 @@ pub fn resume(
             return Ok(plan);
         }
     }
-    searched(alloc, league, played, k, conflicts)
+    searched(alloc, league, played, k, conflicts, watch)
 }
 
 /// What a search over the resume rows comes to.
 ///
 /// # Errors
 /// As `resume`.
-fn searched(
+fn searched<W: Watch>(
     alloc: Global,
     league: &League,
     played: &Schedule,
     k: u16,
     conflicts: Option<u64>,
+    watch: &W,
 ) -> Result<Resumed, EncodeFault>
     requires few { length played.now ≤ 10000 }
     requires fit { All (IsGame league.now.n) played.now }
     requires slots { k ≤ counts.slot_count league.now.n }
     ensures limit { KeepsLimit (kept.resume_size league.now k) (capped (kept.resume_size league.now k)) result }
-    ensures answer { IfOk result (IsResumed league.now played.now k conflicts) }
+    ensures answer { IfOk result (IsResumedBy league.now played.now k (IsKeptTo conflicts (W.may_stop watch.now))) }
 {
     let _n = league.n();
     let system = resume_system(alloc, league, played, k)?;
-    let found = found_in(alloc, &system, league, played, conflicts)?;
+    let found = found_in(alloc, &system, league, played, conflicts, watch)?;
     let resumed = told(alloc, league, found)?;
     Ok(resumed)
 }
@@ -92,20 +96,28 @@ fn searched(
 ///
 /// # Errors
 /// Only where memory runs out.
-fn found_in(
+fn found_in<W: Watch>(
     alloc: Global,
     system: &ResumeSystem,
     league: &League,
     played: &Schedule,
     conflicts: Option<u64>,
+    watch: &W,
 ) -> Result<Found, AllocError>
     requires league { system.now.league ≡ league.now }
     requires fit { All (IsGame league.now.n) played.now }
-    ensures { IfOk result (IsAnswer (rows_for system.now)
-        (var_count system.now.league) conflicts) }
+    ensures { IfOk result (IsAnswerBy (rows_for system.now) (var_count system.now.league) conflicts
+        (W.may_stop watch.now)) }
 {
     let prefer = preferred(alloc, league.n(), played.games())?;
-    search(alloc, system.rows(), system.vars(), &prefer, conflicts)
+    search_watched(
+        alloc,
+        system.rows(),
+        system.vars(),
+        &prefer,
+        conflicts,
+        watch,
+    )
 }
 
 /// What was found, as an answer.

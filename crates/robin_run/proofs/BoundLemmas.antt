@@ -4,6 +4,7 @@ use Rattle.std.proofs.Common.{inr, refl, sym, subst, ◌∙◌}
 use Rattle.std.specs.Io.KnownBytes.{Appends}
 use Rattle.std.specs.Prelude.{IfSome}
 use Rattle.robin_io.specs.Outside.{Output, Store}
+use Rattle.robin_watch.specs.Limits.{IsKeptTo}
 use Rattle.robinx_tags.specs.Pieces.{pieces}
 use Rattle.robinx_form.specs.InstanceFile.{instance_of}
 use Rattle.robinx_read.specs.declared.instance.TheConstants.{INSTANCE_LIMIT}
@@ -24,8 +25,8 @@ use Rattle.command_bound.specs.Bound.{IsBoundVerdict, bound_answer, bound_verdic
 use Rattle.command_bound.specs.Bound.{bounded, has_few_terms, says_certificate}
 use Rattle.command_bound.proofs.AnswerLemmas.{bounded-well_formed}
 use Rattle.command_prove.specs.Prove as proving
-use Rattle.command_prove.specs.Prove.{IsLeast, IsShown, proved}
-use Rattle.command_prove.proofs.AnswerLemmas.{proved-known, proved-well_formed}
+use Rattle.command_prove.specs.Prove.{IsLeast, IsShownBy, proved}
+use Rattle.command_prove.proofs.AnswerLemmas.{ShowsAs, proved-known, proved-well_formed}
 use Rattle.command_resume.specs.Seasons.{SaySeason}
 use Rattle.robin_run.specs.Bound.{Bounds, IsCertified}
 use Rattle.robin_run.specs.Prove.{IsBettered, IsUnbettered, Proves}
@@ -33,12 +34,6 @@ use Rattle.robin_run.specs.Run.{Answered, Run}
 use Rattle.robin_run.proofs.RunLemmas.{writes, writes-as}
 
 -- ---- `prove`
-
--- what the status of an answer says
-abbrev IsShownBy : Instance → Option ℕ → List Game → Outcome
-IsShownBy league conflicts games answer =
-    (answer.status ≡ Yes → IsLeast league conflicts games answer)
-    × (answer.status ≡ Better → proving.IsBettered league games answer)
 
 unbettered : (league : Instance) (conflicts : Option ℕ) (games : List Game) (answer : Answer)
     (output : Output) → IsLeast league conflicts games answer → Appends output.before output.after answer.text
@@ -65,27 +60,28 @@ bettered league games answer output shown written = record {
 -- what an answer shows of the games of two files, by its status
 shown-by : (run : Run) (instance solution : List ℕ) (conflicts : Option ℕ) (league : Instance) (games : List Game)
     (answer : Answer) → SaySeason run.store instance solution league games
-    → proved run.store instance solution conflicts answer → IsShownBy league conflicts games answer
+    → proved run.store instance solution (IsKeptTo conflicts run.may_stop) answer
+    → ShowsAs league (IsKeptTo conflicts run.may_stop) games answer
 shown-by run instance solution conflicts league games answer say given =
-    proved-known run.store instance solution say.first say.second league games conflicts answer say.first_known
-    say.second_known say.says_league say.says_played given
+    proved-known run.store instance solution say.first say.second league games (IsKeptTo conflicts run.may_stop) answer
+    say.first_known say.second_known say.says_league say.says_played given
 
 pub proves : (run : Run) → Answered run → Proves run
 proves run answered instance solution conflicts is = record {
   proved = λ league games good works.
-      writes run (instance ∷ solution ∷ []) (Prove instance solution conflicts) (IsShown league conflicts games) answered
-      is works
-      (λ answer given. proved-well_formed run.store instance solution league games conflicts answer good works.store
-      given);
+      writes run (instance ∷ solution ∷ []) (Prove instance solution conflicts)
+      (IsShownBy league (IsKeptTo conflicts run.may_stop) games) answered is works
+      (λ answer given. proved-well_formed run.store instance solution league games (IsKeptTo conflicts run.may_stop)
+      answer good works.store given);
   unbettered = λ league games say ended.
       let whole = writes-as run (Prove instance solution conflicts) Yes answered is ended (λ same. cc) (λ same. cc) in
-      unbettered league conflicts games whole.answer run.output
-      ((shown-by run instance solution conflicts league games whole.answer say whole.given).0 whole.status_is)
-      whole.written;
+      let shown = (shown-by run instance solution conflicts league games whole.answer say whole.given).least
+      whole.status_is in
+      unbettered league shown.0 games whole.answer run.output shown.1 whole.written;
   bettered = λ league games say ended.
       let whole = writes-as run (Prove instance solution conflicts) Better answered is ended (λ same. cc) (λ same. cc) in
       bettered league games whole.answer run.output
-      ((shown-by run instance solution conflicts league games whole.answer say whole.given).1 whole.status_is)
+      ((shown-by run instance solution conflicts league games whole.answer say whole.given).better whole.status_is)
       whole.written;
 }
 

@@ -2,6 +2,7 @@
 use Rattle.std.proofs.Common.{◌≡◌, ℕ, ◌+◌, Bool, true, false, if◌then◌else◌, List, length, Option, Some, None, Result}
 use Rattle.std.proofs.Common.{Ok, Err, codes, inl, inr, refl, sym, subst, ◌∙◌}
 use Rattle.robin_io.specs.Outside.{Output, Store}
+use Rattle.robin_watch.specs.Limits.{IsKeptTo}
 use Rattle.rows.specs.Literals.{Literal}
 use Rattle.rows.specs.Rows.{Row}
 use Rattle.rows.specs.Values.{assigned}
@@ -50,7 +51,7 @@ use Rattle.command_explain.specs.Parted.{IsPart, part_answer, parted}
 use Rattle.explain.specs.Parts.{first_unknown}
 use Rattle.command_bound.specs.Bound.{IsBoundVerdict, bound_answer, bound_verdict, bounded, has_few_terms}
 use Rattle.command_bound.specs.Bound.{says_certificate}
-use Rattle.command_prove.specs.Prove.{IsShown, proved}
+use Rattle.command_prove.specs.Prove.{IsShown, IsShownBy, proved}
 use Rattle.command_resume.specs.Audited as auditing
 use Rattle.command_resume.specs.Audited.{audited}
 use Rattle.command_resume.specs.Resumed as resuming
@@ -293,8 +294,9 @@ patterned-ends Ends file fault ends_yes refuted spent store instance conflicts a
     (λ rows found. patterns-ends Ends ends_yes refuted spent league conflicts answer found) at_league) given
 
 explaining-ends : (Ends : Status → Type 0) → Ends Yes → Ends Refuted → Ends Spent → (league : Instance)
-    (conflicts : Option ℕ) (answer : Answer) → explaining.IsFound league conflicts answer → Ends answer.status
-explaining-ends Ends ends_yes refuted spent league conflicts answer found =
+    (conflicts : Option ℕ) (may_stop : Type 0) (answer : Answer) → explaining.IsFound league conflicts may_stop answer
+    → Ends answer.status
+explaining-ends Ends ends_yes refuted spent league conflicts may_stop answer found =
     elim found.found [
       | inl met ↦ ends-with Ends answer Yes met.status ends_yes
       | inr (inl named) ↦ ends-with Ends answer Refuted named.status refuted
@@ -303,13 +305,13 @@ explaining-ends Ends ends_yes refuted spent league conflicts answer found =
 
 explained-ends : (Ends : Status → Type 0) → Ends File → Ends ReadFault → Ends Yes → Ends Refuted → Ends Spent
     → (store : Store) (instance : List ℕ)
-    (conflicts : Option ℕ) (answer : Answer) → explained store instance conflicts answer
+    (conflicts : Option ℕ) (may_stop : Type 0) (answer : Answer) → explained store instance conflicts may_stop answer
     → Ends answer.status
-explained-ends Ends file fault ends_yes refuted spent store instance conflicts answer given =
+explained-ends Ends file fault ends_yes refuted spent store instance conflicts may_stop answer given =
     league-ends Ends file fault (store.contents instance) (store.took_more INSTANCE_LIMIT) (store.failed instance)
-    (λ bytes league. encodes league (λ rows. explaining.IsFound league conflicts)) answer
-    (λ bytes league at_league. encodes-ends Ends file league (λ rows. explaining.IsFound league conflicts) answer
-    (λ rows found. explaining-ends Ends ends_yes refuted spent league conflicts answer found) at_league) given
+    (λ bytes league. encodes league (λ rows. explaining.IsFound league conflicts may_stop)) answer
+    (λ bytes league at_league. encodes-ends Ends file league (λ rows. explaining.IsFound league conflicts may_stop) answer
+    (λ rows found. explaining-ends Ends ends_yes refuted spent league conflicts may_stop answer found) at_league) given
 
 -- ---- `part`
 
@@ -349,22 +351,22 @@ shown-ends Ends ends_yes ends_no better spent league conflicts games answer (inr
 
 proved-ends : (Ends : Status → Type 0) → Ends File → Ends ReadFault → Ends Yes → Ends No → Ends Better → Ends Spent
     → (store : Store)
-    (instance solution : List ℕ) (conflicts : Option ℕ) (answer : Answer)
-    → proved store instance solution conflicts answer → Ends answer.status
-proved-ends Ends file fault ends_yes ends_no better spent store instance solution conflicts answer
+    (instance solution : List ℕ) (limits : Option ℕ → Type 0) (answer : Answer)
+    → proved store instance solution limits answer → Ends answer.status
+proved-ends Ends file fault ends_yes ends_no better spent store instance solution limits answer
     given =
     league-ends Ends file fault (store.contents instance) (store.took_more INSTANCE_LIMIT) (store.failed instance)
     (λ first league. has_few_terms league
     (λ few. takes (codes "solution") (store.contents solution) SOLUTION_LIMIT (store.took_more (length first + SOLUTION_LIMIT))
     (store.failed solution)
-    (λ second. says (codes "solution") (solution_of league.n (pieces second)) (IsShown league conflicts)))) answer
+    (λ second. says (codes "solution") (solution_of league.n (pieces second)) (IsShownBy league limits)))) answer
     (λ first league at_league. few-ends Ends file league
     (λ few. takes (codes "solution") (store.contents solution) SOLUTION_LIMIT (store.took_more (length first + SOLUTION_LIMIT))
     (store.failed solution)
-    (λ second. says (codes "solution") (solution_of league.n (pieces second)) (IsShown league conflicts))) answer
+    (λ second. says (codes "solution") (solution_of league.n (pieces second)) (IsShownBy league limits))) answer
     (λ at_few. games-ends Ends file fault league.n (store.contents solution) (store.took_more (length first + SOLUTION_LIMIT))
-    (store.failed solution) (λ second. IsShown league conflicts) answer
-    (λ second games shown. shown-ends Ends ends_yes ends_no better spent league conflicts games answer shown) at_few)
+    (store.failed solution) (λ second. IsShownBy league limits) answer
+    (λ second games shown. shown-ends Ends ends_yes ends_no better spent league shown.0 games answer shown.2) at_few)
     at_league)
     given
 
@@ -454,13 +456,13 @@ resuming-ends Ends ends_yes refuted spent league played k conflicts answer found
 
 resumed-ends : (Ends : Status → Type 0) → Ends File → Ends ReadFault → Ends Yes → Ends Refuted → Ends Spent
     → (store : Store)
-    (instance solution : List ℕ) (k : ℕ) (conflicts : Option ℕ) (answer : Answer)
-    → resumed store instance solution k conflicts answer → Ends answer.status
-resumed-ends Ends file fault ends_yes refuted spent store instance solution k conflicts answer
+    (instance solution : List ℕ) (k : ℕ) (limits : Option ℕ → Type 0) (answer : Answer)
+    → resumed store instance solution k limits answer → Ends answer.status
+resumed-ends Ends file fault ends_yes refuted spent store instance solution k limits answer
     given =
     plays-ends Ends file fault store instance solution k
-    (λ league played bytes. resuming.IsFound league played k conflicts) answer
-    (λ league played bytes found. resuming-ends Ends ends_yes refuted spent league played k conflicts answer found)
+    (λ league played bytes. resuming.IsFoundBy league played k limits) answer
+    (λ league played bytes found. resuming-ends Ends ends_yes refuted spent league played k found.0 answer found.2)
     given
 
 audited-ends : (Ends : Status → Type 0) → Ends File → Ends ReadFault → Ends Yes → Ends No
@@ -571,17 +573,19 @@ answer-ends may_stop (Some (Patterns instance conflicts)) store answer given =
     instance conflicts answer given
 answer-ends may_stop (Some (Explain instance conflicts)) store answer given =
     explained-ends (EndsBy (Some (Explain instance conflicts))) refl refl refl refl refl store
-    instance conflicts answer given
+    instance conflicts may_stop answer given
 answer-ends may_stop (Some (Part instance members)) store answer given =
     parted-ends (EndsBy (Some (Part instance members))) refl refl refl store instance members answer
     given
 answer-ends may_stop (Some (Prove instance solution conflicts)) store answer given =
-    proved-ends (EndsBy (Some (Prove instance solution conflicts))) refl refl refl refl refl refl store instance solution conflicts answer given
+    proved-ends (EndsBy (Some (Prove instance solution conflicts))) refl refl refl refl refl refl store instance solution
+    (IsKeptTo conflicts may_stop) answer given
 answer-ends may_stop (Some (Bound instance log)) store answer given =
     bounded-ends (EndsBy (Some (Bound instance log))) refl refl refl refl store instance log answer
     given
 answer-ends may_stop (Some (Resume instance solution k conflicts)) store answer given =
-    resumed-ends (EndsBy (Some (Resume instance solution k conflicts))) refl refl refl refl refl store instance solution k conflicts answer given
+    resumed-ends (EndsBy (Some (Resume instance solution k conflicts))) refl refl refl refl refl store instance solution
+    k (IsKeptTo conflicts may_stop) answer given
 answer-ends may_stop (Some (Audit instance solution k log)) store answer given =
     audited-ends (EndsBy (Some (Audit instance solution k log))) refl refl refl refl store instance
     solution k log answer given

@@ -32,22 +32,22 @@ use Rattle.robin_run.proofs.RunLemmas.{writes, writes-as}
 
 -- ---- stages
 
-abbrev found_of : Option ℕ → Instance → Outcome
-found_of conflicts league = encodes league (λ rows. IsFound league conflicts)
+abbrev found_of : Option ℕ → Type 0 → Instance → Outcome
+found_of conflicts may_stop league = encodes league (λ rows. IsFound league conflicts may_stop)
 
-abbrev said_of : Option ℕ → List ℕ → Outcome
-said_of conflicts bytes = says (codes "instance") (instance_of (pieces bytes)) (found_of conflicts)
+abbrev said_of : Option ℕ → Type 0 → List ℕ → Outcome
+said_of conflicts may_stop bytes = says (codes "instance") (instance_of (pieces bytes)) (found_of conflicts may_stop)
 
 -- a well-formed instance at which nothing fails: the answer is what is found of its league
 found-well_formed : (store : Store)
-    (instance : List ℕ) (conflicts : Option ℕ) (league : Instance) (answer : Answer)
+    (instance : List ℕ) (conflicts : Option ℕ) (may_stop : Type 0) (league : Instance) (answer : Answer)
     → IsWellFormedInstance store instance league → (store.failed instance → ⊥)
-    → explained store instance conflicts answer → IsFound league conflicts answer
-found-well_formed store instance conflicts league answer good works given =
-    encodes-small league (λ rows. IsFound league conflicts) answer good.small
-    (says-known (codes "instance") (instance_of (pieces good.bytes)) league (found_of conflicts) answer good.says_league
+    → explained store instance conflicts may_stop answer → IsFound league conflicts may_stop answer
+found-well_formed store instance conflicts may_stop league answer good works given =
+    encodes-small league (λ rows. IsFound league conflicts may_stop) answer good.small
+    (says-known (codes "instance") (instance_of (pieces good.bytes)) league (found_of conflicts may_stop) answer good.says_league
     (takes-known (codes "instance") (store.contents instance) INSTANCE_LIMIT (store.took_more INSTANCE_LIMIT) (store.failed instance)
-    (said_of conflicts) answer good.bytes good.known good.within works given))
+    (said_of conflicts may_stop) answer good.bytes good.known good.within works given))
 
 -- a part of a well-formed instance
 part-well_formed : (store : Store)
@@ -62,31 +62,31 @@ part-well_formed store instance members bytes league answer known within says_le
 
 -- ---- a refutation
 
-found-refuted : (league : Instance) (conflicts : Option ℕ) (answer : Answer) → answer.status ≡ Refuted
-    → IsFound league conflicts answer → IsNamed league conflicts answer
-found-refuted league conflicts answer ended found =
+found-refuted : (league : Instance) (conflicts : Option ℕ) (may_stop : Type 0) (answer : Answer) → answer.status ≡ Refuted
+    → IsFound league conflicts may_stop answer → IsNamed league conflicts may_stop answer
+found-refuted league conflicts may_stop answer ended found =
     elim found.found [
       | inl met ↦ let same : Yes ≡ Refuted = sym met.status ∙ ended in absurd (cc)
       | inr (inl named) ↦ named
       | inr (inr spent) ↦ let same : Spent ≡ Refuted = sym spent.status ∙ ended in absurd (cc)
     ]
 
-encoded-refuted : (league : Instance) (conflicts : Option ℕ) (answer : Answer) → answer.status ≡ Refuted
-    → found_of conflicts league answer → IsNamed league conflicts answer
-encoded-refuted league conflicts answer ended (inl h) = found-refuted league conflicts answer ended h.1
-encoded-refuted league conflicts answer ended (inr h) =
+encoded-refuted : (league : Instance) (conflicts : Option ℕ) (may_stop : Type 0) (answer : Answer) → answer.status ≡ Refuted
+    → found_of conflicts may_stop league answer → IsNamed league conflicts may_stop answer
+encoded-refuted league conflicts may_stop answer ended (inl h) = found-refuted league conflicts may_stop answer ended h.1
+encoded-refuted league conflicts may_stop answer ended (inr h) =
     let same : File ≡ Refuted = sym (ap (λ (a : Answer). a.status) h.1) ∙ ended in absurd (cc)
 
 -- where the answer is a refutation, hard constraints of the league of the file are named
 explained-named : (store : Store)
-    (instance bytes : List ℕ) (conflicts : Option ℕ) (league : Instance) (answer : Answer)
+    (instance bytes : List ℕ) (conflicts : Option ℕ) (may_stop : Type 0) (league : Instance) (answer : Answer)
     → store.contents instance ≡ Some bytes → instance_of (pieces bytes) ≡ Ok league → answer.status ≡ Refuted
-    → explained store instance conflicts answer → IsNamed league conflicts answer
-explained-named store instance bytes conflicts league answer known says_league ended given =
-    encoded-refuted league conflicts answer ended
-    (says-known (codes "instance") (instance_of (pieces bytes)) league (found_of conflicts) answer says_league
+    → explained store instance conflicts may_stop answer → IsNamed league conflicts may_stop answer
+explained-named store instance bytes conflicts may_stop league answer known says_league ended given =
+    encoded-refuted league conflicts may_stop answer ended
+    (says-known (codes "instance") (instance_of (pieces bytes)) league (found_of conflicts may_stop) answer says_league
     (takes-refuted (codes "instance") (store.contents instance) INSTANCE_LIMIT (store.took_more INSTANCE_LIMIT) (store.failed instance)
-    (said_of conflicts) answer bytes known ended given))
+    (said_of conflicts may_stop) answer bytes known ended given))
 
 -- ---- `minimal yes`
 
@@ -117,9 +117,9 @@ minimal_yes false more later is =
     (ap (λ (text : List ℕ). get_or text 8 0) is) refl refl)
 
 -- what is said of the named constraints, where the text is written whole
-contradiction : (league : Instance) (conflicts : Option ℕ) (answer : Answer) (output : Output)
-    → IsNamed league conflicts answer → Appends output.before output.after answer.text → IsContradiction league output
-contradiction league conflicts answer output named written = record {
+contradiction : (league : Instance) (conflicts : Option ℕ) (may_stop : Type 0) (answer : Answer) (output : Output)
+    → IsNamed league conflicts may_stop answer → Appends output.before output.after answer.text → IsContradiction league output
+contradiction league conflicts may_stop answer output named written = record {
   members = named.members;
   rest = minimal_line named.cases ++ (log_text named.log ++ cases_text named.members named.cases);
   some = named.conflict.some;
@@ -135,10 +135,10 @@ contradiction league conflicts answer output named written = record {
 }
 
 -- what stands behind the named constraints reads back
-readable : (league : Instance) (conflicts : Option ℕ) (answer : Answer) (output : Output)
-    → IsNamed league conflicts answer → Appends output.before output.after answer.text
-    → IsReadable league conflicts output
-readable league conflicts answer output named written = record {
+readable : (league : Instance) (conflicts : Option ℕ) (may_stop : Type 0) (answer : Answer) (output : Output)
+    → IsNamed league conflicts may_stop answer → Appends output.before output.after answer.text
+    → IsReadable league conflicts may_stop output
+readable league conflicts may_stop answer output named written = record {
   members = named.members;
   log = named.log;
   cases = named.cases;
@@ -154,18 +154,18 @@ readable league conflicts answer output named written = record {
 pub explains : (run : Run) → Answered run → Explains run
 explains run answered instance conflicts is = record {
   explained = λ league good works.
-      writes run (instance ∷ []) (Explain instance conflicts) (IsFound league conflicts) answered is works
-      (λ answer given. found-well_formed run.store instance conflicts league answer good
+      writes run (instance ∷ []) (Explain instance conflicts) (IsFound league conflicts run.may_stop) answered is works
+      (λ answer given. found-well_formed run.store instance conflicts run.may_stop league answer good
       (first-works run.store instance [] works.store) given);
   contradictory = λ league said ended.
       let whole = writes-as run (Explain instance conflicts) Refuted answered is ended (λ same. cc) (λ same. cc) in
-      contradiction league conflicts whole.answer run.output
-      (explained-named run.store instance said.bytes conflicts league whole.answer said.known said.says_league
+      contradiction league conflicts run.may_stop whole.answer run.output
+      (explained-named run.store instance said.bytes conflicts run.may_stop league whole.answer said.known said.says_league
       whole.status_is whole.given) whole.written;
   readable = λ league said ended.
       let whole = writes-as run (Explain instance conflicts) Refuted answered is ended (λ same. cc) (λ same. cc) in
-      readable league conflicts whole.answer run.output
-      (explained-named run.store instance said.bytes conflicts league whole.answer said.known said.says_league
+      readable league conflicts run.may_stop whole.answer run.output
+      (explained-named run.store instance said.bytes conflicts run.may_stop league whole.answer said.known said.says_league
       whole.status_is whole.given) whole.written;
 }
 

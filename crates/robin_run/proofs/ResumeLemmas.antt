@@ -2,6 +2,7 @@
 use Rattle.std.proofs.Common.{◌≡◌, ◌∷◌, [], ℕ, List, Ok, subst}
 use Rattle.std.specs.Io.KnownBytes.{Appends}
 use Rattle.robin_io.specs.Outside.{Output}
+use Rattle.robin_watch.specs.Limits.{IsKeptTo}
 use Rattle.league.specs.Instance.{Instance}
 use Rattle.league.specs.declared.game.Game.{Game}
 use Rattle.robinx_tags.specs.Pieces.{pieces}
@@ -10,7 +11,7 @@ use Rattle.command_line.specs.Words.Command.{Audit, Resume}
 use Rattle.answers.specs.Reply.{Answer}
 use Rattle.answers.specs.declared.status.Status.TheVariants.{Yes, Refuted}
 use Rattle.command_resume.specs.Audited.{IsVerdict}
-use Rattle.command_resume.specs.Resumed.{IsFound, IsKeptSeason, IsPlanned}
+use Rattle.command_resume.specs.Resumed.{IsFoundBy, IsKeptSeason, IsPlanned}
 use Rattle.command_resume.proofs.AnswerLemmas.{audited-excluded, audited-well_formed, resumed-excluded, resumed-planned}
 use Rattle.command_resume.proofs.AnswerLemmas.{resumed-well_formed}
 use Rattle.robin_run.specs.Audit.{Audits}
@@ -31,20 +32,21 @@ planned_whole league played k answer output planned written = record {
 pub resumes : (run : Run) → Answered run → Resumes run
 resumes run answered instance solution k conflicts is = record {
   resumed = λ league played good works.
-      writes run (instance ∷ solution ∷ []) (Resume instance solution k conflicts) (IsFound league played k conflicts)
-      answered is works
-      (λ answer given. resumed-well_formed run.store instance solution k conflicts league played answer good works.store
-      given);
+      writes run (instance ∷ solution ∷ []) (Resume instance solution k conflicts)
+      (IsFoundBy league played k (IsKeptTo conflicts run.may_stop)) answered is works
+      (λ answer given. resumed-well_formed run.store instance solution k (IsKeptTo conflicts run.may_stop) league played
+      answer good works.store given);
   kept = λ league played say ended.
       let whole = writes-as run (Resume instance solution k conflicts) Yes answered is ended (λ same. cc) (λ same. cc) in
       planned_whole league played k whole.answer run.output
-      (resumed-planned run.store instance solution k conflicts league played whole.answer say whole.status_is whole.given)
+      (resumed-planned run.store instance solution k (IsKeptTo conflicts run.may_stop) league played whole.answer say
+      whole.status_is whole.given)
       whole.written;
   unresumable = λ league played say ended.
       let whole = writes-as run (Resume instance solution k conflicts) Refuted answered is ended (λ same. cc)
       (λ same. cc) in
-      resumed-excluded run.store instance solution k conflicts league played whole.answer say whole.status_is
-      whole.given;
+      resumed-excluded run.store instance solution k (IsKeptTo conflicts run.may_stop) league played whole.answer say
+      whole.status_is whole.given;
 }
 
 pub audits : (run : Run) → Answered run → Audits run

@@ -1,6 +1,7 @@
 -- What a run may answer.
 use Rattle.std.specs.Prelude.{◌≡◌, Option, None, Some}
 use Rattle.robin_io.specs.Outside.{Store}
+use Rattle.robin_watch.specs.Limits.{IsKeptTo}
 use Rattle.answers.specs.Reply.{refused_words}
 use Rattle.answers.specs.Stages.{Outcome}
 use Rattle.command_bound.specs.Bound.{bounded}
@@ -40,13 +41,13 @@ IsAnswer may_stop (Some (Solve instance budgets)) store answer = solved store in
 IsAnswer may_stop (Some (SolveFrom instance solution budgets)) store answer =
     begun store instance solution budgets may_stop answer
 IsAnswer may_stop (Some (Patterns instance conflicts)) store answer = patterned store instance conflicts answer
-IsAnswer may_stop (Some (Explain instance conflicts)) store answer = explained store instance conflicts answer
+IsAnswer may_stop (Some (Explain instance conflicts)) store answer = explained store instance conflicts may_stop answer
 IsAnswer may_stop (Some (Part instance members)) store answer = parted store instance members answer
 IsAnswer may_stop (Some (Prove instance solution conflicts)) store answer =
-    proved store instance solution conflicts answer
+    proved store instance solution (IsKeptTo conflicts may_stop) answer
 IsAnswer may_stop (Some (Bound instance log)) store answer = bounded store instance log answer
 IsAnswer may_stop (Some (Resume instance solution k conflicts)) store answer =
-    resumed store instance solution k conflicts answer
+    resumed store instance solution k (IsKeptTo conflicts may_stop) answer
 IsAnswer may_stop (Some (Audit instance solution k log)) store answer =
     audited store instance solution k log answer
 IsAnswer may_stop (Some (Rows instance goal)) store answer = rowed store instance goal answer

@@ -32,11 +32,13 @@ pub record IsContradiction (league : Instance) (output : Output) : Type 0 where
 
 pub record Promise (run : Run) (instance : List ℕ) (conflicts : Option ℕ) : Type 0 where
   -- What is found of a well-formed league whose rows aren't too many is written, where nothing fails: an accepted
-  -- season, constraints with a log and a season or a spent log for each, or a log that is spent at the budget.
+  -- season, constraints with a log and a season or a spent log for each, or a log that is spent at the budget. The budget
+  -- is the one that was set, or, where the run may be stopped, a lower one; then a log of no step says that the others of
+  -- a constraint weren't tried.
   pub explained : (league : Instance)
       → IsWellFormedInstance run.store instance league
       → NothingFails run (instance ∷ [])
-      → Writes run (IsFound league conflicts)
+      → Writes run (IsFound league conflicts run.may_stop)
   -- Where constraints are named, the league of these alone accepts no list of games.
   pub contradictory : (league : Instance)
       → SaysLeague run.store instance league
@@ -47,7 +49,7 @@ pub record Promise (run : Run) (instance : List ℕ) (conflicts : Option ℕ) : 
   pub readable : (league : Instance)
       → SaysLeague run.store instance league
       → run.ended ≡ Refuted
-      → IsReadable league conflicts run.output
+      → IsReadable league conflicts run.may_stop run.output
 
 -- each run of `explain` keeps it
 abbrev pub Explains : Run → Type 0

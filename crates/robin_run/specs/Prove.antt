@@ -3,6 +3,7 @@ use Rattle.std.specs.Prelude.{◌≡◌, ℕ, ◌<◌, List, [], ◌∷◌, Opti
 use Rattle.std.specs.Io.KnownBytes.{Appends}
 use Rattle.std.specs.List.{All}
 use Rattle.robin_io.specs.Outside.{Output}
+use Rattle.robin_watch.specs.Limits.{IsKeptTo}
 use Rattle.league.specs.Accepted.{IsAccepted, objective}
 use Rattle.league.specs.Counts.{counts_of}
 use Rattle.league.specs.Instance.{Instance, IsGame}
@@ -15,7 +16,7 @@ use Rattle.robinx_form.specs.Texts.{solution_text}
 use Rattle.bound_laws.specs.Faithful.{IsLowerBound}
 use Rattle.command_bound.specs.Bound.{bound_verdict}
 use Rattle.certificates.specs.Certificates.{certificate_text}
-use Rattle.command_prove.specs.Prove.{IsShown, IsWellFormedCase}
+use Rattle.command_prove.specs.Prove.{IsShownBy, IsWellFormedCase}
 use Rattle.command_resume.specs.Seasons.{SaySeason}
 use Rattle.robin_run.specs.Run.{NothingFails, Run, Writes}
 
@@ -40,10 +41,11 @@ pub record IsBettered (league : Instance) (games : List Game) (output : Output) 
 
 pub record Promise (run : Run) (instance solution : List ℕ) (conflicts : Option ℕ) : Type 0 where
   -- What is shown of the season of a well-formed case is written, where nothing fails: the report of `validate` where
-  -- the season isn't accepted, a certificate, a better season, or a log that is spent at the budget.
+  -- the season isn't accepted, a certificate, a better season, or a log that is spent at the budget, while no single move
+  -- betters the season. The budget is the one that was set, or, where the run may be stopped, a lower one.
   pub proved : (league : Instance) (games : List Game)
       → IsWellFormedCase run.store instance solution league games → NothingFails run (instance ∷ solution ∷ [])
-      → Writes run (IsShown league conflicts games)
+      → Writes run (IsShownBy league (IsKeptTo conflicts run.may_stop) games)
   -- Where the season is called least, no accepted season has a lower objective.
   pub unbettered : (league : Instance) (games : List Game)
       → SaySeason run.store instance solution league games → run.ended ≡ Yes

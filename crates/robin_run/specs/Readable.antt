@@ -18,13 +18,13 @@ use Rattle.command_explain.specs.Texts.{ReadsBack, conflict_text}
 
 -- Behind the numbers of some hard constraints stand a log and a case for each. The log reads back, and is accepted over
 -- the rows of the league of these constraints alone. Each case reads back: a season of the league of the others, or a log
--- that is spent over the rows of that league.
-pub record IsReadable (league : Instance) (conflicts : Option ℕ) (output : Output) : Type 0 where
+-- that leaves that league open: it is spent over its rows, or, only where the run may be stopped, has no step.
+pub record IsReadable (league : Instance) (conflicts : Option ℕ) (may_stop : Type 0) (output : Output) : Type 0 where
   pub members : List ℕ
   pub log : List Step
   pub cases : List Case
   pub written : Appends output.before output.after (conflict_text members log cases)
   pub log_reads_back : log_of (log_text log) ≡ Ok log
   pub accepted : verdict_of (rows_of (part_of league members)) (var_count (part_of league members)) log ≡ Accepted
-  pub each : AllZip (IsCase league conflicts members) members cases
+  pub each : AllZip (IsCase league conflicts may_stop members) members cases
   pub cases_read_back : All (ReadsBack league.n) cases

@@ -27,7 +27,7 @@ use command_line::{Goal, Words, members, read_words};
 use command_make::{circle, make_league, trial};
 use command_patterns::patterns_file;
 use command_prove::prove_file;
-use command_resume::{audit_file, resume_file};
+use command_resume::{Resumption, audit_file, resume_file};
 use command_rows::{ReadyRows, rows_file, write_rows};
 use command_show::{Form, demands, show};
 use command_solve::{solve_file, solve_from_file};
@@ -128,20 +128,23 @@ fn follow<S: Shelf, W: Listener>(
         Words::Explain {
             instance,
             conflicts,
-        } => give(explain_file(alloc, shelf, instance, conflicts)),
+        } => give(explain_file(alloc, shelf, instance, conflicts, watch)),
         Words::Part { instance, list } => give(part_of_list(alloc, shelf, instance, list)),
         Words::Prove {
             instance,
             solution,
             conflicts,
-        } => give(prove_file(alloc, shelf, instance, solution, conflicts)),
+        } => give(prove_file(alloc, shelf, instance, solution, conflicts, watch)),
         Words::Bound { instance, log } => give(bound_file(alloc, shelf, instance, log)),
         Words::Resume {
             instance,
             solution,
             k,
             conflicts,
-        } => give(resume_file(alloc, shelf, instance, solution, k, conflicts)),
+        } => {
+            let resumption = Resumption { k, conflicts };
+            give(resume_file(alloc, shelf, instance, solution, resumption, watch))
+        }
         Words::Audit {
             instance,
             solution,

@@ -5,18 +5,18 @@ use Rattle.bounds.proofs.ProofLemmas.{below-start, better-below}
 use Rattle.bounds.proofs.prover.decoded.Goals as goal
 
 pub bettered-requires : goal.bettered-requires
-bettered-requires c =
+bettered-requires g c =
     omega (
       arith,
       below-start c.args.league.now c.args.objective _ c.in_ok-lower.lower.objective c.in_ok-schedule.schedule
           c.in_ok-lower.lower.schedule c.in_ok-lower.lower.descent c.in_ok-schedule.ensures
-          c.in_ok-lower.ensures.descends c.in_ok-lower.ensures.first,
+          c.in_ok-lower.ensures.season.is_season c.in_ok-lower.ensures.first,
       c.ranges.objective.fits,
     )
 
 pub returns : goal.returns
-returns c = λ m limit cost.
+returns g c = λ m limit cost.
     subst (λ (p : Proved). IsProved c.args.league.now m limit p) (sym c.bettered.ensures)
     (better-below c.args.league.now m c.args.objective _ c.in_ok-lower.lower.objective c.in_ok-schedule.schedule
     c.in_ok-lower.lower.schedule c.in_ok-lower.lower.descent c.in_ok-schedule.ensures
-    c.in_ok-lower.ensures.descends c.in_ok-lower.ensures.first cost)
+    c.in_ok-lower.ensures.season.is_season c.in_ok-lower.ensures.first cost)

@@ -1,4 +1,4 @@
-use Rattle.std.proofs.Common.{ℕ, ◌-◌, List, ap, subst, sym, ◌∙◌}
+use Rattle.std.proofs.Common.{ℕ, ◌-◌, List, ap, inl, refl, subst, sym, ◌∙◌}
 use Rattle.std.specs.List.{All}
 use Rattle.rows.specs.Rows.{Row}
 use Rattle.propagate.specs.Trails.{KnowsVariables}
@@ -7,8 +7,8 @@ use Rattle.bound_rows.specs.Bounded.{Bounded}
 use Rattle.bounds.proofs.ProofLemmas.{answer-of, knows-from_known, least-of, spent-of}
 use Rattle.bounds.proofs.prover.searched.Goals as goal
 
-pub search-requires-clause-known : goal.search-requires-clause-known
-search-requires-clause-known c =
+pub search_watched-requires-clause-known : goal.search_watched-requires-clause-known
+search_watched-requires-clause-known g c =
     subst (λ (rows : List Row). All (KnowsVariables c.vars.result) rows) (sym c.rows.ensures)
     (subst (λ (vars : ℕ). All (KnowsVariables vars)
     (bound_rows c.in_ok-system.system.league c.in_ok-system.system.bound)) (sym c.vars.ensures.vars)
@@ -16,35 +16,45 @@ search-requires-clause-known c =
     (bound_rows c.in_ok-system.system.league c.in_ok-system.system.bound) c.vars.ensures.known))
 
 pub decoded-requires-clause-count : goal.decoded-requires-clause-count
-decoded-requires-clause-count c =
-    let answer = answer-of c.args.league.now (c.args.objective - 1) c.vars.result c.rows.result.now c.args.conflicts
+decoded-requires-clause-count g c =
+    let answer = answer-of c.args.league.now (c.args.objective - 1) c.vars.result c.rows.result.now c.in_ok-found.ensures.kept
     c.in_ok-found.found (c.rows.ensures ∙ ap (λ (b : Bounded). bound_rows b.league b.bound) c.in_ok-system.ensures)
-    (c.vars.ensures.vars ∙ ap (λ (b : Bounded). bound_vars b.league) c.in_ok-system.ensures) c.in_ok-found.ensures
+    (c.vars.ensures.vars ∙ ap (λ (b : Bounded). bound_vars b.league) c.in_ok-system.ensures) c.in_ok-found.ensures.answer
     in
     (rw c.in-Sat.is at answer).0
 
 pub decoded-requires-clause-satisfied : goal.decoded-requires-clause-satisfied
-decoded-requires-clause-satisfied c =
-    let answer = answer-of c.args.league.now (c.args.objective - 1) c.vars.result c.rows.result.now c.args.conflicts
+decoded-requires-clause-satisfied g c =
+    let answer = answer-of c.args.league.now (c.args.objective - 1) c.vars.result c.rows.result.now c.in_ok-found.ensures.kept
     c.in_ok-found.found (c.rows.ensures ∙ ap (λ (b : Bounded). bound_rows b.league b.bound) c.in_ok-system.ensures)
-    (c.vars.ensures.vars ∙ ap (λ (b : Bounded). bound_vars b.league) c.in_ok-system.ensures) c.in_ok-found.ensures
+    (c.vars.ensures.vars ∙ ap (λ (b : Bounded). bound_vars b.league) c.in_ok-system.ensures) c.in_ok-found.ensures.answer
     in
     (rw c.in-Sat.is at answer).1
 
 pub returns-in-Refuted : goal.returns-in-Refuted
-returns-in-Refuted c = λ m cost settled.
-    let answer = answer-of c.args.league.now (c.args.objective - 1) c.vars.result c.rows.result.now c.args.conflicts
+returns-in-Refuted g c = λ m cost settled.
+    let answer = answer-of c.args.league.now (c.args.objective - 1) c.vars.result c.rows.result.now c.in_ok-found.ensures.kept
     c.in_ok-found.found (c.rows.ensures ∙ ap (λ (b : Bounded). bound_rows b.league b.bound) c.in_ok-system.ensures)
-    (c.vars.ensures.vars ∙ ap (λ (b : Bounded). bound_vars b.league) c.in_ok-system.ensures) c.in_ok-found.ensures
-    in
-    least-of c.args.league.now m c.args.conflicts c.args.objective c.in-Refuted.log c.requires.counted.instance cost
-    c.requires.some (rw c.in-Refuted.is at answer)
+    (c.vars.ensures.vars ∙ ap (λ (b : Bounded). bound_vars b.league) c.in_ok-system.ensures) c.in_ok-found.ensures.answer
+    in (
+      c.in_ok-found.ensures.kept,
+      c.in_ok-found.ensures.is_kept,
+      least-of c.args.league.now m c.in_ok-found.ensures.kept c.args.objective c.in-Refuted.log
+          c.requires.counted.instance cost c.requires.some (rw c.in-Refuted.is at answer),
+    )
 
 pub returns : goal.returns
-returns c = λ m cost settled.
-    let answer = answer-of c.args.league.now (c.args.objective - 1) c.vars.result c.rows.result.now c.args.conflicts
+returns g c = λ m cost settled.
+    let answer = answer-of c.args.league.now (c.args.objective - 1) c.vars.result c.rows.result.now c.in_ok-found.ensures.kept
     c.in_ok-found.found (c.rows.ensures ∙ ap (λ (b : Bounded). bound_rows b.league b.bound) c.in_ok-system.ensures)
-    (c.vars.ensures.vars ∙ ap (λ (b : Bounded). bound_vars b.league) c.in_ok-system.ensures) c.in_ok-found.ensures
-    in
-    spent-of c.args.league.now m c.args.conflicts c.args.objective c.in-Spent.log cost settled c.requires.some
-    (rw c.in-Spent.is at answer)
+    (c.vars.ensures.vars ∙ ap (λ (b : Bounded). bound_vars b.league) c.in_ok-system.ensures) c.in_ok-found.ensures.answer
+    in (
+      c.in_ok-found.ensures.kept,
+      c.in_ok-found.ensures.is_kept,
+      spent-of c.args.league.now m c.in_ok-found.ensures.kept c.args.objective c.in-Spent.log cost settled
+          c.requires.some (rw c.in-Spent.is at answer),
+    )
+
+pub returns-in_ok-proved-in-Sat : goal.returns-in_ok-proved-in-Sat
+returns-in_ok-proved-in-Sat g c = λ m cost settled.
+    (c.args.conflicts, inl refl, c.in_ok-proved-in-Sat.ensures m c.args.conflicts cost)

@@ -10,9 +10,9 @@ use Rattle.explain.proofs.StandingLemmas.{chosen-ascending, chosen-hard, chosen-
 use Rattle.explain.proofs.cores.core_of.Goals as goal
 
 pub try_part-requires-clause-ascending : goal.try_part-requires-clause-ascending
-try_part-requires-clause-ascending c =
+try_part-requires-clause-ascending g c =
     let members = c.args.contradiction.now.members.items in
-    chosen-ascending c.args.league.now c.args.conflicts members c.args.contradiction.now.log
+    chosen-ascending c.args.league.now c.args.conflicts (g.W.Watch.may_stop c.args.watch.now) members c.args.contradiction.now.log
     (λ k. is_in k c.in_ok-named.named.items) c.deref-5.result.now c.requires
     (c.deref-5.ensures.value
     ∙ c.in_ok-listed.ensures
@@ -20,9 +20,9 @@ try_part-requires-clause-ascending c =
     ∙ ap (λ (ms : List Member). named_of c.in_ok-named.named.items ms) c.deref-3.ensures.value)
 
 pub try_part-requires-clause-hard : goal.try_part-requires-clause-hard
-try_part-requires-clause-hard c =
+try_part-requires-clause-hard g c =
     let members = c.args.contradiction.now.members.items in
-    chosen-hard c.args.league.now c.args.conflicts members c.args.contradiction.now.log
+    chosen-hard c.args.league.now c.args.conflicts (g.W.Watch.may_stop c.args.watch.now) members c.args.contradiction.now.log
     (λ k. is_in k c.in_ok-named.named.items) c.deref-5.result.now c.requires
     (c.deref-5.ensures.value
     ∙ c.in_ok-listed.ensures
@@ -30,9 +30,9 @@ try_part-requires-clause-hard c =
     ∙ ap (λ (ms : List Member). named_of c.in_ok-named.named.items ms) c.deref-3.ensures.value)
 
 pub try_part-requires-clause-small : goal.try_part-requires-clause-small
-try_part-requires-clause-small c =
+try_part-requires-clause-small g c =
     let members = c.args.contradiction.now.members.items in
-    chosen-small c.args.league.now c.args.conflicts members c.args.contradiction.now.log
+    chosen-small c.args.league.now c.args.conflicts (g.W.Watch.may_stop c.args.watch.now) members c.args.contradiction.now.log
     (λ k. is_in k c.in_ok-named.named.items) c.deref-5.result.now c.requires
     (c.deref-5.ensures.value
     ∙ c.in_ok-listed.ensures
@@ -40,7 +40,7 @@ try_part-requires-clause-small c =
     ∙ ap (λ (ms : List Member). named_of c.in_ok-named.named.items ms) c.deref-3.ensures.value)
 
 pub returns-in-Refuted : goal.returns-in-Refuted
-returns-in-Refuted c =
+returns-in-Refuted g c =
     let members = c.args.contradiction.now.members.items in
     let same : c.deref-5.result.now ≡ named_of c.in_ok-named.named.items members =
     c.deref-5.ensures.value
@@ -60,5 +60,5 @@ returns-in-Refuted c =
     ) in
     is_core c.args.league.now members (record { named = c.in_ok-named.named; log = c.in-Refuted.log })
     c.deref-5.result.now same fewer
-    (subst (λ (a : Attempt). IsAttempt (part_of c.args.league.now c.deref-5.result.now) c.args.conflicts a)
+    (subst (λ (a : Attempt). IsAttempt (part_of c.args.league.now c.deref-5.result.now) c.args.conflicts (g.W.Watch.may_stop c.args.watch.now) a)
     c.in-Refuted.is c.in_ok-log.ensures)

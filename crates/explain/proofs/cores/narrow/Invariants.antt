@@ -4,10 +4,10 @@ use Rattle.explain.proofs.cores.narrow.Given as goal
 
 -- a contradiction, of no more members than at first
 abbrev pub invariant-cores : goal.invariant-cores
-invariant-cores l = record {
-  explained : IsExplained l.league l.conflicts l.least.members.items l.least.log;
+invariant-cores g l = record {
+  explained : IsExplained l.league l.conflicts (g.W.Watch.may_stop l.watch) l.least.members.items l.least.log;
   no_longer : length l.least.members.items ≤ length l.fn.contradiction.members.items;
 }
 
 abbrev pub decreases-cores : goal.decreases-cores
-decreases-cores l = length l.least.members.items
+decreases-cores g l = length l.least.members.items

@@ -6,7 +6,7 @@ use Rattle.resume.proofs.LowerLemmas.{fit-same, ordered-fit, ordered-keeps, roun
 use Rattle.resume.proofs.lower.lowered.Goals as goal
 
 pub descended-requires-clause-round_robin : goal.descended-requires-clause-round_robin
-descended-requires-clause-round_robin c =
+descended-requires-clause-round_robin g c =
     let teams : c.in-Some.fixed.n ≡ c.args.league.now.n =
     subst (λ (made : Option Instance). IfSome made (λ fixed. fixed.n ≡ c.args.league.now.n)) c.in-Some.is
     c.in_ok-made.ensures.teams in
@@ -17,14 +17,14 @@ descended-requires-clause-round_robin c =
     (counts_of c.args.start.now) teams phases c.requires.accepted.round_robin
 
 pub descended-requires-clause-fit : goal.descended-requires-clause-fit
-descended-requires-clause-fit c =
+descended-requires-clause-fit g c =
     let teams : c.in-Some.fixed.n ≡ c.args.league.now.n =
     subst (λ (made : Option Instance). IfSome made (λ fixed. fixed.n ≡ c.args.league.now.n)) c.in-Some.is
     c.in_ok-made.ensures.teams in
     fit-same c.args.league.now.n c.in-Some.fixed.n c.args.start.now teams c.requires.fit
 
 pub better-requires-clause-fit : goal.better-requires-clause-fit
-better-requires-clause-fit c =
+better-requires-clause-fit g c =
     let teams : c.in-Some.fixed.n ≡ c.args.league.now.n =
     subst (λ (made : Option Instance). IfSome made (λ fixed. fixed.n ≡ c.args.league.now.n)) c.in-Some.is
     c.in_ok-made.ensures.teams in
@@ -33,5 +33,5 @@ better-requires-clause-fit c =
     (fit-same c.in-Some.fixed.n c.args.league.now.n c.in_ok-end.end (sym teams) c.in_ok-end.ensures)
 
 pub better-requires-clause-keeps : goal.better-requires-clause-keeps
-better-requires-clause-keeps c =
+better-requires-clause-keeps g c =
     ordered-keeps c.args.k c.args.start.now c.in_ok-end.end c.in_ok-schedule.schedule c.in_ok-schedule.ensures.games

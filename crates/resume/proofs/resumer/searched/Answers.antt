@@ -7,20 +7,25 @@ use Rattle.resume.proofs.AnswerLemmas.{meets_league, told_resumed}
 use Rattle.resume.proofs.resumer.searched.Goals as goal
 
 pub found_in-requires-clause-league : goal.found_in-requires-clause-league
-found_in-requires-clause-league c = ap (λ (r : PartlyPlayed). r.league) c.in_ok-system.ensures.of
+found_in-requires-clause-league g c = ap (λ (r : PartlyPlayed). r.league) c.in_ok-system.ensures.of
 
 pub told-requires : goal.told-requires
-told-requires c =
-    meets_league c.args.league.now (counts_of c.args.played.now) c.args.k c.args.conflicts c.in_ok-found.found
+told-requires g c =
+    let by = c.in_ok-found.ensures in
+    meets_league c.args.league.now (counts_of c.args.played.now) c.args.k by.kept c.in_ok-found.found
     (subst
-    (λ (r : PartlyPlayed). IsAnswer (rows_for r) (var_count r.league) c.args.conflicts c.in_ok-found.found)
-    c.in_ok-system.ensures.of c.in_ok-found.ensures)
+    (λ (r : PartlyPlayed). IsAnswer (rows_for r) (var_count r.league) by.kept c.in_ok-found.found)
+    c.in_ok-system.ensures.of by.answer)
 
 pub returns-clause-answer : goal.returns-clause-answer
-returns-clause-answer c =
-    told_resumed c.args.league.now c.args.played.now c.args.k c.args.conflicts c.in_ok-found.found
-    c.in_ok-resumed.resumed c.n-n.ensures.instance c.requires.fit c.requires.slots
-    (subst
-    (λ (r : PartlyPlayed). IsAnswer (rows_for r) (var_count r.league) c.args.conflicts c.in_ok-found.found)
-    c.in_ok-system.ensures.of c.in_ok-found.ensures)
-    c.in_ok-resumed.ensures
+returns-clause-answer g c =
+    let by = c.in_ok-found.ensures in (
+      by.kept,
+      by.is_kept,
+      told_resumed c.args.league.now c.args.played.now c.args.k by.kept c.in_ok-found.found
+          c.in_ok-resumed.resumed c.n-n.ensures.instance c.requires.fit c.requires.slots
+          (subst
+          (λ (r : PartlyPlayed). IsAnswer (rows_for r) (var_count r.league) by.kept c.in_ok-found.found)
+          c.in_ok-system.ensures.of by.answer)
+          c.in_ok-resumed.ensures,
+    )

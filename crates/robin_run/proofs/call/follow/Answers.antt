@@ -1,6 +1,7 @@
 use Rattle.std.specs.Prelude.{option_map}
 use Rattle.std.specs.Option.{option_copied}
 use Rattle.robin_io.specs.Outside.{store_between}
+use Rattle.robin_watch.specs.Limits.{IsKeptTo}
 use Rattle.command_line.specs.Words.{members_of}
 use Rattle.command_bound.specs.Bound.{bounded}
 use Rattle.command_check.specs.Check.{checked}
@@ -82,7 +83,8 @@ pub returns-in-Explain-clause-answer : goal.returns-in-Explain-clause-answer
 returns-in-Explain-clause-answer g c =
     rw c.in-Explain.is
     (given-gives
-    (explained (store_between g.S.Shelf c.args.shelf.now c.explain_file.new.shelf) c.in-Explain.instance.now c.in-Explain.conflicts)
+    (explained (store_between g.S.Shelf c.args.shelf.now c.explain_file.new.shelf) c.in-Explain.instance.now c.in-Explain.conflicts
+    (g.W.Watch.may_stop c.args.watch.now))
     _ _ c.give-in-Explain.ensures c.explain_file.ensures.answer)
 
 pub returns-in-Part-clause-answer : goal.returns-in-Part-clause-answer
@@ -96,7 +98,8 @@ pub returns-in-Prove-clause-answer : goal.returns-in-Prove-clause-answer
 returns-in-Prove-clause-answer g c =
     rw c.in-Prove.is
     (given-gives
-    (proved (store_between g.S.Shelf c.args.shelf.now c.prove_file.new.shelf) c.in-Prove.instance.now c.in-Prove.solution.now c.in-Prove.conflicts)
+    (proved (store_between g.S.Shelf c.args.shelf.now c.prove_file.new.shelf) c.in-Prove.instance.now c.in-Prove.solution.now
+    (IsKeptTo c.in-Prove.conflicts (g.W.Watch.may_stop c.args.watch.now)))
     _ _ c.give-in-Prove.ensures c.prove_file.ensures.answer)
 
 pub returns-in-Bound-clause-answer : goal.returns-in-Bound-clause-answer
@@ -110,7 +113,8 @@ pub returns-in-Resume-clause-answer : goal.returns-in-Resume-clause-answer
 returns-in-Resume-clause-answer g c =
     rw c.in-Resume.is
     (given-gives
-    (resumed (store_between g.S.Shelf c.args.shelf.now c.resume_file.new.shelf) c.in-Resume.instance.now c.in-Resume.solution.now c.in-Resume.k c.in-Resume.conflicts)
+    (resumed (store_between g.S.Shelf c.args.shelf.now c.resume_file.new.shelf) c.in-Resume.instance.now c.in-Resume.solution.now c.in-Resume.k
+    (IsKeptTo c.in-Resume.conflicts (g.W.Watch.may_stop c.args.watch.now)))
     _ _ c.give-in-Resume.ensures c.resume_file.ensures.answer)
 
 pub returns-in-Audit-clause-answer : goal.returns-in-Audit-clause-answer
