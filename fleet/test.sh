@@ -257,7 +257,7 @@ stops() {
     [ "$got" -eq "$awaited" ] || { sed 's/^/    /' "$folder/said" && echo "    status $got" && false; }
 }
 
-# Long tries that are told to end: one that has a season, one that has none, and one that can't wait for a signal.
+# Long tries that are told to end: one that has a season, one that has none, and one whose search has no limit.
 stopped() {
     dir=$folder/stopped
     mkdir "$dir" && cp "$easy" "$dir/league.xml" && echo "$long" >"$dir/words"

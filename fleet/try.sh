@@ -32,15 +32,12 @@ start() {
     esac
 }
 
-# Runs the program in place of this shell. A signal that waits ends `solve` with the best season that it has; a search
-# without a limit looks for none. Both variables hold numbers and options.
+# Runs the program in place of this shell. A signal that waits ends `solve` with the best season that it has. Both variables
+# hold numbers and options.
 # shellcheck disable=SC2086
 solve() {
     waits='--default-signal=INT --block-signal=INT --block-signal=TERM --block-signal=HUP'
-    case $words in
-    *'--conflicts all'*) waits='' ;;
-    *) env $waits true 2>/dev/null || waits='' ;;
-    esac
+    env $waits true 2>/dev/null || waits=''
     exec env $waits "$robin" solve "$dir/league.xml" $words "$@" --seed "$seed"
 }
 

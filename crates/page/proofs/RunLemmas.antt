@@ -16,6 +16,7 @@ use Rattle.page.specs.Shown.{HasRun, lines}
 abbrev pub run_from : Option Command → Files → ℕ → ℕ → List ℕ → List ℕ → ℕ → ℕ → Status → Run
 run_from command files given taken first text was faults ended = record {
   command = command;
+  may_stop = ⊥;
   store = store_between (files_told files) given taken;
   output = output_between text_told (first, was) (text, faults);
   ended = ended;

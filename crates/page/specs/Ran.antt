@@ -33,10 +33,11 @@ text_told = record {
 }
 
 -- A run of a command over these files, where the store gave so many bytes. The sink held nothing at first, and failed so
--- often.
+-- often. Nothing may stop the run.
 abbrev pub run_over : Option Command → Files → ℕ → List ℕ → ℕ → Status → Run
 run_over command files taken text faults ended = record {
   command = command;
+  may_stop = ⊥;
   store = store_between (files_told files) 0 taken;
   output = output_between text_told ([], 0) (text, faults);
   ended = ended;

@@ -12,8 +12,7 @@ use Rattle.encoding.specs.Limit.{most_terms}
 
 pub record Promise (run : Run) (n seed : ℕ) (budgets : Budgets) : Type 0 where
   -- Where the rows of the made league aren't too many, seven lines and a season that it accepts are written, where
-  -- nothing fails. The moves of its descent are those that were
-  -- set, or, where the run may be stopped, fewer.
+  -- nothing fails. Its descent may make as many moves as were set, or, where the run may be stopped, fewer.
   pub tried : encoding_size (made_league n (seeded seed)) ≤ most_terms
       → NothingFails run []
       → Writes run (IsTrialBy n seed (made_league n (seeded seed)) budgets.moves run.may_stop)

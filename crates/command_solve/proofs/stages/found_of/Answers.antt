@@ -1,4 +1,4 @@
-use Rattle.std.proofs.Common.{inl}
+use Rattle.std.proofs.Common.{inl, refl}
 use Rattle.command_solve.proofs.FoundLemmas.{found-by}
 use Rattle.command_solve.proofs.stages.found_of.Goals as goal
 
@@ -7,7 +7,7 @@ found_reply-requires-clause-solution g c = (c.in-Ok.ensures.solution.kept, c.in-
 
 pub returns-in_ok-found_reply-in-Ok : goal.returns-in_ok-found_reply-in-Ok
 returns-in_ok-found_reply-in-Ok g c = inl (
-  c.in-Ok.ensures.limit.within tt,
+  c.in-Ok.ensures.limit.within refl,
   found-by c.args.league.now c.args.budgets (g.W.Watch.may_stop c.args.watch.now) c.in-Ok.solved
       c.in_ok-found_reply-in-Ok.field-0 c.in-Ok.ensures.solution
       (λ kept solution. c.in_ok-found_reply-in-Ok.ensures.found kept solution),
