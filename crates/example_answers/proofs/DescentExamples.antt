@@ -302,11 +302,10 @@ two_tries = record { conflicts = None; moves = 0; tries = 2; patterns = 0; seed 
 pub best-tries : IsBestOfTries wishful two_tries ⊥ (solved.Schedule out 0 resting)
 best-tries = record {
   found = Some dear ∷ Some cheap ∷ [];
-  each = All-from_recursion (λ (o : Option Season). IfSome o (IsSeasonBy wishful 0 ⊥)) (Some dear ∷ Some cheap ∷ [])
-      (
-        record { kept = 0; is_kept = inl refl; is_season = schedule-stopped },
-        (record { kept = 0; is_kept = inl refl; is_season = season_out }, tt),
-      );
+  each = All-from_recursion (λ (o : Option Season). IfSome o (IsSeasonBy wishful 0 ⊥)) (Some dear ∷ Some cheap ∷ []) (
+    record { kept = 0; is_kept = inl refl; is_season = schedule-stopped },
+    (record { kept = 0; is_kept = inl refl; is_season = season_out }, tt),
+  );
   few = λ some. lit≤ tt;
   all = λ no unstopped. lit≤ tt;
   best = record {

@@ -119,21 +119,24 @@ fn answer_of(alloc: Global, words: &[u8], files: [&[u8]; 2], size: usize) -> Res
     Ok(Answer { status, text, told })
 }
 
+/// Whether `validate` ends with this status and reports this of the season, and tells a person nothing beside it.
+fn is_reported(alloc: Global, league: &[u8], status: u8, report: &str) -> Result<bool, Fail> {
+    let judged = answer_of(alloc, b"validate\n1\n2", [league, SEASON.as_bytes()], 1000)?;
+    Ok(
+        judged.status == status
+            && judged.text.as_slice() == report.as_bytes()
+            && judged.told.is_empty(),
+    )
+}
+
 /// The report of a season is that of its league, whatever was called before.
 #[test]
 fn judges(rt: HostRuntime) -> Result<(), Fail> {
-    let (alloc, season) = (rt.alloc(), SEASON.as_bytes());
+    let alloc = rt.alloc();
     let soft = LEAGUE.replace(alloc, "HARD", "SOFT")?;
-    for (league, status, report) in [
-        (LEAGUE, 1, HARD_REPORT),
-        (&soft, 0, SOFT_REPORT),
-        (LEAGUE, 1, HARD_REPORT),
-    ] {
-        let judged = answer_of(alloc, b"validate\n1\n2", [league.as_bytes(), season], 1000)?;
-        assert_eq!(rt; judged.status, status);
-        assert_eq!(rt; judged.text.as_slice(), report.as_bytes());
-        assert_eq!(rt; judged.told.len(), 0);
-    }
+    assert!(rt; is_reported(alloc, LEAGUE.as_bytes(), 1, HARD_REPORT)?);
+    assert!(rt; is_reported(alloc, soft.as_bytes(), 0, SOFT_REPORT)?);
+    assert!(rt; is_reported(alloc, LEAGUE.as_bytes(), 1, HARD_REPORT)?);
     Ok(())
 }
 
