@@ -1,7 +1,8 @@
 #!/bin/sh
 # fleet/scale.sh INSTANCE SECONDS [--moves N] [--conflicts N]: what 1, 2 and 4 processes make of one league in the same
-# wall time, each time in an empty folder, on an otherwise idle machine. A row of a table for each: processes, whole tries,
-# their processor seconds, those of a try, and the best objective that `validate` says.
+# wall time, each time in an empty folder, on an otherwise idle machine. A row of a table for each: processes, tries (also
+# those that the end of the time cut short), their processor seconds, those of a try, and the best objective that `validate`
+# says.
 set -u
 here=$(cd "$(dirname "$0")" && pwd) || exit 6
 [ $# -ge 2 ] || { echo "usage: $0 INSTANCE SECONDS [--moves N] [--conflicts N]" >&2 && exit 2; }

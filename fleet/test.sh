@@ -1,8 +1,8 @@
 #!/bin/sh
-# fleet/test.sh: tries the scripts of this folder for real, on one machine and under a Slurm of its own: munged, slurmctld
-# and slurmd on the loopback address, in a folder of its own, ended by their process ids. As root it first installs by
-# apt-get what is missing. The status is 0 where all is as it should be, 1 where something isn't, 77 where nothing is wrong
-# but a part couldn't be tried here, which it says.
+# fleet/test.sh [PART ..]: tries the scripts of this folder for real, on one machine and under a Slurm of its own: munged,
+# slurmctld and slurmd on the loopback address, in a folder of its own, ended by their process ids. As root it first installs
+# by apt-get what is missing. The status is 0 where all is as it should be, 1 where something isn't, 77 where nothing is wrong
+# but a part couldn't be tried here, which it says. The parts are parallel, xargs, broken, rounds, disk and slurm (none: all).
 set -u
 here=$(cd "$(dirname "$0")" && pwd) || exit 1
 examples=$here/../examples
@@ -11,6 +11,7 @@ leagues=$here/../bench/leagues
 easy=$leagues/easy-16-phased.xml
 long='--moves 10000000 --conflicts 0'
 FLEET_PROGRAM=${ROBIN:-$here/../robin}
+parts=$*
 wrong=0
 skipped=0
 folder=$(mktemp -d) && chmod 755 "$folder" || exit 1
@@ -24,6 +25,14 @@ say() {
 skip() {
     say "SKIPPED: $*"
     skipped=$((skipped + 1))
+}
+
+# wants PART: whether this part is to be tried.
+wants() {
+    case " ${parts:-$1} " in
+    *" $1 "*) ;;
+    *) return 1 ;;
+    esac
 }
 
 # Waits up to so many seconds until a command is well.
@@ -263,13 +272,12 @@ stopped() {
 
 # Long tries, all told to end.
 long_tries() {
-    dir=$folder/$1-long
+    dir=$folder/long
     # The words are options.
     # shellcheck disable=SC2086
-    expect "$1: long tries end" stops 1 143 "$here/tries.sh" "$easy" "$dir" $long --seeds 0-5 --jobs 2
-    [ "$1" = parallel ] || await 30 whole "$dir" 0 1
-    expect "$1: and leave their seasons" whole "$dir" 0 1
-    expect "$1: no further try began" has_calls 2
+    expect "parallel: long tries end" stops 1 143 "$here/tries.sh" "$easy" "$dir" $long --seeds 0-5 --jobs 2
+    expect "parallel: and leave their seasons" whole "$dir" 0 1
+    expect "parallel: no further try began" has_calls 2
 }
 
 # Answers that lie about themselves, or are no answers.
@@ -545,32 +553,41 @@ rounds() {
     expect "rounds: nothing is left under another name" [ -z "$(find "$dir" -name '.*.part')" ]
 }
 
+with_parallel() {
+    parallel --version 2>/dev/null | grep -q '^GNU parallel' || { skip "GNU parallel isn't there" && return; }
+    on_one_machine parallel
+    interrupted
+    stopped
+    long_tries
+}
+
+# By a `parallel` that isn't GNU's, as another package has one, so that xargs is taken.
+with_xargs() {
+    mkdir "$folder/bin" && printf '#!/bin/sh\nexit 1\n' >"$folder/bin/parallel" && chmod 755 "$folder/bin/parallel"
+    before=$PATH
+    PATH=$folder/bin:$PATH
+    on_one_machine xargs
+    PATH=$before
+}
+
+with_slurm() {
+    if start_slurm >"$folder/said" 2>&1; then
+        under_slurm
+    else
+        skip "Slurm doesn't run here: $(cat "$folder/said")"
+    fi
+}
+
 install_missing
 "$FLEET_PROGRAM" --version || exit 1
 make_program
 league=$examples/nine-classes.xml
-if parallel --version 2>/dev/null | grep -q '^GNU parallel'; then
-    on_one_machine parallel
-    interrupted
-    stopped
-    long_tries parallel
-else
-    skip "GNU parallel isn't there"
-fi
-# A `parallel` that isn't GNU's, as another package has one, so that xargs is taken.
-mkdir "$folder/bin" && printf '#!/bin/sh\nexit 1\n' >"$folder/bin/parallel" && chmod 755 "$folder/bin/parallel"
-before=$PATH
-PATH=$folder/bin:$PATH
-on_one_machine xargs
-PATH=$before
-broken_answers
-rounds
-full_disk
-if start_slurm >"$folder/said" 2>&1; then
-    under_slurm
-else
-    skip "Slurm doesn't run here: $(cat "$folder/said")"
-fi
+! wants parallel || with_parallel
+! wants xargs || with_xargs
+! wants broken || broken_answers
+! wants rounds || rounds
+! wants disk || full_disk
+! wants slurm || with_slurm
 say "$wrong wrong, $skipped skipped"
 [ "$wrong" -eq 0 ] || exit 1
 [ "$skipped" -eq 0 ] || exit 77

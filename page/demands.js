@@ -93,8 +93,8 @@ function inOrder(constraints) {
 // A demand as an item of a list. `onPick` lights its cells, where there is a picture.
 function itemOf(it, onPick) {
   const li = element('li', undefined, it.isHard ? 'hard' : 'soft'), box = element(onPick ? 'button' : 'div', undefined, 'demand');
+  box.append(element('b', it.tag ? `${it.number} ${it.tag} ${it.isHard ? 'hard' : 'soft'}` : `demand ${it.number}`), ' ');
   if (it.sum > 0n) box.append(element('span', it.isHard ? `hard, missed by ${it.sum}` : `costs ${it.cost}`, 'cost'));
-  box.append(element('b', it.tag ? `${it.number} ${it.tag} ${it.isHard ? 'hard' : 'soft'}` : `demand ${it.number}`));
   if (it.asks) box.append(element('span', it.asks, 'asks'));
   for (const reason of it.reasons.slice(0, MOST_REASONS)) box.append(element('span', reason.trim(), 'reason'));
   if (it.reasons.length > MOST_REASONS) box.append(element('span', `and ${it.reasons.length - MOST_REASONS} more, which a click shows too`, 'reason'));

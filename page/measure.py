@@ -1,5 +1,5 @@
-"""measure.py [PAGE]: milliseconds of the page's module in Chromium and of release/robin, in turns, and the sizes of the page's parts. Processor time of both: the worker's
-thread from /proc, the program's from the system."""
+"""measure.py [PAGE [PROGRAM]]: milliseconds of the page's module in Chromium and of the program (release/robin), in turns, and the sizes of the page's parts. Processor
+time of both: the worker's thread from /proc, the program's from the system."""
 import base64
 import glob
 import gzip
@@ -17,7 +17,6 @@ from selenium.webdriver.chrome.service import Service
 from selenium.webdriver.common.by import By
 
 TOP = os.path.dirname(os.path.dirname(os.path.abspath(__file__)))
-PROGRAM = f"{TOP}/release/robin"
 RUN = """const [words, files, rounds] = arguments, done = arguments[3], bytes = text => Uint8Array.from(atob(text), it => it.charCodeAt(0));
 (async () => { const times = []; for (let i = 0; i < rounds; i++) times.push((await runs.start(words, files.map(bytes)).answer).milliseconds); done(times); })();"""
 
@@ -56,10 +55,10 @@ def worker_time(top):
     return ticks * 1000 / os.sysconf("SC_CLK_TCK")
 
 
-def native_time(words, rounds):
+def native_time(program, words, rounds):
     before = resource.getrusage(resource.RUSAGE_CHILDREN)
     for _ in range(rounds):
-        subprocess.run([PROGRAM, *words], stdout=subprocess.DEVNULL, check=False)
+        subprocess.run([program, *words], stdout=subprocess.DEVNULL, check=False)
     after = resource.getrusage(resource.RUSAGE_CHILDREN)
     return (after.ru_utime + after.ru_stime - before.ru_utime - before.ru_stime) * 1000 / rounds
 
@@ -70,7 +69,7 @@ def sizes(page):
     print(f"module {len(gzip.decompress(packed))} bytes, packed {len(packed)}, page {len(text)}")
 
 
-def main(page=f"{TOP}/release/robin.html"):
+def main(page=f"{TOP}/release/robin.html", program=f"{TOP}/release/robin"):
     sizes(page)
     options = Options()
     for word in ("--headless=new", "--no-sandbox", "--disable-gpu"):
@@ -81,7 +80,7 @@ def main(page=f"{TOP}/release/robin.html"):
     room = tempfile.mkdtemp()
     for name, words in (("made.xml", ("make", "16", "7")), ("circle.xml", ("circle", "40"))):
         with open(f"{room}/{name}", "wb") as file:
-            subprocess.run([PROGRAM, *words], stdout=file, check=True)
+            subprocess.run([program, *words], stdout=file, check=True)
     mixed = f"{TOP}/bench/validate-mixed-1000.xml"
     try:
         began = time.time()
@@ -97,7 +96,7 @@ def main(page=f"{TOP}/release/robin.html"):
                 own = [str(word + 1) if isinstance(word, int) else word for word in words]
                 times = driver.execute_async_script(RUN, own, [base64.b64encode(read(name)).decode() for name in files], rounds)
                 cpu = (worker_time(driver.service.process.pid) - before) / rounds
-                native = native_time([files[word] if isinstance(word, int) else word for word in words], rounds)
+                native = native_time(program, [files[word] if isinstance(word, int) else word for word in words], rounds)
                 print(f"{what}: Chromium {cpu:.1f} ms of processor time a run, least {min(times):.1f} ms; program {native:.1f} ms; {cpu / native:.1f} times", flush=True)
     finally:
         driver.quit()

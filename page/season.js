@@ -146,7 +146,9 @@ function draw(table, league, games, played, onSlot) {
     body.append(row);
   }
   table.replaceChildren(head, body);
-  table.style.setProperty('--slots', league.slots.length);
+  // How wide the columns of slots are, in sizes of a letter: the printed sheet has room for them.
+  const columns = [...head.querySelectorAll('th')].slice(1).map(it => it.getBoundingClientRect());
+  table.style.setProperty('--wide', columns.length ? (columns.at(-1).right - columns[0].left) / parseFloat(getComputedStyle(table).fontSize) : 0);
   table.style.setProperty('--teams', league.n);
   return isLit => {
     let count = 0;

@@ -649,19 +649,38 @@ def pages_of(it):
     return len(re.findall(rb"/Type\s*/Page\b", pdf)), pdf
 
 
+@contextlib.contextmanager
+def on_paper(it):
+    """The page as it is printed, in a window of the size of an A4 sheet within its margins."""
+    it.size(1062, 729)
+    it.driver.execute_cdp_cmd("Emulation.setEmulatedMedia", {"media": "print"})
+    yield
+    it.driver.execute_cdp_cmd("Emulation.setEmulatedMedia", {"media": ""})
+    it.size(*WIDE)
+
+
 def try_printing(it):
-    """A season is printed on one sheet, of eight teams and of forty."""
+    """A season is printed on one sheet, of eight teams and of forty, with its whole grid."""
+    it.size(*WIDE)
     it.open()
     it.give(example("northern-league.xml"), example("northern-season.xml"))
     it.wait(lambda: it.js("return !document.getElementById('demands').hidden"))
     same(pages_of(it)[0], 1, "sheets of eight teams")
+    with on_paper(it):
+        it.shot("printed")
+        same(it.js("return document.querySelector('#missed').innerText").splitlines()[0], "7 GA1 soft costs 6", "the first printed demand")
+        cut = it.js("return Array.from(document.querySelectorAll('#grid th'), it => it.scrollWidth - it.clientWidth).filter(it => it > 1).length")
+        same(cut, 0, "names that are cut off")
     room = tempfile.mkdtemp()
     for name, words in (("league", ("make", "40", "1")), ("season", ("circle", "40"))):
         with open(f"{room}/{name}.xml", "wb") as file:
-            file.write(native(*words)[1])
+            file.write(re.sub(rb'<team id="(.)(.)"/>', rb'<team id="\1\2" name="N\1 WWW W\2"/>', native(*words)[1]))
     it.open()
     it.give(f"{room}/league.xml", f"{room}/season.xml")
     it.wait(lambda: it.js("return !document.getElementById('demands').hidden"))
+    with on_paper(it):
+        right = it.js("return document.getElementById('grid').getBoundingClientRect().right")
+        assert right <= 1062, f"the printed grid is {right} wide"
     count, pdf = pages_of(it)
     if it.shots:
         with open(f"{it.shots}/forty.pdf", "wb") as file:
