@@ -3,8 +3,8 @@
 
 Each block of a page that begins with ```console is run in a folder of its own page, which has a copy of examples/ and PROGRAM as ./robin. A line that begins with
 "$ " is given to sh. The lines behind it, up to the next such line, must be what it prints, on standard output and standard error. A line "..." stands for
-any number of lines, and a line that ends with "..." for any line that begins so. Files that one block writes are there for the next. The status is 0 if
-all agree, and 1 at the first difference, which is printed.
+any number of lines, and a line that ends with "..." for any line that begins so. What a run of ten seconds tells of how it goes isn't compared, since a slow
+machine brings it. Files that one block writes are there for the next. The status is 0 if all agree, and 1 at the first difference, which is printed.
 """
 import os
 import re
@@ -31,7 +31,8 @@ def agrees(wanted, got):
 def lines_of(command, place):
     """What a command prints, line by line, standard error between, as on a terminal."""
     done = subprocess.run(["sh", "-c", command], cwd=place, stdout=subprocess.PIPE, stderr=subprocess.STDOUT, text=True, check=False)
-    return done.stdout.rstrip("\n").split("\n") if done.stdout else []
+    lines = done.stdout.rstrip("\n").split("\n") if done.stdout else []
+    return [line for line in lines if not re.match(r"robin: \d+ s: ", line)]
 
 
 def check(page, program):
