@@ -18,6 +18,9 @@ const NO_ARGUMENTS: u8 = 10;
 /// What is said on standard error where the system gives no arguments, or one that isn't UTF-8.
 const UNREAD_WORDS: &str = "robin: the words can't be read: a word that isn't UTF-8, say\n";
 
+/// The most words. No command has more, and reading a word takes room on the stack.
+const MOST_WORDS: usize = 1000;
+
 /// What is said on standard error where there is no memory for the words.
 const NO_MEMORY: &str = "robin: memory ran out, and nothing was written\n";
 
@@ -66,6 +69,9 @@ fn refuse(rt: &HostRuntime, option: &str, fault: &str) -> Status {
 
 /// Follows the words, and gives the exit status.
 fn status_of(rt: &HostRuntime, arguments: &[String]) -> u8 {
+    if arguments.len() > MOST_WORDS {
+        return code(refuse(rt, "the words", " are more than 1000"));
+    }
     match line_of(rt.alloc(), arguments) {
         Ok(line) => code(run_kept(rt, &line)),
         Err(WordsFault::Wrong { option, fault }) => code(refuse(rt, option, fault)),

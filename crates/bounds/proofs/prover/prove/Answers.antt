@@ -36,8 +36,8 @@ returns-then-objective-eq0 g c = (
       (omega (arith, c.in_64_bits-objective.ensures, c.requires.assessed))),
 )
 
-pub returns-then-lower-lt-from : goal.returns-then-lower-lt-from
-returns-then-lower-lt-from g c = (
+pub returns-then-lower-from : goal.returns-then-lower-from
+returns-then-lower-from g c = (
   c.args.conflicts,
   inl refl,
   subst (λ (p : Proved). IsProved c.args.league.now (counts_of c.args.schedule.now) c.args.conflicts p)

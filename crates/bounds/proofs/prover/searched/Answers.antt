@@ -55,6 +55,6 @@ returns g c = λ m cost settled.
           c.requires.some (rw c.in-Spent.is at answer),
     )
 
-pub returns-in_ok-proved-in-Sat : goal.returns-in_ok-proved-in-Sat
-returns-in_ok-proved-in-Sat g c = λ m cost settled.
+pub returns-in-Sat : goal.returns-in-Sat
+returns-in-Sat g c = λ m cost settled.
     (c.args.conflicts, inl refl, c.in_ok-proved-in-Sat.ensures m c.args.conflicts cost)
