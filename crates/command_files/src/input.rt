@@ -86,7 +86,11 @@ fn named<'a>(command: Option<Topic>, place: Place, word: &'a str) -> &'a str
 ///
 /// # Errors
 /// Only where memory runs out.
-pub fn with_input(alloc: Global, command: Option<Topic>, words: &[String]) -> Result<Vec<String>, AllocError>
+pub fn with_input(
+    alloc: Global,
+    command: Option<Topic>,
+    words: &[String],
+) -> Result<Vec<String>, AllocError>
     ensures { IfOk result (λ read. map string_bytes read.items
         ≡ named_from command (Argument 0) (map string_bytes words.now)) }
 {

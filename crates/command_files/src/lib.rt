@@ -12,4 +12,4 @@ mod taken;
 pub use goes::{Goes, goes_to};
 pub use input::{is_twice, with_input};
 pub use own::Own;
-pub use taken::{Standing, left_words, is_name, is_quiet, value_of};
+pub use taken::{Standing, is_name, is_quiet, left_words, value_of};

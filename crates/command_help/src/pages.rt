@@ -49,6 +49,12 @@ Options stand before, between or behind the words, each once at most:
   --most N|all       lines of a list (20); of show
   --width N          characters of a line of the grid (80); of show
   --demands [LIST]   in place of SOLUTION: what a league demands; of show
+With every command:
+  --out FILE         the answer goes into FILE, whole or not at all; of solve
+                     the best season so far too, once a second
+  --log FILE         a log of status 4 or 5 goes into FILE
+  --quiet            nothing is told of how a run goes
+A file's name - is standard input, once at most.
 
 Status:  0  accepted, found, proved or made     1  not accepted
          2  the words are no command

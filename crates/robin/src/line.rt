@@ -60,7 +60,10 @@ fn joined(alloc: Global, first: &str, mut rest: Vec<String>) -> Result<Vec<Strin
 }
 
 /// The words of a command, as it is to read them.
-fn command_words(alloc: Global, left: &[String]) -> Result<(Vec<String>, Option<Topic>), WordsFault> {
+fn command_words(
+    alloc: Global,
+    left: &[String],
+) -> Result<(Vec<String>, Option<Topic>), WordsFault> {
     let [first, rest @ ..] = left else {
         return Ok((Vec::new(alloc), None));
     };

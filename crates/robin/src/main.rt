@@ -9,9 +9,8 @@ use crate::kept::run_kept;
 use crate::line::{WordsFault, line_of};
 use answers::{Status, code};
 use robin_io::{HostSink, put_all};
-use std::env;
-use std::io;
 use std::process::ExitCode;
+use std::{env, io};
 
 /// The exit status where the system gives no arguments, or one that isn't UTF-8.
 const NO_ARGUMENTS: u8 = 10;
@@ -56,7 +55,9 @@ fn arguments_of(rt: &HostRuntime) -> Result<Vec<String>, u8> {
 
 /// Refuses words that the program itself takes.
 fn refuse(rt: &HostRuntime, option: &str, fault: &str) -> Status {
-    let _told = eprint!(rt; "robin: {option}{fault}\nrobin: robin --help lists the commands and their options\n");
+    let _told = eprint!(rt;
+        "robin: {option}{fault}\nrobin: robin --help lists the commands and their options\n"
+    );
     match put_all(&mut HostSink::new(io::writer(rt)), b"refused words\n") {
         Ok(()) => Status::Words,
         Err(_) => Status::WriteFault,
