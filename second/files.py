@@ -4,10 +4,11 @@
     python3 second/files.py ./robin
     python3 second/files.py PROGRAM
 
-KILLS=N (20) runs are ended by SIGKILL at random moments, drawn by SEED=N (0). Each file that is found then is empty of halves: it is the old one, or a season
-that `validate` accepts, of the last second. What differs is said, and the status is 1 then. As root it also tries a full disk.
+KILLS=N (20) runs are ended by SIGKILL at random moments, drawn by SEED=N (0). What FILE holds then is the old text or a season that `validate` accepts, and no
+half; what is better was told of in the last second (and SLACK, 0.5 s). PARTS=NAME,NAME runs some parts alone. What differs is said, and the status is 1 then. As root it also tries a full disk.
 """
 import os
+import pty
 import random
 import shutil
 import signal
@@ -15,11 +16,13 @@ import socket
 import subprocess
 import sys
 import tempfile
+import threading
 import time
 
 TOP = os.path.dirname(os.path.dirname(os.path.abspath(__file__)))
 BLOCKED = ["env", "--default-signal=INT", "--block-signal=INT", "--block-signal=TERM", "--block-signal=HUP"]
 KILLS = int(os.environ.get("KILLS", "20"))
+SLACK = float(os.environ.get("SLACK", "0.5"))
 DRAW = random.Random(int(os.environ.get("SEED", "0")))
 EASY = "examples/northern-league.xml"
 SEASON = "examples/northern-season.xml"
@@ -196,6 +199,17 @@ def unwritable():
     clear()
 
 
+def fill(name):
+    """A file that takes all the room that is left."""
+    file = os.open(name, os.O_WRONLY | os.O_CREAT)
+    try:
+        while os.write(file, b"x" * 4096) > 0:
+            pass
+    except OSError:
+        pass
+    os.close(file)
+
+
 def full_disk():
     """A disk with no room."""
     if os.geteuid() != 0:
@@ -212,12 +226,7 @@ def full_disk():
             out.write(OLD)
         for name, words in [("a text that is too long", ["rows", LONG]), ("a season", ["solve", LONG, "--seconds", "3"])]:
             if name == "a season":
-                with open(os.path.join(disk, "filler"), "wb") as out:
-                    try:
-                        out.write(b"x" * 65536)
-                        out.flush()
-                    except OSError:
-                        pass
+                fill(os.path.join(disk, "filler"))
             run = robin(*words, "--out", file)
             with open(file, "rb") as out:
                 held = out.read()
@@ -283,13 +292,18 @@ def objective_of(text):
     return int(text.split(b'objective="')[1].split(b'"')[0])
 
 
-def told_objectives(told):
-    """The lines of standard error with an objective: when, and which."""
-    found = []
-    for at, line in told:
-        if b"best objective " in line:
-            found.append((at, int(line.split(b"best objective ")[1].split(b",")[0])))
-    return found
+def listen(side, told):
+    """Notes when a terminal is told of a best objective, and which, until nothing more comes."""
+    line = b""
+    try:
+        while True:
+            line += os.read(side, 4096)
+            *whole_lines, line = line.split(b"\r")
+            for one in whole_lines:
+                if b"best objective " in one:
+                    told.append((time.monotonic(), int(one.split(b"best objective ")[1].split(b",")[0])))
+    except OSError:
+        pass
 
 
 def judged(name):
@@ -299,24 +313,36 @@ def judged(name):
 
 
 def killed():
-    """SIGKILL at random moments: FILE holds the old text or a whole accepted season, of the last second but for the clock's grain."""
-    lost = []
+    """SIGKILL at random moments: FILE holds the old text or a whole accepted season, and what it lacks was told of in the last second."""
+    worst = 0.0
     for turn in range(KILLS):
         clear()
         write("F", OLD)
-        wait = DRAW.uniform(0.2, 6)
-        run = subprocess.Popen(program + ["solve", LONG, "--seconds", "60", "--seed", str(turn), "--quiet", "--out", path("F")], stdout=subprocess.PIPE, stderr=subprocess.PIPE, cwd=TOP)
+        wait = DRAW.uniform(0.2, 12)
+        ours, theirs = pty.openpty()
+        run = subprocess.Popen(program + ["solve", LONG, "--seconds", "60", "--seed", str(turn), "--out", path("F")], stdout=subprocess.PIPE, stderr=theirs, cwd=TOP)
+        os.close(theirs)
+        told = []
+        ear = threading.Thread(target=listen, args=(ours, told))
+        ear.start()
         time.sleep(wait)
         run.kill()
+        end = time.monotonic()
         run.communicate()
+        ear.join()
+        os.close(ours)
         text = read("F")
         drafts = [name for name in os.listdir(folder) if name != "F"]
-        fault = None
-        if text != OLD:
-            fault = judged("F")
-            age = time.time() - os.stat(path("F")).st_mtime
-            lost.append(age)
-        say("KILL after %.1f s" % wait, fault, "the old text" if text == OLD else "objective %d%s" % (objective_of(text), ", a draft is left" if drafts else ""))
+        held = None if text == OLD else objective_of(text)
+        better = [at for at, cost in told if held is None or cost < held]
+        lost = end - min(better) if better else 0.0
+        worst = max(worst, lost)
+        fault = None if text == OLD else judged("F")
+        if lost > 1 + SLACK:
+            fault = fault or "%.2f s are lost" % lost
+        kept = "the old text" if held is None else "objective %d" % held
+        say("KILL after %.1f s" % wait, fault, "%s, told %d times, %.2f s lost%s" % (kept, len(told), lost, ", a draft is left" if drafts else ""))
+    print("    at most %.2f s are lost in %d kills" % (worst, KILLS))
     clear()
 
 
@@ -325,7 +351,8 @@ def asked():
     for name, number in [("Ctrl-C", signal.SIGINT), ("TERM", signal.SIGTERM), ("HUP", signal.SIGHUP)]:
         clear()
         write("F", OLD)
-        run = subprocess.Popen((BLOCKED if program[0] != "./robin" else []) + program + ["solve", LONG, "--seconds", "60", "--out", path("F")], stdout=subprocess.PIPE, stderr=subprocess.DEVNULL, cwd=TOP)
+        front = BLOCKED if program[0] != "./robin" else []
+        run = subprocess.Popen(front + program + ["solve", LONG, "--seconds", "60", "--out", path("F")], stdout=subprocess.PIPE, stderr=subprocess.DEVNULL, cwd=TOP)
         time.sleep(5)
         run.send_signal(number)
         began = time.monotonic()
@@ -347,7 +374,8 @@ def asked():
 def at_once():
     """Two runs into one FILE: it holds one of their texts, whole."""
     clear()
-    both = [subprocess.Popen(program + ["solve", LONG, "--seconds", "8", "--seed", seed, "--quiet", "--out", path("F")], stdout=subprocess.PIPE, stderr=subprocess.PIPE, cwd=TOP) for seed in "12"]
+    words = ["solve", LONG, "--seconds", "8", "--quiet", "--out", path("F"), "--seed"]
+    both = [subprocess.Popen(program + words + [seed], stdout=subprocess.PIPE, stderr=subprocess.PIPE, cwd=TOP) for seed in "12"]
     seen = set()
     while any(run.poll() is None for run in both):
         text = read("F")
@@ -403,7 +431,8 @@ def main():
     os.chmod(folder, 0o755)
     try:
         for part in [answers, logs, refusals, unwritable, full_disk, standard_input, asked, whole, at_once, killed]:
-            part()
+            if part.__name__ in os.environ.get("PARTS", part.__name__).split(","):
+                part()
     finally:
         shutil.rmtree(folder, ignore_errors=True)
     print("%d cases, %d wrong" % (runs, wrong))

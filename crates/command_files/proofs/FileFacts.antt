@@ -1,5 +1,5 @@
 -- Worked examples, so that a wrong reading of the words, or a wrong way of a text, does not check.
-use Rattle.std.proofs.Common.{◌≡◌, List, [], ◌∷◌, Some, None, true, false, refl}
+use Rattle.std.proofs.Common.{◌≡◌, [], ◌∷◌, None, true, false, refl}
 use Rattle.std.specs.Prelude.{codes}
 use Rattle.answers.specs.declared.status.Status.TheVariants as ends
 use Rattle.command_line.specs.Topics.{topic_of}
