@@ -551,7 +551,7 @@ spent-apart = record {
 pub spent-stopped : IsBudgetSpent apart None (Unit {0}) open_log
 spent-stopped = record {
   steps = [];
-  spent = record { kept = Some 0; is_kept = inr (tt, (0, (refl, tt))); spent = spent_apart };
+  spent = record { kept = Some 0; is_kept = inr (tt, (0, refl, tt)); spent = spent_apart };
   status = refl;
   text = refl;
   reads_back = open_log_read;
