@@ -340,7 +340,7 @@ full_disk() {
     expect "full disk: whole answers" whole "$dir" 0 3
     rm -r "$dir"
     dir=$mounted/rounds
-    rounds_of --seconds 60 >"$folder/said" 2>&1
+    rounds_of --seconds 600 >"$folder/said" 2>&1
     status=$?
     expect "full disk: rounds end, since answers or the table can't be written" [ "$status" -eq 1 -o "$status" -eq 7 ]
     expect "full disk: no season costs more than its start" no_dearer
@@ -519,17 +519,31 @@ least_of_all() {
     done | sort -n | head -n 1
 }
 
+# rounds_at_once NAME ..: for each name a run of the same rounds, told to end when a third round has begun; whether all then
+# end well.
+rounds_at_once() {
+    all=''
+    for name_of_run; do
+        # By its own name, so that the process is that of the script.
+        "$here/next.sh" "$league" "$dir" --moves 100 --seeds 0-3 --jobs 2 --keep 2 --seconds 600 >"$folder/said.$name_of_run" 2>&1 &
+        all="$all $!"
+    done
+    ended=0
+    await 300 [ -d "$dir/3" ] || ended=1
+    for run in $all; do
+        kill -TERM "$run"
+    done
+    for run in $all; do
+        wait "$run" || ended=1
+    done
+    [ "$ended" -eq 0 ] || { sed 's/^/    /' "$folder"/said.* && false; }
+}
+
 # Rounds, of which each begins at the best seasons of the one before it.
 rounds() {
     dir="$folder/rounds aren't one word"
     : >"$folder/calls"
-    # By its own name, so that the process is that of the script.
-    "$here/next.sh" "$league" "$dir" --moves 100 --seeds 0-3 --jobs 2 --keep 2 --seconds 600 >"$folder/said" 2>&1 &
-    run=$!
-    expect "rounds: a third one begins" await 120 [ -d "$dir/3" ]
-    kill -TERM "$run"
-    wait "$run"
-    expect "rounds: a signal ends them as the time does" [ $? -eq 0 ]
+    expect "rounds: a third one begins, and a signal ends them as the time does" rounds_at_once one
     expect "rounds: the second begins at the best of the first" [ "$(objective_of "$(start_of "$dir/2/4.xml")")" = "$(least "$dir/1")" ]
     expect "rounds: with other seeds" [ "$(calls 0) $(calls 4)" = "1 1" ]
     expect "rounds: no season costs more than its start" no_dearer
@@ -547,7 +561,7 @@ rounds() {
     expect "rounds: and leave the best of their seasons" best_is "$dir" "$(least_of_all)"
 
     dir=$folder/rounds-twice
-    expect "rounds: the same command twice at once" twice rounds_of --seconds 12
+    expect "rounds: the same command twice at once" rounds_at_once one another
     expect "rounds: no season costs more than its start" no_dearer
     expect "rounds: the best is the least of all" best_is "$dir" "$(least_of_all)"
     expect "rounds: nothing is left under another name" [ -z "$(find "$dir" -name '.*.part')" ]
