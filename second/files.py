@@ -160,6 +160,7 @@ def refusals():
     wanted("--out before an option", robin("solve", EASY, "--out", "--log", file), 2, b"refused words\n", old)
     wanted("--out with an empty name", robin("solve", EASY, "--out", ""), 2, b"refused words\n", old)
     wanted("--out -", robin("solve", EASY, "--out", "-"), 2, b"refused words\n", old)
+    wanted("120,000 words", robin("solve", *["x"] * 120000, "--out", file), 2, b"refused words\n", old)
     wanted("a folder that isn't there", robin("solve", EASY, "--out", path("none/F")), 7, b"", old)
     wanted("a path through a file", robin("solve", EASY, "--out", path("F/G")), 7, b"", old)
     wanted("a name that is too long", robin("solve", EASY, "--out", path("x" * 250)), 7, b"", old)
