@@ -108,6 +108,18 @@ soft_counted {R} E n room m (k ∷ rules) ready exact =
     (cost_counted E n room m k (All-head (IsReady E n room) k rules ready) (All-head (IsExact E m) k rules exact))
     (soft_counted E n room m rules (All-tail (IsReady E n room) k rules ready) (All-tail (IsExact E m) k rules exact))
 
+-- a number of each rule, summed
+pub weights_summed : {R : Type 0} (f : Weighted R → ℕ) (rules : List (Kept R))
+    → sum_by (λ k. f k.weighted) rules ≡ sum_by f (map (λ k. k.weighted) rules)
+weights_summed f [] = refl
+weights_summed {R} f (k ∷ rules) =
+    omega (
+      arith,
+      sum_by-cons (λ (k : Kept R). f k.weighted) k rules,
+      sum_by-cons f k.weighted (map (λ (k : Kept R). k.weighted) rules),
+      weights_summed f rules,
+    )
+
 -- ---- rules weighed on other counts than those of their entries
 
 -- a number of the rules of a kind, summed

@@ -1,8 +1,21 @@
-use Rattle.std.proofs.Common.{ap, arith}
+use Rattle.std.proofs.Common.{◌≡◌, ◌<◌, ◌≤◌, ◌*◌, ◌^◌, List, length, ap, refl, ◌∙◌, arith}
+use Rattle.std.proofs.lemmas.List.{take_all}
 use Rattle.std.proofs.lemmas.List.Sums.{sum_by-take-le, sum_by_more}
+use Rattle.std.specs.List.{sum_by}
 use Rattle.tally.specs.Ready.{hard_cost, soft_cost}
-use Rattle.tally.proofs.CostLemmas.{hard_fits, soft_fits}
+use Rattle.tally.specs.declared.kept.Kept.{Kept}
+use Rattle.tally.proofs.CostLemmas.{hard_fits, item_ready, soft_fits}
 use Rattle.tally.proofs.keep.costs.Goals as goal
+
+pub add-requires-clause-few : goal.add-requires-clause-few
+add-requires-clause-few g c =
+    (item_ready g.R.Entries c.args.cells.now.n c.args.room c.args.room c.args.rules.now c.loop-kept.kept-index
+    c.kept-item.result c.requires.ready c.loop-kept-test.true c.kept-item.is refl).few
+
+pub add-requires-clause-small : goal.add-requires-clause-small
+add-requires-clause-small g c =
+    (item_ready g.R.Entries c.args.cells.now.n c.args.room c.args.room c.args.rules.now c.loop-kept.kept-index
+    c.kept-item.result c.requires.ready c.loop-kept-test.true c.kept-item.is refl).small
 
 pub add-requires-clause-infeasibility_room : goal.add-requires-clause-infeasibility_room
 add-requires-clause-infeasibility_room g c = omega (arith, hard_fits g.R.Entries c.args.cells.now.n c.args.room c.args.rules.now c.requires.ready, sum_by-take-le hard_cost c.args.rules.now c.loop-kept.kept-index, c.loop-kept.invariant.infeasibility, c.requires.few)
@@ -15,3 +28,15 @@ loop-kept-preserved g c = record {
   infeasibility = omega (arith, c.add.ensures.infeasibility, c.loop-kept.invariant.infeasibility, sum_by_more hard_cost c.args.rules.now c.loop-kept.kept-index c.kept-item.result c.loop-kept-test.true, ap hard_cost c.kept-item.is);
   objective = omega (arith, c.add.ensures.objective, c.loop-kept.invariant.objective, sum_by_more soft_cost c.args.rules.now c.loop-kept.kept-index c.kept-item.result c.loop-kept-test.true, ap soft_cost c.kept-item.is);
 }
+
+pub returns-clause-infeasibility : goal.returns-clause-infeasibility
+returns-clause-infeasibility g c =
+    c.loop-kept.invariant.infeasibility
+    ∙ ap (λ (l : List (Kept g.row.R.Denot)). sum_by hard_cost l)
+    (take_all c.loop-kept.kept-index c.args.rules.now (omega (arith, c.loop-kept-test.false)))
+
+pub returns-clause-objective : goal.returns-clause-objective
+returns-clause-objective g c =
+    c.loop-kept.invariant.objective
+    ∙ ap (λ (l : List (Kept g.row.R.Denot)). sum_by soft_cost l)
+    (take_all c.loop-kept.kept-index c.args.rules.now (omega (arith, c.loop-kept-test.false)))

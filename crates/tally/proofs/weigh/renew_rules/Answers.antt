@@ -1,14 +1,43 @@
-use Rattle.std.proofs.Common.{◌≡◌, ◌<◌, length, get_or, ap, subst, sym, ◌∙◌, arith}
-use Rattle.std.proofs.lemmas.List.{get_or-set_other}
+use Rattle.std.proofs.Common.{◌≡◌, ◌<◌, ◌≤◌, ℕ, List, length, get_or, ap, subst, sym, ◌∙◌, arith}
+use Rattle.std.proofs.lemmas.List.{get_or-set_other, take_all}
 use Rattle.std.proofs.lemmas.List.Elements.{AllWithin-more_set}
-use Rattle.std.proofs.lemmas.List.Sums.{sum_by_more}
+use Rattle.std.proofs.lemmas.List.Sums.{get_or-le-sum_by, sum_by_more}
+use Rattle.std.specs.List.{sum_by}
 use Rattle.cells.specs.Table.{table_counts}
 use Rattle.tally.specs.Change.{games_of}
-use Rattle.tally.specs.Ready.{IsExact}
+use Rattle.tally.specs.Ready.{IsExact, hard_cost, soft_cost}
 use Rattle.tally.specs.Tallies.{touched_count}
 use Rattle.tally.specs.declared.kept.Kept.{Kept}
-use Rattle.tally.proofs.CostLemmas.{AreReady-next, hard_fits, soft_fits, weights-next}
+use Rattle.tally.specs.declared.weighted.Weighted.{Weighted}
+use Rattle.tally.proofs.CostLemmas.{AreReady-next, hard_fits, soft_fits, weights-next, weights_summed}
 use Rattle.tally.proofs.weigh.renew_rules.Goals as goal
+
+pub renew_weighed-requires-clause-ready : goal.renew_weighed-requires-clause-ready
+renew_weighed-requires-clause-ready g c =
+    c.loop-kept.invariant.ready.ready c.loop-kept.kept-index c.kept-item.result
+    (omega (arith, c.loop-kept-test.true, c.loop-kept.auto.rules))
+
+pub renew_weighed-requires-clause-reach : goal.renew_weighed-requires-clause-reach
+renew_weighed-requires-clause-reach g c =
+    c.loop-kept.invariant.ready.reach c.loop-kept.kept-index c.kept-item.result
+    (omega (arith, c.loop-kept-test.true, c.loop-kept.auto.rules))
+
+pub renew_weighed-requires-clause-clean : goal.renew_weighed-requires-clause-clean
+renew_weighed-requires-clause-clean g c = c.loop-kept.invariant.ready.clean
+
+pub renew_weighed-requires-clause-infeasibility : goal.renew_weighed-requires-clause-infeasibility
+renew_weighed-requires-clause-infeasibility g c =
+    subst (λ (sum : ℕ). hard_cost (get_or c.loop-kept.rules c.loop-kept.kept-index c.kept-item.result) ≤ sum)
+    (sym c.loop-kept.invariant.ready.infeasibility)
+    (get_or-le-sum_by hard_cost c.loop-kept.rules c.loop-kept.kept-index c.kept-item.result
+    (omega (arith, c.loop-kept-test.true, c.loop-kept.auto.rules)))
+
+pub renew_weighed-requires-clause-objective : goal.renew_weighed-requires-clause-objective
+renew_weighed-requires-clause-objective g c =
+    subst (λ (sum : ℕ). soft_cost (get_or c.loop-kept.rules c.loop-kept.kept-index c.kept-item.result) ≤ sum)
+    (sym c.loop-kept.invariant.ready.objective)
+    (get_or-le-sum_by soft_cost c.loop-kept.rules c.loop-kept.kept-index c.kept-item.result
+    (omega (arith, c.loop-kept-test.true, c.loop-kept.auto.rules)))
 
 pub renew_weighed-requires-clause-infeasibility_room : goal.renew_weighed-requires-clause-infeasibility_room
 renew_weighed-requires-clause-infeasibility_room g c = omega (arith, hard_fits g.R.Entries c.args.change.now.table.n c.loop-kept.bench.found.room c.loop-kept.rules c.loop-kept.invariant.ready.ready, c.loop-kept.invariant.ready.infeasibility, c.loop-kept.invariant.ready.few)
@@ -51,3 +80,15 @@ loop-kept-preserved g c =
 
 pub returns-clause-exact : goal.returns-clause-exact
 returns-clause-exact g c = λ m same was k d h. c.loop-kept.invariant.exact m same was k d (omega arith) (omega (arith, h, c.loop-kept-test.false, c.loop-kept.auto.rules))
+
+pub returns-clause-steps : goal.returns-clause-steps
+returns-clause-steps g c =
+    let f : Weighted g.row.R.Denot → ℕ = λ w. touched_count g.R.Entries w.rule (games_of c.args.change.now) in
+    omega (
+      arith,
+      c.loop-kept.invariant.steps,
+      ap
+          (λ (l : List (Kept g.row.R.Denot)). sum_by (λ k. f k.weighted) l)
+          (take_all c.loop-kept.kept-index c.args.rules.now (omega (arith, c.loop-kept-test.false, c.loop-kept.auto.rules))),
+      weights_summed f c.args.rules.now,
+    )

@@ -1,12 +1,54 @@
-use Rattle.std.proofs.Common.{◌≡◌, ◌++◌, List, length, take, drop, ap, subst, sym, arith}
+use Rattle.std.proofs.Common.{◌≡◌, ◌+◌, ◌<◌, ◌≤◌, ◌++◌, ℕ, List, length, map, take, drop, ap, subst, sym, ◌∙◌, arith}
 use Rattle.std.proofs.lemmas.List.{take_at}
-use Rattle.std.specs.List.{All}
+use Rattle.std.specs.List.{All, sum}
 use Rattle.cells.specs.Table.{table_counts}
+use Rattle.league.specs.Counts.{counts_of}
+use Rattle.league.specs.Instance.{IsGame}
 use Rattle.tally.specs.ByTeam.{GameRoom}
-use Rattle.tally.specs.Change.{Changed, LeadsFrom}
+use Rattle.tally.specs.Change.{Changed, LeadsFrom, games_of}
 use Rattle.tally.specs.Ready.{AreReady, IsExact, IsTallied}
+use Rattle.tally.specs.Tallies.{Tallied, all_touched}
 use Rattle.tally.specs.declared.kept.Kept.{Kept}
+use Rattle.tally.specs.declared.weighted.Weighted.{Weighted}
 use Rattle.tally.proofs.tally.Tally.exchange.Goals as goal
+
+pub list_edit-listed-requires-clause-teams : goal.list_edit-listed-requires-clause-teams
+list_edit-listed-requires-clause-teams g c =
+    omega (arith, ap length c.deref_mut.ensures.value, c.self.invariant.teams, c.n.ensures.n)
+
+pub list_edit-listed-requires-clause-out_fit : goal.list_edit-listed-requires-clause-out_fit
+list_edit-listed-requires-clause-out_fit g c =
+    subst (λ (n : ℕ). All (IsGame n) c.args.out.now)
+    (sym (c.n.ensures.n ∙ ap (λ (t : Tallied g.row.R.Denot). t.table.n) c.self.view_is)) c.requires.out_fit
+
+pub list_edit-listed-requires-clause-into_fit : goal.list_edit-listed-requires-clause-into_fit
+list_edit-listed-requires-clause-into_fit g c =
+    subst (λ (n : ℕ). All (IsGame n) c.args.into.now)
+    (sym (c.n.ensures.n ∙ ap (λ (t : Tallied g.row.R.Denot). t.table.n) c.self.view_is)) c.requires.into_fit
+
+pub exchange_games-requires-clause-out_fit : goal.exchange_games-requires-clause-out_fit
+exchange_games-requires-clause-out_fit g c =
+    subst (λ (n : ℕ). All (IsGame n) c.args.out.now)
+    (sym (ap (λ (t : Tallied g.row.R.Denot). t.table.n) c.self.view_is)) c.requires.out_fit
+
+pub exchange_games-requires-clause-into_fit : goal.exchange_games-requires-clause-into_fit
+exchange_games-requires-clause-into_fit g c =
+    subst (λ (n : ℕ). All (IsGame n) c.args.into.now)
+    (sym (ap (λ (t : Tallied g.row.R.Denot). t.table.n) c.self.view_is)) c.requires.into_fit
+
+pub exchange_games-requires-clause-there : goal.exchange_games-requires-clause-there
+exchange_games-requires-clause-there g c i j s =
+    subst (λ (t : Tallied g.row.R.Denot). counts_of c.args.out.now i j s ≤ table_counts t.table i j s) (sym c.self.view_is)
+    (c.requires.there i j s)
+
+pub renew_rules-requires : goal.renew_rules-requires
+renew_rules-requires g c =
+    record {
+      ready = subst (λ (n : ℕ). AreReady g.R.Entries n c.self.inside.bench c.deref_mut-2.result.now c.self.inside.sums)
+          (sym (ap (λ (v : Changed). v.table.n) c.new-change.ensures ∙ c.exchange_games.ensures.n))
+          (subst (λ (l : List (Kept g.row.R.Denot)). AreReady g.R.Entries c.self.inside.cells.n c.self.inside.bench l
+          c.self.inside.sums) (sym c.deref_mut-2.ensures.value) c.self.invariant.ready);
+    }
 
 pub invariant_of-self : goal.invariant_of-self
 invariant_of-self g c =
@@ -31,3 +73,38 @@ invariant_of-self g c =
           (subst (λ (v : Changed). LeadsFrom (table_counts c.self.inside.cells) v) (sym c.new-change.ensures)
           c.exchange_games.ensures.same) was);
     }))
+
+pub returns-clause-weights : goal.returns-clause-weights
+returns-clause-weights g c =
+    let weighted : List (Kept g.row.R.Denot) → List (Weighted g.row.R.Denot) = λ l. map (λ k. k.weighted) l in
+    let long : length c.renew_rules.new.rules ≡ c.self.inside.rules.len = omega (arith, c.renew_rules.auto.rules, c.deref_mut-2.ensures.len, ap length c.deref_mut-2.ensures.value) in
+    ap weighted (take_at c.renew_rules.new.rules (drop (length c.renew_rules.new.rules) c.self.inside.rules.items) c.self.inside.rules.len long)
+    ∙ c.renew_rules.ensures.weights ∙ ap weighted c.deref_mut-2.ensures.value
+    ∙ ap (λ (t : Tallied g.row.R.Denot). t.weights) c.self.view_is
+
+pub returns-clause-n : goal.returns-clause-n
+returns-clause-n g c = c.exchange_games.ensures.n ∙ ap (λ (t : Tallied g.row.R.Denot). t.table.n) c.self.view_is
+
+pub returns-clause-counts : goal.returns-clause-counts
+returns-clause-counts g c = λ i j s.
+    c.exchange_games.ensures.counts i j s
+    ∙ ap (λ (t : Tallied g.row.R.Denot). table_counts t.table i j s + counts_of c.args.into.now i j s) c.self.view_is
+
+pub returns-clause-total : goal.returns-clause-total
+returns-clause-total g c =
+    omega (
+      arith,
+      c.exchange_games.ensures.total,
+      c.requires.as_many,
+      ap (λ (t : Tallied g.row.R.Denot). sum t.table.list) c.self.view_is,
+    )
+
+pub returns-clause-steps : goal.returns-clause-steps
+returns-clause-steps g c =
+    let weighted : List (Kept g.row.R.Denot) → List (Weighted g.row.R.Denot) = λ l. map (λ k. k.weighted) l in
+    let touched : ℕ = all_touched g.R.Entries c.args.self.now.weights (c.args.out.now ++ c.args.into.now) in
+    let same : all_touched g.R.Entries (weighted c.deref_mut-2.result.now) (games_of c.new-change.result) ≡ touched =
+    ap (λ (v : Changed). all_touched g.R.Entries (weighted c.deref_mut-2.result.now) (games_of v)) c.new-change.ensures
+    ∙ ap (λ (l : List (Weighted g.row.R.Denot)). all_touched g.R.Entries l (c.args.out.now ++ c.args.into.now))
+    (ap weighted c.deref_mut-2.ensures.value ∙ ap (λ (t : Tallied g.row.R.Denot). t.weights) c.self.view_is) in
+    subst (λ (more : ℕ). c.renew_rules.new.steps ≤ c.args.steps.now + more) same (omega (arith, c.renew_rules.ensures.steps))

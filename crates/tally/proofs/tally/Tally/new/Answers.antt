@@ -6,6 +6,11 @@ use Rattle.tally.specs.declared.weighted.Weighted.{Weighted}
 use Rattle.tally.proofs.KeepLemmas.{few_kept, kept_bound}
 use Rattle.tally.proofs.tally.Tally.new.Goals as goal
 
+pub costs-sums-requires-clause-ready : goal.costs-sums-requires-clause-ready
+costs-sums-requires-clause-ready g c =
+    subst (λ (l : List (Kept g.row.R.Denot)). All (IsReady g.R.Entries c.args.cells.n c.greatest_terms-room.result) l)
+    (sym c.deref-3.ensures.value) c.in_ok-rules.ensures.ready
+
 pub costs-sums-requires-clause-few : goal.costs-sums-requires-clause-few
 costs-sums-requires-clause-few g c =
     subst (λ (l : List (Kept g.row.R.Denot)). sum_by (λ (k : Kept g.row.R.Denot). length k.vector.items) l < 2 ^ 31)

@@ -1,18 +1,79 @@
-use Rattle.std.proofs.Common.{◌≡◌, ℕ, ◌+◌, ◌≤◌, ◌++◌, List, length, take, drop, map, ap, subst, sym, ◌∙◌, arith}
+use Rattle.std.proofs.Common.{◌≡◌, ℕ, ◌+◌, ◌^◌, ◌<◌, ◌≤◌, ◌++◌, List, length, take, drop, map, ap, subst, sym, ◌∙◌, arith}
 use Rattle.std.proofs.lemmas.List.{take_at}
-use Rattle.std.specs.List.{All, sum}
+use Rattle.std.specs.List.{All, sum, sum_by}
 use Rattle.league.specs.Counts.{Counts, counts_of}
+use Rattle.league.specs.Instance.{IsGame}
 use Rattle.cells.specs.Table.{table_counts}
 use Rattle.cells.proofs.ListedLemmas.{same_counts}
 use Rattle.tally.specs.ByTeam.{GameRoom}
-use Rattle.tally.specs.Change.{Changed, LeadsFrom}
-use Rattle.tally.specs.Ready.{IsExact, IsTallied}
-use Rattle.tally.specs.Tallies.{Tallied}
+use Rattle.tally.specs.Change.{Changed, LeadsFrom, games_of}
+use Rattle.tally.specs.Ready.{IsExact, IsReady, IsTallied}
+use Rattle.tally.specs.Tallies.{Tallied, all_touched}
 use Rattle.tally.specs.Weighing.{AreWeighed}
 use Rattle.tally.specs.declared.kept.Kept.{Kept}
+use Rattle.tally.specs.declared.weighted.Weighted.{Weighted}
 use Rattle.tally.proofs.CostLemmas.{tallied-kept}
 use Rattle.tally.proofs.UndoLemmas.{exchanged-same}
 use Rattle.tally.proofs.tally.Tally.weigh_games.Goals as goal
+
+pub list_edit-listed-requires-clause-teams : goal.list_edit-listed-requires-clause-teams
+list_edit-listed-requires-clause-teams g c =
+    omega (arith, ap length c.deref_mut.ensures.value, c.self.invariant.teams, c.n.ensures.n)
+
+pub list_edit-listed-requires-clause-out_fit : goal.list_edit-listed-requires-clause-out_fit
+list_edit-listed-requires-clause-out_fit g c =
+    subst (λ (n : ℕ). All (IsGame n) c.args.out.now)
+    (sym (c.n.ensures.n ∙ ap (λ (t : Tallied g.row.R.Denot). t.table.n) c.self.view_is)) c.requires.out_fit
+
+pub list_edit-listed-requires-clause-into_fit : goal.list_edit-listed-requires-clause-into_fit
+list_edit-listed-requires-clause-into_fit g c =
+    subst (λ (n : ℕ). All (IsGame n) c.args.into.now)
+    (sym (c.n.ensures.n ∙ ap (λ (t : Tallied g.row.R.Denot). t.table.n) c.self.view_is)) c.requires.into_fit
+
+pub exchange_games-requires-clause-out_fit : goal.exchange_games-requires-clause-out_fit
+exchange_games-requires-clause-out_fit g c =
+    subst (λ (n : ℕ). All (IsGame n) c.args.out.now)
+    (sym (ap (λ (t : Tallied g.row.R.Denot). t.table.n) c.self.view_is)) c.requires.out_fit
+
+pub exchange_games-requires-clause-into_fit : goal.exchange_games-requires-clause-into_fit
+exchange_games-requires-clause-into_fit g c =
+    subst (λ (n : ℕ). All (IsGame n) c.args.into.now)
+    (sym (ap (λ (t : Tallied g.row.R.Denot). t.table.n) c.self.view_is)) c.requires.into_fit
+
+pub exchange_games-requires-clause-there : goal.exchange_games-requires-clause-there
+exchange_games-requires-clause-there g c i j s =
+    subst (λ (t : Tallied g.row.R.Denot). counts_of c.args.out.now i j s ≤ table_counts t.table i j s) (sym c.self.view_is)
+    (c.requires.there i j s)
+
+pub exchange_games-requires-2-clause-out_fit : goal.exchange_games-requires-2-clause-out_fit
+exchange_games-requires-2-clause-out_fit g c =
+    subst (λ (n : ℕ). All (IsGame n) c.args.into.now)
+    (sym (c.exchange_games.ensures.n ∙ ap (λ (t : Tallied g.row.R.Denot). t.table.n) c.self.view_is)) c.requires.into_fit
+
+pub exchange_games-requires-2-clause-into_fit : goal.exchange_games-requires-2-clause-into_fit
+exchange_games-requires-2-clause-into_fit g c =
+    subst (λ (n : ℕ). All (IsGame n) c.args.out.now)
+    (sym (c.exchange_games.ensures.n ∙ ap (λ (t : Tallied g.row.R.Denot). t.table.n) c.self.view_is)) c.requires.out_fit
+
+pub weigh_rules-sums-requires-clause-ready : goal.weigh_rules-sums-requires-clause-ready
+weigh_rules-sums-requires-clause-ready g c =
+    subst (λ (n : ℕ). All (IsReady g.R.Entries n c.self.inside.bench.found.room) c.deref-2.result.now)
+    (sym (ap (λ (v : Changed). v.table.n) c.new-change.ensures ∙ c.exchange_games.ensures.n))
+    (subst (λ (l : List (Kept g.row.R.Denot)). All (IsReady g.R.Entries c.self.inside.cells.n
+    c.self.inside.bench.found.room) l) (sym c.deref-2.ensures.value) c.self.invariant.ready.ready)
+
+pub weigh_rules-sums-requires-clause-reach : goal.weigh_rules-sums-requires-clause-reach
+weigh_rules-sums-requires-clause-reach g c =
+    subst (λ (l : List (Kept g.row.R.Denot)). All (λ k. g.R.Entries.reach_of k.weighted.rule
+    ≤ c.self.inside.bench.keys.room) l) (sym c.deref-2.ensures.value) c.self.invariant.ready.reach
+
+pub weigh_rules-sums-requires-clause-few : goal.weigh_rules-sums-requires-clause-few
+weigh_rules-sums-requires-clause-few g c =
+    subst (λ (l : List (Kept g.row.R.Denot)). sum_by (λ k. length k.vector.items) l < 2 ^ 31)
+    (sym c.deref-2.ensures.value) c.self.invariant.ready.few
+
+pub weigh_rules-sums-requires-clause-clean : goal.weigh_rules-sums-requires-clause-clean
+weigh_rules-sums-requires-clause-clean g c = c.self.invariant.ready.clean
 
 pub exchange_games-requires-2-clause-there : goal.exchange_games-requires-2-clause-there
 exchange_games-requires-2-clause-there g c i j s =
@@ -78,3 +139,13 @@ returns-clause-weighed g c = λ m led.
     (map (λ k. k.weighted) c.deref-2.result.now) c.weigh_rules-sums.result) c.new-change.ensures
     (c.weigh_rules-sums.ensures.weighed start
     (subst (λ (v : Changed). LeadsFrom start v) (sym c.new-change.ensures) c.exchange_games.ensures.same) exact))))
+
+pub returns-clause-steps : goal.returns-clause-steps
+returns-clause-steps g c =
+    let weighted : List (Kept g.row.R.Denot) → List (Weighted g.row.R.Denot) = λ l. map (λ k. k.weighted) l in
+    let touched : ℕ = all_touched g.R.Entries c.args.self.now.weights (c.args.out.now ++ c.args.into.now) in
+    let same : all_touched g.R.Entries (weighted c.deref-2.result.now) (games_of c.new-change.result) ≡ touched =
+    ap (λ (v : Changed). all_touched g.R.Entries (weighted c.deref-2.result.now) (games_of v)) c.new-change.ensures
+    ∙ ap (λ (l : List (Weighted g.row.R.Denot)). all_touched g.R.Entries l (c.args.out.now ++ c.args.into.now))
+    (ap weighted c.deref-2.ensures.value ∙ ap (λ (t : Tallied g.row.R.Denot). t.weights) c.self.view_is) in
+    subst (λ (more : ℕ). c.weigh_rules-sums.new.steps ≤ c.args.steps.now + more) same c.weigh_rules-sums.ensures.steps
