@@ -23,7 +23,7 @@ use clause_search::{Found, search_watched};
 use decoding::decode_games;
 use league::{Constraint, League, Schedule};
 use refutation::Log;
-use robin_watch::Watch;
+use robin_watch::{News, Watch};
 use rows::Assignment;
 use solve::{Season, lowered_watched};
 use std::alloc::{AllocError, Global};
@@ -124,8 +124,8 @@ fn bettered(lower: Season) -> Proved
     }
 }
 
-/// The answer of a search over the bound rows of one less than an objective. It holds for each schedule of this
-/// objective that no single move betters.
+/// The answer of a search over the bound rows of one less than an objective, of which the watch hears. It holds for each
+/// schedule of this objective that no single move betters.
 fn searched<W: Watch>(
     alloc: Global,
     league: &League,
@@ -140,6 +140,7 @@ fn searched<W: Watch>(
         → IsSettled league.now.n league.now.phased (league_score league.now) m
         → IsProvedBy league.now m (IsKeptTo conflicts (W.may_stop watch.now)) proved) }
 {
+    watch.tell(News::Bound { objective });
     let system = bound_system(alloc, league, objective - 1, terms)?;
     let found = search_watched(alloc, system.rows(), system.vars(), &[], conflicts, watch)?;
     match found {

@@ -24,6 +24,7 @@ use encoding::EncodeFault;
 use league::League;
 use refutation::Log;
 use robin_news::Listener;
+use robin_watch::News;
 use std::alloc::{AllocError, Global};
 
 /// Finds hard constraints that contradict each other, or a schedule that the league accepts.
@@ -74,7 +75,7 @@ pub fn explain<W: Listener>(
     }
 }
 
-/// The conflict of a league that a log refutes.
+/// The conflict of a league that a log refutes. The watch hears that each hard constraint is still to be tried.
 ///
 /// # Errors
 /// Only where memory runs out.
@@ -95,6 +96,9 @@ fn conflict<W: Listener>(
 {
     let _n = league.n();
     let members = all_open(alloc, league)?;
+    watch.tell(News::Members {
+        left: members.len() as u64,
+    });
     let whole = Contradiction { members, log };
     let near = narrow(alloc, league, whole, conflicts, watch)?;
     let least = minimise(alloc, league, near, conflicts, watch)?;

@@ -52,6 +52,14 @@ pub(crate) fn first_open(members: &[Member]) -> Option<usize>
     members.iter().position(|member| member.case.is_none())
 }
 
+/// How many members are still to be tried, for those who hear of it.
+pub(crate) fn open_count(members: &[Member]) -> u64 {
+    members
+        .iter()
+        .filter(|member| member.case.is_none())
+        .count() as u64
+}
+
 /// The numbers of some members.
 ///
 /// # Errors

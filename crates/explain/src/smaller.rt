@@ -8,10 +8,11 @@ ghost use Rattle.explain.specs.Standings.{AreClosed, IsExplained, IsOpenAt, kept
 use crate::attempt::{Attempt, try_part};
 use crate::cases::Case;
 use crate::cores::narrow;
-use crate::member::{Contradiction, first_open, others, settle, shrunk};
+use crate::member::{Contradiction, first_open, open_count, others, settle, shrunk};
 use league::League;
 use refutation::Log;
 use robin_news::Listener;
+use robin_watch::News;
 use std::alloc::{AllocError, Global};
 
 /// A contradiction of which each member was tried: without it there is a schedule, or a search was spent, or the watch
@@ -39,8 +40,8 @@ pub(crate) fn minimise<W: Listener>(
     Ok(least)
 }
 
-/// What is known after a try of the open member at a place: there is less to do. Where the run is to end the member is
-/// left undecided, with a log of no step.
+/// What is known after a try of the open member at a place: there is less to do. The watch hears how many members are
+/// still to be tried. Where the run is to end the member is left undecided, with a log of no step.
 ///
 /// # Errors
 /// Only where memory runs out.
@@ -64,6 +65,8 @@ fn tried<W: Listener>(
         let log = Log::new(alloc);
         return Ok(settle(contradiction, place, number, Case::Undecided { log }));
     }
+    let left = open_count(&contradiction.members);
+    watch.tell(News::Members { left });
     match try_without(alloc, league, &contradiction, number, conflicts, watch)? {
         Attempt::Met {
             schedule,

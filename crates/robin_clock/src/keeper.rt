@@ -13,7 +13,7 @@ use std::cell::Cell;
 use std::rt::Files;
 use std::time::{Clock, Instant};
 
-/// It is seen once in so many questions whether a season waits.
+/// The keeper looks once in so many questions whether a season waits.
 const EACH: u64 = 64;
 
 /// At least so many milliseconds lie between two seasons that are put into the file.

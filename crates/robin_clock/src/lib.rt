@@ -2,6 +2,7 @@
 //! the best season so far.
 #![tactic(auto)]
 
+mod aim;
 mod keeper;
 mod season;
 mod signals;

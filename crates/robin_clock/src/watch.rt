@@ -2,6 +2,7 @@
 ghost use Rattle.std.specs.Prelude.{◌≡◌, ◌⊎◌, IsSome, true};
 ghost use Rattle.robin_clock.specs.Fields.{limit_of, listens};
 
+use crate::aim::Aim;
 use crate::signals::{is_blocked, is_waiting};
 use crate::telling::Telling;
 use league::{Game, League};
@@ -27,7 +28,8 @@ struct Heard {
 
 /// Ends a run after so many seconds, if seconds were asked for. Ends it too when SIGHUP, SIGINT or SIGTERM waits, if
 /// one of them was blocked when the watch began. From then on each answer is that the run is to end. Writes lines of how
-/// the run goes to standard error.
+/// the run goes to standard error. The seasons that come while members of a conflict are tried are those of a part of
+/// the league, and no line speaks of them.
 #[derive(Drop)]
 pub struct HostWatch<R> {
     rt: R,
@@ -40,6 +42,7 @@ pub struct HostWatch<R> {
     over: Cell<bool>,
     told: Cell<u128>,
     heard: Cell<Option<Heard>>,
+    aim: Cell<Aim>,
 }
 
 impl<R: Clock + Files + Eprint> HostWatch<R> {
@@ -60,6 +63,7 @@ impl<R: Clock + Files + Eprint> HostWatch<R> {
             over: Cell::new(false),
             told: Cell::new(0),
             heard: Cell::new(None),
+            aim: Cell::new(Aim::Season),
         }
     }
 
@@ -127,8 +131,27 @@ impl<R: Clock + Files + Eprint> HostWatch<R> {
         );
     }
 
-    /// Says how many clauses a search has learnt, and what the best season costs, where there is one.
+    /// Says how many clauses a search has learnt, and what it is to show.
     fn say_learnt(&self, passed: u128, learnt: u64) {
+        let (front, end) = self.telling.frame();
+        let seconds = passed / 1000;
+        match self.aim.get() {
+            Aim::Season => self.say_searched(passed, learnt),
+            Aim::Bound { objective } => {
+                let _ = eprint!(self.rt;
+                    "{front}robin: {seconds} s: proving at least {objective}, {learnt} clauses learnt{end}"
+                );
+            }
+            Aim::Member { left } => {
+                let _ = eprint!(self.rt;
+                    "{front}robin: {seconds} s: {left} members still to be tried, {learnt} clauses learnt{end}"
+                );
+            }
+        }
+    }
+
+    /// Says how many clauses a search for a season has learnt, and what the best season costs, where there is one.
+    fn say_searched(&self, passed: u128, learnt: u64) {
         let (front, end) = self.telling.frame();
         let seconds = passed / 1000;
         let Some(best) = self.heard.get() else {
@@ -138,6 +161,24 @@ impl<R: Clock + Files + Eprint> HostWatch<R> {
         let objective = best.objective;
         let _ = eprint!(self.rt;
             "{front}robin: {seconds} s: best objective {objective}, {learnt} clauses learnt{end}"
+        );
+    }
+
+    /// Says that a proof begins.
+    fn say_bound(&self, passed: u128, objective: u64) {
+        let (front, end) = self.telling.frame();
+        let seconds = passed / 1000;
+        let _ = eprint!(self.rt;
+            "{front}robin: {seconds} s: proving that no season costs less than {objective}{end}"
+        );
+    }
+
+    /// Says how many members of a conflict are still to be tried.
+    fn say_members(&self, passed: u128, left: u64) {
+        let (front, end) = self.telling.frame();
+        let seconds = passed / 1000;
+        let _ = eprint!(self.rt;
+            "{front}robin: {seconds} s: {left} members still to be tried{end}"
         );
     }
 
@@ -202,13 +243,25 @@ impl<R: Clock + Files + Eprint> Watch for HostWatch<R> {
                     (None, _) => {}
                 }
             }
+            News::Bound { objective } => {
+                self.aim.set(Aim::Bound { objective });
+                if let Some(passed) = self.due() {
+                    self.say_bound(passed, objective);
+                }
+            }
+            News::Members { left } => {
+                self.aim.set(Aim::Member { left });
+                if let Some(passed) = self.due() {
+                    self.say_members(passed, left);
+                }
+            }
         }
     }
 }
 
 impl<R: Clock + Files + Eprint> Listener for HostWatch<R> {
     fn tell_season(&self, _league: &League, _games: &[Game], objective: u128, tried: u64) {
-        if self.telling == Telling::Nobody {
+        if self.telling == Telling::Nobody || matches!(self.aim.get(), Aim::Member { .. }) {
             return;
         }
         let best = self.hear(objective);

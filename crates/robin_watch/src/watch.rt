@@ -8,6 +8,10 @@ pub enum News {
     Search { learnt: u64 },
     /// A walk has tried so many moves, and what it found so far misses hard constraints at this cost.
     Hard { tried: u64, cost: u128 },
+    /// A proof begins that no season costs less than this.
+    Bound { objective: u64 },
+    /// So many members of a conflict are still to be tried.
+    Members { left: u64 },
     /// The answer is ready, and nothing more is told.
     Ready,
 }
