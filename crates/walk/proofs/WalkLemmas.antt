@@ -93,6 +93,30 @@ walker-in league n phased cost walker same_n same_phased same_cost stands room k
       kept;
 }
 
+-- a score by the weighted rules of a league, on equal counts
+pub score-is : {R : Type 0} (E : Ghosts R) (league : Instance) (weights : List (Weighted R)) (score : Score)
+    (k m : Counts) → AreRulesOf E 1 league weights → score ≡ score_on E weights k → k ≡ m
+    → score ≡ league_score league m
+score-is {R} E league weights score k m are is same =
+    is ∙ ap (λ (f : Counts → Score). f k) (scores-are E league weights are)
+    ∙ ap (λ (l : Counts). league_score league l) same
+
+-- what isn't worse than what counts cost in a league isn't by its weighted rules
+pub no_worse-by : {R : Type 0} (E : Ghosts R) (league : Instance) (weights now : List (Weighted R)) (best : Score)
+    (k m : Counts) → AreRulesOf E 1 league weights → now ≡ weights → k ≡ m → IsNoWorse best (league_score league m)
+    → IsNoWorse best (score_on E now k)
+no_worse-by {R} E league weights now best k m are same same_counts is =
+    subst (λ (f : Counts → Score). IsNoWorse best (f k)) (sym (scores-at E league weights now are same))
+    (subst (λ (l : Counts). IsNoWorse best (league_score league l)) (sym same_counts) is)
+
+-- what isn't worse by the weighted rules of a league isn't in the league
+pub no_worse-of : {R : Type 0} (E : Ghosts R) (league : Instance) (weights now : List (Weighted R)) (best : Score)
+    (k m : Counts) → AreRulesOf E 1 league weights → now ≡ weights → k ≡ m → IsNoWorse best (score_on E now k)
+    → IsNoWorse best (league_score league m)
+no_worse-of {R} E league weights now best k m are same same_counts is =
+    subst (λ (l : Counts). IsNoWorse best (league_score league l)) same_counts
+    (subst (λ (f : Counts → Score). IsNoWorse best (f k)) (scores-at E league weights now are same) is)
+
 -- ---- accepted games
 
 pub met : (league : Instance) (m : Counts) → (hard_sum 1 league m ≡ 0) ↔ MeetsHard league m

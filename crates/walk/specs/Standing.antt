@@ -6,6 +6,7 @@ use Rattle.league.specs.Instance.{Instance, IsGame}
 use Rattle.league.specs.Structure.{IsRoundRobin}
 use Rattle.league.specs.declared.game.Game.{Game}
 use Rattle.moves.specs.Round.{round_counts}
+use Rattle.descent.specs.Lower.{IsNoWorse}
 use Rattle.descent.specs.declared.score.Score.{Score}
 use Rattle.walk.specs.Walked.{league_score}
 use Rattle.walk.specs.declared.best.Kept.{Kept}
@@ -39,6 +40,11 @@ pub record IsWalkerIn (league : Instance) (walker : Walker) : Type 0 where
   pub standing : IsStandingOn league.n league.phased (round_counts walker.standing.board) walker.standing
   pub room : league.n * league.n ≤ vec_capacity walker.games
   pub best : IsKept league.n league.phased (league_score league) walker.best
+
+-- the best games that a walk kept aren't worse than those on which it stands
+abbrev pub HasKeptHere : Instance → Walker → Type 0
+HasKeptHere league walker =
+    IsNoWorse walker.best.score (league_score league (round_counts walker.standing.board))
 
 -- games from which a walk may start
 pub record IsStartIn (league : Instance) (games : List Game) : Type 0 where

@@ -166,6 +166,7 @@ impl Standing {
         requires standing { IsStandingOn tally.old.table.n self.old.board.phased (table_counts tally.old.table)
             self.old }
         requires best { IsKept tally.old.table.n self.old.board.phased (score_on R.Entries tally.old.weights) best.old }
+        requires seen { IsNoWorse best.old.score (score_on R.Entries tally.old.weights (table_counts tally.old.table)) }
         ensures standing { IsStandingOn tally.old.table.n self.old.board.phased (round_counts self.new.board)
             self.new }
         ensures best { IsKept tally.old.table.n self.old.board.phased (score_on R.Entries tally.old.weights) best.new }
@@ -173,6 +174,9 @@ impl Standing {
         ensures teams { tally.new.table.n ≡ tally.old.table.n }
         ensures counts { table_counts tally.new.table ≡ round_counts self.new.board }
         ensures no_worse { IsNoWorse best.new.score best.old.score }
+
+        // The best isn't worse than the games on which the walk stands.
+        ensures seen { IsNoWorse best.new.score (score_on R.Entries tally.old.weights (table_counts tally.new.table)) }
         ensures tried { result ≤ cooling.left }
     {
         let n = self.board.n();

@@ -1,5 +1,5 @@
 //! A walk in a league: searches one after another, of which the best games are kept.
-ghost use Rattle.std.specs.Prelude.{◌≡◌, ◌≤◌, length, IfOk, OnOk};
+ghost use Rattle.std.specs.Prelude.{◌≡◌, ◌≤◌, length, true, IfOk, OnOk};
 ghost use Rattle.std.specs.List.{All};
 ghost use Rattle.league.specs.Counts.{counts_of};
 ghost use Rattle.league.specs.Instance.{IsGame};
@@ -7,8 +7,8 @@ ghost use Rattle.league.specs.Structure.{IsRoundRobin};
 ghost use Rattle.cells.specs.Table.{table_counts};
 ghost use Rattle.moves.specs.Round.{round_counts};
 ghost use Rattle.tally.specs.League.{AreRulesOf};
-ghost use Rattle.descent.specs.Score.{IsNoWorse};
-ghost use Rattle.walk.specs.Standing.{IsWalkerIn};
+ghost use Rattle.descent.specs.Score.{IsNoWorse, is_lower};
+ghost use Rattle.walk.specs.Standing.{HasKeptHere, IsWalkerIn};
 ghost use Rattle.walk.specs.Walked.{league_score};
 
 use crate::afresh::random_start;
@@ -105,6 +105,7 @@ impl Walker {
         requires round_robin { IsRoundRobin league.now.n league.now.phased (counts_of start.now) }
         ensures walker { IfOk result (IsWalkerIn league.now) }
         ensures score { IfOk result (λ walker. walker.best.score ≡ league_score league.now (counts_of start.now)) }
+        ensures seen { IfOk result (HasKeptHere league.now) }
         ensures left { IfOk result (λ walker. walker.left ≡ budget) }
     {
         let n = league.n();
@@ -134,8 +135,10 @@ impl Walker {
         watch: &W,
     ) -> Result<(), AllocError>
         requires walker { IsWalkerIn league.now self.old }
+        requires seen { HasKeptHere league.now self.old }
         ensures walker { OnOk result (IsWalkerIn league.now self.new) }
         ensures no_worse { OnOk result (IsNoWorse self.new.best.score self.old.best.score) }
+        ensures seen { OnOk result (HasKeptHere league.now self.new) }
         ensures left { OnOk result (self.new.left ≤ self.old.left) }
     {
         'searches: for search in 0..self.left / PATIENCE + 2 {
@@ -178,6 +181,7 @@ impl Walker {
         requires walker { IsWalkerIn league.now self.old }
         ensures walker { OnOk result (IsWalkerIn league.now self.new) }
         ensures no_worse { OnOk result (IsNoWorse self.new.best.score self.old.best.score) }
+        ensures seen { OnOk result (HasKeptHere league.now self.new) }
         ensures left { OnOk result (self.new.left ≤ self.old.left) }
     {
         self.place(alloc, league, search)?;
@@ -320,6 +324,7 @@ impl Walker {
         requires walker { IsWalkerIn league.now self.old }
         ensures walker { OnOk result (IsWalkerIn league.now self.new) }
         ensures no_worse { OnOk result (IsNoWorse self.new.best.score self.old.best.score) }
+        ensures seen { is_lower said self.old.best.score ≡ true → OnOk result (HasKeptHere league.now self.new) }
         ensures left { OnOk result (self.new.left ≡ self.old.left) }
     {
         if !said.is_lower(self.best.score()) {
@@ -346,6 +351,7 @@ impl Walker {
         requires walker { IsWalkerIn league.now self.old }
         ensures walker { OnOk result (IsWalkerIn league.now self.new) }
         ensures no_worse { OnOk result (IsNoWorse self.new.best.score self.old.best.score) }
+        ensures seen { OnOk result (HasKeptHere league.now self.new) }
         ensures left { OnOk result (self.new.left ≤ self.old.left) }
     {
         copy_games(&self.standing.board, &mut self.games);
@@ -376,8 +382,10 @@ impl Walker {
         requires rules { AreRulesOf ⟦<AnyRule as Entries>⟧ 1 league.now tally.old.weights }
         requires teams { tally.old.table.n ≡ league.now.n }
         requires counts { table_counts tally.old.table ≡ round_counts self.old.standing.board }
+        requires seen { HasKeptHere league.now self.old }
         ensures walker { IsWalkerIn league.now self.new }
         ensures no_worse { IsNoWorse self.new.best.score self.old.best.score }
+        ensures seen { HasKeptHere league.now self.new }
         ensures left { self.new.left ≤ self.old.left }
     {
         let cooling = Cooling::new(heat, self.left);

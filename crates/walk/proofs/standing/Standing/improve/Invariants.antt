@@ -13,6 +13,7 @@ invariant-draws g l = record {
   best : IsKept l.initial.tally.table.n l.initial.self.board.phased (score_on g.R.Entries l.initial.tally.weights)
       l.best;
   no_worse : IsNoWorse l.best.score l.initial.best.score;
+  seen : IsNoWorse l.best.score (score_on g.R.Entries l.initial.tally.weights (table_counts l.tally.table));
   within : l.tried ≤ l.limit;
   most : l.limit ≤ l.cooling.left;
 }

@@ -3,7 +3,9 @@ use Rattle.std.specs.Prelude.{vec_capacity}
 use Rattle.league.specs.Counts.{Counts, counts_of}
 use Rattle.league.specs.declared.game.Game.{Game}
 use Rattle.moves.specs.Round.{Round, round_counts}
+use Rattle.descent.specs.Score.{IsNoWorse}
 use Rattle.descent.specs.declared.score.Score.{Score}
+use Rattle.descent.proofs.ScoreLemmas.{IsNoWorse-itself}
 use Rattle.walk.specs.Standing.{IsStandingOn}
 use Rattle.walk.specs.Walked.{league_score}
 use Rattle.walk.proofs.WalkLemmas.{kept-at, round_robin-at, standing-at}
@@ -44,3 +46,13 @@ returns-clause-score c =
     ap (λ (games : List Game). counts_of games) c.deref.ensures.value ∙ c.copy_games.ensures.copy.counts
     ∙ c.in_ok-standing.ensures.standing.counts in
     c.in_ok-best.ensures.score ∙ c.in_ok-score.ensures ∙ ap (λ (m : Counts). cost m) counts
+
+pub returns-clause-seen : goal.returns-clause-seen
+returns-clause-seen c =
+    let board : Round = c.in_ok-standing.standing.board in
+    let cost : Counts → Score = league_score c.args.league.now in
+    let counts : counts_of c.deref.result.now ≡ round_counts board =
+    ap (λ (games : List Game). counts_of games) c.deref.ensures.value ∙ c.copy_games.ensures.copy.counts in
+    let same : c.in_ok-best.best.score ≡ cost (round_counts board) =
+    c.in_ok-best.ensures.score ∙ c.in_ok-score.ensures ∙ ap (λ (m : Counts). cost m) counts in
+    subst (λ (s : Score). IsNoWorse c.in_ok-best.best.score s) same (IsNoWorse-itself c.in_ok-best.best.score)

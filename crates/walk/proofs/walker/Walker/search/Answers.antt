@@ -7,6 +7,7 @@ pub searches-init : goal.searches-init
 searches-init g c = record {
   walker = c.requires.walker;
   no_worse = IsNoWorse-itself c.args.self.now.best.score;
+  seen = c.requires.seen;
   left = omega arith;
 }
 
@@ -15,6 +16,7 @@ searches-preserved g c = record {
   walker = c.in_ok-search_once.ensures.walker;
   no_worse = IsNoWorse-both c.search_once.new.self.best.score c.searches.self.best.score c.args.self.now.best.score
       c.in_ok-search_once.ensures.no_worse c.searches.invariant.no_worse;
+  seen = c.in_ok-search_once.ensures.seen;
   left = omega (
     arith,
     c.in_ok-search_once.ensures.left,

@@ -1,8 +1,9 @@
 use Rattle.std.proofs.Common.{arith, refl, sym, ◌∙◌}
+use Rattle.cells.specs.Table.{table_counts}
 use Rattle.moves.specs.Round.{round_counts}
 use Rattle.descent.proofs.ScoreLemmas.{IsNoWorse-itself}
 use Rattle.walk.specs.Walked.{league_score}
-use Rattle.walk.proofs.WalkLemmas.{IsNoWorse-both, kept-at, scores-at, standing-at, walker-in}
+use Rattle.walk.proofs.WalkLemmas.{IsNoWorse-both, kept-at, no_worse-by, no_worse-of, scores-at, standing-at, walker-in}
 use Rattle.walk.proofs.walker.Walker.soften.Goals as goal
 
 pub stretches-init : goal.stretches-init
@@ -12,6 +13,7 @@ stretches-init g c = record {
   teams = refl;
   counts = c.requires.counts;
   no_worse = IsNoWorse-itself c.args.self.now.best.score;
+  seen = c.requires.seen;
   left = omega arith;
 }
 
@@ -32,6 +34,12 @@ improve-tried-requires-clause-best g c =
     (sym (scores-at _ c.args.league.now c.args.tally.now.weights c.stretches.tally.weights c.requires.rules
     c.stretches.invariant.weights)) c.stretches.invariant.walker.best
 
+pub improve-tried-requires-clause-seen : goal.improve-tried-requires-clause-seen
+improve-tried-requires-clause-seen g c =
+    no_worse-by _ c.args.league.now c.args.tally.now.weights c.stretches.tally.weights c.stretches.self.best.score
+    (table_counts c.stretches.tally.table) (round_counts c.stretches.self.standing.board) c.requires.rules
+    c.stretches.invariant.weights c.stretches.invariant.counts c.stretches.invariant.seen
+
 pub tell-requires : goal.tell-requires
 tell-requires g c =
     walker-in c.args.league.now c.stretches.tally.table.n c.stretches.self.standing.board.phased _ _
@@ -48,6 +56,12 @@ returns-then-self-eq0-clause-walker g c =
     c.stretches.invariant.weights) c.improve-tried.ensures.standing c.stretches.invariant.walker.room
     c.improve-tried.ensures.best
 
+pub returns-then-self-eq0-clause-seen : goal.returns-then-self-eq0-clause-seen
+returns-then-self-eq0-clause-seen g c =
+    no_worse-of _ c.args.league.now c.args.tally.now.weights c.stretches.tally.weights c.improve-tried.new.best.score
+    (table_counts c.improve-tried.new.tally.table) (round_counts c.improve-tried.new.self.board) c.requires.rules
+    c.stretches.invariant.weights c.improve-tried.ensures.counts c.improve-tried.ensures.seen
+
 pub stretches-preserved : goal.stretches-preserved
 stretches-preserved g c = record {
   walker = walker-in c.args.league.now c.stretches.tally.table.n c.stretches.self.standing.board.phased _ _
@@ -60,5 +74,9 @@ stretches-preserved g c = record {
   counts = c.improve-tried.ensures.counts;
   no_worse = IsNoWorse-both c.improve-tried.new.best.score c.stretches.self.best.score c.args.self.now.best.score
       c.improve-tried.ensures.no_worse c.stretches.invariant.no_worse;
+  seen = no_worse-of _ c.args.league.now c.args.tally.now.weights c.stretches.tally.weights
+      c.improve-tried.new.best.score (table_counts c.improve-tried.new.tally.table)
+      (round_counts c.improve-tried.new.self.board) c.requires.rules c.stretches.invariant.weights
+      c.improve-tried.ensures.counts c.improve-tried.ensures.seen;
   left = omega (arith, c.stretches.invariant.left);
 }
