@@ -1,7 +1,8 @@
 -- What the search's answers say of a league.
-use Rattle.std.proofs.Common.{◌≡◌, ℕ, ◌<◌, ◌≤◌, ◌^◌, Bool, true, false, not, List, [], ◌∷◌, get_or}
-use Rattle.std.proofs.Common.{zero, suc, length, Option, Some, refl, arith, ap, sym, subst, ◌∙◌}
-use Rattle.std.specs.Prelude.{IsTrue, slice_get}
+use Rattle.std.proofs.Common.{◌≡◌, ℕ, ◌+◌, ◌<◌, ◌≤◌, ◌^◌, Bool, true, false, not, List, [], ◌∷◌, get_or}
+use Rattle.std.proofs.Common.{zero, suc, length, Option, None, Some, refl, arith, ap, sym, subst, ◌∙◌}
+use Rattle.std.specs.Prelude.{IfSome, IsTrue, slice_get}
+use Rattle.std.proofs.lemmas.List.{length-append}
 use Rattle.std.specs.List.{All}
 use Rattle.std.specs.List.Sorted.{IsPermutation}
 use Rattle.std.proofs.lemmas.List.Elements.{All-head, All-push, All-tail}
@@ -13,6 +14,7 @@ use Rattle.league.proofs.CountLemmas.{counts_of-permutation}
 use Rattle.circle_method.specs.Circle.{double_games}
 use Rattle.encoding_base.specs.Encoding.{rows_of}
 use Rattle.encoding_base.specs.Variables.{var_count, x_count}
+use Rattle.rows.specs.Rows.{Row}
 use Rattle.refutation.specs.Steps.{Step, hints_of, is_linear}
 use Rattle.refutation.specs.Steps.Step.{Clause}
 use Rattle.refutation.specs.Texts.{version_of}
@@ -29,6 +31,7 @@ use Rattle.pattern_search.specs.declared.found.PatternFound.TheVariants.{Spent}
 use Rattle.pattern_search.proofs.NewsLemmas.{news-clauses, pattern_news-clauses}
 use Rattle.break_counts.proofs.SearchLemmas.{refuting}
 use Rattle.solve.specs.Solutions.{IsSpentOn, IsWritable, RefutesLeague}
+use Rattle.solve.specs.Tried.{RefutesWithin}
 use Rattle.solve.proofs.CountingLemmas.{refuted_by}
 
 -- ---- steps that are news are no sums
@@ -50,6 +53,26 @@ pub refuted : (league : Instance) (limit : Option ℕ) (steps : List Step) → I
     → All (λ step. All (λ hint. hint < 2 ^ 64) (hints_of step)) steps → RefutesLeague league steps
 refuted league limit steps instance most is small =
     refuted_by league steps instance (refuting league limit steps most is small)
+
+-- a log that refutes rows has at most one step more than the limit
+pub refutes-few : (rows : List Row) (vars : ℕ) (limit : Option ℕ) (steps : List Step) → Refutes rows vars limit steps
+    → IfSome limit (λ most. length steps ≤ most + 1)
+refutes-few rows vars None steps is = tt
+refutes-few rows vars (Some most) steps is =
+    omega (
+      arith,
+      is.within,
+      ap (λ (ss : List Step). length ss) is.last,
+      length-append is.before (Clause [] is.hints ∷ []),
+    )
+
+pub refuted-tried : (league : Instance) (limit : Option ℕ) (steps : List Step) → IsInstance league
+    → var_count league ≤ 130960 → Refutes (rows_of league) (var_count league) limit steps
+    → All (λ step. All (λ hint. hint < 2 ^ 64) (hints_of step)) steps → RefutesWithin league limit steps
+refuted-tried league limit steps instance most is small = record {
+  refutes = refuted league limit steps instance most is small;
+  within = refutes-few (rows_of league) (var_count league) limit steps is;
+}
 
 pub spent : (league : Instance) (limit : Option ℕ) (steps : List Step) → var_count league ≤ 130960
     → IsSpentAt (rows_of league) (var_count league) limit steps

@@ -1,14 +1,18 @@
 -- The best of what tries find, with one try more.
-use Rattle.std.proofs.Common.{◌≡◌, ℕ, Bool, ◌<◌, ◌≤◌, true, false, nat_lt, if◌then◌else◌, List, [], ◌∷◌, ◌++◌, Option, None, Some, refl, arith, ap, sym, subst, ◌∙◌}
-use Rattle.std.specs.Prelude.{IfSome, IsNone}
+use Rattle.std.proofs.Common.{◌≡◌, ℕ, ◌+◌, Bool, ◌<◌, ◌≤◌, true, false, nat_lt, if◌then◌else◌, List, [], ◌∷◌, ◌++◌, get_or, length, map}
+use Rattle.std.proofs.Common.{Option, None, Some, Result, Ok, Err, inl, inr, refl, arith, ap, sym, subst, ◌∙◌}
+use Rattle.std.specs.Prelude.{IfOk, IfSome, IsNone}
 use Rattle.std.specs.List.{All}
+use Rattle.std.proofs.lemmas.Bool.{cases_lt}
 use Rattle.std.proofs.lemmas.Bool.Decides.{nat_tests}
+use Rattle.std.proofs.lemmas.List.{get_or_append_left, get_or_push, length-append, map_push}
 use Rattle.std.proofs.lemmas.List.Elements.{All-append, All-cons, All-nil, All-push, All-weaker}
 use Rattle.budgets.specs.declared.budgets.Budgets.{Budgets}
 use Rattle.league.specs.Instance.{Instance}
-use Rattle.solve.specs.Earliest.{IsBestOf, IsBestOfTries, season_of, season_tried}
+use Rattle.refutation.specs.Steps.{Step}
+use Rattle.solve.specs.Earliest.{IsBest, IsBestOf, IsBestOfTries, season_of, season_tried}
 use Rattle.solve.specs.Solutions.{IsSolutionBy}
-use Rattle.solve.specs.Tried.{IsSeasonBy, IsTriedBy}
+use Rattle.solve.specs.Tried.{IsTriedBy}
 use Rattle.solve.specs.declared.lower.Season.{Season}
 use Rattle.solve.specs.declared.solved.Solved.{Solved}
 use Rattle.solve.specs.declared.solved.Solved.TheVariants as answers
@@ -121,33 +125,75 @@ one-best (Some season) = record {
   later = All-nil (AtLeast season.objective);
 }
 
--- what an answer, and a try, has found is accepted
-pub season-solved : (league : Instance) (budgets : Budgets) (may_stop : Type 0) (answer : Solved)
-    → IsSolutionBy league budgets may_stop answer
-    → IfSome (season_of answer) (IsSeasonBy league budgets.moves may_stop)
-season-solved league budgets may_stop (answers.Schedule games objective descent) is =
-    record { kept = is.kept.moves; is_kept = is.are_kept.moves; is_season = is.solution }
-season-solved league budgets may_stop (answers.Refuted log) is = tt
-season-solved league budgets may_stop (answers.Spent log patterns) is = tt
+-- what the tries so far find, with one try more
+pub more-found : (first : Solved) (later : List Tried) (tried : Tried) (answer : Option Season)
+    → IsBestOf ((season_of first ∷ map season_tried later) ++ season_tried tried ∷ []) answer
+    → IsBestOf (season_of first ∷ map season_tried (later ++ tried ∷ [])) answer
+more-found first later tried answer is =
+    subst (λ (found : List (Option Season)). IsBestOf (season_of first ∷ found) answer)
+    (sym (map_push season_tried later tried)) is
 
-pub season-is_tried : (league : Instance) (budgets : Budgets) (may_stop : Type 0) (tried : Tried)
-    → IsTriedBy league budgets may_stop tried
-    → IfSome (season_tried tried) (IsSeasonBy league budgets.moves may_stop)
-season-is_tried league budgets may_stop (tries.Found season) is =
-    record { kept = is.kept.moves; is_kept = is.are_kept.moves; is_season = is.is_tried }
-season-is_tried league budgets may_stop (tries.Refuted log) is = tt
-season-is_tried league budgets may_stop (tries.Spent log) is = tt
+-- tries, each behind the other, with one try more
+pub more-tries : (attempt : ℕ → Tried → Type 0) (later : List Tried) (tried : Tried) (k : ℕ) (d : Tried)
+    → ((j : ℕ) (e : Tried) → j < length later → attempt (j + 1) (get_or later j e))
+    → attempt (length later + 1) tried → k < length (later ++ tried ∷ [])
+    → attempt (k + 1) (get_or (later ++ tried ∷ []) k d)
+more-tries attempt later tried k d each now below =
+    elim (cases_lt k (length later)) as (λ _. attempt (k + 1) (get_or (later ++ tried ∷ []) k d)) [
+      | inl before ↦
+          subst (λ (t : Tried). attempt (k + 1) t)
+          (sym (get_or_append_left later (tried ∷ []) d k before)) (each k d before)
+      | inr behind ↦
+          let same : k ≡ length later = omega (arith, below, behind, length-append later (tried ∷ [])) in
+          subst (λ (j : ℕ). attempt (j + 1) (get_or (later ++ tried ∷ []) j d)) (sym same)
+          (subst (λ (t : Tried). attempt (length later + 1) t)
+          (sym (get_or_push later tried d (length later) refl)) now)
+    ]
+
+-- the best of tries of which each comes to what is said of it
+pub best-by : {E : Type 0} (league : Instance) (budgets : Budgets) (may_stop : Type 0) (first : Solved)
+    (attempt : ℕ → Tried → Type 0) (result : Result Solved E) → IsSolutionBy league budgets may_stop first
+    → ((k : ℕ) (tried : Tried) → attempt k tried → IsTriedBy league budgets may_stop tried)
+    → IfOk result (IsBestOfTries attempt budgets may_stop first) → IfOk result (IsBest league budgets may_stop)
+best-by {E} league budgets may_stop first attempt (Ok answer) is each tries = record {
+  first = first;
+  is_solution = is;
+  tries = record {
+    later = tries.later;
+    each = λ k d below. each (k + 1) (get_or tries.later k d) (tries.each k d below);
+    few = tries.few;
+    all = tries.all;
+    best = tries.best;
+  };
+}
+best-by {E} league budgets may_stop first attempt (Err error) is each tries = tt
 
 -- an answer of one try, where there may be no more
 pub one_try : (league : Instance) (budgets : Budgets) (may_stop : Type 0) (answer : Solved)
-    → IsSolutionBy league budgets may_stop answer → budgets.tries ≤ 1
-    → IsBestOfTries league budgets may_stop answer
-one_try league budgets may_stop answer is most =
-    let P : Option Season → Type 0 = λ o. IfSome o (IsSeasonBy league budgets.moves may_stop) in
-    record {
-      found = season_of answer ∷ [];
-      each = All-cons P (season_of answer) [] (season-solved league budgets may_stop answer is) (All-nil P);
-      few = λ more. absurd (omega (arith, more));
-      all = λ goes_on unstopped. most;
-      best = one-best (season_of answer);
-    }
+    → IsSolutionBy league budgets may_stop answer → budgets.tries ≤ 1 → IsBest league budgets may_stop answer
+one_try league budgets may_stop answer is most = record {
+  first = answer;
+  is_solution = is;
+  tries = record {
+    later = [];
+    each = λ k d below. absurd (omega (arith, below));
+    few = λ some. absurd (omega (arith, some));
+    all = λ goes_on unstopped. most;
+    best = one-best (season_of answer);
+  };
+}
+
+-- a refutation behind which no try is made
+pub refuted_untried : (league : Instance) (budgets : Budgets) (may_stop : Type 0) (log : List Step)
+    → IsSolutionBy league budgets may_stop (answers.Refuted log) → IsBest league budgets may_stop (answers.Refuted log)
+refuted_untried league budgets may_stop log is = record {
+  first = answers.Refuted log;
+  is_solution = is;
+  tries = record {
+    later = [];
+    each = λ k d below. absurd (omega (arith, below));
+    few = λ some. absurd (omega (arith, some));
+    all = λ goes_on unstopped. absurd (goes_on tt);
+    best = one-best None;
+  };
+}

@@ -1,10 +1,11 @@
 -- Which of the schedules that tries find is the answer.
-use Rattle.std.specs.Prelude.{◌≡◌, ◌<◌, ◌≤◌, ◌∷◌, ◌++◌, List, length, Option, None, Some, IfSome, IsNone}
+use Rattle.std.specs.Prelude.{◌≡◌, ℕ, ◌+◌, ◌<◌, ◌≤◌, ◌∷◌, ◌++◌, List, get_or, length, map}
+use Rattle.std.specs.Prelude.{Option, None, Some, IfSome, IsNone}
 use Rattle.budgets.specs.declared.budgets.Budgets.{Budgets}
 use Rattle.league.specs.Instance.{Instance}
 use Rattle.std.specs.List.{All}
-use Rattle.solve.specs.Solutions.{IsRefuted}
-use Rattle.solve.specs.Tried.{IsSeasonBy}
+use Rattle.solve.specs.Solutions.{IsRefuted, IsSolutionBy}
+use Rattle.solve.specs.Tried.{IsTriedBy}
 use Rattle.solve.specs.declared.lower.Season.{Season}
 use Rattle.solve.specs.declared.solved.Solved.{Solved}
 use Rattle.solve.specs.declared.solved.Solved.TheVariants as answers
@@ -37,11 +38,19 @@ abbrev pub IsBestOf : List (Option Season) → Option Season → Type 0
 IsBestOf found (Some season) = IsEarliestLeast found season
 IsBestOf found None = All IsNone found
 
--- an answer is the best of what some tries find, each no schedule or one that the league accepts: of one try or of as
--- many as there may be, and of fewer only where it refutes, or where the run may be stopped
-pub record IsBestOfTries (league : Instance) (budgets : Budgets) (may_stop : Type 0) (answer : Solved) : Type 0 where
-  pub found : List (Option Season)
-  pub each : All (λ o. IfSome o (IsSeasonBy league budgets.moves may_stop)) found
-  pub few : 1 < length found → length found ≤ budgets.tries
-  pub all : (IsRefuted answer → ⊥) → (may_stop → ⊥) → budgets.tries ≤ length found
-  pub best : IsBestOf found (season_of answer)
+-- An answer is the best of what a first try and those behind it find. `attempt k tried` says that the try that is k
+-- behind the first comes to this, and none is left out. There are no more tries than there may be, and fewer only where
+-- the answer refutes, or where the run may be stopped.
+pub record IsBestOfTries (attempt : ℕ → Tried → Type 0) (budgets : Budgets) (may_stop : Type 0) (first answer : Solved)
+    : Type 0 where
+  pub later : List Tried
+  pub each : (k : ℕ) (d : Tried) → k < length later → attempt (k + 1) (get_or later k d)
+  pub few : 0 < length later → length later < budgets.tries
+  pub all : (IsRefuted answer → ⊥) → (may_stop → ⊥) → budgets.tries ≤ length later + 1
+  pub best : IsBestOf (season_of first ∷ map season_tried later) (season_of answer)
+
+-- an answer is the best of a first try, which comes to an answer too, and of those behind it
+pub record IsBest (league : Instance) (budgets : Budgets) (may_stop : Type 0) (answer : Solved) : Type 0 where
+  pub first : Solved
+  pub is_solution : IsSolutionBy league budgets may_stop first
+  pub tries : IsBestOfTries (λ k tried. IsTriedBy league budgets may_stop tried) budgets may_stop first answer

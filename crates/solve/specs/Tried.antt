@@ -1,8 +1,9 @@
 -- What one try says of a league.
-use Rattle.std.specs.Prelude.{ℕ, ◌≤◌, Option, None, Some}
+use Rattle.std.specs.Prelude.{ℕ, ◌+◌, ◌≤◌, List, length, Option, None, Some, IfSome}
 use Rattle.budgets.specs.declared.budgets.Budgets.{Budgets}
 use Rattle.robin_watch.specs.Limits.{IsKeptTo}
 use Rattle.league.specs.Instance.{Instance}
+use Rattle.refutation.specs.Steps.{Step}
 use Rattle.solve.specs.Kept.{AreKeptTo}
 use Rattle.solve.specs.Solutions.{IsSchedule, IsSpentOn, RefutesLeague}
 use Rattle.solve.specs.declared.lower.Season.{Season}
@@ -19,10 +20,16 @@ pub record IsSeasonBy (league : Instance) (moves : ℕ) (may_stop : Type 0) (sea
   pub is_kept : IsKeptTo (Some moves) may_stop (Some kept)
   pub is_season : IsSeason league kept season
 
--- what a try comes to: an accepted schedule, a log that refutes the league, or one spent at the limit of conflicts
+-- a log that refutes the league, and has at most as many steps as the limit before its last
+pub record RefutesWithin (league : Instance) (limit : Option ℕ) (steps : List Step) : Type 0 where
+  pub refutes : RefutesLeague league steps
+  pub within : IfSome limit (λ most. length steps ≤ most + 1)
+
+-- what a try comes to: an accepted schedule, a log that refutes the league within the limit of conflicts, or one that
+-- is spent at it
 abbrev pub IsTried : Instance → Budgets → Tried → Type 0
 IsTried league budgets (Found season) = IsSeason league budgets.moves season
-IsTried league budgets (Refuted log) = RefutesLeague league log
+IsTried league budgets (Refuted log) = RefutesWithin league budgets.conflicts log
 IsTried league budgets (Spent log) = IsSpentOn league budgets.conflicts log
 
 -- what a try comes to within the budgets to which the run kept

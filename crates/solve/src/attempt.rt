@@ -9,7 +9,9 @@ ghost use Rattle.clause_search.specs.Answers.{IsAnswerBy};
 ghost use Rattle.solve.specs.Tried.{IsSeasonBy, IsTriedBy};
 
 use crate::from_walk::try_walk;
-use crate::lower::{Season, lowered_watched};
+use crate::lower::Season;
+use crate::share::Share;
+use crate::told::{lowered_told, tell_found};
 use crate::tries::{Tried, with_walked};
 use budgets::Budgets;
 use clause_search::{Found, note_numbers, search_watched};
@@ -17,7 +19,6 @@ use decoding::decode;
 use encoding::Encoding;
 use league::League;
 use robin_news::Listener;
-use robin_watch::Watch;
 use rows::{Assignment, Lit};
 use std::alloc::{AllocError, Global};
 
@@ -33,16 +34,16 @@ pub(crate) fn try_both<W: Listener>(
     league: &League,
     encoding: &Encoding,
     prefer: &[Lit],
-    budgets: Budgets,
+    share: Share,
     watch: &W,
 ) -> Result<Tried, AllocError>
     requires league { encoding.now ≡ league.now }
     requires known { All (λ l. l.var ≤ var_count encoding.now) prefer.now }
-    ensures { IfOk result (IsTriedBy league.now budgets (W.may_stop watch.now)) }
+    ensures { IfOk result (IsTriedBy league.now share.budgets (W.may_stop watch.now)) }
 {
-    match budgets.conflicts {
-        Some(_) => search_then_walk(alloc, league, encoding, prefer, budgets, watch),
-        None => walk_or_search(alloc, league, encoding, prefer, budgets, watch),
+    match share.budgets.conflicts {
+        Some(_) => search_then_walk(alloc, league, encoding, prefer, share, watch),
+        None => walk_or_search(alloc, league, encoding, prefer, share, watch),
     }
 }
 
@@ -55,18 +56,18 @@ fn search_then_walk<W: Listener>(
     league: &League,
     encoding: &Encoding,
     prefer: &[Lit],
-    budgets: Budgets,
+    share: Share,
     watch: &W,
 ) -> Result<Tried, AllocError>
     requires league { encoding.now ≡ league.now }
     requires known { All (λ l. l.var ≤ var_count encoding.now) prefer.now }
-    ensures { IfOk result (IsTriedBy league.now budgets (W.may_stop watch.now)) }
+    ensures { IfOk result (IsTriedBy league.now share.budgets (W.may_stop watch.now)) }
 {
-    let found = try_search(alloc, league, encoding, prefer, budgets, watch)?;
+    let found = try_search(alloc, league, encoding, prefer, share.budgets, watch)?;
     if matches!(found, Tried::Refuted(_)) {
         return Ok(found);
     }
-    let walked = try_walk(alloc, league, budgets.moves, budgets.seed, watch)?;
+    let walked = try_walk(alloc, league, share, watch)?;
     Ok(with_walked(found, walked))
 }
 
@@ -79,16 +80,16 @@ fn walk_or_search<W: Listener>(
     league: &League,
     encoding: &Encoding,
     prefer: &[Lit],
-    budgets: Budgets,
+    share: Share,
     watch: &W,
 ) -> Result<Tried, AllocError>
     requires league { encoding.now ≡ league.now }
     requires known { All (λ l. l.var ≤ var_count encoding.now) prefer.now }
-    ensures { IfOk result (IsTriedBy league.now budgets (W.may_stop watch.now)) }
+    ensures { IfOk result (IsTriedBy league.now share.budgets (W.may_stop watch.now)) }
 {
-    match try_walk(alloc, league, budgets.moves, budgets.seed, watch)? {
+    match try_walk(alloc, league, share, watch)? {
         Some(season) => Ok(Tried::Found(season)),
-        None => try_search(alloc, league, encoding, prefer, budgets, watch),
+        None => try_search(alloc, league, encoding, prefer, share.budgets, watch),
     }
 }
 
@@ -96,7 +97,7 @@ fn walk_or_search<W: Listener>(
 ///
 /// # Errors
 /// Only where memory runs out.
-pub(crate) fn try_search<W: Watch>(
+pub(crate) fn try_search<W: Listener>(
     alloc: Global,
     league: &League,
     encoding: &Encoding,
@@ -123,7 +124,7 @@ pub(crate) fn try_search<W: Watch>(
 ///
 /// # Errors
 /// Only where memory runs out.
-fn answer<W: Watch>(
+fn answer<W: Listener>(
     alloc: Global,
     league: &League,
     encoding: &Encoding,
@@ -153,11 +154,11 @@ fn answer<W: Watch>(
     }
 }
 
-/// What a descent makes of the schedule that values stand for which satisfy every row.
+/// What a descent makes of the schedule that values stand for which satisfy every row. The watch hears of both.
 ///
 /// # Errors
 /// Only where memory runs out.
-fn accepted<W: Watch>(
+fn accepted<W: Listener>(
     alloc: Global,
     league: &League,
     encoding: &Encoding,
@@ -172,5 +173,6 @@ fn accepted<W: Watch>(
 {
     let _n = league.n();
     let schedule = decode(alloc, encoding, values)?;
-    lowered_watched(alloc, league, &schedule, moves, watch)
+    tell_found(alloc, league, &schedule, watch)?;
+    lowered_told(alloc, league, &schedule, moves, 0, watch)
 }

@@ -5,19 +5,20 @@ ghost use Rattle.league.specs.Counts.{counts_of};
 ghost use Rattle.circle_method.specs.Circle.{double_games};
 ghost use Rattle.solve.specs.Tried.{IsSeasonBy};
 
-use crate::lower::{Season, lowered_watched};
+use crate::lower::Season;
+use crate::told::lowered_told;
 use circle_method::double;
 use deviation::assess;
 use league::League;
-use robin_watch::Watch;
+use robin_news::Listener;
 use std::alloc::{AllocError, Global};
 
 /// What a descent of at most so many moves makes of the schedule of the circle method, where the league accepts that,
-/// until the watch ends it.
+/// until the watch ends it. The watch hears of both.
 ///
 /// # Errors
 /// Only where memory runs out.
-pub(crate) fn try_circle<W: Watch>(
+pub(crate) fn try_circle<W: Listener>(
     alloc: Global,
     league: &League,
     moves: u64,
@@ -32,6 +33,7 @@ pub(crate) fn try_circle<W: Watch>(
     if !assessment.feasible {
         return Ok(None);
     }
-    let season = lowered_watched(alloc, league, &schedule, moves, watch)?;
+    watch.tell_season(league, schedule.games(), assessment.objective, 0);
+    let season = lowered_told(alloc, league, &schedule, moves, 0, watch)?;
     Ok(Some(season))
 }

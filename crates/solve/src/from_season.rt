@@ -18,6 +18,7 @@ use crate::circle::try_circle;
 use crate::counting::count_out;
 use crate::from_walk::walk_from;
 use crate::prefer::true_in;
+use crate::share::{Share, walk_times};
 use crate::solved::Solved;
 use crate::tries::{is_refuted, schedule_found, solved_by, with_later};
 use budgets::Budgets;
@@ -26,7 +27,6 @@ use encoding::{EncodeFault, Encoding, check_size, encode_small};
 use league::{League, Schedule};
 use pattern_search::{PatternFound, pattern_set_watched};
 use robin_news::Listener;
-use robin_watch::Watch;
 use std::alloc::{AllocError, Global};
 
 /// Finds a schedule that the league accepts, or a proof that there is none, from a double round robin of the league.
@@ -98,7 +98,8 @@ fn first_try<W: Listener>(
         → IfOk result (CostsAtMost (costs.objective league.now (counts_of start.now))) }
     ensures circle { IsAccepted league.now (counts_of (double_games league.now.n)) → IfOk result HasSchedule }
 {
-    if let Some(season) = walk_from(alloc, league, start, budgets.moves, budgets.seed, watch)? {
+    let share = Share { budgets, times: 1 };
+    if let Some(season) = walk_from(alloc, league, start, share, watch)? {
         return Ok(schedule_found(season));
     }
     if let Some(season) = try_circle(alloc, league, budgets.moves, watch)? {
@@ -132,8 +133,14 @@ fn best_walk<W: Listener>(
         if is_refuted(&best) || watch.is_over_now(k) {
             return Ok(best);
         }
-        let seed = budgets.seed.wrapping_add(k);
-        let walked = walk_from(alloc, league, start, budgets.moves, seed, watch)?;
+        let share = Share {
+            budgets: Budgets {
+                seed: budgets.seed.wrapping_add(k),
+                ..budgets
+            },
+            times: walk_times(budgets.tries, k),
+        };
+        let walked = walk_from(alloc, league, start, share, watch)?;
         best = with_later(best, walked);
     }
     Ok(best)
@@ -143,7 +150,7 @@ fn best_walk<W: Listener>(
 ///
 /// # Errors
 /// Only where memory runs out.
-fn search_near<W: Watch>(
+fn search_near<W: Listener>(
     alloc: Global,
     league: &League,
     encoding: &Encoding,

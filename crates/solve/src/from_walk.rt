@@ -8,7 +8,9 @@ ghost use Rattle.league.specs.Instance.{IsGame};
 ghost use Rattle.league.specs.Structure.{IsRoundRobin};
 ghost use Rattle.solve.specs.Tried.{FindsAtMost, IsSeasonBy};
 
-use crate::lower::{Season, lowered_watched};
+use crate::lower::Season;
+use crate::share::Share;
+use crate::told::lowered_told;
 use circle_method::double;
 use league::{League, Schedule};
 use robin_news::Listener;
@@ -21,30 +23,28 @@ const TRIED: u64 = 100;
 /// For how many moves of a descent a walk may try `TRIED` moves for each that the league has.
 const USUAL: u64 = 10_000;
 
-/// What a descent of at most so many moves makes of the schedule that a walk finds, where the league accepts that. The
-/// walk goes from the schedule of the circle method by the moves that a seed draws. The watch may end both. Without
-/// moves there is none.
+/// What a descent makes of the schedule that a walk finds, where the league accepts that. The walk goes from the
+/// schedule of the circle method by the moves that a seed draws. The watch may end both. Without moves there is none.
 ///
 /// # Errors
 /// Only where memory runs out.
 pub(crate) fn try_walk<W: Listener>(
     alloc: Global,
     league: &League,
-    moves: u64,
-    seed: u64,
+    share: Share,
     watch: &W,
 ) -> Result<Option<Season>, AllocError>
-    ensures { IfOk result (λ tried. IfSome tried (IsSeasonBy league.now moves (W.may_stop watch.now))) }
+    ensures { IfOk result (λ tried. IfSome tried (IsSeasonBy league.now share.budgets.moves (W.may_stop watch.now))) }
 {
-    if moves == 0 {
+    if share.budgets.moves == 0 {
         return Ok(None);
     }
     let start = double(alloc, league.n())?;
-    walk_from(alloc, league, &start, moves, seed, watch)
+    walk_from(alloc, league, &start, share, watch)
 }
 
-/// What a descent of at most so many moves makes of the schedule that a walk finds, where the league accepts that. The
-/// walk goes from a double round robin by the moves that a seed draws. The watch may end both.
+/// What a descent makes of the schedule that a walk finds, where the league accepts that. The walk goes from a double
+/// round robin by the moves that a seed draws. The watch hears of the schedules, and may end both.
 ///
 /// # Errors
 /// Only where memory runs out.
@@ -52,29 +52,30 @@ pub(crate) fn walk_from<W: Listener>(
     alloc: Global,
     league: &League,
     start: &Schedule,
-    moves: u64,
-    seed: u64,
+    share: Share,
     watch: &W,
 ) -> Result<Option<Season>, AllocError>
     requires fit { All (IsGame league.now.n) start.now }
     requires round_robin { IsRoundRobin league.now.n league.now.phased (counts_of start.now) }
-    ensures season { IfOk result (λ tried. IfSome tried (IsSeasonBy league.now moves (W.may_stop watch.now))) }
+    ensures season { IfOk result (λ tried. IfSome tried (IsSeasonBy league.now share.budgets.moves (W.may_stop watch.now))) }
 
     // From an accepted start the walk finds a schedule that costs no more.
     ensures no_worse { IsAccepted league.now (counts_of start.now)
         → IfOk result (FindsAtMost (costs.objective league.now (counts_of start.now))) }
 {
-    let budget = walk_budget(league.n(), moves);
-    let walked = walk(alloc, league, start, seed, budget, watch)?;
+    let moves = share.budgets.moves;
+    let budget = walk_budget(league.n(), moves).saturating_mul(share.times);
+    let walked = walk(alloc, league, start, share.budgets.seed, budget, watch)?;
     if walked.best.score.infeasibility > 0 {
         return Ok(None);
     }
-    let season = lowered_watched(alloc, league, &walked.best.games, moves, watch)?;
+    let games = &walked.best.games;
+    let season = lowered_told(alloc, league, games, moves, walked.tried, watch)?;
     Ok(Some(season))
 }
 
-/// How many moves a walk may try of n teams, where a descent may make so many: a hundred for each of these, but at most
-/// a hundred for each that there is of n teams, as often as 10,000 go into the descent's, and once where they are
+/// How many moves a usual walk may try of n teams, where a descent may make so many: a hundred for each of these, but at
+/// most a hundred for each that there is of n teams, as often as 10,000 go into the descent's, and once where they are
 /// fewer.
 fn walk_budget(n: u16, moves: u64) -> u64 {
     let times = (moves / USUAL).max(1);

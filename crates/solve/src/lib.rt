@@ -10,8 +10,10 @@ mod from_season;
 mod from_walk;
 mod lower;
 mod prefer;
+mod share;
 mod solved;
 mod solver;
+mod told;
 mod tries;
 
 pub use from_season::solve_from;

@@ -1,16 +1,18 @@
 //! The solver.
-ghost use Rattle.std.specs.Prelude.{◌≡◌, ◌≤◌, length, true, Some, IfOk};
+ghost use Rattle.std.specs.Prelude.{◌≡◌, ℕ, ◌<◌, ◌≤◌, ◌^◌, length, true, Ok, Some, IfOk};
 ghost use Rattle.league.specs.Accepted.{IsAccepted};
 ghost use Rattle.league.specs.Counts.{counts_of};
+ghost use Rattle.league.specs.Instance.{Instance};
 ghost use Rattle.break_counts.specs.BreakCounts.{are_few};
 ghost use Rattle.circle_method.specs.Circle.{double_games};
 ghost use Rattle.encoding_base.specs.Encoding.{encoding_size};
 ghost use Rattle.pattern_search.specs.PatternLogs.{IsPatternSpent};
 ghost use Rattle.pattern_search.specs.PatternSets.{IsPatternSet};
 ghost use Rattle.robin_watch.specs.Limits.{IsKeptTo};
-ghost use Rattle.solve.specs.Earliest.{IsBestOfTries};
+ghost use Rattle.solve.specs.Earliest.{IsBest, IsBestOfTries};
 ghost use Rattle.solve.specs.Solutions.{HasSchedule, IsRefuted, IsSolution, IsSolutionBy};
 ghost use Rattle.solve.specs.Tried.{IsSeasonBy, IsTriedBy};
+ghost use Rattle.solve.specs.declared.tries.Tried.{Tried};
 ghost use Rattle.venue_counts.specs.VenueCounts.{are_crowded, are_short};
 ghost use Rattle.encoding.specs.Limit.{KeepsLimit, most_terms};
 
@@ -19,6 +21,7 @@ use crate::circle::try_circle;
 use crate::counting::count_out;
 use crate::lower::Season;
 use crate::prefer::{preferred, shuffled, venues};
+use crate::share::{Share, walk_times};
 use crate::solved::Solved;
 use crate::tries::{Tried, better, is_refuted, schedule_found, solved_by};
 use budgets::Budgets;
@@ -29,7 +32,6 @@ use pattern_search::{PatternFound, pattern_set_watched};
 use patterns::PatternSet;
 use refutation::Log;
 use robin_news::Listener;
-use robin_watch::Watch;
 use std::alloc::{AllocError, Global};
 
 /// Finds a schedule that the league accepts, or a proof that there is none.
@@ -41,12 +43,14 @@ use std::alloc::{AllocError, Global};
 /// another random order. Each try that doesn't start from that schedule also walks, first from it and then from random
 /// ones, by moves that its seed draws: at most a hundred for each that its descent may make, and a hundred for each
 /// move that there is of so many teams, as often as 10,000 go into the moves of the descent; behind its search, where
-/// that is limited, and else before it, and then a schedule that the walk finds takes the search's place. With a limit
-/// of conflicts the search of a try learns at most so many clauses, and then its log is the answer, with what is known
-/// of the patterns; without one it goes on to the end. The watch may end each search, walk and descent, and the tries
-/// behind the first. From a schedule that is accepted a descent goes on by moves to better ones, at most so many moves
-/// a try. The schedule of the least objective is the answer, of equal ones the earliest; a refutation is the answer at
-/// once. What a search finds first is not promised, and an objective is the schedule's own, not the least of all.
+/// that is limited, and else before it, and then a schedule that the walk finds takes the search's place. Where the
+/// tries are as many as the time allows, longer walks come after short ones: that of the kth try behind the first may
+/// try as many times the moves as the greatest power of two that divides k. With a limit of conflicts the search of a
+/// try learns at most so many clauses, and then its log is the answer, with what is known of the patterns; without one
+/// it goes on to the end. The watch may end each search, walk and descent, and the tries behind the first. From a
+/// schedule that is accepted a descent goes on by moves to better ones, at most so many moves a try. The schedule of
+/// the least objective is the answer, of equal ones the earliest; a refutation is the answer at once. What a search
+/// finds first is not promised, and an objective is the schedule's own, not the least of all.
 ///
 /// # Errors
 /// `TooLarge` exactly where the league's rows have more than 40,000,000 terms, with their number, before anything
@@ -62,6 +66,9 @@ pub fn solve<W: Listener>(
 
     // Where nothing may stop the run, it keeps to the budgets that were set.
     ensures unstopped { (W.may_stop watch.now → ⊥) → IfOk result (IsSolution league.now budgets) }
+
+    // The answer is the best of what the tries find.
+    ensures best { IfOk result (IsBest league.now budgets (W.may_stop watch.now)) }
 
     // Where the league accepts the schedule of the circle method, the answer is a schedule.
     ensures circle { IsAccepted league.now (counts_of (double_games league.now.n)) → IfOk result HasSchedule }
@@ -93,7 +100,7 @@ fn best_try<W: Listener>(
     requires small { encoding_size league.now ≤ most_terms }
     ensures solution { IfOk result (IsSolutionBy league.now budgets (W.may_stop watch.now)) }
     ensures circle { IsAccepted league.now (counts_of (double_games league.now.n)) → IfOk result HasSchedule }
-    ensures best { IfOk result (IsBestOfTries league.now budgets (W.may_stop watch.now)) }
+    ensures best { IfOk result (IsBest league.now budgets (W.may_stop watch.now)) }
 {
     if let Some(season) = try_circle(alloc, league, budgets.moves, watch)? {
         return best_with_circle(alloc, league, budgets, season, watch);
@@ -119,7 +126,7 @@ fn best_with_circle<W: Listener>(
     requires season { IsSeasonBy league.now budgets.moves (W.may_stop watch.now) season }
     ensures solution { IfOk result (IsSolutionBy league.now budgets (W.may_stop watch.now)) }
     ensures schedule { IfOk result HasSchedule }
-    ensures best { IfOk result (IsBestOfTries league.now budgets (W.may_stop watch.now)) }
+    ensures best { IfOk result (IsBest league.now budgets (W.may_stop watch.now)) }
 {
     let first = schedule_found(season);
     if budgets.tries <= 1 {
@@ -145,7 +152,35 @@ fn best_from<W: Listener>(
     requires first { IsSolutionBy league.now budgets (W.may_stop watch.now) first }
     ensures solution { IfOk result (IsSolutionBy league.now budgets (W.may_stop watch.now)) }
     ensures schedule { HasSchedule first → IfOk result HasSchedule }
-    ensures best { IfOk result (IsBestOfTries league.now budgets (W.may_stop watch.now)) }
+    ensures best { IfOk result (IsBest league.now budgets (W.may_stop watch.now)) }
+{
+    best_of(
+        |k: u64| later_try(alloc, league, encoding, budgets, k, watch),
+        budgets,
+        first,
+        watch,
+    )
+}
+
+/// The best answer of all tries, of which the first came to this. A call makes the others, each of which is told how
+/// many tries it is behind the first.
+///
+/// # Errors
+/// Only where memory runs out.
+fn best_of<F: Fn(u64) -> Result<Tried, AllocError>, W: Listener>(
+    attempt: F,
+    budgets: Budgets,
+    first: Solved,
+    watch: &W,
+) -> Result<Solved, AllocError>
+    requires callable { F.IsAlwaysCallable attempt }
+    ensures solution { (league : Instance) → IsSolutionBy league budgets (W.may_stop watch.now) first
+        → ((k : ℕ) (tried : Tried) → k < 2 ^ 64 → F.post attempt k (Ok tried)
+        → IsTriedBy league budgets (W.may_stop watch.now) tried)
+        → IfOk result (IsSolutionBy league budgets (W.may_stop watch.now)) }
+    ensures schedule { HasSchedule first → IfOk result HasSchedule }
+    ensures best { IfOk result
+        (IsBestOfTries (λ k tried. F.post attempt k (Ok tried)) budgets (W.may_stop watch.now) first) }
 {
     let mut best = first;
     for k in 1..budgets.tries {
@@ -155,7 +190,7 @@ fn best_from<W: Listener>(
         if watch.is_over_now(k) {
             return Ok(best);
         }
-        let later = later_try(alloc, league, encoding, budgets, k, watch)?;
+        let later = attempt(k)?;
         best = better(best, later);
     }
     Ok(best)
@@ -206,7 +241,8 @@ fn try_with<W: Listener>(
     ensures { IfOk result (IsSolutionBy league.now budgets (W.may_stop watch.now)) }
 {
     let prefer = venues(alloc, encoding, &patterns)?;
-    let tried = try_both(alloc, league, encoding, &prefer, budgets, watch)?;
+    let share = Share { budgets, times: 1 };
+    let tried = try_both(alloc, league, encoding, &prefer, share, watch)?;
     Ok(solved_by(tried, PatternFound::Patterns(patterns)))
 }
 
@@ -228,7 +264,8 @@ fn try_without<W: Listener>(
     ensures { IfOk result (IsSolutionBy league.now budgets (W.may_stop watch.now)) }
 {
     let prefer = preferred(alloc, encoding)?;
-    let tried = try_both(alloc, league, encoding, &prefer, budgets, watch)?;
+    let share = Share { budgets, times: 1 };
+    let tried = try_both(alloc, league, encoding, &prefer, share, watch)?;
     Ok(solved_by(tried, PatternFound::Spent(log)))
 }
 
@@ -249,12 +286,9 @@ fn later_try<W: Listener>(
 {
     let seed = budgets.seed.wrapping_add(k);
     let prefer = shuffled(alloc, encoding, seed)?;
-    try_both(
-        alloc,
-        league,
-        encoding,
-        &prefer,
-        Budgets { seed, ..budgets },
-        watch,
-    )
+    let share = Share {
+        budgets: Budgets { seed, ..budgets },
+        times: walk_times(budgets.tries, k),
+    };
+    try_both(alloc, league, encoding, &prefer, share, watch)
 }

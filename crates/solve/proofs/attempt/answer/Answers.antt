@@ -4,8 +4,8 @@ use Rattle.encoding_base.specs.Encoding.{rows_of}
 use Rattle.encoding_base.specs.Variables.{var_count}
 use Rattle.clause_search.specs.Answers.{IsAnswer}
 use Rattle.clause_search.specs.declared.found.Found.{Found}
-use Rattle.solve.proofs.AnswerLemmas.{few_variables, refuted, spent}
-use Rattle.solve.proofs.KeptLemmas.{as-set, tried-season, with-conflicts}
+use Rattle.solve.proofs.AnswerLemmas.{few_variables, refuted-tried, spent}
+use Rattle.solve.proofs.KeptLemmas.{tried-season, with-conflicts}
 use Rattle.solve.proofs.attempt.answer.Goals as goal
 
 pub returns-in_ok-season-in-Sat : goal.returns-in_ok-season-in-Sat
@@ -15,9 +15,10 @@ returns-in_ok-season-in-Sat g c =
 
 pub returns-in-Refuted : goal.returns-in-Refuted
 returns-in-Refuted g c = record {
-  kept = c.args.budgets;
-  are_kept = as-set c.args.budgets (g.W.Watch.may_stop c.args.watch.now);
-  is_tried = refuted c.args.league.now c.requires.found.kept c.in-Refuted.log
+  kept = record c.args.budgets { conflicts = c.requires.found.kept };
+  are_kept = with-conflicts c.args.budgets (g.W.Watch.may_stop c.args.watch.now) c.requires.found.kept
+      c.requires.found.is_kept;
+  is_tried = refuted-tried c.args.league.now c.requires.found.kept c.in-Refuted.log
       (subst (λ (l : Instance). IsInstance l) c.requires.league c.vars-vars.ensures.instance)
       (few_variables c.args.league.now c.args.encoding.now c.vars-vars.result c.requires.league
       c.vars-vars.ensures.vars c.vars-vars.ensures.at_most)

@@ -3,8 +3,8 @@ use Rattle.league.specs.Counts.{counts_of}
 use Rattle.solve.proofs.StartLemmas.{found-no_higher}
 use Rattle.solve.proofs.from_walk.walk_from.Goals as goal
 
-pub lowered_watched-requires-clause-accepted : goal.lowered_watched-requires-clause-accepted
-lowered_watched-requires-clause-accepted g c = c.in_ok-walked.ensures.feasible.0 (omega arith)
+pub lowered_told-requires-clause-accepted : goal.lowered_told-requires-clause-accepted
+lowered_told-requires-clause-accepted g c = c.in_ok-walked.ensures.feasible.0 (omega arith)
 
 pub returns-clause-no_worse : goal.returns-clause-no_worse
 returns-clause-no_worse g c = λ accepted.

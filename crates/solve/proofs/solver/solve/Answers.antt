@@ -3,6 +3,7 @@ use Rattle.std.specs.Prelude.{IfSome}
 use Rattle.circle_method.specs.Circle.{double_games}
 use Rattle.refutation.specs.Steps.{Step}
 use Rattle.solve.specs.Solutions.{RefutesLeague}
+use Rattle.solve.proofs.EarliestLemmas.{refuted_untried}
 use Rattle.solve.proofs.KeptLemmas.{as-set, solution-unstopped}
 use Rattle.solve.proofs.solver.solve.Goals as goal
 
@@ -20,3 +21,12 @@ returns-in-Some-clause-solution g c = record {
   solution = subst (λ (found : Option (List Step)). IfSome found (RefutesLeague c.args.league.now)) c.in-Some.is
       c.in_ok-log.ensures.refuted;
 }
+
+pub returns-in-Some-clause-best : goal.returns-in-Some-clause-best
+returns-in-Some-clause-best g c =
+    refuted_untried c.args.league.now c.args.budgets (g.W.Watch.may_stop c.args.watch.now) c.in-Some.log (record {
+      kept = c.args.budgets;
+      are_kept = as-set c.args.budgets (g.W.Watch.may_stop c.args.watch.now);
+      solution = subst (λ (found : Option (List Step)). IfSome found (RefutesLeague c.args.league.now)) c.in-Some.is
+          c.in_ok-log.ensures.refuted;
+    })
