@@ -1,5 +1,5 @@
 //! The stages that commands have in common: those before the answer, and the last, which writes it.
-ghost use Rattle.std.specs.Prelude.{◌≡◌, ◌≤◌, ℕ, List, Ok, IfOk, codes, length, vec_len};
+ghost use Rattle.std.specs.Prelude.{◌≡◌, ◌+◌, ◌≤◌, ℕ, List, Ok, IfOk, codes, length, vec_len};
 ghost use Rattle.std.specs.List.{All};
 ghost use Rattle.robin_io.specs.Counts.{raised};
 ghost use Rattle.robin_io.specs.Outside.{output_between, store_between};
@@ -36,6 +36,7 @@ pub fn file<S: Shelf>(
         (IsUnread which.now (store.contents name.now) limit (store.took_more limit) (store.failed name.now)) }
     ensures count { IfOk result (λ bytes. S.taken shelf.new ≡ raised (S.taken shelf.old) (vec_len bytes)) }
     ensures risen { S.taken shelf.old ≤ S.taken shelf.new }
+    ensures taken { S.taken shelf.new ≤ S.taken shelf.old + (limit + 1) }
     ensures contents { (n : List ℕ) → S.contents shelf.new n ≡ S.contents shelf.old n }
     ensures later { (n : List ℕ) → S.faults shelf.old n ≤ S.faults shelf.new n }
 {

@@ -1,5 +1,5 @@
 //! The stages of `bound`.
-ghost use Rattle.std.specs.Prelude.{◌≡◌, ◌<◌, ℕ, List, Ok};
+ghost use Rattle.std.specs.Prelude.{◌≡◌, ◌≤◌, ◌+◌, ◌<◌, ℕ, List, Ok};
 ghost use Rattle.robin_io.specs.Outside.{store_between};
 ghost use Rattle.answers.specs.Reply.{too_large};
 ghost use Rattle.answers.specs.SeenReply.{Answers, MatchStage};
@@ -82,6 +82,7 @@ pub fn bound_file<S: Shelf>(
 ) -> Result<Reply, NoValue>
     ensures answer { Answers (bounded (store_between S.Shelf shelf.old shelf.new)
         instance.now log.now) result }
+    ensures taken { S.taken shelf.new ≤ S.taken shelf.old + (INSTANCE_LIMIT + 1 + (LOG_LIMIT + 1)) }
     ensures contents { (n : List ℕ) → S.contents shelf.new n ≡ S.contents shelf.old n }
 {
     let first = file(alloc, shelf, "instance", instance, INSTANCE_LIMIT)?;

@@ -53,6 +53,7 @@ pub(crate) fn check_file<S: Shelf>(
     ensures too_long { (l : ℕ) → IsErrOf result (TakeFault.TooLong l) →
         (store_between S.Shelf shelf.old shelf.new).took_more most_log_bytes
         × IfSome (S.contents shelf.old name.now) (λ file. most_log_bytes < length file) }
+    ensures taken { S.taken shelf.new ≤ S.taken shelf.old + (most_log_bytes + 1) }
     ensures contents { (n : List ℕ) → S.contents shelf.new n ≡ S.contents shelf.old n }
 {
     shelf.start(name)?;

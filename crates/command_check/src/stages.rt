@@ -1,5 +1,5 @@
 //! The stages of `check`.
-ghost use Rattle.std.specs.Prelude.{◌≡◌, ◌<◌, ◌≤◌, ℕ, List, IfOk, codes, vec_len};
+ghost use Rattle.std.specs.Prelude.{◌≡◌, ◌+◌, ◌<◌, ◌≤◌, ℕ, List, IfOk, codes, vec_len};
 ghost use Rattle.robin_io.specs.Outside.{store_between};
 ghost use Rattle.rows.specs.Rows.{Row};
 ghost use Rattle.encoding.specs.Encoding.{encoding_size, rows_of};
@@ -62,6 +62,7 @@ fn log_in<S: Shelf>(
         (ChecksFile (store.contents name.now) feed.old checker.old feed.new checker.new)
         (IsUnread (codes "log") (store.contents name.now) most_log_bytes (store.took_more most_log_bytes)
         (store.failed name.now)) }
+    ensures taken { S.taken shelf.new ≤ S.taken shelf.old + (most_log_bytes + 1) }
     ensures contents { (n : List ℕ) → S.contents shelf.new n ≡ S.contents shelf.old n }
 {
     let mut room = room_of(alloc, PIECE)?;
@@ -115,6 +116,7 @@ pub fn judge_log<S: Shelf>(
     ensures answer { (rows : List Row) (vars : ℕ) → checker.old ≡ no_step_of rows vars
         → Answers (reads (store_between S.Shelf shelf.old shelf.new) (codes "log") name.now most_log_bytes 0
         (λ bytes. says_log (log_of bytes) (IsVerdictOver rows vars))) result }
+    ensures taken { S.taken shelf.new ≤ S.taken shelf.old + (most_log_bytes + 1) }
     ensures contents { (n : List ℕ) → S.contents shelf.new n ≡ S.contents shelf.old n }
 {
     let mut feed = LogFeed::new(alloc);
@@ -131,6 +133,7 @@ fn check_log<S: Shelf>(
 ) -> Result<Reply, NoValue>
     ensures answer { Answers (reads (store_between S.Shelf shelf.old shelf.new) (codes "log") name.now most_log_bytes 0
         (λ bytes. says_log (log_of bytes) (IsVerdict encoding.now (rows_of encoding.now)))) result }
+    ensures taken { S.taken shelf.new ≤ S.taken shelf.old + (most_log_bytes + 1) }
     ensures contents { (n : List ℕ) → S.contents shelf.new n ≡ S.contents shelf.old n }
 {
     // For its contract: what is encoded is a league, of which accepted logs exclude every schedule.
@@ -153,6 +156,7 @@ pub fn check<S: Shelf>(
 ) -> Result<Reply, NoValue>
     ensures answer { Answers (checked (store_between S.Shelf shelf.old shelf.new)
         instance.now log.now) result }
+    ensures taken { S.taken shelf.new ≤ S.taken shelf.old + (INSTANCE_LIMIT + 1 + (most_log_bytes + 1)) }
     ensures contents { (n : List ℕ) → S.contents shelf.new n ≡ S.contents shelf.old n }
 {
     let first = file(alloc, shelf, "instance", instance, INSTANCE_LIMIT)?;

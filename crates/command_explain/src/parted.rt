@@ -1,5 +1,5 @@
 //! The stages of `part`.
-ghost use Rattle.std.specs.Prelude.{◌≡◌, ℕ, List, IfOk, Ok};
+ghost use Rattle.std.specs.Prelude.{◌≡◌, ◌≤◌, ◌+◌, ℕ, List, IfOk, Ok};
 ghost use Rattle.std.specs.Ordering.{nat_cmp};
 ghost use Rattle.robin_io.specs.Outside.{store_between};
 ghost use Rattle.league.specs.Sets.{IsAscending};
@@ -88,6 +88,7 @@ pub fn part_file<S: Shelf>(
     requires ascending { IsAscending nat_cmp members.now }
     ensures answer { Answers (parted (store_between S.Shelf shelf.old shelf.new)
         instance.now members.now) result }
+    ensures taken { S.taken shelf.new ≤ S.taken shelf.old + (INSTANCE_LIMIT + 1) }
     ensures contents { (n : List ℕ) → S.contents shelf.new n ≡ S.contents shelf.old n }
 {
     let bytes = file(alloc, shelf, "instance", instance, INSTANCE_LIMIT)?;

@@ -1,5 +1,5 @@
 //! The stages of `explain`.
-ghost use Rattle.std.specs.Prelude.{◌≡◌, ℕ, List};
+ghost use Rattle.std.specs.Prelude.{◌≡◌, ◌≤◌, ◌+◌, ℕ, List};
 ghost use Rattle.robin_io.specs.Outside.{store_between};
 ghost use Rattle.answers.specs.SeenReply.{Answers, answer_of};
 ghost use Rattle.command_check.specs.Check.{encodes};
@@ -70,6 +70,7 @@ pub fn explain_file<S: Shelf, W: Listener>(
 ) -> Result<Reply, NoValue>
     ensures answer { Answers (explained (store_between S.Shelf shelf.old shelf.new)
         instance.now conflicts (W.may_stop watch.now)) result }
+    ensures taken { S.taken shelf.new ≤ S.taken shelf.old + (INSTANCE_LIMIT + 1) }
     ensures contents { (n : List ℕ) → S.contents shelf.new n ≡ S.contents shelf.old n }
 {
     let bytes = file(alloc, shelf, "instance", instance, INSTANCE_LIMIT)?;

@@ -1,7 +1,7 @@
 //! The text of help, a page for each command, and the version: the one table of them.
 
 /// What `--version` prints.
-pub const VERSION: &str = "robin 1.4.0\n";
+pub const VERSION: &str = "robin 1.5.0\n";
 
 /// What `--help` prints: all commands with their words, the options and the statuses.
 pub const ALL: &str = "\
@@ -44,6 +44,7 @@ Options stand before, between or behind the words, each once at most:
   --seconds N        a limit of N seconds; of solve, trial, explain, prove and
                      resume
   --from SOLUTION    a season to begin at; of solve
+  --near             behind K: few games to come change; of resume
   --bound B          seasons that cost at most B; of rows
   --objective        a season that costs least; of rows, and not with --bound
   --form text|csv    a text, or values for a spreadsheet (text); of show
@@ -283,6 +284,7 @@ Example: robin bound league.xml least.log
 
 pub const RESUME: &str = "\
 usage: robin resume INSTANCE SOLUTION K [--conflicts N|all] [--seconds N]
+       robin resume INSTANCE SOLUTION K --near [OPTIONS OF TRIAL]
 
 Plans the rest of a season of which the first K slots were played: finds a
 season that the league of the file INSTANCE accepts and that has, in these
@@ -295,6 +297,11 @@ Options stand before, between or behind the words, each once at most:
   --seconds N    after N seconds the search ends, as if its budget were spent
 Ctrl-C ends it as a time limit does; Ctrl-\\ ends it at once.
 
+With --near it looks for a season that changes few of the games to come, by
+walks from SOLUTION, and says behind it how many: changed=20 of=28. --near
+stands behind K; behind it stand --conflicts, --moves, --tries, --patterns,
+--seed and --seconds, as of solve --from.
+
 Status:  0  a season is found, and written with its objective
          3  a file is refused, or the league is too large, or the season has
             fewer than K slots
@@ -304,7 +311,7 @@ Status:  0  a season is found, and written with its objective
          7  the text can't be written
          8  memory ran out
 
-Example: robin resume league.xml season.xml 18 > new-season.xml
+Example: robin resume league.xml season.xml 18 --near > new-season.xml
 ";
 
 pub const AUDIT: &str = "\

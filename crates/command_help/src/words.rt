@@ -53,7 +53,7 @@ fn tell(advice: &mut Advice, fault: WordFault) -> Result<(), AllocError> {
             tell_more(advice, command, " takes no further word, and not ", word)
         }
         WordFault::Missing { command, role } => tell_missing(advice, command, role),
-        WordFault::Other { command } => tell_more(advice, command, " doesn't take these words", ""),
+        WordFault::Other { command } => tell_more(advice, command, other(command), ""),
     }
 }
 
@@ -103,7 +103,16 @@ fn tell_missing(advice: &mut Advice, command: Topic, role: Role) -> Result<(), A
 fn beside(command: Topic) -> &'static str {
     match command {
         Topic::Show => " takes one file before, and LIST or nothing behind, ",
+        Topic::Resume => " takes two files and K before, and options behind, ",
         _ => " takes no other option beside ",
+    }
+}
+
+/// What is wrong with words that have no other fault.
+fn other(command: Topic) -> &'static str {
+    match command {
+        Topic::Resume => " takes --moves, --tries, --patterns and --seed behind --near alone",
+        _ => " doesn't take these words",
     }
 }
 

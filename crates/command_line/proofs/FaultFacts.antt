@@ -34,6 +34,14 @@ pub flags : (is_flag topic.Rows (codes "--objective") ≡ true)
     × (option_role topic.Rows (codes "--objective") ≡ None)
 flags = (refl, refl, refl, refl)
 
+-- `--near` has no value, and `resume` alone has it; behind it may stand the options of `trial`
+pub near_words : (is_flag topic.Resume (codes "--near") ≡ true)
+    × (is_flag topic.Solve (codes "--near") ≡ false)
+    × (option_role topic.Resume (codes "--near") ≡ None)
+    × (option_role topic.Resume (codes "--tries") ≡ Some role.Tries)
+    × (option_role topic.Resume (codes "--from") ≡ None)
+near_words = (refl, refl, refl, refl, refl)
+
 -- `--demands` of `show` has a list behind it or none, and `--most` takes a number or `all`
 pub show_words : (is_flag topic.Show (codes "--demands") ≡ true)
     × (is_flag topic.Show (codes "--most") ≡ false)

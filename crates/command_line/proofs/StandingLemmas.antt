@@ -4,7 +4,7 @@ use Rattle.std.proofs.lemmas.Bool.Decides.{nat_tests}
 use Rattle.command_line.specs.Standing.{once_more, standing}
 use Rattle.command_line.specs.Standing.Standing.{Never, Once, Often}
 use Rattle.command_line.specs.Words.{arguments_of, is_file_name, number_in, one_file, one_number, plain}
-use Rattle.command_line.specs.Words.{auditing, said, teams_and_seed}
+use Rattle.command_line.specs.Words.{auditing, nearing, said, teams_and_seed}
 
 pub standing-more : (value : List ℕ) (values : List (List ℕ)) → once_more value (standing values) ≡ standing (value ∷ values)
 standing-more value [] = refl
@@ -98,6 +98,14 @@ auditing-few {Z} (a ∷ []) few = refl
 auditing-few {Z} (a ∷ b ∷ []) few = refl
 auditing-few {Z} (a ∷ b ∷ c ∷ []) few = refl
 auditing-few {Z} (a ∷ b ∷ c ∷ d ∷ rest) few = absurd (omega arith)
+
+pub nearing-few : {Z : Type 0} (words : List (String Z)) → length words < 4
+    → None ≡ nearing (map string_bytes words)
+nearing-few {Z} [] few = refl
+nearing-few {Z} (a ∷ []) few = refl
+nearing-few {Z} (a ∷ b ∷ []) few = refl
+nearing-few {Z} (a ∷ b ∷ c ∷ []) few = refl
+nearing-few {Z} (a ∷ b ∷ c ∷ d ∷ rest) few = absurd (omega arith)
 
 pub auditing-many : {Z : Type 0} (words : List (String Z)) → 5 ≤ length words
     → None ≡ auditing (map string_bytes words)

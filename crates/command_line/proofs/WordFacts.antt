@@ -9,7 +9,7 @@ use Rattle.command_line.specs.Words.{files_and_number, members_in, members_of, n
 use Rattle.command_line.specs.Words.{one_number, reading, rising, said, two_files}
 use Rattle.command_line.specs.Words.{team_count_in, teams_and_seed, time_limit, tries_in, values_of, words_of, NeedsNoFile}
 use Rattle.command_line.specs.Words.Command.{Audit, Bound, Check, Circle, Demands, Explain, Make, Part, Patterns, Prove}
-use Rattle.command_line.specs.Words.Command.{Help, Resume, Rows, Sheet, Show, Solve, SolveFrom, Trial, Validate, Values}
+use Rattle.command_line.specs.Words.Command.{Help, Resume, ResumeNear, Rows, Sheet, Show, Solve, SolveFrom, Trial, Validate, Values}
 use Rattle.command_line.specs.Words.Command.{Version}
 
 -- a number: 0 itself, no leading zero, no sign, no blank, at most 2 ^ 64 - 1
@@ -368,6 +368,41 @@ pub resume-none : (reading (codes "resume" ∷ codes "a" ∷ codes "b" ∷ []) �
     ∷ codes "--conflicts" ∷ codes "7" ∷ []) ≡ None)
 resume-none = (refl, refl, refl, refl, refl, refl, refl, refl, refl, refl)
 
+-- near the old plan: with the usual budgets, and with options behind `--near`
+pub near-some : (reading (codes "resume" ∷ codes "a" ∷ codes "b" ∷ codes "7" ∷ codes "--near" ∷ [])
+    ≡ Some (ResumeNear (codes "a") (codes "b") 7 usual))
+    × (reading (codes "resume" ∷ codes "a" ∷ codes "b" ∷ codes "0" ∷ codes "--near" ∷ codes "--tries" ∷ codes "10"
+    ∷ codes "--seed" ∷ codes "3" ∷ [])
+    ≡ Some (ResumeNear (codes "a") (codes "b") 0 (record usual { tries = 10; seed = 3 })))
+    × (reading (codes "resume" ∷ codes "a" ∷ codes "b" ∷ codes "7" ∷ codes "--near" ∷ codes "--conflicts" ∷ codes "all"
+    ∷ codes "--moves" ∷ codes "5" ∷ [])
+    ≡ Some (ResumeNear (codes "a") (codes "b") 7 (record usual { conflicts = None; moves = 5 })))
+near-some = (refl, refl, refl)
+
+-- `--near` before the number or in front, twice, or with a value; behind it an argument or an option of `solve` alone;
+-- and an option of `solve` without it
+pub near-none : (reading (codes "resume" ∷ codes "a" ∷ codes "b" ∷ codes "--near" ∷ codes "7" ∷ []) ≡ None)
+    × (reading (codes "resume" ∷ codes "--near" ∷ codes "a" ∷ codes "b" ∷ codes "7" ∷ []) ≡ None)
+    × (reading (codes "resume" ∷ codes "a" ∷ codes "b" ∷ codes "7" ∷ codes "--near" ∷ codes "--near" ∷ []) ≡ None)
+    × (reading (codes "resume" ∷ codes "a" ∷ codes "b" ∷ codes "7" ∷ codes "--near" ∷ codes "9" ∷ []) ≡ None)
+    × (reading (codes "resume" ∷ codes "a" ∷ codes "b" ∷ codes "7" ∷ codes "--near" ∷ codes "--from" ∷ codes "b" ∷ [])
+    ≡ None)
+    × (reading (codes "resume" ∷ codes "a" ∷ codes "b" ∷ codes "7" ∷ codes "--tries" ∷ codes "2" ∷ []) ≡ None)
+    × (reading (codes "resume" ∷ codes "a" ∷ codes "-b" ∷ codes "7" ∷ codes "--near" ∷ []) ≡ None)
+    × (reading (codes "resume" ∷ codes "a" ∷ codes "b" ∷ codes "07" ∷ codes "--near" ∷ []) ≡ None)
+    × (reading (codes "solve" ∷ codes "a" ∷ codes "b" ∷ codes "7" ∷ codes "--near" ∷ []) ≡ None)
+near-none = (refl, refl, refl, refl, refl, refl, refl, refl, refl)
+
+-- a time limit behind `--near`
+pub near-seconds : (time_limit (codes "resume" ∷ codes "a" ∷ codes "b" ∷ codes "7" ∷ codes "--near" ∷ codes "--seconds"
+    ∷ codes "5" ∷ []) ≡ Some 5)
+    × (time_limit (codes "resume" ∷ codes "a" ∷ codes "b" ∷ codes "7" ∷ codes "--near" ∷ codes "--tries" ∷ codes "2"
+    ∷ codes "--seconds" ∷ codes "6" ∷ []) ≡ Some 6)
+    × (time_limit (codes "resume" ∷ codes "a" ∷ codes "b" ∷ codes "7" ∷ codes "--near" ∷ []) ≡ None)
+    × (reading (codes "resume" ∷ codes "a" ∷ codes "b" ∷ codes "7" ∷ codes "--near" ∷ codes "--seconds" ∷ codes "5" ∷ [])
+    ≡ Some (ResumeNear (codes "a") (codes "b") 7 (record usual { tries = 18446744073709551615 })))
+near-seconds = (refl, refl, refl, refl)
+
 pub audit-some : (reading (codes "audit" ∷ codes "a" ∷ codes "b" ∷ codes "3" ∷ codes "c" ∷ [])
     ≡ Some (Audit (codes "a") (codes "b") 3 (codes "c")))
     × (reading (codes "audit" ∷ codes "a" ∷ codes "b" ∷ codes "18446744073709551615" ∷ codes "c" ∷ [])
@@ -411,9 +446,10 @@ pub needs_no_file : NeedsNoFile (reading []) × NeedsNoFile (reading (codes "cir
     × (NeedsNoFile (reading (codes "prove" ∷ codes "a" ∷ codes "b" ∷ [])) → ⊥)
     × (NeedsNoFile (reading (codes "bound" ∷ codes "a" ∷ codes "b" ∷ [])) → ⊥)
     × (NeedsNoFile (reading (codes "resume" ∷ codes "a" ∷ codes "b" ∷ codes "1" ∷ [])) → ⊥)
+    × (NeedsNoFile (reading (codes "resume" ∷ codes "a" ∷ codes "b" ∷ codes "1" ∷ codes "--near" ∷ [])) → ⊥)
     × (NeedsNoFile (reading (codes "audit" ∷ codes "a" ∷ codes "b" ∷ codes "1" ∷ codes "c" ∷ [])) → ⊥)
 unfolding teams_and_seed
-needs_no_file = (tt, tt, tt, tt, λ h. h, λ h. h, λ h. h, λ h. h, λ h. h, λ h. h, λ h. h, λ h. h, λ h. h, λ h. h)
+needs_no_file = (tt, tt, tt, tt, λ h. h, λ h. h, λ h. h, λ h. h, λ h. h, λ h. h, λ h. h, λ h. h, λ h. h, λ h. h, λ h. h)
 
 -- ---- help and the version
 

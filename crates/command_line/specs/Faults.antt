@@ -35,7 +35,7 @@ fits Form word = is_some (form_in word)
 fits Most word = is_some (most_in word)
 fits Width word = is_some (small_in word)
 
--- of the options of commands that search, of those that take a time limit too, and of `solve` and `trial`
+-- of the options of commands that search, of those that take a time limit too, and of `trial` and `resume`
 abbrev pub search_option : List ℕ → Option Role
 search_option word = if bytes_eq word (codes "--conflicts") then Some Conflicts else None
 
@@ -75,7 +75,7 @@ option_role topic.Trial word = solve_option word
 option_role topic.Patterns word = search_option word
 option_role topic.Explain word = timed_option word
 option_role topic.Prove word = timed_option word
-option_role topic.Resume word = timed_option word
+option_role topic.Resume word = solve_option word
 option_role topic.Rows word = row_option word
 option_role topic.Show word = show_option word
 option_role _ word = None
@@ -83,6 +83,7 @@ option_role _ word = None
 -- whether a word is an option of a command that has no value, or none that it must have
 abbrev pub is_flag : Topic → List ℕ → Bool
 is_flag topic.Rows word = bytes_eq word (codes "--objective")
+is_flag topic.Resume word = bytes_eq word (codes "--near")
 is_flag topic.Show word = bytes_eq word (codes "--demands")
 is_flag _ word = false
 

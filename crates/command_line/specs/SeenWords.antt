@@ -3,7 +3,7 @@ use Rattle.std.specs.Option.{option_copied}
 use Rattle.std.specs.Prelude.{option_map}
 use Rattle.command_line.specs.Words.{Command, members_of}
 use Rattle.command_line.specs.Words.Command.{Validate, Show, Demands, Sheet, Check, Solve, SolveFrom, Patterns, Explain, Part, Prove}
-use Rattle.command_line.specs.Words.Command.{Bound, Resume, Audit, Rows, Values, Circle, Make, Trial, Help, Version}
+use Rattle.command_line.specs.Words.Command.{Bound, Resume, ResumeNear, Audit, Rows, Values, Circle, Make, Trial, Help, Version}
 use Rattle.command_line.specs.declared.words.Words.{Words}
 use Rattle.command_line.specs.declared.words.Words.TheVariants as words
 
@@ -22,6 +22,7 @@ command_of (words.Part instance list) = Part instance.now (members_of list.now)
 command_of (words.Prove instance solution conflicts) = Prove instance.now solution.now conflicts
 command_of (words.Bound instance log) = Bound instance.now log.now
 command_of (words.Resume instance solution k conflicts) = Resume instance.now solution.now k conflicts
+command_of (words.ResumeNear instance solution k budgets) = ResumeNear instance.now solution.now k budgets
 command_of (words.Audit instance solution k log) = Audit instance.now solution.now k log.now
 command_of (words.Rows instance goal) = Rows instance.now goal
 command_of (words.Values instance values) = Values instance.now values.now

@@ -1,7 +1,7 @@
 -- What the words of the command line, without the program's name, ask for.
 use Rattle.std.specs.Prelude.{ℕ, ◌^◌, ◌-◌, nat_le, nat_lt, ◌==◌, List, [], ◌∷◌, codes, bytes_eq}
 use Rattle.std.specs.Prelude.{Bool, true, false, not, ◌&&◌, if◌then◌else◌, Option, Some, None, option_and_then}
-use Rattle.std.specs.Prelude.{option_map, unwrap_or}
+use Rattle.std.specs.Prelude.{length, option_map, unwrap_or}
 use Rattle.std.specs.Option.{option_or}
 use Rattle.std.specs.Str.{byte}
 use Rattle.std.specs.Str.Parse.{digits_value}
@@ -29,6 +29,7 @@ pub data Command : Type 0 where
   Prove : (instance solution : List ℕ) → (conflicts : Option ℕ) → Command
   Bound : (instance log : List ℕ) → Command
   Resume : (instance solution : List ℕ) → (k : ℕ) → (conflicts : Option ℕ) → Command
+  ResumeNear : (instance solution : List ℕ) → (k : ℕ) → (budgets : Budgets) → Command
   Audit : (instance solution : List ℕ) → (k : ℕ) → (log : List ℕ) → Command
   Rows : (instance : List ℕ) → (goal : Goal) → Command
   Values : (instance values : List ℕ) → Command
@@ -145,11 +146,17 @@ limit_in word = option_map Some (number_in word)
 abbrev pub seconds_in : List (List ℕ) → Option (Option ℕ)
 seconds_in words = said None limit_in (values_of (codes "--seconds") words)
 
+-- the words among which a time limit is said: those behind `--near` of `resume`, which has no value; else all
+abbrev pub timed_words : List (List ℕ) → List (List ℕ)
+timed_words (first ∷ second ∷ third ∷ flag ∷ rest) =
+    if bytes_eq flag (codes "--near") then rest else first ∷ second ∷ third ∷ flag ∷ rest
+timed_words words = words
+
 -- The time limit that the words of a command line say. It is no part of the command: what is promised of a run is the
 -- same with it and without.
 abbrev pub time_limit : List (List ℕ) → Option ℕ
 time_limit [] = None
-time_limit (command ∷ words) = unwrap_or (seconds_in words) None
+time_limit (command ∷ words) = unwrap_or (seconds_in (timed_words words)) None
 
 -- how many tries there are where the words don't say it: one, or with a time limit as many as it leaves time for (own
 -- choice)
@@ -234,12 +241,30 @@ proving words =
     else None
 
 -- `resume` over two files, with a number of slots, and with the same options
-abbrev pub resuming : List (List ℕ) → Option Command
-resuming words =
+abbrev pub resuming_kept : List (List ℕ) → Option Command
+resuming_kept words =
     if has_options timed_options words
     then option_and_then (λ found. option_map (Resume found.0 found.1 found.2) (timed_conflicts_in words))
     (files_and_number (arguments_of words))
     else None
+
+-- `resume` near the old plan, over two files, with a number of slots, and with no other words than options of `trial`
+abbrev pub resuming_near : (instance solution slots : List ℕ) → List (List ℕ) → Option Command
+resuming_near instance solution slots rest =
+    if (is_file_name instance && is_file_name solution)
+    && (has_options solve_options rest && (length (arguments_of rest) == 0))
+    then option_and_then (λ k. option_map (ResumeNear instance solution k) (budgets_in rest)) (number_in slots)
+    else None
+
+-- `resume` where `--near` stands behind its first three words
+abbrev pub nearing : List (List ℕ) → Option Command
+nearing (instance ∷ solution ∷ slots ∷ flag ∷ rest) =
+    if bytes_eq flag (codes "--near") then resuming_near instance solution slots rest else None
+nearing _ = None
+
+-- `resume`, near the old plan or not
+abbrev pub resuming : List (List ℕ) → Option Command
+resuming words = option_or (nearing words) (resuming_kept words)
 
 -- the number of teams and the seed of a made league, as arguments
 unfoldable pub teams_and_seed : List (List ℕ) → Option (ℕ × ℕ)
@@ -450,6 +475,7 @@ HasTeams (Part instance members) = Unit {0}
 HasTeams (Prove instance solution conflicts) = Unit {0}
 HasTeams (Bound instance log) = Unit {0}
 HasTeams (Resume instance solution k conflicts) = Unit {0}
+HasTeams (ResumeNear instance solution k budgets) = Unit {0}
 HasTeams (Audit instance solution k log) = Unit {0}
 HasTeams (Rows instance goal) = Unit {0}
 HasTeams (Values instance values) = Unit {0}
@@ -481,6 +507,7 @@ NeedsNoFile (Some (Part instance members)) = ⊥
 NeedsNoFile (Some (Prove instance solution conflicts)) = ⊥
 NeedsNoFile (Some (Bound instance log)) = ⊥
 NeedsNoFile (Some (Resume instance solution k conflicts)) = ⊥
+NeedsNoFile (Some (ResumeNear instance solution k budgets)) = ⊥
 NeedsNoFile (Some (Audit instance solution k log)) = ⊥
 NeedsNoFile (Some (Rows instance goal)) = ⊥
 NeedsNoFile (Some (Values instance values)) = ⊥

@@ -76,6 +76,7 @@ pub(crate) fn is_flag(command: Topic, word: &str) -> bool
 {
     match command {
         Topic::Rows => word == "--objective",
+        Topic::Resume => word == "--near",
         Topic::Show => word == "--demands",
         _ => false,
     }
@@ -87,9 +88,9 @@ pub(crate) fn option_role(command: Topic, word: &str) -> Option<Role>
 {
     match command {
         Topic::Solve => start_option(word),
-        Topic::Trial => solve_option(word),
+        Topic::Trial | Topic::Resume => solve_option(word),
         Topic::Patterns => search_option(word),
-        Topic::Explain | Topic::Prove | Topic::Resume => timed_option(word),
+        Topic::Explain | Topic::Prove => timed_option(word),
         Topic::Rows => row_option(word),
         Topic::Show => show_option(word),
         _ => None,
@@ -149,7 +150,7 @@ fn start_option(word: &str) -> Option<Role>
     }
 }
 
-/// What the value of an option of `trial` is to be.
+/// What the value of an option of `trial`, or of `resume` with `--near`, is to be.
 fn solve_option(word: &str) -> Option<Role>
     ensures { result ≡ faults.solve_option word.now }
 {

@@ -8,7 +8,8 @@ ghost use Rattle.command_line.specs.Words as options;
 ghost use Rattle.command_line.specs.Words.{arguments_of, asking, auditing, bound_in, bounding, budget_in, budgets_in};
 ghost use Rattle.command_line.specs.Words.{conflicts_in, costing, explaining, lowering};
 ghost use Rattle.command_line.specs.Words.{following, has_options, helping, is_file_name, limit_in, making, parting};
-ghost use Rattle.command_line.specs.Words.{HasTeams, number_in, patterning, plain, proving, reading, resuming, row_options, rowing, said};
+ghost use Rattle.command_line.specs.Words.{HasTeams, nearing, number_in, patterning, plain, proving, reading, resuming, resuming_kept, resuming_near};
+ghost use Rattle.command_line.specs.Words.{row_options, rowing, said};
 ghost use Rattle.command_line.specs.Words.{demanding, demanding_all, demanding_some, form_in, most_in, show_options};
 ghost use Rattle.command_line.specs.Words.{showing, showing_season, small_in};
 ghost use Rattle.command_line.specs.Words.{search_options, solve_options, solving, start_options, starting};
@@ -110,6 +111,14 @@ pub enum Words<'a> {
         solution: &'a str,
         k: u64,
         conflicts: Option<u64>,
+    },
+    /// Search such a schedule that changes few of the games of the solution file that are still to come, within these
+    /// budgets; or such a log.
+    ResumeNear {
+        instance: &'a str,
+        solution: &'a str,
+        k: u64,
+        budgets: Budgets,
     },
     /// Check the log of a third file that no schedule that the league of an instance file accepts has, in the first k
     /// slots, the games of a solution file.
@@ -440,9 +449,83 @@ fn read_prove(words: &[String]) -> Option<Words<'_>>
     })
 }
 
-/// `resume` over two files, with a number of slots and its options.
+/// `resume`, near the old plan or not.
 fn read_resume(words: &[String]) -> Option<Words<'_>>
     ensures reading { option_map command_of result ≡ resuming (map string_bytes words.now) }
+    ensures teams { IfSome result (λ command. HasTeams (command_of command)) }
+{
+    match read_near(words) {
+        Some(near) => Some(near),
+        None => read_kept(words),
+    }
+}
+
+/// `resume` with `--near` behind two files and a number of slots, and options behind that.
+fn read_near(words: &[String]) -> Option<Words<'_>>
+    ensures reading { option_map command_of result ≡ nearing (map string_bytes words.now) }
+    ensures teams { IfSome result (λ command. HasTeams (command_of command)) }
+{
+    match words {
+        [instance, solution, slots, flag, rest @ ..] => near_behind(
+            instance.as_str(),
+            solution.as_str(),
+            slots.as_str(),
+            flag.as_str(),
+            rest,
+        ),
+        _ => None,
+    }
+}
+
+/// `resume` near the old plan, with these words, if the fourth is `--near`.
+fn near_behind<'a>(
+    instance: &'a str,
+    solution: &'a str,
+    slots: &str,
+    flag: &str,
+    rest: &[String],
+) -> Option<Words<'a>>
+    ensures reading { option_map command_of result
+        ≡ nearing (instance.now ∷ solution.now ∷ slots.now ∷ flag.now ∷ map string_bytes rest.now) }
+    ensures teams { IfSome result (λ command. HasTeams (command_of command)) }
+{
+    if flag == "--near" {
+        near_of(instance, solution, slots, rest)
+    } else {
+        None
+    }
+}
+
+/// `resume` near the old plan, with these words.
+fn near_of<'a>(
+    instance: &'a str,
+    solution: &'a str,
+    slots: &str,
+    rest: &[String],
+) -> Option<Words<'a>>
+    ensures reading { option_map command_of result
+        ≡ resuming_near instance.now solution.now slots.now (map string_bytes rest.now) }
+    ensures teams { IfSome result (λ command. HasTeams (command_of command)) }
+{
+    if !is_name(instance) || !is_name(solution) {
+        return None;
+    }
+    if !has_solve_options(rest) || !has_no_argument(rest) {
+        return None;
+    }
+    let k = number(slots)?;
+    let budgets = budgets(rest)?;
+    Some(Words::ResumeNear {
+        instance,
+        solution,
+        k,
+        budgets,
+    })
+}
+
+/// `resume` over two files, with a number of slots and its options.
+fn read_kept(words: &[String]) -> Option<Words<'_>>
+    ensures reading { option_map command_of result ≡ resuming_kept (map string_bytes words.now) }
     ensures teams { IfSome result (λ command. HasTeams (command_of command)) }
 {
     if !has_timed_options(words) {
@@ -702,7 +785,17 @@ pub fn seconds_of(words: &[String]) -> Option<u64>
 {
     match words {
         [] => None,
-        [_, rest @ ..] => seconds_said(rest).unwrap_or(None),
+        [_, rest @ ..] => seconds_said(timed_words(rest)).unwrap_or(None),
+    }
+}
+
+/// The words among which a time limit is said: those behind `--near`, where that stands behind three words.
+fn timed_words(words: &[String]) -> &[String]
+    ensures { map string_bytes result.now ≡ options.timed_words (map string_bytes words.now) }
+{
+    match words {
+        [_, _, _, flag, rest @ ..] if flag.as_str() == "--near" => rest,
+        _ => words,
     }
 }
 

@@ -1,8 +1,7 @@
 -- What is shown of a schedule, answered.
-use Rattle.std.proofs.Common.{◌≡◌, ℕ, ◌-◌, ◌+◌, ◌<◌, ◌≤◌, ◌==◌, Bool, true, false, if◌then◌else◌, List, [], ◌∷◌, length, Option, Some, None}
+use Rattle.std.proofs.Common.{◌≡◌, ℕ, ◌-◌, ◌<◌, ◌≤◌, ◌==◌, Bool, true, false, if◌then◌else◌, List, Option, Some}
 use Rattle.std.proofs.Common.{Result, Ok, Err, refl, arith, ap, subst, ◌∙◌, inl, inr}
-use Rattle.std.specs.Prelude.{IfOk, IfSome, IsTrue}
-use Rattle.std.proofs.lemmas.List.{length-append}
+use Rattle.std.specs.Prelude.{IfOk, IsTrue}
 use Rattle.std.proofs.lemmas.Bool.Decides.{nat_tests}
 use Rattle.league.specs.Accepted.{IsAccepted, objective}
 use Rattle.league.specs.Counts.{Counts, counts_of}
@@ -12,6 +11,7 @@ use Rattle.robinx_tags.specs.Pieces.{pieces}
 use Rattle.robinx_form.specs.SolutionFile.{solution_of}
 use Rattle.robinx_form.specs.Texts.{solution_text}
 use Rattle.robinx_write.proofs.SolutionLemmas.{solution-reads_back}
+use Rattle.solve.proofs.AnswerLemmas.{refutes-few}
 use Rattle.solve.proofs.FewLemmas.{round_robin-few}
 use Rattle.answers.specs.Reply.{Answer}
 use Rattle.answers.specs.SeenReply.{answer_of}
@@ -19,9 +19,7 @@ use Rattle.answers.specs.declared.reply.Reply.{Reply}
 use Rattle.answers.specs.declared.status.Status.{Status}
 use Rattle.answers.specs.declared.status.Status.TheVariants.{Yes, No}
 use Rattle.refutation.specs.Logs.{Fault}
-use Rattle.rows.specs.Rows.{Row}
 use Rattle.refutation.specs.Steps.{Step}
-use Rattle.refutation.specs.Steps.Step.{Clause}
 use Rattle.refutation.specs.Verdict.{verdict_of}
 use Rattle.refutation.specs.declared.verdict.Verdict.TheVariants.{Accepted}
 use Rattle.clause_search.specs.Answers.{Refutes}
@@ -72,17 +70,6 @@ pub least-verdict : (league : Instance) (limit : Option ℕ) (cost : ℕ) (steps
     → bound_verdict league cost steps ≡ Accepted
 least-verdict league limit cost steps refutes = least-by league limit cost steps (cost == 0) refl refutes
 
-least-within : (rows : List Row) (vars : ℕ) (limit : Option ℕ) (steps : List Step) → Refutes rows vars limit steps
-    → IfSome limit (λ most. length steps ≤ most + 1)
-least-within rows vars None steps is = tt
-least-within rows vars (Some most) steps is =
-    omega (
-      arith,
-      is.within,
-      ap (λ (ss : List Step). length ss) is.last,
-      length-append is.before (Clause [] is.hints ∷ []),
-    )
-
 abbrev certificate_said : List Step → ℕ → Result Certificate Fault
 certificate_said log cost = Ok (record { bound = cost; log = log })
 
@@ -95,7 +82,7 @@ shown-told league limit games (Least cost log) answer teams accepted is told = i
   least = subst (λ (c : ℕ). IsLowerBound league c) is.cost is.least;
   proves = subst (λ (c : ℕ). bound_verdict league c log ≡ Accepted) is.cost
       (least-verdict league limit cost log is.refutes);
-  within = λ some. least-within (bound_rows league (cost - 1)) (bound_vars league) limit log
+  within = λ some. refutes-few (bound_rows league (cost - 1)) (bound_vars league) limit log
       (is.refutes (omega (arith, some, is.cost)));
   status = told.status;
   text = told.text ∙ ap (λ (c : ℕ). certificate_text c log) is.cost;

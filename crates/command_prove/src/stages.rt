@@ -1,5 +1,5 @@
 //! The stages of `prove`.
-ghost use Rattle.std.specs.Prelude.{◌≡◌, ◌≤◌, ℕ, List, IfOk, length};
+ghost use Rattle.std.specs.Prelude.{◌≡◌, ◌+◌, ◌≤◌, ℕ, List, IfOk, length};
 ghost use Rattle.std.specs.List.{All};
 ghost use Rattle.robin_io.specs.Outside.{store_between};
 ghost use Rattle.league.specs.Instance.{IsGame};
@@ -61,6 +61,7 @@ pub fn prove_file<S: Shelf, W: Watch>(
 ) -> Result<Reply, NoValue>
     ensures answer { Answers (proved (store_between S.Shelf shelf.old shelf.new)
         instance.now solution.now (IsKeptTo conflicts (W.may_stop watch.now))) result }
+    ensures taken { S.taken shelf.new ≤ S.taken shelf.old + (INSTANCE_LIMIT + 1 + (SOLUTION_LIMIT + 1)) }
     ensures contents { (n : List ℕ) → S.contents shelf.new n ≡ S.contents shelf.old n }
 {
     let first = file(alloc, shelf, "instance", instance, INSTANCE_LIMIT)?;

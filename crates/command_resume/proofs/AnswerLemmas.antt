@@ -23,6 +23,7 @@ use Rattle.command_check.proofs.AnswerLemmas.{said-known}
 use Rattle.resume_rows.specs.Kept.{resume_size}
 use Rattle.resume_rows.specs.Resumable.{NoneResumes}
 use Rattle.command_resume.specs.Audited.{IsVerdict, IsWellFormedAudit, audited}
+use Rattle.command_resume.specs.Near.{IsNear, IsNearBy, IsNearSeason, neared}
 use Rattle.command_resume.specs.Resumed.{IsFound, IsFoundBy, IsPlanned, resumed}
 use Rattle.command_resume.specs.Seasons.{IsWellFormedSeason, SaySeason, has_size, has_slots, plays}
 use Rattle.command_resume.specs.declared.season.Season.{Season}
@@ -276,3 +277,60 @@ audited-excluded store instance solution k log league played answer say ended gi
     (store.failed log) (λ bytes. says_log (log_of bytes) (IsVerdict league played k)) answer answered at.1 in
     let said = log-answered (log_of read.0) (IsVerdict league played k) answer answered read.2 in
     said.1.none ended
+
+-- ---- `resume --near`
+
+pub neared-well_formed : (store : Store)
+    (instance solution : List ℕ) (k : ℕ) (limits : Option ℕ → Type 0) (league : Instance) (played : List Game)
+    (answer : Answer) → IsWellFormedSeason store instance solution k league played
+    → NoneFails store (instance ∷ solution ∷ []) → neared store instance solution k limits answer
+    → IsNearBy league played k limits answer
+neared-well_formed store instance solution k limits league played answer good works given =
+    plays-known store instance solution k
+    (λ season. IsNearBy season.league season.played k limits) league played answer good
+    (first-works store instance (solution ∷ []) works) (second-works store instance solution [] works) given
+
+near-season : (league : Instance) (played : List Game) (k : ℕ) (conflicts : Option ℕ) (answer : Answer)
+    → answer.status ≡ Yes → IsNear league played k conflicts answer → IsNearSeason league played k answer
+near-season league played k conflicts answer ended near =
+    elim near.found [
+      | inl season ↦ season
+      | inr (inl excluded) ↦ let same : Refuted ≡ Yes = sym excluded.status ∙ ended in absurd (cc)
+      | inr (inr spent) ↦ let same : Spent ≡ Yes = sym spent.status ∙ ended in absurd (cc)
+    ]
+
+near-excluded : (league : Instance) (played : List Game) (k : ℕ) (conflicts : Option ℕ) (answer : Answer)
+    → answer.status ≡ Refuted → IsNear league played k conflicts answer → NoneResumes league (counts_of played) k
+near-excluded league played k conflicts answer ended near =
+    elim near.found [
+      | inl season ↦ let same : Yes ≡ Refuted = sym season.status ∙ ended in absurd (cc)
+      | inr (inl excluded) ↦ excluded.refutes.none
+      | inr (inr spent) ↦ let same : Spent ≡ Refuted = sym spent.status ∙ ended in absurd (cc)
+    ]
+
+-- where the answer is a schedule, it is accepted and keeps the played games
+pub neared-season : (store : Store)
+    (instance solution : List ℕ) (k : ℕ) (limits : Option ℕ → Type 0) (league : Instance) (played : List Game)
+    (answer : Answer) → SaySeason store instance solution league played → answer.status ≡ Yes
+    → neared store instance solution k limits answer → IsNearSeason league played k answer
+neared-season store instance solution k limits league played answer say ended given =
+    let next : Season → Outcome = λ season. IsNearBy season.league season.played k limits in
+    let answered : IsAnswered answer = answered-as answer Yes ended (λ same. cc) (λ same. cc) in
+    let near : IsNearBy league played k limits answer =
+    (of_known store instance solution k next league played answer say
+    (plays-answered store instance solution k next answer answered given)).1 in
+    near-season league played k near.0 answer ended near.2
+
+-- where it is a refutation, no accepted schedule keeps them
+pub neared-excluded : (store : Store)
+    (instance solution : List ℕ) (k : ℕ) (limits : Option ℕ → Type 0) (league : Instance) (played : List Game)
+    (answer : Answer) → SaySeason store instance solution league played → answer.status ≡ Refuted
+    → neared store instance solution k limits answer
+    → NoneResumes league (counts_of played) k
+neared-excluded store instance solution k limits league played answer say ended given =
+    let next : Season → Outcome = λ season. IsNearBy season.league season.played k limits in
+    let answered : IsAnswered answer = answered-as answer Refuted ended (λ same. cc) (λ same. cc) in
+    let near : IsNearBy league played k limits answer =
+    (of_known store instance solution k next league played answer say
+    (plays-answered store instance solution k next answer answered given)).1 in
+    near-excluded league played k near.0 answer ended near.2

@@ -1,5 +1,7 @@
 -- What is found, answered:
 mod FoundLemmas
+-- What is found near the old plan, answered:
+mod NearLemmas
 -- The stages, one after another:
 mod StageLemmas
 -- What follows from an answer:

@@ -2,8 +2,9 @@
 --
 -- Read in this order. The stages that both commands have in common:
 pub mod Seasons
--- What `resume` answers, and what `audit` does:
+-- What `resume` answers, with `--near` and without, and what `audit` does:
 pub mod Resumed
+pub mod Near
 pub mod Audited
 -- Kept inside (laws, and how fields are seen):
 pub mod SeenSeason

@@ -1,10 +1,11 @@
 //! The stages of `audit`.
-ghost use Rattle.std.specs.Prelude.{◌≡◌, ◌≤◌, ℕ, List, IfOk, codes, length};
+ghost use Rattle.std.specs.Prelude.{◌≡◌, ◌+◌, ◌≤◌, ℕ, List, IfOk, codes, length};
 ghost use Rattle.std.specs.List.{All};
 ghost use Rattle.robin_io.specs.Outside.{store_between};
 ghost use Rattle.league.specs.Counts as counts;
 ghost use Rattle.league.specs.Instance.{IsGame};
 ghost use Rattle.refutation.specs.Logs.{log_of};
+ghost use Rattle.robinx_read.specs.declared.instance.TheConstants.{INSTANCE_LIMIT, SOLUTION_LIMIT};
 ghost use Rattle.answers.specs.SeenReply.{Answers};
 ghost use Rattle.answers.specs.Stages.{reads};
 ghost use Rattle.command_check.specs.Check.{most_log_bytes, says_log};
@@ -52,6 +53,7 @@ fn audit_log<S: Shelf>(
     requires slots { system.now.k ≤ counts.slot_count system.now.league.n }
     ensures answer { Answers (reads (store_between S.Shelf shelf.old shelf.new) (codes "log") name.now most_log_bytes 0
         (λ bytes. says_log (log_of bytes) (IsVerdict system.now.league system.now.played system.now.k))) result }
+    ensures taken { S.taken shelf.new ≤ S.taken shelf.old + (most_log_bytes + 1) }
     ensures contents { (n : List ℕ) → S.contents shelf.new n ≡ S.contents shelf.old n }
 {
     // For its contract: accepted logs over the rows of a league exclude every schedule that keeps the played games.
@@ -75,6 +77,7 @@ pub fn audit_file<S: Shelf>(
 ) -> Result<Reply, NoValue>
     ensures answer { Answers (audited (store_between S.Shelf shelf.old shelf.new)
         instance.now solution.now k log.now) result }
+    ensures taken { S.taken shelf.new ≤ S.taken shelf.old + (INSTANCE_LIMIT + 1 + (SOLUTION_LIMIT + 1) + (most_log_bytes + 1)) }
     ensures contents { (n : List ℕ) → S.contents shelf.new n ≡ S.contents shelf.old n }
 {
     let season = season_in(alloc, shelf, instance, solution, k)?;

@@ -35,7 +35,7 @@ fn schedule_reply(alloc: Global, schedule: &Schedule, objective: u128) -> Result
 }
 
 /// A log, as the answer of this status.
-fn log_reply(alloc: Global, status: Status, log: &Log) -> Result<Reply, AllocError>
+pub(crate) fn log_reply(alloc: Global, status: Status, log: &Log) -> Result<Reply, AllocError>
     requires tidy { All (IsTidy 130960) log.now }
     requires clauses { All (λ step. is_linear step ≡ false) log.now }
     ensures status { IfOk result (λ reply. (answer_of reply).status ≡ status) }

@@ -1,9 +1,10 @@
 //! The stages of `resume`.
-ghost use Rattle.std.specs.Prelude.{◌≡◌, ◌≤◌, ℕ, List, IfOk, length};
+ghost use Rattle.std.specs.Prelude.{◌≡◌, ◌+◌, ◌≤◌, ℕ, List, IfOk, length};
 ghost use Rattle.std.specs.List.{All};
 ghost use Rattle.robin_io.specs.Outside.{store_between};
 ghost use Rattle.league.specs.Counts as counts;
 ghost use Rattle.league.specs.Instance.{IsGame};
+ghost use Rattle.robinx_read.specs.declared.instance.TheConstants.{INSTANCE_LIMIT, SOLUTION_LIMIT};
 ghost use Rattle.answers.specs.SeenReply.{answer_of, Answers};
 ghost use Rattle.resume_rows.specs.Kept as kept;
 ghost use Rattle.robin_watch.specs.Limits.{IsKeptTo};
@@ -70,6 +71,7 @@ pub fn resume_file<S: Shelf, W: Watch>(
 ) -> Result<Reply, NoValue>
     ensures answer { Answers (resumed (store_between S.Shelf shelf.old shelf.new) instance.now solution.now
         resumption.k (IsKeptTo resumption.conflicts (W.may_stop watch.now))) result }
+    ensures taken { S.taken shelf.new ≤ S.taken shelf.old + (INSTANCE_LIMIT + 1 + (SOLUTION_LIMIT + 1)) }
     ensures contents { (n : List ℕ) → S.contents shelf.new n ≡ S.contents shelf.old n }
 {
     let season = season_in(alloc, shelf, instance, solution, resumption.k)?;

@@ -98,6 +98,7 @@ pub(crate) fn season_in<S: Shelf>(
     ensures few { IfOk result (λ season. length season.played ≤ 10000) }
     ensures fit { IfOk result (λ season. All (IsGame season.league.n) season.played) }
     ensures count { IfOk result (λ season. S.taken shelf.new ≡ raised (S.taken shelf.old) season.bytes) }
+    ensures taken { S.taken shelf.new ≤ S.taken shelf.old + (INSTANCE_LIMIT + 1 + (SOLUTION_LIMIT + 1)) }
     ensures contents { (n : List ℕ) → S.contents shelf.new n ≡ S.contents shelf.old n }
     ensures later { (n : List ℕ) → S.faults shelf.old n ≤ S.faults shelf.new n }
 {

@@ -1,5 +1,5 @@
 //! The stages of `rows`.
-ghost use Rattle.std.specs.Prelude.{◌≡◌, ℕ, List, IfOk};
+ghost use Rattle.std.specs.Prelude.{◌≡◌, ◌≤◌, ◌+◌, ℕ, List, IfOk};
 ghost use Rattle.robin_io.specs.Outside.{store_between};
 ghost use Rattle.answers.specs.SeenReply.{MatchStage};
 ghost use Rattle.command_line.specs.declared.goal.Goal.TheVariants.{Accepted, AtMost, Least};
@@ -86,6 +86,7 @@ pub fn rows_file<S: Shelf>(
 
     // They are those of the league that the file says.
     ensures rows { IfOk result (AreRowsOf (S.contents shelf.old instance.now) goal) }
+    ensures taken { S.taken shelf.new ≤ S.taken shelf.old + (INSTANCE_LIMIT + 1) }
     ensures contents { (n : List ℕ) → S.contents shelf.new n ≡ S.contents shelf.old n }
 {
     let bytes = file(alloc, shelf, "instance", instance, INSTANCE_LIMIT)?;

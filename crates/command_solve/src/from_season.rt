@@ -1,5 +1,5 @@
 //! The stages of `solve` from a season that is given.
-ghost use Rattle.std.specs.Prelude.{◌≡◌, ◌↔◌, ◌≤◌, ℕ, List, IsTrue, codes, length};
+ghost use Rattle.std.specs.Prelude.{◌≡◌, ◌↔◌, ◌+◌, ◌≤◌, ℕ, List, IsTrue, codes, length};
 ghost use Rattle.std.specs.List.{All};
 ghost use Rattle.robin_io.specs.Outside.{store_between};
 ghost use Rattle.league.specs.Counts.{counts_of};
@@ -105,6 +105,7 @@ pub fn solve_from_file<S: Shelf, W: Listener>(
 ) -> Result<Reply, NoValue>
     ensures answer { Answers (begun (store_between S.Shelf shelf.old shelf.new)
         instance.now solution.now budgets (W.may_stop watch.now)) result }
+    ensures taken { S.taken shelf.new ≤ S.taken shelf.old + (INSTANCE_LIMIT + 1 + (SOLUTION_LIMIT + 1)) }
     ensures contents { (n : List ℕ) → S.contents shelf.new n ≡ S.contents shelf.old n }
 {
     let first = file(alloc, shelf, "instance", instance, INSTANCE_LIMIT)?;

@@ -1,5 +1,5 @@
 //! The stages of `validate`.
-ghost use Rattle.std.specs.Prelude.{◌≡◌, ◌≤◌, ℕ, List, codes, length};
+ghost use Rattle.std.specs.Prelude.{◌≡◌, ◌+◌, ◌≤◌, ℕ, List, codes, length};
 ghost use Rattle.robin_io.specs.Outside.{store_between};
 ghost use Rattle.robinx_tags.specs.Pieces.{pieces};
 ghost use Rattle.robinx_form.specs.SolutionFile.{solution_of};
@@ -37,6 +37,7 @@ pub fn validate<S: Shelf>(
 ) -> Result<Reply, NoValue>
     ensures answer { Answers (validated (store_between S.Shelf shelf.old shelf.new)
         instance.now solution.now) result }
+    ensures taken { S.taken shelf.new ≤ S.taken shelf.old + (INSTANCE_LIMIT + 1 + (SOLUTION_LIMIT + 1)) }
     ensures contents { (n : List ℕ) → S.contents shelf.new n ≡ S.contents shelf.old n }
 {
     let first = file(alloc, shelf, "instance", instance, INSTANCE_LIMIT)?;

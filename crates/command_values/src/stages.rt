@@ -1,5 +1,5 @@
 //! The stages of `values`.
-ghost use Rattle.std.specs.Prelude.{◌≡◌, ◌≤◌, ◌<◌, ◌^◌, ℕ, List, Ok, length};
+ghost use Rattle.std.specs.Prelude.{◌≡◌, ◌+◌, ◌≤◌, ◌<◌, ◌^◌, ℕ, List, Ok, length};
 ghost use Rattle.robin_io.specs.Outside.{store_between};
 ghost use Rattle.answers.specs.SeenReply.{Answers, MatchStage};
 ghost use Rattle.command_check.specs.Check.{encodes, most_log_bytes};
@@ -76,6 +76,7 @@ pub fn values_file<S: Shelf>(
 ) -> Result<Reply, NoValue>
     ensures answer { Answers (valued (store_between S.Shelf shelf.old shelf.new)
         instance.now values.now) result }
+    ensures taken { S.taken shelf.new ≤ S.taken shelf.old + (INSTANCE_LIMIT + 1 + (LOG_LIMIT + 1)) }
     ensures contents { (n : List ℕ) → S.contents shelf.new n ≡ S.contents shelf.old n }
 {
     let first = file(alloc, shelf, "instance", instance, INSTANCE_LIMIT)?;

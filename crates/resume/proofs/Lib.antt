@@ -8,3 +8,7 @@ mod MergeLemmas
 mod LowerLemmas
 -- Worked seasons:
 mod MergeFacts
+-- Changed games, counted:
+pub mod NearLemmas
+-- Worked counts of them:
+mod NearFacts

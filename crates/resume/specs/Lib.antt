@@ -2,6 +2,8 @@
 --
 -- What each answer says of a league, beside the definitions of `resume_rows`:
 pub mod Answers
+-- How far a season is from the old plan:
+pub mod Near
 -- Kept inside (laws, and how fields are seen):
 --
 -- What a search found:

@@ -3,11 +3,14 @@ ghost use Rattle.std.specs.Prelude.{◌≡◌, ◌≤◌, length, IfOk, IfSome, 
 ghost use Rattle.std.specs.List.{All};
 ghost use Rattle.league.specs.Instance.{class_fits};
 
-use league::{Class, Constraint, League, PairSet, Schedule, SlotId, SlotSet};
+use league::{Class, Constraint, League, PairSet, Schedule, SlotId, SlotSet, slot_count};
 use std::alloc::{AllocError, Global};
 
 /// The most constraints of a league.
 const MOST_CONSTRAINTS: usize = 20_000;
+
+/// What a game of the old plan costs that isn't played (own choice): more than games are worth in most leagues.
+const CHANGE_PENALTY: u32 = 1000;
 
 /// A league with a hard constraint more for each slot below k, which asks for just the games that a schedule has there;
 /// none where it would have too many constraints.
@@ -23,6 +26,41 @@ pub(crate) fn fixed_league(
     ensures teams { IfOk result (λ made. IfSome made (λ fixed. fixed.n ≡ league.now.n)) }
     ensures phases { IfOk result (λ made. IfSome made (λ fixed. fixed.phased ≡ league.now.phased)) }
 {
+    asking_league(alloc, league, games, k, k)
+}
+
+/// A league with a constraint more for each slot, which asks for just the games that a schedule has there: a hard one
+/// below slot k, and a soft one from there on; none where it would have too many constraints.
+///
+/// # Errors
+/// Only where memory runs out.
+pub(crate) fn near_league(
+    alloc: Global,
+    league: &League,
+    games: &Schedule,
+    k: u16,
+) -> Result<Option<League>, AllocError>
+    ensures teams { IfOk result (λ made. IfSome made (λ near. near.n ≡ league.now.n)) }
+    ensures phases { IfOk result (λ made. IfSome made (λ near. near.phased ≡ league.now.phased)) }
+{
+    asking_league(alloc, league, games, k, slot_count(league.n()))
+}
+
+/// A league with a constraint more for each slot below `end`, which asks for just the games that a schedule has there:
+/// a hard one below slot k, and a soft one from there on; none where it would have too many constraints.
+///
+/// # Errors
+/// Only where memory runs out.
+fn asking_league(
+    alloc: Global,
+    league: &League,
+    games: &Schedule,
+    k: u16,
+    end: u16,
+) -> Result<Option<League>, AllocError>
+    ensures teams { IfOk result (λ made. IfSome made (λ asking. asking.n ≡ league.now.n)) }
+    ensures phases { IfOk result (λ made. IfSome made (λ asking. asking.phased ≡ league.now.phased)) }
+{
     let n = league.n();
     let mut constraints = Vec::new(alloc);
     for constraint in league.constraints() {
@@ -31,8 +69,8 @@ pub(crate) fn fixed_league(
             return Ok(None);
         }
     }
-    for slot in 0..k {
-        let ask = asked(alloc, games, slot)?;
+    for slot in 0..end {
+        let ask = asked(alloc, games, slot, slot < k)?;
         if !add_fitting(&mut constraints, n, ask)? {
             return Ok(None);
         }
@@ -61,11 +99,11 @@ fn add_fitting(
     Ok(true)
 }
 
-/// The constraint that asks for just the games that a schedule has in a slot.
+/// The constraint that asks for just the games that a schedule has in a slot, hard or soft.
 ///
 /// # Errors
 /// Only where memory runs out.
-fn asked(alloc: Global, games: &Schedule, slot: u16) -> Result<Constraint, AllocError> {
+fn asked(alloc: Global, games: &Schedule, slot: u16, hard: bool) -> Result<Constraint, AllocError> {
     let mut meetings = PairSet::new(alloc);
     for game in games.games() {
         if game.slot.0 == slot {
@@ -76,8 +114,8 @@ fn asked(alloc: Global, games: &Schedule, slot: u16) -> Result<Constraint, Alloc
     let _new = slots.insert(SlotId(slot))?;
     let count = u32::try_from(meetings.len()).unwrap_or(u32::MAX);
     Ok(Constraint {
-        hard: true,
-        penalty: 1,
+        hard,
+        penalty: if hard { 1 } else { CHANGE_PENALTY },
         class: Class::Ga1 {
             meetings,
             min: count,

@@ -5,17 +5,22 @@
 #![tactic(auto)]
 
 mod bettered;
+mod changed;
 mod checked;
 mod fixed;
 mod lower;
 mod merge;
+mod near;
 mod plan;
 mod resumed;
 mod resumer;
 mod season;
+mod unheard;
 
 pub use bettered::resume_lowered;
+pub use changed::{changed_games, open_games};
 pub use checked::{check_resume, checker_of};
+pub use near::resume_near;
 pub use resume_rows::{ResumeSystem, resume_size, resume_system};
 pub use resumed::Resumed;
 pub use resumer::resume;

@@ -104,6 +104,33 @@ fn better(
         IsResumedSeason league.now start.now k season.schedule season.objective)) }
     ensures lower { IfOk result (λ found. IfSome found (λ season. season.objective < cost)) }
 {
+    let made = judged(alloc, league, start, k, schedule)?;
+    let Some(season) = made else {
+        return Ok(None);
+    };
+    if season.objective >= cost {
+        return Ok(None);
+    }
+    Ok(Some(season))
+}
+
+/// A schedule that keeps the games of another below slot k, with its objective, where the league accepts it.
+///
+/// # Errors
+/// Only where memory runs out.
+pub(crate) fn judged(
+    alloc: Global,
+    league: &League,
+    start: &Schedule,
+    k: u16,
+    schedule: Schedule,
+) -> Result<Option<Season>, AllocError>
+    requires fit { All (IsGame league.now.n) schedule }
+    requires keeps { Keeps (counts_of start.now) k (counts_of schedule) }
+    requires in_order { IsInOrder schedule }
+    ensures { IfOk result (λ found. IfSome found (λ season.
+        IsResumedSeason league.now start.now k season.schedule season.objective)) }
+{
     if schedule.len() > MOST_GAMES {
         return Ok(None);
     }
@@ -112,9 +139,6 @@ fn better(
         return Ok(None);
     }
     let objective = assessment.objective;
-    if objective >= cost {
-        return Ok(None);
-    }
     Ok(Some(Season {
         schedule,
         objective,

@@ -6,7 +6,7 @@ use Rattle.robin_run.proofs.CheckLemmas.{checks}
 use Rattle.robin_run.proofs.ExplainLemmas.{explains, parts}
 use Rattle.robin_run.proofs.MadeLemmas.{helps, makes, tells-version, tries, writes-circle}
 use Rattle.robin_run.proofs.PatternLemmas.{finds-patterns}
-use Rattle.robin_run.proofs.ResumeLemmas.{audits, resumes}
+use Rattle.robin_run.proofs.ResumeLemmas.{audits, resumes, resumes-near}
 use Rattle.robin_run.proofs.RowLemmas.{judges-values, writes-rows}
 use Rattle.robin_run.proofs.ShowLemmas.{shows}
 use Rattle.robin_run.proofs.SolveLemmas.{solves, solves-from}
@@ -25,6 +25,7 @@ keeps-promises run answered = record {
   prove = proves run answered;
   bound = bounds run answered;
   resume = resumes run answered;
+  resume_near = resumes-near run answered;
   audit = audits run answered;
   rows = writes-rows run answered;
   values = judges-values run answered;

@@ -15,7 +15,7 @@ use Rattle.robinx_form.specs.Walk.{Fault}
 use Rattle.robinx_read.specs.declared.instance.TheConstants.{INSTANCE_LIMIT, SOLUTION_LIMIT}
 use Rattle.budgets.specs.declared.budgets.Budgets.{Budgets}
 use Rattle.command_line.specs.Words.{Command}
-use Rattle.command_line.specs.Words.Command.{Audit, Bound, Check, Circle, Demands, Explain, Make, Part, Patterns, Prove, Resume}
+use Rattle.command_line.specs.Words.Command.{Audit, Bound, Check, Circle, Demands, Explain, Make, Part, Patterns, Prove, Resume, ResumeNear}
 use Rattle.command_line.specs.Words.Command.{Help, Rows, Sheet, Show, Solve, SolveFrom, Trial, Validate, Values, Version}
 use Rattle.command_line.specs.declared.goal.Goal.{Goal}
 use Rattle.command_line.specs.declared.goal.Goal.TheVariants.{Accepted, AtMost, Least}
@@ -54,6 +54,8 @@ use Rattle.command_bound.specs.Bound.{says_certificate}
 use Rattle.command_prove.specs.Prove.{IsShown, IsShownBy, proved}
 use Rattle.command_resume.specs.Audited as auditing
 use Rattle.command_resume.specs.Audited.{audited}
+use Rattle.command_resume.specs.Near as nearing
+use Rattle.command_resume.specs.Near.{neared}
 use Rattle.command_resume.specs.Resumed as resuming
 use Rattle.command_resume.specs.Resumed.{resumed}
 use Rattle.command_resume.specs.Seasons.{has_size, has_slots}
@@ -465,6 +467,27 @@ resumed-ends Ends file fault ends_yes refuted spent store instance solution k li
     (λ league played bytes found. resuming-ends Ends ends_yes refuted spent league played k found.0 answer found.2)
     given
 
+nearing-ends : (Ends : Status → Type 0) → Ends Yes → Ends Refuted → Ends Spent → (league : Instance)
+    (played : List Game) (k : ℕ) (conflicts : Option ℕ) (answer : Answer)
+    → nearing.IsNear league played k conflicts answer → Ends answer.status
+nearing-ends Ends ends_yes refuted spent league played k conflicts answer found =
+    elim found.found [
+      | inl planned ↦ ends-with Ends answer Yes planned.status ends_yes
+      | inr (inl log) ↦ ends-with Ends answer Refuted log.status refuted
+      | inr (inr log) ↦ ends-with Ends answer Spent log.status spent
+    ]
+
+neared-ends : (Ends : Status → Type 0) → Ends File → Ends ReadFault → Ends Yes → Ends Refuted → Ends Spent
+    → (store : Store)
+    (instance solution : List ℕ) (k : ℕ) (limits : Option ℕ → Type 0) (answer : Answer)
+    → neared store instance solution k limits answer → Ends answer.status
+neared-ends Ends file fault ends_yes refuted spent store instance solution k limits answer
+    given =
+    plays-ends Ends file fault store instance solution k
+    (λ league played bytes. nearing.IsNearBy league played k limits) answer
+    (λ league played bytes found. nearing-ends Ends ends_yes refuted spent league played k found.0 answer found.2)
+    given
+
 audited-ends : (Ends : Status → Type 0) → Ends File → Ends ReadFault → Ends Yes → Ends No
     → (store : Store)
     (instance solution : List ℕ) (k : ℕ) (log : List ℕ) (answer : Answer)
@@ -586,6 +609,9 @@ answer-ends may_stop (Some (Bound instance log)) store answer given =
 answer-ends may_stop (Some (Resume instance solution k conflicts)) store answer given =
     resumed-ends (EndsBy (Some (Resume instance solution k conflicts))) refl refl refl refl refl store instance solution
     k (IsKeptTo conflicts may_stop) answer given
+answer-ends may_stop (Some (ResumeNear instance solution k budgets)) store answer given =
+    neared-ends (EndsBy (Some (ResumeNear instance solution k budgets))) refl refl refl refl refl store instance solution
+    k (IsKeptTo budgets.conflicts may_stop) answer given
 answer-ends may_stop (Some (Audit instance solution k log)) store answer given =
     audited-ends (EndsBy (Some (Audit instance solution k log))) refl refl refl refl store instance
     solution k log answer given
@@ -629,6 +655,7 @@ no_memory (Some (Part instance members)) = refl
 no_memory (Some (Prove instance solution conflicts)) = refl
 no_memory (Some (Bound instance log)) = refl
 no_memory (Some (Resume instance solution k conflicts)) = refl
+no_memory (Some (ResumeNear instance solution k budgets)) = refl
 no_memory (Some (Audit instance solution k log)) = refl
 no_memory (Some (Rows instance goal)) = refl
 no_memory (Some (Values instance values)) = refl

@@ -1,4 +1,4 @@
--- What `resume` and `audit` promise is kept.
+-- What `resume`, `resume --near` and `audit` promise is kept.
 use Rattle.std.proofs.Common.{◌≡◌, ◌∷◌, [], ℕ, List, Ok, subst}
 use Rattle.std.specs.Io.KnownBytes.{Appends}
 use Rattle.robin_io.specs.Outside.{Output}
@@ -7,15 +7,18 @@ use Rattle.league.specs.Instance.{Instance}
 use Rattle.league.specs.declared.game.Game.{Game}
 use Rattle.robinx_tags.specs.Pieces.{pieces}
 use Rattle.robinx_form.specs.SolutionFile.{solution_of}
-use Rattle.command_line.specs.Words.Command.{Audit, Resume}
+use Rattle.budgets.specs.declared.budgets.Budgets.{Budgets}
+use Rattle.command_line.specs.Words.Command.{Audit, Resume, ResumeNear}
 use Rattle.answers.specs.Reply.{Answer}
 use Rattle.answers.specs.declared.status.Status.TheVariants.{Yes, Refuted}
 use Rattle.command_resume.specs.Audited.{IsVerdict}
+use Rattle.command_resume.specs.Near.{IsKeptNear, IsNearBy, IsNearSeason}
 use Rattle.command_resume.specs.Resumed.{IsFoundBy, IsKeptSeason, IsPlanned}
 use Rattle.command_resume.proofs.AnswerLemmas.{audited-excluded, audited-well_formed, resumed-excluded, resumed-planned}
-use Rattle.command_resume.proofs.AnswerLemmas.{resumed-well_formed}
+use Rattle.command_resume.proofs.AnswerLemmas.{neared-excluded, neared-season, neared-well_formed, resumed-well_formed}
 use Rattle.robin_run.specs.Audit.{Audits}
 use Rattle.robin_run.specs.Resume.{Resumes}
+use Rattle.robin_run.specs.ResumeNear.{ResumesNear}
 use Rattle.robin_run.specs.Run.{Answered, Run}
 use Rattle.robin_run.proofs.RunLemmas.{writes, writes-as}
 
@@ -46,6 +49,35 @@ resumes run answered instance solution k conflicts is = record {
       let whole = writes-as run (Resume instance solution k conflicts) Refuted answered is ended (λ same. cc)
       (λ same. cc) in
       resumed-excluded run.store instance solution k (IsKeptTo conflicts run.may_stop) league played whole.answer say
+      whole.status_is whole.given;
+}
+
+near_whole : (league : Instance) (played : List Game) (k : ℕ) (answer : Answer) (output : Output)
+    → IsNearSeason league played k answer → Appends output.before output.after answer.text → IsKeptNear league played k output
+near_whole league played k answer output near written = record {
+  games = near.games;
+  season = near.season;
+  written = subst (λ (text : List ℕ). Appends output.before output.after text) near.text written;
+  reads_back = subst (λ (text : List ℕ). solution_of league.n (pieces text) ≡ Ok near.games) near.text near.reads_back;
+}
+
+pub resumes-near : (run : Run) → Answered run → ResumesNear run
+resumes-near run answered instance solution k budgets is = record {
+  neared = λ league played good works.
+      writes run (instance ∷ solution ∷ []) (ResumeNear instance solution k budgets)
+      (IsNearBy league played k (IsKeptTo budgets.conflicts run.may_stop)) answered is works
+      (λ answer given. neared-well_formed run.store instance solution k (IsKeptTo budgets.conflicts run.may_stop) league
+      played answer good works.store given);
+  changed = λ league played say ended.
+      let whole = writes-as run (ResumeNear instance solution k budgets) Yes answered is ended (λ same. cc) (λ same. cc) in
+      near_whole league played k whole.answer run.output
+      (neared-season run.store instance solution k (IsKeptTo budgets.conflicts run.may_stop) league played whole.answer say
+      whole.status_is whole.given)
+      whole.written;
+  unresumable = λ league played say ended.
+      let whole = writes-as run (ResumeNear instance solution k budgets) Refuted answered is ended (λ same. cc)
+      (λ same. cc) in
+      neared-excluded run.store instance solution k (IsKeptTo budgets.conflicts run.may_stop) league played whole.answer say
       whole.status_is whole.given;
 }
 

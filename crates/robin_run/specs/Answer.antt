@@ -9,7 +9,7 @@ use Rattle.command_check.specs.Check.{checked}
 use Rattle.command_make.specs.Circle.{circle_season}
 use Rattle.command_line.specs.Words.{Command}
 use Rattle.command_line.specs.Words.Command.{Validate, Show, Demands, Sheet, Check, Solve, SolveFrom, Patterns, Explain, Part, Prove}
-use Rattle.command_line.specs.Words.Command.{Bound, Resume, Audit, Rows, Values, Circle, Make, Trial, Help, Version}
+use Rattle.command_line.specs.Words.Command.{Bound, Resume, ResumeNear, Audit, Rows, Values, Circle, Make, Trial, Help, Version}
 use Rattle.command_explain.specs.Explained.{explained}
 use Rattle.command_explain.specs.Parted.{parted}
 use Rattle.command_help.specs.Help.{help_answer, version_answer}
@@ -17,6 +17,7 @@ use Rattle.command_make.specs.MadeInstance.{IsMade}
 use Rattle.command_patterns.specs.Patterns.{patterned}
 use Rattle.command_prove.specs.Prove.{proved}
 use Rattle.command_resume.specs.Audited.{audited}
+use Rattle.command_resume.specs.Near.{neared}
 use Rattle.command_resume.specs.Resumed.{resumed}
 use Rattle.command_rows.specs.Rowed.{rowed}
 use Rattle.command_show.specs.Demands.{demanded}
@@ -48,6 +49,8 @@ IsAnswer may_stop (Some (Prove instance solution conflicts)) store answer =
 IsAnswer may_stop (Some (Bound instance log)) store answer = bounded store instance log answer
 IsAnswer may_stop (Some (Resume instance solution k conflicts)) store answer =
     resumed store instance solution k (IsKeptTo conflicts may_stop) answer
+IsAnswer may_stop (Some (ResumeNear instance solution k budgets)) store answer =
+    neared store instance solution k (IsKeptTo budgets.conflicts may_stop) answer
 IsAnswer may_stop (Some (Audit instance solution k log)) store answer =
     audited store instance solution k log answer
 IsAnswer may_stop (Some (Rows instance goal)) store answer = rowed store instance goal answer

@@ -11,6 +11,7 @@ use Rattle.robin_run.specs.Part.{Parts}
 use Rattle.robin_run.specs.Patterns.{FindsPatterns}
 use Rattle.robin_run.specs.Prove.{Proves}
 use Rattle.robin_run.specs.Resume.{Resumes}
+use Rattle.robin_run.specs.ResumeNear.{ResumesNear}
 use Rattle.robin_run.specs.Rows.{WritesRows}
 use Rattle.robin_run.specs.Run.{Run}
 use Rattle.robin_run.specs.Show.{Shows}
@@ -31,6 +32,7 @@ pub record KeepsPromises (run : Run) : Type 0 where
   pub prove : Proves run
   pub bound : Bounds run
   pub resume : Resumes run
+  pub resume_near : ResumesNear run
   pub audit : Audits run
   pub rows : WritesRows run
   pub values : JudgesValues run

@@ -7,7 +7,7 @@ use Rattle.answers.specs.declared.status.Status.TheVariants.{Yes, No, Words, Fil
 use Rattle.answers.specs.declared.status.Status.TheVariants.{Memory, WriteFault}
 use Rattle.command_line.specs.Words.{Command}
 use Rattle.command_line.specs.Words.Command.{Validate, Show, Demands, Sheet, Check, Solve, SolveFrom, Patterns, Explain, Part, Prove}
-use Rattle.command_line.specs.Words.Command.{Bound, Resume, Audit, Rows, Values, Circle, Make, Trial, Help, Version}
+use Rattle.command_line.specs.Words.Command.{Bound, Resume, ResumeNear, Audit, Rows, Values, Circle, Make, Trial, Help, Version}
 use Rattle.robin_run.specs.Run.{Run}
 
 -- the ends that these words have
@@ -26,6 +26,7 @@ ends_of (Some (Part instance members)) = Yes ∷ File ∷ ReadFault ∷ []
 ends_of (Some (Prove instance solution conflicts)) = Yes ∷ No ∷ Better ∷ Spent ∷ File ∷ ReadFault ∷ []
 ends_of (Some (Bound instance log)) = Yes ∷ No ∷ File ∷ ReadFault ∷ []
 ends_of (Some (Resume instance solution k conflicts)) = Yes ∷ Refuted ∷ Spent ∷ File ∷ ReadFault ∷ []
+ends_of (Some (ResumeNear instance solution k budgets)) = Yes ∷ Refuted ∷ Spent ∷ File ∷ ReadFault ∷ []
 ends_of (Some (Audit instance solution k log)) = Yes ∷ No ∷ File ∷ ReadFault ∷ []
 ends_of (Some (Rows instance goal)) = Yes ∷ File ∷ ReadFault ∷ []
 ends_of (Some (Values instance values)) = Yes ∷ No ∷ File ∷ ReadFault ∷ []

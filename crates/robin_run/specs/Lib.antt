@@ -5,6 +5,7 @@ pub mod Answer
 pub mod Ends
 pub mod Run
 pub mod Said
+pub mod Taken
 -- What each command promises, and what its answers mean:
 pub mod Commands
 pub mod Validate
@@ -19,6 +20,7 @@ pub mod Part
 pub mod Prove
 pub mod Bound
 pub mod Resume
+pub mod ResumeNear
 pub mod Audit
 pub mod Rows
 pub mod Values

@@ -1,5 +1,5 @@
 //! The call that the program makes: the words, the command's stages, and the answer written.
-ghost use Rattle.std.specs.Prelude.{◌≡◌, ℕ, List, Some, map, option_map, string_bytes};
+ghost use Rattle.std.specs.Prelude.{◌≡◌, ◌+◌, ◌≤◌, ℕ, List, Some, map, option_map, string_bytes};
 ghost use Rattle.std.specs.Option.{option_copied};
 ghost use Rattle.std.specs.Io.KnownBytes.{Keeps};
 ghost use Rattle.robin_io.specs.Outside.{output_between, store_between};
@@ -7,6 +7,7 @@ ghost use Rattle.command_line.specs.SeenWords.{command_of};
 ghost use Rattle.command_line.specs.Words.{members_of, reading, HasTeams, NeedsNoFile};
 ghost use Rattle.answers.specs.SeenReply.{answer_of, Answers};
 ghost use Rattle.answers.specs.Stages.{IsWritten};
+ghost use Rattle.robinx_read.specs.declared.instance.TheConstants.{INSTANCE_LIMIT};
 ghost use Rattle.command_explain.specs.Parted.{parted};
 ghost use Rattle.command_show.specs.Demands.{demanded};
 ghost use Rattle.command_rows.specs.Rowed.{rowed, rows_answer};
@@ -16,6 +17,7 @@ ghost use Rattle.robin_run.specs.Ends.{EndsByWords};
 ghost use Rattle.robin_run.specs.Folded.{IsFolded};
 ghost use Rattle.robin_run.specs.Givens.{Gives};
 ghost use Rattle.robin_run.specs.Run.{Answered, run_of};
+ghost use Rattle.robin_run.specs.Taken.{most_taken};
 
 use crate::given::{Given, give};
 use answers::{NoValue, Reply, Status, write_answer};
@@ -27,7 +29,7 @@ use command_line::{Goal, Words, members, read_words};
 use command_make::{circle, make_league, trial};
 use command_patterns::patterns_file;
 use command_prove::prove_file;
-use command_resume::{Resumption, audit_file, resume_file};
+use command_resume::{NearResumption, Resumption, audit_file, resume_file, resume_near_file};
 use command_rows::{ReadyRows, rows_file, write_rows};
 use command_show::{Form, demands, show};
 use command_solve::{solve_file, solve_from_file};
@@ -47,6 +49,7 @@ fn part_of_list<S: Shelf>(
 ) -> Result<Reply, NoValue>
     ensures answer { Answers (parted (store_between S.Shelf shelf.old shelf.new)
         instance.now (members_of list.now)) result }
+    ensures taken { S.taken shelf.new ≤ S.taken shelf.old + (INSTANCE_LIMIT + 1) }
     ensures contents { (n : List ℕ) → S.contents shelf.new n ≡ S.contents shelf.old n }
 {
     let members = members(alloc, list)?;
@@ -62,6 +65,7 @@ fn demands_of_list<S: Shelf>(
 ) -> Result<Reply, NoValue>
     ensures answer { Answers (demanded (store_between S.Shelf shelf.old shelf.new)
         instance.now (option_map members_of (option_copied list.entry))) result }
+    ensures taken { S.taken shelf.new ≤ S.taken shelf.old + (INSTANCE_LIMIT + 1) }
     ensures contents { (n : List ℕ) → S.contents shelf.new n ≡ S.contents shelf.old n }
 {
     match list {
@@ -81,6 +85,7 @@ fn rows_of_file<S: Shelf>(
     goal: Goal,
 ) -> Result<Given, NoValue>
     ensures answer { Gives (rowed (store_between S.Shelf shelf.old shelf.new) instance.now goal) result }
+    ensures taken { S.taken shelf.new ≤ S.taken shelf.old + (INSTANCE_LIMIT + 1) }
     ensures contents { (n : List ℕ) → S.contents shelf.new n ≡ S.contents shelf.old n }
 {
     let ready = rows_file(alloc, shelf, instance, goal)?;
@@ -97,6 +102,7 @@ fn follow<S: Shelf, W: Listener>(
     requires { HasTeams (command_of command) }
     ensures answer { Gives (IsAnswer (W.may_stop watch.now) (Some (command_of command.entry))
         (store_between S.Shelf shelf.old shelf.new)) result }
+    ensures taken { S.taken shelf.new ≤ S.taken shelf.old + most_taken (Some (command_of command.entry)) }
     ensures contents { (n : List ℕ) → S.contents shelf.new n ≡ S.contents shelf.old n }
     ensures untouched { NeedsNoFile (Some (command_of command.entry)) → shelf.new ≡ shelf.old }
 {
@@ -145,6 +151,15 @@ fn follow<S: Shelf, W: Listener>(
             let resumption = Resumption { k, conflicts };
             give(resume_file(alloc, shelf, instance, solution, resumption, watch))
         }
+        Words::ResumeNear {
+            instance,
+            solution,
+            k,
+            budgets,
+        } => {
+            let resumption = NearResumption { k, budgets };
+            give(resume_near_file(alloc, shelf, instance, solution, resumption, watch))
+        }
         Words::Audit {
             instance,
             solution,
@@ -170,6 +185,7 @@ fn answer<S: Shelf, W: Listener>(
 ) -> Result<Given, NoValue>
     ensures answer { Gives (IsAnswer (W.may_stop watch.now) (reading (map string_bytes words.now))
         (store_between S.Shelf shelf.old shelf.new)) result }
+    ensures taken { S.taken shelf.new ≤ S.taken shelf.old + most_taken (reading (map string_bytes words.now)) }
     ensures contents { (n : List ℕ) → S.contents shelf.new n ≡ S.contents shelf.old n }
     ensures untouched { NeedsNoFile (reading (map string_bytes words.now)) → shelf.new ≡ shelf.old }
 {
@@ -241,6 +257,7 @@ fn write_given<K: Sink, T: Sink>(out: &mut K, told: &mut T, given: Result<Given,
 /// - `commands`: each command keeps what it promises. `specs/Commands.antt` has a field a command, and the command's own
 ///   file there has its sentences. Most of them are for a store that tells the bytes of the files. A store in memory
 ///   tells them, that of the machine doesn't.
+/// - `taken`: of each file that the words name, at most a byte more than its limit is taken.
 /// - `contents` and `untouched`: no file's contents change, and words that need no file leave the store alone.
 /// - `memory`: memory may run out at any time, and then nothing is written. Nothing is said of which files were read.
 pub fn run<S: Shelf, K: Sink, T: Sink, W: Listener>(
@@ -257,6 +274,7 @@ pub fn run<S: Shelf, K: Sink, T: Sink, W: Listener>(
         out.new result) }
     ensures commands { KeepsPromises (run_of S.Shelf K.Sink words.now (W.may_stop watch.now) shelf.old shelf.new out.old
         out.new result) }
+    ensures taken { S.taken shelf.new ≤ S.taken shelf.old + most_taken (reading (map string_bytes words.now)) }
     ensures contents { (n : List ℕ) → S.contents shelf.new n ≡ S.contents shelf.old n }
     ensures untouched { NeedsNoFile (reading (map string_bytes words.now)) → shelf.new ≡ shelf.old }
     ensures memory { result ≡ Status.Memory → Keeps (K.written out.old) (K.written out.new) }

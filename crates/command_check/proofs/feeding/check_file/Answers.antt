@@ -4,12 +4,16 @@ use Rattle.command_check.proofs.FeedingLemmas.{under_way-few, under_way-long, un
 use Rattle.command_check.proofs.feeding.check_file.Goals as goal
 
 pub pieces-init : goal.pieces-init
-pieces-init g c = record {
-  under_way = under_way-start _ _ _ _ c.args.feed.now c.args.checker.now c.in_ok-start.ensures.left c.in_ok-start.ensures.taken c.in_ok-start.ensures.last;
-  started = c.in_ok-start.ensures.started;
-  contents = c.in_ok-start.ensures.contents;
-  later = c.in_ok-start.ensures.cause.later;
-}
+pieces-init g c =
+    let begun = under_way-start _ _ _ _ c.args.feed.now c.args.checker.now c.in_ok-start.ensures.left c.in_ok-start.ensures.taken c.in_ok-start.ensures.last in
+    record {
+      under_way = begun;
+      taken = begun.taken;
+      within = begun.within;
+      started = c.in_ok-start.ensures.started;
+      contents = c.in_ok-start.ensures.contents;
+      later = c.in_ok-start.ensures.cause.later;
+    }
 
 -- the last piece is empty
 pub returns-then-count-eq0-clause-checked : goal.returns-then-count-eq0-clause-checked
@@ -41,13 +45,15 @@ overflow_add-steps g c =
 pub pieces-preserved : goal.pieces-preserved
 pieces-preserved g c =
     let within : c.pieces.bytes + c.in_ok-count.count ≤ most_log_bytes = omega (arith, c.pieces.invariant.under_way.within) in
+    let next = under_way-next (g.S.Shelf.contents c.args.shelf.now c.args.name.now) (g.S.Shelf.left c.pieces.shelf)
+    (g.S.Shelf.left c.take.new.self) (g.S.Shelf.taken c.args.shelf.now) (g.S.Shelf.taken c.pieces.shelf)
+    (g.S.Shelf.taken c.take.new.self) c.args.feed.now c.pieces.feed c.check_piece.new.feed c.args.checker.now
+    c.pieces.checker c.check_piece.new.checker c.pieces.steps c.in_ok-steps.field-0 c.pieces.bytes c.in_ok-count.count
+    c.take.new.room (drop c.min-most.result c.pieces.room) c.in_ok-count.ensures.count c.pieces.invariant.under_way c.in_ok-count.ensures.bytes c.in_ok-count.ensures.taken within c.in_ok-steps.ensures.checked c.in_ok-steps.ensures.line in
     record {
-      under_way = under_way-next (g.S.Shelf.contents c.args.shelf.now c.args.name.now) (g.S.Shelf.left c.pieces.shelf)
-          (g.S.Shelf.left c.take.new.self) (g.S.Shelf.taken c.args.shelf.now) (g.S.Shelf.taken c.pieces.shelf)
-          (g.S.Shelf.taken c.take.new.self) c.args.feed.now c.pieces.feed c.check_piece.new.feed c.args.checker.now
-          c.pieces.checker c.check_piece.new.checker c.pieces.steps c.in_ok-steps.field-0 c.pieces.bytes
-          c.in_ok-count.count
-          c.take.new.room (drop c.min-most.result c.pieces.room) c.in_ok-count.ensures.count c.pieces.invariant.under_way c.in_ok-count.ensures.bytes c.in_ok-count.ensures.taken within c.in_ok-steps.ensures.checked c.in_ok-steps.ensures.line;
+      under_way = next;
+      taken = next.taken;
+      within = next.within;
       started = c.in_ok-count.ensures.started;
       contents = λ n. c.in_ok-count.ensures.contents n ∙ c.pieces.invariant.contents n;
       later = λ n. omega (arith, c.in_ok-count.ensures.cause.later n, c.pieces.invariant.later n);

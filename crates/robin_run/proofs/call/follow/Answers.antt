@@ -10,6 +10,7 @@ use Rattle.command_explain.specs.Parted.{parted}
 use Rattle.command_patterns.specs.Patterns.{patterned}
 use Rattle.command_prove.specs.Prove.{proved}
 use Rattle.command_resume.specs.Audited.{audited}
+use Rattle.command_resume.specs.Near.{neared}
 use Rattle.command_resume.specs.Resumed.{resumed}
 use Rattle.command_show.specs.Demands.{demanded}
 use Rattle.command_show.specs.Show.{shown}
@@ -117,6 +118,14 @@ returns-in-Resume-clause-answer g c =
     (IsKeptTo c.in-Resume.conflicts (g.W.Watch.may_stop c.args.watch.now)))
     _ _ c.give-in-Resume.ensures c.resume_file.ensures.answer)
 
+pub returns-in-ResumeNear-clause-answer : goal.returns-in-ResumeNear-clause-answer
+returns-in-ResumeNear-clause-answer g c =
+    rw c.in-ResumeNear.is
+    (given-gives
+    (neared (store_between g.S.Shelf c.args.shelf.now c.resume_near_file.new.shelf) c.in-ResumeNear.instance.now c.in-ResumeNear.solution.now c.in-ResumeNear.k
+    (IsKeptTo c.in-ResumeNear.budgets.conflicts (g.W.Watch.may_stop c.args.watch.now)))
+    _ _ c.give-in-ResumeNear.ensures c.resume_near_file.ensures.answer)
+
 pub returns-in-Audit-clause-answer : goal.returns-in-Audit-clause-answer
 returns-in-Audit-clause-answer g c =
     rw c.in-Audit.is
@@ -143,3 +152,54 @@ returns-in-Rows-clause-answer g c = rw c.in-Rows.is c.rows_of_file.ensures.answe
 
 pub returns-in_ok-make_league-in-Make-clause-answer : goal.returns-in_ok-make_league-in-Make-clause-answer
 returns-in_ok-make_league-in-Make-clause-answer g c = rw c.in-Make.is c.in_ok-make_league-in-Make.ensures
+
+pub returns-in-Validate-clause-taken : goal.returns-in-Validate-clause-taken
+returns-in-Validate-clause-taken g c = rw c.in-Validate.is c.validate.ensures.taken
+
+pub returns-in-Show-clause-taken : goal.returns-in-Show-clause-taken
+returns-in-Show-clause-taken g c = rw c.in-Show.is c.show.ensures.taken
+
+pub returns-in-Demands-clause-taken : goal.returns-in-Demands-clause-taken
+returns-in-Demands-clause-taken g c = rw c.in-Demands.is c.demands_of_list.ensures.taken
+
+pub returns-in-Sheet-clause-taken : goal.returns-in-Sheet-clause-taken
+returns-in-Sheet-clause-taken g c = rw c.in-Sheet.is c.show-in-Sheet.ensures.taken
+
+pub returns-in-Check-clause-taken : goal.returns-in-Check-clause-taken
+returns-in-Check-clause-taken g c = rw c.in-Check.is c.check.ensures.taken
+
+pub returns-in-Solve-clause-taken : goal.returns-in-Solve-clause-taken
+returns-in-Solve-clause-taken g c = rw c.in-Solve.is c.solve_file.ensures.taken
+
+pub returns-in-SolveFrom-clause-taken : goal.returns-in-SolveFrom-clause-taken
+returns-in-SolveFrom-clause-taken g c = rw c.in-SolveFrom.is c.solve_from_file.ensures.taken
+
+pub returns-in-Patterns-clause-taken : goal.returns-in-Patterns-clause-taken
+returns-in-Patterns-clause-taken g c = rw c.in-Patterns.is c.patterns_file.ensures.taken
+
+pub returns-in-Explain-clause-taken : goal.returns-in-Explain-clause-taken
+returns-in-Explain-clause-taken g c = rw c.in-Explain.is c.explain_file.ensures.taken
+
+pub returns-in-Part-clause-taken : goal.returns-in-Part-clause-taken
+returns-in-Part-clause-taken g c = rw c.in-Part.is c.part_of_list.ensures.taken
+
+pub returns-in-Prove-clause-taken : goal.returns-in-Prove-clause-taken
+returns-in-Prove-clause-taken g c = rw c.in-Prove.is c.prove_file.ensures.taken
+
+pub returns-in-Bound-clause-taken : goal.returns-in-Bound-clause-taken
+returns-in-Bound-clause-taken g c = rw c.in-Bound.is c.bound_file.ensures.taken
+
+pub returns-in-Resume-clause-taken : goal.returns-in-Resume-clause-taken
+returns-in-Resume-clause-taken g c = rw c.in-Resume.is c.resume_file.ensures.taken
+
+pub returns-in-ResumeNear-clause-taken : goal.returns-in-ResumeNear-clause-taken
+returns-in-ResumeNear-clause-taken g c = rw c.in-ResumeNear.is c.resume_near_file.ensures.taken
+
+pub returns-in-Audit-clause-taken : goal.returns-in-Audit-clause-taken
+returns-in-Audit-clause-taken g c = rw c.in-Audit.is c.audit_file.ensures.taken
+
+pub returns-in-Rows-clause-taken : goal.returns-in-Rows-clause-taken
+returns-in-Rows-clause-taken g c = rw c.in-Rows.is c.rows_of_file.ensures.taken
+
+pub returns-in-Values-clause-taken : goal.returns-in-Values-clause-taken
+returns-in-Values-clause-taken g c = rw c.in-Values.is c.values_file.ensures.taken

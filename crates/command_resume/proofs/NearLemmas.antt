@@ -1,0 +1,141 @@
+-- What is found near the old plan, answered.
+use Rattle.std.proofs.Common.{◌≡◌, ℕ, ◌≤◌, true, List, [], ◌∷◌, ◌++◌, length, decimal, codes}
+use Rattle.std.proofs.Common.{Option, Some, Result, Ok, Err, ap, inl, inr, refl, ◌∙◌, append_assoc}
+use Rattle.std.specs.Prelude.{IfOk}
+use Rattle.std.specs.List.{All, flat_map, list_all}
+use Rattle.std.proofs.lemmas.Bool.{and_from}
+use Rattle.league.specs.Accepted.{IsAccepted}
+use Rattle.league.specs.Accepted as costs
+use Rattle.league.specs.Counts.{counts_of}
+use Rattle.league.specs.Instance.{Instance, IsGame, IsTeamCount}
+use Rattle.league.specs.declared.game.Game.{Game}
+use Rattle.robinx_tags.specs.Pieces.{pieces}
+use Rattle.robinx_form.specs.SolutionFile.{solution_of}
+use Rattle.robinx_form.specs.Texts.{solution_text}
+use Rattle.robinx_write.proofs.CommentLemmas.{comment_line, is_plain_comment, is_plain_comment-decimal}
+use Rattle.robinx_write.proofs.SolutionLemmas.{solution-reads_back_commented}
+use Rattle.solve.proofs.FewLemmas.{round_robin-few}
+use Rattle.encoding_base.specs.Variables.{var_count}
+use Rattle.answers.specs.SeenReply.{answer_of}
+use Rattle.answers.specs.declared.reply.Reply.{Reply}
+use Rattle.answers.specs.declared.status.Status.TheVariants.{Yes, Refuted, Spent}
+use Rattle.refutation.specs.Logs.{log_of}
+use Rattle.refutation.specs.Steps.{Step}
+use Rattle.refutation.specs.Texts.{log_text}
+use Rattle.clause_search.specs.Answers.{IsSpentAt}
+use Rattle.resume_rows.specs.Kept.{resume_rows}
+use Rattle.resume.specs.Answers.{IsResumedSeason, RefutesResuming}
+use Rattle.resume.specs.Near.{changed, open_games}
+use Rattle.resume.proofs.NearLemmas.{none-changed}
+use Rattle.command_resume.specs.Near.{IsNear, IsNearBy, near_line}
+
+-- ---- the comment is passed over
+
+abbrev near_body : ℕ → ℕ → List ℕ
+near_body changes games = codes " changed=" ++ (decimal changes ++ (codes " of=" ++ (decimal games ++ codes " ")))
+
+near-comment : (changes games : ℕ) → near_line changes games ≡ flat_map comment_line (near_body changes games ∷ [])
+near-comment changes games = simp append_assoc
+
+near-plain : (changes games : ℕ) → list_all is_plain_comment (near_body changes games ∷ []) ≡ true
+near-plain changes games =
+    let end : List ℕ = decimal games ++ codes " " in
+    and_from (is_plain_comment (near_body changes games)) true
+    (is_plain_comment-decimal changes (codes " of=" ++ end) (is_plain_comment-decimal games (codes " ") refl)) refl
+
+near-reads_back : (n : ℕ) (games : List Game) (cost changes all : ℕ) → n ≤ 40 → length games ≤ 10000
+    → All (IsGame n) games
+    → solution_of n (pieces (solution_text games (Some (0, cost)) ++ near_line changes all)) ≡ Ok games
+near-reads_back n games cost changes all size few fit =
+    ap (λ (comments : List ℕ). solution_of n (pieces (solution_text games (Some (0, cost)) ++ comments)))
+    (near-comment changes all)
+    ∙ solution-reads_back_commented n games (Some (0, cost)) (near_body changes all ∷ []) size few fit
+    (near-plain changes all)
+
+-- ---- replies, unless memory ran out
+
+pub near-season : {E : Type 0} (league : Instance) (played : List Game) (k : ℕ) (conflicts : Option ℕ)
+    (games : List Game) (cost : ℕ) (result : Result Reply E) → IsTeamCount league.n
+    → IsResumedSeason league played k games cost
+    → (IsAccepted league (counts_of played) → counts_of games ≡ counts_of played)
+    → IfOk result (λ reply. (answer_of reply).status ≡ Yes)
+    → IfOk result (λ reply. (answer_of reply).text
+    ≡ solution_text games (Some (0, cost)) ++ near_line (changed k played games) (open_games k played))
+    → IfOk result (λ reply. IsNear league played k conflicts (answer_of reply))
+near-season {E} league played k conflicts games cost (Ok reply) teams season plan status text =
+    let line : List ℕ = near_line (changed k played games) (open_games k played) in
+    let told : (answer_of reply).text ≡ solution_text games (Some (0, costs.objective league (counts_of games))) ++ line =
+    text ∙ ap (λ (c : ℕ). solution_text games (Some (0, c)) ++ line) season.cost in
+    record {
+      found = inl (record {
+        games = games;
+        season = record {
+          resumes = season.resumes;
+          fit = season.fit;
+          in_order = season.in_order;
+          cost = refl;
+        };
+        status = status;
+        text = told;
+        reads_back = ap (λ (written : List ℕ). solution_of league.n (pieces written)) text
+            ∙ near-reads_back league.n games cost (changed k played games) (open_games k played) teams.at_most
+            (round_robin-few league.n league.phased games teams season.fit season.resumes.accepted.round_robin) season.fit;
+      });
+      plan = λ accepted. record {
+        games = games;
+        same = plan accepted;
+        in_order = season.in_order;
+        status = status;
+        text = told
+            ∙ ap
+            (λ (c : ℕ). solution_text games (Some (0, costs.objective league (counts_of games)))
+            ++ near_line c (open_games k played))
+            (none-changed k played games (plan accepted));
+      };
+    }
+near-season {E} league played k conflicts games cost (Err error) teams season plan status text = tt
+
+pub near-excluded : {E : Type 0} (league : Instance) (played : List Game) (k : ℕ) (conflicts : Option ℕ)
+    (steps : List Step) (result : Result Reply E) → RefutesResuming league played k conflicts steps
+    → (IsAccepted league (counts_of played) → ⊥) → IfOk result (λ reply. (answer_of reply).status ≡ Refuted)
+    → IfOk result (λ reply. (answer_of reply).text ≡ log_text steps)
+    → IfOk result (λ reply. log_of (answer_of reply).text ≡ Ok steps)
+    → IfOk result (λ reply. IsNear league played k conflicts (answer_of reply))
+near-excluded {E} league played k conflicts steps (Ok reply) refutes no_plan status text reads_back = record {
+  found = inr (inl (record {
+    steps = steps;
+    refutes = refutes;
+    status = status;
+    text = text;
+    reads_back = reads_back;
+  }));
+  plan = λ accepted. absurd (no_plan accepted);
+}
+near-excluded {E} league played k conflicts steps (Err error) refutes no_plan status text reads_back = tt
+
+pub near-spent : {E : Type 0} (league : Instance) (played : List Game) (k : ℕ) (conflicts : Option ℕ)
+    (steps : List Step) (result : Result Reply E)
+    → IsSpentAt (resume_rows league (counts_of played) k) (var_count league) conflicts steps
+    → (IsAccepted league (counts_of played) → ⊥) → IfOk result (λ reply. (answer_of reply).status ≡ Spent)
+    → IfOk result (λ reply. (answer_of reply).text ≡ log_text steps)
+    → IfOk result (λ reply. log_of (answer_of reply).text ≡ Ok steps)
+    → IfOk result (λ reply. IsNear league played k conflicts (answer_of reply))
+near-spent {E} league played k conflicts steps (Ok reply) spent no_plan status text reads_back = record {
+  found = inr (inr (record {
+    steps = steps;
+    spent = spent;
+    status = status;
+    text = text;
+    reads_back = reads_back;
+  }));
+  plan = λ accepted. absurd (no_plan accepted);
+}
+near-spent {E} league played k conflicts steps (Err error) spent no_plan status text reads_back = tt
+
+-- a reply within the limit to which the search kept
+pub near-by : {E : Type 0} (league : Instance) (played : List Game) (k : ℕ) (limits : Option ℕ → Type 0)
+    (result : Result Reply E) (conflicts : Option ℕ) → limits conflicts
+    → IfOk result (λ reply. IsNear league played k conflicts (answer_of reply))
+    → IfOk result (λ reply. IsNearBy league played k limits (answer_of reply))
+near-by league played k limits (Ok reply) conflicts is found = (conflicts, is, found)
+near-by league played k limits (Err error) conflicts is found = tt

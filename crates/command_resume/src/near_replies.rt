@@ -1,0 +1,89 @@
+//! The answers of `resume --near`.
+ghost use Rattle.std.specs.Prelude.{◌≡◌, ◌++◌, ℕ, IfOk, Option, Some, string_bytes};
+ghost use Rattle.league.specs.Accepted.{IsAccepted};
+ghost use Rattle.league.specs.Counts.{counts_of};
+ghost use Rattle.robinx_form.specs.Texts as solutions;
+ghost use Rattle.answers.specs.SeenReply.{answer_of};
+ghost use Rattle.answers.specs.declared.status.Status.TheVariants.{Yes};
+ghost use Rattle.resume.specs.Answers.{IsPlan, IsResumed};
+ghost use Rattle.resume.specs.Near as changes;
+ghost use Rattle.command_resume.specs.Near as near;
+ghost use Rattle.command_resume.specs.Near.{IsNear};
+
+use crate::replies::log_reply;
+use answers::{Reply, Status};
+use league::{League, Schedule};
+use resume::{Resumed, changed_games, open_games};
+use robinx_write::solution_text;
+use std::alloc::{AllocError, Global};
+
+/// The comment that says how many games are changed, of how many that are still to come.
+fn near_line(alloc: Global, changed: usize, games: usize) -> Result<String, AllocError>
+    ensures { IfOk result (λ line. string_bytes line ≡ near.near_line changed games) }
+{
+    format!(in alloc; "<!-- changed={changed} of={games} -->\n")
+}
+
+/// The text of a schedule with its objective, and that comment behind it.
+fn near_text(
+    alloc: Global,
+    schedule: &Schedule,
+    objective: u128,
+    changed: usize,
+    games: usize,
+) -> Result<Vec<u8>, AllocError>
+    ensures { IfOk result (λ text. text.items
+        ≡ solutions.solution_text schedule.now (Some (0, objective)) ++ near.near_line changed games) }
+{
+    let mut text = solution_text(alloc, schedule, Some((0, objective)))?;
+    let line = near_line(alloc, changed, games)?;
+    text.extend_from_slice(line.as_bytes())?;
+    Ok(text)
+}
+
+/// A schedule that is accepted, with its objective, and how many games to come it changes.
+fn schedule_reply(
+    alloc: Global,
+    played: &Schedule,
+    k: u16,
+    schedule: &Schedule,
+    objective: u128,
+) -> Result<Reply, AllocError>
+    ensures status { IfOk result (λ reply. (answer_of reply).status ≡ Yes) }
+    ensures text { IfOk result (λ reply. (answer_of reply).text
+        ≡ solutions.solution_text schedule.now (Some (0, objective))
+        ++ near.near_line (changes.changed k played.now schedule.now) (changes.open_games k played.now)) }
+{
+    let changed = changed_games(played.games(), k, schedule.games());
+    let games = open_games(played.games(), k);
+    let text = near_text(alloc, schedule, objective, changed, games)?;
+    Ok(Reply {
+        status: Status::Yes,
+        text,
+    })
+}
+
+/// What is found near the old plan, whatever the budget within which it was found.
+pub(crate) fn near_reply(
+    alloc: Global,
+    league: &League,
+    played: &Schedule,
+    k: u16,
+    resumed: &Resumed,
+) -> Result<Reply, AllocError>
+    requires resumed { (conflicts : Option ℕ) × IsResumed league.now played.now k conflicts resumed.now }
+    requires plan { IsAccepted league.now (counts_of played.now) → IsPlan played.now resumed.now }
+    ensures { (conflicts : Option ℕ) → IsResumed league.now played.now k conflicts resumed.now
+        → IfOk result (λ reply. IsNear league.now played.now k conflicts (answer_of reply)) }
+{
+    // For its contract: the variables of a league are few, and so are the games of a season.
+    let _n = league.n();
+    match resumed {
+        Resumed::Schedule {
+            schedule,
+            objective,
+        } => schedule_reply(alloc, played, k, schedule, *objective),
+        Resumed::Refuted { log } => log_reply(alloc, Status::Refuted, log),
+        Resumed::Spent { log } => log_reply(alloc, Status::Spent, log),
+    }
+}

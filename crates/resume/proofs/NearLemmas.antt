@@ -1,0 +1,94 @@
+-- Changed games, counted.
+use Rattle.std.proofs.Common.{◌≡◌, ℕ, ◌+◌, Bool, true, false, not, ◌&&◌, ◌||◌, ◌==◌, nat_lt}
+use Rattle.std.proofs.Common.{List, [], ◌∷◌, ap, inl, inr, refl, sym, ◌∙◌, arith}
+use Rattle.std.specs.List.{All, count_by, list_any}
+use Rattle.std.proofs.lemmas.Bool.Decides.{nat_tests}
+use Rattle.std.proofs.lemmas.List.Elements.{All-cons, All-head, All-nil, All-tail, All-weaker}
+use Rattle.std.proofs.lemmas.List.Sums.{sum_by-cons}
+use Rattle.league.specs.Counts.{Counts, counts_of, is_game}
+use Rattle.league.specs.declared.game.Game.{Game}
+use Rattle.league.proofs.RangeLemmas.{one_if}
+use Rattle.resume_rows.specs.Kept.{is_played}
+use Rattle.resume.specs.Near.{IsAtMost, changed, is_changed, is_open}
+
+-- a list counts one more for an element that passes, and else as much
+count-here : {X : Type 0} (p : X → Bool) (x : X) (xs : List X) → p x ≡ true
+    → count_by p (x ∷ xs) ≡ 1 + count_by p xs
+count-here p x xs is =
+    let total : count_by p (x ∷ xs) ≡ one_if (p x) + count_by p xs = sum_by-cons (λ y. one_if (p y)) x xs in
+    let one : one_if (p x) ≡ 1 = rw is refl in
+    omega (arith, total, one)
+
+count-there : {X : Type 0} (p : X → Bool) (x : X) (xs : List X) → p x ≡ false
+    → count_by p (x ∷ xs) ≡ count_by p xs
+count-there p x xs is =
+    let total : count_by p (x ∷ xs) ≡ one_if (p x) + count_by p xs = sum_by-cons (λ y. one_if (p y)) x xs in
+    let none : one_if (p x) ≡ 0 = rw is refl in
+    omega (arith, total, none)
+
+above : (c d : ℕ) → c ≡ 1 + d → nat_lt 0 c ≡ true
+above c d is = grind (arith, nat_tests)
+
+-- some element passes a test exactly where more than none do
+pub any-counted : {X : Type 0} (p : X → Bool) (xs : List X) → list_any p xs ≡ nat_lt 0 (count_by p xs)
+any-counted p [] = refl
+any-counted {X} p (x ∷ xs) = by (p x) refl (any-counted p xs) where
+  by : (b : Bool) → p x ≡ b → list_any p xs ≡ nat_lt 0 (count_by p xs)
+      → list_any p (x ∷ xs) ≡ nat_lt 0 (count_by p (x ∷ xs))
+  by true is rest =
+      let here : list_any p (x ∷ xs) ≡ true = ap (λ (b : Bool). b || list_any p xs) is in
+      here ∙ sym (above (count_by p (x ∷ xs)) (count_by p xs) (count-here p x xs is))
+  by false is rest =
+      let later : list_any p (x ∷ xs) ≡ list_any p xs = ap (λ (b : Bool). b || list_any p xs) is in
+      later ∙ rest ∙ sym (ap (λ (c : ℕ). nat_lt 0 c) (count-there p x xs is))
+
+-- where no element passes, none is counted
+pub none-counted : {X : Type 0} (p : X → Bool) (xs : List X) → All (λ x. p x ≡ false) xs → count_by p xs ≡ 0
+none-counted p [] none = refl
+none-counted p (x ∷ xs) none =
+    count-there p x xs (All-head (λ y. p y ≡ false) x xs none)
+    ∙ none-counted p xs (All-tail (λ y. p y ≡ false) x xs none)
+
+either : (a b : Bool) → b ≡ true → (a || b) ≡ true
+either true b is = refl
+either false b is = is
+
+-- each element of a list is found in it
+pub all-found : {X : Type 0} (same : X → X → Bool) → ((x : X) → same x x ≡ true) → (xs : List X)
+    → All (λ x. list_any (same x) xs ≡ true) xs
+all-found same itself [] = All-nil (λ x. list_any (same x) [] ≡ true)
+all-found same itself (x ∷ xs) =
+    All-cons (λ y. list_any (same y) (x ∷ xs) ≡ true) x xs (ap (λ (b : Bool). b || list_any (same x) xs) (itself x))
+    (All-weaker (λ y. list_any (same y) xs ≡ true) (λ y. list_any (same y) (x ∷ xs) ≡ true)
+    (λ y found. either (same y x) (list_any (same y) xs) found) xs (all-found same itself xs))
+
+-- ---- games
+
+same_game : (h w t : ℕ) → ((h == h) && (w == w) && (t == t)) ≡ true
+same_game h w t = grind (arith, nat_tests)
+
+stays : (later : Bool) (here : Bool) → here ≡ true → (later && not here) ≡ false
+stays true true is = refl
+stays false true is = refl
+stays later false is = absurd (let no : false ≡ true = is in cc)
+
+-- where the same games take place, none is changed
+pub none-changed : (k : ℕ) (old games : List Game) → counts_of games ≡ counts_of old → changed k old games ≡ 0
+none-changed k old games same =
+    none-counted (is_changed k (counts_of games)) old
+    (All-weaker (λ g. list_any (is_game g.home.0 g.away.0 g.slot.0) old ≡ true)
+    (λ g. is_changed k (counts_of games) g ≡ false)
+    (λ g found. stays (is_open k g) (is_played (counts_of games) g.home.0 g.away.0 g.slot.0)
+    (ap (λ (m : Counts). is_played m g.home.0 g.away.0 g.slot.0) same
+    ∙ sym (any-counted (is_game g.home.0 g.away.0 g.slot.0) old) ∙ found))
+    old (all-found (λ g. is_game g.home.0 g.away.0 g.slot.0) (λ g. same_game g.home.0 g.away.0 g.slot.0) old))
+
+-- ---- which of two seasons is nearer
+
+pub at-most : (after before cost first : ℕ)
+    → (nat_lt after before || ((after == before) && nat_lt cost first)) ≡ true → IsAtMost after cost before first
+at-most after before cost first some = by (nat_lt after before) refl some where
+  by : (fewer : Bool) → nat_lt after before ≡ fewer → (fewer || ((after == before) && nat_lt cost first)) ≡ true
+      → IsAtMost after cost before first
+  by true is some = inl (grind (arith, nat_tests))
+  by false is some = inr (grind (arith, nat_tests), grind (arith, nat_tests))

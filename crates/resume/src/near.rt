@@ -1,0 +1,232 @@
+//! A season resumed that changes little of the old plan.
+ghost use Rattle.std.specs.Prelude.{◌≡◌, ◌==◌, ◌≤◌, ◌↔◌, ◌⊎◌, ◌||◌, ◌&&◌, ℕ, nat_lt, length, Option, IfOk, IfSome, IsTrue};
+ghost use Rattle.std.specs.List.{All};
+ghost use Rattle.encoding.specs.Capped.{capped};
+ghost use Rattle.encoding.specs.Limit.{KeepsLimit};
+ghost use Rattle.league.specs.Accepted.{IsAccepted};
+ghost use Rattle.league.specs.Counts as counts;
+ghost use Rattle.league.specs.Counts.{counts_of};
+ghost use Rattle.league.specs.Instance.{Instance, IsGame};
+ghost use Rattle.league.specs.Structure.{IsRoundRobin};
+ghost use Rattle.resume_rows.specs.Kept as kept;
+ghost use Rattle.resume.specs.Answers.{IsPlan, IsResumed, IsResumedBy, IsResumedSeason};
+ghost use Rattle.resume.specs.Near.{IsAtMost, IsNoFarther, changed};
+ghost use Rattle.robin_watch.specs.Limits.{IsKeptTo};
+ghost use Rattle.budgets.specs.declared.budgets.Budgets.{Budgets};
+ghost use Rattle.solve.specs.Solutions.{IsSolution};
+
+use crate::changed::changed_games;
+use crate::fixed::near_league;
+use crate::lower::{Season, judged};
+use crate::merge::merged;
+use crate::unheard::Unheard;
+use crate::{Resumed, resume_lowered};
+use budgets::Budgets;
+use deviation::assess;
+use encoding::EncodeFault;
+use league::{League, Schedule, structure};
+use robin_watch::Watch;
+use solve::{Solved, solve_from};
+use std::alloc::{AllocError, Global};
+
+/// Resumes a season as `resume_lowered` does, and near the old plan. Unless the league accepts that, or the search
+/// refutes, `solve_from` goes from the old plan too, where that is a double round robin, over a league that asks for
+/// the played games and, at a penalty, for those of the old plan. Of both seasons the one is the answer that changes
+/// fewer games, and of equal ones the one that costs less. The watch may end all of it.
+///
+/// # Errors
+/// As `resume`.
+pub fn resume_near<W: Watch>(
+    alloc: Global,
+    league: &League,
+    played: &Schedule,
+    k: u16,
+    budgets: Budgets,
+    watch: &W,
+) -> Result<Resumed, EncodeFault>
+    requires few { length played.now ≤ 10000 }
+    requires fit { All (IsGame league.now.n) played.now }
+    requires slots { k ≤ counts.slot_count league.now.n }
+    ensures limit { KeepsLimit (kept.resume_size league.now k) (capped (kept.resume_size league.now k)) result }
+    ensures answer { IfOk result (IsResumedBy league.now played.now k
+        (IsKeptTo budgets.conflicts (W.may_stop watch.now))) }
+
+    // Where the league accepts what `played` has, the answer is a schedule of the same games.
+    ensures plan { IsAccepted league.now (counts_of played.now) → IfOk result (IsPlan played.now) }
+{
+    let resumed = resume_lowered(alloc, league, played, k, budgets.conflicts, watch)?;
+    if matches!(resumed, Resumed::Refuted { .. }) || is_accepted(alloc, league, played)? {
+        return Ok(resumed);
+    }
+    let near = near_season(alloc, league, played, k, budgets, watch)?;
+    Ok(nearer(played, k, resumed, near))
+}
+
+/// Whether the league accepts a schedule.
+///
+/// # Errors
+/// Only where memory runs out.
+fn is_accepted(alloc: Global, league: &League, schedule: &Schedule) -> Result<bool, AllocError>
+    requires few { length schedule.now ≤ 10000 }
+    requires fit { All (IsGame league.now.n) schedule.now }
+    ensures { IfOk result (λ is. IsTrue is ↔ IsAccepted league.now (counts_of schedule.now)) }
+{
+    let assessment = assess(alloc, league, schedule)?;
+    Ok(assessment.feasible)
+}
+
+/// A season near the old plan that the league accepts and that keeps the played games, where the old plan is a double
+/// round robin and one is found from there.
+///
+/// # Errors
+/// Only where memory runs out.
+fn near_season<W: Watch>(
+    alloc: Global,
+    league: &League,
+    played: &Schedule,
+    k: u16,
+    budgets: Budgets,
+    watch: &W,
+) -> Result<Option<Season>, AllocError>
+    requires few { length played.now ≤ 10000 }
+    requires fit { All (IsGame league.now.n) played.now }
+    ensures { IfOk result (λ near. IfSome near (λ season.
+        IsResumedSeason league.now played.now k season.schedule season.objective)) }
+{
+    if !is_round_robin(league, played) {
+        return Ok(None);
+    }
+    let made = near_league(alloc, league, played, k)?;
+    let Some(near) = made else {
+        return Ok(None);
+    };
+    let found = solved_near(alloc, &near, played, budgets, watch)?;
+    let Some(end) = found else {
+        return Ok(None);
+    };
+    let schedule = merged(alloc, played, &end, k)?;
+    judged(alloc, league, played, k, schedule)
+}
+
+/// Whether a schedule is a double round robin of the league.
+fn is_round_robin(league: &League, schedule: &Schedule) -> bool
+    requires few { length schedule.now ≤ 10000 }
+    requires fit { All (IsGame league.now.n) schedule.now }
+    ensures { IsTrue result ↔ IsRoundRobin league.now.n league.now.phased (counts_of schedule.now) }
+{
+    let wrongs = structure(league, schedule);
+    wrongs.pairs_wrong == 0 && wrongs.cells_wrong == 0 && wrongs.phases_wrong == 0
+}
+
+/// The schedule that `solve_from` finds, if any, over a league of which the watch hears no season.
+///
+/// # Errors
+/// Only where memory runs out.
+fn solved_near<W: Watch>(
+    alloc: Global,
+    league: &League,
+    start: &Schedule,
+    budgets: Budgets,
+    watch: &W,
+) -> Result<Option<Schedule>, AllocError>
+    requires fit { All (IsGame league.now.n) start.now }
+    requires round_robin { IsRoundRobin league.now.n league.now.phased (counts_of start.now) }
+    ensures { IfOk result (λ found. IfSome found (All (IsGame league.now.n))) }
+{
+    let unheard = Unheard { watch };
+    match solve_from(alloc, league, start, budgets, &unheard) {
+        Ok(solved) => Ok(schedule_of(solved)),
+        Err(EncodeFault::TooLarge { .. }) => Ok(None),
+        Err(EncodeFault::Mem) => Err(AllocError),
+    }
+}
+
+/// The schedule of an answer, if it has one.
+fn schedule_of(solved: Solved) -> Option<Schedule>
+    ensures { (league : Instance) (budgets : Budgets) → IsSolution league budgets solved
+        → IfSome result (All (IsGame league.n)) }
+{
+    match solved {
+        Solved::Schedule {
+            schedule,
+            objective: _,
+            descent: _,
+        } => Some(schedule),
+        Solved::Refuted(_) => None,
+        Solved::Spent {
+            log: _,
+            patterns: _,
+        } => None,
+    }
+}
+
+/// The nearer one of an answer and a season near the old plan.
+fn nearer(played: &Schedule, k: u16, resumed: Resumed, near: Option<Season>) -> Resumed
+    ensures answer { (league : Instance) (conflicts : Option ℕ) → IsResumed league played.now k conflicts resumed
+        → IfSome near (λ season. IsResumedSeason league played.now k season.schedule season.objective)
+        → IsResumed league played.now k conflicts result }
+    ensures no_farther { IsNoFarther k played.now resumed result }
+{
+    let Some(season) = near else {
+        return resumed;
+    };
+    match resumed {
+        Resumed::Schedule {
+            schedule,
+            objective,
+        } => {
+            let first = Season {
+                schedule,
+                objective,
+            };
+            schedule_resumed(nearer_season(played, k, first, season))
+        }
+        Resumed::Refuted { log } => Resumed::Refuted { log },
+        Resumed::Spent { log: _ } => schedule_resumed(season),
+    }
+}
+
+/// A season as an answer.
+fn schedule_resumed(season: Season) -> Resumed
+    ensures { result ≡ Resumed.Schedule season.schedule season.objective }
+{
+    let Season {
+        schedule,
+        objective,
+    } = season;
+    Resumed::Schedule {
+        schedule,
+        objective,
+    }
+}
+
+/// The one of two seasons that changes fewer games of the old plan; of equal ones the one that costs less, and else the
+/// first.
+fn nearer_season(played: &Schedule, k: u16, first: Season, second: Season) -> Season
+    ensures one { (result ≡ first) ⊎ (result ≡ second) }
+    ensures at_most { IsAtMost (changed k played.now result.schedule) result.objective
+        (changed k played.now first.schedule) first.objective }
+{
+    if is_nearer(played, k, &first, &second) {
+        second
+    } else {
+        first
+    }
+}
+
+/// Whether a second season changes fewer games of the old plan than a first, or as many and costs less.
+fn is_nearer(played: &Schedule, k: u16, first: &Season, second: &Season) -> bool
+    ensures { IsTrue result → IsAtMost (changed k played.now second.now.schedule) second.now.objective
+        (changed k played.now first.now.schedule) first.now.objective }
+{
+    let before = changed_games(played.games(), k, first.schedule.games());
+    let after = changed_games(played.games(), k, second.schedule.games());
+    is_less(after, before, second.objective, first.objective)
+}
+
+/// Whether so many changed games are fewer than before, or as many at a lower cost.
+fn is_less(after: usize, before: usize, cost: u128, first: u128) -> bool
+    ensures { result ≡ (nat_lt after before || ((after == before) && nat_lt cost first)) }
+{
+    after < before || (after == before && cost < first)
+}
