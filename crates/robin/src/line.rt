@@ -51,6 +51,22 @@ fn file_of(arguments: &[String], option: Own) -> Result<Option<&str>, WordsFault
     })
 }
 
+/// Whether nothing is to be told of how the run goes.
+fn quiet_of(arguments: &[String]) -> Result<bool, WordsFault> {
+    match arguments
+        .iter()
+        .filter(|word| is_quiet(word.as_str()))
+        .count()
+    {
+        0 => Ok(false),
+        1 => Ok(true),
+        _ => Err(WordsFault::Wrong {
+            option: "--quiet",
+            fault: " stands more than once",
+        }),
+    }
+}
+
 /// A word, and others behind it.
 fn joined(alloc: Global, first: &str, mut rest: Vec<String>) -> Result<Vec<String>, AllocError> {
     let mut words = Vec::new(alloc);
@@ -86,7 +102,7 @@ fn command_words(
 pub(crate) fn line_of(alloc: Global, arguments: &[String]) -> Result<Line<'_>, WordsFault> {
     let out = file_of(arguments, Own::Out)?;
     let log = file_of(arguments, Own::Log)?;
-    let quiet = arguments.iter().any(|word| is_quiet(word.as_str()));
+    let quiet = quiet_of(arguments)?;
     let left = left_words(alloc, arguments)?;
     let (words, command) = command_words(alloc, &left)?;
     Ok(Line {

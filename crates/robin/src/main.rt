@@ -4,9 +4,11 @@
 
 mod kept;
 mod line;
+mod streams;
 
 use crate::kept::run_kept;
 use crate::line::{WordsFault, line_of};
+use crate::streams::{ERRORS, INPUT, OUTPUT, stand_in};
 use answers::{Status, code};
 use robin_io::{HostSink, put_all};
 use std::process::ExitCode;
@@ -83,6 +85,10 @@ fn status_of(rt: &HostRuntime, arguments: &[String]) -> u8 {
 }
 
 fn main(rt: HostRuntime) -> ExitCode {
+    // What stands in for closed streams is held to the end.
+    let _input = stand_in(&rt, INPUT);
+    let _output = stand_in(&rt, OUTPUT);
+    let _errors = stand_in(&rt, ERRORS);
     match arguments_of(&rt) {
         Ok(arguments) => ExitCode::from(status_of(&rt, &arguments)),
         Err(status) => {

@@ -34,12 +34,19 @@ pub struct Draft<'a, R: Files> {
     reason: &'static str,
 }
 
+/// Whether this user may write a file that is there.
+fn is_writable<R: Files>(rt: &R, target: &str, found: &Metadata) -> bool {
+    let mut how = OpenOptions::new();
+    how.write(true);
+    !found.permissions().readonly() && how.open(rt, target).is_ok()
+}
+
 /// What stands where a text is to be put: nothing, or a file that may be replaced.
 fn look<R: Files>(rt: &R, target: &str) -> Result<Option<Metadata>, &'static str> {
     match fs::symlink_metadata(rt, target) {
         Ok(found) if found.is_dir() => Err("it is a folder"),
         Ok(found) if !found.is_file() => Err("it is a link or a device, and no plain file"),
-        Ok(found) if found.permissions().readonly() => Err("it may not be written"),
+        Ok(found) if !is_writable(rt, target, &found) => Err("it may not be written"),
         Ok(found) => Ok(Some(found)),
         Err(error) if error.kind() == io::ErrorKind::NotFound => Ok(None),
         Err(error) => Err(reason_of(&error)),
