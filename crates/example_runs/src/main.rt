@@ -2,42 +2,63 @@
 //!
 //! A line of standard input is the words of a command, one space between two; an empty line has no words. It is run
 //! over the files of the folder `data`, and the transcript has the command, its text, its exit status and what a person
-//! is told beside it. `COMMAND > NAME` shows the status alone and keeps the text, which later lines name as a file.
-//! `COMMAND | N` shows the first N lines and the status, `COMMAND | words` the lines that begin with a small letter.
-//! `cut NAME after FIRST to LAST > PIECE` keeps the lines of a kept text behind the first that begins with FIRST, up to
-//! the next that begins with LAST. Behind `solve`, `| judged` shows what the answer comes to where `validate` or
-//! `check` looks at it, and `| true` only that it is what its status says. Behind `prove`, `| least` goes on from each
-//! better season to the least objective. A line that begins with `# ` is a title.
+//! is told beside it. A line that begins with `# ` is a title.
 //!
-//! After the lines come what files can't show: devices that fail, files beyond their limits, every front of a file,
-//! made leagues that are read back, plans before they are made better, and the texts that no command writes.
+//! What is shown of an answer:
+//! - `COMMAND > NAME` shows the status alone and writes the text into a file, which later lines name.
+//! - `COMMAND | N` shows the first N lines and the status, `COMMAND | words` the lines that begin with a small letter,
+//!   `COMMAND | lines` how many lines there are.
+//! - Behind `solve`, `| judged` shows what the answer comes to where `validate` or `check` looks at it, and `| true`
+//!   only that it is what its status says. Behind `prove`, `| least` goes on from each better season to the least
+//!   objective.
+//! - `COMMAND @ CALL` runs the command over a store in memory that fails at this call. `COMMAND @ 0 PUT PIECE` writes
+//!   into a sink that fails at this put and takes at most so many bytes a put.
+//! - `fronts LEAGUE SEASON` shows what `validate` answers to each front of the league's file.
+//! - `first-plan LEAGUE` shows the plan that `resume` finds before it is made better.
+//!
+//! Files that lines make of others:
+//! - `join A N*B C > NAME`: texts one behind the other, a text with a number so many times.
+//! - `cut NAME after FIRST to LAST > PIECE`: the lines of a text behind the first with FIRST, up to the next
+//!   that ends with LAST.
+//!
+//! After the lines comes what no command shows: the bytes of a counter of steps, and a season with its score.
 #![tactic(auto)]
 
-mod devices;
-mod judged;
-mod kept;
-mod least;
-mod limits;
-mod made;
+mod answered;
+mod ended;
+mod files;
+mod line;
 mod plans;
-mod session;
-mod table;
-mod writing;
 
-use kept::Kept;
+use league::{Game, Schedule, SlotId, TeamId};
+use robinx_write::solution_text;
 use std::io;
-use table::follow;
+use std::mem::size_of;
+use steps::{Plain, Steps};
 
-/// Runs the commands of standard input, and then the other examples.
+/// Follows the lines of standard input, and then shows the other examples.
 fn main(rt: HostRuntime) -> io::Result<()> {
-    let mut kept = Kept::new(rt.alloc());
     for line in rt.lines(rt.alloc()) {
-        let line = line?;
-        follow(&rt, &mut kept, line.as_str())?;
+        line::follow(&rt, line?.as_str())?;
     }
-    devices::show(&rt)?;
-    limits::show(&rt)?;
-    made::show(&rt)?;
-    plans::show(&rt)?;
-    writing::show(&rt)
+    println!(rt;
+        "bytes of a counter of steps: {}",
+        size_of::<Steps<Plain>>()
+    )?;
+    show_scored(&rt)
+}
+
+/// Shows a season of two games of forty teams, not in order, with a score that needs 128 bits.
+fn show_scored(rt: &(impl AllocGlobal + Print)) -> io::Result<()> {
+    let mut season = Schedule::new(rt.alloc());
+    for (home, away, slot) in [(39, 0, 77), (1, 2, 0)] {
+        season.push(Game {
+            home: TeamId(home),
+            away: TeamId(away),
+            slot: SlotId(slot),
+        })?;
+    }
+    let text = solution_text(rt.alloc(), &season, Some((3, u128::MAX)))?;
+    let text = str::from_utf8(&text).unwrap_or("no text");
+    print!(rt; "a season with its score\n{text}")
 }

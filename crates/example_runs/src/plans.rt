@@ -1,77 +1,55 @@
 //! The plans that the search of `resume` finds before they are made better: near the old plan.
-ghost use Rattle.std.specs.Prelude.{◌≤◌, length};
-ghost use Rattle.std.specs.List.{All};
-ghost use Rattle.league.specs.Instance.{IsGame};
-
-use crate::session::bytes_of;
 use league::{League, Schedule, slot_count};
 use resume::{Resumed, resume};
+use robin_io::{HostShelf, read_all};
 use robin_watch::Unwatched;
-use robinx_read::{SOLUTION_LIMIT, read_instance, read_solution};
+use robinx_read::{INSTANCE_LIMIT, SOLUTION_LIMIT, read_instance, read_solution};
 use std::io;
 use std::rt::Files;
 
-/// Leagues of four teams, each resumed from `four-teams-season.xml` where two slots are played.
-const LEAGUES: [&str; 3] = [
-    "home-games-last-two-wishes.xml",
-    "home-games-last-wishes.xml",
-    "two-wishes.xml",
-];
+/// The file of the season.
+const SEASON: &str = "four-teams-season.xml";
 
 /// How many slots are played.
 const PLAYED: u16 = 2;
 
-/// Shows the objective of the plan that is found for each league, and its games in the played slots.
-pub fn show(rt: &(impl AllocGlobal + Files + Print)) -> io::Result<()> {
-    println!(rt; "plans that aren't made better")?;
-    for name in &LEAGUES {
-        print!(rt; "{name}: ")?;
-        let instance = bytes_of(rt, name);
-        match read_instance(rt.alloc(), &instance) {
-            Ok(league) => show_league(rt, &league)?,
-            Err(_) => println!(rt; "no league")?,
-        }
-    }
-    Ok(())
-}
-
-/// Shows the plan of a league.
-fn show_league(rt: &(impl AllocGlobal + Files + Print), league: &League) -> io::Result<()> {
-    let solution = bytes_of(rt, "four-teams-season.xml");
-    if solution.len() > SOLUTION_LIMIT {
-        return println!(rt; "a long season");
-    }
-    match read_solution(rt.alloc(), &solution, league) {
-        Ok(played) => show_plan(rt, league, &played),
-        Err(_) => println!(rt; "no season"),
+/// Shows the plan that is found for the league of a file, of four teams.
+pub fn show_plan(rt: &(impl AllocGlobal + Files + Print), name: &str) -> io::Result<()> {
+    let mut shelf = HostShelf::new(rt);
+    let Ok(instance) = read_all(rt.alloc(), &mut shelf, name, INSTANCE_LIMIT) else {
+        return println!(rt; "no file");
+    };
+    match read_instance(rt.alloc(), &instance) {
+        Ok(league) => show_resumed(rt, &league),
+        Err(_) => println!(rt; "no league"),
     }
 }
 
-/// Shows the plan that is found from a season on.
-fn show_plan(rt: &(impl AllocGlobal + Print), league: &League, played: &Schedule) -> io::Result<()>
-    requires few { length played.now ≤ 10000 }
-    requires fit { All (IsGame league.now.n) played.now }
-{
+/// Shows the plan that is found for a league from the season on.
+fn show_resumed(rt: &(impl AllocGlobal + Files + Print), league: &League) -> io::Result<()> {
+    let mut shelf = HostShelf::new(rt);
+    let Ok(solution) = read_all(rt.alloc(), &mut shelf, SEASON, SOLUTION_LIMIT) else {
+        return println!(rt; "no file of a season");
+    };
+    let Ok(played) = read_solution(rt.alloc(), &solution, league) else {
+        return println!(rt; "no season");
+    };
     let k = slot_count(league.n()).min(PLAYED);
-    match resume(rt.alloc(), league, played, k, None, &Unwatched) {
+    match resume(rt.alloc(), league, &played, k, None, &Unwatched) {
         Ok(
             Resumed::Schedule {
                 schedule,
                 objective,
             },
-        ) => {
-            let games = schedule.len();
-            print!(rt; "{games} games, objective {objective}; played:")?;
-            show_games(rt, &schedule, k)
-        }
-        Ok(_) => println!(rt; "no plan"),
-        Err(_) => println!(rt; "too many rows"),
+        ) => show_games(rt, &schedule, objective, k),
+        _ => println!(rt; "no plan"),
     }
 }
 
-/// Shows the games of the first k slots.
-fn show_games(rt: &impl Print, schedule: &Schedule, k: u16) -> io::Result<()> {
-    for game in schedule.games() {
+/// Shows the number of a plan's games, its objective, and its games of the first k slots.
+fn show_games(rt: &impl Print, plan: &Schedule, objective: u128, k: u16) -> io::Result<()> {
+    print!(rt; "{} games, objective {objective}; played:", plan.len())?;
+    for game in plan.games() {
         if game.slot.0 < k {
             let (home, away, slot) = (game.home.0, game.away.0, game.slot.0);
             print!(rt; " ({home},{away},{slot})")?;

@@ -172,7 +172,7 @@ fn keeps_to_its_room(rt: HostRuntime) -> Result<(), Fail> {
     Ok(())
 }
 
-/// The same season is found at a second call, and the league accepts it.
+/// `solve` finds the same season at a second call, and the league accepts it.
 #[test]
 fn solves(rt: HostRuntime) -> Result<(), Fail> {
     let (alloc, league) = (rt.alloc(), LEAGUE.as_bytes());
