@@ -1,7 +1,7 @@
 """What the attacks of hostile.py and certified.py stand on: texts of files, running the program, what is demanded.
 
 The program is loaded once where `cc` is at hand, with a library in front of the system's in which the call of a number
-to malloc, open, read or write fails; else it is started anew for each run.
+to malloc, open, read or write fails, or of one by which a text comes into its file; else it is started anew for each run.
 """
 
 import collections
@@ -20,6 +20,9 @@ import logs
 Ran = collections.namedtuple("Ran", "status out err seconds peak calls clock")
 MIB = 1 << 20
 BATCH = 200
+# The places of the program that can fail: malloc, open, read, a write to standard output, what brings a text into its
+# file (a write, fsync, fchmod, rename, statx), and unlink.
+PLACES = 6
 
 
 # Texts of files.
@@ -60,8 +63,8 @@ KINDS += "MissingAttribute|BadNumber|NumberTooLarge|UnknownTeam|UnknownSlot|Same
 KINDS += "WrongCounts|TooMany"
 REFUSAL = re.compile(
     rf"refused (instance|solution) ({KINDS}) line \d+\n|refused log (BadLine|BadNumber|NoEnd|TooLong) line \d+\n|"
-    r"refused constraint \d+ Unknown\n|refused slot \d+\n|"
-    r"refused (instance|solution|log) TooLong limit \d+\n|refused rows TooLarge terms \d+\n"
+    r"refused constraint \d+ Unknown\n|refused slot \d+\n|refused values BadLine line \d+\n|"
+    r"refused (instance|solution|log|values) TooLong limit \d+\n|refused rows TooLarge terms \d+\n"
 )
 REJECTED = r"rejected step \d+ cause (UnknownRow|UnknownVariable|NoConflict|NoEmptyClause|TooWide)\n"
 LOG = r"refutation [12]\n.*end\n"
@@ -70,6 +73,12 @@ ENDS = {
     ("validate", 1): r"teams .*\nfeasible no\n",
     ("check", 0): r"accepted steps \d+\n",
     ("check", 1): REJECTED,
+    ("show", 0): r"slot .*\nfeasible yes\n|slot,slot_name,.*\r\n|((hard|soft) \d+ [^\n]*\n)*",
+    ("show", 1): r"slot .*\nfeasible no\n|slot,slot_name,.*\r\n",
+    ("rows", 0): r"\* #variable= \d+ #constraint= \d+\n.*;\n",
+    ("values", 0): r"<\?xml .*</Solution>\n",
+    ("values", 1): r"missed row \d+\n",
+    ("solve", 1): r"teams .*\nfeasible no\n",
     ("solve", 0): r"<\?xml .*</Solution>\n(<!-- [\w= ]+ -->\n)+",
     ("explain", 0): r"<\?xml .*</Solution>\n",
     ("circle", 0): r"<\?xml .*</Solution>\n",
@@ -102,7 +111,7 @@ def is_lawful(command, status, text):
         return True
     if status in (7, 8, 10):
         return status == 7 or text == ""
-    form = {2: r"refused words\n", 6: r"read fault (instance|solution|log)\n"}.get(status)
+    form = {2: r"refused words\n", 6: r"read fault (instance|solution|log|values)\n"}.get(status)
     if status == 3:
         return bool(REFUSAL.fullmatch(text))
     if (command, status) in ENDS:
@@ -313,12 +322,13 @@ SHIM = r"""
 #include <string.h>
 #include <sys/mman.h>
 #include <sys/resource.h>
+#include <sys/stat.h>
 #include <sys/syscall.h>
 #include <sys/wait.h>
 #include <unistd.h>
 extern void *__libc_malloc(size_t); extern void *__libc_realloc(void *, size_t);
 typedef int entry(int, char **, char **);
-struct { long at[4], from[4], most, seconds, bytes, more; } ask;
+struct { long at[6], from[6], most, seconds, bytes, more; } ask;
 static long *counts; static int is_child; static entry *whole; static int aside = -1;
 static int fails(int k) {
     if (!is_child) return 0;
@@ -343,11 +353,19 @@ ssize_t read(int file, void *room, size_t size) {
     return syscall(SYS_read, file, room, few(size));
 }
 static ssize_t put(int file, const void *bytes, size_t size) {
-    if (file == 1 && fails(3)) { errno = EIO; return -1; }
+    if (file == 1 && fails(3) || file > 2 && fails(4)) { errno = EIO; return -1; }
     return syscall(SYS_write, file, bytes, file == 1 ? few(size) : size);
 }
 ssize_t write(int file, const void *bytes, size_t size) { return put(file, bytes, size); }
 ssize_t __write(int file, const void *bytes, size_t size) { return put(file, bytes, size); }
+#define KEEP(call) { if (fails(4)) { errno = EIO; return -1; } return syscall call; }
+int fsync(int file) KEEP((SYS_fsync, file))
+int fdatasync(int file) KEEP((SYS_fdatasync, file))
+int fchmod(int file, mode_t mode) KEEP((SYS_fchmod, file, mode))
+int rename(const char *old, const char *name) KEEP((SYS_rename, old, name))
+int statx(int at, const char *path, int flags, unsigned mask, struct statx *room)
+    KEEP((SYS_statx, at, path, flags, mask, room))
+int unlink(const char *path) { if (fails(5)) { errno = EIO; return -1; } return syscall(SYS_unlink, path); }
 static int whole_read(void *room, size_t size) {
     for (size_t had = 0; had < size;) {
         ssize_t got = syscall(SYS_read, 0, (char *)room + had, size - had);
@@ -379,7 +397,7 @@ static void run(char *text, int size, char **environment, long step) {
     for (char *at = text; at < text + size; at += strlen(at) + 1) words[count++] = at;
     words[count] = 0;
     for (int k = 0; k < 2; k++) snprintf(names[k], 4096, ask.more ? "%s.%ld" : "%s", words[k], step);
-    for (int k = 0; k < 4; k++) { if (ask.at[k]) ask.at[k] += step; if (ask.from[k]) ask.from[k] += step; }
+    for (int k = 0; k < 6; k++) { if (ask.at[k]) ask.at[k] += step; if (ask.from[k]) ask.from[k] += step; }
     int out = syscall(SYS_openat, AT_FDCWD, names[0], O_WRONLY | O_CREAT | O_TRUNC, 0600);
     int err = syscall(SYS_openat, AT_FDCWD, names[1], O_WRONLY | O_CREAT | O_TRUNC, 0600);
     dup2(syscall(SYS_openat, AT_FDCWD, "/dev/null", O_RDONLY, 0), 0); dup2(out, 1); dup2(err, 2);
@@ -412,14 +430,14 @@ static int serve(int count, char **words, char **environment) {
         if (!whole_read(text, size)) return 0;
         if (!ask.seconds) { run_all(text, size, environment); free(text); continue; }
         for (long step = 0; step <= ask.more; step++) {
-            memset(counts, 0, 4 * sizeof(long));
+            memset(counts, 0, 6 * sizeof(long));
             int child = fork();
             if (!child) run(text, size, environment, step);
             wait4(child, &status, 0, &used);
-            long tick = 1000000, said[7] = {status, used.ru_maxrss};
+            long tick = 1000000, said[9] = {status, used.ru_maxrss};
             said[2] = (used.ru_utime.tv_sec + used.ru_stime.tv_sec) * tick;
             said[2] += used.ru_utime.tv_usec + used.ru_stime.tv_usec;
-            memcpy(said + 3, counts, 4 * sizeof(long));
+            memcpy(said + 3, counts, 6 * sizeof(long));
             syscall(SYS_write, 1, said, sizeof said);
         }
         free(text);
@@ -438,7 +456,7 @@ int __libc_start_main(entry *start, int count, char **words, hook *a, hook *b, h
 
 class Server:
     """The program, loaded once with a library in front of the system's: each request is a child that begins at `main`.
-    In a child the call of a number to malloc, open, read or write can fail, or each read and write be short."""
+    In a child the call of a number to one of the PLACES can fail, or each read and write be short."""
 
     def __init__(self, program, folder):
         source, made = os.path.join(folder, "shim.c"), os.path.join(folder, "shim.so")
@@ -457,8 +475,9 @@ class Server:
         """One run: the calls `at` these numbers fail, or all from `first` on; reads and writes take `most` bytes."""
         began = time.monotonic()
         text = b"".join(os.fsencode(it) + b"\0" for it in (self.out, self.err, "robin", *words))
-        self.process.stdin.write(struct.pack("=12qi", *at, *first, most, seconds, memory * MIB, 0, len(text)) + text)
-        status, peak, used, *calls = struct.unpack("=7q", self.process.stdout.read(56))
+        at, first = ([*it, *[0] * (PLACES - len(it))] for it in (at, first))
+        self.process.stdin.write(struct.pack("=16qi", *at, *first, most, seconds, memory * MIB, 0, len(text)) + text)
+        status, peak, used, *calls = struct.unpack("=9q", self.process.stdout.read(72))
         with open(self.out, "rb") as file, open(self.err, "rb") as errors:
             said, complaint = file.read(head), errors.read(1 << 16)
         clock = time.monotonic() - began
@@ -469,7 +488,7 @@ class Server:
         again and again, so each run also shows that the one before left nothing behind."""
         joined = lambda it: b"".join(os.fsencode(word) + b"\0" for word in it)
         text = b"".join(joined((out, "robin", *words)) + b"\0" for out, words in runs)
-        self.process.stdin.write(struct.pack("=12qi", *[0] * 12, len(text)) + text)
+        self.process.stdin.write(struct.pack("=16qi", *[0] * 16, len(text)) + text)
         told = self.told(8 * len(runs))
         found = []
         for status, (out, _) in zip(struct.unpack(f"={len(runs)}q", told), runs):
@@ -492,14 +511,14 @@ class Server:
         found = []
         for start in range(1, count + 1, 512):
             many = min(512, count + 1 - start)
-            own = [start * (it == place) for it in range(4)]
-            plan = [*own, *[0] * 4] if kind == "at" else [*[0] * 4, *own]
+            own = [start * (it == place) for it in range(PLACES)]
+            plan = [*own, *[0] * PLACES] if kind == "at" else [*[0] * PLACES, *own]
             text = b"".join(os.fsencode(it) + b"\0" for it in (self.out, self.err, "robin", *words))
             # Of one run the files have no numbers: one more is made.
-            self.process.stdin.write(struct.pack("=12qi", *plan, most, 60, 4096 * MIB, many, len(text)) + text)
-            said = self.told(56 * (many + 1))
+            self.process.stdin.write(struct.pack("=16qi", *plan, most, 60, 4096 * MIB, many, len(text)) + text)
+            said = self.told(72 * (many + 1))
             for step in range(many):
-                status, peak, used, *calls = struct.unpack_from("=7q", said, 56 * step)
+                status, peak, used, *calls = struct.unpack_from("=9q", said, 72 * step)
                 with open(f"{self.out}.{step}", "rb") as file, open(f"{self.err}.{step}", "rb") as errors:
                     told, complaint = file.read(), errors.read(1 << 16)
                 ended = os.waitstatus_to_exitcode(status)

@@ -12,7 +12,7 @@ NAME = re.compile(rb"[A-Za-z_\x80-\xff][A-Za-z0-9_.:\x80-\xff-]*")
 BLANK = re.compile(rb"[ \t\r\n]*")
 LARGEST = 2**32 - 1
 ATTRIBUTES, CONSTRAINTS, GAMES, TEAMS = 64, 20_000, 10_000, 40
-FILES = {"instance": 16_777_216, "solution": 1_048_576, "log": 268_435_456}
+FILES = {"instance": 16_777_216, "solution": 1_048_576, "log": 268_435_456, "values": 268_435_456}
 LINE = 16_777_216
 
 
@@ -511,6 +511,7 @@ def is_list(word):
 
 
 CONFLICTS = {"--conflicts": lambda word: word == "all" or is_number(word)}
+SECONDS = {"--seconds": is_number}
 SOLVE = {
     **CONFLICTS,
     "--moves": is_number,
@@ -519,47 +520,118 @@ SOLVE = {
     "--seed": is_number,
 }
 is_small = lambda word: is_number(word, 0, LARGEST)
-SHOW = {"--form": lambda word: word in ("text", "csv"), "--most": is_small, "--width": is_small}
-is_file = lambda word: True
+SHOW = {
+    "--form": lambda word: word in ("text", "csv"),
+    "--most": lambda word: word == "all" or is_small(word),
+    "--width": is_small,
+}
+
+
+def is_file(word):
+    """Whether a word is a file's name: `-` is standard input."""
+    return word == "-" or not word.startswith("-")
+
+
 COMMANDS = {
     "validate": ([is_file, is_file], {}),
     "show": ([is_file, is_file], SHOW),
     "check": ([is_file, is_file], {}),
-    "solve": ([is_file], SOLVE),
+    "solve": ([is_file], {**SOLVE, **SECONDS, "--from": is_file}),
     "patterns": ([is_file], CONFLICTS),
-    "explain": ([is_file], CONFLICTS),
+    "explain": ([is_file], {**CONFLICTS, **SECONDS}),
     "part": ([is_file, is_list], {}),
-    "prove": ([is_file, is_file], CONFLICTS),
+    "prove": ([is_file, is_file], {**CONFLICTS, **SECONDS}),
     "bound": ([is_file, is_file], {}),
-    "resume": ([is_file, is_file, is_number], CONFLICTS),
+    "resume": ([is_file, is_file, is_number], {**CONFLICTS, **SECONDS}),
     "audit": ([is_file, is_file, is_number, is_file], {}),
+    "rows": ([is_file], {"--bound": is_number}),
+    "values": ([is_file, is_file], {}),
     "circle": ([is_team_count], {}),
     "make": ([is_team_count, is_number], {}),
-    "trial": ([is_team_count, is_number], SOLVE),
+    "trial": ([is_team_count, is_number], {**SOLVE, **SECONDS}),
 }
+WORDS = 1000
+
+
+def without_common(words):
+    """The words without `--quiet`, and `--out` and `--log` with the word behind each; and the files that are named so.
+    Nothing where one of these stands twice or has no name behind it."""
+    rest, named, words = [], {}, list(words)
+    while words:
+        word = words.pop(0)
+        if word in ("--out", "--log"):
+            name = words.pop(0) if words else ""
+            if word in named or not name or name.startswith("-"):
+                return None, {}
+            named[word] = name
+        elif word != "--quiet":
+            rest.append(word)
+    return rest, named
 
 
 def are_questions(words):
     """Whether the words ask for help or for the version."""
-    if list(words) in (["--help"], ["--version"]):
+    words, _ = without_common(words) if len(words) <= WORDS else (None, {})
+    if words in (["--help"], ["--version"]):
         return True
-    return len(words) == 2 and "--help" in words and any(word in COMMANDS for word in words)
+    return words is not None and len(words) == 2 and "--help" in words and any(word in COMMANDS for word in words)
 
 
-def are_words(words):
-    """Whether the words are a command on files or numbers."""
+def files_of(words):
+    """The words that name files, of a command on files or numbers; nothing where the words are none."""
+    words, _ = without_common(words) if len(words) <= WORDS else (None, {})
     if not words or words[0] not in COMMANDS:
-        return False
+        return None
     wanted, options = COMMANDS[words[0]]
-    given, had, rest = [], set(), list(words[1:])
+    rest = words[1:]
+    if words[0] == "show" and rest[1:2] == ["--demands"]:
+        is_right = is_file(rest[0]) and (len(rest) == 2 or len(rest) == 3 and is_list(rest[2]))
+        return rest[:1] if is_right else None
+    if words[0] == "rows" and "--objective" in rest and len(rest) == 2:
+        rest.remove("--objective")
+        return rest if is_file(rest[0]) else None
+    return given_files(rest, wanted, options)
+
+
+def given_files(rest, wanted, options):
+    """The names of files among words and options, which have to be those that are wanted."""
+    given, had, files = [], set(), []
     while rest:
         word = rest.pop(0)
         if word.startswith("--"):
-            if word not in options or word in had or not rest or not options[word](rest.pop(0)):
-                return False
+            if word not in options or word in had or not rest or not options[word](rest[0]):
+                return None
+            files += [rest[0]] if word == "--from" else []
             had.add(word)
-        elif word.startswith("-"):
-            return False
+            rest.pop(0)
         else:
             given.append(word)
-    return len(given) == len(wanted) and all(is_right(word) for is_right, word in zip(wanted, given))
+    if len(given) != len(wanted) or not all(is_right(word) for is_right, word in zip(wanted, given)):
+        return None
+    return [word for is_right, word in zip(wanted, given) if is_right is is_file] + files
+
+
+def are_words(words):
+    """Whether the words are a command on files or numbers; standard input is named once at most."""
+    files = files_of(words)
+    return files is not None and sum(word in ("-", "/dev/stdin") for word in files) <= 1
+
+
+LITERAL = re.compile(rb"([-~]?)x?([0-9]+)")
+
+
+def read_values(text):
+    """The variables that a text of values says to be true."""
+    true = set()
+    for number, line in enumerate(text.split(b"\n"), 1):
+        if line[:1] in (b"c", b"o", b"s"):
+            continue
+        for word in (line[1:] if line.startswith(b"v") else line).split(b" "):
+            literal = LITERAL.fullmatch(word)
+            digits = literal[2].lstrip(b"0") if literal else b""
+            if word in (b"", b"0"):
+                continue
+            if not digits or len(digits) > 10 or int(digits) > 2**31 - 1:
+                raise Fault("BadLine", number)
+            (true.discard if literal[1] else true.add)(int(digits))
+    return true

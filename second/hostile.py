@@ -5,7 +5,7 @@ python3 second/hostile.py PROGRAM [GROUP ..] [--cases N] [--seed N] [--keep FOLD
 PROGRAM is robin as it was built. Each GROUP (all but those of HEAVY where none is named) makes its cases in a folder of
 its own, runs the program on them under a limit of time and of memory, and compares the status and each byte with what
 the rules in words demand (forms.py, leagues.py, rows.py, logs.py). The groups of the commands of certificates and of
-seasons partly played stand in certified.py. One line a group says how many cases there were and how many differed; the
+seasons partly played stand in certified.py; those of words, written files, standard input, limits and starts in doors.py. One line a group says how many cases there were and how many differed; the
 input of each difference is kept in FOLDER. `--cases` is the number of changed files or logs. `memory` and `faults` want
 cc; with `--only` they, and `devices`, take these commands alone.
 """
@@ -22,6 +22,7 @@ import time
 
 sys.path.insert(0, os.path.dirname(os.path.abspath(__file__)))
 import certified
+import doors
 import forms
 import rows
 from attack import BATCH, C4_TEXT, I4, MIB, NO_BREAK, NO_HOME, NO_HOME_LOG, ONE_HOME, Tries
@@ -299,7 +300,7 @@ def ranges(statuses):
 
 def commands(t):
     """Commands with the files that they read, as (words, names), of those that are asked for."""
-    return [it for it in [*stands(t), *certified.stands(t)] if not t.only or it[0][0] in t.only]
+    return [it for it in [*stands(t), *certified.stands(t), *doors.stands(t)] if not t.only or it[0][0] in t.only]
 
 
 def stands(t):
@@ -701,9 +702,9 @@ def steps(t):
     measured(t, "a sum of one row again and again", ["check", it, path], 1, told, os.path.getsize(path))
 
 
-HEAVY = [costly, steps, heavy, *certified.HEAVY]
+HEAVY = [costly, steps, heavy, *certified.HEAVY, *doors.HEAVY]
 GROUPS = [prefixes, wild, limits, edges, memory, faults, devices, texts, mutants, files, large]
-GROUPS += [*certified.GROUPS, *HEAVY]
+GROUPS += [*certified.GROUPS, *doors.GROUPS, *HEAVY]
 
 
 def main():

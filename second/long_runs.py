@@ -6,10 +6,12 @@
 
 With PROGRAM the signals are blocked here, as ./robin blocks them. Each run has to end within SLACK seconds of its limit or of the signal. Each season that is
 written is given to `validate`, each log or certificate to `check`, `bound` or `audit`, and of a conflict the log and each season to these over the league's part.
-What differs is said, and the status is 1 then. An idle machine is wanted: the limits are of the clock.
+What `prove` and `explain` tell, whether more time is ever worse, and what SIGKILL in a descent leaves, is tried too. What differs is said, and the status is 1
+then. An idle machine is wanted: the limits are of the clock.
 """
 import os
 import pty
+import re
 import signal
 import subprocess
 import sys
@@ -289,6 +291,75 @@ def told(command):
         print("    " + line)
 
 
+def objective_of(text):
+    """The objective that a season file states."""
+    match = re.search(rb'objective="([0-9]+)"', text)
+    return int(match.group(1)) if match else None
+
+
+def more_time(command, league):
+    """More time is never worse, and counted tries don't hear of the time."""
+    best = None
+    for seconds in (1, 2, 4, 8):
+        done = run(command, ["solve", league, "--seconds", str(seconds), "--quiet"])
+        fault = judged(command, league, done.returncode, done.stdout)
+        objective = objective_of(done.stdout) if done.returncode == 0 else None
+        if best is not None and (objective is None or objective > best):
+            fault = fault or "worse than %d in less time" % best
+        say("solve %s --seconds %d: not worse than in less time" % (os.path.basename(league), seconds), fault, "objective %s" % objective)
+        best = objective if best is None else best
+        best = best if objective is None else min(best, objective)
+    words = ["solve", league, "--moves", "300", "--tries", "3", "--quiet"]
+    same = run(command, words).stdout == run(command, words + ["--seconds", "1000"]).stdout
+    say("solve %s --tries 3: the same text with --seconds 1000" % os.path.basename(league), None if same else "another text")
+
+
+def told_of(command, words, fronts):
+    """What a command tells on a terminal in three seconds: each line begins, behind the seconds, with one of some words, and one with the first of them."""
+    _, screen = on_terminal(command + words + ["--conflicts", "all", "--seconds", "3"])
+    lines = [part.decode("utf-8", "replace").replace("\x1b[K", "") for part in screen.split(b"\r") if re.match(rb"robin: [0-9]+ s: ", part)]
+    matching = [[front for front in fronts if re.match(r"robin: [0-9]+ s: " + front, line)] for line in lines]
+    fault = None if lines and all(matching) and any(fronts[0] in each for each in matching) else "other lines: %r" % lines[:4]
+    say("%s on a terminal" % words[0], fault, "%d times" % len(lines))
+    for line in lines[-1:]:
+        print("    " + line)
+
+
+def told_by_others(command, folder):
+    """The lines of `prove` and of `explain`."""
+    names = ("made.xml", "season.xml", "crowded.xml")
+    league, season, crowd = (os.path.join(folder, name) for name in names)
+    for name, words in ((league, ["make", "16", "7"]), (season, ["solve", league])):
+        with open(name, "wb") as file:
+            subprocess.run(command + words, stdout=file, cwd=TOP)
+    crowded(crowd)
+    told_of(command, ["prove", league, season], ["proving at least [0-9]+, [0-9]+ clauses learnt", "proving that no season costs less than [0-9]+"])
+    told_of(command, ["explain", crowd], ["[0-9]+ members still to be tried", "[0-9]+ clauses learnt"])
+    for name in (league, season, crowd):
+        os.remove(name)
+
+
+def killed_in_descent(command, folder):
+    """SIGKILL in a descent: the file holds the season from which the descent began, or a later one."""
+    league, out = (os.path.join(folder, name) for name in ("forty.xml", "best.xml"))
+    with open(league, "wb") as file:
+        subprocess.run(command + ["make", "40", "1"], stdout=file, cwd=TOP)
+    going = subprocess.Popen(command + ["solve", league, "--out", out], stdout=subprocess.DEVNULL, stderr=subprocess.DEVNULL, cwd=TOP)
+    time.sleep(1.5)
+    ended = going.poll()
+    going.kill()
+    going.wait()
+    if os.path.exists(out):
+        fault = None if run(command, ["validate", league, out]).returncode == 0 else "no season"
+        os.remove(out)
+    else:
+        fault = "nothing is kept"
+    say("solve of 40 teams --out, SIGKILL after 1.5 s", fault, "" if ended is None else "it had ended")
+    for name in os.listdir(folder):
+        if name.startswith(("forty.xml", "best.xml")):
+            os.remove(os.path.join(folder, name))
+
+
 def main():
     command = sys.argv[1:]
     if not command:
@@ -313,6 +384,10 @@ def main():
     by_timeout(command, EASY)
     same_text(command, ["solve", MIDDLE, "--moves", "2000", "--seed", "3"])
     told(command)
+    told_by_others(command, folder)
+    for league in (EASY, MIDDLE):
+        more_time(command, league)
+    killed_in_descent(command, folder)
     os.remove(none)
     os.rmdir(folder)
     print("%d runs, %d wrong" % (runs, wrong))
