@@ -15,7 +15,7 @@ _robin() {
         check) options="--log --out --quiet" ;;
         prove) options="--conflicts --log --out --quiet --seconds" ;;
         bound) options="--log --out --quiet" ;;
-        resume) options="--conflicts --log --out --quiet --seconds" ;;
+        resume) options="--conflicts --from --log --moves --near --out --patterns --quiet --seconds --seed --tries" ;;
         audit) options="--log --out --quiet" ;;
         rows) options="--bound --log --objective --out --quiet" ;;
         values) options="--log --out --quiet" ;;
