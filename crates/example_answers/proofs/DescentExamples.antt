@@ -28,7 +28,7 @@ use Rattle.budgets.specs.declared.budgets.Budgets.{Budgets}
 use Rattle.solve.specs.Solutions.{IsDescent, IsSchedule, IsSolution, LeavesOpen}
 use Rattle.solve.specs.Solutions.{league_score}
 use Rattle.solve.specs.Earliest.{IsBestOf, IsBestOfTries, IsEarliestLeast}
-use Rattle.solve.specs.Tried.{IsSeasonBy}
+use Rattle.solve.specs.Tried.{IsTriedBy}
 use Rattle.solve.specs.declared.lower.Season.{Season}
 use Rattle.solve.specs.declared.solved.Solved.TheVariants as solved
 use Rattle.example_answers.proofs.SolveExamples.{accepted_home, accepted_out, false_true, fits_home, fits_out}
@@ -296,24 +296,22 @@ best-second = record {
 pub best-none : IsBestOf (None ∷ Some dear ∷ []) None → ⊥
 best-none is = true_false (is 1 None (lit< tt))
 
-abbrev two_tries : Budgets
-two_tries = record { conflicts = None; moves = 0; tries = 2; patterns = 0; seed = 3 }
+abbrev one_try : Budgets
+one_try = record { conflicts = None; moves = 0; tries = 1; patterns = 0; seed = 3 }
 
-pub best-tries : IsBestOfTries wishful two_tries ⊥ (solved.Schedule out 0 resting)
+-- no try behind the first, which is as many as there may be
+pub best-tries : IsBestOfTries (λ k tried. IsTriedBy wishful one_try ⊥ tried) one_try ⊥
+    (solved.Schedule home 5 stopped) (solved.Schedule home 5 stopped)
 best-tries = record {
-  found = Some dear ∷ Some cheap ∷ [];
-  each = All-from_recursion (λ (o : Option Season). IfSome o (IsSeasonBy wishful 0 ⊥)) (Some dear ∷ Some cheap ∷ []) (
-    record { kept = 0; is_kept = inl refl; is_season = schedule-stopped },
-    (record { kept = 0; is_kept = inl refl; is_season = season_out }, tt),
-  );
-  few = λ some. lit≤ tt;
+  later = [];
+  each = λ k d below. absurd (omega (arith, below));
+  few = λ some. absurd (omega (arith, some));
   all = λ no unstopped. lit≤ tt;
   best = record {
-    before = Some dear ∷ [];
+    before = [];
     after = [];
     place = refl;
-    earlier = All-from_recursion (λ (o : Option Season). IfSome o (λ s. 0 < s.objective)) (Some dear ∷ [])
-        (lit< tt, tt);
-    later = All-nil (λ (o : Option Season). IfSome o (λ s. 0 ≤ s.objective));
+    earlier = All-nil (λ (o : Option Season). IfSome o (λ s. 5 < s.objective));
+    later = All-nil (λ (o : Option Season). IfSome o (λ s. 5 ≤ s.objective));
   };
 }

@@ -8,7 +8,7 @@ use std::rt::Files;
 use std::{fs, io};
 
 /// The room of a sink.
-const ROOM: usize = 1_000_000;
+const ROOM: usize = 4_000_000;
 
 /// What a run wrote, the status that it ended with, and what a person was told.
 #[derive(Drop)]
