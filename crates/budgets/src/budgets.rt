@@ -5,8 +5,8 @@
 pub struct Budgets {
     /// How many clauses the search of one try may learn: any number of them, where there is none.
     pub conflicts: Option<u64>,
-    /// How many moves the descent of one try may make. Its walk may try at most a hundred times as many; with 0 there
-    /// is none.
+    /// How many moves the descent of one try may make. Its walk may try at most a hundred times as many, and more where
+    /// tries have no number; with 0 there is none.
     pub moves: u64,
     /// How many tries are made: the first in any case.
     pub tries: u64,
