@@ -6,6 +6,7 @@ ghost use Rattle.std.specs.List.{list_all};
 ghost use Rattle.std.specs.Char.{is_ascii_digit};
 ghost use Rattle.robin_io.specs.Numbers.{is_number};
 
+use itoa::Buffer;
 use std::alloc::AllocError;
 use thiserror::Error;
 
@@ -74,6 +75,6 @@ pub fn put_decimal(out: &mut Vec<u8>, value: u128) -> Result<(), AllocError>
     ensures ok { OnOk result (out.new.items ≡ out.old.items ++ decimal_text value) }
     ensures err { OnErr result (out.new.items ≡ out.old.items) }
 {
-    let text = value.to_string(*out.allocator())?;
-    out.extend_from_slice(text.as_bytes())
+    let mut digits = Buffer::new();
+    out.extend_from_slice(digits.format(value).as_bytes())
 }
