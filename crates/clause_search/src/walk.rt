@@ -102,7 +102,7 @@ fn limit_here<W: Watch>(
         return limit;
     }
     if learnt % TOLD_EACH == 0 {
-        watch.tell(News::Search { learnt });
+        watch.tell(News::Search { learnt, limit });
     }
     kept_limit(limit, learnt, watch)
 }

@@ -4,6 +4,7 @@
 
 mod aim;
 mod keeper;
+mod learnt;
 mod season;
 mod signals;
 mod telling;

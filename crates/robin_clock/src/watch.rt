@@ -3,6 +3,7 @@ ghost use Rattle.std.specs.Prelude.{◌≡◌, ◌⊎◌, IsSome, true};
 ghost use Rattle.robin_clock.specs.Fields.{limit_of, listens};
 
 use crate::aim::Aim;
+use crate::learnt::Learnt;
 use crate::signals::{is_blocked, is_waiting};
 use crate::telling::Telling;
 use league::{Game, League};
@@ -132,35 +133,35 @@ impl<R: Clock + Files + Eprint> HostWatch<R> {
     }
 
     /// Says how many clauses a search has learnt, and what it is to show.
-    fn say_learnt(&self, passed: u128, learnt: u64) {
+    fn say_learnt(&self, passed: u128, learnt: Learnt) {
         let (front, end) = self.telling.frame();
         let seconds = passed / 1000;
         match self.aim.get() {
             Aim::Season => self.say_searched(passed, learnt),
             Aim::Bound { objective } => {
                 let _ = eprint!(self.rt;
-                    "{front}robin: {seconds} s: proving at least {objective}, {learnt} clauses learnt{end}"
+                    "{front}robin: {seconds} s: proving at least {objective}, {learnt}{end}"
                 );
             }
             Aim::Member { left } => {
                 let _ = eprint!(self.rt;
-                    "{front}robin: {seconds} s: {left} members still to be tried, {learnt} clauses learnt{end}"
+                    "{front}robin: {seconds} s: {left} members still to be tried, {learnt}{end}"
                 );
             }
         }
     }
 
     /// Says how many clauses a search for a season has learnt, and what the best season costs, where there is one.
-    fn say_searched(&self, passed: u128, learnt: u64) {
+    fn say_searched(&self, passed: u128, learnt: Learnt) {
         let (front, end) = self.telling.frame();
         let seconds = passed / 1000;
         let Some(best) = self.heard.get() else {
-            let _ = eprint!(self.rt; "{front}robin: {seconds} s: {learnt} clauses learnt{end}");
+            let _ = eprint!(self.rt; "{front}robin: {seconds} s: {learnt}{end}");
             return;
         };
         let objective = best.objective;
         let _ = eprint!(self.rt;
-            "{front}robin: {seconds} s: best objective {objective}, {learnt} clauses learnt{end}"
+            "{front}robin: {seconds} s: best objective {objective}, {learnt}{end}"
         );
     }
 
@@ -230,9 +231,9 @@ impl<R: Clock + Files + Eprint> Watch for HostWatch<R> {
     fn tell(&self, news: News) {
         match news {
             News::Ready => self.wipe(),
-            News::Search { learnt } => {
+            News::Search { learnt, limit } => {
                 if let Some(passed) = self.due() {
-                    self.say_learnt(passed, learnt);
+                    self.say_learnt(passed, Learnt { learnt, limit });
                 }
             }
             News::Hard { tried, cost } => {

@@ -4,8 +4,8 @@ ghost use Rattle.std.specs.Prelude.{◌≡◌, ℕ, Bool, true, Option, None, If
 /// How far a run has come. A turn is a clause learnt or a move tried.
 #[derive(Clone, Copy, Debug, PartialEq, Eq)]
 pub enum News {
-    /// A search has learnt so many clauses.
-    Search { learnt: u64 },
+    /// A search has learnt so many clauses, and may learn so many, where there is a limit.
+    Search { learnt: u64, limit: Option<u64> },
     /// A walk has tried so many moves, and what it found so far misses hard constraints at this cost.
     Hard { tried: u64, cost: u128 },
     /// A proof begins that no season costs less than this.
