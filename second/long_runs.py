@@ -333,8 +333,8 @@ def told_by_others(command, folder):
         with open(name, "wb") as file:
             subprocess.run(command + words, stdout=file, cwd=TOP)
     crowded(crowd)
-    told_of(command, ["prove", league, season], ["proving at least [0-9]+, [0-9]+ clauses learnt", "proving that no season costs less than [0-9]+"])
-    told_of(command, ["explain", crowd], ["[0-9]+ members still to be tried", "[0-9]+ clauses learnt"])
+    told_of(command, ["prove", league, season], ["proving at least [0-9]+, [0-9]+( of [0-9]+)? clauses learnt", "proving that no season costs less than [0-9]+"])
+    told_of(command, ["explain", crowd], ["[0-9]+ members still to be tried", "[0-9]+( of [0-9]+)? clauses learnt"])
     for name in (league, season, crowd):
         os.remove(name)
 
