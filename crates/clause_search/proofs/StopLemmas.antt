@@ -1,10 +1,18 @@
--- A search that nothing may stop answers as of the limit that was set.
-use Rattle.std.proofs.Common.{◌≡◌, ℕ, List, Option, Result, Ok, Err, subst}
-use Rattle.std.specs.Prelude.{IfOk}
+-- What a search answers that nothing may stop, and one of which it is known beforehand at which turn it ends.
+use Rattle.std.proofs.Common.{◌≡◌, ◌⊎◌, ◌<◌, ◌≤◌, ℕ, Bool, true, false, List, [], length, Option, Some, None, Result, Ok, Err}
+use Rattle.std.proofs.Common.{inl, inr, arith, ap, subst}
+use Rattle.std.specs.Prelude.{IfOk, IfSome}
 use Rattle.rows.specs.Rows.{Row}
-use Rattle.robin_watch.proofs.LimitLemmas.{kept-unstopped}
-use Rattle.clause_search.specs.Answers.{IsAnswer, IsAnswerBy}
+use Rattle.rows.specs.Partials.{IsQuiet}
+use Rattle.rows.specs.declared.partial.Value.{Value}
+use Rattle.propagate.specs.Trails.{SeenTrail}
+use Rattle.refutation.specs.Steps.{Step}
+use Rattle.robin_watch.specs.Limits.{EndsAt, lower_limit}
+use Rattle.robin_watch.proofs.LimitLemmas.{IsPassed, kept-unstopped, passed-more, reached-lower}
+use Rattle.clause_search.specs.Answers.{IsAnswer, IsAnswerBy, IsSpentAt}
+use Rattle.clause_search.specs.Turns.{Learns}
 use Rattle.clause_search.specs.declared.found.Found.{Found}
+use Rattle.clause_search.proofs.TurnLemmas.{IsUnder, answer_spent, learnt_length}
 
 pub answer-unstopped : (rows : List Row) (vars : ℕ) (limit : Option ℕ) (may_stop : Type 0) (found : Found)
     → (may_stop → ⊥) → IsAnswerBy rows vars limit may_stop found → IsAnswer rows vars limit found
@@ -18,3 +26,35 @@ pub unstopped : {E : Type 0} (rows : List Row) (vars : ℕ) (limit : Option ℕ)
 unstopped {E} rows vars limit may_stop (Ok found) never is =
     answer-unstopped rows vars limit may_stop found never is
 unstopped {E} rows vars limit may_stop (Err error) never is = tt
+
+-- ---- where it is known at which turn the watch ends a search
+
+pub passed_start : (stops_at : ℕ → Option Bool) (steps : List Step) → steps ≡ [] → IsPassed stops_at (length steps)
+passed_start stops_at steps none = λ n below stops. absurd (omega (arith, ap length none, below))
+
+-- at a turn that learns a clause there was a conflict, and the watch went on
+pub passed_learnt : {A : Type 0} (stops_at : ℕ → Option Bool) (found : Option A) (kept : Option ℕ) (old new : SeenTrail)
+    (steps more : List Step) → Learns old new steps more → IfSome kept (λ most. length steps < most)
+    → (found ≡ None → more ≡ steps)
+    → (stops_at (length steps) ≡ Some true → (found ≡ None) ⊎ (kept ≡ Some (length steps)))
+    → IsPassed stops_at (length steps) → IsPassed stops_at (length more)
+passed_learnt {A} stops_at found kept old new steps more learns room same ended passed =
+    passed-more stops_at (length steps) (length more) (learnt_length old new steps more learns) passed
+    (λ stops. elim (ended stops) [
+      | inl none ↦ omega (arith, learnt_length old new steps more learns, ap length (same none))
+      | inr reached ↦ let over : length steps < length steps
+          = subst (λ (k : Option ℕ). IfSome k (λ most. length steps < most)) reached room in omega (arith, over)
+    ])
+
+pub answer_planned : (stops_at : ℕ → Option Bool) (rows : List Row) (vars : ℕ) (limit first kept : Option ℕ)
+    (steps more : List Step) (t : SeenTrail) → IsUnder rows vars steps t → EndsAt stops_at first
+    → IsPassed stops_at (length steps) → IfSome limit (λ most. length steps ≤ most)
+    → (stops_at (length steps) ≡ Some false → kept ≡ limit)
+    → (more ≡ steps) × (kept ≡ Some (length steps)) × ((values : ℕ → Value) × IsQuiet values t.rows)
+    → IsSpentAt rows vars (lower_limit limit first) more
+answer_planned stops_at rows vars limit first kept steps more t under ends passed within same is =
+    answer_spent rows vars (lower_limit limit first) steps more t under (
+      is.0,
+      reached-lower stops_at limit first kept (length steps) ends passed within is.1 same,
+      is.2,
+    )

@@ -1,10 +1,10 @@
 //! The search.
-ghost use Rattle.std.specs.Prelude.{◌≡◌, ℕ, ◌<◌, ◌≤◌, List, length, Option, Some, true, false, IfOk, IfSome};
+ghost use Rattle.std.specs.Prelude.{◌≡◌, ◌⊎◌, ℕ, ◌<◌, ◌≤◌, List, length, Option, Some, None, true, false, IfOk, IfSome};
 ghost use Rattle.std.specs.List.{All};
 ghost use Rattle.rows.specs.Partials.{IsQuiet};
 ghost use Rattle.propagate.specs.Trails.{IsQuietBelow, IsSettled, KnowsVariables, NamesConflict, values_of};
 ghost use Rattle.refutation.specs.Steps.{Step};
-ghost use Rattle.robin_watch.specs.Limits.{IsKeptTo};
+ghost use Rattle.robin_watch.specs.Limits.{EndsAt, IsKeptTo, lower_limit};
 ghost use Rattle.clause_search.specs.Answers.{IsAnswer, IsAnswerBy};
 ghost use Rattle.clause_search.specs.Turns.{IsTurn};
 
@@ -67,7 +67,11 @@ pub fn search_watched<W: Watch>(
     requires few { vars ≤ 2147483647 }
     requires known { All (KnowsVariables vars) rows.now }
     requires preferred { All (λ l. l.var ≤ vars) prefer.now }
-    ensures { IfOk result (IsAnswerBy rows.now vars limit (W.may_stop watch.now)) }
+    ensures answer { IfOk result (IsAnswerBy rows.now vars limit (W.may_stop watch.now)) }
+
+    // Where it is known beforehand at which turn the watch ends a run, so is the limit.
+    ensures planned { (first : Option ℕ) → EndsAt (W.stops_at watch.now) first
+        → IfOk result (IsAnswer rows.now vars (lower_limit limit first)) }
 {
     let mut trail = Trail::new(alloc, rows, vars)?;
     let mut log = Log::new(alloc);
@@ -97,6 +101,8 @@ fn limit_here<W: Watch>(
     ensures kept { IsKeptTo limit (W.may_stop watch.now) result }
     ensures within { IfSome result (λ most. learnt ≤ most) }
     ensures room { IfSome result (λ most. learnt < most) → IfSome limit (λ most. learnt < most) }
+    ensures ended { W.stops_at watch.now learnt ≡ Some true → (found.now ≡ None) ⊎ (result ≡ Some learnt) }
+    ensures not_ended { W.stops_at watch.now learnt ≡ Some false → result ≡ limit }
 {
     if found.is_none() {
         return limit;
@@ -122,6 +128,7 @@ fn take_turn(
     requires within { IfSome limit (λ most. length log.old ≤ most) }
     ensures turn { IfOk result (IsTurn trail.old trail.new log.old log.new limit) }
     ensures vars { desk.new.order.vars ≡ desk.old.order.vars }
+    ensures nothing_learnt { found ≡ None → log.new ≡ log.old }
 {
     match found {
         Some(conflict) => meet(trail, log, desk, conflict, limit),

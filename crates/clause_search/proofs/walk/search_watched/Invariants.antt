@@ -1,5 +1,6 @@
 use Rattle.std.proofs.Common.{◌≡◌, ◌≤◌, length}
 use Rattle.std.specs.Prelude.{IfSome}
+use Rattle.robin_watch.proofs.LimitLemmas.{IsPassed}
 use Rattle.clause_search.proofs.TurnLemmas.{IsUnder, left}
 use Rattle.clause_search.proofs.walk.search_watched.Given as goal
 
@@ -8,6 +9,7 @@ invariant-turns g l = record {
   vars : l.desk.order.vars ≡ l.vars;
   under : IsUnder l.rows l.vars l.log l.trail;
   within : IfSome l.limit (λ most. length l.log ≤ most);
+  passed : IsPassed (g.W.Watch.stops_at l.watch) (length l.log);
 }
 
 abbrev pub decreases-turns : goal.decreases-turns
