@@ -17,41 +17,41 @@ search_watched-requires-clause-known g c =
 
 pub decoded-requires-clause-count : goal.decoded-requires-clause-count
 decoded-requires-clause-count g c =
-    let answer = answer-of c.args.league.now (c.args.objective - 1) c.vars.result c.rows.result.now c.in_ok-found.ensures.kept
+    let answer = answer-of c.args.league.now (c.args.objective - 1) c.vars.result c.rows.result.now c.in_ok-found.ensures.answer.kept
     c.in_ok-found.found (c.rows.ensures ∙ ap (λ (b : Bounded). bound_rows b.league b.bound) c.in_ok-system.ensures)
-    (c.vars.ensures.vars ∙ ap (λ (b : Bounded). bound_vars b.league) c.in_ok-system.ensures) c.in_ok-found.ensures.answer
+    (c.vars.ensures.vars ∙ ap (λ (b : Bounded). bound_vars b.league) c.in_ok-system.ensures) c.in_ok-found.ensures.answer.answer
     in
     (rw c.in-Sat.is at answer).0
 
 pub decoded-requires-clause-satisfied : goal.decoded-requires-clause-satisfied
 decoded-requires-clause-satisfied g c =
-    let answer = answer-of c.args.league.now (c.args.objective - 1) c.vars.result c.rows.result.now c.in_ok-found.ensures.kept
+    let answer = answer-of c.args.league.now (c.args.objective - 1) c.vars.result c.rows.result.now c.in_ok-found.ensures.answer.kept
     c.in_ok-found.found (c.rows.ensures ∙ ap (λ (b : Bounded). bound_rows b.league b.bound) c.in_ok-system.ensures)
-    (c.vars.ensures.vars ∙ ap (λ (b : Bounded). bound_vars b.league) c.in_ok-system.ensures) c.in_ok-found.ensures.answer
+    (c.vars.ensures.vars ∙ ap (λ (b : Bounded). bound_vars b.league) c.in_ok-system.ensures) c.in_ok-found.ensures.answer.answer
     in
     (rw c.in-Sat.is at answer).1
 
 pub returns-in-Refuted : goal.returns-in-Refuted
 returns-in-Refuted g c = λ m cost settled.
-    let answer = answer-of c.args.league.now (c.args.objective - 1) c.vars.result c.rows.result.now c.in_ok-found.ensures.kept
+    let answer = answer-of c.args.league.now (c.args.objective - 1) c.vars.result c.rows.result.now c.in_ok-found.ensures.answer.kept
     c.in_ok-found.found (c.rows.ensures ∙ ap (λ (b : Bounded). bound_rows b.league b.bound) c.in_ok-system.ensures)
-    (c.vars.ensures.vars ∙ ap (λ (b : Bounded). bound_vars b.league) c.in_ok-system.ensures) c.in_ok-found.ensures.answer
+    (c.vars.ensures.vars ∙ ap (λ (b : Bounded). bound_vars b.league) c.in_ok-system.ensures) c.in_ok-found.ensures.answer.answer
     in (
-      c.in_ok-found.ensures.kept,
-      c.in_ok-found.ensures.is_kept,
-      least-of c.args.league.now m c.in_ok-found.ensures.kept c.args.objective c.in-Refuted.log
+      c.in_ok-found.ensures.answer.kept,
+      c.in_ok-found.ensures.answer.is_kept,
+      least-of c.args.league.now m c.in_ok-found.ensures.answer.kept c.args.objective c.in-Refuted.log
           c.requires.counted.instance cost c.requires.some (rw c.in-Refuted.is at answer),
     )
 
 pub returns : goal.returns
 returns g c = λ m cost settled.
-    let answer = answer-of c.args.league.now (c.args.objective - 1) c.vars.result c.rows.result.now c.in_ok-found.ensures.kept
+    let answer = answer-of c.args.league.now (c.args.objective - 1) c.vars.result c.rows.result.now c.in_ok-found.ensures.answer.kept
     c.in_ok-found.found (c.rows.ensures ∙ ap (λ (b : Bounded). bound_rows b.league b.bound) c.in_ok-system.ensures)
-    (c.vars.ensures.vars ∙ ap (λ (b : Bounded). bound_vars b.league) c.in_ok-system.ensures) c.in_ok-found.ensures.answer
+    (c.vars.ensures.vars ∙ ap (λ (b : Bounded). bound_vars b.league) c.in_ok-system.ensures) c.in_ok-found.ensures.answer.answer
     in (
-      c.in_ok-found.ensures.kept,
-      c.in_ok-found.ensures.is_kept,
-      spent-of c.args.league.now m c.in_ok-found.ensures.kept c.args.objective c.in-Spent.log cost settled
+      c.in_ok-found.ensures.answer.kept,
+      c.in_ok-found.ensures.answer.is_kept,
+      spent-of c.args.league.now m c.in_ok-found.ensures.answer.kept c.args.objective c.in-Spent.log cost settled
           c.requires.some (rw c.in-Spent.is at answer),
     )
 

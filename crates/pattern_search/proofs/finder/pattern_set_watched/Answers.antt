@@ -12,7 +12,7 @@ search_watched-requires-clause-known g c =
 pub returns : goal.returns
 returns g c =
     answered-by c.args.encoding.now c.in_ok-picked.picked.rows (c.vars.result - c.x_count-games.result) c.args.limit
-    (g.W.Watch.may_stop c.args.watch.now) c.in_ok-found.found c.answer.result c.in_ok-found.ensures
+    (g.W.Watch.may_stop c.args.watch.now) c.in_ok-found.found c.answer.result c.in_ok-found.ensures.answer
     (λ kept is. c.answer.ensures kept
     (subst
     (λ (vars : ℕ). IsAnswer c.in_ok-picked.picked.rows (vars - c.x_count-games.result) kept c.in_ok-found.found)
