@@ -1,6 +1,6 @@
 -- Descents of the league of SolveExamples, what a search leaves open, whole answers, and the best of two tries.
 use Rattle.std.proofs.Common.{lit<, lit≤, ◌≡◌, ℕ, zero, suc, ◌+◌, ◌<◌, ◌≤◌, ◌==◌, Bool, true, false, ◌&&◌, ◌||◌, nat_lt, cond}
-use Rattle.std.proofs.Common.{if◌then◌else◌, List, [], ◌∷◌, length, Option, Some, None, IfSome}
+use Rattle.std.proofs.Common.{if◌then◌else◌, List, [], ◌∷◌, get_or, length, Option, Some, None, IfSome}
 use Rattle.std.proofs.Common.{inl, refl, sym, arith, ap, ap₂, IsTrue}
 use Rattle.std.proofs.Math.Path.{fun_ext}
 use Rattle.std.proofs.lemmas.Bool.Decides.{nat_tests}
@@ -31,6 +31,8 @@ use Rattle.solve.specs.Earliest.{IsBestOf, IsBestOfTries, IsEarliestLeast}
 use Rattle.solve.specs.Tried.{IsTriedBy}
 use Rattle.solve.specs.declared.lower.Season.{Season}
 use Rattle.solve.specs.declared.solved.Solved.TheVariants as solved
+use Rattle.solve.specs.declared.tries.Tried.{Tried}
+use Rattle.solve.specs.declared.tries.Tried.TheVariants as tries
 use Rattle.example_answers.proofs.SolveExamples.{accepted_home, accepted_out, false_true, fits_home, fits_out}
 use Rattle.example_answers.proofs.SolveExamples.{home, homes, log, one_there, ordered_home, ordered_out, out}
 use Rattle.example_answers.proofs.SolveExamples.{pattern_pairs, quiet_pairs, refutes-homes, spent-one_there}
@@ -296,22 +298,31 @@ best-second = record {
 pub best-none : IsBestOf (None ∷ Some dear ∷ []) None → ⊥
 best-none is = true_false (is 1 None (lit< tt))
 
-abbrev one_try : Budgets
-one_try = record { conflicts = None; moves = 0; tries = 1; patterns = 0; seed = 3 }
+abbrev two_tries : Budgets
+two_tries = record { conflicts = None; moves = 0; tries = 2; patterns = 0; seed = 3 }
 
--- no try behind the first, which is as many as there may be
-pub best-tries : IsBestOfTries (λ k tried. IsTriedBy wishful one_try ⊥ tried) one_try ⊥
-    (solved.Schedule home 5 stopped) (solved.Schedule home 5 stopped)
+-- the second try, which is the only one behind the first
+tried-second : (k : ℕ) (d : Tried) → k < 1 → IsTriedBy wishful two_tries ⊥ (get_or (tries.Found cheap ∷ []) k d)
+tried-second zero d below = record {
+  kept = two_tries;
+  are_kept = record { conflicts = inl refl; patterns = inl refl; moves = inl refl; tries = refl; seed = refl };
+  is_tried = season_out;
+}
+tried-second (suc k) d below = absurd (omega (arith, below))
+
+pub best-tries : IsBestOfTries (λ k tried. IsTriedBy wishful two_tries ⊥ tried) two_tries ⊥
+    (solved.Schedule home 5 stopped) (solved.Schedule out 0 resting)
 best-tries = record {
-  later = [];
-  each = λ k d below. absurd (omega (arith, below));
-  few = λ some. absurd (omega (arith, some));
+  later = tries.Found cheap ∷ [];
+  each = tried-second;
+  few = λ some. lit< tt;
   all = λ no unstopped. lit≤ tt;
   best = record {
-    before = [];
+    before = Some dear ∷ [];
     after = [];
     place = refl;
-    earlier = All-nil (λ (o : Option Season). IfSome o (λ s. 5 < s.objective));
-    later = All-nil (λ (o : Option Season). IfSome o (λ s. 5 ≤ s.objective));
+    earlier = All-from_recursion (λ (o : Option Season). IfSome o (λ s. 0 < s.objective)) (Some dear ∷ [])
+        (lit< tt, tt);
+    later = All-nil (λ (o : Option Season). IfSome o (λ s. 0 ≤ s.objective));
   };
 }

@@ -20,3 +20,4 @@ pub use from_season::solve_from;
 pub use lower::{Season, lowered, lowered_watched};
 pub use solved::Solved;
 pub use solver::solve;
+pub use tries::Tried;

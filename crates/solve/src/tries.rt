@@ -14,7 +14,7 @@ use refutation::Log;
 
 /// What one try comes to.
 #[derive(Drop)]
-pub(crate) enum Tried {
+pub enum Tried {
     /// A schedule that is accepted.
     Found(Season),
     /// A log that refutes the league.
