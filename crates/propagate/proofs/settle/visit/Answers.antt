@@ -48,3 +48,24 @@ returns-clause-visited c = λ none rows at_most hung.
     (omega (arith, c.requires.there, c.walk.ensures.grown.grown.longer)) c.visit_rows.ensures.grown)
     (omega (arith, c.requires.there, c.walk.ensures.grown.grown.longer, c.visit_rows.ensures.grown.grown.longer))
     (c.visit_rows.ensures.visited none) at_most hung
+
+pub entry-requires : goal.entry-requires
+entry-requires c = c.requires.there
+
+pub walk-requires-clause-sound : goal.walk-requires-clause-sound
+walk-requires-clause-sound c = c.requires.trail.ready.sound
+
+pub walk-requires-clause-falsified : goal.walk-requires-clause-falsified
+walk-requires-clause-falsified c = λ d.
+    ap (λ (e : Entry). negate e.lit)
+    (get_or_from_slice_get c.args.path.now.entries c.args.looked.entries c.entry.result d c.entry.ensures)
+    ∙ sym c.negate-falsified.ensures
+
+pub returns-in-Some-clause-grown : goal.returns-in-Some-clause-grown
+returns-in-Some-clause-grown c = c.walk.ensures.grown
+
+pub returns-in-Some-clause-conflict : goal.returns-in-Some-clause-conflict
+returns-in-Some-clause-conflict c = c.in-Some.ensures.conflict
+
+pub returns-clause-conflict : goal.returns-clause-conflict
+returns-clause-conflict c = c.visit_rows.ensures.conflict
