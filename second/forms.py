@@ -557,6 +557,8 @@ def without_common(words):
     """The words without `--quiet`, and `--out` and `--log` with the word behind each; and the files that are named so.
     Nothing where one of these stands twice or has no name behind it."""
     rest, named, words = [], {}, list(words)
+    if words.count("--quiet") > 1 + sum(pair[1] == "--quiet" for pair in zip(words, words[1:]) if pair[0] in ("--out", "--log")):
+        return None, {}
     while words:
         word = words.pop(0)
         if word in ("--out", "--log"):
@@ -590,6 +592,9 @@ def files_of(words):
     if words[0] == "rows" and "--objective" in rest and len(rest) == 2:
         rest.remove("--objective")
         return rest if is_file(rest[0]) else None
+    if words[0] == "resume" and rest[3:4] == ["--near"]:
+        files, more = given_files(rest[:3], wanted, {}), given_files(rest[4:], [], {**SOLVE, **SECONDS})
+        return None if more is None else files
     return given_files(rest, wanted, options)
 
 
