@@ -15,7 +15,7 @@ ghost use Rattle.robin_watch.specs.Limits.{IsKeptTo};
 use crate::find::{all_moves, next_lowering};
 use league::Schedule;
 use moves::{Board, Edit, MoveList, Swap};
-use robin_watch::Watch;
+use robin_watch::{News, Watch};
 use rule_core::{Rule, Steps};
 use std::alloc::{AllocError, Global};
 use tally::Tally;
@@ -58,7 +58,7 @@ impl Walk {
     }
 
     /// Makes moves that lower the score of a tally's games, at most so many, until the watch ends it, and says whether
-    /// no further one does.
+    /// no further one does. The watch hears of each.
     ///
     /// # Errors
     /// Only where memory runs out: the moves made so far stay made.
@@ -84,6 +84,7 @@ impl Walk {
             → IfOk result (λ settled. settled ≡ false → 1 ≤ length self.new.trail.list) }
     {
         'down: for made in 0..limit {
+            watch.tell(News::Down { made });
             if made > 0 && watch.is_over_now(made) {
                 return Ok(self.find(tally, steps).is_none());
             }

@@ -10,4 +10,4 @@ mod watch;
 
 pub use doubles::{StopsAt, Unwatched};
 pub use kept::kept_limit;
-pub use watch::{News, Watch};
+pub use watch::{News, Phase, Watch};

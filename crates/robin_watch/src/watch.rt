@@ -1,13 +1,34 @@
 //! The trait of what watches over a run.
 ghost use Rattle.std.specs.Prelude.{◌≡◌, ℕ, Bool, true, Option, None, IfSome};
 
+/// What a run does for a while.
+#[derive(Clone, Copy, Debug, PartialEq, Eq)]
+pub enum Phase {
+    /// It counts venues and breaks.
+    Counts,
+    /// It searches home-away patterns.
+    Patterns,
+    /// It searches a schedule by clauses.
+    Search,
+    /// It walks from games to games, and may try so many moves.
+    Walk { moves: u64 },
+    /// It goes down from a season by single moves, of which it may make so many.
+    Descent { moves: u64 },
+}
+
 /// How far a run has come. A turn is a clause learnt or a move tried.
 #[derive(Clone, Copy, Debug, PartialEq, Eq)]
 pub enum News {
+    /// A try begins. The first one, of which nothing is told, has the number 1.
+    Try { number: u64 },
+    /// A phase begins.
+    Phase(Phase),
     /// A search has learnt so many clauses, and may learn so many, where there is a limit.
     Search { learnt: u64, limit: Option<u64> },
     /// A walk has tried so many moves, and what it found so far misses hard constraints at this cost.
     Hard { tried: u64, cost: u128 },
+    /// A descent has made so many moves.
+    Down { made: u64 },
     /// A proof begins that no season costs less than this.
     Bound { objective: u64 },
     /// So many members of a conflict are still to be tried.

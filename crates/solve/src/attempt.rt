@@ -19,6 +19,7 @@ use decoding::decode;
 use encoding::Encoding;
 use league::League;
 use robin_news::Listener;
+use robin_watch::{News, Phase};
 use rows::{Assignment, Lit};
 use std::alloc::{AllocError, Global};
 
@@ -109,6 +110,7 @@ pub(crate) fn try_search<W: Listener>(
     requires known { All (λ l. l.var ≤ var_count encoding.now) prefer.now }
     ensures { IfOk result (IsTriedBy league.now budgets (W.may_stop watch.now)) }
 {
+    watch.tell(News::Phase(Phase::Search));
     let found = search_watched(
         alloc,
         encoding.rows(),

@@ -27,6 +27,7 @@ use encoding::{EncodeFault, Encoding, check_size, encode_small};
 use league::{League, Schedule};
 use pattern_search::{PatternFound, pattern_set_watched};
 use robin_news::Listener;
+use robin_watch::{News, Phase};
 use std::alloc::{AllocError, Global};
 
 /// Finds a schedule that the league accepts, or a proof that there is none, from a double round robin of the league.
@@ -71,6 +72,7 @@ pub fn solve_from<W: Listener>(
     ensures few { are_few league.now ≡ true → IfOk result IsRefuted }
 {
     let _terms = check_size(league)?;
+    watch.tell(News::Phase(Phase::Counts));
     if let Some(log) = count_out(alloc, league)? {
         return Ok(Solved::Refuted(log));
     }
@@ -133,6 +135,7 @@ fn best_walk<W: Listener>(
         if is_refuted(&best) || watch.is_over_now(k) {
             return Ok(best);
         }
+        watch.tell(News::Try { number: k + 1 });
         let share = Share {
             budgets: Budgets {
                 seed: budgets.seed.wrapping_add(k),
@@ -163,6 +166,7 @@ fn search_near<W: Listener>(
     ensures { IfOk result (IsSolutionBy league.now budgets (W.may_stop watch.now)) }
 {
     let _vars = encoding.vars();
+    watch.tell(News::Phase(Phase::Patterns));
     let found = pattern_set_watched(alloc, encoding, Some(budgets.patterns), watch)?;
     match found {
         PatternFound::Patterns(patterns) => {

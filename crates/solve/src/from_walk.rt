@@ -14,6 +14,7 @@ use crate::told::lowered_told;
 use circle_method::double;
 use league::{League, Schedule};
 use robin_news::Listener;
+use robin_watch::{News, Phase};
 use std::alloc::{AllocError, Global};
 use walk::walk;
 
@@ -65,6 +66,7 @@ pub(crate) fn walk_from<W: Listener>(
 {
     let moves = share.budgets.moves;
     let budget = walk_budget(league.n(), moves).saturating_mul(share.times);
+    watch.tell(News::Phase(Phase::Walk { moves: budget }));
     let walked = walk(alloc, league, start, share.budgets.seed, budget, watch)?;
     if walked.best.score.infeasibility > 0 {
         return Ok(None);

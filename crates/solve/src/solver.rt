@@ -32,6 +32,7 @@ use pattern_search::{PatternFound, pattern_set_watched};
 use patterns::PatternSet;
 use refutation::Log;
 use robin_news::Listener;
+use robin_watch::{News, Phase};
 use std::alloc::{AllocError, Global};
 
 /// Finds a schedule that the league accepts, or a proof that there is none.
@@ -80,6 +81,7 @@ pub fn solve<W: Listener>(
     ensures few { are_few league.now ≡ true → IfOk result IsRefuted }
 {
     let _terms = check_size(league)?;
+    watch.tell(News::Phase(Phase::Counts));
     if let Some(log) = count_out(alloc, league)? {
         return Ok(Solved::Refuted(log));
     }
@@ -190,6 +192,7 @@ fn best_of<F: Fn(u64) -> Result<Tried, AllocError>, W: Listener>(
         if watch.is_over_now(k) {
             return Ok(best);
         }
+        watch.tell(News::Try { number: k + 1 });
         let later = attempt(k)?;
         best = better(best, later);
     }
@@ -211,6 +214,7 @@ fn try_patterns<W: Listener>(
     ensures { IfOk result (IsSolutionBy league.now budgets (W.may_stop watch.now)) }
 {
     let _vars = encoding.vars();
+    watch.tell(News::Phase(Phase::Patterns));
     let found = pattern_set_watched(alloc, encoding, Some(budgets.patterns), watch)?;
     match found {
         PatternFound::Patterns(patterns) => {

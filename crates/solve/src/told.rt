@@ -10,6 +10,7 @@ use crate::lower::{Season, lowered_watched};
 use deviation::assess;
 use league::{League, Schedule};
 use robin_news::Listener;
+use robin_watch::{News, Phase};
 use std::alloc::{AllocError, Global};
 
 /// The schedule to which a descent of at most so many moves leads from an accepted one, until the watch ends it. The
@@ -31,6 +32,7 @@ pub(crate) fn lowered_told<W: Listener>(
     ensures season { IfOk result (IsSeasonBy league.now moves (W.may_stop watch.now)) }
     ensures first { IfOk result (λ season. counts_of season.descent.first ≡ counts_of start.now) }
 {
+    watch.tell(News::Phase(Phase::Descent { moves }));
     let season = lowered_watched(alloc, league, start, moves, watch)?;
     watch.tell_season(league, season.schedule.games(), season.objective, tried);
     Ok(season)
