@@ -48,12 +48,10 @@ pub record Promise (run : Run) (instance solution : List ℕ) (conflicts : Optio
       → Writes run (IsShownBy league (IsKeptTo conflicts run.may_stop) games)
   -- Where the season is called least, no accepted season has a lower objective.
   pub unbettered : (league : Instance) (games : List Game)
-      → SaySeason run.store instance solution league games → run.ended ≡ Yes
-      → IsUnbettered league games run.output
+      → SaySeason run.store instance solution league games → run.ended ≡ Yes → IsUnbettered league games run.output
   -- Where the season is bettered, the one that is written is accepted, with a lower objective.
   pub bettered : (league : Instance) (games : List Game)
-      → SaySeason run.store instance solution league games → run.ended ≡ Better
-      → IsBettered league games run.output
+      → SaySeason run.store instance solution league games → run.ended ≡ Better → IsBettered league games run.output
 
 -- each run of `prove` keeps it
 abbrev pub Proves : Run → Type 0
