@@ -5,8 +5,8 @@ use Rattle.bound_base.specs.BoundRows.{needs_breaks}
 use Rattle.bound_rows.proofs.CountLemmas.{more_breaks}
 use Rattle.bound_rows.proofs.count.more_terms.Goals as goal
 
-pub returns-then-not-has_breaks : goal.returns-then-not-has_breaks
-returns-then-not-has_breaks c =
+pub returns-then-not-has_breaks-clause-terms : goal.returns-then-not-has_breaks-clause-terms
+returns-then-not-has_breaks-clause-terms c =
     let league = c.args.league.now in
     let needs : needs_breaks league.constraints ≡ true =
     sym (c.needs_breaks.ensures ∙ ap needs_breaks c.constraints-constraints.ensures) ∙ c.if-needs_breaks.true in
