@@ -75,11 +75,7 @@ fn row_terms(units: u64, degree: u64, count: u64) -> u64
     ensures terms { result ≡ sizes.row_size units degree count }
     ensures most { result ≤ count + units }
 {
-    if degree > 0 {
-        count + units
-    } else {
-        0
-    }
+    if degree > 0 { count + units } else { 0 }
 }
 
 /// How many terms the units of a group have outside of the group's rows: one each in the objective row, and two in each

@@ -9,17 +9,20 @@ use Rattle.bound_rows.specs.Sizes.{part_size}
 use Rattle.bound_rows.proofs.CountLemmas.{pair_size}
 use Rattle.bound_rows.proofs.separation.pair_terms.Goals as goal
 
-pub loop-before-preserved-so_far : goal.loop-before-preserved-so_far
-loop-before-preserved-so_far c =
+pub loop-before-preserved : goal.loop-before-preserved
+loop-before-preserved c =
     let place : 0 + c.loop-before.before ≡ c.loop-before.before = omega arith in
     let f : ℕ → ℕ = λ v. part_size c.args.n (Se1 (0 ∷ 1 ∷ []) (v + 1)) in
-    omega (
-      arith,
-      c.loop-before.invariant.so_far,
-      c.apart_terms.ensures.terms,
-      sum_by-range_more f 0 c.loop-before.before,
-      ap f place,
-    )
+    record {
+      so_far = omega (
+        arith,
+        c.loop-before.invariant.so_far,
+        c.apart_terms.ensures.terms,
+        sum_by-range_more f 0 c.loop-before.before,
+        ap f place,
+      );
+      most = omega (arith, c.loop-before.invariant.most, c.apart_terms.ensures.most);
+    }
 
 pub returns-clause-terms : goal.returns-clause-terms
 returns-clause-terms c =
@@ -58,6 +61,6 @@ returns-clause-most c =
           omega (arith, mul-le last more 12404 0 c.apart_terms-last.ensures.most (omega (arith, none)))
       | inr long ↦
           let whole : slot_count n ≤ c.min-near.result = omega (arith, near, long) in
-          mul-le last more 158 4294967295 (c.apart_terms-last.ensures.long whole) (omega (arith, c.from-2.ensures))
+          mul-le last more 158 4294967295 (c.apart_terms-last.ensures.long whole) (omega (arith, c.from-2.ensures, c.ranges.min.fits))
     ] in
     omega (arith, later, c.loop-before.invariant.most, near, few)

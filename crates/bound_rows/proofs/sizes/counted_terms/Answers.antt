@@ -1,4 +1,4 @@
-use Rattle.std.proofs.Common.{ℕ, ap}
+use Rattle.std.proofs.Common.{ap}
 use Rattle.std.specs.List.{sum_by}
 use Rattle.league.specs.declared.class.Bounds.{Bounds}
 use Rattle.encoding_sizes.specs.Batches.{lengths_of}
@@ -11,9 +11,8 @@ returns-clause-terms c =
     let n = c.args.n in
     let class = c.args.class.now in
     let bounds = c.bounds-bounds.result in
-    let size : ℕ → ℕ = between_size bounds.min bounds.max in
     cc (
-      c.batches_of-batches.ensures.all size,
+      c.batches_of-batches.ensures.all (between_size bounds.min bounds.max),
       ap (λ (b : Bounds). sum_by (between_size b.min b.max) (lengths_of n class)) c.bounds-bounds.ensures,
       parts_size-counted n class c.requires.bounds c.requires.fits,
     )
