@@ -1,5 +1,4 @@
 use Rattle.std.proofs.Common.{◌≡◌, ℕ, ap, ◌∙◌, arith}
-use Rattle.bound_base.specs.BoundRows.{bound_size}
 use Rattle.bound_rows.specs.Sizes.{paid_size}
 use Rattle.bound_rows.proofs.SizeLemmas.{bound_size-paid}
 use Rattle.bound_rows.proofs.count.bound_terms.Goals as goal

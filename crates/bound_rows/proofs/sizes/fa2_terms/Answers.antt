@@ -1,6 +1,5 @@
-use Rattle.std.proofs.Common.{◌≡◌, ℕ, ◌*◌, List, length, ap, arith, ◌∙◌}
+use Rattle.std.proofs.Common.{◌≡◌, ℕ, ◌*◌, List, ap, arith, ◌∙◌}
 use Rattle.std.proofs.lemmas.Nat.{mul-le}
-use Rattle.league.specs.Meetings.{pairs_of}
 use Rattle.league.specs.declared.class.Class.{Class}
 use Rattle.bound_base.specs.Parts.{parts_of}
 use Rattle.bound_rows.specs.Sizes.{lead_size, parts_size}
