@@ -102,7 +102,10 @@ pub fn schedule_in(
 
 /// Writes the text of an answer, and says how the run ends.
 pub fn write_answer<K: Sink>(out: &mut K, reply: &Reply) -> Status
-    ensures { IsWritten (answer_of reply.now) result (output_between K.Sink out.old out.new) }
+    ensures written { IsWritten (answer_of reply.now) result (output_between K.Sink out.old out.new) }
+
+    // At most as many puts as the text has bytes.
+    ensures calls { K.calls out.new ≤ K.calls out.old + length (answer_of reply.now).text }
 {
     match put_all(out, &reply.text) {
         Ok(()) => reply.status,

@@ -1,10 +1,8 @@
--- Sums that are capped, and the parts of an SE1.
-use Rattle.std.proofs.Common.{◌≡◌, ℕ, zero, suc, ◌+◌, ◌-◌, ◌*◌, ◌^◌, ◌<◌, ◌≤◌, Bool, true, false}
-use Rattle.std.proofs.Common.{min as smaller, List, [], ◌∷◌, ◌++◌, length, map, get_or, take, refl, sym, ap, ◌∙◌}
-use Rattle.std.proofs.Common.{arith, inl, inr}
+-- Sums of sizes, and the parts of an SE1.
+use Rattle.std.proofs.Common.{◌≡◌, ℕ, zero, suc, ◌+◌, ◌-◌, ◌*◌, ◌<◌, ◌≤◌, Bool, true, false}
+use Rattle.std.proofs.Common.{min as smaller, List, [], ◌∷◌, ◌++◌, length, map, refl, sym, ap, ◌∙◌, arith}
 use Rattle.std.proofs.Math.Nat.{mul-suc}
-use Rattle.std.proofs.lemmas.Bool.{cases_lt}
-use Rattle.std.proofs.lemmas.List.Sums.{sum_by-append, sum_by-cons, sum_by_more}
+use Rattle.std.proofs.lemmas.List.Sums.{sum_by-append, sum_by-cons}
 use Rattle.std.specs.List.{filter, range_with_len, sum_by}
 use Rattle.league.specs.Capacity.{meetings_with, windows_of}
 use Rattle.league.specs.Counts.{slot_count}
@@ -23,54 +21,10 @@ use Rattle.encoding_sizes.proofs.SeasonSizes.{size_of-breaks}
 use Rattle.encoding_base.specs.Season.{break_rows}
 use Rattle.bound_base.specs.BoundRows.{base_rows, needs_breaks}
 use Rattle.bound_base.specs.Parts.{se1_parts}
-use Rattle.encoding.specs.Capped.{capped}
 use Rattle.bound_rows.specs.Sizes.{group_size, part_size, parts_size}
-
--- ---- capped sums
-
-pub capped-add : (a b x y total : ℕ) → x ≡ capped a → y ≡ capped b → total ≡ smaller (x + y) (2 ^ 64 - 1)
-    → total ≡ capped (a + b)
-capped-add a b x y total first second is = omega (arith, first, second, is)
-
-pub capped-as : (a b total : ℕ) → a ≡ b → total ≡ capped a → total ≡ capped b
-capped-as a b total same is = is ∙ ap (λ (s : ℕ). capped s) same
-
--- a term more
-pub capped-next : {X : Type 0} (f : X → ℕ) (xs : List X) (k : ℕ) (d : X) (old part new : ℕ) → k < length xs
-    → old ≡ capped (sum_by f (take k xs)) → part ≡ capped (f (get_or xs k d))
-    → new ≡ smaller (old + part) (2 ^ 64 - 1) → new ≡ capped (sum_by f (take (k + 1) xs))
-capped-next f xs k d old part new within so_far next is =
-    omega (arith, so_far, next, is, sum_by_more f xs k d within)
-
-pub capped-range : (f : ℕ → ℕ) (k old part new : ℕ) → old ≡ capped (sum_by f (range_with_len 0 k))
-    → part ≡ capped (f k) → new ≡ smaller (old + part) (2 ^ 64 - 1)
-    → new ≡ capped (sum_by f (range_with_len 0 (k + 1)))
-capped-range f k old part new so_far next is =
-    let place : 0 + k ≡ k = omega arith in
-    omega (arith, so_far, next, is, sum_by-range_more f 0 k, ap f place)
 
 pub times-comm : (a b : ℕ) → a * b ≡ b * a
 times-comm a b = grind arith
-
--- so many times a capped number
-pub capped-times : (c count x product : ℕ) → x ≡ capped c → product ≡ smaller (x * count) (2 ^ 64 - 1)
-    → product ≡ capped (c * count)
-capped-times c zero x product is times = omega (arith, times)
-capped-times c (suc count) x product is times =
-    elim (cases_lt c (2 ^ 64)) [
-      | inl small ↦
-          let same : x ≡ c = omega (arith, is, small) in
-          times ∙ ap (λ (y : ℕ). smaller (y * suc count) (2 ^ 64 - 1)) same
-      | inr large ↦
-          let most : x ≡ 2 ^ 64 - 1 = omega (arith, is, large) in
-          omega (arith, times, most, large, mul-suc x count, mul-suc c count)
-    ]
-
--- a number that is told by another name
-pub capped-times-as : (c count x k product : ℕ) → x ≡ capped c → k ≡ count → product ≡ smaller (x * k) (2 ^ 64 - 1)
-    → product ≡ capped (c * count)
-capped-times-as c count x k product is same times =
-    capped-times c count x product is (times ∙ ap (λ (k : ℕ). smaller (x * k) (2 ^ 64 - 1)) same)
 
 -- ---- the parts of an SE1, from the least number of slots on
 

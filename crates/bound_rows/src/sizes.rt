@@ -5,7 +5,6 @@ ghost use Rattle.league.specs.Names.{name_of};
 ghost use Rattle.league.specs.Shapes.{has_bounds};
 ghost use Rattle.bound_base.specs.Parts as parts;
 ghost use Rattle.bound_rows.specs.Sizes as sizes;
-ghost use Rattle.encoding.specs.Capped.{capped};
 
 use crate::groups::{between_terms, lead_terms};
 use crate::separation::se1_terms;
@@ -18,7 +17,8 @@ use league::{Bounds, Class, ClassName};
 pub(crate) fn class_terms(n: u16, class: &Class) -> u64
     requires n { IsTeamCount n }
     requires fits { IsTrue (class_fits n class.now) }
-    ensures { result ≡ capped (sizes.parts_size n (parts.parts_of n class.now)) }
+    ensures terms { result ≡ sizes.parts_size n (parts.parts_of n class.now) }
+    ensures most { result ≤ 600000000000000 }
 {
     match class {
         Class::Fa2 { .. } => fa2_terms(n, class),
@@ -33,19 +33,22 @@ fn counted_terms(n: u16, class: &Class) -> u64
     requires n { IsTeamCount n }
     requires bounds { IsTrue (has_bounds class.now) }
     requires fits { IsTrue (class_fits n class.now) }
-    ensures { result ≡ capped (sizes.parts_size n (parts.parts_of n class.now)) }
+    ensures terms { result ≡ sizes.parts_size n (parts.parts_of n class.now) }
+    ensures most { result ≤ 600000000000000 }
 {
     let bounds = class.bounds();
     let batches = batches_of(n, class);
-    let first = batch_terms(bounds, batches.first);
-    first.saturating_add(batch_terms(bounds, batches.second))
+    batch_terms(bounds, batches.first) + batch_terms(bounds, batches.second)
 }
 
 /// How many terms the groups of one batch have.
 fn batch_terms(bounds: Bounds, batch: Batch) -> u64
-    ensures { result ≡ capped (batch.lists * sizes.between_size bounds.min bounds.max batch.literals) }
+    requires lists { batch.lists ≤ 3160 }
+    requires short { batch.literals ≤ 124800 }
+    ensures terms { result ≡ batch.lists * sizes.between_size bounds.min bounds.max batch.literals }
+    ensures most { result ≤ 70000000000000 }
 {
-    between_terms(bounds.min, bounds.max, batch.literals).saturating_mul(batch.lists)
+    batch.lists * between_terms(bounds.min, bounds.max, batch.literals)
 }
 
 /// How many terms the groups of an FA2 have: equally many for each two of its teams.
@@ -53,10 +56,11 @@ fn fa2_terms(n: u16, class: &Class) -> u64
     requires n { n ≤ 40 }
     requires class { name_of class.now ≡ ClassName.Fa2 }
     requires fits { IsTrue (class_fits n class.now) }
-    ensures { result ≡ capped (sizes.parts_size n (parts.parts_of n class.now)) }
+    ensures terms { result ≡ sizes.parts_size n (parts.parts_of n class.now) }
+    ensures most { result ≤ 600000000000000 }
 {
     let Class::Fa2 { teams, intp, slots } = class else {
         unreachable!()
     };
-    lead_terms(*intp, slot_numbers(n, slots)).saturating_mul(pair_total(n, teams))
+    lead_terms(*intp, slot_numbers(n, slots)) * pair_total(n, teams)
 }

@@ -16,7 +16,6 @@ use Rattle.refutation.specs.declared.verdict.Verdict.TheVariants.{Accepted, Reje
 use Rattle.command_check.specs.Check.{most_log_bytes}
 use Rattle.bound_base.specs.BoundRows.{bound_size}
 use Rattle.bound_laws.specs.Faithful.{IsLowerBound}
-use Rattle.encoding.specs.Capped.{capped}
 use Rattle.certificates.specs.Certificates.{certificate_of}
 use Rattle.certificates.specs.declared.certificate.Certificate.{Certificate}
 use Rattle.command_bound.specs.Bound.{IsBoundVerdict, bound_answer, bound_verdict, bounded, has_few_terms}
@@ -51,7 +50,7 @@ after-league store instance log first league is_first says_league answer rest =
 pub bounded-large : (store : Store)
     (instance log first : List ℕ) (league : Instance) → IsFile (store.contents instance) INSTANCE_LIMIT first
     → instance_of (pieces first) ≡ Ok league → (answer : Answer)
-    → (most_terms < bound_size league) × (answer ≡ too_large (capped (bound_size league)))
+    → (most_terms < bound_size league) × (answer ≡ too_large (bound_size league))
     → bounded store instance log answer
 bounded-large store instance log first league is_first says_league answer large =
     after-league store instance log first league is_first says_league answer (inr large)

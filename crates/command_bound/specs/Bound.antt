@@ -17,7 +17,6 @@ use Rattle.refutation.specs.declared.verdict.Verdict.TheVariants.{Accepted, Reje
 use Rattle.command_check.specs.Check.{most_log_bytes, verdict_answer}
 use Rattle.bound_base.specs.BoundRows.{bound_rows, bound_size, bound_vars}
 use Rattle.bound_laws.specs.Faithful.{IsLowerBound}
-use Rattle.encoding.specs.Capped.{capped}
 use Rattle.certificates.specs.Certificates.{certificate_of}
 use Rattle.certificates.specs.declared.certificate.Certificate.{Certificate}
 use Rattle.encoding.specs.Limit.{most_terms}
@@ -52,7 +51,7 @@ pub record IsBoundVerdict (league : Instance) (certificate : Certificate) (answe
 abbrev pub has_few_terms : Instance → (Unit {0} → Outcome) → Outcome
 has_few_terms league next answer =
     ((bound_size league ≤ most_terms) × next tt answer)
-    ⊎ ((most_terms < bound_size league) × (answer ≡ too_large (capped (bound_size league))))
+    ⊎ ((most_terms < bound_size league) × (answer ≡ too_large (bound_size league)))
 
 -- the stage that takes what a certificate's text says: the certificate, or its first fault of form
 abbrev pub says_certificate : Result Certificate Fault → (Certificate → Outcome) → Outcome

@@ -5,7 +5,6 @@ ghost use Rattle.answers.specs.Reply.{too_large};
 ghost use Rattle.answers.specs.SeenReply.{Answers, MatchStage};
 ghost use Rattle.bound_base.specs.BoundRows.{bound_size};
 ghost use Rattle.bound_rows.specs.Bounded.{IsCounted};
-ghost use Rattle.encoding.specs.Capped.{capped};
 ghost use Rattle.certificates.specs.Certificates.{certificate_of};
 ghost use Rattle.command_bound.specs.Bound.{IsBoundVerdict, bounded, says_certificate};
 ghost use Rattle.command_bound.specs.Faults.{IsMalformed};
@@ -31,7 +30,7 @@ pub fn few_terms(alloc: Global, league: &League) -> Result<u64, NoValue>
     ensures { MatchStage result
         (IsCounted league.now)
         (λ answer. (most_terms < bound_size league.now)
-        × (answer ≡ too_large (capped (bound_size league.now)))) }
+        × (answer ≡ too_large (bound_size league.now))) }
 {
     let terms = bound_terms(league);
     if terms > MOST_TERMS {

@@ -11,7 +11,6 @@ use Rattle.answers.specs.SeenReply.{IsMalformed}
 use Rattle.answers.specs.Stages.{IsFile, IsUnread, says, takes}
 use Rattle.answers.proofs.StageLemmas.{says-value}
 use Rattle.bound_base.specs.BoundRows.{bound_size}
-use Rattle.encoding.specs.Capped.{capped}
 use Rattle.command_bound.specs.Bound.{has_few_terms}
 use Rattle.command_prove.specs.Prove.{IsShownBy, proved}
 use Rattle.encoding.specs.Limit.{most_terms}
@@ -42,7 +41,7 @@ after-league store instance solution limits first league is_first says_league an
 pub proved-large : (store : Store)
     (instance solution : List ℕ) (limits : Option ℕ → Type 0) (first : List ℕ) (league : Instance)
     → IsFile (store.contents instance) INSTANCE_LIMIT first → instance_of (pieces first) ≡ Ok league → (answer : Answer)
-    → (most_terms < bound_size league) × (answer ≡ too_large (capped (bound_size league)))
+    → (most_terms < bound_size league) × (answer ≡ too_large (bound_size league))
     → proved store instance solution limits answer
 proved-large store instance solution limits first league is_first says_league answer large =
     after-league store instance solution limits first league is_first says_league answer

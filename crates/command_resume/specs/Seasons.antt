@@ -12,7 +12,6 @@ use Rattle.answers.specs.Reply.{Answer, too_large}
 use Rattle.answers.specs.Stages.{◌>>=◌, Outcome, reads, says}
 use Rattle.answers.specs.declared.status.Status.TheVariants.{File}
 use Rattle.resume_rows.specs.Kept.{resume_size}
-use Rattle.encoding.specs.Capped.{capped}
 use Rattle.command_resume.specs.declared.season.Season.{Season}
 use Rattle.encoding.specs.Limit.{most_terms}
 
@@ -31,7 +30,7 @@ has_slots league k next answer =
 abbrev pub has_size : Instance → ℕ → (Unit {0} → Outcome) → Outcome
 has_size league k next answer =
     ((resume_size league k ≤ most_terms) × next tt answer)
-    ⊎ ((most_terms < resume_size league k) × (answer ≡ too_large (capped (resume_size league k))))
+    ⊎ ((most_terms < resume_size league k) × (answer ≡ too_large (resume_size league k)))
 
 -- The stages of the first two files: a league, of which k slots are played, and a list of games. How many slots there
 -- are, and how many terms the rows have, is judged before the second file is read.

@@ -1,5 +1,5 @@
 //! Rows that are ready to be written.
-ghost use Rattle.std.specs.Prelude.{◌≡◌, ◌≤◌, [], Some, IfOk, OnOk, OnErr};
+ghost use Rattle.std.specs.Prelude.{◌≡◌, ◌+◌, ◌≤◌, [], length, Some, IfOk, OnOk, OnErr};
 ghost use Rattle.std.specs.List.{All};
 ghost use Rattle.std.specs.Io.KnownBytes.{Appends};
 ghost use Rattle.robin_io.specs.Counts.{HasOneCause};
@@ -111,6 +111,7 @@ fn put_kept<K: Sink>(out: &mut K, waiting: &mut Waiting, kept: &Kept) -> Result<
     ensures err { OnErr result (AppendsPrefix (K.written out.old) (K.written out.new)
         (opb_text (system_kept kept.now))) }
     ensures cause { HasOneCause (K.faults out.old) (K.faults out.new) result }
+    ensures calls { K.calls out.new ≤ K.calls out.old + length (opb_text (system_kept kept.now)) }
 {
     match kept {
         Kept::League(encoding) => put_system(out, waiting, encoding.vars(), None, encoding.rows()),
@@ -131,6 +132,9 @@ fn put_kept<K: Sink>(out: &mut K, waiting: &mut Waiting, kept: &Kept) -> Result<
 pub fn write_rows<K: Sink>(out: &mut K, ready: ReadyRows) -> Status
     ensures written { IsWritten (rows_answer ready) result (output_between K.Sink out.old out.new) }
     ensures reads_back { result ≡ Yes → opb_of (opb_text ready) ≡ Some ready }
+
+    // At most as many puts as the text has bytes.
+    ensures calls { K.calls out.new ≤ K.calls out.old + length (rows_answer ready).text }
 {
     let ReadyRows { kept, mut waiting } = ready;
     match put_kept(out, &mut waiting, &kept) {

@@ -9,9 +9,8 @@ pub use Rattle.encoding_base.specs.Encoding
 pub use Rattle.encoding_base.specs.RowRanges
 pub use Rattle.encoding_base.specs.Known
 pub use Rattle.encoding_base.specs.Shadow
--- The limit on a league's rows, and a number of terms as it is told:
+-- The limit on a league's rows:
 pub mod Limit
-pub mod Capped
 -- Kept inside (laws, and how fields are seen):
 --
 -- What an encoding keeps:

@@ -8,12 +8,12 @@ use Rattle.encoding.specs.declared.encoder.EncodeFault.TheVariants.{TooLarge}
 abbrev pub most_terms : ℕ
 most_terms = MOST_TERMS
 
--- Rows of this size are made where the limit allows them. Where it doesn't, they are refused as too large, with the
--- number that is told for their size.
-pub record KeepsLimit {A : Type 0} (size told : ℕ) (result : Result A EncodeFault) : Type 0 where
+-- Rows of this size are made where the limit allows them. Where it doesn't, they are refused as too large, with their
+-- size.
+pub record KeepsLimit {A : Type 0} (size : ℕ) (result : Result A EncodeFault) : Type 0 where
   -- what is made is within the limit
   pub within : IsOk result → size ≤ most_terms
   -- what is past the limit is refused
-  pub too_large : most_terms < size → result ≡ Err (TooLarge told)
+  pub too_large : most_terms < size → result ≡ Err (TooLarge size)
   -- nothing else is refused as too large
   pub only : (terms : ℕ) → result ≡ Err (TooLarge terms) → most_terms < size

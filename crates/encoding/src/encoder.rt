@@ -42,7 +42,7 @@ impl From<AllocError> for EncodeFault {
 /// `TooLarge` exactly where the rows have more than 40,000,000 terms, with their number; nothing else.
 pub fn check_size(league: &League) -> Result<u64, EncodeFault>
     ensures terms { IfOk result (λ terms. terms ≡ encoding_size league.now) }
-    ensures limit { KeepsLimit (encoding_size league.now) (encoding_size league.now) result }
+    ensures limit { KeepsLimit (encoding_size league.now) result }
     ensures only { IsErr result → most_terms < encoding_size league.now }
 {
     let terms = encoding_size(league);
@@ -60,7 +60,7 @@ pub fn check_size(league: &League) -> Result<u64, EncodeFault>
 /// out.
 pub fn encode(alloc: Global, league: &League) -> Result<Encoding, EncodeFault>
     ensures league { IfOk result (λ encoding. encoding ≡ league.now) }
-    ensures limit { KeepsLimit (encoding_size league.now) (encoding_size league.now) result }
+    ensures limit { KeepsLimit (encoding_size league.now) result }
 {
     let terms = check_size(league)?;
     let encoding = written(alloc, league, terms)?;

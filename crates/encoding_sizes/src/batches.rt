@@ -58,6 +58,8 @@ pub fn batches_of(n: u16, class: &Class) -> Batches
     ensures few { in_all (λ literals. literals) result ≤ 20000000 }
     ensures first { result.first.literals ≤ 124800 }
     ensures second { result.second.literals ≤ 124800 }
+    ensures first_lists { result.first.lists ≤ 3160 }
+    ensures second_lists { result.second.lists ≤ 3160 }
 {
     match class {
         Class::Ca1 { teams, slots, .. } => {
@@ -98,6 +100,8 @@ fn ca2_batches(n: u16, class: &Class) -> Batches
     ensures few { in_all (λ literals. literals) result ≤ 20000000 }
     ensures first { result.first.literals ≤ 124800 }
     ensures second { result.second.literals ≤ 124800 }
+    ensures first_lists { result.first.lists ≤ 3160 }
+    ensures second_lists { result.second.lists ≤ 3160 }
 {
     let Class::Ca2 {
         teams1,
@@ -122,6 +126,8 @@ fn ca3_batches(n: u16, class: &Class) -> Batches
     ensures few { in_all (λ literals. literals) result ≤ 20000000 }
     ensures first { result.first.literals ≤ 124800 }
     ensures second { result.second.literals ≤ 124800 }
+    ensures first_lists { result.first.lists ≤ 3160 }
+    ensures second_lists { result.second.lists ≤ 3160 }
 {
     let Class::Ca3 {
         teams1,
@@ -148,6 +154,8 @@ fn ca4_batches(n: u16, class: &Class) -> Batches
     ensures few { in_all (λ literals. literals) result ≤ 20000000 }
     ensures first { result.first.literals ≤ 124800 }
     ensures second { result.second.literals ≤ 124800 }
+    ensures first_lists { result.first.lists ≤ 3160 }
+    ensures second_lists { result.second.lists ≤ 3160 }
 {
     let Class::Ca4 {
         teams1,
@@ -177,6 +185,8 @@ fn against(n: u16, teams1: &TeamSet, teams2: &TeamSet, windows: u64, games: u64)
     ensures few { in_all (λ literals. literals) result ≤ 20000000 }
     ensures first { result.first.literals ≤ 124800 }
     ensures second { result.second.literals ≤ 124800 }
+    ensures first_lists { result.first.lists ≤ 3160 }
+    ensures second_lists { result.second.lists ≤ 3160 }
 {
     let teams1 = team_numbers(n, teams1);
     let teams2 = team_numbers(n, teams2);
@@ -218,6 +228,8 @@ fn spanned(span: Span, meetings: u64, slots: &[u16]) -> Batches
     ensures few { in_all (λ literals. literals) result ≤ 20000000 }
     ensures first { result.first.literals ≤ 124800 }
     ensures second { result.second.literals ≤ 124800 }
+    ensures first_lists { result.first.lists ≤ 3160 }
+    ensures second_lists { result.second.lists ≤ 3160 }
 {
     let count = slots.len() as u64;
     match span {

@@ -13,7 +13,8 @@ use league::{Constraint, League};
 
 /// How many terms the rows of a league have. It takes no memory.
 pub fn encoding_size(league: &League) -> u64
-    ensures { result ≡ encoding.encoding_size league.now }
+    ensures terms { result ≡ encoding.encoding_size league.now }
+    ensures most { result ≤ 1000000000000 }
 {
     let n = league.n();
     let constraints = league.constraints();

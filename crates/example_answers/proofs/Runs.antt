@@ -12,7 +12,14 @@ no_store = record { contents = λ name. None; took_more = λ limit. ⊥; failed 
 
 abbrev pub ended_with : Status → Option (List ℕ) → Option (List ℕ) → Run
 ended_with ended before after =
-    record { command = None; may_stop = ⊥; store = no_store; output = written_between before after; ended = ended }
+    record {
+      command = None;
+      may_stop = ⊥;
+      store = no_store;
+      output = written_between before after;
+      puts = 0;
+      ended = ended;
+    }
 
 -- a store whose files have these contents, and that fails at those of these names
 abbrev pub store_of : (List ℕ → Option (List ℕ)) → (List ℕ → Type 0) → Store

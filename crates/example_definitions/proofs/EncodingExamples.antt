@@ -18,7 +18,6 @@ use Rattle.rows.specs.Rows.{Row}
 use Rattle.rows.specs.Tests.{all_satisfied}
 use Rattle.rows.specs.Values.{assigned}
 use Rattle.rows.specs.declared.lit.Term.{Term}
-use Rattle.encoding.specs.Capped.{capped}
 use Rattle.encoding_base.specs.Encoding.{class_rows, encoding_size, rows_of}
 use Rattle.encoding_base.specs.Known.{AreKnown, IsKnown}
 use Rattle.encoding_base.specs.Season.{half_rows}
@@ -283,9 +282,3 @@ known_rows = (
   All-from_recursion (IsKnown 0) (at_least 1 [] ∷ []) ((λ k d within. absurd (omega (arith, within))), tt),
   λ are. omega (arith, (are 1 known_row (lit< tt) 0 (record { coef = 1; lit = yes 1 }) (lit< tt)).1),
 )
-
--- ---- a number of terms that doesn't fit in 64 bits is told as the greatest that does
-
-pub capped-some : map capped (0 ∷ 2760 ∷ 18446744073709551614 ∷ 18446744073709551615 ∷ 18446744073709551616 ∷ [])
-    ≡ 0 ∷ 2760 ∷ 18446744073709551614 ∷ 18446744073709551615 ∷ 18446744073709551615 ∷ []
-capped-some = refl

@@ -66,7 +66,7 @@ pub(crate) fn searched<W: Listener>(
     conflicts: Option<u64>,
     watch: &W,
 ) -> Result<Attempt, EncodeFault>
-    ensures limit { KeepsLimit (encoding_size league.now) (encoding_size league.now) result }
+    ensures limit { KeepsLimit (encoding_size league.now) result }
     ensures attempt { IfOk result (IsAttempt league.now conflicts (W.may_stop watch.now)) }
     ensures circle { IsAccepted league.now (counts_of (double_games league.now.n)) → IfOk result IsMet }
     ensures short { are_short league.now ≡ true → IfOk result IsRefuted }

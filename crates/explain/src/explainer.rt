@@ -45,7 +45,7 @@ pub fn explain<W: Listener>(
     conflicts: Option<u64>,
     watch: &W,
 ) -> Result<Explained, EncodeFault>
-    ensures limit { KeepsLimit (encoding_size league.now) (encoding_size league.now) result }
+    ensures limit { KeepsLimit (encoding_size league.now) result }
     ensures explanation { IfOk result (IsExplanation league.now conflicts (W.may_stop watch.now)) }
 
     // Where each case of a conflict is a schedule, the conflict is irreducible.

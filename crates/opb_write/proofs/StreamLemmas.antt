@@ -145,6 +145,8 @@ module _ {K : Type 0} (shown : sink.Ghosts K) where
     ok = Goes-none (shown.written k) waited;
     err = tt;
     cause = record { later = omega arith; fault = tt };
+    calls = omega arith;
+    cut_calls = tt;
   }
 
   -- a text, and then another
@@ -155,6 +157,8 @@ module _ {K : Type 0} (shown : sink.Ghosts K) where
     ok = Goes-then (shown.written k) (shown.written l) (shown.written m) waited rest waits first second one.ok two.ok;
     err = tt;
     cause = record { later = omega (arith, one.cause.later, two.cause.later); fault = tt };
+    calls = omega (arith, one.calls, two.calls, length-append first second);
+    cut_calls = tt;
   }
   Sends-then k l m waited rest waits first second (Err e) one two = record {
     ok = tt;
@@ -163,6 +167,8 @@ module _ {K : Type 0} (shown : sink.Ghosts K) where
       later = omega (arith, one.cause.later, two.cause.later);
       fault = omega (arith, one.cause.later, two.cause.fault);
     };
+    calls = tt;
+    cut_calls = omega (arith, one.calls, two.cut_calls, length-append first second);
   }
 
   -- a text was cut, so that no other comes
@@ -172,6 +178,8 @@ module _ {K : Type 0} (shown : sink.Ghosts K) where
     ok = tt;
     err = Prefix-longer (shown.written k) (shown.written l) waited first second one.err;
     cause = record { later = one.cause.later; fault = one.cause.fault };
+    calls = tt;
+    cut_calls = omega (arith, one.cut_calls, length-append first second);
   }
 
   -- a text was cut, and the fault is handed on
@@ -189,6 +197,8 @@ module _ {K : Type 0} (shown : sink.Ghosts K) where
     ok = Goes-more (shown.written k) (shown.written l) waited rest waits [] text one.ok more;
     err = tt;
     cause = one.cause;
+    calls = omega (arith, one.calls, ap length more, length-append rest text);
+    cut_calls = tt;
   }
 
   -- the text in another form
@@ -247,3 +257,9 @@ pub whole-cut : (before after : Known) (waited text : List ℕ) (result : Result
 whole-cut before after waited text (Ok done) first cut = tt
 whole-cut before after waited text (Err e) first cut =
     subst (λ (xs : List ℕ). AppendsPrefix before after (xs ++ text)) first cut
+
+pub whole-calls : (before after : ℕ) (waited waits text : List ℕ) (result : Result (Unit {0}) Failed) → waited ≡ []
+    → OnOk result (after + length waits ≤ before + (length waited + length text))
+    → OnErr result (after ≤ before + (length waited + length text)) → after ≤ before + length text
+whole-calls before after waited waits text (Ok done) first whole cut = omega (arith, ap length first, whole)
+whole-calls before after waited waits text (Err e) first whole cut = omega (arith, ap length first, cut)

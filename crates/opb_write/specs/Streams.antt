@@ -1,5 +1,5 @@
 -- A text on its way to a sink: some of it was written, and some waits.
-use Rattle.std.specs.Prelude.{◌≡◌, ℕ, List, ◌++◌, Option, Result, OnOk, OnErr}
+use Rattle.std.specs.Prelude.{◌≡◌, ℕ, ◌+◌, ◌≤◌, List, ◌++◌, length, Option, Result, OnOk, OnErr}
 use Rattle.std.specs.Io.KnownBytes.{Appends}
 use Rattle.robin_io.specs.Counts.{HasOneCause}
 use Rattle.robin_io.specs.Written.{AppendsPrefix}
@@ -18,3 +18,6 @@ pub record Sends {K : Type 0} (shown : sink.Ghosts K) (old new : K) (waited wait
   pub ok : OnOk result (Goes (shown.written old) (shown.written new) waited waits text)
   pub err : OnErr result (AppendsPrefix (shown.written old) (shown.written new) (waited ++ text))
   pub cause : HasOneCause (shown.faults old) (shown.faults new) result
+  -- each call of the sink was for a byte that waited or is of the text, and that doesn't wait now
+  pub calls : OnOk result (shown.calls new + length waits ≤ shown.calls old + (length waited + length text))
+  pub cut_calls : OnErr result (shown.calls new ≤ shown.calls old + (length waited + length text))

@@ -113,6 +113,10 @@ pub fn put_system<K: Sink>(
     ensures err { OnErr result (AppendsPrefix (K.written sink.old) (K.written sink.new)
         (texts.opb_text (system_of vars least.entry rows.now))) }
     ensures cause { HasOneCause (K.faults sink.old) (K.faults sink.new) result }
+
+    // At most as many puts as the text has bytes.
+    ensures calls { K.calls sink.new
+        ≤ K.calls sink.old + length (texts.opb_text (system_of vars least.entry rows.now)) }
 {
     put_text(sink, waiting, vars, least, rows)
 }

@@ -19,6 +19,7 @@ run_from command files given taken first text was faults ended = record {
   may_stop = ⊥;
   store = store_between (files_told files) given taken;
   output = output_between text_told (first, was) (text, faults);
+  puts = 0;
   ended = ended;
 }
 

@@ -40,6 +40,7 @@ run_over command files taken text faults ended = record {
   may_stop = ⊥;
   store = store_between (files_told files) 0 taken;
   output = output_between text_told ([], 0) (text, faults);
+  puts = 0;
   ended = ended;
 }
 

@@ -189,11 +189,7 @@ fn count_all(
     ensures counted { OnOk result (AreCounted numbered.now count (valued values.now) table.new) }
 {
     for k in 0..count {
-        let terms = numbered.terms(k);
-        if rows::reach(terms, values) >= u128::from(u64::MAX) {
-            return Err(AllocError);
-        }
-        table.reserve(terms.len())?;
+        table.reserve(numbered.terms(k).len())?;
         table.count(numbered, k, values);
     }
     Ok(())

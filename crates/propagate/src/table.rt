@@ -3,7 +3,6 @@
 ghost use Rattle.std.specs.Prelude.{◌≡◌, ◌+◌, ◌*◌, ◌^◌, ◌<◌, ◌≤◌, [], length, replicate, IfOk, OnOk};
 ghost use Rattle.std.specs.List.{All};
 ghost use Rattle.rows.specs.Codes.{code_of};
-ghost use Rattle.rows.specs.Partials.{reach};
 ghost use Rattle.rows.specs.Rows.{IsRow};
 ghost use Rattle.rows.specs.Values.{valued};
 ghost use Rattle.rows.specs.declared.partial.Value.TheVariants.{Free};
@@ -86,11 +85,12 @@ impl Table {
         requires room { HasRoom self.old (length (row_at numbered.now k).terms) }
         requires proper { All IsRow numbered.now }
         requires known { KnowsVariables (length values.now) (row_at numbered.now k) }
-        requires fits { reach (λ v. Free) (row_at numbered.now k).terms + 1 < 2 ^ 64 }
+        requires free { valued values.now ≡ (λ v. Free) }
         ensures counted { AreCounted numbered.now (k + 1) (valued values.now) self.new }
         ensures slots { length self.new.heads.items ≡ length self.old.heads.items }
     {
         let terms = numbered.terms(k);
+        // Fewer than 2^32 terms have room, and each coefficient is below 2^32.
         let reached = rows::reach(terms, values) as u64;
         let reach_pushed = self.reach.push(reached);
         reach_pushed.unwrap();

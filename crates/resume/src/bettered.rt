@@ -6,7 +6,6 @@ ghost use Rattle.league.specs.Counts as counts;
 ghost use Rattle.league.specs.Counts.{counts_of};
 ghost use Rattle.league.specs.Instance.{IsGame};
 ghost use Rattle.resume_rows.specs.Kept as kept;
-ghost use Rattle.encoding.specs.Capped.{capped};
 ghost use Rattle.robin_watch.specs.Limits.{IsKeptTo};
 ghost use Rattle.resume.specs.Answers.{IsPlan, IsResumed, IsResumedBy, IsResumedSeason};
 ghost use Rattle.encoding.specs.Limit.{KeepsLimit};
@@ -36,7 +35,7 @@ pub fn resume_lowered<W: Watch>(
     requires few { length played.now ≤ 10000 }
     requires fit { All (IsGame league.now.n) played.now }
     requires slots { k ≤ counts.slot_count league.now.n }
-    ensures limit { KeepsLimit (kept.resume_size league.now k) (capped (kept.resume_size league.now k)) result }
+    ensures limit { KeepsLimit (kept.resume_size league.now k) result }
     ensures answer { IfOk result (IsResumedBy league.now played.now k (IsKeptTo conflicts (W.may_stop watch.now))) }
 
     // Where the league accepts what `played` has, the answer is a schedule of the same games.

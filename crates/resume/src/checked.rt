@@ -10,7 +10,6 @@ ghost use Rattle.refutation_check.specs.Judged.{no_step_of};
 ghost use Rattle.resume_rows.specs.Kept as kept;
 ghost use Rattle.resume_rows.specs.Kept.{resume_rows};
 ghost use Rattle.resume_rows.specs.Resumable.{NoneResumes};
-ghost use Rattle.encoding.specs.Capped.{capped};
 ghost use Rattle.resume_rows.specs.Systems.{rows_for};
 ghost use Rattle.encoding.specs.Limit.{KeepsLimit};
 
@@ -25,8 +24,8 @@ use std::alloc::{AllocError, Global};
 /// played below slot k.
 ///
 /// # Errors
-/// `TooLarge` exactly where the resume rows have more than 40,000,000 terms, with their number as far as a number of
-/// 64 bits holds it; else only where memory runs out.
+/// `TooLarge` exactly where the resume rows have more than 40,000,000 terms, with their number; else only where memory
+/// runs out.
 pub fn check_resume(
     alloc: Global,
     league: &League,
@@ -40,7 +39,7 @@ pub fn check_resume(
     ensures verdict { IfOk result (λ verdict. verdict
         ≡ verdict_of (resume_rows league.now (counts_of played.now) k) (var_count league.now) log.now) }
     ensures none { result ≡ Ok Verdict.Accepted → NoneResumes league.now (counts_of played.now) k }
-    ensures limit { KeepsLimit (kept.resume_size league.now k) (capped (kept.resume_size league.now k)) result }
+    ensures limit { KeepsLimit (kept.resume_size league.now k) result }
 {
     let _n = league.n();
     let system = resume_system(alloc, league, played, k)?;

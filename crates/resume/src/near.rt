@@ -1,7 +1,6 @@
 //! A season resumed that changes little of the old plan.
 ghost use Rattle.std.specs.Prelude.{◌≡◌, ◌==◌, ◌≤◌, ◌↔◌, ◌⊎◌, ◌||◌, ◌&&◌, ℕ, nat_lt, length, Option, IfOk, IfSome, IsTrue};
 ghost use Rattle.std.specs.List.{All};
-ghost use Rattle.encoding.specs.Capped.{capped};
 ghost use Rattle.encoding.specs.Limit.{KeepsLimit};
 ghost use Rattle.league.specs.Accepted.{IsAccepted};
 ghost use Rattle.league.specs.Counts as counts;
@@ -47,7 +46,7 @@ pub fn resume_near<W: Watch>(
     requires few { length played.now ≤ 10000 }
     requires fit { All (IsGame league.now.n) played.now }
     requires slots { k ≤ counts.slot_count league.now.n }
-    ensures limit { KeepsLimit (kept.resume_size league.now k) (capped (kept.resume_size league.now k)) result }
+    ensures limit { KeepsLimit (kept.resume_size league.now k) result }
     ensures answer { IfOk result (IsResumedBy league.now played.now k
         (IsKeptTo budgets.conflicts (W.may_stop watch.now))) }
 

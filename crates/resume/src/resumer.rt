@@ -14,7 +14,6 @@ ghost use Rattle.encoding_base.specs.Variables.{var_count};
 ghost use Rattle.robin_watch.specs.Limits.{IsKeptTo};
 ghost use Rattle.clause_search.specs.Answers.{IsAnswerBy};
 ghost use Rattle.resume_rows.specs.Kept as kept;
-ghost use Rattle.encoding.specs.Capped.{capped};
 ghost use Rattle.resume_rows.specs.Systems.{rows_for};
 ghost use Rattle.resume.specs.Answers.{IsPlan, IsResumedBy};
 ghost use Rattle.resume.specs.Found.{MeetsLeague, Tells};
@@ -40,8 +39,8 @@ use std::alloc::{AllocError, Global};
 /// and else the search decides its games first, to be true, so that the new plan is near it.
 ///
 /// # Errors
-/// `TooLarge` exactly where the resume rows have more than 40,000,000 terms, with their number as far as a number of
-/// 64 bits holds it, before anything else; else only where memory runs out.
+/// `TooLarge` exactly where the resume rows have more than 40,000,000 terms, with their number, before anything else;
+/// else only where memory runs out.
 pub fn resume<W: Watch>(
     alloc: Global,
     league: &League,
@@ -53,7 +52,7 @@ pub fn resume<W: Watch>(
     requires few { length played.now ≤ 10000 }
     requires fit { All (IsGame league.now.n) played.now }
     requires slots { k ≤ counts.slot_count league.now.n }
-    ensures limit { KeepsLimit (kept.resume_size league.now k) (capped (kept.resume_size league.now k)) result }
+    ensures limit { KeepsLimit (kept.resume_size league.now k) result }
     ensures answer { IfOk result (IsResumedBy league.now played.now k (IsKeptTo conflicts (W.may_stop watch.now))) }
 
     // Where the league accepts what `played` has, the answer is a schedule of the same games.
@@ -82,7 +81,7 @@ fn searched<W: Watch>(
     requires few { length played.now ≤ 10000 }
     requires fit { All (IsGame league.now.n) played.now }
     requires slots { k ≤ counts.slot_count league.now.n }
-    ensures limit { KeepsLimit (kept.resume_size league.now k) (capped (kept.resume_size league.now k)) result }
+    ensures limit { KeepsLimit (kept.resume_size league.now k) result }
     ensures answer { IfOk result (IsResumedBy league.now played.now k (IsKeptTo conflicts (W.may_stop watch.now))) }
 {
     let _n = league.n();

@@ -2,17 +2,16 @@
 ghost use Rattle.std.specs.Prelude.{◌≡◌, ◌≤◌};
 ghost use Rattle.league.specs.Counts as counts;
 ghost use Rattle.resume_rows.specs.Kept as kept;
-ghost use Rattle.encoding.specs.Capped.{capped};
 
 use encoding_sizes::encoding_size;
 use league::League;
 
 /// How many terms the rows of a league have whose first k slots are played; they don't depend on the played games. It
-/// takes no memory. A number of 64 bits holds it, and were it larger, the largest such number would be said.
+/// takes no memory.
 pub fn resume_size(league: &League, k: u16) -> u64
     requires { k ≤ counts.slot_count league.now.n }
-    ensures { result ≡ capped (kept.resume_size league.now k) }
+    ensures { result ≡ kept.resume_size league.now k }
 {
     let n = u64::from(league.n());
-    encoding_size(league).saturating_add(n * (n - 1) * u64::from(k))
+    encoding_size(league) + n * (n - 1) * u64::from(k)
 }

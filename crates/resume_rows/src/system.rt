@@ -11,7 +11,6 @@ ghost use Rattle.encoding_base.specs.Known.{AreKnown};
 ghost use Rattle.encoding_base.specs.Variables.{var_count};
 ghost use Rattle.resume_rows.specs.Kept as kept;
 ghost use Rattle.resume_rows.specs.Kept.{resume_rows};
-ghost use Rattle.encoding.specs.Capped.{capped};
 ghost use Rattle.resume_rows.specs.Systems.{rows_for};
 ghost use Rattle.encoding.specs.Limit.{KeepsLimit};
 
@@ -74,8 +73,8 @@ impl ResumeSystem {
 /// no memory: where there are too many, that is the answer.
 ///
 /// # Errors
-/// `TooLarge` exactly where the rows have more than 40,000,000 terms, with their number, as far as a number of 64 bits
-/// holds it; else only where memory runs out.
+/// `TooLarge` exactly where the rows have more than 40,000,000 terms, with their number; else only where memory runs
+/// out.
 pub fn resume_system(
     alloc: Global,
     league: &League,
@@ -87,7 +86,7 @@ pub fn resume_system(
     requires slots { k ≤ counts.slot_count league.now.n }
     ensures of { IfOk result (λ system.
         system ≡ record { league = league.now; played = played.now; k = k }) }
-    ensures limit { KeepsLimit (kept.resume_size league.now k) (capped (kept.resume_size league.now k)) result }
+    ensures limit { KeepsLimit (kept.resume_size league.now k) result }
 {
     let terms = resume_size(league, k);
     if terms > MOST_TERMS {

@@ -1,5 +1,5 @@
 -- What holds of the runs of all commands.
-use Rattle.std.proofs.Common.{◌≡◌, ℕ, List, Option, Some, Result, Ok, Err, inl, inr, sym, subst, ◌∙◌}
+use Rattle.std.proofs.Common.{◌≡◌, ℕ, ◌+◌, ◌-◌, ◌≤◌, List, Option, Some, Result, Ok, Err, inl, inr, sym, subst, ◌∙◌, arith}
 use Rattle.std.specs.Io.KnownBytes.{Appends, Keeps}
 use Rattle.robin_io.specs.Outside.{Output}
 use Rattle.command_line.specs.Words.{Command}
@@ -12,7 +12,7 @@ use Rattle.answers.specs.declared.reply.Reply.{Reply}
 use Rattle.answers.specs.declared.status.Status.{Status}
 use Rattle.answers.specs.declared.status.Status.TheVariants.{Memory, WriteFault}
 use Rattle.robin_run.specs.Answer.{IsAnswer}
-use Rattle.robin_run.specs.Folded.{IsFolded}
+use Rattle.robin_run.specs.Folded.{IsFolded, most_puts}
 use Rattle.robin_run.specs.Givens.{Gives, IsGiven, given_answer}
 use Rattle.robin_run.specs.Run.{Answered, NothingFails, Run, Writes}
 use Rattle.robin_run.specs.declared.given.Given.{Given}
@@ -32,10 +32,10 @@ given-gives outcome (Err without.Memory) given is holds =
 
 -- the answer of a reply is written, unless memory ran out
 pub answered-by : (run : Run) (given : Result Given NoValue) → Gives (IsAnswer run.may_stop run.command run.store) given
-    → IsFolded given run.ended run.output → Answered run
-answered-by run (Ok given) answer written memory = (given_answer given, answer, written)
-answered-by run (Err (without.Refused refusal)) answer written memory = (answer_of refusal.reply, answer, written)
-answered-by run (Err without.Memory) answer ended memory = absurd (memory ended.0)
+    → IsFolded given run.ended run.output → run.puts ≤ most_puts given → Answered run
+answered-by run (Ok given) answer written few memory = (given_answer given, answer, written, few)
+answered-by run (Err (without.Refused refusal)) answer written few memory = (answer_of refusal.reply, answer, written, few)
+answered-by run (Err without.Memory) answer ended few memory = absurd (memory ended.0)
 
 -- where the run ends with want of memory, nothing is written
 pub kept-by : (run : Run) (given : Result Given NoValue) → Gives (IsAnswer run.may_stop run.command run.store) given
@@ -45,6 +45,20 @@ kept-by run (Ok given) answer written memory =
 kept-by run (Err (without.Refused refusal)) answer written memory =
     absurd (written-memory run.may_stop run.command run.store (answer_of refusal.reply) run.ended run.output answer written memory)
 kept-by run (Err without.Memory) answer ended memory = ended.1
+
+-- how many calls there were at most, as a difference
+pub few-puts : (before after most : ℕ) → after ≤ before + most → after - before ≤ most
+few-puts before after most few = omega (arith, few)
+
+-- and the sink isn't called
+pub uncalled-by : (run : Run) (given : Result Given NoValue) → Gives (IsAnswer run.may_stop run.command run.store) given
+    → IsFolded given run.ended run.output → (before after : ℕ) → after ≤ before + most_puts given → run.ended ≡ Memory
+    → after ≤ before
+uncalled-by run (Ok given) answer written before after few memory =
+    absurd (written-memory run.may_stop run.command run.store (given_answer given) run.ended run.output answer written memory)
+uncalled-by run (Err (without.Refused refusal)) answer written before after few memory =
+    absurd (written-memory run.may_stop run.command run.store (answer_of refusal.reply) run.ended run.output answer written memory)
+uncalled-by run (Err without.Memory) answer ended before after few memory = omega (arith, few)
 
 -- ---- what is written
 

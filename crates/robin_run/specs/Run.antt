@@ -1,5 +1,5 @@
 -- One run of the program, as the caller of `run` sees it, and what all commands promise of a run.
-use Rattle.std.specs.Prelude.{◌≢◌, ◌≡◌, ℕ, List, Option, String, map, string_bytes}
+use Rattle.std.specs.Prelude.{◌≢◌, ◌≡◌, ℕ, ◌-◌, ◌≤◌, List, length, Option, String, map, string_bytes}
 use Rattle.std.specs.Io.KnownBytes.{Appends}
 use Rattle.robin_io.specs.Outside.{Output, Store, output_between, store_between}
 use Rattle.robin_io.specs.declared.shelf.Shelf as shelf
@@ -20,6 +20,8 @@ pub record Run : Type 1 where
   pub store : Store
   -- the sink to which the text goes
   pub output : Output
+  -- how many calls of the sink were counted: a sink may count none
+  pub puts : ℕ
   -- how the run ended
   pub ended : Status
 
@@ -30,14 +32,17 @@ run_of shelf sink words may_stop store_old store_new sink_old sink_new ended = r
   may_stop = may_stop;
   store = store_between shelf store_old store_new;
   output = output_between sink sink_old sink_new;
+  puts = sink.calls sink_new - sink.calls sink_old;
   ended = ended;
 }
 
--- Unless memory ran out, an answer to the words over the files is written: whole, or cut by a fault of the sink.
+-- Unless memory ran out, an answer to the words over the files is written: whole, or cut by a fault of the sink. The sink
+-- is called at most once for each byte of its text.
 abbrev pub Answered : Run → Type 0
 Answered run =
     run.ended ≢ Memory
     → (answer : Answer) × IsAnswer run.may_stop run.command run.store answer × IsWritten answer run.ended run.output
+    × (run.puts ≤ length answer.text)
 
 -- Nothing fails: memory doesn't run out, the sink takes every byte, and the store fails at none of these files.
 pub record NothingFails (run : Run) (files : List (List ℕ)) : Type 0 where

@@ -1,5 +1,5 @@
 //! The call that the program makes: the words, the command's stages, and the answer written.
-ghost use Rattle.std.specs.Prelude.{◌≡◌, ◌+◌, ◌≤◌, ℕ, List, Some, map, option_map, string_bytes};
+ghost use Rattle.std.specs.Prelude.{◌≡◌, ◌+◌, ◌≤◌, ℕ, List, length, Some, map, option_map, string_bytes};
 ghost use Rattle.std.specs.Option.{option_copied};
 ghost use Rattle.std.specs.Io.KnownBytes.{Keeps};
 ghost use Rattle.robin_io.specs.Outside.{output_between, store_between};
@@ -14,7 +14,7 @@ ghost use Rattle.command_rows.specs.Rowed.{rowed, rows_answer};
 ghost use Rattle.robin_run.specs.Answer.{IsAnswer};
 ghost use Rattle.robin_run.specs.Commands.{KeepsPromises};
 ghost use Rattle.robin_run.specs.Ends.{EndsByWords};
-ghost use Rattle.robin_run.specs.Folded.{IsFolded};
+ghost use Rattle.robin_run.specs.Folded.{IsFolded, most_puts};
 ghost use Rattle.robin_run.specs.Givens.{Gives};
 ghost use Rattle.robin_run.specs.Run.{Answered, run_of};
 ghost use Rattle.robin_run.specs.Taken.{most_taken};
@@ -202,7 +202,8 @@ fn tell<T: Sink>(told: &mut T, text: &[u8]) {
 
 /// Writes an answer, and tells where it couldn't be written whole.
 fn write_told<K: Sink, T: Sink>(out: &mut K, told: &mut T, reply: &Reply) -> Status
-    ensures { IsWritten (answer_of reply.now) result (output_between K.Sink out.old out.new) }
+    ensures written { IsWritten (answer_of reply.now) result (output_between K.Sink out.old out.new) }
+    ensures calls { K.calls out.new ≤ K.calls out.old + length (answer_of reply.now).text }
 {
     let status = write_answer(out, reply);
     tell(told, unwritten(status));
@@ -211,7 +212,8 @@ fn write_told<K: Sink, T: Sink>(out: &mut K, told: &mut T, reply: &Reply) -> Sta
 
 /// Writes rows, and tells where they couldn't be written whole.
 fn write_rows_told<K: Sink, T: Sink>(out: &mut K, told: &mut T, ready: ReadyRows) -> Status
-    ensures { IsWritten (rows_answer ready) result (output_between K.Sink out.old out.new) }
+    ensures written { IsWritten (rows_answer ready) result (output_between K.Sink out.old out.new) }
+    ensures calls { K.calls out.new ≤ K.calls out.old + length (rows_answer ready).text }
 {
     let status = write_rows(out, ready);
     tell(told, unwritten(status));
@@ -228,7 +230,8 @@ fn unwritten(status: Status) -> &'static [u8] {
 
 /// Writes the answer that a command gave, tells what a person is told beside it, and says how the run ends.
 fn write_given<K: Sink, T: Sink>(out: &mut K, told: &mut T, given: Result<Given, NoValue>) -> Status
-    ensures { IsFolded given result (output_between K.Sink out.old out.new) }
+    ensures folded { IsFolded given result (output_between K.Sink out.old out.new) }
+    ensures calls { K.calls out.new ≤ K.calls out.old + most_puts given }
 {
     match given {
         Ok(Given::Answer(reply)) => write_told(out, told, &reply),
@@ -252,14 +255,15 @@ fn write_given<K: Sink, T: Sink>(out: &mut K, told: &mut T, given: Result<Given,
 /// descents and further tries of `solve` and `trial`, and hears how they go.
 ///
 /// - `answer`: whatever the store, the sink and the files do, an answer to the words is written, and each refusal has
-///   its cause.
+///   its cause. `out` is called at most once for each byte of the answer's text.
 /// - `ends`: a run ends in one of the ways that its words have.
 /// - `commands`: each command keeps what it promises. `specs/Commands.antt` has a field a command, and the command's own
 ///   file there has its sentences. Most of them are for a store that tells the bytes of the files. A store in memory
 ///   tells them, that of the machine doesn't.
 /// - `taken`: of each file that the words name, at most a byte more than its limit is taken.
 /// - `contents` and `untouched`: no file's contents change, and words that need no file leave the store alone.
-/// - `memory`: memory may run out at any time, and then nothing is written. Nothing is said of which files were read.
+/// - `memory` and `no_puts`: memory may run out at any time, and then nothing is written, nor is `out` called. Nothing
+///   is said of which files were read.
 pub fn run<S: Shelf, K: Sink, T: Sink, W: Listener>(
     alloc: Global,
     words: &[String],
@@ -278,6 +282,7 @@ pub fn run<S: Shelf, K: Sink, T: Sink, W: Listener>(
     ensures contents { (n : List ℕ) → S.contents shelf.new n ≡ S.contents shelf.old n }
     ensures untouched { NeedsNoFile (reading (map string_bytes words.now)) → shelf.new ≡ shelf.old }
     ensures memory { result ≡ Status.Memory → Keeps (K.written out.old) (K.written out.new) }
+    ensures no_puts { result ≡ Status.Memory → K.calls out.new ≤ K.calls out.old }
 {
     let given = answer(alloc, words, shelf, watch);
     watch.tell(News::Ready);

@@ -52,7 +52,7 @@ pub fn solve_from<W: Listener>(
 ) -> Result<Solved, EncodeFault>
     requires fit { All (IsGame league.now.n) start.now }
     requires round_robin { IsRoundRobin league.now.n league.now.phased (counts_of start.now) }
-    ensures limit { KeepsLimit (encoding_size league.now) (encoding_size league.now) result }
+    ensures limit { KeepsLimit (encoding_size league.now) result }
     ensures solution { IfOk result (IsSolutionBy league.now budgets (W.may_stop watch.now)) }
 
     // Where nothing may stop the run, it keeps to the budgets that were set.

@@ -62,7 +62,7 @@ pub fn solve<W: Listener>(
     budgets: Budgets,
     watch: &W,
 ) -> Result<Solved, EncodeFault>
-    ensures limit { KeepsLimit (encoding_size league.now) (encoding_size league.now) result }
+    ensures limit { KeepsLimit (encoding_size league.now) result }
     ensures solution { IfOk result (IsSolutionBy league.now budgets (W.may_stop watch.now)) }
 
     // Where nothing may stop the run, it keeps to the budgets that were set.

@@ -1,5 +1,4 @@
 use Rattle.std.proofs.Common.{◌≡◌, ℕ, ap, ◌∙◌, arith}
-use Rattle.bound_base.specs.BoundRows.{bound_size}
 use Rattle.bound_rows.specs.Sizes.{paid_size}
 use Rattle.bound_rows.proofs.SizeLemmas.{bound_size-paid}
 use Rattle.bound_rows.proofs.count.bound_terms.Goals as goal
@@ -12,16 +11,14 @@ returns-clause-terms c =
     ∙ ap (paid_size league.n) c.constraints.ensures in
     omega (
       arith,
-      c.encoding_size.ensures,
-      c.more_terms.ensures,
-      c.saturating_add-base.ensures,
-      c.paid_terms-paid.ensures,
-      c.saturating_add.ensures,
+      c.encoding_size.ensures.terms,
+      c.more_terms.ensures.terms,
+      c.paid_terms-paid.ensures.terms,
       bound_size-paid league,
       same,
     )
 
 pub returns-clause-counted : goal.returns-clause-counted
 returns-clause-counted c = λ few.
-    let count : c.saturating_add.result ≡ bound_size c.args.league.now = omega (arith, returns-clause-terms c, few) in
+    let count = returns-clause-terms c in
     record { instance = c.n.ensures.instance; count = count; few = omega (arith, count, few) }

@@ -1,7 +1,9 @@
-use Rattle.std.proofs.Common.{◌≡◌, take}
-use Rattle.encoding.specs.Capped.{capped}
+use Rattle.std.proofs.Common.{◌≡◌, ◌*◌, ◌≤◌, take}
 use Rattle.bound_rows.specs.Sizes.{paid_size}
 use Rattle.bound_rows.proofs.count.paid_terms.Given as goal
 
 abbrev pub invariant-loop-constraint : goal.invariant-loop-constraint
-invariant-loop-constraint l = l.total ≡ capped (paid_size l.n (take l.constraint-index l.constraints))
+invariant-loop-constraint l = record {
+  so_far : l.total ≡ paid_size l.n (take l.constraint-index l.constraints);
+  most : l.total ≤ 600000000000000 * l.constraint-index;
+}

@@ -1,23 +1,18 @@
-use Rattle.std.proofs.Common.{ℕ, ◌*◌, ap, sym, ◌∙◌}
+use Rattle.std.proofs.Common.{ap}
 use Rattle.std.specs.List.{sum_by}
 use Rattle.league.specs.declared.class.Bounds.{Bounds}
 use Rattle.encoding_sizes.specs.Batches.{lengths_of}
 use Rattle.bound_rows.specs.Sizes.{between_size}
-use Rattle.bound_rows.proofs.CountLemmas.{capped-add, capped-as}
 use Rattle.bound_rows.proofs.PartSizes.{parts_size-counted}
 use Rattle.bound_rows.proofs.sizes.counted_terms.Goals as goal
 
-pub returns : goal.returns
-returns c =
+pub returns-clause-terms : goal.returns-clause-terms
+returns-clause-terms c =
     let n = c.args.n in
     let class = c.args.class.now in
     let bounds = c.bounds-bounds.result in
-    let batches = c.batches_of-batches.result in
-    let size : ℕ → ℕ = between_size bounds.min bounds.max in
-    capped-as _ _ _
-    (sym (c.batches_of-batches.ensures.all size)
-    ∙ ap (λ (b : Bounds). sum_by (between_size b.min b.max) (lengths_of n class)) c.bounds-bounds.ensures
-    ∙ sym (parts_size-counted n class c.requires.bounds c.requires.fits))
-    (capped-add (batches.first.lists * size batches.first.literals)
-    (batches.second.lists * size batches.second.literals) _ _ _ c.batch_terms-first.ensures c.batch_terms.ensures
-    c.saturating_add.ensures)
+    cc (
+      c.batches_of-batches.ensures.all (between_size bounds.min bounds.max),
+      ap (λ (b : Bounds). sum_by (between_size b.min b.max) (lengths_of n class)) c.bounds-bounds.ensures,
+      parts_size-counted n class c.requires.bounds c.requires.fits,
+    )

@@ -11,7 +11,6 @@ use Rattle.answers.specs.Stages.{IsFile, IsUnread}
 use Rattle.answers.proofs.StageLemmas.{Answers-wider, unread-end}
 use Rattle.command_check.specs.Check.{most_log_bytes}
 use Rattle.bound_base.specs.BoundRows.{bound_size}
-use Rattle.encoding.specs.Capped.{capped}
 use Rattle.command_bound.proofs.StageLemmas.{bounded-large, bounded-last, bounded-unread}
 use Rattle.command_bound.proofs.stages.bound_file.Goals as goal
 use Rattle.encoding.specs.Limit.{most_terms}
@@ -66,6 +65,6 @@ returns-in_err-terms-clause-answer g c =
     c.in_ok-first.ensures.stage in
     Answers-wider
     (λ answer. (most_terms < bound_size c.in_ok-league.league)
-    × (answer ≡ too_large (capped (bound_size c.in_ok-league.league)))) _
+    × (answer ≡ too_large (bound_size c.in_ok-league.league))) _
     (bounded-large store c.args.instance.now c.args.log.now _ _ is_first c.in_ok-league.ensures) _
     (search rules)

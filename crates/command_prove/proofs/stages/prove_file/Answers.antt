@@ -12,7 +12,6 @@ use Rattle.answers.specs.SeenReply.{Answers, IsMalformed, answer_of}
 use Rattle.answers.specs.Stages.{IsFile, IsUnread}
 use Rattle.answers.proofs.StageLemmas.{Answers-wider, says-value, unread-end}
 use Rattle.bound_base.specs.BoundRows.{bound_size}
-use Rattle.encoding.specs.Capped.{capped}
 use Rattle.command_prove.proofs.StageLemmas.{proved-large, proved-last, proved-malformed, proved-unread}
 use Rattle.command_prove.proofs.stages.prove_file.Goals as goal
 use Rattle.encoding.specs.Limit.{most_terms}
@@ -84,6 +83,6 @@ returns-in_err-terms-clause-answer g c =
     c.in_ok-first.ensures.stage in
     Answers-wider
     (λ answer. (most_terms < bound_size c.in_ok-league.league)
-    × (answer ≡ too_large (capped (bound_size c.in_ok-league.league)))) _
+    × (answer ≡ too_large (bound_size c.in_ok-league.league))) _
     (proved-large store c.args.instance.now c.args.solution.now _ _ _ is_first c.in_ok-league.ensures) _
     (search rules)

@@ -1,4 +1,4 @@
-use Rattle.std.proofs.Common.{◌≡◌, None, Some, ap, subst, sym, ◌∙◌}
+use Rattle.std.proofs.Common.{◌≡◌, ◌+◌, ◌≤◌, length, None, Some, ap, subst, sym, ◌∙◌}
 use Rattle.std.specs.Prelude.{OnErr, OnOk}
 use Rattle.std.specs.Io.KnownBytes.{Appends}
 use Rattle.robin_io.specs.Written.{AppendsPrefix}
@@ -101,3 +101,38 @@ returns-in-Least-clause-reads_back g c =
     c.vars-in-Least.ensures.vars c.as_slice.ensures.value c.rows-in-Least.ensures ∙ sym (ap system_kept c.in-Least.is) in
     subst (λ (s : System). OnOk c.put_system-in-Least.result (opb_of (opb_text s) ≡ Some s)) same
     c.put_system-in-Least.ensures.reads_back
+
+pub returns-in-League-clause-calls : goal.returns-in-League-clause-calls
+returns-in-League-clause-calls g c =
+    let put : System = record { vars = c.vars.result; least = None; rows = c.rows.result.now } in
+    let same : put ≡ system_kept c.args.kept.now =
+    same-system c.vars.result (var_count c.in-League.encoding) c.rows.result.now
+    (rows_of c.in-League.encoding) c.vars.ensures.vars c.rows.ensures ∙ sym (ap system_kept c.in-League.is) in
+    subst
+    (λ (s : System). g.K.Sink.calls c.put_system.new.sink ≤ g.K.Sink.calls c.args.out.now + length (opb_text s))
+    same c.put_system.ensures.calls
+
+pub returns-in-Bound-clause-calls : goal.returns-in-Bound-clause-calls
+returns-in-Bound-clause-calls g c =
+    let put : System = record { vars = c.vars-in-Bound.result; least = None; rows = c.rows-in-Bound.result.now } in
+    let same : put ≡ system_kept c.args.kept.now =
+    same-system c.vars-in-Bound.result (bound_vars c.in-Bound.system.league) c.rows-in-Bound.result.now
+    (bound_rows c.in-Bound.system.league c.in-Bound.system.bound) c.vars-in-Bound.ensures.vars c.rows-in-Bound.ensures ∙ sym (ap system_kept c.in-Bound.is) in
+    subst
+    (λ (s : System). g.K.Sink.calls c.put_system-in-Bound.new.sink ≤ g.K.Sink.calls c.args.out.now + length (opb_text s))
+    same c.put_system-in-Bound.ensures.calls
+
+pub returns-in-Least-clause-calls : goal.returns-in-Least-clause-calls
+returns-in-Least-clause-calls g c =
+    let put : System = record {
+      vars = c.vars-in-Least.result;
+      least = Some c.as_slice.result.now;
+      rows = c.rows-in-Least.result.now;
+    } in
+    let same : put ≡ system_kept c.args.kept.now =
+    same-priced c.vars-in-Least.result (bound_vars c.in-Least.system.league) c.as_slice.result.now c.in-Least.prices.items
+    c.rows-in-Least.result.now (bound_rows c.in-Least.system.league c.in-Least.system.bound)
+    c.vars-in-Least.ensures.vars c.as_slice.ensures.value c.rows-in-Least.ensures ∙ sym (ap system_kept c.in-Least.is) in
+    subst
+    (λ (s : System). g.K.Sink.calls c.put_system-in-Least.new.sink ≤ g.K.Sink.calls c.args.out.now + length (opb_text s))
+    same c.put_system-in-Least.ensures.calls

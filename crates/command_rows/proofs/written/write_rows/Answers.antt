@@ -1,4 +1,4 @@
-use Rattle.std.proofs.Common.{◌≡◌, Some, inl, inr, refl, subst}
+use Rattle.std.proofs.Common.{◌≡◌, ◌+◌, ◌≤◌, length, Some, inl, inr, refl, subst}
 use Rattle.std.specs.Io.KnownBytes.{Appends}
 use Rattle.robin_io.specs.Written.{AppendsPrefix}
 use Rattle.opb_write.specs.Opb.{opb_of}
@@ -28,3 +28,15 @@ returns-clause-written g c =
           (opb_text s))
           c.ready.view_is c.in-Err.ensures.err,
     )
+
+pub returns-in-Ok-clause-calls : goal.returns-in-Ok-clause-calls
+returns-in-Ok-clause-calls g c =
+    subst
+    (λ (s : System). g.K.Sink.calls c.put_kept.new.out ≤ g.K.Sink.calls c.args.out.now + length (opb_text s))
+    c.ready.view_is c.put_kept.ensures.calls
+
+pub returns-clause-calls : goal.returns-clause-calls
+returns-clause-calls g c =
+    subst
+    (λ (s : System). g.K.Sink.calls c.put_kept.new.out ≤ g.K.Sink.calls c.args.out.now + length (opb_text s))
+    c.ready.view_is c.put_kept.ensures.calls

@@ -1,4 +1,5 @@
-use Rattle.std.proofs.Common.{◌≤◌, ℕ, ◌+◌, ◌-◌, ◌*◌, List, length, ap, subst, sym, ◌∙◌}
+use Rattle.std.proofs.Common.{◌≤◌, ℕ, ◌+◌, ◌-◌, ◌*◌, List, length, ap, subst, sym, ◌∙◌, arith}
+use Rattle.std.proofs.lemmas.Nat.{mul-le}
 use Rattle.std.specs.List.{sum_by}
 use Rattle.league.specs.Meetings.{others}
 use Rattle.encoding_sizes.proofs.BatchLemmas.{few_against, windows_against}
@@ -32,3 +33,15 @@ returns-clause-few c =
     (sym c.saturating_sub.ensures)
     (few_against windows among (length ts) (length us) games c.among_total-among.ensures.few c.requires.windows
     c.team_numbers-teams1.ensures.few c.team_numbers-teams2.ensures.few c.requires.games)
+
+pub returns-clause-first_lists : goal.returns-clause-first_lists
+returns-clause-first_lists c =
+    let few : c.among_total-among.result ≤ 40 =
+    omega (arith, c.among_total-among.ensures.few, c.team_numbers-teams1.ensures.few) in
+    omega (arith, mul-le c.args.windows c.among_total-among.result 79 40 c.requires.windows few)
+
+pub returns-clause-second_lists : goal.returns-clause-second_lists
+returns-clause-second_lists c =
+    let rest : ℕ = length c.team_numbers-teams1.result.now - c.among_total-among.result in
+    let few : rest ≤ 40 = omega (arith, c.team_numbers-teams1.ensures.few) in
+    omega (arith, mul-le c.args.windows rest 79 40 c.requires.windows few)

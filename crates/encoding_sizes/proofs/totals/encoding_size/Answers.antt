@@ -1,8 +1,8 @@
 use Rattle.encoding_sizes.proofs.SeasonSizes.{total_size}
 use Rattle.encoding_sizes.proofs.totals.encoding_size.Goals as goal
 
-pub returns : goal.returns
-returns c =
+pub returns-clause-terms : goal.returns-clause-terms
+returns-clause-terms c =
     total_size c.args.league.now c.n-n.result c.from-teams.result c.phased.result c.has_breaks.result
     c.constraints-constraints.result.now
     c.season_terms-season.result c.break_terms-breaks.result c.hard_terms-hard.result

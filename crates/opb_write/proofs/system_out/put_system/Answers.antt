@@ -1,6 +1,6 @@
 use Rattle.opb_write.specs.SeenSystem.{system_of}
 use Rattle.opb_write.specs.Texts.{opb_text}
-use Rattle.opb_write.proofs.StreamLemmas.{whole-cut, whole-written}
+use Rattle.opb_write.proofs.StreamLemmas.{whole-calls, whole-cut, whole-written}
 use Rattle.opb_write.proofs.TextLemmas.{reads-back}
 use Rattle.opb_write.proofs.system_out.put_system.Goals as goal
 
@@ -20,3 +20,9 @@ returns-clause-err g c =
     whole-cut (g.K.Sink.written c.args.sink.now) (g.K.Sink.written c.put_text.new.sink) c.args.waiting.now
     (opb_text (system_of c.args.vars c.args.least c.args.rows.now)) c.put_text.result
     c.requires.none c.put_text.ensures.sends.err
+
+pub returns-clause-calls : goal.returns-clause-calls
+returns-clause-calls g c =
+    whole-calls (g.K.Sink.calls c.args.sink.now) (g.K.Sink.calls c.put_text.new.sink) c.args.waiting.now
+    c.put_text.new.waiting (opb_text (system_of c.args.vars c.args.least c.args.rows.now)) c.put_text.result
+    c.requires.none c.put_text.ensures.sends.calls c.put_text.ensures.sends.cut_calls
