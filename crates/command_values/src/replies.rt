@@ -13,7 +13,6 @@ use answers::{Advice, Refusal, Reply, Status};
 use decoding::decode;
 use deviation::assess;
 use encoding::Encoding;
-use league::League;
 use robinx_write::solution_text;
 use rows::{Assignment, Lit};
 use std::alloc::{AllocError, Global};
@@ -33,18 +32,16 @@ fn missed_reply(alloc: Global, row: usize) -> Result<Reply, AllocError>
 /// The season that values stand for which meet every row.
 fn season_reply(
     alloc: Global,
-    league: &League,
     encoding: &Encoding,
     values: &Assignment,
 ) -> Result<Reply, AllocError>
-    requires league { encoding.now ≡ league.now }
     requires count { length values.now ≡ var_count encoding.now }
-    requires met { SatisfiesAll (assigned values.now) (rows_of league.now) }
-    ensures { IfOk result (λ reply. IsSeason league.now (assigned values.now) (answer_of reply)) }
+    requires met { SatisfiesAll (assigned values.now) (rows_of encoding.now) }
+    ensures { IfOk result (λ reply. IsSeason encoding.now (assigned values.now) (answer_of reply)) }
 {
-    let _n = league.n();
+    let _n = encoding.n();
     let schedule = decode(alloc, encoding, values)?;
-    let assessed = assess(alloc, league, &schedule)?;
+    let assessed = assess(alloc, encoding.league(), &schedule)?;
     let text = solution_text(alloc, &schedule, Some((0, assessed.objective)))?;
     Ok(Reply {
         status: Status::Yes,
@@ -53,36 +50,28 @@ fn season_reply(
 }
 
 /// What is found of values.
-fn found_reply(
-    alloc: Global,
-    league: &League,
-    encoding: &Encoding,
-    values: &Assignment,
-) -> Result<Reply, AllocError>
-    requires league { encoding.now ≡ league.now }
+fn found_reply(alloc: Global, encoding: &Encoding, values: &Assignment) -> Result<Reply, AllocError>
     requires count { length values.now ≡ var_count encoding.now }
-    ensures { IfOk result (λ reply. valued.found_of league.now (assigned values.now)
-        (valued.missed_from 1 (rows_of league.now) (assigned values.now)) (answer_of reply)) }
+    ensures { IfOk result (λ reply. valued.found_of encoding.now (assigned values.now)
+        (valued.missed_from 1 (rows_of encoding.now) (assigned values.now)) (answer_of reply)) }
 {
     let _vars = encoding.vars();
     match missed_row(encoding.rows(), values) {
         Some(row) => missed_reply(alloc, row),
-        None => season_reply(alloc, league, encoding, values),
+        None => season_reply(alloc, encoding, values),
     }
 }
 
 /// What is found of literals.
 pub(crate) fn values_reply(
     alloc: Global,
-    league: &League,
     encoding: &Encoding,
     lits: &[Lit],
 ) -> Result<Reply, AllocError>
-    requires { encoding.now ≡ league.now }
-    ensures { IfOk result (λ reply. IsValued league.now (rows_of league.now) lits.now (answer_of reply)) }
+    ensures { IfOk result (λ reply. IsValued encoding.now (rows_of encoding.now) lits.now (answer_of reply)) }
 {
     let values = assignment_of(alloc, encoding.vars(), lits)?;
-    found_reply(alloc, league, encoding, &values)
+    found_reply(alloc, encoding, &values)
 }
 
 /// The text of a file of values that is refused.

@@ -49,18 +49,12 @@ fn values_in(alloc: Global, bytes: &[u8]) -> Result<Vec<Lit>, NoValue>
 }
 
 /// What is found of a file of values.
-fn judge_values(
-    alloc: Global,
-    bytes: &[u8],
-    league: &League,
-    encoding: &Encoding,
-) -> Result<Reply, NoValue>
-    requires within { length bytes.now ≤ most_log_bytes }
-    requires league { encoding.now ≡ league.now }
-    ensures { Answers (says_values (values_of bytes.now) (IsValued league.now (rows_of league.now))) result }
+fn judge_values(alloc: Global, bytes: &[u8], encoding: &Encoding) -> Result<Reply, NoValue>
+    requires { length bytes.now ≤ most_log_bytes }
+    ensures { Answers (says_values (values_of bytes.now) (IsValued encoding.now (rows_of encoding.now))) result }
 {
     let lits = values_in(alloc, bytes)?;
-    Ok(values_reply(alloc, league, encoding, &lits)?)
+    Ok(values_reply(alloc, encoding, &lits)?)
 }
 
 /// The season that the values of one file stand for, where they meet the rows of the league of the other; else the
@@ -83,5 +77,5 @@ pub fn values_file<S: Shelf>(
     let league = league_in(alloc, instance, &first)?;
     let encoding = encoding_of(alloc, &league)?;
     let second = file(alloc, shelf, "values", values, LOG_LIMIT)?;
-    judge_values(alloc, &second, &league, &encoding)
+    judge_values(alloc, &second, &encoding)
 }

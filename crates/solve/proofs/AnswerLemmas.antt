@@ -102,20 +102,17 @@ patterns_refuted league limit steps most is small =
       writable = writable (var_count league) steps most is.tidy clauses small;
     }
 
--- what was found of patterns, where the league and the variant are known
-pub found_here : (league other : Instance) (limit : Option ℕ) (found variant : PatternFound) → other ≡ league
-    → found ≡ variant → IsPatternAnswer other limit found → IsPatternAnswer league limit variant
-found_here league other limit found variant same is answer =
-    subst (λ (l : Instance). IsPatternAnswer l limit variant) same
-    (subst (λ (f : PatternFound). IsPatternAnswer other limit f) is answer)
+-- what was found of patterns, where the variant is known
+pub found_here : (league : Instance) (limit : Option ℕ) (found variant : PatternFound) → found ≡ variant
+    → IsPatternAnswer league limit found → IsPatternAnswer league limit variant
+found_here league limit found variant is answer = subst (λ (f : PatternFound). IsPatternAnswer league limit f) is answer
 
 -- a log that is spent is so at the limit to which the search kept, which is its number of steps
-pub spent_here : (league other : Instance) (limit : Option ℕ) (may_stop : Type 0) (found : PatternFound)
-    (log : List Step) → other ≡ league → found ≡ Spent log → IsPatternAnswerBy other limit may_stop found
+pub spent_here : (league : Instance) (limit : Option ℕ) (may_stop : Type 0) (found : PatternFound) (log : List Step)
+    → found ≡ Spent log → IsPatternAnswerBy league limit may_stop found
     → IsKeptTo limit may_stop (Some (length log)) × IsPatternSpent league (Some (length log)) log
-spent_here league other limit may_stop found log same is by =
-    let spent : IsPatternSpent league by.kept log =
-    found_here league other by.kept found (Spent log) same is by.answer in (
+spent_here league limit may_stop found log is by =
+    let spent : IsPatternSpent league by.kept log = found_here league by.kept found (Spent log) is by.answer in (
       subst (λ (l : Option ℕ). IsKeptTo limit may_stop l) spent.limited by.is_kept,
       subst (λ (l : Option ℕ). IsPatternSpent league l log) spent.limited spent,
     )
@@ -157,6 +154,6 @@ passed false is = cc
 
 -- ---- how many variables there are
 
-pub few_variables : (league other : Instance) (vars : ℕ) → other ≡ league → vars ≡ var_count other → vars ≤ 130960
+pub few_variables : (league : Instance) (vars : ℕ) → vars ≡ var_count league → vars ≤ 130960
     → var_count league ≤ 130960
-few_variables league other vars same is most = omega (arith, is, ap (λ (l : Instance). var_count l) same, most)
+few_variables league vars is most = omega (arith, is, most)

@@ -17,7 +17,6 @@ use budgets::Budgets;
 use clause_search::{Found, note_numbers, search_watched};
 use decoding::decode;
 use encoding::Encoding;
-use league::League;
 use robin_news::Listener;
 use robin_watch::{News, Phase};
 use rows::{Assignment, Lit};
@@ -32,19 +31,17 @@ use std::alloc::{AllocError, Global};
 /// Only where memory runs out.
 pub(crate) fn try_both<W: Listener>(
     alloc: Global,
-    league: &League,
     encoding: &Encoding,
     prefer: &[Lit],
     share: Share,
     watch: &W,
 ) -> Result<Tried, AllocError>
-    requires league { encoding.now ≡ league.now }
     requires known { All (λ l. l.var ≤ var_count encoding.now) prefer.now }
-    ensures { IfOk result (IsTriedBy league.now share.budgets (W.may_stop watch.now)) }
+    ensures { IfOk result (IsTriedBy encoding.now share.budgets (W.may_stop watch.now)) }
 {
     match share.budgets.conflicts {
-        Some(_) => search_then_walk(alloc, league, encoding, prefer, share, watch),
-        None => walk_or_search(alloc, league, encoding, prefer, share, watch),
+        Some(_) => search_then_walk(alloc, encoding, prefer, share, watch),
+        None => walk_or_search(alloc, encoding, prefer, share, watch),
     }
 }
 
@@ -54,21 +51,19 @@ pub(crate) fn try_both<W: Listener>(
 /// Only where memory runs out.
 fn search_then_walk<W: Listener>(
     alloc: Global,
-    league: &League,
     encoding: &Encoding,
     prefer: &[Lit],
     share: Share,
     watch: &W,
 ) -> Result<Tried, AllocError>
-    requires league { encoding.now ≡ league.now }
     requires known { All (λ l. l.var ≤ var_count encoding.now) prefer.now }
-    ensures { IfOk result (IsTriedBy league.now share.budgets (W.may_stop watch.now)) }
+    ensures { IfOk result (IsTriedBy encoding.now share.budgets (W.may_stop watch.now)) }
 {
-    let found = try_search(alloc, league, encoding, prefer, share.budgets, watch)?;
+    let found = try_search(alloc, encoding, prefer, share.budgets, watch)?;
     if matches!(found, Tried::Refuted(_)) {
         return Ok(found);
     }
-    let walked = try_walk(alloc, league, share, watch)?;
+    let walked = try_walk(alloc, encoding.league(), share, watch)?;
     Ok(with_walked(found, walked))
 }
 
@@ -78,19 +73,17 @@ fn search_then_walk<W: Listener>(
 /// Only where memory runs out.
 fn walk_or_search<W: Listener>(
     alloc: Global,
-    league: &League,
     encoding: &Encoding,
     prefer: &[Lit],
     share: Share,
     watch: &W,
 ) -> Result<Tried, AllocError>
-    requires league { encoding.now ≡ league.now }
     requires known { All (λ l. l.var ≤ var_count encoding.now) prefer.now }
-    ensures { IfOk result (IsTriedBy league.now share.budgets (W.may_stop watch.now)) }
+    ensures { IfOk result (IsTriedBy encoding.now share.budgets (W.may_stop watch.now)) }
 {
-    match try_walk(alloc, league, share, watch)? {
+    match try_walk(alloc, encoding.league(), share, watch)? {
         Some(season) => Ok(Tried::Found(season)),
-        None => try_search(alloc, league, encoding, prefer, share.budgets, watch),
+        None => try_search(alloc, encoding, prefer, share.budgets, watch),
     }
 }
 
@@ -100,15 +93,13 @@ fn walk_or_search<W: Listener>(
 /// Only where memory runs out.
 pub(crate) fn try_search<W: Listener>(
     alloc: Global,
-    league: &League,
     encoding: &Encoding,
     prefer: &[Lit],
     budgets: Budgets,
     watch: &W,
 ) -> Result<Tried, AllocError>
-    requires league { encoding.now ≡ league.now }
     requires known { All (λ l. l.var ≤ var_count encoding.now) prefer.now }
-    ensures { IfOk result (IsTriedBy league.now budgets (W.may_stop watch.now)) }
+    ensures { IfOk result (IsTriedBy encoding.now budgets (W.may_stop watch.now)) }
 {
     watch.tell(News::Phase(Phase::Search));
     let found = search_watched(
@@ -119,7 +110,7 @@ pub(crate) fn try_search<W: Listener>(
         budgets.conflicts,
         watch,
     )?;
-    answer(alloc, league, encoding, found, budgets, watch)
+    answer(alloc, encoding, found, budgets, watch)
 }
 
 /// What the search found, said of the league.
@@ -128,21 +119,19 @@ pub(crate) fn try_search<W: Listener>(
 /// Only where memory runs out.
 fn answer<W: Listener>(
     alloc: Global,
-    league: &League,
     encoding: &Encoding,
     found: Found,
     budgets: Budgets,
     watch: &W,
 ) -> Result<Tried, AllocError>
-    requires league { encoding.now ≡ league.now }
-    requires found { IsAnswerBy (rows_of league.now) (var_count league.now) budgets.conflicts
+    requires found { IsAnswerBy (rows_of encoding.now) (var_count encoding.now) budgets.conflicts
         (W.may_stop watch.now) found }
-    ensures { IfOk result (IsTriedBy league.now budgets (W.may_stop watch.now)) }
+    ensures { IfOk result (IsTriedBy encoding.now budgets (W.may_stop watch.now)) }
 {
     let _vars = encoding.vars();
     match found {
         Found::Sat(values) => {
-            let season = accepted(alloc, league, encoding, &values, budgets.moves, watch)?;
+            let season = accepted(alloc, encoding, &values, budgets.moves, watch)?;
             Ok(Tried::Found(season))
         }
         Found::Refuted(log) => {
@@ -162,18 +151,17 @@ fn answer<W: Listener>(
 /// Only where memory runs out.
 fn accepted<W: Listener>(
     alloc: Global,
-    league: &League,
     encoding: &Encoding,
     values: &Assignment,
     moves: u64,
     watch: &W,
 ) -> Result<Season, AllocError>
-    requires league { encoding.now ≡ league.now }
-    requires count { length values.now ≡ var_count league.now }
-    requires satisfied { SatisfiesAll (assigned values.now) (rows_of league.now) }
-    ensures { IfOk result (IsSeasonBy league.now moves (W.may_stop watch.now)) }
+    requires count { length values.now ≡ var_count encoding.now }
+    requires satisfied { SatisfiesAll (assigned values.now) (rows_of encoding.now) }
+    ensures { IfOk result (IsSeasonBy encoding.now moves (W.may_stop watch.now)) }
 {
-    let _n = league.n();
+    let _n = encoding.n();
+    let league = encoding.league();
     let schedule = decode(alloc, encoding, values)?;
     tell_found(alloc, league, &schedule, watch)?;
     lowered_told(alloc, league, &schedule, moves, 0, watch)

@@ -108,7 +108,7 @@ fn first_try<W: Listener>(
         return Ok(schedule_found(season));
     }
     let encoding = encode_small(alloc, league)?;
-    search_near(alloc, league, &encoding, start, budgets, watch)
+    search_near(alloc, &encoding, start, budgets, watch)
 }
 
 /// The best of what the first try came to, and of further walks from the start.
@@ -155,15 +155,13 @@ fn best_walk<W: Listener>(
 /// Only where memory runs out.
 fn search_near<W: Listener>(
     alloc: Global,
-    league: &League,
     encoding: &Encoding,
     start: &Schedule,
     budgets: Budgets,
     watch: &W,
 ) -> Result<Solved, AllocError>
-    requires league { encoding.now ≡ league.now }
-    requires fit { All (IsGame league.now.n) start.now }
-    ensures { IfOk result (IsSolutionBy league.now budgets (W.may_stop watch.now)) }
+    requires fit { All (IsGame encoding.now.n) start.now }
+    ensures { IfOk result (IsSolutionBy encoding.now budgets (W.may_stop watch.now)) }
 {
     let _vars = encoding.vars();
     watch.tell(News::Phase(Phase::Patterns));
@@ -171,7 +169,7 @@ fn search_near<W: Listener>(
     match found {
         PatternFound::Patterns(patterns) => {
             let prefer = true_in(alloc, encoding, start)?;
-            let tried = try_search(alloc, league, encoding, &prefer, budgets, watch)?;
+            let tried = try_search(alloc, encoding, &prefer, budgets, watch)?;
             Ok(solved_by(tried, PatternFound::Patterns(patterns)))
         }
         PatternFound::Refuted(log) => {
@@ -180,7 +178,7 @@ fn search_near<W: Listener>(
         }
         PatternFound::Spent(log) => {
             let prefer = true_in(alloc, encoding, start)?;
-            let tried = try_search(alloc, league, encoding, &prefer, budgets, watch)?;
+            let tried = try_search(alloc, encoding, &prefer, budgets, watch)?;
             Ok(solved_by(tried, PatternFound::Spent(log)))
         }
     }

@@ -108,8 +108,8 @@ fn best_try<W: Listener>(
         return best_with_circle(alloc, league, budgets, season, watch);
     }
     let encoding = encode_small(alloc, league)?;
-    let first = try_patterns(alloc, league, &encoding, budgets, watch)?;
-    best_from(alloc, league, &encoding, budgets, first, watch)
+    let first = try_patterns(alloc, &encoding, budgets, watch)?;
+    best_from(alloc, &encoding, budgets, first, watch)
 }
 
 /// The best answer of all tries, of which the first starts from the schedule of the circle method: without later ones
@@ -135,7 +135,7 @@ fn best_with_circle<W: Listener>(
         return Ok(first);
     }
     let encoding = encode_small(alloc, league)?;
-    best_from(alloc, league, &encoding, budgets, first, watch)
+    best_from(alloc, &encoding, budgets, first, watch)
 }
 
 /// The best answer of all tries, of which the first came to this.
@@ -144,20 +144,18 @@ fn best_with_circle<W: Listener>(
 /// Only where memory runs out.
 fn best_from<W: Listener>(
     alloc: Global,
-    league: &League,
     encoding: &Encoding,
     budgets: Budgets,
     first: Solved,
     watch: &W,
 ) -> Result<Solved, AllocError>
-    requires league { encoding.now ≡ league.now }
-    requires first { IsSolutionBy league.now budgets (W.may_stop watch.now) first }
-    ensures solution { IfOk result (IsSolutionBy league.now budgets (W.may_stop watch.now)) }
+    requires first { IsSolutionBy encoding.now budgets (W.may_stop watch.now) first }
+    ensures solution { IfOk result (IsSolutionBy encoding.now budgets (W.may_stop watch.now)) }
     ensures schedule { HasSchedule first → IfOk result HasSchedule }
-    ensures best { IfOk result (IsBest league.now budgets (W.may_stop watch.now)) }
+    ensures best { IfOk result (IsBest encoding.now budgets (W.may_stop watch.now)) }
 {
     best_of(
-        |k: u64| later_try(alloc, league, encoding, budgets, k, watch),
+        |k: u64| later_try(alloc, encoding, budgets, k, watch),
         budgets,
         first,
         watch,
@@ -205,26 +203,22 @@ fn best_of<F: Fn(u64) -> Result<Tried, AllocError>, W: Listener>(
 /// Only where memory runs out.
 fn try_patterns<W: Listener>(
     alloc: Global,
-    league: &League,
     encoding: &Encoding,
     budgets: Budgets,
     watch: &W,
 ) -> Result<Solved, AllocError>
-    requires league { encoding.now ≡ league.now }
-    ensures { IfOk result (IsSolutionBy league.now budgets (W.may_stop watch.now)) }
+    ensures { IfOk result (IsSolutionBy encoding.now budgets (W.may_stop watch.now)) }
 {
     let _vars = encoding.vars();
     watch.tell(News::Phase(Phase::Patterns));
     let found = pattern_set_watched(alloc, encoding, Some(budgets.patterns), watch)?;
     match found {
-        PatternFound::Patterns(patterns) => {
-            try_with(alloc, league, encoding, patterns, budgets, watch)
-        }
+        PatternFound::Patterns(patterns) => { try_with(alloc, encoding, patterns, budgets, watch) }
         PatternFound::Refuted(log) => {
             note_numbers(&log);
             Ok(Solved::Refuted(log))
         }
-        PatternFound::Spent(log) => try_without(alloc, league, encoding, log, budgets, watch),
+        PatternFound::Spent(log) => try_without(alloc, encoding, log, budgets, watch),
     }
 }
 
@@ -234,19 +228,17 @@ fn try_patterns<W: Listener>(
 /// Only where memory runs out.
 fn try_with<W: Listener>(
     alloc: Global,
-    league: &League,
     encoding: &Encoding,
     patterns: PatternSet,
     budgets: Budgets,
     watch: &W,
 ) -> Result<Solved, AllocError>
-    requires league { encoding.now ≡ league.now }
-    requires set { IsPatternSet league.now patterns }
-    ensures { IfOk result (IsSolutionBy league.now budgets (W.may_stop watch.now)) }
+    requires set { IsPatternSet encoding.now patterns }
+    ensures { IfOk result (IsSolutionBy encoding.now budgets (W.may_stop watch.now)) }
 {
     let prefer = venues(alloc, encoding, &patterns)?;
     let share = Share { budgets, times: 1 };
-    let tried = try_both(alloc, league, encoding, &prefer, share, watch)?;
+    let tried = try_both(alloc, encoding, &prefer, share, watch)?;
     Ok(solved_by(tried, PatternFound::Patterns(patterns)))
 }
 
@@ -256,20 +248,18 @@ fn try_with<W: Listener>(
 /// Only where memory runs out.
 fn try_without<W: Listener>(
     alloc: Global,
-    league: &League,
     encoding: &Encoding,
     log: Log,
     budgets: Budgets,
     watch: &W,
 ) -> Result<Solved, AllocError>
-    requires league { encoding.now ≡ league.now }
     requires kept { IsKeptTo (Some budgets.patterns) (W.may_stop watch.now) (Some (length log)) }
-    requires spent { IsPatternSpent league.now (Some (length log)) log }
-    ensures { IfOk result (IsSolutionBy league.now budgets (W.may_stop watch.now)) }
+    requires spent { IsPatternSpent encoding.now (Some (length log)) log }
+    ensures { IfOk result (IsSolutionBy encoding.now budgets (W.may_stop watch.now)) }
 {
     let prefer = preferred(alloc, encoding)?;
     let share = Share { budgets, times: 1 };
-    let tried = try_both(alloc, league, encoding, &prefer, share, watch)?;
+    let tried = try_both(alloc, encoding, &prefer, share, watch)?;
     Ok(solved_by(tried, PatternFound::Spent(log)))
 }
 
@@ -279,14 +269,12 @@ fn try_without<W: Listener>(
 /// Only where memory runs out.
 fn later_try<W: Listener>(
     alloc: Global,
-    league: &League,
     encoding: &Encoding,
     budgets: Budgets,
     k: u64,
     watch: &W,
 ) -> Result<Tried, AllocError>
-    requires league { encoding.now ≡ league.now }
-    ensures { IfOk result (IsTriedBy league.now budgets (W.may_stop watch.now)) }
+    ensures { IfOk result (IsTriedBy encoding.now budgets (W.may_stop watch.now)) }
 {
     let seed = budgets.seed.wrapping_add(k);
     let prefer = shuffled(alloc, encoding, seed)?;
@@ -294,5 +282,5 @@ fn later_try<W: Listener>(
         budgets: Budgets { seed, ..budgets },
         times: walk_times(budgets.tries, k),
     };
-    try_both(alloc, league, encoding, &prefer, share, watch)
+    try_both(alloc, encoding, &prefer, share, watch)
 }

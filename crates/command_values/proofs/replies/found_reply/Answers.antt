@@ -19,29 +19,26 @@ missed_row-requires c =
 
 pub season_reply-requires-clause-met : goal.season_reply-requires-clause-met
 season_reply-requires-clause-met c =
-    let rows : c.rows.result.now ≡ rows_of c.args.league.now = c.rows.ensures ∙ ap rows_of c.requires.league in
-    all-met 1 (rows_of c.args.league.now) (assigned c.args.values.now)
+    all-met 1 (rows_of c.args.encoding.now) (assigned c.args.values.now)
     (sym (c.in-None.ensures
-    ∙ ap (λ (rs : List Row). missed_from 1 rs (assigned c.args.values.now)) rows))
+    ∙ ap (λ (rs : List Row). missed_from 1 rs (assigned c.args.values.now)) c.rows.ensures))
 
 pub returns-in-Some : goal.returns-in-Some
 returns-in-Some c =
-    let league : Instance = c.args.league.now in
+    let league : Instance = c.args.encoding.now in
     let values : ℕ → Bool = assigned c.args.values.now in
-    let rows : c.rows.result.now ≡ rows_of league = c.rows.ensures ∙ ap rows_of c.requires.league in
     IfOk-weaker c.missed_reply.result (λ reply. answer_of reply ≡ missed_answer c.in-Some.row)
     (λ reply. found_of league values (missed_from 1 (rows_of league) values) (answer_of reply))
     (λ reply is. found-given league values (missed_from 1 (rows_of league) values) (Some c.in-Some.row) (answer_of reply)
-    (c.in-Some.ensures ∙ ap (λ (rs : List Row). missed_from 1 rs values) rows) is)
+    (c.in-Some.ensures ∙ ap (λ (rs : List Row). missed_from 1 rs values) c.rows.ensures) is)
     c.missed_reply.ensures
 
 pub returns-in-None : goal.returns-in-None
 returns-in-None c =
-    let league : Instance = c.args.league.now in
+    let league : Instance = c.args.encoding.now in
     let values : ℕ → Bool = assigned c.args.values.now in
-    let rows : c.rows.result.now ≡ rows_of league = c.rows.ensures ∙ ap rows_of c.requires.league in
     IfOk-weaker c.season_reply.result (λ reply. IsSeason league values (answer_of reply))
     (λ reply. found_of league values (missed_from 1 (rows_of league) values) (answer_of reply))
     (λ reply is. found-given league values (missed_from 1 (rows_of league) values) None (answer_of reply)
-    (c.in-None.ensures ∙ ap (λ (rs : List Row). missed_from 1 rs values) rows) is)
+    (c.in-None.ensures ∙ ap (λ (rs : List Row). missed_from 1 rs values) c.rows.ensures) is)
     c.season_reply.ensures

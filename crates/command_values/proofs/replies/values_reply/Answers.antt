@@ -1,10 +1,9 @@
-use Rattle.std.proofs.Common.{◌≡◌, ap, arith, ◌∙◌}
+use Rattle.std.proofs.Common.{arith, ◌∙◌}
 use Rattle.std.proofs.lemmas.Result.{IfOk-weaker}
 use Rattle.league.specs.Instance.{Instance}
 use Rattle.answers.specs.SeenReply.{answer_of}
 use Rattle.rows.specs.Values.{assigned}
 use Rattle.encoding_base.specs.Encoding.{rows_of}
-use Rattle.encoding_base.specs.Variables.{var_count}
 use Rattle.command_values.specs.Valued.{IsValued, found_of, missed_from}
 use Rattle.command_values.proofs.replies.values_reply.Goals as goal
 
@@ -13,17 +12,16 @@ found_reply-requires-clause-count c = c.in_ok-values.ensures.length ∙ c.vars.e
 
 pub returns : goal.returns
 returns c =
-    let league : Instance = c.args.league.now in
+    let league : Instance = c.args.encoding.now in
     let values = assigned c.in_ok-values.values in
-    let vars : c.vars.result ≡ var_count league = c.vars.ensures.vars ∙ ap var_count c.requires in
     IfOk-weaker c.found_reply.result
     (λ reply. found_of league values (missed_from 1 (rows_of league) values) (answer_of reply))
     (λ reply. IsValued league (rows_of league) c.args.lits.now (answer_of reply))
     (λ reply found. record {
       values = c.in_ok-values.values;
       are_values = record {
-        count = c.in_ok-values.ensures.length ∙ vars;
-        each = λ v least most. c.in_ok-values.ensures.values v least (omega (arith, vars, most));
+        count = c.in_ok-values.ensures.length ∙ c.vars.ensures.vars;
+        each = λ v least most. c.in_ok-values.ensures.values v least (omega (arith, c.vars.ensures.vars, most));
       };
       found = found;
     })

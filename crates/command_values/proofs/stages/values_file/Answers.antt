@@ -28,7 +28,7 @@ returns-clause-answer g c =
     (c.file.ensures.contents c.args.values.now) c.in_ok-second.ensures.stage) in
     Answers-wider _ _
     (valued-last store c.args.instance.now c.args.values.now _ _ _ is_first c.in_ok-league.ensures
-    c.in_ok-encoding.ensures.1 is_second) _ c.judge_values.ensures
+    c.in_ok-encoding.ensures.1 is_second) _ (rw c.in_ok-encoding.ensures.0 at c.judge_values.ensures)
 
 -- the file of values isn't read, or memory ran out
 pub returns-in_err-second-clause-answer : goal.returns-in_err-second-clause-answer

@@ -1,5 +1,4 @@
 use Rattle.std.proofs.Common.{subst}
-use Rattle.league.specs.Instance.{Instance, IsInstance}
 use Rattle.encoding_base.specs.Encoding.{rows_of}
 use Rattle.encoding_base.specs.Variables.{var_count}
 use Rattle.clause_search.specs.Answers.{IsAnswer}
@@ -10,7 +9,7 @@ use Rattle.solve.proofs.attempt.answer.Goals as goal
 
 pub returns-in_ok-season-in-Sat : goal.returns-in_ok-season-in-Sat
 returns-in_ok-season-in-Sat g c =
-    tried-season c.args.league.now c.args.budgets (g.W.Watch.may_stop c.args.watch.now) c.in_ok-season-in-Sat.season
+    tried-season c.args.encoding.now c.args.budgets (g.W.Watch.may_stop c.args.watch.now) c.in_ok-season-in-Sat.season
     c.in_ok-season-in-Sat.ensures
 
 pub returns-in-Refuted : goal.returns-in-Refuted
@@ -18,12 +17,11 @@ returns-in-Refuted g c = record {
   kept = record c.args.budgets { conflicts = c.requires.found.kept };
   are_kept = with-conflicts c.args.budgets (g.W.Watch.may_stop c.args.watch.now) c.requires.found.kept
       c.requires.found.is_kept;
-  is_tried = refuted-tried c.args.league.now c.requires.found.kept c.in-Refuted.log
-      (subst (λ (l : Instance). IsInstance l) c.requires.league c.vars-vars.ensures.instance)
-      (few_variables c.args.league.now c.args.encoding.now c.vars-vars.result c.requires.league
-      c.vars-vars.ensures.vars c.vars-vars.ensures.at_most)
+  is_tried = refuted-tried c.args.encoding.now c.requires.found.kept c.in-Refuted.log
+      c.vars-vars.ensures.instance
+      (few_variables c.args.encoding.now c.vars-vars.result c.vars-vars.ensures.vars c.vars-vars.ensures.at_most)
       (subst
-      (λ (f : Found). IsAnswer (rows_of c.args.league.now) (var_count c.args.league.now) c.requires.found.kept f)
+      (λ (f : Found). IsAnswer (rows_of c.args.encoding.now) (var_count c.args.encoding.now) c.requires.found.kept f)
       c.in-Refuted.is c.requires.found.answer) c.note_numbers.ensures;
 }
 
@@ -32,10 +30,9 @@ returns-in-Spent g c = record {
   kept = record c.args.budgets { conflicts = c.requires.found.kept };
   are_kept = with-conflicts c.args.budgets (g.W.Watch.may_stop c.args.watch.now) c.requires.found.kept
       c.requires.found.is_kept;
-  is_tried = spent c.args.league.now c.requires.found.kept c.in-Spent.log
-      (few_variables c.args.league.now c.args.encoding.now c.vars-vars.result c.requires.league
-      c.vars-vars.ensures.vars c.vars-vars.ensures.at_most)
+  is_tried = spent c.args.encoding.now c.requires.found.kept c.in-Spent.log
+      (few_variables c.args.encoding.now c.vars-vars.result c.vars-vars.ensures.vars c.vars-vars.ensures.at_most)
       (subst
-      (λ (f : Found). IsAnswer (rows_of c.args.league.now) (var_count c.args.league.now) c.requires.found.kept f)
+      (λ (f : Found). IsAnswer (rows_of c.args.encoding.now) (var_count c.args.encoding.now) c.requires.found.kept f)
       c.in-Spent.is c.requires.found.answer) c.note_numbers-in-Spent.ensures;
 }

@@ -5,6 +5,6 @@ use Rattle.solve.proofs.attempt.search_then_walk.Goals as goal
 
 pub returns : goal.returns
 returns g c =
-    walked-by c.args.league.now c.args.share.budgets (g.W.Watch.may_stop c.args.watch.now) c.in_ok-found.found
-    c.in_ok-walked.walked c.with_walked.result c.in_ok-found.ensures c.in_ok-walked.ensures
-    (λ moves kept. c.with_walked.ensures.tried c.args.league.now kept moves)
+    walked-by c.args.encoding.now c.args.share.budgets (g.W.Watch.may_stop c.args.watch.now) c.in_ok-found.found
+    c.in_ok-walked.walked c.with_walked.result c.in_ok-found.ensures (rw c.league.ensures at c.in_ok-walked.ensures)
+    (λ moves kept. c.with_walked.ensures.tried c.args.encoding.now kept moves)

@@ -22,3 +22,6 @@ returns-in-Some-2-clause-solution g c =
     (g.W.Watch.may_stop c.args.watch.now)))
     c.in-Some-2.is c.in_ok-season-2.ensures.schedule)
     (λ kept. c.schedule_found-in-Some-2.ensures.solution c.args.league.now kept)
+
+pub returns-clause-solution : goal.returns-clause-solution
+returns-clause-solution g c = rw c.in_ok-encoding.ensures at c.search_near.ensures

@@ -7,26 +7,22 @@ pub returns-in-Refuted : goal.returns-in-Refuted
 returns-in-Refuted g c = record {
   kept = c.args.budgets;
   are_kept = as-set c.args.budgets (g.W.Watch.may_stop c.args.watch.now);
-  solution = patterns_refuted c.args.league.now c.in_ok-found.ensures.kept c.in-Refuted.log
-      (few_variables c.args.league.now c.args.encoding.now c.vars-vars.result c.requires.league
-      c.vars-vars.ensures.vars c.vars-vars.ensures.at_most)
-      (found_here c.args.league.now c.args.encoding.now c.in_ok-found.ensures.kept _ _ c.requires.league
-      c.in-Refuted.is c.in_ok-found.ensures.answer) c.note_numbers.ensures;
+  solution = patterns_refuted c.args.encoding.now c.in_ok-found.ensures.kept c.in-Refuted.log
+      (few_variables c.args.encoding.now c.vars-vars.result c.vars-vars.ensures.vars c.vars-vars.ensures.at_most)
+      (found_here c.args.encoding.now c.in_ok-found.ensures.kept _ _ c.in-Refuted.is c.in_ok-found.ensures.answer)
+      c.note_numbers.ensures;
 }
 
 pub try_with-requires-clause-set : goal.try_with-requires-clause-set
 try_with-requires-clause-set g c =
-    found_here c.args.league.now c.args.encoding.now c.in_ok-found.ensures.kept _ _ c.requires.league
-    c.in-Patterns.is c.in_ok-found.ensures.answer
+    found_here c.args.encoding.now c.in_ok-found.ensures.kept _ _ c.in-Patterns.is c.in_ok-found.ensures.answer
 
 pub try_without-requires-clause-kept : goal.try_without-requires-clause-kept
 try_without-requires-clause-kept g c =
-    (spent_here c.args.league.now c.args.encoding.now (Some c.args.budgets.patterns)
-    (g.W.Watch.may_stop c.args.watch.now) c.in_ok-found.found c.in-Spent.log c.requires.league c.in-Spent.is
-    c.in_ok-found.ensures).0
+    (spent_here c.args.encoding.now (Some c.args.budgets.patterns) (g.W.Watch.may_stop c.args.watch.now)
+    c.in_ok-found.found c.in-Spent.log c.in-Spent.is c.in_ok-found.ensures).0
 
 pub try_without-requires-clause-spent : goal.try_without-requires-clause-spent
 try_without-requires-clause-spent g c =
-    (spent_here c.args.league.now c.args.encoding.now (Some c.args.budgets.patterns)
-    (g.W.Watch.may_stop c.args.watch.now) c.in_ok-found.found c.in-Spent.log c.requires.league c.in-Spent.is
-    c.in_ok-found.ensures).1
+    (spent_here c.args.encoding.now (Some c.args.budgets.patterns) (g.W.Watch.may_stop c.args.watch.now)
+    c.in_ok-found.found c.in-Spent.log c.in-Spent.is c.in_ok-found.ensures).1

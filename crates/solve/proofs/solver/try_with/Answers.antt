@@ -6,5 +6,5 @@ returns g c =
     record {
       kept = by.kept;
       are_kept = by.are_kept;
-      solution = c.solved_by.ensures.solution c.args.league.now by.kept by.is_tried c.requires.set;
+      solution = c.solved_by.ensures.solution c.args.encoding.now by.kept by.is_tried c.requires.set;
     }

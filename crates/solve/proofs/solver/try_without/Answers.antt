@@ -9,8 +9,8 @@ returns g c =
       kept = record by.kept { patterns = length c.args.log };
       are_kept = with-patterns c.args.budgets (g.W.Watch.may_stop c.args.watch.now) by.kept (length c.args.log)
           by.are_kept c.requires.kept;
-      solution = c.solved_by.ensures.solution c.args.league.now
+      solution = c.solved_by.ensures.solution c.args.encoding.now
           (record by.kept { patterns = length c.args.log })
-          (tried-patterns c.args.league.now by.kept (length c.args.log) c.in_ok-tried.tried by.is_tried)
+          (tried-patterns c.args.encoding.now by.kept (length c.args.log) c.in_ok-tried.tried by.is_tried)
           c.requires.spent;
     }
