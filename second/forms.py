@@ -592,10 +592,19 @@ def files_of(words):
     if words[0] == "rows" and "--objective" in rest and len(rest) == 2:
         rest.remove("--objective")
         return rest if is_file(rest[0]) else None
-    if words[0] == "resume" and rest[3:4] == ["--near"]:
-        files, more = given_files(rest[:3], wanted, {}), given_files(rest[4:], [], {**SOLVE, **SECONDS})
-        return None if more is None else files
+    if words[0] == "resume" and without_near(rest) is not None:
+        return given_files(without_near(rest), wanted, {**SOLVE, **SECONDS})
     return given_files(rest, wanted, options)
+
+
+def without_near(rest):
+    """The words without the first `--near` that is no option's value; nothing where there is none."""
+    place = 0
+    while place < len(rest):
+        if rest[place] == "--near":
+            return rest[:place] + rest[place + 1 :]
+        place += 2 if rest[place].startswith("--") else 1
+    return None
 
 
 def given_files(rest, wanted, options):

@@ -97,6 +97,11 @@ pub input-flag : named_from (topic_of (codes "rows")) (Argument 0) (codes "--obj
     ≡ codes "--objective" ∷ codes "/dev/stdin" ∷ []
 input-flag = refl
 
+-- nor has `--near`
+pub input-near : named_from (topic_of (codes "resume")) (Argument 0) (codes "--near" ∷ codes "-" ∷ codes "S" ∷ codes "-" ∷ [])
+    ≡ codes "--near" ∷ codes "/dev/stdin" ∷ codes "S" ∷ codes "-" ∷ []
+input-near = refl
+
 -- the list of `part` and the number of `resume` are no files
 pub input-list : named_from (topic_of (codes "part")) (Argument 0) (codes "-" ∷ codes "-" ∷ [])
     ≡ codes "/dev/stdin" ∷ codes "-" ∷ []

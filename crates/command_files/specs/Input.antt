@@ -1,5 +1,5 @@
 -- Where `-` stands for standard input among the words behind a command.
-use Rattle.std.specs.Prelude.{◌==◌, ℕ, ◌+◌, ◌-◌, ◌^◌, min, List, [], ◌∷◌, Bool, true, false, not, ◌&&◌, if◌then◌else◌}
+use Rattle.std.specs.Prelude.{◌==◌, ℕ, ◌+◌, ◌-◌, ◌^◌, min, List, [], ◌∷◌, Bool, true, false, not, ◌&&◌, ◌||◌, if◌then◌else◌}
 use Rattle.std.specs.Prelude.{codes, bytes_eq, Option, Some, None, is_some, option_and_then}
 use Rattle.std.specs.Str.{byte}
 use Rattle.command_line.specs.declared.topic.Topic.{Topic}
@@ -44,13 +44,17 @@ takes_name command (Argument before) = takes_file command before
 takes_name command (Value before) = false
 takes_name command (File before) = true
 
--- what the word behind another one is: an option has a value, but for `--objective`
+-- whether a word is an option that has no value
+abbrev pub is_flag : List ℕ → Bool
+is_flag word = bytes_eq word (codes "--objective") || bytes_eq word (codes "--near")
+
+-- what the word behind another one is
 abbrev pub next : Place → List ℕ → Place
 next (Value before) word = Argument before
 next (File before) word = Argument before
 next (Argument before) word =
     if bytes_eq word (codes "--from") then File before
-    else (if bytes_eq word (codes "--objective") then Argument before
+    else (if is_flag word then Argument before
     else (if is_option word then Value before else Argument (min (before + 1) (2 ^ 64 - 1))))
 
 -- a word as the command reads it

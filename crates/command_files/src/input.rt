@@ -53,7 +53,7 @@ fn next(place: Place, word: &str) -> Place
         Place::Argument(before) => {
             if word == "--from" {
                 Place::File(before)
-            } else if word == "--objective" {
+            } else if is_flag(word) {
                 Place::Argument(before)
             } else if is_option(word) {
                 Place::Value(before)
@@ -62,6 +62,13 @@ fn next(place: Place, word: &str) -> Place
             }
         }
     }
+}
+
+/// Whether a word is an option that has no value.
+fn is_flag(word: &str) -> bool
+    ensures { result ≡ inputs.is_flag word.now }
+{
+    word == "--objective" || word == "--near"
 }
 
 /// Whether a word names an option: it begins with `--`.

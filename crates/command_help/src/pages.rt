@@ -44,7 +44,7 @@ Options stand before, between or behind the words, each once at most:
   --seconds N        a limit of N seconds; of solve, trial, explain, prove and
                      resume
   --from SOLUTION    a season to begin at; of solve
-  --near             behind K: few games to come change; of resume
+  --near             few games to come change; of resume
   --bound B          seasons that cost at most B; of rows
   --objective        a season that costs least; of rows, and not with --bound
   --form text|csv    a text, or values for a spreadsheet (text); of show
@@ -298,9 +298,8 @@ Options stand before, between or behind the words, each once at most:
 Ctrl-C ends it as a time limit does; Ctrl-\\ ends it at once.
 
 With --near it looks for a season that changes few of the games to come, by
-walks from SOLUTION, and says behind it how many: changed=20 of=28. --near
-stands behind K; behind it stand --conflicts, --moves, --tries, --patterns,
---seed and --seconds, as of solve --from.
+walks from SOLUTION, and says behind it how many: changed=20 of=28. Then
+--moves, --tries, --patterns and --seed may stand too, as of solve --from.
 
 Status:  0  a season is found, and written with its objective
          3  a file is refused, or the league is too large, or the season has

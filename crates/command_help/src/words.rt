@@ -103,7 +103,6 @@ fn tell_missing(advice: &mut Advice, command: Topic, role: Role) -> Result<(), A
 fn beside(command: Topic) -> &'static str {
     match command {
         Topic::Show => " takes one file before, and LIST or nothing behind, ",
-        Topic::Resume => " takes two files and K before, and options behind, ",
         _ => " takes no other option beside ",
     }
 }
@@ -111,7 +110,7 @@ fn beside(command: Topic) -> &'static str {
 /// What is wrong with words that have no other fault.
 fn other(command: Topic) -> &'static str {
     match command {
-        Topic::Resume => " takes --moves, --tries, --patterns and --seed behind --near alone",
+        Topic::Resume => " takes --moves, --tries, --patterns and --seed with --near alone",
         _ => " doesn't take these words",
     }
 }

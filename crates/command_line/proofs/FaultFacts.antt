@@ -34,7 +34,7 @@ pub flags : (is_flag topic.Rows (codes "--objective") ≡ true)
     × (option_role topic.Rows (codes "--objective") ≡ None)
 flags = (refl, refl, refl, refl)
 
--- `--near` has no value, and `resume` alone has it; behind it may stand the options of `trial`
+-- `--near` has no value, and `resume` alone has it; beside it may stand the options of `trial`
 pub near_words : (is_flag topic.Resume (codes "--near") ≡ true)
     × (is_flag topic.Solve (codes "--near") ≡ false)
     × (option_role topic.Resume (codes "--near") ≡ None)

@@ -7,7 +7,7 @@ use Rattle.budgets.specs.declared.budgets.Budgets.{Budgets}
 use Rattle.command_line.specs.Words.{arguments_of, budget_in, has_options, is_file_name, is_option, is_shortest}
 use Rattle.command_line.specs.Words.{files_and_number, members_in, members_of, number_above, number_in, one_file}
 use Rattle.command_line.specs.Words.{one_number, reading, rising, said, two_files}
-use Rattle.command_line.specs.Words.{team_count_in, teams_and_seed, time_limit, tries_in, values_of, words_of, NeedsNoFile}
+use Rattle.command_line.specs.Words.{team_count_in, teams_and_seed, time_limit, tries_in, values_of, without_near, words_of, NeedsNoFile}
 use Rattle.command_line.specs.Words.Command.{Audit, Bound, Check, Circle, Demands, Explain, Make, Part, Patterns, Prove}
 use Rattle.command_line.specs.Words.Command.{Help, Resume, ResumeNear, Rows, Sheet, Show, Solve, SolveFrom, Trial, Validate, Values}
 use Rattle.command_line.specs.Words.Command.{Version}
@@ -159,6 +159,16 @@ values-some = (refl, refl)
 
 pub has_options-some : (has_options (codes "--x" ∷ []) some_words ≡ true) × (has_options (codes "--y" ∷ []) some_words ≡ false) × (has_options (codes "--x" ∷ []) (codes "a" ∷ codes "--x" ∷ []) ≡ false) × (has_options [] (codes "a" ∷ codes "-x" ∷ []) ≡ true)
 has_options-some = (refl, refl, refl, refl)
+
+-- `--near` has no value, so the word behind it is an argument
+pub arguments-near : (arguments_of (codes "a" ∷ codes "--near" ∷ codes "b" ∷ codes "--x" ∷ codes "--near" ∷ [])
+    ≡ codes "a" ∷ codes "--near" ∷ codes "b" ∷ [])
+    × (values_of (codes "--x") (codes "--near" ∷ codes "--x" ∷ codes "1" ∷ []) ≡ codes "1" ∷ [])
+    × (values_of (codes "--near") (codes "--near" ∷ codes "1" ∷ []) ≡ [])
+    × (has_options (codes "--x" ∷ []) (codes "--near" ∷ codes "--x" ∷ codes "--near" ∷ []) ≡ true)
+    × (without_near (codes "a" ∷ codes "--near" ∷ codes "--near" ∷ []) ≡ Some (codes "a" ∷ codes "--near" ∷ []))
+    × (without_near (codes "a" ∷ []) ≡ None)
+arguments-near = (refl, refl, refl, refl, refl, refl)
 
 pub is_option-some : (is_option (codes "--") ≡ true) × (is_option (codes "--a") ≡ true) × (is_option (codes "-a") ≡ false) × (is_option (codes "-") ≡ false) × (is_option [] ≡ false)
 is_option-some = (refl, refl, refl, refl, refl)
@@ -368,7 +378,7 @@ pub resume-none : (reading (codes "resume" ∷ codes "a" ∷ codes "b" ∷ []) �
     ∷ codes "--conflicts" ∷ codes "7" ∷ []) ≡ None)
 resume-none = (refl, refl, refl, refl, refl, refl, refl, refl, refl, refl)
 
--- near the old plan: with the usual budgets, and with options behind `--near`
+-- near the old plan: with the usual budgets, and with options
 pub near-some : (reading (codes "resume" ∷ codes "a" ∷ codes "b" ∷ codes "7" ∷ codes "--near" ∷ [])
     ≡ Some (ResumeNear (codes "a") (codes "b") 7 usual))
     × (reading (codes "resume" ∷ codes "a" ∷ codes "b" ∷ codes "0" ∷ codes "--near" ∷ codes "--tries" ∷ codes "10"
@@ -379,21 +389,37 @@ pub near-some : (reading (codes "resume" ∷ codes "a" ∷ codes "b" ∷ codes "
     ≡ Some (ResumeNear (codes "a") (codes "b") 7 (record usual { conflicts = None; moves = 5 })))
 near-some = (refl, refl, refl)
 
--- `--near` before the number or in front, twice, or with a value; behind it an argument or an option of `solve` alone;
+-- `--near` in front, before the second file, before the number, and between and behind options
+pub near-anywhere : (reading (codes "resume" ∷ codes "--near" ∷ codes "a" ∷ codes "b" ∷ codes "7" ∷ [])
+    ≡ Some (ResumeNear (codes "a") (codes "b") 7 usual))
+    × (reading (codes "resume" ∷ codes "a" ∷ codes "--near" ∷ codes "b" ∷ codes "7" ∷ [])
+    ≡ Some (ResumeNear (codes "a") (codes "b") 7 usual))
+    × (reading (codes "resume" ∷ codes "a" ∷ codes "b" ∷ codes "--near" ∷ codes "7" ∷ [])
+    ≡ Some (ResumeNear (codes "a") (codes "b") 7 usual))
+    × (reading (codes "resume" ∷ codes "--tries" ∷ codes "2" ∷ codes "a" ∷ codes "--near" ∷ codes "--seed" ∷ codes "3"
+    ∷ codes "b" ∷ codes "7" ∷ []) ≡ Some (ResumeNear (codes "a") (codes "b") 7 (record usual { tries = 2; seed = 3 })))
+    × (reading (codes "resume" ∷ codes "a" ∷ codes "b" ∷ codes "7" ∷ codes "--moves" ∷ codes "5" ∷ codes "--near" ∷ [])
+    ≡ Some (ResumeNear (codes "a") (codes "b") 7 (record usual { moves = 5 })))
+near-anywhere = (refl, refl, refl, refl, refl)
+
+-- `--near` as the value of an option, twice, with a value, alone, with too few words or with an option of `solve` alone;
 -- and an option of `solve` without it
-pub near-none : (reading (codes "resume" ∷ codes "a" ∷ codes "b" ∷ codes "--near" ∷ codes "7" ∷ []) ≡ None)
-    × (reading (codes "resume" ∷ codes "--near" ∷ codes "a" ∷ codes "b" ∷ codes "7" ∷ []) ≡ None)
+pub near-none : (reading (codes "resume" ∷ codes "a" ∷ codes "b" ∷ codes "7" ∷ codes "--tries" ∷ codes "--near" ∷ [])
+    ≡ None)
+    × (reading (codes "resume" ∷ codes "--near" ∷ codes "a" ∷ codes "b" ∷ codes "7" ∷ codes "--near" ∷ []) ≡ None)
     × (reading (codes "resume" ∷ codes "a" ∷ codes "b" ∷ codes "7" ∷ codes "--near" ∷ codes "--near" ∷ []) ≡ None)
     × (reading (codes "resume" ∷ codes "a" ∷ codes "b" ∷ codes "7" ∷ codes "--near" ∷ codes "9" ∷ []) ≡ None)
+    × (reading (codes "resume" ∷ codes "--near" ∷ []) ≡ None)
+    × (reading (codes "resume" ∷ codes "a" ∷ codes "--near" ∷ codes "7" ∷ []) ≡ None)
     × (reading (codes "resume" ∷ codes "a" ∷ codes "b" ∷ codes "7" ∷ codes "--near" ∷ codes "--from" ∷ codes "b" ∷ [])
     ≡ None)
     × (reading (codes "resume" ∷ codes "a" ∷ codes "b" ∷ codes "7" ∷ codes "--tries" ∷ codes "2" ∷ []) ≡ None)
     × (reading (codes "resume" ∷ codes "a" ∷ codes "-b" ∷ codes "7" ∷ codes "--near" ∷ []) ≡ None)
     × (reading (codes "resume" ∷ codes "a" ∷ codes "b" ∷ codes "07" ∷ codes "--near" ∷ []) ≡ None)
     × (reading (codes "solve" ∷ codes "a" ∷ codes "b" ∷ codes "7" ∷ codes "--near" ∷ []) ≡ None)
-near-none = (refl, refl, refl, refl, refl, refl, refl, refl, refl)
+near-none = (refl, refl, refl, refl, refl, refl, refl, refl, refl, refl, refl)
 
--- a time limit behind `--near`
+-- a time limit behind `--near`, and before it
 pub near-seconds : (time_limit (codes "resume" ∷ codes "a" ∷ codes "b" ∷ codes "7" ∷ codes "--near" ∷ codes "--seconds"
     ∷ codes "5" ∷ []) ≡ Some 5)
     × (time_limit (codes "resume" ∷ codes "a" ∷ codes "b" ∷ codes "7" ∷ codes "--near" ∷ codes "--tries" ∷ codes "2"
@@ -402,6 +428,12 @@ pub near-seconds : (time_limit (codes "resume" ∷ codes "a" ∷ codes "b" ∷ c
     × (reading (codes "resume" ∷ codes "a" ∷ codes "b" ∷ codes "7" ∷ codes "--near" ∷ codes "--seconds" ∷ codes "5" ∷ [])
     ≡ Some (ResumeNear (codes "a") (codes "b") 7 (record usual { tries = 18446744073709551615 })))
 near-seconds = (refl, refl, refl, refl)
+
+pub near-later : (time_limit (codes "resume" ∷ codes "--seconds" ∷ codes "5" ∷ codes "a" ∷ codes "b" ∷ codes "7"
+    ∷ codes "--near" ∷ []) ≡ Some 5)
+    × (time_limit (codes "resume" ∷ codes "--near" ∷ codes "a" ∷ codes "--seconds" ∷ codes "6" ∷ []) ≡ Some 6)
+    × (time_limit (codes "resume" ∷ codes "--seconds" ∷ codes "--near" ∷ []) ≡ None)
+near-later = (refl, refl, refl)
 
 pub audit-some : (reading (codes "audit" ∷ codes "a" ∷ codes "b" ∷ codes "3" ∷ codes "c" ∷ [])
     ≡ Some (Audit (codes "a") (codes "b") 3 (codes "c")))

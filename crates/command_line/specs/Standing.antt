@@ -1,5 +1,6 @@
 -- How often an option stands.
-use Rattle.std.specs.Prelude.{ℕ, List, [], ◌∷◌}
+use Rattle.std.specs.Prelude.{ℕ, Bool, false, List, [], ◌∷◌}
+use Rattle.command_line.specs.Words.{is_near}
 
 -- never, once with its value, or more often
 pub data Standing : Type 0 where
@@ -12,6 +13,11 @@ abbrev pub standing : List (List ℕ) → Standing
 standing [] = Never
 standing (value ∷ []) = Once value
 standing _ = Often
+
+-- whether `--near` is the one argument of some
+abbrev pub is_near_alone : List (List ℕ) → Bool
+is_near_alone (word ∷ []) = is_near word
+is_near_alone _ = false
 
 -- once more, with this value
 abbrev pub once_more : List ℕ → Standing → Standing

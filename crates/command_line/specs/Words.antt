@@ -79,27 +79,36 @@ abbrev pub is_option : List ℕ → Bool
 is_option (first ∷ second ∷ rest) = (first == byte "-") && (second == byte "-")
 is_option _ = false
 
--- The word behind an option's name is its value, whatever that begins with. All other words are arguments, in order.
+-- whether a word is `--near` of `resume`, which has no value
+abbrev pub is_near : List ℕ → Bool
+is_near word = bytes_eq word (codes "--near")
+
+-- whether a word names an option that has a value
+abbrev pub has_value : List ℕ → Bool
+has_value word = is_option word && not (is_near word)
+
+-- The word behind the name of an option that has a value is this value, whatever it begins with. All other words are
+-- arguments, in order: `--near` too, which is no file's name and no number.
 abbrev pub arguments_of : List (List ℕ) → List (List ℕ)
 arguments_of [] = []
 arguments_of (word ∷ []) = word ∷ []
-arguments_of (word ∷ next ∷ rest) = if is_option word then arguments_of rest else word ∷ arguments_of (next ∷ rest)
+arguments_of (word ∷ next ∷ rest) = if has_value word then arguments_of rest else word ∷ arguments_of (next ∷ rest)
 
 -- the values of the option of a name
 abbrev pub values_of : List ℕ → List (List ℕ) → List (List ℕ)
 values_of name [] = []
 values_of name (word ∷ []) = []
 values_of name (word ∷ next ∷ rest) =
-    if is_option word
+    if has_value word
     then (if bytes_eq word name then next ∷ values_of name rest else values_of name rest)
     else values_of name (next ∷ rest)
 
--- whether each option has one of these names, and a value
+-- whether each option that has a value has one of these names, and the value
 abbrev pub has_options : List (List ℕ) → List (List ℕ) → Bool
 has_options names [] = true
-has_options names (word ∷ []) = not (is_option word)
+has_options names (word ∷ []) = not (has_value word)
 has_options names (word ∷ next ∷ rest) =
-    if is_option word
+    if has_value word
     then list_any (λ name. bytes_eq word name) names && has_options names rest
     else has_options names (next ∷ rest)
 
@@ -146,17 +155,11 @@ limit_in word = option_map Some (number_in word)
 abbrev pub seconds_in : List (List ℕ) → Option (Option ℕ)
 seconds_in words = said None limit_in (values_of (codes "--seconds") words)
 
--- the words among which a time limit is said: those behind `--near` of `resume`, which has no value; else all
-abbrev pub timed_words : List (List ℕ) → List (List ℕ)
-timed_words (first ∷ second ∷ third ∷ flag ∷ rest) =
-    if bytes_eq flag (codes "--near") then rest else first ∷ second ∷ third ∷ flag ∷ rest
-timed_words words = words
-
 -- The time limit that the words of a command line say. It is no part of the command: what is promised of a run is the
 -- same with it and without.
 abbrev pub time_limit : List (List ℕ) → Option ℕ
 time_limit [] = None
-time_limit (command ∷ words) = unwrap_or (seconds_in (timed_words words)) None
+time_limit (command ∷ words) = unwrap_or (seconds_in words) None
 
 -- how many tries there are where the words don't say it: one, or with a time limit as many as it leaves time for (own
 -- choice)
@@ -248,23 +251,26 @@ resuming_kept words =
     (files_and_number (arguments_of words))
     else None
 
--- `resume` near the old plan, over two files, with a number of slots, and with no other words than options of `trial`
-abbrev pub resuming_near : (instance solution slots : List ℕ) → List (List ℕ) → Option Command
-resuming_near instance solution slots rest =
-    if (is_file_name instance && is_file_name solution)
-    && (has_options solve_options rest && (length (arguments_of rest) == 0))
-    then option_and_then (λ k. option_map (ResumeNear instance solution k) (budgets_in rest)) (number_in slots)
-    else None
+-- some arguments without the first `--near`, where it is among them
+abbrev pub without_near : List (List ℕ) → Option (List (List ℕ))
+without_near [] = None
+without_near (word ∷ words) = if is_near word then Some words else option_map (λ rest. word ∷ rest) (without_near words)
 
--- `resume` where `--near` stands behind its first three words
-abbrev pub nearing : List (List ℕ) → Option Command
-nearing (instance ∷ solution ∷ slots ∷ flag ∷ rest) =
-    if bytes_eq flag (codes "--near") then resuming_near instance solution slots rest else None
-nearing _ = None
+-- two files, a number, and `--near` anywhere among them
+abbrev pub near_files_and_number : List (List ℕ) → Option (List ℕ × List ℕ × ℕ)
+near_files_and_number words = option_and_then files_and_number (without_near words)
+
+-- `resume` near the old plan, over two files, with a number of slots, and with the options of `trial`
+abbrev pub resuming_near : List (List ℕ) → Option Command
+resuming_near words =
+    if has_options solve_options words
+    then option_and_then (λ found. option_map (ResumeNear found.0 found.1 found.2) (budgets_in words))
+    (near_files_and_number (arguments_of words))
+    else None
 
 -- `resume`, near the old plan or not
 abbrev pub resuming : List (List ℕ) → Option Command
-resuming words = option_or (nearing words) (resuming_kept words)
+resuming words = option_or (resuming_near words) (resuming_kept words)
 
 -- the number of teams and the seed of a made league, as arguments
 unfoldable pub teams_and_seed : List (List ℕ) → Option (ℕ × ℕ)

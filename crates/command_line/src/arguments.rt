@@ -1,9 +1,10 @@
 //! Arguments one after another, among words with options.
-ghost use Rattle.std.specs.Prelude.{◌≡◌, [], ◌∷◌, map, string_bytes, option_map, MatchOption};
+ghost use Rattle.std.specs.Prelude.{◌≡◌, false, [], ◌∷◌, map, string_bytes, option_and_then, option_map, MatchOption};
 ghost use Rattle.command_line.specs.Words as options;
+ghost use Rattle.command_line.specs.Standing.{is_near_alone};
 ghost use Rattle.command_line.specs.Words.{arguments_of};
 
-use crate::words::{is_name, is_option, one_file, one_number};
+use crate::words::{has_no_argument, has_value, is_name, is_near, number, one_file, one_number};
 
 /// The first argument, and the words behind it, where there is one.
 fn first_argument(words: &[String]) -> Option<(&str, &[String])>
@@ -13,7 +14,7 @@ fn first_argument(words: &[String]) -> Option<(&str, &[String])>
 {
     match words {
         [] => None,
-        [first, _, rest @ ..] if is_option(first.as_str()) => first_argument(rest),
+        [first, _, rest @ ..] if has_value(first.as_str()) => first_argument(rest),
         [first, rest @ ..] => Some((first.as_str(), rest)),
     }
 }
@@ -41,7 +42,18 @@ pub(crate) fn files_and_number(words: &[String]) -> Option<(&str, &str, u64)>
     let Some((first, rest)) = first_argument(words) else {
         return None;
     };
-    let Some((second, rest)) = first_argument(rest) else {
+    file_and_number_behind(first, rest)
+}
+
+/// A file, with the second one and the number among the arguments behind it.
+fn file_and_number_behind<'a>(
+    first: &'a str,
+    words: &'a [String],
+) -> Option<(&'a str, &'a str, u64)>
+    ensures { option_map (λ found. (found.0.now, found.1.now, found.2)) result
+        ≡ options.files_and_number (first.now ∷ arguments_of (map string_bytes words.now)) }
+{
+    let Some((second, rest)) = first_argument(words) else {
         return None;
     };
     if !is_name(first) || !is_name(second) {
@@ -49,4 +61,65 @@ pub(crate) fn files_and_number(words: &[String]) -> Option<(&str, &str, u64)>
     }
     let number = one_number(rest)?;
     Some((first, second, number))
+}
+
+/// The two files and the number among the arguments, among which `--near` stands too.
+pub(crate) fn near_files_and_number(words: &[String]) -> Option<(&str, &str, u64)>
+    ensures { option_map (λ found. (found.0.now, found.1.now, found.2)) result
+        ≡ options.near_files_and_number (arguments_of (map string_bytes words.now)) }
+{
+    let Some((first, rest)) = first_argument(words) else {
+        return None;
+    };
+    if is_near(first) {
+        return files_and_number(rest);
+    }
+    near_behind(first, rest)
+}
+
+/// A file, with the second one and the number among the arguments behind it, among which `--near` stands too.
+fn near_behind<'a>(first: &'a str, words: &'a [String]) -> Option<(&'a str, &'a str, u64)>
+    requires { options.is_near first.now ≡ false }
+    ensures { option_map (λ found. (found.0.now, found.1.now, found.2)) result
+        ≡ options.near_files_and_number (first.now ∷ arguments_of (map string_bytes words.now)) }
+{
+    let Some((second, rest)) = first_argument(words) else {
+        return None;
+    };
+    if is_near(second) {
+        return file_and_number_behind(first, rest);
+    }
+    if !is_name(first) || !is_name(second) {
+        return None;
+    }
+    let number = near_number(rest)?;
+    Some((first, second, number))
+}
+
+/// The number among the arguments, among which `--near` stands too.
+fn near_number(words: &[String]) -> Option<u64>
+    ensures { result ≡ option_and_then options.one_number
+        (options.without_near (arguments_of (map string_bytes words.now))) }
+{
+    let Some((first, rest)) = first_argument(words) else {
+        return None;
+    };
+    if is_near(first) {
+        return one_number(rest);
+    }
+    if has_near_alone(rest) {
+        number(first)
+    } else {
+        None
+    }
+}
+
+/// Whether `--near` is the one argument.
+fn has_near_alone(words: &[String]) -> bool
+    ensures { result ≡ is_near_alone (arguments_of (map string_bytes words.now)) }
+{
+    match first_argument(words) {
+        Some((first, rest)) => is_near(first) && has_no_argument(rest),
+        None => false,
+    }
 }

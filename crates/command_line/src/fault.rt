@@ -108,12 +108,15 @@ fn wrong_demands(command: Topic, words: &[String]) -> Option<WordFault<'_>>
     }
 }
 
-/// An option without a value that stands where it may not.
+/// An option without a value that stands where it may not. `--near` of `resume` may stand anywhere, but once.
 fn misplaced(command: Topic, words: &[String]) -> Option<WordFault<'_>>
     ensures { IfSome result IsSo }
 {
     let word = flag_among(command, words)?;
-    Some(WordFault::Beside { command, word })
+    match command {
+        Topic::Resume => Some(WordFault::Twice { word }),
+        _ => Some(WordFault::Beside { command, word }),
+    }
 }
 
 /// A word that is to be a list and is none.

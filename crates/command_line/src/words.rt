@@ -8,7 +8,7 @@ ghost use Rattle.command_line.specs.Words as options;
 ghost use Rattle.command_line.specs.Words.{arguments_of, asking, auditing, bound_in, bounding, budget_in, budgets_in};
 ghost use Rattle.command_line.specs.Words.{conflicts_in, costing, explaining, lowering};
 ghost use Rattle.command_line.specs.Words.{following, has_options, helping, is_file_name, limit_in, making, parting};
-ghost use Rattle.command_line.specs.Words.{HasTeams, nearing, number_in, patterning, plain, proving, reading, resuming, resuming_kept, resuming_near};
+ghost use Rattle.command_line.specs.Words.{HasTeams, number_in, patterning, plain, proving, reading, resuming, resuming_kept, resuming_near};
 ghost use Rattle.command_line.specs.Words.{row_options, rowing, said};
 ghost use Rattle.command_line.specs.Words.{demanding, demanding_all, demanding_some, form_in, most_in, show_options};
 ghost use Rattle.command_line.specs.Words.{showing, showing_season, small_in};
@@ -21,7 +21,7 @@ ghost use Rattle.command_line.specs.SeenWords.{command_of};
 ghost use Rattle.command_line.specs.Standing.{once_more, standing};
 ghost use Rattle.command_line.specs.SeenStanding.{seen};
 
-use crate::arguments::{files_and_number, two_files};
+use crate::arguments::{files_and_number, near_files_and_number, two_files};
 use crate::goal::Goal;
 use crate::list::is_list;
 use crate::topic::{Topic, topic_of};
@@ -460,61 +460,16 @@ fn read_resume(words: &[String]) -> Option<Words<'_>>
     }
 }
 
-/// `resume` with `--near` behind two files and a number of slots, and options behind that.
+/// `resume` over two files, with a number of slots, `--near` and its options.
 fn read_near(words: &[String]) -> Option<Words<'_>>
-    ensures reading { option_map command_of result ≡ nearing (map string_bytes words.now) }
+    ensures reading { option_map command_of result ≡ resuming_near (map string_bytes words.now) }
     ensures teams { IfSome result (λ command. HasTeams (command_of command)) }
 {
-    match words {
-        [instance, solution, slots, flag, rest @ ..] => near_behind(
-            instance.as_str(),
-            solution.as_str(),
-            slots.as_str(),
-            flag.as_str(),
-            rest,
-        ),
-        _ => None,
-    }
-}
-
-/// `resume` near the old plan, with these words, if the fourth is `--near`.
-fn near_behind<'a>(
-    instance: &'a str,
-    solution: &'a str,
-    slots: &str,
-    flag: &str,
-    rest: &[String],
-) -> Option<Words<'a>>
-    ensures reading { option_map command_of result
-        ≡ nearing (instance.now ∷ solution.now ∷ slots.now ∷ flag.now ∷ map string_bytes rest.now) }
-    ensures teams { IfSome result (λ command. HasTeams (command_of command)) }
-{
-    if flag == "--near" {
-        near_of(instance, solution, slots, rest)
-    } else {
-        None
-    }
-}
-
-/// `resume` near the old plan, with these words.
-fn near_of<'a>(
-    instance: &'a str,
-    solution: &'a str,
-    slots: &str,
-    rest: &[String],
-) -> Option<Words<'a>>
-    ensures reading { option_map command_of result
-        ≡ resuming_near instance.now solution.now slots.now (map string_bytes rest.now) }
-    ensures teams { IfSome result (λ command. HasTeams (command_of command)) }
-{
-    if !is_name(instance) || !is_name(solution) {
+    if !has_solve_options(words) {
         return None;
     }
-    if !has_solve_options(rest) || !has_no_argument(rest) {
-        return None;
-    }
-    let k = number(slots)?;
-    let budgets = budgets(rest)?;
+    let (instance, solution, k) = near_files_and_number(words)?;
+    let budgets = budgets(words)?;
     Some(Words::ResumeNear {
         instance,
         solution,
@@ -740,7 +695,7 @@ fn teams_and_seed(words: &[String]) -> Option<(u16, u64)>
 {
     match words {
         [] => None,
-        [first, _, rest @ ..] if is_option(first.as_str()) => teams_and_seed(rest),
+        [first, _, rest @ ..] if has_value(first.as_str()) => teams_and_seed(rest),
         [first, rest @ ..] => with_seed(first.as_str(), rest),
     }
 }
@@ -763,7 +718,7 @@ pub(crate) fn one_number(words: &[String]) -> Option<u64>
 {
     match words {
         [] => None,
-        [first, _, rest @ ..] if is_option(first.as_str()) => one_number(rest),
+        [first, _, rest @ ..] if has_value(first.as_str()) => one_number(rest),
         [first, rest @ ..] => number_alone(first.as_str(), rest),
     }
 }
@@ -785,17 +740,7 @@ pub fn seconds_of(words: &[String]) -> Option<u64>
 {
     match words {
         [] => None,
-        [_, rest @ ..] => seconds_said(timed_words(rest)).unwrap_or(None),
-    }
-}
-
-/// The words among which a time limit is said: those behind `--near`, where that stands behind three words.
-fn timed_words(words: &[String]) -> &[String]
-    ensures { map string_bytes result.now ≡ options.timed_words (map string_bytes words.now) }
-{
-    match words {
-        [_, _, _, flag, rest @ ..] if flag.as_str() == "--near" => rest,
-        _ => words,
+        [_, rest @ ..] => seconds_said(rest).unwrap_or(None),
     }
 }
 
@@ -936,7 +881,7 @@ pub(crate) fn value_of<'a>(words: &'a [String], name: &str) -> Standing<'a>
     ensures { seen result ≡ standing (values_of name.now (map string_bytes words.now)) }
 {
     match words {
-        [first, value, rest @ ..] if is_option(first.as_str()) => {
+        [first, value, rest @ ..] if has_value(first.as_str()) => {
             let later = value_of(rest, name);
             if first.as_str() == name {
                 one_more(value.as_str(), later)
@@ -966,7 +911,7 @@ pub(crate) fn one_file(words: &[String]) -> Option<&str>
 {
     match words {
         [] => None,
-        [first, _, rest @ ..] if is_option(first.as_str()) => one_file(rest),
+        [first, _, rest @ ..] if has_value(first.as_str()) => one_file(rest),
         [first, rest @ ..] => file_alone(first.as_str(), rest),
     }
 }
@@ -983,11 +928,11 @@ fn file_alone<'a>(file: &'a str, rest: &[String]) -> Option<&'a str>
 }
 
 /// Whether there is no argument.
-fn has_no_argument(words: &[String]) -> bool
+pub(crate) fn has_no_argument(words: &[String]) -> bool
     ensures { result ≡ (length (arguments_of (map string_bytes words.now)) == 0) }
 {
     match words {
-        [first, _, rest @ ..] => is_option(first.as_str()) && has_no_argument(rest),
+        [first, _, rest @ ..] => has_value(first.as_str()) && has_no_argument(rest),
         _ => words.is_empty(),
     }
 }
@@ -997,10 +942,10 @@ fn has_start_options(words: &[String]) -> bool
     ensures { result ≡ has_options start_options (map string_bytes words.now) }
 {
     match words {
-        [first, _, rest @ ..] if is_option(first.as_str()) => {
+        [first, _, rest @ ..] if has_value(first.as_str()) => {
             is_start_option(first.as_str()) && has_start_options(rest)
         }
-        [first, rest @ ..] => !is_option(first.as_str()) && has_start_options(rest),
+        [first, rest @ ..] => !has_value(first.as_str()) && has_start_options(rest),
         [] => true,
     }
 }
@@ -1010,10 +955,10 @@ fn has_solve_options(words: &[String]) -> bool
     ensures { result ≡ has_options solve_options (map string_bytes words.now) }
 {
     match words {
-        [first, _, rest @ ..] if is_option(first.as_str()) => {
+        [first, _, rest @ ..] if has_value(first.as_str()) => {
             is_solve_option(first.as_str()) && has_solve_options(rest)
         }
-        [first, rest @ ..] => !is_option(first.as_str()) && has_solve_options(rest),
+        [first, rest @ ..] => !has_value(first.as_str()) && has_solve_options(rest),
         [] => true,
     }
 }
@@ -1023,10 +968,10 @@ fn has_search_options(words: &[String]) -> bool
     ensures { result ≡ has_options search_options (map string_bytes words.now) }
 {
     match words {
-        [first, _, rest @ ..] if is_option(first.as_str()) => {
+        [first, _, rest @ ..] if has_value(first.as_str()) => {
             first.as_str() == "--conflicts" && has_search_options(rest)
         }
-        [first, rest @ ..] => !is_option(first.as_str()) && has_search_options(rest),
+        [first, rest @ ..] => !has_value(first.as_str()) && has_search_options(rest),
         [] => true,
     }
 }
@@ -1036,10 +981,10 @@ fn has_timed_options(words: &[String]) -> bool
     ensures { result ≡ has_options timed_options (map string_bytes words.now) }
 {
     match words {
-        [first, _, rest @ ..] if is_option(first.as_str()) => {
+        [first, _, rest @ ..] if has_value(first.as_str()) => {
             is_timed_option(first.as_str()) && has_timed_options(rest)
         }
-        [first, rest @ ..] => !is_option(first.as_str()) && has_timed_options(rest),
+        [first, rest @ ..] => !has_value(first.as_str()) && has_timed_options(rest),
         [] => true,
     }
 }
@@ -1049,10 +994,10 @@ fn has_row_options(words: &[String]) -> bool
     ensures { result ≡ has_options row_options (map string_bytes words.now) }
 {
     match words {
-        [first, _, rest @ ..] if is_option(first.as_str()) => {
+        [first, _, rest @ ..] if has_value(first.as_str()) => {
             first.as_str() == "--bound" && has_row_options(rest)
         }
-        [first, rest @ ..] => !is_option(first.as_str()) && has_row_options(rest),
+        [first, rest @ ..] => !has_value(first.as_str()) && has_row_options(rest),
         [] => true,
     }
 }
@@ -1062,10 +1007,10 @@ fn has_show_options(words: &[String]) -> bool
     ensures { result ≡ has_options show_options (map string_bytes words.now) }
 {
     match words {
-        [first, _, rest @ ..] if is_option(first.as_str()) => {
+        [first, _, rest @ ..] if has_value(first.as_str()) => {
             is_show_option(first.as_str()) && has_show_options(rest)
         }
-        [first, rest @ ..] => !is_option(first.as_str()) && has_show_options(rest),
+        [first, rest @ ..] => !has_value(first.as_str()) && has_show_options(rest),
         [] => true,
     }
 }
@@ -1108,6 +1053,20 @@ pub(crate) fn is_option(word: &str) -> bool
     ensures { result ≡ options.is_option word.now }
 {
     matches!(word.as_bytes(), [b'-', b'-', ..])
+}
+
+/// Whether a word is `--near` of `resume`, which has no value.
+pub(crate) fn is_near(word: &str) -> bool
+    ensures { result ≡ options.is_near word.now }
+{
+    word == "--near"
+}
+
+/// Whether a word names an option that has a value.
+pub(crate) fn has_value(word: &str) -> bool
+    ensures { result ≡ options.has_value word.now }
+{
+    is_option(word) && !is_near(word)
 }
 
 /// The budget that a word writes: a number of conflicts, or `all`, which is none.

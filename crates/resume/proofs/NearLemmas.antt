@@ -9,7 +9,9 @@ use Rattle.league.specs.Counts.{Counts, counts_of, is_game}
 use Rattle.league.specs.declared.game.Game.{Game}
 use Rattle.league.proofs.RangeLemmas.{one_if}
 use Rattle.resume_rows.specs.Kept.{is_played}
-use Rattle.resume.specs.Near.{IsAtMost, changed, is_changed, is_open}
+use Rattle.resume.specs.Near.{IsAtMost, IsNoFarther, changed, is_changed, is_open}
+use Rattle.resume.specs.declared.resumed.Resumed.{Resumed}
+use Rattle.resume.specs.declared.resumed.Resumed.TheVariants.{Schedule, Refuted, Spent}
 
 -- a list counts one more for an element that passes, and else as much
 count-here : {X : Type 0} (p : X → Bool) (x : X) (xs : List X) → p x ≡ true
@@ -84,6 +86,12 @@ none-changed k old games same =
     old (all-found (λ g. is_game g.home.0 g.away.0 g.slot.0) (λ g. same_game g.home.0 g.away.0 g.slot.0) old))
 
 -- ---- which of two seasons is nearer
+
+-- an answer is no farther than itself
+pub no_farther-itself : (k : ℕ) (old : List Game) (answer : Resumed) → IsNoFarther k old answer answer
+no_farther-itself k old (Schedule games objective) = inr (refl, omega arith)
+no_farther-itself k old (Refuted log) = refl
+no_farther-itself k old (Spent log) = refl
 
 pub at-most : (after before cost first : ℕ)
     → (nat_lt after before || ((after == before) && nat_lt cost first)) ≡ true → IsAtMost after cost before first

@@ -20,7 +20,7 @@ mod unheard;
 pub use bettered::resume_lowered;
 pub use changed::{changed_games, open_games};
 pub use checked::{check_resume, checker_of};
-pub use near::resume_near;
+pub use near::{PartSeason, nearer_answer, resume_near};
 pub use resume_rows::{ResumeSystem, resume_size, resume_system};
 pub use resumed::Resumed;
 pub use resumer::resume;

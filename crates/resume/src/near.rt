@@ -28,10 +28,16 @@ use robin_watch::Watch;
 use solve::{Solved, solve_from};
 use std::alloc::{AllocError, Global};
 
-/// Resumes a season as `resume_lowered` does, and near the old plan. Unless the league accepts that, or the search
-/// refutes, `solve_from` goes from the old plan too, where that is a double round robin, over a league that asks for
-/// the played games and, at a penalty, for those of the old plan. Of both seasons the one is the answer that changes
-/// fewer games, and of equal ones the one that costs less. The watch may end all of it.
+/// A season of which the first k slots are played. What `played` has from slot k on is the old plan.
+#[derive(Clone, Copy)]
+pub struct PartSeason<'a> {
+    pub league: &'a League,
+    pub played: &'a Schedule,
+    pub k: u16,
+}
+
+/// Resumes a season as `resume_lowered` does, and near the old plan, as `nearer_answer` does. The watch may end all of
+/// it.
 ///
 /// # Errors
 /// As `resume`.
@@ -53,12 +59,45 @@ pub fn resume_near<W: Watch>(
     // Where the league accepts what `played` has, the answer is a schedule of the same games.
     ensures plan { IsAccepted league.now (counts_of played.now) → IfOk result (IsPlan played.now) }
 {
-    let resumed = resume_lowered(alloc, league, played, k, budgets.conflicts, watch)?;
-    if matches!(resumed, Resumed::Refuted { .. }) || is_accepted(alloc, league, played)? {
-        return Ok(resumed);
+    let first = resume_lowered(alloc, league, played, k, budgets.conflicts, watch)?;
+    let season = PartSeason { league, played, k };
+    let answer = nearer_answer(alloc, season, first, budgets, watch)?;
+    Ok(answer)
+}
+
+/// A first answer, or one that is nearer the old plan. Unless the league accepts the old plan, or the first answer
+/// refutes, `solve_from` goes from the old plan, where that is a double round robin, over a league that asks for the
+/// played games and, at a penalty, for those of the old plan. Of both seasons the one is the answer that changes fewer
+/// games, and of equal ones the one that costs less. The watch may end it.
+///
+/// # Errors
+/// Only where memory runs out.
+pub fn nearer_answer<W: Watch>(
+    alloc: Global,
+    season: PartSeason<'_>,
+    first: Resumed,
+    budgets: Budgets,
+    watch: &W,
+) -> Result<Resumed, AllocError>
+    requires few { length season.entry.played.now ≤ 10000 }
+    requires fit { All (IsGame season.entry.league.now.n) season.entry.played.now }
+    ensures answer { (conflicts : Option ℕ)
+        → IsResumed season.entry.league.now season.entry.played.now season.entry.k conflicts first
+        → IfOk result (IsResumed season.entry.league.now season.entry.played.now season.entry.k conflicts) }
+
+    // It changes no more games than the first answer, and where it changes as many, it costs no more.
+    ensures no_farther { IfOk result (IsNoFarther season.entry.k season.entry.played.now first) }
+
+    // Where the league accepts the old plan, the first answer stays.
+    ensures plan { IsAccepted season.entry.league.now (counts_of season.entry.played.now)
+        → IfOk result (λ answer. answer ≡ first) }
+{
+    let (league, played) = (season.league, season.played);
+    if matches!(first, Resumed::Refuted { .. }) || is_accepted(alloc, league, played)? {
+        return Ok(first);
     }
-    let near = near_season(alloc, league, played, k, budgets, watch)?;
-    Ok(nearer(played, k, resumed, near))
+    let near = near_season(alloc, league, played, season.k, budgets, watch)?;
+    Ok(nearer(played, season.k, first, near))
 }
 
 /// Whether the league accepts a schedule.
