@@ -5,9 +5,11 @@ python3 second/hostile.py PROGRAM [GROUP ..] [--cases N] [--seed N] [--keep FOLD
 PROGRAM is robin as it was built. Each GROUP (all but those of HEAVY where none is named) makes its cases in a folder of
 its own, runs the program on them under a limit of time and of memory, and compares the status and each byte with what
 the rules in words demand (forms.py, leagues.py, rows.py, logs.py). The groups of the commands of certificates and of
-seasons partly played stand in certified.py; those of words, written files, standard input, limits and starts in doors.py. One line a group says how many cases there were and how many differed; the
-input of each difference is kept in FOLDER. `--cases` is the number of changed files or logs. `memory` and `faults` want
-cc; with `--only` they, and `devices`, take these commands alone.
+seasons partly played stand in certified.py, those of what stands around the commands in doors.py. One line a group says
+how many cases there were and how many differed, and a table says it of all groups at the end; the input of each
+difference is kept in FOLDER. `--cases` is the number of changed files or logs. With `--total N` the groups that draw
+their cases are run with further seeds until there are N cases in all. `memory` and `faults` want cc; with `--only`
+they, and `devices`, take these commands alone.
 """
 
 import argparse
@@ -330,7 +332,7 @@ def stands(t):
 
 
 # What a person is told then.
-NO_MEMORY = b"robin: memory ran out, and nothing was written\n"
+NO_MEMORY = b"robin: memory ran out, and no answer was written\n"
 
 
 def memory(t):
@@ -705,6 +707,43 @@ def steps(t):
 HEAVY = [costly, steps, heavy, *certified.HEAVY, *doors.HEAVY]
 GROUPS = [prefixes, wild, limits, edges, memory, faults, devices, texts, mutants, files, large]
 GROUPS += [*certified.GROUPS, *doors.GROUPS, *HEAVY]
+# Groups that draw their cases, as many as are asked for: another seed makes other cases.
+DRAWN = {"mutants", "files", "rechanged", "reshown", "said", "begun", "pictured", "listed", "valued", "nearby"}
+
+
+class Table:
+    """How many cases each group made, how many differed, and how many seconds it took."""
+
+    def __init__(self):
+        self.rows = {}
+
+    def add(self, group, *numbers):
+        """Adds the cases, differences and seconds of one run of a group."""
+        self.rows[group] = [one + more for one, more in zip(self.rows.get(group, (0, 0, 0.0)), numbers)]
+
+    def sums(self):
+        """The cases, differences and seconds of all groups."""
+        return [sum(row[k] for row in self.rows.values()) for k in range(3)]
+
+    def show(self):
+        """Prints a line for each group, and one for all."""
+        print(f"{'group':12} {'cases':>9} {'differences':>12} {'seconds':>8}")
+        for group, row in [*self.rows.items(), ("all", self.sums())]:
+            print(f"{group:12} {row[0]:9} {row[1]:12} {row[2]:8.0f}", flush=True)
+
+
+def run_group(group, said, seed, table):
+    """One run of a group, in a folder of its own."""
+    with tempfile.TemporaryDirectory(dir=said.scratch) as folder:
+        t = Tries(said.program, folder, said.keep)
+        t.group, t.cases, t.seed, t.only = group.__name__, said.cases, seed, said.only and said.only.split(",")
+        began = time.monotonic()
+        group(t)
+        t.flush()
+        t.server.end()
+        numbers = t.count[t.group], t.differences[t.group], time.monotonic() - began
+        print(f"{t.group}: {numbers[0]} cases, {numbers[1]} differences, {numbers[2]:.0f} s", flush=True)
+        table.add(t.group, *numbers)
 
 
 def main():
@@ -717,21 +756,23 @@ def main():
     words.add_argument("--keep")
     words.add_argument("--only", default="", help="commands, joined by `,`")
     words.add_argument("--scratch", help="where the folders stand; one in memory, as /dev/shm, is faster")
+    words.add_argument("--names", action="store_true", help="prints the groups, `stopped` among them, and runs none")
+    words.add_argument("--total", type=int, default=0, help="at least so many cases in all")
     said = words.parse_args()
+    if said.names:
+        print(*(it.__name__ for it in GROUPS if it not in HEAVY or it in doors.HEAVY))
+        return
     chosen = [it for it in GROUPS if (it.__name__ in said.groups if said.groups else it not in HEAVY)]
-    total = 0
+    table, seed = Table(), said.seed
     for group in chosen:
-        with tempfile.TemporaryDirectory(dir=said.scratch) as folder:
-            t = Tries(said.program, folder, said.keep)
-            t.group, t.cases, t.seed, t.only = group.__name__, said.cases, said.seed, said.only and said.only.split(",")
-            began = time.monotonic()
-            group(t)
-            t.flush()
-            t.server.end()
-            count, wrong = t.count[t.group], t.differences[t.group]
-            print(f"{t.group}: {count} cases, {wrong} differences, {time.monotonic() - began:.0f} s", flush=True)
-            total += wrong
-    raise SystemExit(1 if total else 0)
+        run_group(group, said, seed, table)
+    drawn = [it for it in chosen if it.__name__ in DRAWN]
+    while drawn and table.sums()[0] < said.total:
+        seed += 1
+        for group in drawn:
+            run_group(group, said, seed, table)
+    table.show()
+    raise SystemExit(1 if table.sums()[1] else 0)
 
 
 main()

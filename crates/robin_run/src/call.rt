@@ -241,7 +241,7 @@ fn write_given<K: Sink, T: Sink>(out: &mut K, told: &mut T, given: Result<Given,
             write_told(out, told, &refusal.reply)
         }
         Err(NoValue::Memory) => {
-            tell(told, b"robin: memory ran out, and nothing was written\n");
+            tell(told, b"robin: memory ran out, and no answer was written\n");
             Status::Memory
         }
     }
