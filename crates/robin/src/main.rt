@@ -24,7 +24,7 @@ const UNREAD_WORDS: &str = "robin: the words can't be read: a word that isn't UT
 const MOST_WORDS: usize = 1000;
 
 /// What is said on standard error where there is no memory for the words.
-const NO_MEMORY: &str = "robin: memory ran out, and nothing was written\n";
+const NO_MEMORY: &str = "robin: memory ran out, and no answer was written\n";
 
 /// The exit status where the words can't be had.
 fn without_words(error: &io::Error) -> u8 {
