@@ -1,11 +1,12 @@
 -- What an option says, by how often it stands, and what words are no command.
-use Rattle.std.proofs.Common.{◌≡◌, ℕ, ◌<◌, ◌≤◌, ◌==◌, if◌then◌else◌, suc, Bool, true, false, ◌&&◌, List, [], ◌∷◌, length, map, string_bytes, String, Option, Some, None, refl, arith, ap, sym}
+use Rattle.std.proofs.Common.{◌≡◌, ℕ, ◌<◌, ◌≤◌, ◌==◌, if◌then◌else◌, suc, Bool, true, false, ◌&&◌, List, [], ◌∷◌, length, map, string_bytes, String, Option, Some, None, codes, refl, arith, ap, subst, sym}
 use Rattle.std.specs.Prelude.{option_and_then, option_map}
 use Rattle.std.proofs.lemmas.Bool.Decides.{nat_tests}
+use Rattle.std.proofs.lemmas.Slice.Eq.{bytes_eq-Decides}
 use Rattle.command_line.specs.Standing.{is_near_alone, once_more, standing}
 use Rattle.command_line.specs.Standing.Standing.{Never, Once, Often}
-use Rattle.command_line.specs.Words.{arguments_of, auditing, is_file_name, is_near, near_files_and_number, number_in}
-use Rattle.command_line.specs.Words.{one_file, one_number, plain, said, teams_and_seed, without_near}
+use Rattle.command_line.specs.Words.{arguments_of, auditing, is_file_name, is_near, is_option, near_files_and_number}
+use Rattle.command_line.specs.Words.{number_in, one_file, one_number, plain, said, teams_and_seed, without_near}
 
 pub standing-more : (value : List ℕ) (values : List (List ℕ)) → once_more value (standing values) ≡ standing (value ∷ values)
 standing-more value [] = refl
@@ -79,6 +80,11 @@ teams_and_seed-none {Z} [] few = refl
 teams_and_seed-none {Z} (word ∷ words) few = absurd (omega arith)
 
 -- ---- `--near` among arguments
+
+-- it begins as an option does
+pub near-option : (word : List ℕ) → is_near word ≡ true → is_option word ≡ true
+near-option word is =
+    subst (λ (w : List ℕ). is_option w ≡ true) (sym ((bytes_eq-Decides word (codes "--near")).0 is)) refl
 
 -- the one argument is `--near` where the first is and none comes behind it
 pub near_alone-first : (first : List ℕ) (more : List (List ℕ))
