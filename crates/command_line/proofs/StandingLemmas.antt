@@ -82,33 +82,33 @@ teams_and_seed-none {Z} (word ∷ words) few = absurd (omega arith)
 -- ---- `--near` among arguments
 
 -- it begins as an option does
-pub near-option : (word : List ℕ) → is_near word ≡ true → is_option word ≡ true
-near-option word is =
+pub near_option : (word : List ℕ) → is_near word ≡ true → is_option word ≡ true
+near_option word is =
     subst (λ (w : List ℕ). is_option w ≡ true) (sym ((bytes_eq-Decides word (codes "--near")).0 is)) refl
 
 -- the one argument is `--near` where the first is and none comes behind it
-pub near_alone-first : (first : List ℕ) (more : List (List ℕ))
+pub near_alone_first : (first : List ℕ) (more : List (List ℕ))
     → (is_near first && (length more == 0)) ≡ is_near_alone (first ∷ more)
-near_alone-first first [] = by (is_near first) where
+near_alone_first first [] = by (is_near first) where
   by : (b : Bool) → (b && (0 == 0)) ≡ b
   by true = refl
   by false = refl
-near_alone-first first (word ∷ more) = by (is_near first) where
+near_alone_first first (word ∷ more) = by (is_near first) where
   by : (b : Bool) → (b && (suc (length more) == 0)) ≡ false
   by true = grind (arith, nat_tests)
   by false = refl
 
 -- a number with one further argument, which is `--near`
-pub near_number-behind : (first : List ℕ) (more : List (List ℕ))
+pub near_number_behind : (first : List ℕ) (more : List (List ℕ))
     → (if is_near_alone more then number_in first else None)
     ≡ option_and_then one_number (option_map (λ rest. first ∷ rest) (without_near more))
-near_number-behind first [] = refl
-near_number-behind first (word ∷ []) = by (is_near word) where
+near_number_behind first [] = refl
+near_number_behind first (word ∷ []) = by (is_near word) where
   by : (b : Bool) → (if b then number_in first else None)
       ≡ option_and_then one_number (option_map (λ rest. first ∷ rest) (if b then Some [] else None))
   by true = refl
   by false = refl
-near_number-behind first (word ∷ next ∷ rest) = by (is_near word) (without_near (next ∷ rest)) where
+near_number_behind first (word ∷ next ∷ rest) = by (is_near word) (without_near (next ∷ rest)) where
   by : (b : Bool) (later : Option (List (List ℕ)))
       → None ≡ option_and_then one_number (option_map (λ rest. first ∷ rest)
       (if b then Some (next ∷ rest) else option_map (λ rest. word ∷ rest) later))
@@ -117,12 +117,12 @@ near_number-behind first (word ∷ next ∷ rest) = by (is_near word) (without_n
   by false (Some words) = refl
 
 -- two files, and a number and `--near` behind them
-pub near_files-behind : (first second : List ℕ) (more : List (List ℕ))
+pub near_files_behind : (first second : List ℕ) (more : List (List ℕ))
     → is_near first ≡ false → is_near second ≡ false
     → (if is_file_name first && is_file_name second
     then option_map (λ number. (first, second, number)) (option_and_then one_number (without_near more)) else None)
     ≡ near_files_and_number (first ∷ second ∷ more)
-near_files-behind first second more one two = rw one (rw two (by (is_file_name first && is_file_name second) (without_near more))) where
+near_files_behind first second more one two = rw one (rw two (by (is_file_name first && is_file_name second) (without_near more))) where
   by : (b : Bool) (later : Option (List (List ℕ)))
       → (if b then option_map (λ number. (first, second, number)) (option_and_then one_number later) else None)
       ≡ option_and_then (λ words. if b then option_map (λ number. (first, second, number)) (one_number words) else None) later

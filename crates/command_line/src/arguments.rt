@@ -85,7 +85,7 @@ pub(crate) fn near_files_and_number(words: &[String]) -> Option<(&str, &str, u64
 }
 
 /// A file, with the second one and the number among the arguments behind it, among which `--near` stands too.
-#[tactic(auto, using(crate::proofs::StandingLemmas::near_files-behind))]
+#[tactic(auto, using(crate::proofs::StandingLemmas::near_files_behind))]
 fn near_behind<'a>(first: &'a str, words: &'a [String]) -> Option<(&'a str, &'a str, u64)>
     requires { options.is_near first.now ≡ false }
     ensures { option_map (λ found. (found.0.now, found.1.now, found.2)) result
@@ -105,7 +105,7 @@ fn near_behind<'a>(first: &'a str, words: &'a [String]) -> Option<(&'a str, &'a 
 }
 
 /// The number among the arguments, among which `--near` stands too.
-#[tactic(auto, using(crate::proofs::StandingLemmas::near_number-behind))]
+#[tactic(auto, using(crate::proofs::StandingLemmas::near_number_behind))]
 fn near_number(words: &[String]) -> Option<u64>
     ensures { result ≡ option_and_then options.one_number
         (options.without_near (arguments_of (map string_bytes words.now))) }
@@ -124,7 +124,7 @@ fn near_number(words: &[String]) -> Option<u64>
 }
 
 /// Whether `--near` is the one argument.
-#[tactic(auto, using(crate::proofs::StandingLemmas::near_alone-first))]
+#[tactic(auto, using(crate::proofs::StandingLemmas::near_alone_first))]
 fn has_near_alone(words: &[String]) -> bool
     ensures { result ≡ is_near_alone (arguments_of (map string_bytes words.now)) }
 {
