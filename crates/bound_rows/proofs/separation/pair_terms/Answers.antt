@@ -17,11 +17,11 @@ loop-before-preserved c =
       so_far = omega (
         arith,
         c.loop-before.invariant.so_far,
-        c.apart_terms.ensures.terms,
+        c.apart_terms-total.ensures.terms,
         sum_by-range_more f 0 c.loop-before.before,
         ap f place,
       );
-      most = omega (arith, c.loop-before.invariant.most, c.apart_terms.ensures.most);
+      most = omega (arith, c.loop-before.invariant.most, c.apart_terms-total.ensures.most);
     }
 
 pub returns-clause-terms : goal.returns-clause-terms
