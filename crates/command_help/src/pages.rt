@@ -1,7 +1,7 @@
 //! The text of help, a page for each command, and the version: the one table of them.
 
 /// What `--version` prints.
-pub const VERSION: &str = "robin 1.5.0\n";
+pub const VERSION: &str = "robin 1.6.0\n";
 
 /// What `--help` prints: all commands with their words, the options and the statuses.
 pub const ALL: &str = "\
@@ -146,8 +146,8 @@ Options stand before or behind the file, each once at most:
                  each try walks from the season of this file; if the league
                  accepts that, the season that is written costs no more
 N is a number from 0 to 18446744073709551615, where nothing else is said.
-Ctrl-C ends it as a time limit does, a second one nothing more; Ctrl-\\ ends it
-at once, and nothing is written.
+Where ./robin started it, Ctrl-C ends it as a time limit does, and a second one
+changes nothing; Ctrl-\\ ends it at once, and nothing is written.
 
 Status:  0  a season is found, and written with its objective
          1  the season of --from isn't a double round robin of the league, and
@@ -189,14 +189,15 @@ usage: robin explain INSTANCE [--conflicts N|all] [--seconds N]
 
 Names hard demands of the file INSTANCE that contradict each other, by their
 numbers in file order from 1, with a log that proves it, and for each of them a
-season that meets the others. Or finds a season.
+season that meets the others, unless its search was spent. Or finds a season.
 
 Options stand before or behind the file, each once at most:
   --conflicts N  each search learns at most N clauses (2000), a number from 0
                  to 18446744073709551615; all in place of N: any number
   --seconds N    after N seconds the searches end, as if their budget were
                  spent; demands that are left to try stay undecided
-Ctrl-C ends it as a time limit does; Ctrl-\\ ends it at once.
+Where ./robin started it, Ctrl-C ends it as a time limit does; Ctrl-\\ ends it
+at once.
 
 Status:  0  a season is found, and written with its objective
          3  the file is refused, or its league is too large
@@ -252,7 +253,8 @@ Options stand before, between or behind the files, each once at most:
   --conflicts N  the search learns at most N clauses (2000), a number from 0 to
                  18446744073709551615; all in place of N: any number
   --seconds N    after N seconds the search ends, as if its budget were spent
-Ctrl-C ends it as a time limit does; Ctrl-\\ ends it at once.
+Where ./robin started it, Ctrl-C ends it as a time limit does; Ctrl-\\ ends it
+at once.
 
 Status:  0  no accepted season costs less: the certificate proves it
          1  the season isn't accepted, and the report says why
@@ -295,7 +297,8 @@ Options stand before, between or behind the words, each once at most:
   --conflicts N  the search learns at most N clauses (2000), a number from 0 to
                  18446744073709551615; all in place of N: any number
   --seconds N    after N seconds the search ends, as if its budget were spent
-Ctrl-C ends it as a time limit does; Ctrl-\\ ends it at once.
+Where ./robin started it, Ctrl-C ends it as a time limit does; Ctrl-\\ ends it
+at once.
 
 With --near it looks for a season that changes few of the games to come, by
 walks from SOLUTION, and says behind it how many: changed=20 of=28. Then

@@ -1,11 +1,12 @@
 -- What an option says, by how often it stands, and what words are no command.
-use Rattle.std.proofs.Common.{◌≡◌, ℕ, ◌<◌, ◌≤◌, ◌==◌, if◌then◌else◌, suc, Bool, true, false, ◌&&◌, List, [], ◌∷◌, length, map, string_bytes, String, Option, Some, None, refl, arith, ap, sym}
+use Rattle.std.proofs.Common.{◌≡◌, ℕ, ◌<◌, ◌≤◌, ◌==◌, if◌then◌else◌, suc, Bool, true, false, ◌&&◌, List, [], ◌∷◌, length, map, string_bytes, String, Option, Some, None, codes, refl, arith, ap, subst, sym}
 use Rattle.std.specs.Prelude.{option_and_then, option_map}
 use Rattle.std.proofs.lemmas.Bool.Decides.{nat_tests}
+use Rattle.std.proofs.lemmas.Slice.Eq.{bytes_eq-Decides}
 use Rattle.command_line.specs.Standing.{is_near_alone, once_more, standing}
 use Rattle.command_line.specs.Standing.Standing.{Never, Once, Often}
-use Rattle.command_line.specs.Words.{arguments_of, auditing, is_file_name, is_near, near_files_and_number, number_in}
-use Rattle.command_line.specs.Words.{one_file, one_number, plain, said, teams_and_seed, without_near}
+use Rattle.command_line.specs.Words.{arguments_of, auditing, is_file_name, is_near, is_option, near_files_and_number}
+use Rattle.command_line.specs.Words.{number_in, one_file, one_number, plain, said, teams_and_seed, without_near}
 
 pub standing-more : (value : List ℕ) (values : List (List ℕ)) → once_more value (standing values) ≡ standing (value ∷ values)
 standing-more value [] = refl
@@ -80,29 +81,34 @@ teams_and_seed-none {Z} (word ∷ words) few = absurd (omega arith)
 
 -- ---- `--near` among arguments
 
+-- it begins as an option does
+pub near_option : (word : List ℕ) → is_near word ≡ true → is_option word ≡ true
+near_option word is =
+    subst (λ (w : List ℕ). is_option w ≡ true) (sym ((bytes_eq-Decides word (codes "--near")).0 is)) refl
+
 -- the one argument is `--near` where the first is and none comes behind it
-pub near_alone-first : (first : List ℕ) (more : List (List ℕ))
+pub near_alone_first : (first : List ℕ) (more : List (List ℕ))
     → (is_near first && (length more == 0)) ≡ is_near_alone (first ∷ more)
-near_alone-first first [] = by (is_near first) where
+near_alone_first first [] = by (is_near first) where
   by : (b : Bool) → (b && (0 == 0)) ≡ b
   by true = refl
   by false = refl
-near_alone-first first (word ∷ more) = by (is_near first) where
+near_alone_first first (word ∷ more) = by (is_near first) where
   by : (b : Bool) → (b && (suc (length more) == 0)) ≡ false
   by true = grind (arith, nat_tests)
   by false = refl
 
 -- a number with one further argument, which is `--near`
-pub near_number-behind : (first : List ℕ) (more : List (List ℕ))
+pub near_number_behind : (first : List ℕ) (more : List (List ℕ))
     → (if is_near_alone more then number_in first else None)
     ≡ option_and_then one_number (option_map (λ rest. first ∷ rest) (without_near more))
-near_number-behind first [] = refl
-near_number-behind first (word ∷ []) = by (is_near word) where
+near_number_behind first [] = refl
+near_number_behind first (word ∷ []) = by (is_near word) where
   by : (b : Bool) → (if b then number_in first else None)
       ≡ option_and_then one_number (option_map (λ rest. first ∷ rest) (if b then Some [] else None))
   by true = refl
   by false = refl
-near_number-behind first (word ∷ next ∷ rest) = by (is_near word) (without_near (next ∷ rest)) where
+near_number_behind first (word ∷ next ∷ rest) = by (is_near word) (without_near (next ∷ rest)) where
   by : (b : Bool) (later : Option (List (List ℕ)))
       → None ≡ option_and_then one_number (option_map (λ rest. first ∷ rest)
       (if b then Some (next ∷ rest) else option_map (λ rest. word ∷ rest) later))
@@ -111,12 +117,12 @@ near_number-behind first (word ∷ next ∷ rest) = by (is_near word) (without_n
   by false (Some words) = refl
 
 -- two files, and a number and `--near` behind them
-pub near_files-behind : (first second : List ℕ) (more : List (List ℕ))
+pub near_files_behind : (first second : List ℕ) (more : List (List ℕ))
     → is_near first ≡ false → is_near second ≡ false
     → (if is_file_name first && is_file_name second
     then option_map (λ number. (first, second, number)) (option_and_then one_number (without_near more)) else None)
     ≡ near_files_and_number (first ∷ second ∷ more)
-near_files-behind first second more one two = rw one (rw two (by (is_file_name first && is_file_name second) (without_near more))) where
+near_files_behind first second more one two = rw one (rw two (by (is_file_name first && is_file_name second) (without_near more))) where
   by : (b : Bool) (later : Option (List (List ℕ)))
       → (if b then option_map (λ number. (first, second, number)) (option_and_then one_number later) else None)
       ≡ option_and_then (λ words. if b then option_map (λ number. (first, second, number)) (one_number words) else None) later

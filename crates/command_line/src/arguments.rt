@@ -1,5 +1,5 @@
 //! Arguments one after another, among words with options.
-ghost use Rattle.std.specs.Prelude.{◌≡◌, false, [], ◌∷◌, map, string_bytes, option_and_then, option_map, MatchOption};
+ghost use Rattle.std.specs.Prelude.{◌≡◌, ◌&&◌, false, [], ◌∷◌, map, string_bytes, option_and_then, option_map, MatchOption};
 ghost use Rattle.command_line.specs.Words as options;
 ghost use Rattle.command_line.specs.Standing.{is_near_alone};
 ghost use Rattle.command_line.specs.Words.{arguments_of};
@@ -34,6 +34,13 @@ pub(crate) fn two_files(words: &[String]) -> Option<(&str, &str)>
     Some((first, second))
 }
 
+/// Whether two words are files' names.
+fn are_names(first: &str, second: &str) -> bool
+    ensures { result ≡ (options.is_file_name first.now && options.is_file_name second.now) }
+{
+    is_name(first) && is_name(second)
+}
+
 /// The two files and the number among the arguments.
 pub(crate) fn files_and_number(words: &[String]) -> Option<(&str, &str, u64)>
     ensures { option_map (λ found. (found.0.now, found.1.now, found.2)) result
@@ -56,7 +63,7 @@ fn file_and_number_behind<'a>(
     let Some((second, rest)) = first_argument(words) else {
         return None;
     };
-    if !is_name(first) || !is_name(second) {
+    if !are_names(first, second) {
         return None;
     }
     let number = one_number(rest)?;
@@ -78,6 +85,7 @@ pub(crate) fn near_files_and_number(words: &[String]) -> Option<(&str, &str, u64
 }
 
 /// A file, with the second one and the number among the arguments behind it, among which `--near` stands too.
+#[tactic(auto, using(crate::proofs::StandingLemmas::near_files_behind))]
 fn near_behind<'a>(first: &'a str, words: &'a [String]) -> Option<(&'a str, &'a str, u64)>
     requires { options.is_near first.now ≡ false }
     ensures { option_map (λ found. (found.0.now, found.1.now, found.2)) result
@@ -89,7 +97,7 @@ fn near_behind<'a>(first: &'a str, words: &'a [String]) -> Option<(&'a str, &'a 
     if is_near(second) {
         return file_and_number_behind(first, rest);
     }
-    if !is_name(first) || !is_name(second) {
+    if !are_names(first, second) {
         return None;
     }
     let number = near_number(rest)?;
@@ -97,6 +105,7 @@ fn near_behind<'a>(first: &'a str, words: &'a [String]) -> Option<(&'a str, &'a 
 }
 
 /// The number among the arguments, among which `--near` stands too.
+#[tactic(auto, using(crate::proofs::StandingLemmas::near_number_behind))]
 fn near_number(words: &[String]) -> Option<u64>
     ensures { result ≡ option_and_then options.one_number
         (options.without_near (arguments_of (map string_bytes words.now))) }
@@ -115,6 +124,7 @@ fn near_number(words: &[String]) -> Option<u64>
 }
 
 /// Whether `--near` is the one argument.
+#[tactic(auto, using(crate::proofs::StandingLemmas::near_alone_first))]
 fn has_near_alone(words: &[String]) -> bool
     ensures { result ≡ is_near_alone (arguments_of (map string_bytes words.now)) }
 {

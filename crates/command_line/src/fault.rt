@@ -109,6 +109,7 @@ fn wrong_demands(command: Topic, words: &[String]) -> Option<WordFault<'_>>
 }
 
 /// An option without a value that stands where it may not. `--near` of `resume` may stand anywhere, but once.
+#[tactic(auto, using(crate::proofs::StandingLemmas::near_option))]
 fn misplaced(command: Topic, words: &[String]) -> Option<WordFault<'_>>
     ensures { IfSome result IsSo }
 {
