@@ -79,8 +79,8 @@ pub fn nearer_answer<W: Watch>(
     budgets: Budgets,
     watch: &W,
 ) -> Result<Resumed, AllocError>
-    requires few { length season.entry.played.now ≤ 10000 }
-    requires fit { All (IsGame season.entry.league.now.n) season.entry.played.now }
+    requires few { length season.played.now ≤ 10000 }
+    requires fit { All (IsGame season.league.now.n) season.played.now }
     ensures answer { (conflicts : Option ℕ)
         → IsResumed season.entry.league.now season.entry.played.now season.entry.k conflicts first
         → IfOk result (IsResumed season.entry.league.now season.entry.played.now season.entry.k conflicts) }
