@@ -5,7 +5,7 @@ use Rattle.std.proofs.lemmas.Bool.Decides.{nat_tests}
 use Rattle.std.proofs.lemmas.Slice.Eq.{bytes_eq-Decides}
 use Rattle.command_line.specs.Standing.{is_near_alone, once_more, standing}
 use Rattle.command_line.specs.Standing.Standing.{Never, Once, Often}
-use Rattle.command_line.specs.Words.{arguments_of, auditing, is_file_name, is_near, is_option, near_files_and_number}
+use Rattle.command_line.specs.Words.{arguments_of, auditing, files_and_number, is_file_name, is_near, is_option, near_files_and_number}
 use Rattle.command_line.specs.Words.{number_in, one_file, one_number, plain, said, teams_and_seed, without_near}
 
 pub standing-more : (value : List ℕ) (values : List (List ℕ)) → once_more value (standing values) ≡ standing (value ∷ values)
@@ -122,14 +122,17 @@ pub near_files_behind : (first second : List ℕ) (more : List (List ℕ))
     → (if is_file_name first && is_file_name second
     then option_map (λ number. (first, second, number)) (option_and_then one_number (without_near more)) else None)
     ≡ near_files_and_number (first ∷ second ∷ more)
-near_files_behind first second more one two = rw one (rw two (by (is_file_name first && is_file_name second) (without_near more))) where
-  by : (b : Bool) (later : Option (List (List ℕ)))
-      → (if b then option_map (λ number. (first, second, number)) (option_and_then one_number later) else None)
-      ≡ option_and_then (λ words. if b then option_map (λ number. (first, second, number)) (one_number words) else None) later
-  by true None = refl
-  by false None = refl
-  by true (Some words) = refl
-  by false (Some words) = refl
+near_files_behind first second more one two = rw one (rw two (by (without_near more))) where
+  none : (b : Bool) (o : Option (List ℕ × List ℕ × ℕ)) → o ≡ None → (if b then o else None) ≡ None
+  none true o is = is
+  none false o is = refl
+
+  by : (later : Option (List (List ℕ)))
+      → (if is_file_name first && is_file_name second
+      then option_map {U = List ℕ × List ℕ × ℕ} (λ number. (first, second, number)) (option_and_then one_number later) else None)
+      ≡ option_and_then files_and_number (option_map (λ rest. first ∷ rest) (option_map (λ rest. second ∷ rest) later))
+  by None = none (is_file_name first && is_file_name second) None refl
+  by (Some words) = refl
 
 -- ---- words that are no command
 

@@ -18,7 +18,6 @@ use Rattle.rows.specs.Rows.{Row}
 use Rattle.refutation.specs.Steps.{Step, hints_of, is_linear}
 use Rattle.refutation.specs.Steps.Step.{Clause}
 use Rattle.refutation.specs.Texts.{version_of}
-use Rattle.season_check.proofs.SeasonLemmas.{accepted_logs_exclude}
 use Rattle.clause_search.specs.Answers.{IsSpentAt, Refutes}
 use Rattle.clause_search.specs.News.{IsTidy}
 use Rattle.clause_search.proofs.LineLemmas.{step_named, step_short}

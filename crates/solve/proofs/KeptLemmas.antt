@@ -7,7 +7,7 @@ use Rattle.robin_watch.specs.Limits.{IsKeptTo}
 use Rattle.robin_watch.proofs.LimitLemmas.{kept-unstopped}
 use Rattle.league.specs.Instance.{Instance}
 use Rattle.solve.specs.Kept.{AreKeptTo}
-use Rattle.solve.specs.Solutions.{IsSchedule, IsSolution, IsSolutionBy, LeavesOpen}
+use Rattle.solve.specs.Solutions.{IsSchedule, IsSolution, IsSolutionBy}
 use Rattle.solve.specs.Tried.{IsSeason, IsSeasonBy, IsTried, IsTriedBy}
 use Rattle.solve.specs.declared.lower.Season.{Season}
 use Rattle.solve.specs.declared.solved.Solved.{Solved}

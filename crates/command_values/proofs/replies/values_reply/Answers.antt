@@ -8,7 +8,7 @@ use Rattle.command_values.specs.Valued.{IsValued, found_of, missed_from}
 use Rattle.command_values.proofs.replies.values_reply.Goals as goal
 
 pub found_reply-requires : goal.found_reply-requires
-found_reply-requires c = record { count = c.in_ok-values.ensures.length ∙ c.vars.ensures.vars; }
+found_reply-requires c = record { count = c.in_ok-values.ensures.length ∙ c.vars.ensures.vars }
 
 pub returns : goal.returns
 returns c =

@@ -1,5 +1,3 @@
-use Rattle.std.proofs.Common.{ℕ}
-use Rattle.budgets.specs.declared.budgets.Budgets.{Budgets}
 use Rattle.solve.proofs.KeptLemmas.{walked-by}
 use Rattle.solve.proofs.attempt.search_then_walk.Goals as goal
 

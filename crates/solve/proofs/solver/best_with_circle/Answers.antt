@@ -16,12 +16,13 @@ returns-then-budgets-le1-clause-solution g c =
     c.schedule_found-first.result c.requires.season
     (λ kept. c.schedule_found-first.ensures.solution c.args.league.now kept)
 
-pub best_from-requires-clause-first : goal.best_from-requires-clause-first
-best_from-requires-clause-first g c =
-    rw c.in_ok-encoding.ensures
-    (solved-season c.args.league.now c.args.budgets (g.W.Watch.may_stop c.args.watch.now) c.args.season
-    c.schedule_found-first.result c.requires.season
-    (λ kept. c.schedule_found-first.ensures.solution c.args.league.now kept))
+pub best_from-requires : goal.best_from-requires
+best_from-requires g c = record {
+  first = rw c.in_ok-encoding.ensures
+      (solved-season c.args.league.now c.args.budgets (g.W.Watch.may_stop c.args.watch.now) c.args.season
+      c.schedule_found-first.result c.requires.season
+      (λ kept. c.schedule_found-first.ensures.solution c.args.league.now kept));
+}
 
 pub returns-clause-solution : goal.returns-clause-solution
 returns-clause-solution g c = rw c.in_ok-encoding.ensures at c.best_from.ensures.solution

@@ -13,9 +13,10 @@ returns-in-Refuted g c = record {
       c.note_numbers.ensures;
 }
 
-pub try_with-requires-clause-set : goal.try_with-requires-clause-set
-try_with-requires-clause-set g c =
-    found_here c.args.encoding.now c.in_ok-found.ensures.kept _ _ c.in-Patterns.is c.in_ok-found.ensures.answer
+pub try_with-requires : goal.try_with-requires
+try_with-requires g c = record {
+  set = found_here c.args.encoding.now c.in_ok-found.ensures.kept _ _ c.in-Patterns.is c.in_ok-found.ensures.answer;
+}
 
 pub try_without-requires-clause-kept : goal.try_without-requires-clause-kept
 try_without-requires-clause-kept g c =
