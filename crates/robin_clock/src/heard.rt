@@ -102,10 +102,7 @@ impl Heard {
             Stage::Walk | Stage::HardWalk { .. } | Stage::SoftWalk => {
                 self.walked(Stage::SoftWalk, tried, at)
             }
-            Stage::Descent => Heard {
-                stage: Stage::Descended,
-                ..self
-            },
+            Stage::Descent => self.with_aim(self.aim, Stage::Descended),
             Stage::Counts | Stage::Patterns | Stage::Search | Stage::Descended => self,
         }
     }
