@@ -1,5 +1,5 @@
 -- What is found near the old plan, answered.
-use Rattle.std.proofs.Common.{◌≡◌, ℕ, ◌≤◌, true, List, [], ◌∷◌, ◌++◌, length, decimal, codes}
+use Rattle.std.proofs.Common.{◌≡◌, ℕ, ◌≤◌, Bool, true, false, List, [], ◌∷◌, ◌++◌, length, decimal, codes}
 use Rattle.std.proofs.Common.{Option, Some, Result, Ok, Err, ap, inl, inr, refl, ◌∙◌, append_assoc}
 use Rattle.std.specs.Prelude.{IfOk}
 use Rattle.std.specs.List.{All, flat_map, list_all}
@@ -24,6 +24,7 @@ use Rattle.refutation.specs.Steps.{Step}
 use Rattle.refutation.specs.Texts.{log_text}
 use Rattle.clause_search.specs.Answers.{IsSpentAt}
 use Rattle.resume_rows.specs.Kept.{resume_rows}
+use Rattle.kept_descent.specs.Nearing.{IsNearest}
 use Rattle.resume.specs.Answers.{IsResumedSeason, RefutesResuming}
 use Rattle.resume.specs.Near.{changed, open_games}
 use Rattle.resume.proofs.NearLemmas.{none-changed}
@@ -31,69 +32,87 @@ use Rattle.command_resume.specs.Near.{IsNear, IsNearBy, near_line}
 
 -- ---- the comment is passed over
 
-abbrev near_body : ℕ → ℕ → List ℕ
-near_body changes games = codes " changed=" ++ (decimal changes ++ (codes " of=" ++ (decimal games ++ codes " ")))
+-- how the comment ends
+abbrev end_of : Bool → List ℕ
+end_of true = codes " settled=yes "
+end_of false = codes " settled=no "
 
-near-comment : (changes games : ℕ) → near_line changes games ≡ flat_map comment_line (near_body changes games ∷ [])
-near-comment changes games = simp append_assoc
+abbrev near_body : ℕ → ℕ → Bool → List ℕ
+near_body changes games settled =
+    codes " changed=" ++ (decimal changes ++ (codes " of=" ++ (decimal games ++ end_of settled)))
 
-near-plain : (changes games : ℕ) → list_all is_plain_comment (near_body changes games ∷ []) ≡ true
-near-plain changes games =
-    let end : List ℕ = decimal games ++ codes " " in
-    and_from (is_plain_comment (near_body changes games)) true
-    (is_plain_comment-decimal changes (codes " of=" ++ end) (is_plain_comment-decimal games (codes " ") refl)) refl
+near-comment : (changes games : ℕ) (settled : Bool)
+    → near_line changes games settled ≡ flat_map comment_line (near_body changes games settled ∷ [])
+near-comment changes games true = simp append_assoc
+near-comment changes games false = simp append_assoc
 
-near-reads_back : (n : ℕ) (games : List Game) (cost changes all : ℕ) → n ≤ 40 → length games ≤ 10000
+plain-end : (settled : Bool) → is_plain_comment (end_of settled) ≡ true
+plain-end true = refl
+plain-end false = refl
+
+near-plain : (changes games : ℕ) (settled : Bool)
+    → list_all is_plain_comment (near_body changes games settled ∷ []) ≡ true
+near-plain changes games settled =
+    let end : List ℕ = decimal games ++ end_of settled in
+    and_from (is_plain_comment (near_body changes games settled)) true
+    (is_plain_comment-decimal changes (codes " of=" ++ end)
+    (is_plain_comment-decimal games (end_of settled) (plain-end settled)))
+    refl
+
+near-reads_back : (n : ℕ) (games : List Game) (cost changes all : ℕ) (settled : Bool) → n ≤ 40 → length games ≤ 10000
     → All (IsGame n) games
-    → solution_of n (pieces (solution_text games (Some (0, cost)) ++ near_line changes all)) ≡ Ok games
-near-reads_back n games cost changes all size few fit =
+    → solution_of n (pieces (solution_text games (Some (0, cost)) ++ near_line changes all settled)) ≡ Ok games
+near-reads_back n games cost changes all settled size few fit =
     ap (λ (comments : List ℕ). solution_of n (pieces (solution_text games (Some (0, cost)) ++ comments)))
-    (near-comment changes all)
-    ∙ solution-reads_back_commented n games (Some (0, cost)) (near_body changes all ∷ []) size few fit
-    (near-plain changes all)
+    (near-comment changes all settled)
+    ∙ solution-reads_back_commented n games (Some (0, cost)) (near_body changes all settled ∷ []) size few fit
+    (near-plain changes all settled)
 
 -- ---- replies, unless memory ran out
 
 pub near-season : {E : Type 0} (league : Instance) (played : List Game) (k : ℕ) (conflicts : Option ℕ)
-    (games : List Game) (cost : ℕ) (result : Result Reply E) → IsTeamCount league.n
-    → IsResumedSeason league played k games cost
+    (games : List Game) (cost : ℕ) (settled : Bool) (result : Result Reply E) → IsTeamCount league.n
+    → IsResumedSeason league played k games cost → (settled ≡ true → IsNearest league k played (counts_of games))
     → (IsAccepted league (counts_of played) → counts_of games ≡ counts_of played)
     → IfOk result (λ reply. (answer_of reply).status ≡ Yes)
     → IfOk result (λ reply. (answer_of reply).text
-    ≡ solution_text games (Some (0, cost)) ++ near_line (changed k played games) (open_games k played))
+    ≡ solution_text games (Some (0, cost)) ++ near_line (changed k played games) (open_games k played) settled)
     → IfOk result (λ reply. IsNear league played k conflicts (answer_of reply))
-near-season {E} league played k conflicts games cost (Ok reply) teams season plan status text =
-    let line : List ℕ = near_line (changed k played games) (open_games k played) in
+near-season {E} league played k conflicts games cost settled (Ok reply) teams season nearest plan status text =
+    let line : List ℕ = near_line (changed k played games) (open_games k played) settled in
     let told : (answer_of reply).text ≡ solution_text games (Some (0, costs.objective league (counts_of games))) ++ line =
     text ∙ ap (λ (c : ℕ). solution_text games (Some (0, c)) ++ line) season.cost in
     record {
       found = inl (record {
         games = games;
+        settled = settled;
         season = record {
           resumes = season.resumes;
           fit = season.fit;
           in_order = season.in_order;
           cost = refl;
         };
+        nearest = nearest;
         status = status;
         text = told;
         reads_back = ap (λ (written : List ℕ). solution_of league.n (pieces written)) text
-            ∙ near-reads_back league.n games cost (changed k played games) (open_games k played) teams.at_most
+            ∙ near-reads_back league.n games cost (changed k played games) (open_games k played) settled teams.at_most
             (round_robin-few league.n league.phased games teams season.fit season.resumes.accepted.round_robin) season.fit;
       });
       plan = λ accepted. record {
         games = games;
+        settled = settled;
         same = plan accepted;
         in_order = season.in_order;
         status = status;
         text = told
             ∙ ap
             (λ (c : ℕ). solution_text games (Some (0, costs.objective league (counts_of games)))
-            ++ near_line c (open_games k played))
+            ++ near_line c (open_games k played) settled)
             (none-changed k played games (plan accepted));
       };
     }
-near-season {E} league played k conflicts games cost (Err error) teams season plan status text = tt
+near-season {E} league played k conflicts games cost settled (Err error) teams season nearest plan status text = tt
 
 pub near-excluded : {E : Type 0} (league : Instance) (played : List Game) (k : ℕ) (conflicts : Option ℕ)
     (steps : List Step) (result : Result Reply E) → RefutesResuming league played k conflicts steps

@@ -1,5 +1,5 @@
 -- What `resume --near` answers: a season with the number of games that it changes, or a log as `resume` does.
-use Rattle.std.specs.Prelude.{◌≡◌, ℕ, ◌⊎◌, List, ◌++◌, Option, Some, Ok, codes, decimal}
+use Rattle.std.specs.Prelude.{◌≡◌, ℕ, ◌⊎◌, Bool, true, if◌then◌else◌, List, ◌++◌, Option, Some, Ok, codes, decimal}
 use Rattle.std.specs.Io.KnownBytes.{Appends}
 use Rattle.robin_io.specs.Outside.{Output, Store}
 use Rattle.league.specs.Accepted.{IsAccepted, objective}
@@ -13,39 +13,48 @@ use Rattle.robinx_form.specs.Texts.{solution_text}
 use Rattle.answers.specs.Reply.{Answer}
 use Rattle.answers.specs.Stages.{◌>>=◌, Outcome}
 use Rattle.answers.specs.declared.status.Status.TheVariants.{Yes}
+use Rattle.kept_descent.specs.Nearing.{IsNearest}
 use Rattle.resume.specs.Answers.{IsResumedSeason}
 use Rattle.resume.specs.Near.{changed, open_games}
 use Rattle.command_resume.specs.Resumed.{IsBudgetSpent, IsExcluded}
 use Rattle.command_resume.specs.Seasons.{plays}
 
--- the comment behind a season: how many games are changed, of how many that are still to come
-abbrev pub near_line : ℕ → ℕ → List ℕ
-near_line changes games =
-    codes "<!-- changed=" ++ (decimal changes ++ (codes " of=" ++ (decimal games ++ codes " -->\n")))
+-- the comment behind a season: how many games are changed, of how many that are still to come, and whether it is settled
+abbrev pub near_line : ℕ → ℕ → Bool → List ℕ
+near_line changes games settled =
+    codes "<!-- changed="
+    ++ (decimal changes
+    ++ (codes " of="
+    ++ (decimal games ++ (if settled then codes " settled=yes -->\n" else codes " settled=no -->\n"))))
 
 -- the text of games, in order, with their objective, and how many of the old ones they change
-abbrev pub near_text : Instance → List Game → ℕ → List Game → List ℕ
-near_text league played k games =
+abbrev pub near_text : Instance → List Game → ℕ → List Game → Bool → List ℕ
+near_text league played k games settled =
     solution_text games (Some (0, objective league (counts_of games)))
-    ++ near_line (changed k played games) (open_games k played)
+    ++ near_line (changed k played games) (open_games k played) settled
 
 -- A schedule that the league accepts and that keeps the played games is written, in order, with its objective, and how
--- many of the games to come it changes. It reads back as these games.
+-- many of the games to come it changes. Where it says that it is settled, no single move that leaves the played slots
+-- alone leads to a schedule that the league accepts and that changes fewer games, or as many at a lower cost. The text
+-- reads back as these games.
 pub record IsNearSeason (league : Instance) (played : List Game) (k : ℕ) (answer : Answer) : Type 0 where
   pub games : List Game
+  pub settled : Bool
   pub season : IsResumedSeason league played k games (objective league (counts_of games))
+  pub nearest : settled ≡ true → IsNearest league k played (counts_of games)
   pub status : answer.status ≡ Yes
-  pub text : answer.text ≡ near_text league played k games
+  pub text : answer.text ≡ near_text league played k games settled
   pub reads_back : solution_of league.n (pieces answer.text) ≡ Ok games
 
 -- just the games of the old plan are written, in order, of which none is changed
 pub record IsUnchanged (league : Instance) (played : List Game) (k : ℕ) (answer : Answer) : Type 0 where
   pub games : List Game
+  pub settled : Bool
   pub same : counts_of games ≡ counts_of played
   pub in_order : IsInOrder games
   pub status : answer.status ≡ Yes
   pub text : answer.text ≡ solution_text games (Some (0, objective league (counts_of games)))
-      ++ near_line 0 (open_games k played)
+      ++ near_line 0 (open_games k played) settled
 
 -- What is found near the old plan, within a budget of conflicts. Where the league accepts all games of the played list
 -- as they are, these are the answer.
@@ -72,6 +81,8 @@ neared store instance solution k limits = do
 -- such a schedule is written whole, with how many of the games to come it changes, and reads back as these games
 pub record IsKeptNear (league : Instance) (played : List Game) (k : ℕ) (output : Output) : Type 0 where
   pub games : List Game
+  pub settled : Bool
   pub season : IsResumedSeason league played k games (objective league (counts_of games))
-  pub written : Appends output.before output.after (near_text league played k games)
-  pub reads_back : solution_of league.n (pieces (near_text league played k games)) ≡ Ok games
+  pub nearest : settled ≡ true → IsNearest league k played (counts_of games)
+  pub written : Appends output.before output.after (near_text league played k games settled)
+  pub reads_back : solution_of league.n (pieces (near_text league played k games settled)) ≡ Ok games

@@ -48,7 +48,7 @@ fn near_of<W: Watch>(
         (IsKeptTo budgets.conflicts (W.may_stop watch.now)) (answer_of reply)) }
 {
     match resume_near(alloc, league, played, k, budgets, watch) {
-        Ok(resumed) => near_reply(alloc, league, played, k, &resumed),
+        Ok(neared) => near_reply(alloc, league, played, k, &neared),
         Err(EncodeFault::TooLarge { .. }) => unreachable!(),
         Err(EncodeFault::Mem) => Err(AllocError),
     }

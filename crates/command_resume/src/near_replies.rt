@@ -7,21 +7,32 @@ ghost use Rattle.answers.specs.SeenReply.{answer_of};
 ghost use Rattle.answers.specs.declared.status.Status.TheVariants.{Yes};
 ghost use Rattle.resume.specs.Answers.{IsPlan, IsResumed};
 ghost use Rattle.resume.specs.Near as changes;
+ghost use Rattle.resume.specs.Near.{IsSettledNear};
 ghost use Rattle.command_resume.specs.Near as near;
 ghost use Rattle.command_resume.specs.Near.{IsNear};
 
 use crate::replies::log_reply;
 use answers::{Reply, Status};
 use league::{League, Schedule};
-use resume::{Resumed, changed_games, open_games};
+use resume::{Neared, Resumed, changed_games, open_games};
 use robinx_write::solution_text;
 use std::alloc::{AllocError, Global};
 
-/// The comment that says how many games are changed, of how many that are still to come.
-fn near_line(alloc: Global, changed: usize, games: usize) -> Result<String, AllocError>
-    ensures { IfOk result (λ line. string_bytes line ≡ near.near_line changed games) }
+/// The comment that says how many games are changed, of how many that are still to come, and whether the season is
+/// settled.
+fn near_line(
+    alloc: Global,
+    changed: usize,
+    games: usize,
+    settled: bool,
+) -> Result<String, AllocError>
+    ensures { IfOk result (λ line. string_bytes line ≡ near.near_line changed games settled) }
 {
-    format!(in alloc; "<!-- changed={changed} of={games} -->\n")
+    if settled {
+        format!(in alloc; "<!-- changed={changed} of={games} settled=yes -->\n")
+    } else {
+        format!(in alloc; "<!-- changed={changed} of={games} settled=no -->\n")
+    }
 }
 
 /// The text of a schedule with its objective, and that comment behind it.
@@ -31,32 +42,34 @@ fn near_text(
     objective: u128,
     changed: usize,
     games: usize,
+    settled: bool,
 ) -> Result<Vec<u8>, AllocError>
     ensures { IfOk result (λ text. text.items
-        ≡ solutions.solution_text schedule.now (Some (0, objective)) ++ near.near_line changed games) }
+        ≡ solutions.solution_text schedule.now (Some (0, objective)) ++ near.near_line changed games settled) }
 {
     let mut text = solution_text(alloc, schedule, Some((0, objective)))?;
-    let line = near_line(alloc, changed, games)?;
+    let line = near_line(alloc, changed, games, settled)?;
     text.extend_from_slice(line.as_bytes())?;
     Ok(text)
 }
 
-/// A schedule that is accepted, with its objective, and how many games to come it changes.
+/// A schedule that is accepted, with its objective, how many games to come it changes, and whether it is settled.
 fn schedule_reply(
     alloc: Global,
     played: &Schedule,
     k: u16,
     schedule: &Schedule,
     objective: u128,
+    settled: bool,
 ) -> Result<Reply, AllocError>
     ensures status { IfOk result (λ reply. (answer_of reply).status ≡ Yes) }
     ensures text { IfOk result (λ reply. (answer_of reply).text
         ≡ solutions.solution_text schedule.now (Some (0, objective))
-        ++ near.near_line (changes.changed k played.now schedule.now) (changes.open_games k played.now)) }
+        ++ near.near_line (changes.changed k played.now schedule.now) (changes.open_games k played.now) settled) }
 {
     let changed = changed_games(played.games(), k, schedule.games());
     let games = open_games(played.games(), k);
-    let text = near_text(alloc, schedule, objective, changed, games)?;
+    let text = near_text(alloc, schedule, objective, changed, games, settled)?;
     Ok(Reply {
         status: Status::Yes,
         text,
@@ -69,20 +82,21 @@ pub(crate) fn near_reply(
     league: &League,
     played: &Schedule,
     k: u16,
-    resumed: &Resumed,
+    neared: &Neared,
 ) -> Result<Reply, AllocError>
-    requires resumed { (conflicts : Option ℕ) × IsResumed league.now played.now k conflicts resumed.now }
-    requires plan { IsAccepted league.now (counts_of played.now) → IsPlan played.now resumed.now }
-    ensures { (conflicts : Option ℕ) → IsResumed league.now played.now k conflicts resumed.now
+    requires resumed { (conflicts : Option ℕ) × IsResumed league.now played.now k conflicts neared.now.answer }
+    requires settled { IsSettledNear league.now k played.now neared.now }
+    requires plan { IsAccepted league.now (counts_of played.now) → IsPlan played.now neared.now.answer }
+    ensures { (conflicts : Option ℕ) → IsResumed league.now played.now k conflicts neared.now.answer
         → IfOk result (λ reply. IsNear league.now played.now k conflicts (answer_of reply)) }
 {
     // For its contract: the variables of a league are few, and so are the games of a season.
     let _n = league.n();
-    match resumed {
+    match &neared.answer {
         Resumed::Schedule {
             schedule,
             objective,
-        } => schedule_reply(alloc, played, k, schedule, *objective),
+        } => schedule_reply(alloc, played, k, schedule, *objective, neared.settled),
         Resumed::Refuted { log } => log_reply(alloc, Status::Refuted, log),
         Resumed::Spent { log } => log_reply(alloc, Status::Spent, log),
     }

@@ -1,8 +1,12 @@
 -- A better schedule keeps what was played.
-use Rattle.std.proofs.Common.{◌≡◌, ℕ, Bool, nat_lt, List, ap, subst, sym, ◌∙◌}
+use Rattle.std.proofs.Common.{◌≡◌, ℕ, ◌≤◌, Bool, nat_lt, List, [], ap, inl, inr, subst, sym, ◌∙◌, arith}
 use Rattle.std.specs.List.{All}
 use Rattle.std.specs.List.Sorted.{IsPermutation}
 use Rattle.std.proofs.lemmas.List.Sorted.{All-permutation}
+use Rattle.kept_descent.specs.Changed.{IsAtMost}
+use Rattle.kept_descent.specs.Nearing.{IsEnd}
+use Rattle.kept_descent.specs.declared.nearest.Nearest.{Nearest}
+use Rattle.league.specs.Accepted.{objective}
 use Rattle.league.specs.Counts.{Counts, counts_of}
 use Rattle.league.specs.Instance.{Instance, IsGame}
 use Rattle.league.specs.Structure.{IsRoundRobin}
@@ -11,6 +15,7 @@ use Rattle.league.proofs.CountLemmas.{counts_of-permutation}
 use Rattle.resume_rows.specs.Kept.{Keeps}
 use Rattle.resume.specs.Answers.{IsResumedSeason}
 use Rattle.resume.specs.Merged.{merged_games}
+use Rattle.resume.specs.Near.{changed}
 use Rattle.resume.proofs.MergeLemmas.{merged-fit, merged-same}
 
 -- ---- leagues of as many teams, in as many phases
@@ -39,18 +44,34 @@ ordered-keeps k start end merged same = λ i j s slot.
     ap (λ (m : Counts). nat_lt 0 (m i j s)) (counts_of-permutation (merged_games k start end) merged same)
     ∙ ap (λ (c : ℕ). nat_lt 0 c) (merged-same k start end i j s slot)
 
--- ---- one season behind another
+-- ---- where a descent leads
 
--- what keeps the games of a season that keeps the played ones keeps these too
-pub keeps-further : (league : Instance) (played : List Game) (k : ℕ) (start : List Game) (cost : ℕ)
-    (games : List Game) (objective : ℕ) → IsResumedSeason league played k start cost
-    → IsResumedSeason league start k games objective → IsResumedSeason league played k games objective
-keeps-further league played k start cost games objective season further = record {
+-- a descent that keeps the games of a season that keeps the played ones leads to a season that keeps these too
+pub season-further : (league : Instance) (played : List Game) (k : ℕ) (start : List Game) (cost : ℕ) (old : List Game)
+    (end : Nearest) → IsResumedSeason league played k start cost → IsEnd league k old (counts_of start) end
+    → IsResumedSeason league played k end.schedule end.objective
+season-further league played k start cost old end season is = record {
   resumes = record {
-    accepted = further.resumes.accepted;
-    keeps = λ i j s slot. further.resumes.keeps i j s slot ∙ season.resumes.keeps i j s slot;
+    accepted = is.accepted;
+    keeps = λ i j s slot. is.keeps i j s slot ∙ season.resumes.keeps i j s slot;
   };
-  fit = further.fit;
-  in_order = further.in_order;
-  cost = further.cost;
+  fit = is.fit;
+  in_order = is.in_order;
+  cost = is.cost;
 }
+
+-- without an old plan it costs no more
+pub lower-cost : (league : Instance) (played : List Game) (k : ℕ) (start : List Game) (cost : ℕ) (end : Nearest)
+    → IsResumedSeason league played k start cost → IsEnd league k [] (counts_of start) end → end.objective ≤ cost
+lower-cost league played k start cost end season is = by is.no_farther where
+  by : IsAtMost 0 end.objective 0 (objective league (counts_of start)) → end.objective ≤ cost
+  by (inl fewer) = absurd (omega (arith, fewer))
+  by (inr same) = omega (arith, same.1, season.cost)
+
+-- nor is it farther from an old plan
+pub end-no_farther : (league : Instance) (played : List Game) (k : ℕ) (start : List Game) (cost : ℕ) (end : Nearest)
+    → IsResumedSeason league played k start cost → IsEnd league k played (counts_of start) end
+    → IsAtMost (changed k played end.schedule) end.objective (changed k played start) cost
+end-no_farther league played k start cost end season is =
+    subst (λ (price : ℕ). IsAtMost (changed k played end.schedule) end.objective (changed k played start) price)
+    (sym season.cost) is.no_farther

@@ -1,6 +1,6 @@
 -- Changed games, counted.
 use Rattle.std.proofs.Common.{◌≡◌, ℕ, ◌+◌, Bool, true, false, not, ◌&&◌, ◌||◌, ◌==◌, nat_lt}
-use Rattle.std.proofs.Common.{List, [], ◌∷◌, ap, inl, inr, refl, sym, ◌∙◌, arith}
+use Rattle.std.proofs.Common.{List, [], ◌∷◌, ap, inl, inr, refl, subst, sym, ◌∙◌, arith}
 use Rattle.std.specs.List.{All, count_by, list_any}
 use Rattle.std.proofs.lemmas.Bool.Decides.{nat_tests}
 use Rattle.std.proofs.lemmas.List.Elements.{All-cons, All-head, All-nil, All-tail, All-weaker}
@@ -100,3 +100,31 @@ at-most after before cost first some = by (nat_lt after before) refl some where
       → IsAtMost after cost before first
   by true is some = inl (grind (arith, nat_tests))
   by false is some = inr (grind (arith, nat_tests), grind (arith, nat_tests))
+
+at_most-further : (changes cost before first start price : ℕ) → IsAtMost before first start price
+    → IsAtMost changes cost before first → IsAtMost changes cost start price
+at_most-further changes cost before first start price (inl less) (inl fewer) = inl (omega (arith, less, fewer))
+at_most-further changes cost before first start price (inl less) (inr same) = inl (omega (arith, less, same.0))
+at_most-further changes cost before first start price (inr as_many) (inl fewer) =
+    inl (omega (arith, as_many.0, fewer))
+at_most-further changes cost before first start price (inr as_many) (inr same) =
+    inr (omega (arith, as_many.0, same.0), omega (arith, as_many.1, same.1))
+
+-- what is no farther than an answer that is no farther is no farther
+pub no_farther-further : (k : ℕ) (old : List Game) (first mid last : Resumed) → IsNoFarther k old first mid
+    → IsNoFarther k old mid last → IsNoFarther k old first last
+no_farther-further k old (Schedule games cost) (Schedule mid price) (Schedule end objective) before after =
+    at_most-further (changed k old end) objective (changed k old mid) price (changed k old games) cost before after
+no_farther-further k old (Schedule games cost) (Schedule mid price) (Refuted log) before after = absurd after
+no_farther-further k old (Schedule games cost) (Schedule mid price) (Spent log) before after = absurd after
+no_farther-further k old (Schedule games cost) (Refuted log) last before after = absurd before
+no_farther-further k old (Schedule games cost) (Spent log) last before after = absurd before
+no_farther-further k old (Refuted first) mid last before after =
+    subst (λ (answer : Resumed). IsNoFarther k old answer last) before after
+no_farther-further k old (Spent first) (Schedule mid price) (Schedule end objective) before after = tt
+no_farther-further k old (Spent first) (Schedule mid price) (Refuted log) before after = absurd after
+no_farther-further k old (Spent first) (Schedule mid price) (Spent log) before after = absurd after
+no_farther-further k old (Spent first) (Refuted log) last before after = absurd before
+no_farther-further k old (Spent first) (Spent log) (Schedule end objective) before after = tt
+no_farther-further k old (Spent first) (Spent log) (Refuted other) before after = absurd after
+no_farther-further k old (Spent first) (Spent log) (Spent other) before after = after ∙ before

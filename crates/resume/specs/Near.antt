@@ -1,31 +1,22 @@
 -- How far one season is from another in the slots to come.
-use Rattle.std.specs.Prelude.{◌≡◌, ◌<◌, ◌≤◌, ◌⊎◌, ℕ, Bool, not, ◌&&◌, nat_lt, List}
+use Rattle.std.specs.Prelude.{◌≡◌, ℕ, true, List}
 use Rattle.std.specs.List.{count_by}
-use Rattle.league.specs.Counts.{Counts, counts_of}
+use Rattle.league.specs.Counts.{counts_of}
 use Rattle.league.specs.declared.game.Game.{Game}
-use Rattle.resume_rows.specs.Kept.{is_played}
+use Rattle.league.specs.Instance.{Instance}
+use Rattle.kept_descent.specs.Nearing.{IsNearest}
+use Rattle.resume.specs.declared.near.Neared.{Neared}
+pub use Rattle.kept_descent.specs.Changed.{IsAtMost, changed_on, is_changed, is_open}
 use Rattle.resume.specs.declared.resumed.Resumed.{Resumed}
 use Rattle.resume.specs.declared.resumed.Resumed.TheVariants.{Schedule, Refuted, Spent}
-
--- a game is still to come where the first k slots are played
-abbrev pub is_open : ℕ → Game → Bool
-is_open k game = not (nat_lt game.slot.0 k)
 
 -- how many games of a list are still to come
 abbrev pub open_games : ℕ → List Game → ℕ
 open_games k old = count_by (is_open k) old
 
--- a game is still to come, and doesn't take place
-abbrev pub is_changed : ℕ → Counts → Game → Bool
-is_changed k counts game = is_open k game && not (is_played counts game.home.0 game.away.0 game.slot.0)
-
 -- how many games of an old list are still to come and don't take place in a new one
 abbrev pub changed : ℕ → List Game → List Game → ℕ
-changed k old games = count_by (is_changed k (counts_of games)) old
-
--- fewer games are changed, or as many at no higher cost
-abbrev pub IsAtMost : (changes cost : ℕ) → (most_changes most_cost : ℕ) → Type 0
-IsAtMost changes cost most_changes most_cost = (changes < most_changes) ⊎ ((changes ≡ most_changes) × (cost ≤ most_cost))
+changed k old games = changed_on k old (counts_of games)
 
 -- an answer is no farther from the old games than a first one: a schedule gives way only to one that changes fewer
 -- games, or as many at no higher cost
@@ -38,3 +29,14 @@ IsNoFarther k old (Refuted first) answer = answer ≡ Refuted first
 IsNoFarther k old (Spent first) (Schedule games objective) = Unit {0}
 IsNoFarther k old (Spent first) (Refuted log) = ⊥
 IsNoFarther k old (Spent first) (Spent log) = log ≡ first
+
+-- no single move that leaves the first k slots alone leads from an answer's schedule to one that the league accepts and
+-- that changes fewer games of the old ones, or as many at a lower cost
+abbrev pub IsNearestAnswer : Instance → ℕ → List Game → Resumed → Type 0
+IsNearestAnswer league k old (Schedule games objective) = IsNearest league k old (counts_of games)
+IsNearestAnswer league k old (Refuted log) = ⊥
+IsNearestAnswer league k old (Spent log) = ⊥
+
+-- where an answer is said to be settled, it is
+abbrev pub IsSettledNear : Instance → ℕ → List Game → Neared → Type 0
+IsSettledNear league k old near = near.settled ≡ true → IsNearestAnswer league k old near.answer

@@ -10,10 +10,11 @@ ghost use Rattle.robin_watch.specs.Limits.{IsKeptTo};
 ghost use Rattle.resume.specs.Answers.{IsPlan, IsResumed, IsResumedBy, IsResumedSeason};
 ghost use Rattle.encoding.specs.Limit.{KeepsLimit};
 
-use crate::lower::{MOST_GAMES, Season, lowered};
+use crate::judged::{MOST_GAMES, Season};
 use crate::{Resumed, resume};
 use deviation::assess;
 use encoding::EncodeFault;
+use kept_descent::{OldPlan, descend_near};
 use league::{League, Schedule};
 use robin_watch::Watch;
 use std::alloc::{AllocError, Global};
@@ -113,9 +114,14 @@ fn lower_season<W: Watch>(
     if season.schedule.len() > MOST_GAMES {
         return Ok(season);
     }
-    let found = lowered(alloc, league, &season.schedule, season.objective, k, watch)?;
-    match found {
-        Some(lower) => Ok(lower),
-        None => Ok(season),
-    }
+    let plan = OldPlan {
+        league,
+        games: &[],
+        k,
+    };
+    let end = descend_near(alloc, plan, &season.schedule, watch)?;
+    Ok(Season {
+        schedule: end.schedule,
+        objective: end.objective,
+    })
 }

@@ -12,23 +12,6 @@ const MOST_CONSTRAINTS: usize = 20_000;
 /// What a game of the old plan costs that isn't played (own choice): more than games are worth in most leagues.
 const CHANGE_PENALTY: u32 = 1000;
 
-/// A league with a hard constraint more for each slot below k, which asks for just the games that a schedule has there;
-/// none where it would have too many constraints.
-///
-/// # Errors
-/// Only where memory runs out.
-pub(crate) fn fixed_league(
-    alloc: Global,
-    league: &League,
-    games: &Schedule,
-    k: u16,
-) -> Result<Option<League>, AllocError>
-    ensures teams { IfOk result (λ made. IfSome made (λ fixed. fixed.n ≡ league.now.n)) }
-    ensures phases { IfOk result (λ made. IfSome made (λ fixed. fixed.phased ≡ league.now.phased)) }
-{
-    asking_league(alloc, league, games, k, k)
-}
-
 /// A league with a constraint more for each slot, which asks for just the games that a schedule has there: a hard one
 /// below slot k, and a soft one from there on; none where it would have too many constraints.
 ///
@@ -43,24 +26,6 @@ pub(crate) fn near_league(
     ensures teams { IfOk result (λ made. IfSome made (λ near. near.n ≡ league.now.n)) }
     ensures phases { IfOk result (λ made. IfSome made (λ near. near.phased ≡ league.now.phased)) }
 {
-    asking_league(alloc, league, games, k, slot_count(league.n()))
-}
-
-/// A league with a constraint more for each slot below `end`, which asks for just the games that a schedule has there:
-/// a hard one below slot k, and a soft one from there on; none where it would have too many constraints.
-///
-/// # Errors
-/// Only where memory runs out.
-fn asking_league(
-    alloc: Global,
-    league: &League,
-    games: &Schedule,
-    k: u16,
-    end: u16,
-) -> Result<Option<League>, AllocError>
-    ensures teams { IfOk result (λ made. IfSome made (λ asking. asking.n ≡ league.now.n)) }
-    ensures phases { IfOk result (λ made. IfSome made (λ asking. asking.phased ≡ league.now.phased)) }
-{
     let n = league.n();
     let mut constraints = Vec::new(alloc);
     for constraint in league.constraints() {
@@ -69,7 +34,7 @@ fn asking_league(
             return Ok(None);
         }
     }
-    for slot in 0..end {
+    for slot in 0..slot_count(n) {
         let ask = asked(alloc, games, slot, slot < k)?;
         if !add_fitting(&mut constraints, n, ask)? {
             return Ok(None);

@@ -1,5 +1,5 @@
 //! A season resumed that changes little of the old plan.
-ghost use Rattle.std.specs.Prelude.{◌≡◌, ◌==◌, ◌≤◌, ◌↔◌, ◌⊎◌, ◌||◌, ◌&&◌, ℕ, nat_lt, length, Option, IfOk, IfSome, IsTrue};
+ghost use Rattle.std.specs.Prelude.{◌≡◌, ◌==◌, ◌≤◌, ◌↔◌, ◌⊎◌, ◌||◌, ◌&&◌, ℕ, false, nat_lt, length, Option, IfOk, IfSome, IsTrue};
 ghost use Rattle.std.specs.List.{All};
 ghost use Rattle.encoding.specs.Limit.{KeepsLimit};
 ghost use Rattle.league.specs.Accepted.{IsAccepted};
@@ -9,20 +9,21 @@ ghost use Rattle.league.specs.Instance.{Instance, IsGame};
 ghost use Rattle.league.specs.Structure.{IsRoundRobin};
 ghost use Rattle.resume_rows.specs.Kept as kept;
 ghost use Rattle.resume.specs.Answers.{IsPlan, IsResumed, IsResumedBy, IsResumedSeason};
-ghost use Rattle.resume.specs.Near.{IsAtMost, IsNoFarther, changed};
+ghost use Rattle.resume.specs.Near.{IsAtMost, IsNoFarther, IsSettledNear, changed};
 ghost use Rattle.robin_watch.specs.Limits.{IsKeptTo};
 ghost use Rattle.budgets.specs.declared.budgets.Budgets.{Budgets};
 ghost use Rattle.solve.specs.Solutions.{IsSolution};
 
 use crate::changed::changed_games;
 use crate::fixed::near_league;
-use crate::lower::{Season, judged};
+use crate::judged::{MOST_GAMES, Season, judged};
 use crate::merge::merged;
 use crate::unheard::Unheard;
 use crate::{Resumed, resume_lowered};
 use budgets::Budgets;
 use deviation::assess;
 use encoding::EncodeFault;
+use kept_descent::{Nearest, OldPlan, descend_near, is_settled};
 use league::{League, Schedule, structure};
 use robin_watch::Watch;
 use solve::{Solved, solve_from};
@@ -34,6 +35,28 @@ pub struct PartSeason<'a> {
     pub league: &'a League,
     pub played: &'a Schedule,
     pub k: u16,
+}
+
+impl<'a> PartSeason<'a> {
+    /// The old plan.
+    fn plan(self) -> OldPlan<'a>
+        ensures league { result.league.now ≡ self.entry.league.now }
+        ensures games { result.games.now ≡ self.entry.played.now }
+        ensures k { result.k ≡ self.entry.k }
+    {
+        OldPlan {
+            league: self.league,
+            games: self.played.games(),
+            k: self.k,
+        }
+    }
+}
+
+/// An answer, and whether it is a season that no single move betters.
+#[derive(Drop)]
+pub struct Neared {
+    pub answer: Resumed,
+    pub settled: bool,
 }
 
 /// Resumes a season as `resume_lowered` does, and near the old plan, as `nearer_answer` does. The watch may end all of
@@ -48,27 +71,33 @@ pub fn resume_near<W: Watch>(
     k: u16,
     budgets: Budgets,
     watch: &W,
-) -> Result<Resumed, EncodeFault>
+) -> Result<Neared, EncodeFault>
     requires few { length played.now ≤ 10000 }
     requires fit { All (IsGame league.now.n) played.now }
     requires slots { k ≤ counts.slot_count league.now.n }
     ensures limit { KeepsLimit (kept.resume_size league.now k) result }
-    ensures answer { IfOk result (IsResumedBy league.now played.now k
-        (IsKeptTo budgets.conflicts (W.may_stop watch.now))) }
+    ensures answer { IfOk result (λ near. IsResumedBy league.now played.now k
+        (IsKeptTo budgets.conflicts (W.may_stop watch.now)) near.answer) }
+
+    // Where it says so, no single move that leaves the played slots alone leads to an accepted season that changes
+    // fewer games, or as many at a lower cost.
+    ensures settled { IfOk result (IsSettledNear league.now k played.now) }
 
     // Where the league accepts what `played` has, the answer is a schedule of the same games.
-    ensures plan { IsAccepted league.now (counts_of played.now) → IfOk result (IsPlan played.now) }
+    ensures plan { IsAccepted league.now (counts_of played.now)
+        → IfOk result (λ near. IsPlan played.now near.answer) }
 {
     let first = resume_lowered(alloc, league, played, k, budgets.conflicts, watch)?;
     let season = PartSeason { league, played, k };
-    let answer = nearer_answer(alloc, season, first, budgets, watch)?;
-    Ok(answer)
+    let near = nearer_answer(alloc, season, first, budgets, watch)?;
+    Ok(near)
 }
 
 /// A first answer, or one that is nearer the old plan. Unless the league accepts the old plan, or the first answer
 /// refutes, `solve_from` goes from the old plan, where that is a double round robin, over a league that asks for the
-/// played games and, at a penalty, for those of the old plan. Of both seasons the one is the answer that changes fewer
-/// games, and of equal ones the one that costs less. The watch may end it.
+/// played games and, at a penalty, for those of the old plan. Of both seasons the one that changes fewer games, and of
+/// equal ones the one that costs less, is where a descent begins that leaves the played slots alone. The watch may end
+/// it.
 ///
 /// # Errors
 /// Only where memory runs out.
@@ -78,26 +107,123 @@ pub fn nearer_answer<W: Watch>(
     first: Resumed,
     budgets: Budgets,
     watch: &W,
-) -> Result<Resumed, AllocError>
-    requires few { length season.entry.played.now ≤ 10000 }
-    requires fit { All (IsGame season.entry.league.now.n) season.entry.played.now }
+) -> Result<Neared, AllocError>
+    requires few { length season.played.now ≤ 10000 }
+    requires fit { All (IsGame season.league.now.n) season.played.now }
+    requires first { (conflicts : Option ℕ) × IsResumed season.league.now season.played.now season.k conflicts first }
     ensures answer { (conflicts : Option ℕ)
         → IsResumed season.entry.league.now season.entry.played.now season.entry.k conflicts first
-        → IfOk result (IsResumed season.entry.league.now season.entry.played.now season.entry.k conflicts) }
+        → IfOk result (λ near.
+        IsResumed season.entry.league.now season.entry.played.now season.entry.k conflicts near.answer) }
 
     // It changes no more games than the first answer, and where it changes as many, it costs no more.
-    ensures no_farther { IfOk result (IsNoFarther season.entry.k season.entry.played.now first) }
+    ensures no_farther { IfOk result (λ near. IsNoFarther season.entry.k season.entry.played.now first near.answer) }
+    ensures settled { IfOk result (IsSettledNear season.entry.league.now season.entry.k season.entry.played.now) }
 
     // Where the league accepts the old plan, the first answer stays.
     ensures plan { IsAccepted season.entry.league.now (counts_of season.entry.played.now)
-        → IfOk result (λ answer. answer ≡ first) }
+        → IfOk result (λ near. near.answer ≡ first) }
 {
     let (league, played) = (season.league, season.played);
-    if matches!(first, Resumed::Refuted { .. }) || is_accepted(alloc, league, played)? {
-        return Ok(first);
+    if is_accepted(alloc, league, played)? {
+        return asked(alloc, season, first);
+    }
+    if matches!(first, Resumed::Refuted { .. }) {
+        return Ok(unsettled(first));
     }
     let near = near_season(alloc, league, played, season.k, budgets, watch)?;
-    Ok(nearer(played, season.k, first, near))
+    let answer = nearer(played, season.k, first, near);
+    descended(alloc, season, answer, watch)
+}
+
+/// An answer of which nothing is said.
+fn unsettled(answer: Resumed) -> Neared
+    ensures { result ≡ record { answer = answer; settled = false } }
+{
+    Neared {
+        answer,
+        settled: false,
+    }
+}
+
+/// An answer as it is, and whether it is a season that no single move betters.
+///
+/// # Errors
+/// Only where memory runs out.
+fn asked(alloc: Global, season: PartSeason<'_>, answer: Resumed) -> Result<Neared, AllocError>
+    requires few { length season.played.now ≤ 10000 }
+    requires fit { All (IsGame season.league.now.n) season.played.now }
+    requires answer { (conflicts : Option ℕ)
+        × IsResumed season.league.now season.played.now season.k conflicts answer }
+    ensures same { IfOk result (λ near. near.answer ≡ answer) }
+    ensures settled { IfOk result (IsSettledNear season.entry.league.now season.entry.k season.entry.played.now) }
+{
+    let Resumed::Schedule { schedule, .. } = &answer else {
+        return Ok(unsettled(answer));
+    };
+    if schedule.len() > MOST_GAMES {
+        return Ok(unsettled(answer));
+    }
+    let settled = is_settled(alloc, season.plan(), schedule)?;
+    Ok(Neared { answer, settled })
+}
+
+/// An answer, or the season to which a descent leads from it that leaves the played slots alone.
+///
+/// # Errors
+/// Only where memory runs out.
+fn descended<W: Watch>(
+    alloc: Global,
+    season: PartSeason<'_>,
+    answer: Resumed,
+    watch: &W,
+) -> Result<Neared, AllocError>
+    requires few { length season.played.now ≤ 10000 }
+    requires fit { All (IsGame season.league.now.n) season.played.now }
+    requires answer { (conflicts : Option ℕ)
+        × IsResumed season.league.now season.played.now season.k conflicts answer }
+    ensures answer { (conflicts : Option ℕ)
+        → IsResumed season.entry.league.now season.entry.played.now season.entry.k conflicts answer
+        → IfOk result (λ near.
+        IsResumed season.entry.league.now season.entry.played.now season.entry.k conflicts near.answer) }
+    ensures no_farther { IfOk result (λ near. IsNoFarther season.entry.k season.entry.played.now answer near.answer) }
+    ensures settled { IfOk result (IsSettledNear season.entry.league.now season.entry.k season.entry.played.now) }
+{
+    match answer {
+        Resumed::Schedule {
+            schedule,
+            objective,
+        } => {
+            if schedule.len() > MOST_GAMES {
+                return Ok(unsettled(Resumed::Schedule {
+                    schedule,
+                    objective,
+                }));
+            }
+            let end = descend_near(alloc, season.plan(), &schedule, watch)?;
+            Ok(end_reached(end))
+        }
+        Resumed::Refuted { log } => Ok(unsettled(Resumed::Refuted { log })),
+        Resumed::Spent { log } => Ok(unsettled(Resumed::Spent { log })),
+    }
+}
+
+/// The end of a descent as an answer.
+fn end_reached(end: Nearest) -> Neared
+    ensures { result ≡ record { answer = Resumed.Schedule end.schedule end.objective; settled = end.settled } }
+{
+    let Nearest {
+        schedule,
+        objective,
+        settled,
+    } = end;
+    Neared {
+        answer: Resumed::Schedule {
+            schedule,
+            objective,
+        },
+        settled,
+    }
 }
 
 /// Whether the league accepts a schedule.

@@ -3,8 +3,8 @@ use league::{Game, League};
 use robin_news::Listener;
 use robin_watch::{News, Watch};
 
-/// Asks and tells another watch, which hears of no season: those of a league with further constraints cost more than
-/// they do in the league itself.
+/// Asks and tells another watch, which hears of no season, but that no hard constraint is missed: the seasons of a league
+/// with further constraints cost more than they do in the league itself.
 #[derive(Drop)]
 pub(crate) struct Unheard<'a, W> {
     pub(crate) watch: &'a W,
@@ -29,5 +29,7 @@ impl<W: Watch> Watch for Unheard<'_, W> {
 }
 
 impl<W: Watch> Listener for Unheard<'_, W> {
-    fn tell_season(&self, _league: &League, _games: &[Game], _objective: u128, _tried: u64) {}
+    fn tell_season(&self, _league: &League, _games: &[Game], _objective: u128, tried: u64) {
+        self.watch.tell(News::Hard { tried, cost: 0 });
+    }
 }

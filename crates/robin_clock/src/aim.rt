@@ -1,12 +1,51 @@
 //! What a run is after, as far as a watch has heard.
 
-/// What the search that goes on is to show.
+use std::fmt;
+
+/// What is to be found or shown.
 #[derive(Clone, Copy)]
 pub(crate) enum Aim {
-    /// The search is to show whether the league has a season.
+    /// A season, and no try of `solve` was heard of.
     Season,
-    /// The search is to show that no season costs less than this.
+    /// A season, or a better one, by the try with this number, from 1.
+    Try { number: u64 },
+    /// That no season costs less than this.
     Bound { objective: u64 },
-    /// The search is to show whether a member of a conflict is needed; so many were still to be tried when it began.
+    /// Whether a member of a conflict is needed; so many are still to be tried.
     Member { left: u64 },
+}
+
+impl Aim {
+    /// The aim where a phase begins: that of the first try, where no try was heard of.
+    pub(crate) fn in_phase(self) -> Aim {
+        match self {
+            Aim::Season => Aim::Try { number: 1 },
+            Aim::Try { .. } | Aim::Bound { .. } | Aim::Member { .. } => self,
+        }
+    }
+
+    /// The aim where a descent goes on: a proof is over then, since its search found a season that costs less.
+    pub(crate) fn in_descent(self) -> Aim {
+        match self {
+            Aim::Bound { .. } => Aim::Season,
+            Aim::Season | Aim::Try { .. } | Aim::Member { .. } => self,
+        }
+    }
+
+    /// Whether the seasons that come are those of the league itself, and not of a part of it.
+    pub(crate) fn is_of_league(self) -> bool {
+        !matches!(self, Aim::Member { .. })
+    }
+}
+
+/// The front of a line, with the comma before what the run does.
+impl fmt::Display for Aim {
+    fn fmt<W: fmt::Write>(&self, f: &mut fmt::Formatter<W>) -> fmt::Result {
+        match *self {
+            Aim::Season => Ok(()),
+            Aim::Try { number } => write!(f, "try {number}, "),
+            Aim::Bound { objective } => write!(f, "proving at least {objective}, "),
+            Aim::Member { left } => write!(f, "{left} members still to be tried, "),
+        }
+    }
 }

@@ -3,11 +3,16 @@
 #![tactic(auto)]
 
 mod aim;
+mod bar;
+mod heard;
 mod keeper;
-mod learnt;
+mod line;
+mod rate;
 mod season;
 mod signals;
+mod stage;
 mod telling;
+mod turns;
 mod watch;
 
 pub use keeper::SeasonKeeper;

@@ -21,13 +21,13 @@ impl Telling {
         }
     }
 
-    /// What stands before a line, and what behind it. A terminal is told to go to the line's front, and to wipe out the
-    /// rest of it.
+    /// What stands before a line, and what behind it. A terminal is told to go to the line's front, to cut off what is
+    /// wider than it is, and to wipe out the rest of the line.
     pub(crate) fn frame(self) -> (&'static str, &'static str) {
         match self {
             Telling::Nobody => ("", ""),
             Telling::File => ("", "\n"),
-            Telling::Terminal => ("\r", "\x1b[K"),
+            Telling::Terminal => ("\r\x1b[?7l", "\x1b[K\x1b[?7h"),
         }
     }
 }

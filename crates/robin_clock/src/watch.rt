@@ -2,8 +2,8 @@
 ghost use Rattle.std.specs.Prelude.{◌≡◌, ◌⊎◌, IsSome, true};
 ghost use Rattle.robin_clock.specs.Fields.{limit_of, listens};
 
-use crate::aim::Aim;
-use crate::learnt::Learnt;
+use crate::heard::Heard;
+use crate::line::Line;
 use crate::signals::{is_blocked, is_waiting};
 use crate::telling::Telling;
 use league::{Game, League};
@@ -18,14 +18,6 @@ const EACH: u64 = 16;
 
 /// At least so many milliseconds lie between two looks at the signals.
 const PAUSE: u128 = 100;
-
-/// The best season of which the watch has heard.
-#[derive(Clone, Copy)]
-struct Heard {
-    objective: u128,
-    /// When it came, in milliseconds.
-    at: u128,
-}
 
 /// Ends a run after so many seconds, if seconds were asked for. Ends it too when SIGHUP, SIGINT or SIGTERM waits, if
 /// one of them was blocked when the watch began. From then on each answer is that the run is to end. Writes lines of how
@@ -42,8 +34,7 @@ pub struct HostWatch<R> {
     looked: Cell<u128>,
     over: Cell<bool>,
     told: Cell<u128>,
-    heard: Cell<Option<Heard>>,
-    aim: Cell<Aim>,
+    heard: Cell<Heard>,
 }
 
 impl<R: Clock + Files + Eprint> HostWatch<R> {
@@ -63,8 +54,7 @@ impl<R: Clock + Files + Eprint> HostWatch<R> {
             looked: Cell::new(0),
             over: Cell::new(false),
             told: Cell::new(0),
-            heard: Cell::new(None),
-            aim: Cell::new(Aim::Season),
+            heard: Cell::new(Heard::nothing()),
         }
     }
 
@@ -101,105 +91,39 @@ impl<R: Clock + Files + Eprint> HostWatch<R> {
         self.seconds.is_some() || self.listens
     }
 
-    /// How many milliseconds have passed, where a line is due.
-    fn due(&self) -> Option<u128> {
-        let pause = self.telling.pause()?;
-        let passed = self.passed();
-        if passed < self.told.get().saturating_add(pause) {
-            return None;
+    /// Whether a line is due where so many milliseconds have passed. Where the clock can't be read there is none.
+    fn is_due(&self, passed: u128) -> bool {
+        let Some(pause) = self.telling.pause() else {
+            return false;
+        };
+        if passed == u128::MAX || passed < self.told.get().saturating_add(pause) {
+            return false;
         }
         self.told.set(passed);
-        Some(passed)
+        true
     }
 
-    /// Says that no season is found yet. A line that can't be written changes nothing.
-    fn say_unmet(&self, passed: u128, tried: u64, cost: u128) {
-        let (front, end) = self.telling.frame();
-        let seconds = passed / 1000;
-        let _ = eprint!(self.rt;
-            "{front}robin: {seconds} s: no season yet, hard demands missed by {cost}, {tried} moves tried{end}"
-        );
-    }
-
-    /// Says what the best season costs that was found.
-    fn say_best(&self, passed: u128, tried: u64, best: Heard) {
-        let (front, end) = self.telling.frame();
-        let seconds = passed / 1000;
-        let at = best.at / 1000;
-        let objective = best.objective;
-        let _ = eprint!(self.rt;
-            "{front}robin: {seconds} s: best objective {objective}, found after {at} s, {tried} moves tried{end}"
-        );
-    }
-
-    /// Says how many clauses a search has learnt, and what it is to show.
-    fn say_learnt(&self, passed: u128, learnt: Learnt) {
-        let (front, end) = self.telling.frame();
-        let seconds = passed / 1000;
-        match self.aim.get() {
-            Aim::Season => self.say_searched(passed, learnt),
-            Aim::Bound { objective } => {
-                let _ = eprint!(self.rt;
-                    "{front}robin: {seconds} s: proving at least {objective}, {learnt}{end}"
-                );
-            }
-            Aim::Member { left } => {
-                let _ = eprint!(self.rt;
-                    "{front}robin: {seconds} s: {left} members still to be tried, {learnt}{end}"
-                );
-            }
-        }
-    }
-
-    /// Says how many clauses a search for a season has learnt, and what the best season costs, where there is one.
-    fn say_searched(&self, passed: u128, learnt: Learnt) {
-        let (front, end) = self.telling.frame();
-        let seconds = passed / 1000;
-        let Some(best) = self.heard.get() else {
-            let _ = eprint!(self.rt; "{front}robin: {seconds} s: {learnt}{end}");
+    /// Keeps what is known of the run where so many milliseconds have passed, and says it where a line is due. A line
+    /// that can't be written changes nothing.
+    fn say(&self, heard: Heard, passed: u128) {
+        self.heard.set(heard);
+        if !self.is_due(passed) {
             return;
+        }
+        let (front, end) = self.telling.frame();
+        let line = Line {
+            heard,
+            passed,
+            seconds: self.seconds,
+            bars: self.telling == Telling::Terminal,
         };
-        let objective = best.objective;
-        let _ = eprint!(self.rt;
-            "{front}robin: {seconds} s: best objective {objective}, {learnt}{end}"
-        );
-    }
-
-    /// Says that a proof begins.
-    fn say_bound(&self, passed: u128, objective: u64) {
-        let (front, end) = self.telling.frame();
-        let seconds = passed / 1000;
-        let _ = eprint!(self.rt;
-            "{front}robin: {seconds} s: proving that no season costs less than {objective}{end}"
-        );
-    }
-
-    /// Says how many members of a conflict are still to be tried.
-    fn say_members(&self, passed: u128, left: u64) {
-        let (front, end) = self.telling.frame();
-        let seconds = passed / 1000;
-        let _ = eprint!(self.rt;
-            "{front}robin: {seconds} s: {left} members still to be tried{end}"
-        );
+        let _ = eprint!(self.rt; "{front}{line}{end}");
     }
 
     /// Wipes the line of a terminal, before the answer may come there.
     fn wipe(&self) {
         if self.telling == Telling::Terminal && self.told.get() > 0 {
             let _ = eprint!(self.rt; "\r\x1b[K");
-        }
-    }
-
-    /// Keeps a season's objective, where it is the best of which was heard.
-    fn hear(&self, objective: u128) -> Heard {
-        let at = self.passed();
-        match self.heard.get() {
-            Some(best) if best.objective <= objective => best,
-            _ => {
-                let best = Heard { objective, at };
-                self.heard.set(Some(best));
-                best
-            }
         }
     }
 }
@@ -229,45 +153,27 @@ impl<R: Clock + Files + Eprint> Watch for HostWatch<R> {
     }
 
     fn tell(&self, news: News) {
+        if self.telling == Telling::Nobody {
+            return;
+        }
+        let passed = self.passed();
+        let heard = self.heard.get().with_news(news, passed);
         match news {
             News::Ready => self.wipe(),
-            News::Search { learnt, limit } => {
-                if let Some(passed) = self.due() {
-                    self.say_learnt(passed, Learnt { learnt, limit });
-                }
-            }
-            News::Hard { tried, cost } => {
-                let best = self.heard.get();
-                match (self.due(), best) {
-                    (Some(passed), None) => self.say_unmet(passed, tried, cost),
-                    (Some(passed), Some(best)) => self.say_best(passed, tried, best),
-                    (None, _) => {}
-                }
-            }
-            News::Bound { objective } => {
-                self.aim.set(Aim::Bound { objective });
-                if let Some(passed) = self.due() {
-                    self.say_bound(passed, objective);
-                }
-            }
-            News::Members { left } => {
-                self.aim.set(Aim::Member { left });
-                if let Some(passed) = self.due() {
-                    self.say_members(passed, left);
-                }
-            }
+            // A phase of the try begins at once.
+            News::Try { .. } => self.heard.set(heard),
+            _ => self.say(heard, passed),
         }
     }
 }
 
 impl<R: Clock + Files + Eprint> Listener for HostWatch<R> {
     fn tell_season(&self, _league: &League, _games: &[Game], objective: u128, tried: u64) {
-        if self.telling == Telling::Nobody || matches!(self.aim.get(), Aim::Member { .. }) {
+        if self.telling == Telling::Nobody {
             return;
         }
-        let best = self.hear(objective);
-        if let Some(passed) = self.due() {
-            self.say_best(passed, tried, best);
-        }
+        let passed = self.passed();
+        let heard = self.heard.get().with_season(objective, tried, passed);
+        self.say(heard, passed);
     }
 }

@@ -56,7 +56,9 @@ near_whole : (league : Instance) (played : List Game) (k : ℕ) (answer : Answer
     → IsNearSeason league played k answer → Appends output.before output.after answer.text → IsKeptNear league played k output
 near_whole league played k answer output near written = record {
   games = near.games;
+  settled = near.settled;
   season = near.season;
+  nearest = near.nearest;
   written = subst (λ (text : List ℕ). Appends output.before output.after text) near.text written;
   reads_back = subst (λ (text : List ℕ). solution_of league.n (pieces text) ≡ Ok near.games) near.text near.reads_back;
 }

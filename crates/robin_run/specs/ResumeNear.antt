@@ -21,7 +21,7 @@ pub record Promise (run : Run) (instance solution : List ℕ) (k : ℕ) (budgets
       → NothingFails run (instance ∷ solution ∷ [])
       → Writes run (IsNearBy league played k (IsKeptTo budgets.conflicts run.may_stop))
   -- Where a season is written, it is accepted and keeps the played games, and the number behind it is that of the games
-  -- to come that it changes.
+  -- to come that it changes. Where it is said to be settled, no single move that leaves the played slots alone betters it.
   pub changed : (league : Instance) (played : List Game)
       → SaySeason run.store instance solution league played
       → run.ended ≡ Yes

@@ -29,7 +29,8 @@ log_reply-requires-in-Spent-clause-clauses c =
 pub returns-in-Schedule : goal.returns-in-Schedule
 returns-in-Schedule c = λ conflicts is.
     near-season c.args.league.now c.args.played.now c.args.k conflicts c.in-Schedule.schedule
-    c.in-Schedule.objective c.schedule_reply.result c.n-n.ensures.instance.teams (rw c.in-Schedule.is at is)
+    c.in-Schedule.objective c.args.neared.now.settled c.schedule_reply.result c.n-n.ensures.instance.teams
+    (rw c.in-Schedule.is at is) (λ said. rw c.in-Schedule.is at c.requires.settled said)
     (λ accepted. rw c.in-Schedule.is at c.requires.plan accepted) c.schedule_reply.ensures.status
     c.schedule_reply.ensures.text
 

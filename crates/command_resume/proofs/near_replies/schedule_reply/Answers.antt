@@ -18,5 +18,7 @@ returns-clause-text c =
     c.open_games-games.ensures ∙ ap (λ (old : List Game). open_games k old) c.games-3.ensures in
     c.in_ok-text.ensures
     ∙ ap
-    (λ (n : ℕ). solution_text season (Some (0, c.args.objective)) ++ near_line n c.open_games-games.result) changes
-    ∙ ap (λ (n : ℕ). solution_text season (Some (0, c.args.objective)) ++ near_line (changed k played season) n) all
+    (λ (n : ℕ). solution_text season (Some (0, c.args.objective)) ++ near_line n c.open_games-games.result c.args.settled)
+    changes
+    ∙ ap (λ (n : ℕ). solution_text season (Some (0, c.args.objective)) ++ near_line (changed k played season) n c.args.settled)
+    all

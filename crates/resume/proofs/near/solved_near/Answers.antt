@@ -1,4 +1,3 @@
-use Rattle.std.proofs.Common.{sym}
 use Rattle.resume.proofs.near.solved_near.Goals as goal
 
 pub returns-in-Ok : goal.returns-in-Ok

@@ -2,7 +2,7 @@ use Rattle.std.proofs.Common.{◌≤◌, length}
 use Rattle.std.specs.Prelude.{IsTrue}
 use Rattle.std.specs.List.{All}
 use Rattle.league.specs.Instance.{class_fits}
-use Rattle.resume.proofs.fixed.asking_league.Given as goal
+use Rattle.resume.proofs.fixed.near_league.Given as goal
 
 abbrev pub invariant-loop-constraint : goal.invariant-loop-constraint
 invariant-loop-constraint l = record {

@@ -1,0 +1,323 @@
+-- What a walk knows that leaves the first slots alone, one move further.
+use Rattle.std.proofs.Common.{◌≡◌, ◌↔◌, ℕ, ◌+◌, ◌<◌, ◌≤◌, Bool, true, false, not, Option, Some, None, List, length, get_or}
+use Rattle.std.proofs.Common.{ap, inl, inr, refl, subst, sym, ◌∙◌, arith}
+use Rattle.std.specs.Prelude.{IsTrue, MatchOption, is_some}
+use Rattle.std.specs.List.{All, AllWithin}
+use Rattle.std.proofs.lemmas.Bool.{cases_lt}
+use Rattle.std.proofs.lemmas.List.{get_or_default}
+use Rattle.std.proofs.lemmas.List.Elements.{All-contains, All-get_or}
+use Rattle.cells.specs.Table.{table_counts}
+use Rattle.league.specs.Accepted.{IsAccepted, objective}
+use Rattle.league.specs.Counts.{Counts, counts_of}
+use Rattle.league.specs.Instance.{IsGame}
+use Rattle.league.specs.Order.{IsInOrder}
+use Rattle.league.specs.Structure.{IsRoundRobin}
+use Rattle.league.specs.declared.game.Game.{Game}
+use Rattle.descent.specs.Walks.{IsFullEdit, KeepsGames}
+use Rattle.descent.proofs.MoveLemmas.{all_moves-lists, all_moves-of_league}
+use Rattle.moves.specs.Moves.{IsOfLeague, moved}
+use Rattle.moves.specs.Neighbours.{all_moves}
+use Rattle.moves.specs.Round.{Edits, round_counts}
+use Rattle.moves.specs.declared.swap.Swap.{Swap}
+use Rattle.rule_core.specs.declared.rule.Entries.{Ghosts}
+use Rattle.tally.specs.League.{AreRulesOf}
+use Rattle.tally.specs.Tallies.{Tallied, objective_on}
+use Rattle.tally.specs.declared.weighted.Weighted.{Weighted}
+use Rattle.tally.proofs.LeagueLemmas.{objective-league}
+use Rattle.resume_rows.specs.Kept.{Keeps}
+use Rattle.kept_descent.specs.Changed.{IsAtMost, changed_on}
+use Rattle.kept_descent.specs.Nearing.{IsEnd, IsNearest}
+use Rattle.kept_descent.specs.Walks.{IsBetter, IsDown, IsFoundAt, IsGround, IsWalkFrom, IsWalkOn}
+use Rattle.kept_descent.specs.declared.ground.Ground.{Ground}
+use Rattle.kept_descent.specs.declared.plan.OldPlan.{OldPlan}
+use Rattle.kept_descent.specs.declared.walk.Walk.{Walk}
+use Rattle.kept_descent.proofs.ChangedLemmas.{at_most-itself, at_most-nearer}
+
+-- ---- a ground
+
+-- the games stay twice
+pub keeps-both : {R : Type 0} (first mid last : Tallied R) → KeepsGames first mid → KeepsGames mid last
+    → KeepsGames first last
+keeps-both {R} first mid last before after = record {
+  weights = after.weights ∙ before.weights;
+  teams = after.teams ∙ before.teams;
+  counts = after.counts ∙ before.counts;
+}
+
+pub IsGround-kept : {R : Type 0} (E : Ghosts R) (ground : Ground) (tally kept : Tallied R) → IsGround E ground tally
+    → KeepsGames tally kept → IsGround E ground kept
+IsGround-kept {R} E ground tally kept is keeps = record {
+  rules = subst (λ (w : List (Weighted R)). AreRulesOf E 1 ground.plan.league.now w) (sym keeps.weights) is.rules;
+  table_teams = keeps.teams ∙ is.table_teams;
+  board_teams = is.board_teams;
+  phased = is.phased;
+  counts = is.counts ∙ sym keeps.counts;
+  old_teams = is.old_teams;
+  old = is.old;
+  fit = is.fit;
+}
+
+-- the walk from the season of a tally by the rules of its league
+pub IsWalkOn-from : {R : Type 0} (E : Ghosts R) (plan : OldPlan) (m : Counts) (walk : Walk) (tally : Tallied R)
+    → IsWalkFrom plan m walk → AreRulesOf E 1 plan.league.now tally.weights → tally.table.n ≡ plan.league.now.n
+    → table_counts tally.table ≡ m → All (IsGame plan.league.now.n) plan.games.now → IsWalkOn E walk tally
+IsWalkOn-from {R} E plan m walk tally is rules teams counts fit =
+    let n : walk.ground.plan.league.now.n ≡ plan.league.now.n = ap (λ (p : OldPlan). p.league.now.n) is.same in
+    record {
+      ground = record {
+        rules = subst (λ (p : OldPlan). AreRulesOf E 1 p.league.now tally.weights) (sym is.same) rules;
+        table_teams = teams ∙ sym n;
+        board_teams = is.board_teams ∙ sym n;
+        phased = is.phased ∙ sym (ap (λ (p : OldPlan). p.league.now.phased) is.same);
+        counts = is.counts ∙ sym counts;
+        old_teams = is.old_teams ∙ sym n;
+        old = is.old ∙ sym (ap (λ (p : OldPlan). counts_of p.games.now) is.same);
+        fit = subst (λ (p : OldPlan). All (IsGame p.league.now.n) p.games.now) (sym is.same) fit;
+      };
+      listed = is.listed ∙ sym (ap (λ (k : ℕ). all_moves k) n);
+      edit_for = is.edit_for ∙ sym n;
+      next_within = is.next_within;
+    }
+
+-- its season is a double round robin, where its board has one
+pub ground-round : {R : Type 0} (E : Ghosts R) (ground : Ground) (tally : Tallied R) → IsGround E ground tally
+    → IsRoundRobin ground.board.n ground.board.phased (round_counts ground.board)
+    → IsRoundRobin ground.plan.league.now.n ground.plan.league.now.phased (table_counts tally.table)
+ground-round {R} E ground tally is round =
+    subst (λ (m : Counts). IsRoundRobin ground.plan.league.now.n ground.plan.league.now.phased m) is.counts
+    (subst (λ (b : Bool). IsRoundRobin ground.plan.league.now.n b (round_counts ground.board)) is.phased
+    (subst (λ (n : ℕ). IsRoundRobin n ground.board.phased (round_counts ground.board)) is.board_teams round))
+
+-- ---- a round of moves
+
+-- the moves of a walk are of its league
+pub move-of_league : {R : Type 0} (E : Ghosts R) (walk : Walk) (tally : Tallied R) (place : ℕ) (d : Swap)
+    → IsWalkOn E walk tally → place < length walk.moves.items
+    → IsOfLeague walk.ground.plan.league.now.n (get_or walk.moves.items place d)
+move-of_league {R} E walk tally place d is within =
+    let n = walk.ground.plan.league.now.n in
+    All-get_or (IsOfLeague n) walk.moves.items place d within
+    (subst (λ (moves : List Swap). All (IsOfLeague n) moves) (sym is.listed) (all_moves-of_league n))
+
+-- one more of the moves doesn't better the season
+pub none-more : (P : Swap → Type 0) (moves : List Swap) (start place : ℕ) (e : Swap) → place < length moves
+    → AllWithin P moves start place → P (get_or moves place e) → AllWithin P moves start (place + 1)
+none-more P moves start place e within before here k d from below =
+    elim (cases_lt k place) as (λ _. P (get_or moves k d)) [
+      | inl earlier ↦ before k d from earlier
+      | inr later ↦
+          let at : k ≡ place = omega (arith, later, below) in
+          subst P (sym (ap (λ (j : ℕ). get_or moves j d) at ∙ get_or_default moves place d e within)) here
+    ]
+
+-- the move at a place
+pub found-at : (plan : OldPlan) (m : Counts) (moves : List Swap) (edit : Edits) (place : ℕ) (e : Swap)
+    → place < length moves → IsBetter plan m (get_or moves place e)
+    → IsFullEdit plan.league.now.n m (get_or moves place e) edit → IsFoundAt plan m moves edit place
+found-at plan m moves edit place e within better full = record {
+  within = within;
+  better = λ d. subst (λ (step : Swap). IsBetter plan m step) (get_or_default moves place e d within) better;
+  full = λ d. subst (λ (step : Swap). IsFullEdit plan.league.now.n m step edit) (get_or_default moves place e d within)
+      full;
+}
+
+-- two parts of a round that meet
+pub round-none : (P : Swap → Type 0) (moves : List Swap) (next : ℕ) → AllWithin P moves 0 next
+    → AllWithin P moves next (length moves) → All P moves
+round-none P moves next first second k d below =
+    elim (cases_lt k next) as (λ _. P (get_or moves k d)) [
+      | inl earlier ↦ first k d (omega arith) earlier
+      | inr later ↦ second k d later below
+    ]
+
+-- where no listed move betters the season, none at all does
+pub IsNearest-of_all : {R : Type 0} (E : Ghosts R) (walk : Walk) (tally : Tallied R) (m : Counts)
+    → IsWalkOn E walk tally → All (λ step. IsBetter walk.ground.plan m step → ⊥) walk.moves.items
+    → IsNearest walk.ground.plan.league.now walk.ground.plan.k walk.ground.plan.games.now m
+IsNearest-of_all {R} E walk tally m is none step better =
+    let n = walk.ground.plan.league.now.n in
+    All-contains (λ s. IsBetter walk.ground.plan m s → ⊥) (all_moves n) step
+    (subst (λ (moves : List Swap). All (λ s. IsBetter walk.ground.plan m s → ⊥) moves) is.listed none)
+    (all_moves-lists n m step better.of_league better.legal.own) better
+
+-- the walk with another edit at hand, and another place to go on from
+pub IsWalkOn-tried : {R : Type 0} (E : Ghosts R) (walk : Walk) (tally kept : Tallied R) (edit : Edits) (next : ℕ)
+    → IsWalkOn E walk tally → KeepsGames tally kept → edit.n ≡ walk.edit.n → next ≤ length walk.moves.items
+    → IsWalkOn E (record walk { edit = edit; next = next }) kept
+IsWalkOn-tried {R} E walk tally kept edit next is keeps same within = record {
+  ground = IsGround-kept E walk.ground tally kept is.ground keeps;
+  listed = is.listed;
+  edit_for = same ∙ is.edit_for;
+  next_within = within;
+}
+
+-- the move that a round found
+pub found-better : (plan : OldPlan) (m : Counts) (walk tried : Walk) (place : ℕ) (step : Swap)
+    → tried ≡ record walk { edit = tried.edit } → IsFoundAt plan m walk.moves.items tried.edit place
+    → ((d : Swap) → step ≡ get_or tried.moves.items place d) → IsBetter plan m step
+found-better plan m walk tried place step same found at =
+    subst (λ (s : Swap). IsBetter plan m s) (sym (at step ∙ ap (λ (w : Walk). get_or w.moves.items place step) same))
+    (found.better step)
+
+pub found-full : (plan : OldPlan) (m : Counts) (walk tried taken : Walk) (place : ℕ) (step : Swap)
+    → tried ≡ record walk { edit = tried.edit } → IsFoundAt plan m walk.moves.items tried.edit place
+    → ((d : Swap) → step ≡ get_or tried.moves.items place d) → taken ≡ record tried { next = place + 1 }
+    → IsFullEdit plan.league.now.n m step taken.edit
+found-full plan m walk tried taken place step same found at is_taken =
+    subst (λ (e : Edits). IsFullEdit plan.league.now.n m step e) (sym (ap (λ (w : Walk). w.edit) is_taken))
+    (subst (λ (s : Swap). IsFullEdit plan.league.now.n m s tried.edit)
+    (sym (at step ∙ ap (λ (w : Walk). get_or w.moves.items place step) same)) (found.full step))
+
+-- the same by an equal plan and equal counts
+pub better-at : (plan other : OldPlan) (m l : Counts) (step : Swap) → other ≡ plan → l ≡ m → IsBetter other l step
+    → IsBetter plan m step
+better-at plan other m l step same counts better =
+    subst (λ (c : Counts). IsBetter plan c step) counts (subst (λ (p : OldPlan). IsBetter p l step) same better)
+
+pub full-at : (plan other : OldPlan) (m l : Counts) (step : Swap) (edit : Edits) → other ≡ plan → l ≡ m
+    → IsFullEdit other.league.now.n l step edit → IsFullEdit plan.league.now.n m step edit
+full-at plan other m l step edit same counts full =
+    subst (λ (c : Counts). IsFullEdit plan.league.now.n c step edit) counts
+    (subst (λ (p : OldPlan). IsFullEdit p.league.now.n l step edit) same full)
+
+-- where a whole round found none
+pub none-nearest : {R : Type 0} (E : Ghosts R) (walk tried : Walk) (tally kept : Tallied R) (end : ℕ)
+    → IsWalkOn E walk tally → KeepsGames tally kept → tried ≡ record walk { edit = tried.edit }
+    → end ≡ length walk.moves.items
+    → AllWithin (λ step. IsBetter walk.ground.plan (table_counts tally.table) step → ⊥) walk.moves.items walk.next end
+    → AllWithin (λ step. IsBetter tried.ground.plan (table_counts kept.table) step → ⊥) tried.moves.items 0 walk.next
+    → IsNearest walk.ground.plan.league.now walk.ground.plan.k walk.ground.plan.games.now (table_counts tally.table)
+none-nearest {R} E walk tried tally kept end is keeps same is_end first second =
+    let m : Counts = table_counts tally.table in
+    let None_before : Walk → Counts → Type 0 =
+    λ w c. AllWithin (λ step. IsBetter w.ground.plan c step → ⊥) w.moves.items 0 walk.next in
+    IsNearest-of_all E walk tally m is
+    (round-none (λ step. IsBetter walk.ground.plan m step → ⊥) walk.moves.items walk.next
+    (subst (λ (c : Counts). None_before walk c) keeps.counts
+    (subst (λ (w : Walk). None_before w (table_counts kept.table)) same second))
+    (subst (λ (last : ℕ). AllWithin (λ step. IsBetter walk.ground.plan m step → ⊥) walk.moves.items walk.next last)
+    is_end first))
+
+-- whether a round found none
+pub nearest-read : (found : Option Swap) (says : Bool) (Nearest : Type 0) (Better : Swap → Type 0)
+    → is_some found ≡ not says → MatchOption found Nearest Better → ((step : Swap) → Better step → Nearest → ⊥)
+    → IsTrue says ↔ Nearest
+nearest-read None true Nearest Better is nearest apart = (λ said. nearest, λ settled. refl)
+nearest-read None false Nearest Better is nearest apart = absurd (let no : false ≡ true = is in cc)
+nearest-read (Some step) true Nearest Better is better apart = absurd (let no : true ≡ false = is in cc)
+nearest-read (Some step) false Nearest Better is better apart = (
+  λ said. absurd (let no : false ≡ true = said in cc),
+  λ settled. absurd (apart step better settled),
+)
+
+-- no nearer season by an equal plan and equal counts
+pub nearest-at : (plan other : OldPlan) (m l : Counts) → other ≡ plan → l ≡ m
+    → IsNearest other.league.now other.k other.games.now l → IsNearest plan.league.now plan.k plan.games.now m
+nearest-at plan other m l same counts nearest =
+    subst (λ (c : Counts). IsNearest plan.league.now plan.k plan.games.now c) counts
+    (subst (λ (p : OldPlan). IsNearest p.league.now p.k p.games.now l) same nearest)
+
+-- ---- all moves made so far
+
+pub IsDown-none : {R : Type 0} (E : Ghosts R) (walk : Walk) (tally : Tallied R) → IsWalkOn E walk tally
+    → IsAccepted walk.ground.plan.league.now (table_counts tally.table)
+    → IsDown E walk.ground.plan (table_counts tally.table) walk tally
+IsDown-none {R} E walk tally is accepted = record {
+  walks = is;
+  same = refl;
+  accepted = accepted;
+  keeps = λ i j s slot. refl;
+  no_farther = at_most-itself
+      (changed_on walk.ground.plan.k walk.ground.plan.games.now (table_counts tally.table))
+      (objective walk.ground.plan.league.now (table_counts tally.table));
+}
+
+-- what a round leaves
+pub IsDown-kept : {R : Type 0} (E : Ghosts R) (plan : OldPlan) (first : Counts) (walk tried : Walk)
+    (tally kept : Tallied R) → IsDown E plan first walk tally → KeepsGames tally kept → IsWalkOn E tried kept
+    → tried.ground ≡ walk.ground → IsDown E plan first tried kept
+IsDown-kept {R} E plan first walk tried tally kept is keeps on same = record {
+  walks = on;
+  same = ap (λ (ground : Ground). ground.plan) same ∙ is.same;
+  accepted = subst (λ (m : Counts). IsAccepted plan.league.now m) (sym keeps.counts) is.accepted;
+  keeps = subst (λ (m : Counts). Keeps first plan.k m) (sym keeps.counts) is.keeps;
+  no_farther = subst
+      (λ (m : Counts). IsAtMost (changed_on plan.k plan.games.now m) (objective plan.league.now m)
+      (changed_on plan.k plan.games.now first) (objective plan.league.now first))
+      (sym keeps.counts) is.no_farther;
+}
+
+-- one move more
+pub IsDown-more : {R : Type 0} (E : Ghosts R) (plan : OldPlan) (first : Counts) (walk made : Walk)
+    (tally after : Tallied R) (step : Swap) → IsDown E plan first walk tally
+    → IsBetter plan (table_counts tally.table) step
+    → table_counts after.table ≡ moved plan.league.now.n (table_counts tally.table) step
+    → IsWalkOn E made after → made.ground.plan ≡ walk.ground.plan → IsDown E plan first made after
+IsDown-more {R} E plan first walk made tally after step is better to on same =
+    let m : Counts = table_counts tally.table in
+    let next : Counts = moved plan.league.now.n m step in
+    record {
+      walks = on;
+      same = same ∙ is.same;
+      accepted = subst (λ (c : Counts). IsAccepted plan.league.now c) (sym to) better.accepted;
+      keeps = subst (λ (c : Counts). Keeps first plan.k c) (sym to)
+          (λ i j s slot. better.keeps i j s slot ∙ is.keeps i j s slot);
+      no_farther = subst
+          (λ (c : Counts). IsAtMost (changed_on plan.k plan.games.now c) (objective plan.league.now c)
+          (changed_on plan.k plan.games.now first) (objective plan.league.now first))
+          (sym to)
+          (at_most-nearer (changed_on plan.k plan.games.now next) (objective plan.league.now next)
+          (changed_on plan.k plan.games.now m) (objective plan.league.now m)
+          (changed_on plan.k plan.games.now first) (objective plan.league.now first) better.nearer is.no_farther);
+    }
+
+-- ---- where a descent leads
+
+-- the league has as many teams as the tally
+pub down-teams : {R : Type 0} (E : Ghosts R) (plan : OldPlan) (first : Counts) (walk : Walk) (tally : Tallied R)
+    → IsDown E plan first walk tally → tally.table.n ≡ plan.league.now.n
+down-teams {R} E plan first walk tally is =
+    is.walks.ground.table_teams ∙ ap (λ (p : OldPlan). p.league.now.n) is.same
+
+-- what the season costs
+pub down-cost : {R : Type 0} (E : Ghosts R) (plan : OldPlan) (first : Counts) (walk : Walk) (tally : Tallied R)
+    (cost : ℕ) → IsDown E plan first walk tally → cost ≡ objective_on E (table_counts tally.table) tally.weights
+    → cost ≡ objective plan.league.now (table_counts tally.table)
+down-cost {R} E plan first walk tally cost is costs =
+    costs
+    ∙ objective-league E 1 walk.ground.plan.league.now tally.weights (table_counts tally.table) is.walks.ground.rules
+    ∙ ap (λ (p : OldPlan). objective p.league.now (table_counts tally.table)) is.same
+
+pub IsDown-at : {R : Type 0} (E : Ghosts R) (plan other : OldPlan) (first start : Counts) (walk : Walk)
+    (tally : Tallied R) → other ≡ plan → first ≡ start → IsDown E other first walk tally
+    → IsDown E plan start walk tally
+IsDown-at {R} E plan other first start walk tally same counts is =
+    subst (λ (m : Counts). IsDown E plan m walk tally) counts
+    (subst (λ (p : OldPlan). IsDown E p first walk tally) same is)
+
+pub IsEnd-of : {R : Type 0} (E : Ghosts R) (plan : OldPlan) (start : Counts) (walk : Walk) (tally : Tallied R)
+    (schedule : List Game) (cost : ℕ) (settled : Bool) → IsDown E plan start walk tally
+    → counts_of schedule ≡ table_counts tally.table → All (IsGame plan.league.now.n) schedule → IsInOrder schedule
+    → cost ≡ objective plan.league.now (table_counts tally.table)
+    → IsTrue settled ↔ IsNearest plan.league.now plan.k plan.games.now (table_counts tally.table)
+    → IsEnd plan.league.now plan.k plan.games.now start
+    (record { schedule = schedule; objective = cost; settled = settled })
+IsEnd-of {R} E plan start walk tally schedule cost settled is counts fit order costs says =
+    let back : table_counts tally.table ≡ counts_of schedule = sym counts in
+    record {
+      accepted = subst (λ (m : Counts). IsAccepted plan.league.now m) back is.accepted;
+      keeps = subst (λ (m : Counts). Keeps start plan.k m) back is.keeps;
+      fit = fit;
+      in_order = order;
+      cost = subst (λ (m : Counts). cost ≡ objective plan.league.now m) back costs;
+      no_farther = subst
+          (λ (m : Counts). IsAtMost (changed_on plan.k plan.games.now m) cost
+          (changed_on plan.k plan.games.now start) (objective plan.league.now start))
+          back
+          (subst
+          (λ (price : ℕ). IsAtMost (changed_on plan.k plan.games.now (table_counts tally.table)) price
+          (changed_on plan.k plan.games.now start) (objective plan.league.now start))
+          (sym costs) is.no_farther);
+      settled = subst
+          (λ (m : Counts). IsTrue settled ↔ IsNearest plan.league.now plan.k plan.games.now m) back says;
+    }

@@ -1,0 +1,76 @@
+//! A descent from a season that is accepted.
+ghost use Rattle.std.specs.Prelude.{◌≡◌, ◌↔◌, ◌≤◌, length, IfOk, IsTrue};
+ghost use Rattle.std.specs.List.{All};
+ghost use Rattle.league.specs.Accepted.{IsAccepted};
+ghost use Rattle.league.specs.Counts.{counts_of};
+ghost use Rattle.league.specs.Instance.{IsGame};
+ghost use Rattle.kept_descent.specs.Nearing.{IsEnd, IsNearest};
+
+use crate::plan::OldPlan;
+use crate::walk::Walk;
+use descent::season_of;
+use league::Schedule;
+use robin_watch::Watch;
+use rule_core::{Plain, Steps};
+use std::alloc::{AllocError, Global};
+use tally::league_tally;
+
+/// The season at the end of a descent, in order, with its objective, and whether it is settled.
+#[derive(Drop)]
+pub struct Nearest {
+    pub schedule: Schedule,
+    pub objective: u128,
+    pub settled: bool,
+}
+
+/// The season to which a descent of at most 10,000 moves leads from an accepted one: each move leaves the slots below k
+/// alone and leads to an accepted season that changes fewer games of the old plan, or as many at a lower cost. After a
+/// move it goes on with the move behind it, and it ends after one whole round of all moves of which none does so. The
+/// watch may end it; it is asked behind each move.
+///
+/// # Errors
+/// Only where memory runs out.
+pub fn descend_near<W: Watch>(
+    alloc: Global,
+    plan: OldPlan<'_>,
+    start: &Schedule,
+    watch: &W,
+) -> Result<Nearest, AllocError>
+    requires plan_few { length plan.games.now ≤ 10000 }
+    requires plan_fit { All (IsGame plan.league.now.n) plan.games.now }
+    requires few { length start.now ≤ 10000 }
+    requires fit { All (IsGame plan.league.now.n) start.now }
+    requires accepted { IsAccepted plan.league.now (counts_of start.now) }
+    ensures { IfOk result (IsEnd plan.entry.league.now plan.entry.k plan.entry.games.now (counts_of start.now)) }
+{
+    let mut steps = Steps::<Plain>::start();
+    let mut tally = league_tally(alloc, plan.league, 1, start.games(), &mut steps)?;
+    let mut walk = Walk::new(alloc, plan, start)?;
+    let settled = walk.go_down(&mut tally, &mut steps, watch);
+    let schedule = season_of(alloc, plan.league.phased(), tally.cells())?;
+    Ok(Nearest {
+        schedule,
+        objective: tally.objective(),
+        settled,
+    })
+}
+
+/// Whether an accepted season is settled: whether no single move that leaves the slots below k alone leads to an
+/// accepted season that changes fewer games of the old plan, or as many at a lower cost.
+///
+/// # Errors
+/// Only where memory runs out.
+pub fn is_settled(alloc: Global, plan: OldPlan<'_>, season: &Schedule) -> Result<bool, AllocError>
+    requires plan_few { length plan.games.now ≤ 10000 }
+    requires plan_fit { All (IsGame plan.league.now.n) plan.games.now }
+    requires few { length season.now ≤ 10000 }
+    requires fit { All (IsGame plan.league.now.n) season.now }
+    requires accepted { IsAccepted plan.league.now (counts_of season.now) }
+    ensures { IfOk result (λ settled. IsTrue settled
+        ↔ IsNearest plan.entry.league.now plan.entry.k plan.entry.games.now (counts_of season.now)) }
+{
+    let mut steps = Steps::<Plain>::start();
+    let mut tally = league_tally(alloc, plan.league, 1, season.games(), &mut steps)?;
+    let mut walk = Walk::new(alloc, plan, season)?;
+    Ok(walk.find(&mut tally, &mut steps).is_none())
+}

@@ -1,0 +1,61 @@
+use Rattle.std.proofs.Common.{ℕ, subst, sym, ◌∙◌}
+use Rattle.league.specs.Counts.{counts_of}
+use Rattle.kept_descent.specs.Nearing.{IsEnd}
+use Rattle.resume.specs.Answers.{IsResumed, IsResumedSeason}
+use Rattle.resume.specs.Near.{IsAtMost, IsNoFarther, changed}
+use Rattle.resume.specs.declared.near.Neared.{Neared}
+use Rattle.resume.specs.declared.resumed.Resumed.{Resumed}
+use Rattle.resume.specs.declared.resumed.Resumed.TheVariants.{Schedule}
+use Rattle.resume.proofs.near.descended.Goals as goal
+
+pub descend_near-requires-clause-accepted : goal.descend_near-requires-clause-accepted
+descend_near-requires-clause-accepted g c =
+    let season : IsResumedSeason c.args.season.league.now c.args.season.played.now c.args.season.k c.in-Schedule.schedule
+    c.in-Schedule.objective =
+    subst
+    (λ (answer : Resumed). IsResumed c.args.season.league.now c.args.season.played.now c.args.season.k
+    c.requires.answer.0 answer)
+    c.in-Schedule.is c.requires.answer.1 in
+    rw c.plan.ensures.league season.resumes.accepted
+
+pub returns-in_ok-end-in-Schedule-clause-answer : goal.returns-in_ok-end-in-Schedule-clause-answer
+returns-in_ok-end-in-Schedule-clause-answer g c = λ conflicts first.
+    let league = c.args.season.league.now in
+    let played = c.args.season.played.now in
+    let k = c.args.season.k in
+    let end = c.in_ok-end-in-Schedule.end in
+    let season : IsResumedSeason league played k c.in-Schedule.schedule c.in-Schedule.objective =
+    subst (λ (answer : Resumed). IsResumed league played k conflicts answer) c.in-Schedule.is first in
+    let ends : IsEnd league k played (counts_of c.in-Schedule.schedule) end =
+    rw c.plan.ensures.league at (rw c.plan.ensures.k at (rw c.plan.ensures.games at c.in_ok-end-in-Schedule.ensures)) in
+    let last : IsResumedSeason league played k end.schedule end.objective = record {
+      resumes = record {
+        accepted = ends.accepted;
+        keeps = λ i j s below. ends.keeps i j s below ∙ season.resumes.keeps i j s below;
+      };
+      fit = ends.fit;
+      in_order = ends.in_order;
+      cost = ends.cost;
+    } in
+    subst (λ (near : Neared). IsResumed league played k conflicts near.answer) (sym c.end_reached.ensures) last
+
+pub returns-in_ok-end-in-Schedule-clause-no_farther : goal.returns-in_ok-end-in-Schedule-clause-no_farther
+returns-in_ok-end-in-Schedule-clause-no_farther g c =
+    let league = c.args.season.league.now in
+    let played = c.args.season.played.now in
+    let k = c.args.season.k in
+    let end = c.in_ok-end-in-Schedule.end in
+    let season : IsResumedSeason league played k c.in-Schedule.schedule c.in-Schedule.objective =
+    subst (λ (answer : Resumed). IsResumed league played k c.requires.answer.0 answer) c.in-Schedule.is
+    c.requires.answer.1 in
+    let ends : IsEnd league k played (counts_of c.in-Schedule.schedule) end =
+    rw c.plan.ensures.league at (rw c.plan.ensures.k at (rw c.plan.ensures.games at c.in_ok-end-in-Schedule.ensures)) in
+    let most : IsAtMost (changed k played end.schedule) end.objective (changed k played c.in-Schedule.schedule)
+    c.in-Schedule.objective =
+    subst
+    (λ (cost : ℕ). IsAtMost (changed k played end.schedule) end.objective (changed k played c.in-Schedule.schedule) cost)
+    (sym season.cost) ends.no_farther in
+    subst (λ (answer : Resumed). IsNoFarther k played answer c.end_reached.result.answer) (sym c.in-Schedule.is)
+    (subst
+    (λ (near : Neared). IsNoFarther k played (Schedule c.in-Schedule.schedule c.in-Schedule.objective) near.answer)
+    (sym c.end_reached.ensures) most)
