@@ -301,8 +301,8 @@ def listen(side, told):
             line += os.read(side, 4096)
             *whole_lines, line = line.split(b"\r")
             for one in whole_lines:
-                if b"best objective " in one:
-                    told.append((time.monotonic(), int(one.split(b"best objective ")[1].split(b",")[0])))
+                if b"best " in one:
+                    told.append((time.monotonic(), int(one.split(b"best ")[1].split(b" ")[0])))
     except OSError:
         pass
 
