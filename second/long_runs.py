@@ -195,13 +195,23 @@ def interrupted(command, words, checks, asked, times=1):
 
 def crowded(path):
     """Twenty teams, of which the first may not be at home in 20 slots of 38: a conflict of 20 members, each of which takes a search."""
-    teams = "".join('<team id="%d"/>' % team for team in range(20))
-    slots = "".join('<slot id="%d"/>' % slot for slot in range(38))
-    away = "".join('<CA1 teams="0" max="0" mode="H" slots="%d" type="HARD"/>\n' % slot for slot in range(20))
+    write_league(path, 20, ['<CA1 teams="0" max="0" mode="H" slots="%d" type="HARD"/>' % slot for slot in range(20)])
+
+
+def wished(path):
+    """Forty teams, each of which would rather not be at home, or away, in 30 slots: the textbook season is accepted, and a long descent begins there."""
+    wish = '<CA1 teams="%d" max="0" mode="%s" slots="%d" type="SOFT" penalty="%d"/>'
+    write_league(path, 40, [wish % (team, "HA"[(team + k) * 7 % 5 % 2], (team * 37 + k * 11) % 78, 1 + (team + k) % 10) for team in range(40) for k in range(30)])
+
+
+def write_league(path, n, wishes):
+    """A league of n teams with these CA1."""
+    teams = "".join('<team id="%d"/>' % team for team in range(n))
+    slots = "".join('<slot id="%d"/>' % slot for slot in range(2 * n - 2))
     text = FEW_BREAKS.replace(">P<", "><") % (teams, slots, "0", "0")
     first, last = text.index("<BreakConstraints>"), text.index("</Constraints>")
     with open(path, "w") as file:
-        file.write(text[:first] + "<CapacityConstraints>\n" + away + "</CapacityConstraints>\n" + text[last:])
+        file.write(text[:first] + "<CapacityConstraints>\n" + "\n".join(wishes) + "\n</CapacityConstraints>\n" + text[last:])
 
 
 def made_files(command, folder):
@@ -254,7 +264,7 @@ def by_launcher(launcher, files):
         (["solve", MIDDLE, "--seconds", "60"], solved),
         (["trial", "16", "7", "--seconds", "60"], {0: ["validate", league], 4: ["check", league]}),
         (["prove", league, season], {0: ["bound", league], 9: ["validate", league]}),
-        (["resume", MIDDLE, circle, "20"], {0: ["validate", MIDDLE], 4: ["audit", MIDDLE, circle, "20"]}),
+        (["resume", MIDDLE, circle, "2"], {0: ["validate", MIDDLE], 4: ["audit", MIDDLE, circle, "2"]}),
         (["explain", crowd], {0: ["validate", crowd], 4: ["explain", crowd]}),
     ]
     for words, checks in cases:
@@ -317,7 +327,7 @@ def same_text(command, words):
     """The text is the same, whoever hears how the run goes. Only what is said of a conflict comes on standard error with `--quiet` too."""
     print(" ".join(os.path.basename(word) for word in words))
     whole = subprocess.run(command + words + ["--quiet"], capture_output=True, cwd=TOP)
-    say("--quiet: standard error is empty", "it isn't" if b" s: " in whole.stderr or whole.stderr and whole.returncode != 4 else None)
+    say("--quiet: standard error is empty", "it isn't" if re.search(rb"robin: [0-9]", whole.stderr) or whole.stderr and whole.returncode != 4 else None)
     words = command + words
     closed = subprocess.run(["sh", "-c", '"$@" 2>&-', "sh"] + words, stdout=subprocess.PIPE, cwd=TOP)
     say("2>&-: the same text", None if closed.stdout == whole.stdout and closed.returncode == whole.returncode else "another text")
@@ -385,7 +395,8 @@ def show(lines):
 
 def by_script(command):
     """A terminal's screen as `script` keeps it: each part of the line is seen, and the line keeps to one row, also where the terminal is narrow."""
-    for options, parts in ((["--tries", "4", "--moves", "4000"], ("number", "stage", "turns", "limit", "bar", "rate")), (["--seconds", "8"], ("seconds", "time", "best", "rate"))):
+    cases = [(["--tries", "3", "--moves", "2000"], ("number", "stage", "turns", "limit", "bar", "rate")), (["--seconds", "8"], ("seconds", "time", "best", "rate"))]
+    for options, parts in cases:
         words = " ".join(map(shlex.quote, command + ["solve", EASY_FOR_WALKS, *options]))
         with tempfile.NamedTemporaryFile("rb") as file:
             subprocess.run(["script", "-q", "-e", "-c", words + " >/dev/null", file.name], stdin=subprocess.DEVNULL, stdout=subprocess.DEVNULL, cwd=TOP)
@@ -425,7 +436,7 @@ def more_time(command, league):
 
 def told_of(command, words, front):
     """What a command tells on a terminal in four seconds; one line has this front behind the seconds."""
-    _, screen = on_terminal(command + words + ["--conflicts", "all", "--seconds", "4"])
+    _, screen = on_terminal(command + words + ["--seconds", "4"])
     lines = progress.lines_of(screen)
     fault = progress.fault_of(lines) or (None if any(re.search("s( \\[[# ]*\\])?: " + front, line) for line in lines) else "no such line")
     say("%s on a terminal: %s" % (words[0], front), fault, "%d times" % len(lines))
@@ -435,10 +446,10 @@ def told_of(command, words, front):
 def told_by_others(command, files):
     """The lines of `prove`, of `explain` and of `resume`."""
     league, season, circle, crowd = files
-    told_of(command, ["prove", league, season], "proving at least [0-9]+, search, [0-9]+ conflicts, [0-9.]+/s")
-    told_of(command, ["explain", crowd], "[0-9]+ members still to be tried, ")
-    told_of(command, ["resume", MIDDLE, circle, "20"], "search, [0-9]+ conflicts")
-    told_of(command, ["resume", MIDDLE, circle, "2", "--near"], "")
+    told_of(command, ["prove", league, season, "--conflicts", "all"], "proving at least [0-9]+, search, [0-9]+ conflicts, [0-9.]+/s")
+    told_of(command, ["explain", crowd, "--conflicts", "all"], "[0-9]+ members still to be tried, ")
+    told_of(command, ["resume", MIDDLE, circle, "2", "--conflicts", "all"], "search, [0-9]+ conflicts")
+    told_of(command, ["resume", MIDDLE, circle, "2", "--near", "--conflicts", "100"], "try [0-9]+, walk on hard constraints, infeasibility")
 
 
 def killed_at(command, words, pattern):
@@ -463,10 +474,8 @@ def killed_at(command, words, pattern):
 
 def killed(command, folder):
     """SIGKILL in a descent and in a walk: the file holds the season from which it began, or a later one; before any season there is none."""
-    league, out = (os.path.join(folder, name) for name in ("forty.xml", "best.xml"))
-    made = subprocess.run(command + ["make", "40", "1"], stdout=subprocess.PIPE, cwd=TOP).stdout
-    with open(league, "wb") as file:
-        file.write(made.replace(b'type="HARD"', b'type="SOFT"'))
+    league, out = (os.path.join(folder, name) for name in ("wished.xml", "best.xml"))
+    wished(league)
     cases = [
         (league, [], "descent, before it best [0-9]+ after [0-9]+ s, [1-9]", True),
         (EASY_FOR_WALKS, ["--seconds", "60"], "walk on the objective, best", True),

@@ -17,7 +17,7 @@ LINE = re.compile(
 def lines_of(screen):
     """The lines that were written to a terminal one over the other, without what steers it."""
     text = re.sub(rb"\x1b\[[?0-9]*[a-zA-Z]", b"", screen).decode("utf-8", "replace")
-    return [part.strip("\n") for part in text.split("\r") if part.startswith("robin: ")]
+    return [part.strip("\n") for part in text.split("\r") if re.match("robin: [0-9]", part)]
 
 
 def number(found, name):
