@@ -64,9 +64,10 @@ def drawn_words(rng, absent, kept):
         if rng.random() < 0.25:
             place = rng.randint(0, len(words))
             words[place:place] = more
-    # A text that is put into the file that isn't there would make it.
-    makes = any(pair[0] in ("--out", "--log") and pair[1] == absent for pair in zip(words, words[1:]))
-    return drawn_words(rng, absent, kept) if makes else words
+    # A text that is put into the file that isn't there, or into one of another folder, would stay there.
+    pairs = zip(words, words[1:])
+    stays = any(first in ("--out", "--log") and (name == absent or name.isalnum()) for first, name in pairs)
+    return drawn_words(rng, absent, kept) if stays else words
 
 
 def told_of(words):
