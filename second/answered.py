@@ -421,7 +421,7 @@ def stands(t):
 # Seasons near an old one.
 
 
-CHANGED = re.compile(rb"<!-- changed=(\d+) of=(\d+) -->\n")
+CHANGED = re.compile(rb"<!-- changed=(\d+) of=(\d+) settled=(?:yes|no) -->\n")
 
 
 def near_fault(instance, solution, k, limit, ran):

@@ -93,7 +93,7 @@ ENDS = {
     ("prove", 9): r"<\?xml .*</Solution>\n",
     ("bound", 0): r"accepted bound (0 steps 0|[1-9]\d* steps \d+)\n",
     ("bound", 1): REJECTED,
-    ("resume", 0): r"<\?xml .*</Solution>\n(<!-- changed=\d+ of=\d+ -->\n)?",
+    ("resume", 0): r"<\?xml .*</Solution>\n(<!-- changed=\d+ of=\d+ settled=(?:yes|no) -->\n)?",
     ("resume", 4): LOG,
     ("resume", 5): LOG,
     ("audit", 0): r"accepted steps \d+\n",
