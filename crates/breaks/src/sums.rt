@@ -6,7 +6,7 @@ ghost use Rattle.league.specs.Breaks as breaks;
 ghost use Rattle.league.specs.Breaks.{breaks_among, twice_in_a_row};
 ghost use Rattle.league.specs.Counts.{slot_count};
 ghost use Rattle.league.specs.declared.class.Side.TheVariants.{A, H};
-ghost use Rattle.cells.specs.Table.{table_counts};
+ghost use Rattle.rule_core.specs.Table.{table_counts};
 
 use crate::scope::Scope;
 use league::{Side, TeamId};

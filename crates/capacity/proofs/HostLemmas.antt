@@ -15,9 +15,9 @@ use Rattle.league.specs.declared.class.Side.{Side}
 use Rattle.league.specs.declared.class.Side.TheVariants.{H, A, Both}
 use Rattle.league.proofs.RangeLemmas.{range_with_len-more}
 use Rattle.league.proofs.SumLemmas.{sum_by-filter, sum_by-flat_map, sum_by-map, sum_by-same}
-use Rattle.cells.specs.Places.{hosts}
-use Rattle.cells.specs.declared.place.Place.{Place}
-use Rattle.cells.specs.declared.place.Place.TheVariants.{Home}
+use Rattle.rule_core.specs.Places.{hosts}
+use Rattle.rule_core.specs.declared.place.Place.{Place}
+use Rattle.rule_core.specs.declared.place.Place.TheVariants.{Home}
 use Rattle.league.specs.declared.game.TeamId.{TeamId}
 use Rattle.rule_core.proofs.OneLemmas.{all_zero, only_one, zero-mul}
 use Rattle.capacity.specs.Between.{can_host, counted, meetings_at_home}

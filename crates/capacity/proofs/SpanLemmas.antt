@@ -7,8 +7,8 @@ use Rattle.league.specs.Deviation.{spans}
 use Rattle.league.specs.Sets.{is_in}
 use Rattle.league.specs.declared.class.Span.{Span}
 use Rattle.league.specs.declared.class.Span.TheVariants.{Global, Every}
-use Rattle.keys.specs.Keys.{keys_where}
-use Rattle.keys.proofs.KeyLemmas.{keys_where-map, keys_where-same}
+use Rattle.rule_core.specs.Keys.{keys_where}
+use Rattle.rule_core.proofs.KeyLemmas.{keys_where-map, keys_where-same}
 
 -- the slots of an entry, of which each slot is one of these
 one_slot : (slots : List ℕ) (k : ℕ) → k < length slots → get_or (spans Every slots) k [] ≡ get_or slots k 0 ∷ []

@@ -4,9 +4,9 @@ use Rattle.league.specs.Sets.{is_in}
 use Rattle.league.specs.declared.game.Game.{Game}
 use Rattle.league.specs.declared.class.Side.{Side}
 use Rattle.league.specs.declared.class.Side.TheVariants.{H, A, Both}
-use Rattle.keys.specs.Keys.{keys_where}
+use Rattle.rule_core.specs.Keys.{keys_where}
 use Rattle.rule_core.specs.Touched.{plays_against}
-use Rattle.keys.proofs.KeyLemmas.{keys_where-none, keys_where-same}
+use Rattle.rule_core.proofs.KeyLemmas.{keys_where-none, keys_where-same}
 
 with_true : (p : Bool) → p ≡ (p && true)
 with_true true = refl

@@ -6,7 +6,7 @@ ghost use Rattle.league.specs.Deviation.{spans};
 ghost use Rattle.league.specs.Sets.{is_in};
 ghost use Rattle.league.specs.declared.class.Class.TheVariants as class;
 ghost use Rattle.capacity.specs.Between.{can_host};
-ghost use Rattle.keys.specs.Keys.{keys_where, with_keys};
+ghost use Rattle.rule_core.specs.Keys.{keys_where, with_keys};
 ghost use Rattle.rule_core.specs.Ready.{IsReady};
 
 use crate::opponents::Opponents;

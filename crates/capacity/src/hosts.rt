@@ -4,8 +4,8 @@ ghost use Rattle.std.specs.List.{All, filter};
 ghost use Rattle.league.specs.Capacity.{is_between};
 ghost use Rattle.league.specs.Counts.{Counts, slot_count, teams_of};
 ghost use Rattle.league.specs.Meetings.{games_of, meetings_of};
-ghost use Rattle.cells.specs.Places.{hosts};
-ghost use Rattle.cells.specs.Table.{table_counts};
+ghost use Rattle.rule_core.specs.Places.{hosts};
+ghost use Rattle.rule_core.specs.Table.{table_counts};
 ghost use Rattle.capacity.specs.Between.{can_host, counted, meetings_at_home};
 
 use crate::opponents::Opponents;

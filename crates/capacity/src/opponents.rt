@@ -5,8 +5,8 @@ ghost use Rattle.league.specs.Capacity.{meetings_with};
 ghost use Rattle.league.specs.Counts.{slot_count};
 ghost use Rattle.league.specs.Instance.{are_teams};
 ghost use Rattle.league.specs.Meetings.{games_of};
-ghost use Rattle.keys.specs.Keys.{keys_where, with_keys};
-ghost use Rattle.cells.specs.Table.{table_counts};
+ghost use Rattle.rule_core.specs.Keys.{keys_where, with_keys};
+ghost use Rattle.rule_core.specs.Table.{table_counts};
 ghost use Rattle.rule_core.specs.Touched.{plays_against};
 
 use league::{Game, Side, SlotId, TeamId, TeamSet};

@@ -3,7 +3,7 @@ ghost use Rattle.std.specs.Prelude.{◌≡◌, ◌<◌, ◌≤◌, length};
 ghost use Rattle.std.specs.List.{All, sum_by};
 ghost use Rattle.league.specs.Counts.{slot_count};
 ghost use Rattle.league.specs.Venues.{games_on};
-ghost use Rattle.cells.specs.Table.{table_counts};
+ghost use Rattle.rule_core.specs.Table.{table_counts};
 
 use league::{Side, SlotId, TeamId};
 use rule_core::Cells;

@@ -3,7 +3,7 @@ use Rattle.std.proofs.Common.{◌≡◌, ℕ, ◌+◌, ◌≤◌, List, arith}
 use Rattle.league.specs.Counts.{Counts, counts_of}
 use Rattle.league.specs.declared.game.Game.{Game}
 use Rattle.moves.specs.Round.{Edits, IsEdit, edited}
-use Rattle.cells.proofs.ListedLemmas.{same_counts}
+use Rattle.rule_core.proofs.ListedLemmas.{same_counts}
 
 -- counts to which an edit led
 abbrev pub AreExchanged : Counts → Counts → List Game → List Game → Type 0

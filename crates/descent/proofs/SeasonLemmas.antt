@@ -10,10 +10,10 @@ use Rattle.league.specs.declared.game.Game.{Game}
 use Rattle.league.proofs.RangeLemmas.{one_if}
 use Rattle.league.proofs.TableLemmas.{number-outside}
 use Rattle.league.proofs.CountLemmas.{counts_of-permutation, counts_of-push}
-use Rattle.cells.specs.Table.{Table, table_counts}
+use Rattle.rule_core.specs.Table.{Table, table_counts}
 use Rattle.moves.proofs.PlayLemmas.{met-itself, met-le-one, played}
 use Rattle.moves.proofs.RoundLemmas.{IsWithin}
-use Rattle.cells.proofs.ListedLemmas.{same_counts}
+use Rattle.rule_core.proofs.ListedLemmas.{same_counts}
 use Rattle.descent.specs.Walks.{AreSingle}
 
 -- ---- a table has no counts outside of its league

@@ -5,7 +5,7 @@ use Rattle.std.specs.List.{All, AllWithin}
 use Rattle.std.proofs.lemmas.Bool.{cases_lt}
 use Rattle.std.proofs.lemmas.List.{get_or_default, length-append}
 use Rattle.league.specs.Counts.{Counts}
-use Rattle.cells.specs.Table.{table_counts}
+use Rattle.rule_core.specs.Table.{table_counts}
 use Rattle.moves.specs.MoveList.{Moves}
 use Rattle.moves.specs.Moves.{IsOfLeague, moved}
 use Rattle.moves.specs.Neighbours.{all_moves}

@@ -3,7 +3,7 @@ use Rattle.std.specs.Prelude.{◌≡◌, ℕ, ◌<◌, ◌≤◌, Bool, List, le
 use Rattle.std.specs.List.{All}
 use Rattle.league.specs.Counts.{Counts}
 use Rattle.league.specs.Instance.{IsGame}
-use Rattle.cells.specs.Table.{table_counts}
+use Rattle.rule_core.specs.Table.{table_counts}
 use Rattle.moves.specs.Moves.{moved}
 use Rattle.moves.specs.Neighbours.{all_moves}
 use Rattle.moves.specs.Round.{Edits, IsEdit, round_counts}

@@ -5,7 +5,7 @@ ghost use Rattle.league.specs.Counts.{counts_of};
 ghost use Rattle.league.specs.Instance.{IsGame};
 ghost use Rattle.league.specs.Order.{IsInOrder};
 ghost use Rattle.league.specs.Structure.{IsRoundRobin};
-ghost use Rattle.cells.specs.Table.{table_counts};
+ghost use Rattle.rule_core.specs.Table.{table_counts};
 ghost use Rattle.descent.specs.Walks.{AreSingle};
 
 use league::{Game, Schedule, SlotId, TeamId};

@@ -4,7 +4,7 @@ ghost use Rattle.std.specs.List.{All};
 ghost use Rattle.league.specs.Counts.{counts_of};
 ghost use Rattle.league.specs.Instance.{IsGame, IsTeamCount};
 ghost use Rattle.league.specs.Structure.{IsRoundRobin};
-ghost use Rattle.cells.specs.Table.{table_counts};
+ghost use Rattle.rule_core.specs.Table.{table_counts};
 ghost use Rattle.moves.specs.Moves.{IsLegal, moved};
 ghost use Rattle.descent.specs.Score.{score_on};
 ghost use Rattle.descent.specs.Settled.{IsLowering, IsSettled};

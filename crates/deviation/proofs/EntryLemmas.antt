@@ -10,7 +10,7 @@ use Rattle.league.proofs.ListLemmas.{map-same}
 use Rattle.league.proofs.RangeLemmas.{one_if}
 use Rattle.league.specs.declared.class.Class.{Class}
 use Rattle.league.specs.declared.game.Game.{Game}
-use Rattle.cells.proofs.ListedLemmas.{same_counts}
+use Rattle.rule_core.proofs.ListedLemmas.{same_counts}
 
 -- a sum with one number more
 pub sum-push : (xs : List ℕ) (x : ℕ) → sum (xs ++ x ∷ []) ≡ sum xs + x

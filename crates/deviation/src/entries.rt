@@ -1,7 +1,7 @@
 //! The entries of a rule.
 ghost use Rattle.std.specs.Prelude.{◌≡◌, ◌≤◌, ◌+◌, map, IfOk};
 ghost use Rattle.std.specs.List.{range_with_len};
-ghost use Rattle.cells.specs.Table.{table_counts};
+ghost use Rattle.rule_core.specs.Table.{table_counts};
 
 use rule_core::{Cells, Rule, Steps};
 use std::alloc::{AllocError, Global};

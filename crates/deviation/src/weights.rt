@@ -7,7 +7,7 @@ ghost use Rattle.league.specs.Deviation.{vector_of};
 ghost use Rattle.league.specs.Instance.{Instance, class_fits};
 ghost use Rattle.league.specs.declared.class.Constraint.{Constraint};
 ghost use Rattle.league.specs.declared.game.Game.{Game};
-ghost use Rattle.cells.specs.Table.{table_counts};
+ghost use Rattle.rule_core.specs.Table.{table_counts};
 ghost use Rattle.deviation.specs.Assess.{AreAtMost, AreWeightsOf};
 
 use crate::any_rule::AnyRule;

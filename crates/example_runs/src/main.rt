@@ -32,9 +32,9 @@ mod plans;
 
 use league::{Game, Schedule, SlotId, TeamId};
 use robinx_write::solution_text;
+use rule_core::{Plain, Steps};
 use std::io;
 use std::mem::size_of;
-use steps::{Plain, Steps};
 
 /// Follows the lines of standard input, and then shows the other examples.
 fn main(rt: HostRuntime) -> io::Result<()> {

@@ -14,7 +14,7 @@ use Rattle.league.specs.Sets.{IsAscending}
 use Rattle.league.proofs.FitLemmas.{are_slots-ascending, are_slots-below, are_teams-below}
 use Rattle.rule_core.specs.Ready.{entry_count}
 use Rattle.rule_core.proofs.ReadyLemmas.{are_slots-few}
-use Rattle.keys.proofs.PairLemmas.{pair_read}
+use Rattle.rule_core.proofs.PairLemmas.{pair_read}
 use Rattle.fairness.specs.Fa2.{class_of}
 use Rattle.fairness.specs.declared.fa2.Fa2.{Fa2}
 

@@ -7,7 +7,7 @@ ghost use Rattle.league.specs.Counts.{slot_count};
 ghost use Rattle.league.specs.Fairness.{fa2_entry};
 ghost use Rattle.league.specs.Sets.{IsAscending};
 ghost use Rattle.league.specs.Venues.{home_games};
-ghost use Rattle.cells.specs.Table.{table_counts};
+ghost use Rattle.rule_core.specs.Table.{table_counts};
 
 use league::{SlotId, TeamId};
 use rule_core::Cells;

@@ -7,7 +7,7 @@ ghost use Rattle.league.specs.Counts.{Counts, slot_count};
 ghost use Rattle.league.specs.Fairness.{fa2_entry};
 ghost use Rattle.league.specs.Grid.{entry};
 ghost use Rattle.league.specs.Sets.{IsAscending};
-ghost use Rattle.cells.specs.Table.{table_counts};
+ghost use Rattle.rule_core.specs.Table.{table_counts};
 ghost use Rattle.fairness.specs.Played.{IsPlayed};
 
 use crate::leads::homes_in;

@@ -16,10 +16,10 @@ use Rattle.league.specs.declared.game.TeamId.{TeamId}
 use Rattle.league.proofs.RangeLemmas.{one_if}
 use Rattle.league.proofs.SetLemmas.{less_than}
 use Rattle.league.proofs.SumLemmas.{sum_by-add, sum_by-same}
-use Rattle.cells.specs.Meetings.{is_listed}
-use Rattle.cells.specs.Places.{hosts}
-use Rattle.cells.specs.declared.place.Place.{Place}
-use Rattle.cells.specs.declared.place.Place.TheVariants.{Home}
+use Rattle.rule_core.specs.Meetings.{is_listed}
+use Rattle.rule_core.specs.Places.{hosts}
+use Rattle.rule_core.specs.declared.place.Place.{Place}
+use Rattle.rule_core.specs.declared.place.Place.TheVariants.{Home}
 use Rattle.rule_core.proofs.OneLemmas.{all_zero, only_one, zero-mul}
 use Rattle.games.specs.BySlot.{listed, listed_games}
 

@@ -5,7 +5,7 @@ use Rattle.std.specs.List.{All, list_all}
 use Rattle.league.specs.Instance.{are_meetings, are_slots, is_meeting}
 use Rattle.league.specs.Sets.{IsAscending, ascends, pair_cmp}
 use Rattle.league.proofs.AscendingLemmas.{IsAscending-ascends}
-use Rattle.cells.proofs.KeptMeetingLemmas.{meetings-teams}
+use Rattle.rule_core.proofs.KeptMeetingLemmas.{meetings-teams}
 use Rattle.games.specs.declared.ga1.Ga1.{Ga1}
 
 meetings_fit : (r : Ga1) → are_meetings r.meetings.n r.meetings.list ≡ true

@@ -2,7 +2,7 @@
 use Rattle.std.specs.Prelude.{ℕ, ◌*◌, if◌then◌else◌, List}
 use Rattle.std.specs.List.{sum_by}
 use Rattle.league.specs.Counts.{Counts, teams_of}
-use Rattle.cells.specs.Meetings.{is_listed}
+use Rattle.rule_core.specs.Meetings.{is_listed}
 
 -- how often a meeting of team i with team j is one of these: once or never
 abbrev pub listed : List (ℕ × ℕ) → ℕ → ℕ → ℕ

@@ -4,8 +4,8 @@ ghost use Rattle.std.specs.List.{All, sum_by};
 ghost use Rattle.league.specs.Counts.{Counts, slot_count, teams_of};
 ghost use Rattle.league.specs.Meetings.{games_of};
 ghost use Rattle.league.specs.Sets.{IsAscending, pair_cmp};
-ghost use Rattle.cells.specs.Places.{hosts};
-ghost use Rattle.cells.specs.Table.{table_counts};
+ghost use Rattle.rule_core.specs.Places.{hosts};
+ghost use Rattle.rule_core.specs.Table.{table_counts};
 ghost use Rattle.games.specs.BySlot.{listed, listed_games};
 
 use league::{SlotId, TeamId};

@@ -56,7 +56,7 @@ impl Ga1 {
 
 impl Ga1 {
     ghost use Rattle.league.specs.Meetings.{games_of};
-    ghost use Rattle.cells.specs.Table.{table_counts};
+    ghost use Rattle.rule_core.specs.Table.{table_counts};
     ghost use Rattle.rule_core.specs.Touched.{is_host};
 
     /// Whether a team is at home in one of the meetings: a look-up for each team that can be its guest.

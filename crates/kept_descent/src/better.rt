@@ -1,7 +1,7 @@
 //! Whether a move leaves the first slots alone and betters a season.
 ghost use Rattle.std.specs.Prelude.{◌≡◌, ◌↔◌, ℕ, ◌+◌, ◌<◌, ◌≤◌, true, IsTrue, MatchOption};
 ghost use Rattle.std.specs.List.{All, list_all};
-ghost use Rattle.cells.specs.Table.{table_counts};
+ghost use Rattle.rule_core.specs.Table.{table_counts};
 ghost use Rattle.league.specs.Counts.{counts_of};
 ghost use Rattle.league.specs.Instance.{IsGame};
 ghost use Rattle.descent.specs.Walks.{IsFullEdit, KeepsGames};
@@ -14,10 +14,9 @@ ghost use Rattle.kept_descent.specs.Walks as walks;
 ghost use Rattle.kept_descent.specs.Walks.{IsBetter, IsGround};
 
 use crate::ground::Ground;
-use cells::Cells;
 use league::Game;
 use moves::{Edit, Swap, edit_of};
-use rule_core::{Rule, Steps};
+use rule_core::{Cells, Rule, Steps};
 use tally::{Sums, Tally};
 
 /// Whether each of some games takes place from slot k on.

@@ -1,7 +1,7 @@
 //! What moves are tried on.
 use crate::plan::OldPlan;
-use cells::Cells;
 use moves::Board;
+use rule_core::Cells;
 
 /// An old plan with the counts of its games, and a season on a board.
 #[derive(Drop)]

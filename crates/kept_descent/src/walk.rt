@@ -1,7 +1,7 @@
 //! A walk over all moves that leaves the first slots alone, and goes on from where it stands.
 ghost use Rattle.std.specs.Prelude.{◌≡◌, ◌≢◌, ◌↔◌, ℕ, ◌+◌, ◌<◌, ◌≤◌, [], length, MatchOption, IfOk, IfSome, IsTrue, slice_index_or};
 ghost use Rattle.std.specs.List.{All, AllWithin};
-ghost use Rattle.cells.specs.Table.{table_counts};
+ghost use Rattle.rule_core.specs.Table.{table_counts};
 ghost use Rattle.league.specs.Accepted.{IsAccepted};
 ghost use Rattle.league.specs.Counts.{counts_of};
 ghost use Rattle.league.specs.Instance.{IsGame, IsTeamCount};

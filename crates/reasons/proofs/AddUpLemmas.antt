@@ -20,7 +20,7 @@ use Rattle.league.specs.declared.class.Span.{Span}
 use Rattle.league.specs.declared.game.Game.{Game}
 use Rattle.league.proofs.AscendingLemmas.{IsAscending-ascends}
 use Rattle.league.proofs.FitLemmas.{are_slots-ascending, are_teams-ascending}
-use Rattle.cells.specs.Meetings.{is_listed}
+use Rattle.rule_core.specs.Meetings.{is_listed}
 use Rattle.reasons.specs.Counting.{counts_in_ca4, counts_in_ga1}
 use Rattle.reasons.specs.Laws.{AddUp}
 use Rattle.reasons.specs.Reasons.{reasons_at}

@@ -21,7 +21,7 @@ use Rattle.league.proofs.MemberLemmas.{is_in-no}
 use Rattle.league.proofs.OneTermLemmas.{sum_by-all_none}
 use Rattle.league.proofs.RangeLemmas.{one_if}
 use Rattle.league.proofs.SumLemmas.{sum_by-add, sum_by-filter, sum_by-map, sum_by-same}
-use Rattle.keys.proofs.KeyLemmas.{ascending-tail, later_differ}
+use Rattle.rule_core.proofs.KeyLemmas.{ascending-tail, later_differ}
 use Rattle.rule_core.specs.Touched.{plays_on}
 
 -- a list with a game more before it

@@ -14,9 +14,9 @@ use Rattle.league.specs.declared.class.Class.{Class}
 use Rattle.league.specs.declared.class.Class.TheVariants.{Ca1, Ca2, Ca3, Ca4, Ga1, Br1, Br2, Fa2, Se1}
 use Rattle.league.specs.declared.game.Game.{Game}
 use Rattle.league.proofs.MemberLemmas.{is_in-no, is_in-yes}
-use Rattle.cells.specs.Meetings.{is_listed}
-use Rattle.keys.specs.Keys.{keys_where, places_from}
-use Rattle.keys.proofs.KeyLemmas.{places_from-has}
+use Rattle.rule_core.specs.Meetings.{is_listed}
+use Rattle.rule_core.specs.Keys.{keys_where, places_from}
+use Rattle.rule_core.proofs.KeyLemmas.{places_from-has}
 use Rattle.rule_core.specs.Touched.{plays_against, plays_on, touched_keys}
 use Rattle.reasons.specs.Counting.{counts_in_ca1, counts_in_ca2, counts_in_ca4, counts_in_ga1}
 use Rattle.reasons.specs.Laws.{ListAllTouching, games_in}

@@ -15,7 +15,7 @@ use Rattle.league.proofs.MeetingLemmas.{sum_by-meetings_of}
 use Rattle.league.proofs.OneTermLemmas.{sum_by-range_one}
 use Rattle.league.proofs.RangeLemmas.{one_if}
 use Rattle.league.proofs.SumLemmas.{sum_by-filter}
-use Rattle.cells.specs.Meetings.{is_listed}
+use Rattle.rule_core.specs.Meetings.{is_listed}
 use Rattle.reasons.proofs.CountLemmas.{times, zeros}
 
 -- ---- GA1: meetings in ascending order

@@ -7,7 +7,7 @@ use Rattle.league.specs.Meetings.{pairs_of}
 use Rattle.league.specs.declared.class.Class.{Class}
 use Rattle.league.specs.declared.class.Class.TheVariants.{Fa2, Se1}
 use Rattle.league.proofs.FitLemmas.{are_teams-below}
-use Rattle.keys.proofs.PairLemmas.{pairs_of-below}
+use Rattle.rule_core.proofs.PairLemmas.{pairs_of-below}
 use Rattle.rule_core.specs.Ready.{entry_count}
 
 pub pair-first : (i : ℕ) (teams : List ℕ) (key d : ℕ) → key < length teams → get_or (pairs_of (i ∷ teams)) key (0, 0) ≡ (i, get_or teams key d)

@@ -22,10 +22,10 @@ use Rattle.league.specs.declared.class.Span.{Span}
 use Rattle.league.specs.declared.game.Game.{Game}
 use Rattle.league.proofs.MemberLemmas.{is_in-yes}
 use Rattle.league.proofs.OneTermLemmas.{All-flat_map}
-use Rattle.cells.specs.Meetings.{is_listed}
-use Rattle.keys.specs.Keys.{keys_where}
-use Rattle.keys.specs.Pairs.{has_team, keys_with}
-use Rattle.keys.proofs.KeyLemmas.{places_from-has}
+use Rattle.rule_core.specs.Meetings.{is_listed}
+use Rattle.rule_core.specs.Keys.{keys_where}
+use Rattle.rule_core.specs.Pairs.{has_team, keys_with}
+use Rattle.rule_core.proofs.KeyLemmas.{places_from-has}
 use Rattle.rule_core.specs.Touched.{can_break, plays_against, plays_on, touched_keys}
 use Rattle.reasons.specs.Counting.{counts_in_break, counts_in_ca1, counts_in_ca2, counts_in_ca3, counts_in_ca4, counts_in_fa2, counts_in_ga1, counts_in_se1}
 use Rattle.reasons.specs.Laws.{ListTouching, games_in}

@@ -4,7 +4,7 @@ use Rattle.league.specs.Capacity.{is_between}
 use Rattle.league.specs.Sets.{is_in}
 use Rattle.league.specs.declared.class.Side.{Side}
 use Rattle.league.specs.declared.game.Game.{Game}
-use Rattle.cells.specs.Meetings.{is_listed}
+use Rattle.rule_core.specs.Meetings.{is_listed}
 use Rattle.rule_core.specs.Touched.{plays_against, plays_on}
 
 -- CA1, team i: its games on the side in the slots

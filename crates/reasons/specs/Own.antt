@@ -4,7 +4,7 @@ use Rattle.std.specs.List.{filter, range_with_len}
 use Rattle.league.specs.Counts.{counts_of}
 use Rattle.league.specs.declared.class.Side.TheVariants.{Both}
 use Rattle.league.specs.declared.game.Game.{Game}
-use Rattle.cells.specs.Table.{table_counts}
+use Rattle.rule_core.specs.Table.{table_counts}
 use Rattle.rule_core.specs.Touched.{plays_on}
 use Rattle.reasons.specs.declared.season.Season.{Season}
 

@@ -4,7 +4,7 @@ ghost use Rattle.std.specs.List.{All, flat_map};
 ghost use Rattle.league.specs.Breaks as breaks;
 ghost use Rattle.league.specs.Counts.{slot_count};
 ghost use Rattle.league.specs.declared.class.Side.TheVariants.{Both};
-ghost use Rattle.cells.specs.Table.{table_counts};
+ghost use Rattle.rule_core.specs.Table.{table_counts};
 ghost use Rattle.reasons.specs.Own.{IsSeason};
 ghost use Rattle.reasons.specs.Reasons as specs;
 

@@ -3,7 +3,7 @@ ghost use Rattle.std.specs.Prelude.{◌≡◌, ◌<◌, ◌++◌, ◌==◌, leng
 ghost use Rattle.std.specs.List.{All, find};
 ghost use Rattle.league.specs.Bounds.{largest};
 ghost use Rattle.league.specs.Counts.{counts_of, slot_count};
-ghost use Rattle.cells.specs.Table.{table_counts};
+ghost use Rattle.rule_core.specs.Table.{table_counts};
 ghost use Rattle.reasons.specs.Own.{IsSeason};
 ghost use Rattle.reasons.specs.Reasons as specs;
 ghost use Rattle.reasons.specs.Runs as runs;

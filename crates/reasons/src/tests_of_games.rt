@@ -2,7 +2,7 @@
 ghost use Rattle.std.specs.Prelude.{◌≡◌};
 ghost use Rattle.league.specs.Capacity.{is_between};
 ghost use Rattle.league.specs.Sets.{is_in};
-ghost use Rattle.cells.specs.Meetings.{is_listed};
+ghost use Rattle.rule_core.specs.Meetings.{is_listed};
 ghost use Rattle.rule_core.specs.Touched.{plays_against, plays_on};
 ghost use Rattle.reasons.specs.Counting as counting;
 

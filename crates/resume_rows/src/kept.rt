@@ -3,7 +3,7 @@ ghost use Rattle.std.specs.Prelude.{◌≡◌, ◌+◌, ◌-◌, ◌*◌, ◌^�
 ghost use Rattle.std.specs.List.{All};
 ghost use Rattle.league.specs.Counts as counts;
 ghost use Rattle.league.specs.Meetings.{meetings_of};
-ghost use Rattle.cells.specs.Table.{table_counts};
+ghost use Rattle.rule_core.specs.Table.{table_counts};
 ghost use Rattle.encoding_base.specs.Ascending.{IsMeeting};
 ghost use Rattle.resume_rows.specs.Kept as kept;
 ghost use Rattle.resume_rows.specs.Kept.{kept_literal, kept_row};

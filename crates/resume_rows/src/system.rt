@@ -5,7 +5,7 @@ ghost use Rattle.league.specs.Counts as counts;
 ghost use Rattle.league.specs.Counts.{counts_of};
 ghost use Rattle.league.specs.Instance.{IsGame, IsInstance, IsTeamCount};
 ghost use Rattle.league.specs.Meetings.{meetings_of};
-ghost use Rattle.cells.specs.Table.{table_counts};
+ghost use Rattle.rule_core.specs.Table.{table_counts};
 ghost use Rattle.encoding_base.specs.Ascending.{IsMeeting};
 ghost use Rattle.encoding_base.specs.Known.{AreKnown};
 ghost use Rattle.encoding_base.specs.Variables.{var_count};

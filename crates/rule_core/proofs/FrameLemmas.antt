@@ -25,14 +25,14 @@ use Rattle.league.specs.declared.class.Span.{Span}
 use Rattle.league.specs.declared.game.Game.{Game}
 use Rattle.league.proofs.MemberLemmas.{is_in-lacks}
 use Rattle.league.proofs.SumLemmas.{sum_by-same, sum_by-same_in}
-use Rattle.keys.specs.Keys.{keys_where}
-use Rattle.cells.specs.Meetings.{is_listed}
-use Rattle.keys.specs.Pairs.{has_team, keys_with}
+use Rattle.rule_core.specs.Keys.{keys_where}
+use Rattle.rule_core.specs.Meetings.{is_listed}
+use Rattle.rule_core.specs.Pairs.{has_team, keys_with}
 use Rattle.rule_core.specs.Ready.{entry_count}
 use Rattle.rule_core.specs.Touched.{can_break, plays_against, plays_on, touched_keys}
 use Rattle.rule_core.proofs.BreakLemmas.{br1_entry-same, br2_entry-same, breaks_at-elsewhere, breaks_at-not_at_home, breaks_at-not_away, breaks_at-not_there}
 use Rattle.rule_core.proofs.GameLemmas.{games_on-elsewhere, games_on-not_at_home, games_on-not_away}
-use Rattle.keys.proofs.KeyLemmas.{if_lacks, keys_where-lacks, only_key-lacks}
+use Rattle.rule_core.proofs.KeyLemmas.{if_lacks, keys_where-lacks, only_key-lacks}
 use Rattle.rule_core.proofs.LeadLemmas.{all_before, apart, fa2_entry-same, home_played-same, not_first, not_second}
 use Rattle.rule_core.proofs.MeetingLemmas.{games_of-elsewhere, games_of-other_meeting, games_of-unlisted}
 use Rattle.rule_core.proofs.MutualLemmas.{plays, same_mutual_games}

@@ -10,7 +10,7 @@ use Rattle.league.specs.Bounds.{difference, excess}
 use Rattle.league.specs.Counts.{Counts}
 use Rattle.league.specs.Fairness.{fa2_entry, home_played}
 use Rattle.league.specs.Venues.{home_games}
-use Rattle.keys.specs.Pairs.{has_team}
+use Rattle.rule_core.specs.Pairs.{has_team}
 use Rattle.league.proofs.SumLemmas.{sum_by-same_in}
 
 -- a pair without a team

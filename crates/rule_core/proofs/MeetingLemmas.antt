@@ -11,7 +11,7 @@ use Rattle.league.specs.Meetings.{games_of}
 use Rattle.league.specs.declared.game.Game.{Game}
 use Rattle.league.proofs.MemberLemmas.{is_in-lacks}
 use Rattle.league.proofs.SumLemmas.{sum_by-same, sum_by-same_in}
-use Rattle.cells.specs.Meetings.{is_listed}
+use Rattle.rule_core.specs.Meetings.{is_listed}
 use Rattle.rule_core.proofs.OpponentLemmas.{one_more-other_away, one_more-other_home, one_more-other_slot}
 
 -- a game of another meeting has another home team or another away team

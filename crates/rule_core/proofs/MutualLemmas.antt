@@ -6,7 +6,7 @@ use Rattle.league.specs.Separation.{mutual_games}
 use Rattle.league.specs.declared.game.Game.{Game}
 use Rattle.league.proofs.ListLemmas.{flat_map-same}
 use Rattle.league.proofs.RangeLemmas.{one_if}
-use Rattle.keys.specs.Pairs.{has_team}
+use Rattle.rule_core.specs.Pairs.{has_team}
 
 -- whether a pair is that of the teams of a game
 abbrev pub plays : Game → ℕ × ℕ → Bool

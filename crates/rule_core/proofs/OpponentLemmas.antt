@@ -12,7 +12,7 @@ use Rattle.league.specs.declared.game.Game.{Game}
 use Rattle.league.specs.declared.class.Side.{Side}
 use Rattle.league.specs.declared.class.Side.TheVariants.{H, A, Both}
 use Rattle.league.proofs.SumLemmas.{sum_by-add, sum_by-same, sum_by-same_in}
-use Rattle.cells.proofs.OpponentLemmas.{at_home, games_of-one_slot, is_away}
+use Rattle.rule_core.proofs.TeamPlaceLemmas.{at_home, games_of-one_slot, is_away}
 
 -- a sum of zeros
 sum_by-none : (xs : List ℕ) → sum_by (λ x. 0) xs ≡ 0

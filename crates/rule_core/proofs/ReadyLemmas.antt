@@ -20,7 +20,7 @@ use Rattle.rule_core.specs.Ready.{IsReady, entry_count}
 use Rattle.rule_core.specs.Rule.{IsRuleOf}
 use Rattle.rule_core.specs.Touched.{is_watched, most_touched, touched_keys}
 use Rattle.rule_core.specs.declared.rule.Entries.{Ghosts}
-use Rattle.keys.proofs.PairLemmas.{pairs_of-few, slots-few, teams-few}
+use Rattle.rule_core.proofs.PairLemmas.{pairs_of-few, slots-few, teams-few}
 
 -- a league has few teams, and a season few slots
 pub are_teams-few : (n : ℕ) (teams : List ℕ) → n ≤ 40 → IsTrue (are_teams n teams) → length teams ≤ 40

@@ -21,13 +21,13 @@ use Rattle.league.specs.declared.class.Span.{Span}
 use Rattle.league.specs.declared.class.Span.TheVariants.{Global, Every}
 use Rattle.league.specs.declared.game.Game.{Game}
 use Rattle.league.proofs.FitLemmas.{are_slots-ascending, are_teams-ascending}
-use Rattle.keys.specs.Keys.{keys_where}
-use Rattle.cells.specs.Meetings.{is_listed}
-use Rattle.keys.specs.Pairs.{has_team, keys_with}
+use Rattle.rule_core.specs.Keys.{keys_where}
+use Rattle.rule_core.specs.Meetings.{is_listed}
+use Rattle.rule_core.specs.Pairs.{has_team, keys_with}
 use Rattle.rule_core.specs.Ready.{IsReady, entry_count}
 use Rattle.rule_core.specs.Touched.{can_break, most_touched, plays_against, plays_on, touched_keys}
-use Rattle.keys.proofs.KeyLemmas.{keys_where-ascending, keys_where-below, keys_where-le, keys_where-map, keys_where-one, keys_where-two}
-use Rattle.keys.proofs.PairLemmas.{key_between-few, keys_with-few}
+use Rattle.rule_core.proofs.KeyLemmas.{keys_where-ascending, keys_where-below, keys_where-le, keys_where-map, keys_where-one, keys_where-two}
+use Rattle.rule_core.proofs.PairLemmas.{key_between-few, keys_with-few}
 
 -- what holds of some keys and of none holds of the keys where a test passes
 where_passes : (P : List ℕ → Type 0) (test : Bool) (ks : List ℕ) → P ks → P [] → P (if test then ks else [])

@@ -12,11 +12,11 @@ use Rattle.league.specs.declared.class.Side.{Side}
 use Rattle.league.specs.declared.class.Side.TheVariants.{H, A, Both}
 use Rattle.league.specs.declared.game.Game.{Game}
 use Rattle.league.proofs.MemberLemmas.{is_in-lacks}
-use Rattle.cells.specs.Meetings.{is_listed}
-use Rattle.keys.specs.Keys.{keys_where}
-use Rattle.keys.specs.Pairs.{keys_with}
-use Rattle.keys.proofs.KeyLemmas.{keys_where-none}
-use Rattle.keys.proofs.PairLemmas.{key_between-no_first, keys_with-none}
+use Rattle.rule_core.specs.Meetings.{is_listed}
+use Rattle.rule_core.specs.Keys.{keys_where}
+use Rattle.rule_core.specs.Pairs.{keys_with}
+use Rattle.rule_core.proofs.KeyLemmas.{keys_where-none}
+use Rattle.rule_core.proofs.PairLemmas.{key_between-no_first, keys_with-none}
 use Rattle.rule_core.specs.Touched.{can_break, is_host, is_watched, plays_against, plays_on, touched_keys}
 use Rattle.rule_core.proofs.TouchedLemmas.{plays_against-either, plays_on-either}
 

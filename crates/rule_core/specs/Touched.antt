@@ -9,9 +9,9 @@ use Rattle.league.specs.declared.class.Class.TheVariants.{Ca1, Ca2, Ca3, Ca4, Ga
 use Rattle.league.specs.declared.class.Side.{Side}
 use Rattle.league.specs.declared.class.Side.TheVariants.{H, A, Both}
 use Rattle.league.specs.declared.game.Game.{Game}
-use Rattle.keys.specs.Keys.{keys_where}
-use Rattle.cells.specs.Meetings.{is_listed}
-use Rattle.keys.specs.Pairs.{key_between, keys_with}
+use Rattle.rule_core.specs.Keys.{keys_where}
+use Rattle.rule_core.specs.Meetings.{is_listed}
+use Rattle.rule_core.specs.Pairs.{key_between, keys_with}
 
 -- whether team i plays a game, at home, away, or at either's home
 abbrev pub plays_on : Side → Game → ℕ → Bool

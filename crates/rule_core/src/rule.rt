@@ -6,12 +6,12 @@ ghost use Rattle.std.specs.List.Sorted.{IsStrictlyIncreasing};
 ghost use Rattle.league.specs.Counts.{Counts, one_more};
 ghost use Rattle.league.specs.Instance.{IsGame};
 ghost use Rattle.league.specs.declared.game.Game.{Game};
-ghost use Rattle.cells.specs.Table.{table_counts};
+ghost use Rattle.rule_core.specs.Table.{table_counts};
 
-use cells::Cells;
-use keys::Keys;
+use crate::cells::Cells;
+use crate::keys::Keys;
+use crate::steps::Steps;
 use league::{Game, TeamId};
-use steps::Steps;
 
 /// The entries of a constraint's deviation vector, and which of them a game can change. No call takes memory.
 ///

@@ -1,5 +1,5 @@
 -- A season without where it lies in memory.
-use Rattle.cells.specs.Table.{table_counts}
+use Rattle.rule_core.specs.Table.{table_counts}
 use Rattle.season_grid.specs.Grid as grid
 use Rattle.season_grid.specs.declared.season.Season.{Season}
 

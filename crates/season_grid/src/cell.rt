@@ -3,11 +3,11 @@ ghost use Rattle.std.specs.Prelude.{◌≡◌, ◌<◌, ◌≤◌, IfOk, string_
 ghost use Rattle.league.specs.Breaks as breaks;
 ghost use Rattle.league.specs.declared.class.Side.TheVariants.{Both};
 ghost use Rattle.league.specs.Counts.{slot_count};
-ghost use Rattle.cells.specs.Table.{table_counts};
+ghost use Rattle.rule_core.specs.Table.{table_counts};
 ghost use Rattle.season_grid.specs.Cell as cell;
 
-use cells::Cells;
 use league::{SlotId, TeamId};
+use rule_core::Cells;
 use std::alloc::{AllocError, Global};
 
 /// The first team that a team is at home to in a slot, or n where there is none.

@@ -1,6 +1,6 @@
 //! A season with the names of its league.
-use cells::Cells;
 use robinx_names::Names;
+use rule_core::Cells;
 
 /// The games of a season, counted, and the names of its league, which is phased or not.
 #[derive(Drop)]

@@ -4,12 +4,12 @@ ghost use Rattle.std.specs.List.{range_with_len};
 ghost use Rattle.league.specs.Counts.{slot_count, slots_of};
 ghost use Rattle.league.specs.Structure.{first_half};
 ghost use Rattle.league.specs.Venues.{away_games, home_games};
-ghost use Rattle.cells.specs.Table.{table_counts};
+ghost use Rattle.rule_core.specs.Table.{table_counts};
 ghost use Rattle.season_grid.specs.Tallies as tallies;
 
 use crate::cell::breaks_at;
-use cells::Cells;
 use league::{SlotId, TeamId};
+use rule_core::Cells;
 
 /// The home games of a team in so many slots from one on.
 fn home_among(cells: &Cells, team: TeamId, first: u16, slots: u16) -> u32

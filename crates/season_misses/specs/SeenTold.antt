@@ -5,7 +5,7 @@ use Rattle.league.specs.Counts.{counts_of}
 use Rattle.league.specs.Deviation.{vector_of}
 use Rattle.league.specs.Instance.{IsGame}
 use Rattle.league.specs.Order.{IsInOrder}
-use Rattle.cells.specs.Table.{table_counts}
+use Rattle.rule_core.specs.Table.{table_counts}
 use Rattle.reasons.specs.Own.{games_by_team}
 use Rattle.season_misses.specs.declared.told.Told.{Told}
 

@@ -13,13 +13,13 @@ use Rattle.league.specs.Meetings.{pairs_of}
 use Rattle.league.specs.Separation.{lacking, se1_entry}
 use Rattle.league.specs.Sets.{IsAscending}
 use Rattle.league.proofs.SetLemmas.{less_than}
-use Rattle.cells.specs.Places.{hosts, visits}
-use Rattle.cells.specs.declared.place.Place.{Place}
-use Rattle.cells.specs.declared.place.Place.TheVariants.{Away, Free, Home}
+use Rattle.rule_core.specs.Places.{hosts, visits}
+use Rattle.rule_core.specs.declared.place.Place.{Place}
+use Rattle.rule_core.specs.declared.place.Place.TheVariants.{Away, Free, Home}
 use Rattle.league.specs.declared.game.TeamId.{TeamId}
 use Rattle.separation.specs.TeamGaps.{AreSummed, IsKept, IsPlaceOf, IsSummed, games_from, last_before}
 use Rattle.separation.specs.declared.team_gaps.TeamGaps.{TeamGaps}
-use Rattle.keys.proofs.KeyLemmas.{ascending-tail}
+use Rattle.rule_core.proofs.KeyLemmas.{ascending-tail}
 use Rattle.separation.proofs.GapLemmas.{slot_free, slot_played}
 
 -- the last game, where there is one, and where there is none

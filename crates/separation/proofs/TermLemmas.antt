@@ -8,7 +8,7 @@ use Rattle.league.specs.Counts.{Counts}
 use Rattle.league.specs.Deviation.{entry_of}
 use Rattle.league.specs.Meetings.{pairs_of}
 use Rattle.league.specs.Separation.{se1_entry}
-use Rattle.keys.proofs.PairLemmas.{pair_read}
+use Rattle.rule_core.proofs.PairLemmas.{pair_read}
 use Rattle.league.specs.declared.class.Class.TheVariants.{Se1}
 
 -- the entry of an SE1, by the pair that was read

@@ -5,8 +5,8 @@ use Rattle.std.specs.List.{All, flat_map, range_with_len}
 use Rattle.std.specs.Option.{option_to_list}
 use Rattle.league.specs.Counts.{Counts, slot_count}
 use Rattle.league.specs.Separation.{lacking, se1_entry}
-use Rattle.cells.specs.Places.{hosts, visits}
-use Rattle.cells.specs.declared.place.Place.{Place}
+use Rattle.rule_core.specs.Places.{hosts, visits}
+use Rattle.rule_core.specs.declared.place.Place.{Place}
 use Rattle.separation.specs.declared.team_gaps.TeamGaps.{TeamGaps}
 
 -- the slot of the last game, by the first slot after it: none where that is 0

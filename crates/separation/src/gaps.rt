@@ -3,8 +3,8 @@ ghost use Rattle.std.specs.Prelude.{◌≡◌, ◌<◌, ◌≤◌, ◌+◌, ◌*
 ghost use Rattle.std.specs.Option.{option_to_list};
 ghost use Rattle.league.specs.Counts.{slot_count};
 ghost use Rattle.league.specs.Separation.{lacking, se1_entry};
-ghost use Rattle.cells.specs.Places.{hosts, visits};
-ghost use Rattle.cells.specs.Table.{table_counts};
+ghost use Rattle.rule_core.specs.Places.{hosts, visits};
+ghost use Rattle.rule_core.specs.Table.{table_counts};
 
 use league::{SlotId, TeamId};
 use rule_core::{Cells, Place};

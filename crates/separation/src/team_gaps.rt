@@ -7,8 +7,8 @@ ghost use Rattle.league.specs.Counts.{Counts, slot_count};
 ghost use Rattle.league.specs.Meetings.{pairs_of};
 ghost use Rattle.league.specs.Separation.{se1_entry};
 ghost use Rattle.league.specs.Sets.{IsAscending};
-ghost use Rattle.cells.specs.Places.{hosts, visits};
-ghost use Rattle.cells.specs.Table.{table_counts};
+ghost use Rattle.rule_core.specs.Places.{hosts, visits};
+ghost use Rattle.rule_core.specs.Table.{table_counts};
 ghost use Rattle.separation.specs.TeamGaps as specs;
 ghost use Rattle.separation.specs.TeamGaps.{AreSummed, IsKept, IsPlaceOf, IsSummed};
 

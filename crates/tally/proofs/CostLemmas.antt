@@ -6,8 +6,8 @@ use Rattle.std.proofs.lemmas.List.Sums.{sum_by-cons, sum_by-set, sum_by-take-le,
 use Rattle.std.specs.List.{All, filter, sum, sum_by}
 use Rattle.league.specs.Counts.{Counts}
 use Rattle.rule_core.specs.declared.rule.Entries.{Ghosts}
-use Rattle.keys.specs.Keys.{KeyList}
-use Rattle.cells.specs.Table.{Table, table_counts}
+use Rattle.rule_core.specs.Keys.{KeyList}
+use Rattle.rule_core.specs.Table.{Table, table_counts}
 use Rattle.tally.specs.Bench.{OnlyUsed}
 use Rattle.tally.specs.ByTeam.{GameRoom}
 use Rattle.tally.specs.Ready.{AreReady, IsExact, IsReady, IsTallied, hard_cost, soft_cost}

@@ -12,7 +12,7 @@ use Rattle.league.specs.Counts.{Counts, is_game, one_more}
 use Rattle.league.specs.Instance.{IsGame}
 use Rattle.league.specs.declared.game.Game.{Game}
 use Rattle.league.proofs.RangeLemmas.{one_if}
-use Rattle.cells.proofs.ListedLemmas.{same_counts}
+use Rattle.rule_core.proofs.ListedLemmas.{same_counts}
 use Rattle.tally.specs.KeySet.{is_in}
 use Rattle.tally.specs.Tallies.{with_games}
 use Rattle.tally.specs.Weighing.{renewed}

@@ -7,7 +7,7 @@ use Rattle.std.proofs.lemmas.Map.Keys.{IsDistinct-push}
 use Rattle.std.proofs.lemmas.Map.Steps.{length-le_from_distinct_below}
 use Rattle.std.specs.Cmp.{IsEquivalence}
 use Rattle.std.specs.List.{IsDistinct}
-use Rattle.keys.specs.Keys.{KeyList}
+use Rattle.rule_core.specs.Keys.{KeyList}
 use Rattle.tally.specs.KeySet.{AreMarked, is_in}
 
 distinct-nil : (eq : ℕ → ℕ → Bool) → IsDistinct eq []

@@ -2,7 +2,7 @@
 use Rattle.std.proofs.Common.{◌≡◌, ℕ, ◌+◌, ◌≤◌, inl, inr, arith}
 use Rattle.league.specs.Counts.{Counts, counts_of}
 use Rattle.moves.specs.Round.{AreApart, Edits, edited}
-use Rattle.cells.proofs.ListedLemmas.{same_counts}
+use Rattle.rule_core.proofs.ListedLemmas.{same_counts}
 
 -- the games put on are there, where none of them was taken off
 pub into_there : (before after : Counts) (edit : Edits) → AreApart edit → ((i j s : ℕ) → after i j s + counts_of edit.out i j s ≡ before i j s + counts_of edit.into i j s) → (i j s : ℕ) → counts_of edit.into i j s ≤ after i j s

@@ -4,7 +4,7 @@ use Rattle.std.specs.List.{All}
 use Rattle.league.specs.Counts.{Counts}
 use Rattle.league.specs.Instance.{IsGame}
 use Rattle.league.specs.declared.game.Game.{Game}
-use Rattle.cells.specs.Table.{Table, table_counts}
+use Rattle.rule_core.specs.Table.{Table, table_counts}
 use Rattle.tally.specs.ByTeam.{AreByTeam, GameRoom}
 use Rattle.tally.specs.Tallies.{with_games}
 

@@ -2,7 +2,7 @@
 use Rattle.std.specs.Prelude.{◌≡◌, ℕ, Bool, ◌||◌, false, eqb, List, length, slice_index_or}
 use Rattle.std.specs.List.{IsDistinct}
 use Rattle.std.specs.Set.{is_member}
-use Rattle.keys.specs.Keys.{KeyList}
+use Rattle.rule_core.specs.Keys.{KeyList}
 
 -- whether a key is one of these
 abbrev pub is_in : List ℕ → ℕ → Bool

@@ -6,7 +6,7 @@ use Rattle.league.specs.declared.game.TeamId.{TeamId}
 use Rattle.rule_core.specs.declared.rule.Entries.{Ghosts}
 use Rattle.tally.specs.ByTeam.{GameRoom}
 use Rattle.tally.specs.Tallies.{vector_on}
-use Rattle.cells.specs.Table.{Table, table_counts}
+use Rattle.rule_core.specs.Table.{Table, table_counts}
 use Rattle.tally.specs.declared.bench.Bench.{Bench}
 use Rattle.tally.specs.declared.kept.Kept.{Kept}
 use Rattle.tally.specs.declared.weigh.Sums.{Sums}

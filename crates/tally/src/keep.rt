@@ -1,7 +1,7 @@
 //! Rules made ready: their entries evaluated once, and what they cost.
 ghost use Rattle.std.specs.Prelude.{◌≡◌, ◌<◌, ◌≤◌, ◌+◌, ◌*◌, ◌^◌, ℕ, length, map, IfOk};
 ghost use Rattle.std.specs.List.{All, sum_by};
-ghost use Rattle.cells.specs.Table.{table_counts};
+ghost use Rattle.rule_core.specs.Table.{table_counts};
 ghost use Rattle.tally.specs.Ready.{HasWatched, IsExact, IsReady, hard_cost, soft_cost};
 ghost use Rattle.tally.specs.Tallies.{all_terms};
 

@@ -2,7 +2,7 @@
 ghost use Rattle.std.specs.Prelude.{◌≡◌, ℕ, ◌<◌, ◌≤◌, ◌+◌, ◌*◌, ◌^◌, true, [], length, slice_index, slice_set};
 ghost use Rattle.std.specs.List.{All, sum};
 ghost use Rattle.league.specs.Counts.{Counts};
-ghost use Rattle.cells.specs.Table.{table_counts};
+ghost use Rattle.rule_core.specs.Table.{table_counts};
 ghost use Rattle.tally.specs.Bench.{OnlyUsed};
 ghost use Rattle.tally.specs.Change.{LeadsFrom, games_of};
 ghost use Rattle.tally.specs.Ready.{IsExact, IsReady};

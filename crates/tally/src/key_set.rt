@@ -15,7 +15,7 @@ pub(crate) struct KeySet {
 }
 
 impl Model for KeySet {
-    ghost use Rattle.keys.specs.Keys.{KeyList};
+    ghost use Rattle.rule_core.specs.Keys.{KeyList};
     ghost use Rattle.tally.specs.KeySet.{AreMarked};
 
     ghost Value = { KeyList };

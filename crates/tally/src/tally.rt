@@ -3,7 +3,7 @@ ghost use Rattle.std.specs.Prelude.{◌≡◌, ℕ, ◌<◌, ◌≤◌, ◌+◌,
 ghost use Rattle.std.specs.List.{All, sum};
 ghost use Rattle.league.specs.Counts.{Counts, counts_of};
 ghost use Rattle.league.specs.Instance.{IsGame};
-ghost use Rattle.cells.specs.Table.{table_counts};
+ghost use Rattle.rule_core.specs.Table.{table_counts};
 ghost use Rattle.moves.specs.Round.{edited};
 ghost use Rattle.tally.specs.Tallies.{IsWithin, OnlyTallied, all_terms, all_touched, infeasibility_on, objective_on, vector_on};
 ghost use Rattle.tally.specs.Weighing.{AreWeighed};

@@ -3,7 +3,7 @@
 ghost use Rattle.std.specs.Prelude.{◌≡◌, ◌<◌, ◌≤◌, ◌+◌, ◌*◌, ◌^◌, [], length, map};
 ghost use Rattle.std.specs.List.{All, sum_by};
 ghost use Rattle.league.specs.Counts.{Counts};
-ghost use Rattle.cells.specs.Table.{table_counts};
+ghost use Rattle.rule_core.specs.Table.{table_counts};
 ghost use Rattle.tally.specs.Bench.{OnlyUsed};
 ghost use Rattle.tally.specs.Change.{LeadsFrom, games_of};
 ghost use Rattle.tally.specs.Ready.{AreReady, IsExact, IsReady, hard_cost, soft_cost};

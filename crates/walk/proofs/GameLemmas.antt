@@ -10,7 +10,7 @@ use Rattle.league.proofs.RangeLemmas.{one_if}
 use Rattle.moves.specs.Places.{IsRound}
 use Rattle.moves.specs.Round.{Round, entry, round_counts}
 use Rattle.moves.proofs.RoundLemmas.{IsWithin, IsWithin-of}
-use Rattle.cells.proofs.ListedLemmas.{same_counts}
+use Rattle.rule_core.proofs.ListedLemmas.{same_counts}
 use Rattle.descent.proofs.SeasonLemmas.{IsBelow, IsWithAways, IsWithMeeting, IsWithTeam, all_aways, all_homes, no_away_more}
 
 -- ---- a board has no games outside of its league, and none of a team against itself

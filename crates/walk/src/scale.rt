@@ -1,6 +1,6 @@
 //! By how much a usual move changes the objective: the scale of temperatures and weights.
 ghost use Rattle.std.specs.Prelude.{◌≡◌, OnOk};
-ghost use Rattle.cells.specs.Table.{table_counts};
+ghost use Rattle.rule_core.specs.Table.{table_counts};
 ghost use Rattle.moves.specs.Round.{round_counts};
 
 use crate::draws::home_swap;

@@ -3,7 +3,7 @@ ghost use Rattle.std.specs.Prelude.{◌≡◌, ◌≤◌, length, IfOk};
 ghost use Rattle.std.specs.List.{All};
 ghost use Rattle.league.specs.Counts.{counts_of};
 ghost use Rattle.league.specs.Instance.{IsGame};
-ghost use Rattle.cells.specs.Table.{table_counts};
+ghost use Rattle.rule_core.specs.Table.{table_counts};
 
 use crate::draws::any_of;
 use crate::number_set::NumberSet;

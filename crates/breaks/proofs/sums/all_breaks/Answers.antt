@@ -2,7 +2,7 @@ use Rattle.std.proofs.Common.{arith}
 use Rattle.std.proofs.lemmas.List.Sums.{sum_by_more}
 use Rattle.league.specs.Breaks.{breaks_among}
 use Rattle.league.specs.declared.class.Side.TheVariants.{Both}
-use Rattle.cells.specs.Table.{table_counts}
+use Rattle.rule_core.specs.Table.{table_counts}
 use Rattle.breaks.proofs.sums.all_breaks.Goals as goal
 
 pub team_breaks-breaks-requires-clause-team : goal.team_breaks-breaks-requires-clause-team

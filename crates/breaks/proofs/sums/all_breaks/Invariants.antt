@@ -2,7 +2,7 @@ use Rattle.std.proofs.Common.{◌≡◌, ◌≤◌, ◌*◌, take}
 use Rattle.std.specs.List.{sum_by}
 use Rattle.league.specs.Breaks.{breaks_among}
 use Rattle.league.specs.declared.class.Side.TheVariants.{Both}
-use Rattle.cells.specs.Table.{table_counts}
+use Rattle.rule_core.specs.Table.{table_counts}
 use Rattle.breaks.proofs.sums.all_breaks.Given as goal
 
 abbrev pub invariant-loop-team : goal.invariant-loop-team

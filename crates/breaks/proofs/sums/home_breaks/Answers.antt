@@ -1,6 +1,6 @@
 use Rattle.league.specs.Counts.{slot_count}
 use Rattle.league.specs.Venues.{home_games}
-use Rattle.cells.specs.Table.{table_counts}
+use Rattle.rule_core.specs.Table.{table_counts}
 use Rattle.breaks.proofs.sums.home_breaks.Goals as goal
 
 pub returns-clause-breaks : goal.returns-clause-breaks

@@ -4,7 +4,7 @@ use Rattle.league.specs.declared.class.Side.{Side}
 use Rattle.league.specs.declared.class.Side.TheVariants.{A, Both, H}
 use Rattle.league.proofs.RangeLemmas.{one_if}
 use Rattle.league.proofs.SumLemmas.{sum_by-add}
-use Rattle.cells.specs.Table.{table_counts}
+use Rattle.rule_core.specs.Table.{table_counts}
 use Rattle.breaks.proofs.sums.team_breaks.Goals as goal
 
 pub returns-in-Both-clause-breaks : goal.returns-in-Both-clause-breaks

@@ -1,7 +1,7 @@
 use Rattle.std.proofs.Common.{arith}
 use Rattle.std.proofs.lemmas.List.Sums.{sum_by_more}
 use Rattle.league.specs.Venues.{games_on}
-use Rattle.cells.specs.Table.{table_counts}
+use Rattle.rule_core.specs.Table.{table_counts}
 use Rattle.capacity.proofs.sums.games_in.Goals as goal
 
 pub games_at-requires-clause-slot : goal.games_at-requires-clause-slot

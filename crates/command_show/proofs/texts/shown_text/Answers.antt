@@ -1,6 +1,6 @@
 use Rattle.std.proofs.Common.{◌++◌, List, ℕ, length, map, subst, ap, sym, ◌∙◌}
 use Rattle.std.specs.List.{All}
-use Rattle.cells.specs.Table.{table_counts}
+use Rattle.rule_core.specs.Table.{table_counts}
 use Rattle.league.specs.Counts.{counts_of}
 use Rattle.league.specs.Deviation.{vector_of}
 use Rattle.league.specs.Instance.{IsGame}

@@ -1,7 +1,7 @@
 use Rattle.std.proofs.Common.{◌≡◌, ℕ, Bool, ap, subst, sym, ◌∙◌}
 use Rattle.league.specs.Counts.{Counts, counts_of}
 use Rattle.league.specs.Structure.{IsRoundRobin}
-use Rattle.cells.specs.Table.{Table, table_counts}
+use Rattle.rule_core.specs.Table.{Table, table_counts}
 use Rattle.descent.specs.Score.{score_on}
 use Rattle.descent.specs.Trail.{IsTrail}
 use Rattle.descent.proofs.TrailLemmas.{IsTrail-no_worse, IsTrail-round_robin}

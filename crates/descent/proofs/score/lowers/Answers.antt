@@ -1,4 +1,4 @@
-use Rattle.cells.specs.Table.{table_counts}
+use Rattle.rule_core.specs.Table.{table_counts}
 use Rattle.std.proofs.Common.{ap, ◌∙◌}
 use Rattle.moves.specs.Round.{edited}
 use Rattle.descent.specs.Score.{is_lower, score_on}

@@ -4,7 +4,7 @@ use Rattle.std.proofs.lemmas.List.Elements.{All-push}
 use Rattle.league.specs.Counts.{Counts, counts_of, slot_count}
 use Rattle.league.specs.Instance.{IsGame}
 use Rattle.league.specs.declared.game.Game.{Game}
-use Rattle.cells.specs.Table.{table_counts}
+use Rattle.rule_core.specs.Table.{table_counts}
 use Rattle.descent.proofs.SeasonLemmas.{IsWithSlots, slots-passed, slots-taken}
 use Rattle.descent.proofs.season.add_meeting.Goals as goal
 use Rattle.descent.proofs.season.add_meeting.Goals.{then-at-eq1+in_ok-push, else-at-eq1}

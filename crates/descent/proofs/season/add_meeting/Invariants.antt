@@ -1,7 +1,7 @@
 use Rattle.std.specs.List.{All}
 use Rattle.league.specs.Counts.{counts_of}
 use Rattle.league.specs.Instance.{IsGame}
-use Rattle.cells.specs.Table.{table_counts}
+use Rattle.rule_core.specs.Table.{table_counts}
 use Rattle.descent.proofs.SeasonLemmas.{IsWithSlots}
 use Rattle.descent.proofs.season.add_meeting.Given as goal
 

@@ -1,7 +1,7 @@
 use Rattle.std.proofs.Common.{◌≡◌, ℕ, arith, subst}
 use Rattle.std.proofs.lemmas.List.Sorted.{All-permutation}
 use Rattle.league.specs.Instance.{IsGame}
-use Rattle.cells.specs.Table.{table_counts}
+use Rattle.rule_core.specs.Table.{table_counts}
 use Rattle.descent.proofs.SeasonLemmas.{AreSingle-of, IsBelow, below-all}
 use Rattle.descent.proofs.season.season_of.Goals as goal
 

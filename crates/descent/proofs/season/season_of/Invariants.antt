@@ -1,6 +1,6 @@
 use Rattle.std.specs.List.{All}
 use Rattle.league.specs.Instance.{IsGame}
-use Rattle.cells.specs.Table.{table_counts}
+use Rattle.rule_core.specs.Table.{table_counts}
 use Rattle.descent.proofs.SeasonLemmas.{IsBelow}
 use Rattle.descent.proofs.season.season_of.Given as goal
 

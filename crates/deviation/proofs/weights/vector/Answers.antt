@@ -1,6 +1,6 @@
 use Rattle.std.proofs.Common.{length, ap, arith}
 use Rattle.std.proofs.lemmas.Result.{IfOk-weaker}
-use Rattle.cells.specs.Table.{table_counts}
+use Rattle.rule_core.specs.Table.{table_counts}
 use Rattle.deviation.proofs.EntryLemmas.{vector-by_entries}
 use Rattle.deviation.proofs.weights.vector.Goals as goal
 

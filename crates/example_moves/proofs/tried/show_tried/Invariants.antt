@@ -1,5 +1,5 @@
 use Rattle.std.specs.Prelude.{◌≡◌, ℕ, length}
-use Rattle.cells.specs.Table.{table_counts}
+use Rattle.rule_core.specs.Table.{table_counts}
 use Rattle.moves.specs.Round.{round_counts}
 use Rattle.example_moves.proofs.tried.show_tried.Given as goal
 

@@ -1,6 +1,6 @@
 use Rattle.std.proofs.Common.{ℕ, arith}
 use Rattle.league.specs.Venues.{home_games}
-use Rattle.cells.specs.Table.{table_counts}
+use Rattle.rule_core.specs.Table.{table_counts}
 use Rattle.fairness.proofs.LeadLemmas.{homes_more}
 use Rattle.fairness.proofs.leads.homes_in.Goals as goal
 

@@ -3,7 +3,7 @@ use Rattle.league.specs.Bounds.{difference, excess}
 use Rattle.league.specs.Counts.{slot_count}
 use Rattle.league.specs.Fairness.{home_played}
 use Rattle.league.specs.Venues.{home_games}
-use Rattle.cells.specs.Table.{table_counts}
+use Rattle.rule_core.specs.Table.{table_counts}
 use Rattle.fairness.proofs.LeadLemmas.{largest_more, next_left, played_more}
 use Rattle.fairness.proofs.leads.largest_lead.Goals as goal
 

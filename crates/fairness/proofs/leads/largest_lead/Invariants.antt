@@ -4,7 +4,7 @@ use Rattle.league.specs.Bounds.{difference, excess, largest}
 use Rattle.league.specs.Counts.{slot_count}
 use Rattle.league.specs.Fairness.{home_played}
 use Rattle.league.specs.Venues.{home_games}
-use Rattle.cells.specs.Table.{table_counts}
+use Rattle.rule_core.specs.Table.{table_counts}
 use Rattle.fairness.proofs.leads.largest_lead.Given as goal
 
 abbrev pub invariant-loop-slot : goal.invariant-loop-slot

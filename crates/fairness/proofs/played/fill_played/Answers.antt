@@ -1,5 +1,5 @@
 use Rattle.std.proofs.Common.{refl}
-use Rattle.cells.specs.Table.{table_counts}
+use Rattle.rule_core.specs.Table.{table_counts}
 use Rattle.fairness.proofs.PlayedLemmas.{rows_more}
 use Rattle.fairness.proofs.played.fill_played.Goals as goal
 

@@ -1,5 +1,5 @@
 use Rattle.std.proofs.Common.{ℕ, ◌<◌, get_or}
-use Rattle.cells.specs.Table.{table_counts}
+use Rattle.rule_core.specs.Table.{table_counts}
 use Rattle.fairness.specs.Played.{IsPlayed}
 use Rattle.fairness.proofs.played.fill_played.Given as goal
 

@@ -3,7 +3,7 @@ use Rattle.std.proofs.lemmas.List.{length-set}
 use Rattle.league.specs.Counts.{slot_count}
 use Rattle.league.specs.Fairness.{home_played}
 use Rattle.league.specs.Venues.{home_games}
-use Rattle.cells.specs.Table.{table_counts}
+use Rattle.rule_core.specs.Table.{table_counts}
 use Rattle.fairness.proofs.LeadLemmas.{next_left, played_more}
 use Rattle.fairness.proofs.PlayedLemmas.{entry-set_other, played_to-more}
 use Rattle.fairness.proofs.played.fill_row.Goals as goal

@@ -3,7 +3,7 @@ use Rattle.std.specs.List.{range_with_len, sum_by}
 use Rattle.league.specs.Counts.{slot_count}
 use Rattle.league.specs.Grid.{entry}
 use Rattle.league.specs.Venues.{home_games}
-use Rattle.cells.specs.Table.{table_counts}
+use Rattle.rule_core.specs.Table.{table_counts}
 use Rattle.fairness.proofs.PlayedLemmas.{IsPlayedTo}
 use Rattle.fairness.proofs.played.fill_row.Given as goal
 

@@ -3,7 +3,7 @@ use Rattle.std.proofs.lemmas.List.{take_all}
 use Rattle.std.proofs.lemmas.List.Sums.{sum_by_more}
 use Rattle.std.specs.List.{sum_by}
 use Rattle.league.specs.Meetings.{games_of}
-use Rattle.cells.specs.Table.{table_counts}
+use Rattle.rule_core.specs.Table.{table_counts}
 use Rattle.rule_core.proofs.OpponentLemmas.{games_of-by_slot}
 use Rattle.games.proofs.by_slot.games_by_slot.Goals as goal
 

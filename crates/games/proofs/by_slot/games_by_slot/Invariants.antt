@@ -1,7 +1,7 @@
 use Rattle.std.proofs.Common.{◌≡◌, ◌≤◌, ◌*◌, [], ◌∷◌, take}
 use Rattle.std.specs.List.{sum_by}
 use Rattle.league.specs.Meetings.{games_of}
-use Rattle.cells.specs.Table.{table_counts}
+use Rattle.rule_core.specs.Table.{table_counts}
 use Rattle.games.proofs.by_slot.games_by_slot.Given as goal
 
 abbrev pub invariant-loop-slot : goal.invariant-loop-slot

@@ -1,6 +1,6 @@
 use Rattle.std.proofs.Common.{ℕ, ◌∙◌, ap, cond}
-use Rattle.cells.specs.Places.{hosts}
-use Rattle.cells.specs.declared.place.Place.{Place}
+use Rattle.rule_core.specs.Places.{hosts}
+use Rattle.rule_core.specs.declared.place.Place.{Place}
 use Rattle.games.proofs.ListedLemmas.{guest_below, listed_no_guest, listed_one_guest}
 use Rattle.games.proofs.by_slot.games_in_place.Goals as goal
 

@@ -1,7 +1,7 @@
 use Rattle.std.proofs.Common.{◌≡◌, ℕ, ◌+◌, arith, ap, sym, ◌∙◌}
 use Rattle.std.specs.List.{range_with_len, sum_by}
 use Rattle.league.proofs.RangeLemmas.{summed}
-use Rattle.cells.specs.Table.{table_counts}
+use Rattle.rule_core.specs.Table.{table_counts}
 use Rattle.games.specs.BySlot.{listed_games}
 use Rattle.games.proofs.ListedLemmas.{games_by_home}
 use Rattle.games.proofs.by_slot.games_in_slot.Goals as goal

@@ -1,6 +1,6 @@
 use Rattle.std.proofs.Common.{◌≡◌, ◌≤◌, ◌*◌}
 use Rattle.std.specs.List.{range_with_len, sum_by}
-use Rattle.cells.specs.Table.{table_counts}
+use Rattle.rule_core.specs.Table.{table_counts}
 use Rattle.games.specs.BySlot.{listed_games}
 use Rattle.games.proofs.by_slot.games_in_slot.Given as goal
 

@@ -2,7 +2,7 @@ use Rattle.std.proofs.Common.{◌≡◌, ℕ, ◌+◌, ◌*◌, arith, ap, ◌�
 use Rattle.std.proofs.lemmas.Nat.{mul-le}
 use Rattle.std.specs.List.{range_with_len, sum_by}
 use Rattle.league.proofs.RangeLemmas.{summed}
-use Rattle.cells.specs.Table.{table_counts}
+use Rattle.rule_core.specs.Table.{table_counts}
 use Rattle.games.specs.BySlot.{listed}
 use Rattle.games.proofs.by_slot.games_with_each.Goals as goal
 

@@ -1,5 +1,5 @@
 use Rattle.std.proofs.Common.{◌≡◌, true, false, ◌∙◌, sym}
-use Rattle.cells.specs.Table.{table_counts}
+use Rattle.rule_core.specs.Table.{table_counts}
 use Rattle.moves.specs.Round.{round_counts}
 use Rattle.kept_descent.proofs.BetterLemmas.{IsTried, better-alone, better-read, legal-on, none-better, tried-on}
 use Rattle.kept_descent.proofs.better.is_better.Goals as goal

@@ -1,5 +1,5 @@
 use Rattle.std.proofs.Common.{◌≡◌, ◌*◌, ◌≤◌, take}
-use Rattle.cells.specs.Table.{table_counts}
+use Rattle.rule_core.specs.Table.{table_counts}
 use Rattle.kept_descent.specs.Walks.{times_in}
 use Rattle.kept_descent.proofs.better.times_in.Given as goal
 

@@ -1,6 +1,6 @@
 use Rattle.std.proofs.Common.{◌≡◌, ℕ, Bool, List, ap, refl, subst, sym, ◌∙◌}
 use Rattle.std.specs.List.{All}
-use Rattle.cells.specs.Table.{Table, table_counts}
+use Rattle.rule_core.specs.Table.{Table, table_counts}
 use Rattle.league.specs.Counts.{Counts, counts_of}
 use Rattle.league.specs.Instance.{IsGame}
 use Rattle.league.specs.Structure.{IsRoundRobin}

@@ -1,5 +1,5 @@
 use Rattle.std.proofs.Common.{◌≡◌, List, ap, sym, ◌∙◌}
-use Rattle.cells.specs.Table.{table_counts}
+use Rattle.rule_core.specs.Table.{table_counts}
 use Rattle.league.specs.Counts.{Counts, counts_of}
 use Rattle.league.specs.declared.game.Game.{Game}
 use Rattle.kept_descent.specs.Nearing.{IsNearest}

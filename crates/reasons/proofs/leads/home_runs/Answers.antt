@@ -3,7 +3,7 @@ use Rattle.std.specs.List.{range_with_len, sum_by}
 use Rattle.league.specs.Fairness.{home_played}
 use Rattle.league.specs.Venues.{home_games}
 use Rattle.league.proofs.RangeLemmas.{summed}
-use Rattle.cells.specs.Table.{table_counts}
+use Rattle.rule_core.specs.Table.{table_counts}
 use Rattle.reasons.proofs.ListLemmas.{mapped_more}
 use Rattle.reasons.proofs.leads.home_runs.Goals as goal
 

@@ -2,7 +2,7 @@ use Rattle.std.proofs.Common.{◌≡◌, ◌≤◌, ◌*◌, map}
 use Rattle.std.specs.List.{range_with_len, sum_by}
 use Rattle.league.specs.Fairness.{home_played}
 use Rattle.league.specs.Venues.{home_games}
-use Rattle.cells.specs.Table.{table_counts}
+use Rattle.rule_core.specs.Table.{table_counts}
 use Rattle.reasons.proofs.leads.home_runs.Given as goal
 
 -- the home games in the slots so far, and after each of them

@@ -1,7 +1,7 @@
 use Rattle.std.proofs.Common.{◌≡◌, ℕ, ◌<◌, List, ◌++◌, Option, length, ap, subst, sym, ◌∙◌, append-nil}
 use Rattle.std.specs.List.{All}
 use Rattle.league.specs.Counts.{Counts, counts_of}
-use Rattle.cells.specs.Table.{table_counts}
+use Rattle.rule_core.specs.Table.{table_counts}
 use Rattle.reasons.specs.Reasons.{by_lead, furthest}
 use Rattle.reasons.specs.declared.reason.Reason.{Reason}
 use Rattle.reasons.proofs.RunLemmas.{first-furthest, read-apart, runs-long}

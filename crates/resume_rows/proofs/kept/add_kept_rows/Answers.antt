@@ -1,7 +1,7 @@
 -- The next slot's clauses come behind those so far.
 use Rattle.std.proofs.Common.{ℕ, List, ◌++◌, map, ap, ◌∙◌, arith}
 use Rattle.rows.specs.Rows.{Row}
-use Rattle.cells.specs.Table.{table_counts}
+use Rattle.rule_core.specs.Table.{table_counts}
 use Rattle.decoding.proofs.DecodeLemmas.{flat_map-range_more}
 use Rattle.resume_rows.specs.Kept.{kept_row, kept_rows_in}
 use Rattle.resume_rows.proofs.kept.add_kept_rows.Goals as goal

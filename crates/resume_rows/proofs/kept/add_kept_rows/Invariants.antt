@@ -1,5 +1,5 @@
 use Rattle.std.proofs.Common.{◌≡◌, ◌+◌, ◌*◌, ◌≤◌, ◌++◌, length}
-use Rattle.cells.specs.Table.{table_counts}
+use Rattle.rule_core.specs.Table.{table_counts}
 use Rattle.resume_rows.specs.Kept.{kept_rows}
 use Rattle.resume_rows.proofs.kept.add_kept_rows.Given as goal
 

@@ -1,5 +1,5 @@
 use Rattle.std.proofs.Common.{◌+◌, arith}
-use Rattle.cells.specs.Table.{table_counts}
+use Rattle.rule_core.specs.Table.{table_counts}
 use Rattle.league.proofs.RangeLemmas.{summed}
 use Rattle.season_grid.proofs.cell.early_meetings.Goals as goal
 

@@ -1,6 +1,6 @@
 use Rattle.std.proofs.Common.{◌≡◌, ℕ, ◌+◌, ◌*◌, ◌≤◌}
 use Rattle.std.specs.List.{range_with_len, sum_by}
-use Rattle.cells.specs.Table.{table_counts}
+use Rattle.rule_core.specs.Table.{table_counts}
 use Rattle.season_grid.proofs.cell.early_meetings.Given as goal
 
 abbrev pub invariant-loop-number : goal.invariant-loop-number

@@ -1,6 +1,6 @@
 use Rattle.std.proofs.Common.{◌≡◌, ℕ, ◌+◌, not, nat_lt}
 use Rattle.std.specs.List.{prefix_len}
-use Rattle.cells.specs.Table.{table_counts}
+use Rattle.rule_core.specs.Table.{table_counts}
 use Rattle.season_grid.specs.Cell.{opponent}
 use Rattle.season_grid.proofs.RangeLemmas.{from_on}
 use Rattle.season_grid.proofs.cell.guest.Given as goal

@@ -1,5 +1,5 @@
 use Rattle.std.proofs.Common.{◌≡◌, not, nat_lt, ap, arith}
-use Rattle.cells.specs.Table.{table_counts}
+use Rattle.rule_core.specs.Table.{table_counts}
 use Rattle.season_grid.specs.Cell.{opponent}
 use Rattle.season_grid.proofs.RangeLemmas.{passed_one}
 use Rattle.season_grid.proofs.cell.host.Goals as goal

@@ -2,7 +2,7 @@ use Rattle.std.proofs.Common.{◌≡◌, ℕ, ◌+◌, ◌<◌, ◌&&◌, Bool, 
 use Rattle.std.proofs.lemmas.Bool.{and_from, and_left, and_right, lt-ltb, ne_eqb}
 use Rattle.league.specs.Counts.{Counts}
 use Rattle.league.specs.Structure.{isnt_one}
-use Rattle.cells.specs.Table.{table_counts}
+use Rattle.rule_core.specs.Table.{table_counts}
 use Rattle.season_grid.specs.Cell.{early_meetings, is_misphased}
 use Rattle.season_grid.proofs.RangeLemmas.{any_here, any_later}
 use Rattle.season_grid.proofs.cell.is_misphased.Goals as goal

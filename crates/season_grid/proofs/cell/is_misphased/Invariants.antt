@@ -1,7 +1,7 @@
 use Rattle.std.proofs.Common.{◌≡◌, ℕ, ◌+◌, ◌&&◌, nat_lt}
 use Rattle.std.specs.List.{list_any}
 use Rattle.league.specs.Structure.{isnt_one}
-use Rattle.cells.specs.Table.{table_counts}
+use Rattle.rule_core.specs.Table.{table_counts}
 use Rattle.season_grid.specs.Cell.{early_meetings, is_misphased}
 use Rattle.season_grid.proofs.RangeLemmas.{from_on}
 use Rattle.season_grid.proofs.cell.is_misphased.Given as goal

@@ -2,7 +2,7 @@ use Rattle.std.proofs.Common.{◌≡◌, ℕ, List, ◌++◌, ap, ◌∙◌}
 use Rattle.std.specs.Prelude.{decimal}
 use Rattle.std.proofs.lemmas.Result.{on_ok_weaker}
 use Rattle.league.specs.Structure.{first_half}
-use Rattle.cells.specs.Table.{table_counts}
+use Rattle.rule_core.specs.Table.{table_counts}
 use Rattle.season_grid.specs.Widths.{at_right, line}
 use Rattle.season_grid.specs.Tallies.{away_run, breaks_in_all, home_among, home_run, second_half}
 use Rattle.season_grid.specs.Grid.{grid_name, head}

@@ -1,7 +1,7 @@
 use Rattle.std.proofs.Common.{ℕ, nat_lt}
 use Rattle.league.specs.Counts.{slot_count}
 use Rattle.league.specs.Venues.{away_games}
-use Rattle.cells.specs.Table.{table_counts}
+use Rattle.rule_core.specs.Table.{table_counts}
 use Rattle.season_grid.specs.Tallies.{away_run}
 use Rattle.season_grid.proofs.RunLemmas.{IsCounted}
 use Rattle.season_grid.proofs.tallies.away_run.Given as goal

@@ -2,7 +2,7 @@ use Rattle.std.proofs.Common.{◌+◌, arith}
 use Rattle.league.specs.Breaks.{breaks_at}
 use Rattle.league.specs.declared.class.Side.TheVariants.{Both}
 use Rattle.league.proofs.RangeLemmas.{summed}
-use Rattle.cells.specs.Table.{table_counts}
+use Rattle.rule_core.specs.Table.{table_counts}
 use Rattle.season_grid.proofs.tallies.breaks_in_all.Goals as goal
 
 pub loop-number-preserved : goal.loop-number-preserved

@@ -2,7 +2,7 @@ use Rattle.std.proofs.Common.{◌≡◌, ◌*◌, ◌≤◌}
 use Rattle.std.specs.List.{range_with_len}
 use Rattle.league.specs.Breaks.{breaks_among}
 use Rattle.league.specs.declared.class.Side.TheVariants.{Both}
-use Rattle.cells.specs.Table.{table_counts}
+use Rattle.rule_core.specs.Table.{table_counts}
 use Rattle.season_grid.proofs.tallies.breaks_in_all.Given as goal
 
 abbrev pub invariant-loop-number : goal.invariant-loop-number

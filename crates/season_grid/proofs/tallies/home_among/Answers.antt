@@ -1,7 +1,7 @@
 use Rattle.std.proofs.Common.{arith}
 use Rattle.league.specs.Venues.{home_games}
 use Rattle.league.proofs.RangeLemmas.{sum_by-range_more}
-use Rattle.cells.specs.Table.{table_counts}
+use Rattle.rule_core.specs.Table.{table_counts}
 use Rattle.season_grid.proofs.tallies.home_among.Goals as goal
 
 pub loop-place-preserved : goal.loop-place-preserved

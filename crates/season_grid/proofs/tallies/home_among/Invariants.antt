@@ -1,6 +1,6 @@
 use Rattle.std.proofs.Common.{◌≡◌, ◌*◌, ◌≤◌}
 use Rattle.std.specs.List.{range_with_len}
-use Rattle.cells.specs.Table.{table_counts}
+use Rattle.rule_core.specs.Table.{table_counts}
 use Rattle.season_grid.specs.Tallies.{home_among}
 use Rattle.season_grid.proofs.tallies.home_among.Given as goal
 

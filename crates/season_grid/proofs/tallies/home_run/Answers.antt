@@ -2,7 +2,7 @@ use Rattle.std.proofs.Common.{nat_lt, ◌∙◌, arith}
 use Rattle.std.proofs.lemmas.Bool.{le-ltb, lt-ltb}
 use Rattle.league.specs.Counts.{slot_count}
 use Rattle.league.specs.Venues.{home_games}
-use Rattle.cells.specs.Table.{table_counts}
+use Rattle.rule_core.specs.Table.{table_counts}
 use Rattle.season_grid.specs.Tallies.{home_run}
 use Rattle.season_grid.proofs.RunLemmas.{counted_cut, counted_more, ord_max_is}
 use Rattle.season_grid.proofs.tallies.home_run.Goals as goal

@@ -1,6 +1,6 @@
 use Rattle.std.proofs.Common.{ℕ, cond, ap, arith}
-use Rattle.cells.specs.Places.{hosts, visits}
-use Rattle.cells.specs.declared.place.Place.{Place}
+use Rattle.rule_core.specs.Places.{hosts, visits}
+use Rattle.rule_core.specs.declared.place.Place.{Place}
 use Rattle.separation.proofs.gaps.games_in.Goals as goal
 
 pub returns-in-Free-clause-games : goal.returns-in-Free-clause-games

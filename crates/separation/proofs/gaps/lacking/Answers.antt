@@ -2,7 +2,7 @@ use Rattle.std.proofs.Common.{ℕ, ◌+◌, ◌<◌, Option, arith, ◌++◌, �
 use Rattle.std.specs.Option.{IfSome, option_to_list}
 use Rattle.league.specs.Counts.{slot_count}
 use Rattle.league.specs.Separation.{lacking, se1_entry}
-use Rattle.cells.specs.Table.{table_counts}
+use Rattle.rule_core.specs.Table.{table_counts}
 use Rattle.separation.proofs.GapLemmas.{before_next, from_slot, slot_free, slot_played}
 use Rattle.separation.proofs.gaps.lacking.Goals as goal
 use Rattle.separation.proofs.gaps.lacking.Goals.{then-games-gt0, else-games-gt0}

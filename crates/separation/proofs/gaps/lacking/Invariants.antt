@@ -3,7 +3,7 @@ use Rattle.std.specs.List.{flat_map, range_with_len}
 use Rattle.std.specs.Option.{IfSome, option_to_list}
 use Rattle.league.specs.Counts.{slot_count}
 use Rattle.league.specs.Separation.{lacking, se1_entry}
-use Rattle.cells.specs.Table.{table_counts}
+use Rattle.rule_core.specs.Table.{table_counts}
 use Rattle.separation.proofs.gaps.lacking.Given as goal
 
 abbrev pub invariant-loop-slot : goal.invariant-loop-slot

@@ -3,8 +3,8 @@ use Rattle.std.proofs.lemmas.List.{drop_more, take_rest}
 use Rattle.std.specs.Ordering.{nat_cmp}
 use Rattle.league.specs.Separation.{se1_entry}
 use Rattle.league.specs.Sets.{IsAscending}
-use Rattle.cells.specs.Table.{table_counts}
-use Rattle.keys.proofs.KeyLemmas.{ascending-drop}
+use Rattle.rule_core.specs.Table.{table_counts}
+use Rattle.rule_core.proofs.KeyLemmas.{ascending-drop}
 use Rattle.separation.proofs.TeamLemmas.{pairs_left, pairs_next}
 use Rattle.separation.proofs.team_gaps.push_lacking.Goals as goal
 

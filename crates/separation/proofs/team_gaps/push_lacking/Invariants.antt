@@ -2,7 +2,7 @@ use Rattle.std.proofs.Common.{◌≡◌, ◌++◌, ◌+◌, ◌≤◌, drop, len
 use Rattle.std.specs.Prelude.{vec_capacity, vec_len}
 use Rattle.league.specs.Meetings.{pairs_of}
 use Rattle.league.specs.Separation.{se1_entry}
-use Rattle.cells.specs.Table.{table_counts}
+use Rattle.rule_core.specs.Table.{table_counts}
 use Rattle.separation.proofs.team_gaps.push_lacking.Given as goal
 
 abbrev pub invariant-loop-place : goal.invariant-loop-place

@@ -1,7 +1,7 @@
 use Rattle.std.proofs.Common.{◌≡◌, ◌+◌, ◌++◌, map, take, vec_len}
 use Rattle.std.specs.Prelude.{vec_capacity}
 use Rattle.league.specs.Separation.{se1_entry}
-use Rattle.cells.specs.Table.{table_counts}
+use Rattle.rule_core.specs.Table.{table_counts}
 use Rattle.separation.proofs.team_gaps.push_team.Given as goal
 
 abbrev pub invariant-loop-second : goal.invariant-loop-second

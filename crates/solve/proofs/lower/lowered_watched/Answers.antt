@@ -4,7 +4,7 @@ use Rattle.league.specs.Counts.{Counts, counts_of}
 use Rattle.league.specs.Instance.{IsGame}
 use Rattle.league.specs.Structure.{IsRoundRobin}
 use Rattle.league.specs.declared.game.Game.{Game}
-use Rattle.cells.specs.Table.{Table, table_counts}
+use Rattle.rule_core.specs.Table.{Table, table_counts}
 use Rattle.solve.specs.Solutions.{league_score}
 use Rattle.solve.proofs.KeptLemmas.{kept-moves}
 use Rattle.solve.proofs.LowerLemmas.{Descends-same, IsSchedule-of, cost-is, settled-start}

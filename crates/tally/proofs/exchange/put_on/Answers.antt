@@ -1,5 +1,5 @@
 use Rattle.std.proofs.Common.{arith, ◌∙◌}
-use Rattle.cells.specs.Table.{table_counts}
+use Rattle.rule_core.specs.Table.{table_counts}
 use Rattle.tally.proofs.ExchangeLemmas.{put_more}
 use Rattle.tally.proofs.exchange.put_on.Goals as goal
 

@@ -1,7 +1,7 @@
 use Rattle.std.proofs.Common.{◌≡◌, ◌+◌, ℕ, take}
 use Rattle.std.specs.List.{sum}
 use Rattle.league.specs.Counts.{counts_of}
-use Rattle.cells.specs.Table.{table_counts}
+use Rattle.rule_core.specs.Table.{table_counts}
 use Rattle.tally.proofs.exchange.put_on.Given as goal
 
 abbrev pub invariant-loop-game : goal.invariant-loop-game

@@ -4,7 +4,7 @@ use Rattle.std.proofs.lemmas.List.Sums.{sum_by-append}
 use Rattle.std.proofs.lemmas.List.Elements.{All-push}
 use Rattle.std.specs.List.{All, sum_by}
 use Rattle.std.specs.Vec.Iter.{into_iter_items}
-use Rattle.cells.specs.Table.{table_counts}
+use Rattle.rule_core.specs.Table.{table_counts}
 use Rattle.tally.specs.Ready.{IsExact, IsReady}
 use Rattle.tally.specs.declared.kept.Kept.{Kept}
 use Rattle.tally.specs.declared.weighted.Weighted.{Weighted}

@@ -1,7 +1,7 @@
 use Rattle.std.proofs.Common.{◌≡◌, ◌≤◌, ◌+◌, ◌++◌, map}
 use Rattle.std.specs.List.{All}
 use Rattle.std.specs.Vec.Iter.{into_iter_items}
-use Rattle.cells.specs.Table.{table_counts}
+use Rattle.rule_core.specs.Table.{table_counts}
 use Rattle.tally.specs.Ready.{IsExact, IsReady}
 use Rattle.tally.specs.Tallies.{all_terms}
 use Rattle.tally.proofs.keep.keep_rules.Given as goal

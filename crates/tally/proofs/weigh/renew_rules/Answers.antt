@@ -3,7 +3,7 @@ use Rattle.std.proofs.lemmas.List.{get_or-set_other, take_all}
 use Rattle.std.proofs.lemmas.List.Elements.{AllWithin-more_set}
 use Rattle.std.proofs.lemmas.List.Sums.{get_or-le-sum_by, sum_by_more}
 use Rattle.std.specs.List.{sum_by}
-use Rattle.cells.specs.Table.{table_counts}
+use Rattle.rule_core.specs.Table.{table_counts}
 use Rattle.tally.specs.Change.{games_of}
 use Rattle.tally.specs.Ready.{IsExact, hard_cost, soft_cost}
 use Rattle.tally.specs.Tallies.{touched_count}

@@ -1,7 +1,7 @@
 use Rattle.std.proofs.Common.{◌≡◌, ◌+◌, ◌≤◌, ℕ, get_or, map, take}
 use Rattle.std.specs.List.{All, AllWithin, sum_by}
 use Rattle.league.specs.Counts.{Counts}
-use Rattle.cells.specs.Table.{table_counts}
+use Rattle.rule_core.specs.Table.{table_counts}
 use Rattle.tally.specs.Change.{LeadsFrom, games_of}
 use Rattle.tally.specs.Ready.{AreReady, IsExact}
 use Rattle.tally.specs.Tallies.{touched_count}

@@ -1,8 +1,8 @@
 use Rattle.std.proofs.Common.{◌+◌, length, ap, refl, subst, sym, ◌∙◌, ℕ, take, arith}
 use Rattle.std.proofs.lemmas.List.Sums.{sum_by-take-le}
 use Rattle.std.specs.List.{sum_by}
-use Rattle.cells.specs.Table.{table_counts}
-use Rattle.keys.specs.Keys.{KeyList}
+use Rattle.rule_core.specs.Table.{table_counts}
+use Rattle.rule_core.specs.Keys.{KeyList}
 use Rattle.tally.specs.Change.{games_of}
 use Rattle.tally.specs.Ready.{IsExact}
 use Rattle.tally.specs.Tallies.{cost_on, touched_count}

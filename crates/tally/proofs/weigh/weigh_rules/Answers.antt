@@ -1,6 +1,6 @@
 use Rattle.std.proofs.Common.{map, subst, sym, arith}
 use Rattle.std.specs.List.{All}
-use Rattle.keys.specs.Keys.{KeyList}
+use Rattle.rule_core.specs.Keys.{KeyList}
 use Rattle.tally.specs.Change.{games_of}
 use Rattle.tally.specs.Ready.{IsReady}
 use Rattle.tally.specs.Tallies.{touched_count}

@@ -1,5 +1,5 @@
 use Rattle.std.specs.Prelude.{◌≡◌}
-use Rattle.cells.specs.Table.{table_counts}
+use Rattle.rule_core.specs.Table.{table_counts}
 use Rattle.moves.specs.Round.{round_counts}
 use Rattle.walk.proofs.scale.usual_change.Given as goal
 

@@ -1,6 +1,6 @@
 use Rattle.std.proofs.Common.{ap, ◌∙◌}
 use Rattle.league.specs.Counts.{Counts}
-use Rattle.cells.specs.Table.{table_counts}
+use Rattle.rule_core.specs.Table.{table_counts}
 use Rattle.descent.specs.declared.score.Score.{Score}
 use Rattle.walk.specs.Walked.{league_score}
 use Rattle.walk.proofs.WalkLemmas.{scores-are}

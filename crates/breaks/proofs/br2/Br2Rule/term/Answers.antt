@@ -1,5 +1,5 @@
 use Rattle.std.proofs.Common.{refl}
-use Rattle.cells.specs.Table.{table_counts}
+use Rattle.rule_core.specs.Table.{table_counts}
 use Rattle.breaks.proofs.TermLemmas.{br2_term}
 use Rattle.breaks.proofs.br2.Br2Rule.term.Goals as goal
 

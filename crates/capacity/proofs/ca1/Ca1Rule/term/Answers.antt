@@ -1,4 +1,4 @@
-use Rattle.cells.specs.Table.{table_counts}
+use Rattle.rule_core.specs.Table.{table_counts}
 use Rattle.capacity.proofs.TermLemmas.{ca1_term}
 use Rattle.capacity.proofs.ca1.Ca1Rule.term.Goals as goal
 

@@ -1,4 +1,4 @@
-use Rattle.cells.specs.Table.{table_counts}
+use Rattle.rule_core.specs.Table.{table_counts}
 use Rattle.capacity.proofs.BeforeLemmas.{ca3_none, ca3_term}
 use Rattle.capacity.proofs.ca3.Ca3Rule.term.Goals as goal
 

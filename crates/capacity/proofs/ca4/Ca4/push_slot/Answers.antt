@@ -2,7 +2,7 @@ use Rattle.std.proofs.Common.{ap, sym, ◌∙◌}
 use Rattle.league.specs.Deviation.{spans}
 use Rattle.league.specs.Sets.{is_in}
 use Rattle.league.specs.declared.class.Span.{Span}
-use Rattle.keys.specs.Keys.{keys_where, with_keys}
+use Rattle.rule_core.specs.Keys.{keys_where, with_keys}
 use Rattle.capacity.proofs.SpanLemmas.{slot_key}
 use Rattle.capacity.proofs.ca4.Ca4.push_slot.Goals as goal
 

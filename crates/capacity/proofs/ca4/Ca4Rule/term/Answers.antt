@@ -1,4 +1,4 @@
-use Rattle.cells.specs.Table.{table_counts}
+use Rattle.rule_core.specs.Table.{table_counts}
 use Rattle.capacity.proofs.TermLemmas.{ca4_hosts, ca4_slots-below, ca4_slots-few, ca4_term}
 use Rattle.capacity.proofs.ca4.Ca4Rule.term.Goals as goal
 

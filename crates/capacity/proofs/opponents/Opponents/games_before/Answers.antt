@@ -1,6 +1,6 @@
 use Rattle.std.proofs.Common.{ℕ, ◌<◌, List, get_or, refl, arith}
 use Rattle.league.specs.Capacity.{meetings_with}
-use Rattle.cells.specs.Table.{table_counts}
+use Rattle.rule_core.specs.Table.{table_counts}
 use Rattle.capacity.proofs.BeforeLemmas.{AreBefore-more, AreBefore-none}
 use Rattle.capacity.proofs.opponents.Opponents.games_before.Goals as goal
 

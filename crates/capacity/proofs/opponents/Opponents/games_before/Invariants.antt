@@ -1,6 +1,6 @@
 use Rattle.std.proofs.Common.{get_or}
 use Rattle.league.specs.Capacity.{meetings_with}
-use Rattle.cells.specs.Table.{table_counts}
+use Rattle.rule_core.specs.Table.{table_counts}
 use Rattle.capacity.proofs.BeforeLemmas.{AreBefore}
 use Rattle.capacity.proofs.opponents.Opponents.games_before.Given as goal
 

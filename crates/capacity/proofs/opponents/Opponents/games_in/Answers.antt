@@ -1,6 +1,6 @@
 use Rattle.std.proofs.Common.{arith, get_or}
 use Rattle.league.specs.Capacity.{meetings_with}
-use Rattle.cells.specs.Table.{table_counts}
+use Rattle.rule_core.specs.Table.{table_counts}
 use Rattle.capacity.proofs.OpponentSums.{games_of_slots}
 use Rattle.capacity.proofs.opponents.Opponents.games_in.Goals as goal
 

@@ -2,7 +2,7 @@ use Rattle.std.proofs.Common.{◌≡◌, ◌≤◌, ◌*◌, [], ◌∷◌, get_
 use Rattle.std.specs.List.{sum_by}
 use Rattle.league.specs.Capacity.{meetings_with}
 use Rattle.league.specs.Meetings.{games_of}
-use Rattle.cells.specs.Table.{table_counts}
+use Rattle.rule_core.specs.Table.{table_counts}
 use Rattle.capacity.proofs.opponents.Opponents.games_in.Given as goal
 
 abbrev pub invariant-loop-slot : goal.invariant-loop-slot

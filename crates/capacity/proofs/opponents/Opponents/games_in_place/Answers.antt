@@ -1,6 +1,6 @@
 use Rattle.std.proofs.Common.{ℕ, ◌∙◌, ap, cond}
-use Rattle.cells.specs.Places.{hosts}
-use Rattle.cells.specs.declared.place.Place.{Place}
+use Rattle.rule_core.specs.Places.{hosts}
+use Rattle.rule_core.specs.declared.place.Place.{Place}
 use Rattle.capacity.proofs.HostLemmas.{games_no_guest, games_one_guest, guest_below}
 use Rattle.capacity.proofs.opponents.Opponents.games_in_place.Goals as goal
 

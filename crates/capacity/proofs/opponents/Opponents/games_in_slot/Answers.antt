@@ -1,7 +1,7 @@
 use Rattle.std.proofs.Common.{◌≡◌, ◌≤◌, length, arith, ap, ◌∙◌}
 use Rattle.std.proofs.lemmas.List.{take_all}
 use Rattle.std.specs.List.{sum_by}
-use Rattle.cells.specs.Table.{table_counts}
+use Rattle.rule_core.specs.Table.{table_counts}
 use Rattle.capacity.specs.Between.{can_host}
 use Rattle.capacity.proofs.HostLemmas.{games_of_all_hosts, hosted, hosts_below, hosts_few}
 use Rattle.capacity.proofs.opponents.Opponents.games_in_slot.Goals as goal

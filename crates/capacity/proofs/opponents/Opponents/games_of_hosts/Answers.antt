@@ -3,7 +3,7 @@ use Rattle.std.proofs.lemmas.List.Sums.{sum_by_more}
 use Rattle.std.specs.List.{filter}
 use Rattle.league.specs.Capacity.{is_between}
 use Rattle.league.specs.Meetings.{games_of, meetings_of}
-use Rattle.cells.specs.Table.{table_counts}
+use Rattle.rule_core.specs.Table.{table_counts}
 use Rattle.capacity.proofs.OpponentSums.{games_of_slots}
 use Rattle.capacity.proofs.opponents.Opponents.games_of_hosts.Goals as goal
 

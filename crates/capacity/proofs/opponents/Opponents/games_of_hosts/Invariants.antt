@@ -2,7 +2,7 @@ use Rattle.std.proofs.Common.{◌≡◌, ◌≤◌, ◌*◌, [], ◌∷◌, take
 use Rattle.std.specs.List.{filter, sum_by}
 use Rattle.league.specs.Capacity.{is_between}
 use Rattle.league.specs.Meetings.{games_of, meetings_of}
-use Rattle.cells.specs.Table.{table_counts}
+use Rattle.rule_core.specs.Table.{table_counts}
 use Rattle.capacity.proofs.opponents.Opponents.games_of_hosts.Given as goal
 
 abbrev pub invariant-loop-slot : goal.invariant-loop-slot

@@ -1,7 +1,7 @@
 use Rattle.std.proofs.Common.{◌≡◌, ℕ, ◌+◌, ◌*◌, arith, ap, ◌∙◌}
 use Rattle.std.proofs.lemmas.Nat.{mul-le}
 use Rattle.league.proofs.RangeLemmas.{summed}
-use Rattle.cells.specs.Table.{table_counts}
+use Rattle.rule_core.specs.Table.{table_counts}
 use Rattle.capacity.specs.Between.{counted}
 use Rattle.capacity.proofs.HostLemmas.{at_home_to, games_by_guest_to}
 use Rattle.capacity.proofs.opponents.Opponents.games_with_each.Goals as goal

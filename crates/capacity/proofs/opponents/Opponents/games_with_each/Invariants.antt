@@ -1,6 +1,6 @@
 use Rattle.std.proofs.Common.{◌≡◌, ◌≤◌, ◌*◌}
 use Rattle.std.specs.List.{range_with_len, sum_by}
-use Rattle.cells.specs.Table.{table_counts}
+use Rattle.rule_core.specs.Table.{table_counts}
 use Rattle.capacity.proofs.HostLemmas.{at_home_to}
 use Rattle.capacity.proofs.opponents.Opponents.games_with_each.Given as goal
 

@@ -1,6 +1,6 @@
 use Rattle.std.proofs.Common.{ap, ◌∙◌}
-use Rattle.keys.specs.Keys.{with_keys}
-use Rattle.keys.proofs.KeyLemmas.{no_more}
+use Rattle.rule_core.specs.Keys.{with_keys}
+use Rattle.rule_core.proofs.KeyLemmas.{no_more}
 use Rattle.capacity.proofs.TouchLemmas.{away-none, away-one, both-away, both-home, both-none, both-two, home-none, home-one}
 use Rattle.capacity.proofs.opponents.Opponents.touched.Goals as goal
 

@@ -1,4 +1,4 @@
-use Rattle.cells.specs.Table.{table_counts}
+use Rattle.rule_core.specs.Table.{table_counts}
 use Rattle.descent.specs.Score.{score_on}
 use Rattle.descent.proofs.WalkLemmas.{found-edit, found-lowers, moves-of_league, none-settled}
 use Rattle.descent.proofs.walk.Walk.find.Goals as goal

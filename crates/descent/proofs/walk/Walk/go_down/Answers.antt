@@ -1,5 +1,5 @@
 use Rattle.std.proofs.Common.{refl, sym}
-use Rattle.cells.specs.Table.{table_counts}
+use Rattle.rule_core.specs.Table.{table_counts}
 use Rattle.descent.specs.Score.{score_on}
 use Rattle.descent.proofs.WalkLemmas.{IsDown-kept, IsDown-more, found-down, lowering-at, lowering-down, settled-down, settled-read}
 use Rattle.descent.proofs.walk.Walk.go_down.Goals as goal

@@ -1,7 +1,7 @@
 use Rattle.std.proofs.Common.{◌≡◌, ℕ, ◌+◌, ◌*◌, ◌^◌, List, [], ◌∷◌, ◌++◌, take, subst, sym, ap, ◌∙◌, arith}
 use Rattle.std.proofs.lemmas.List.{take_more}
 use Rattle.league.specs.Counts.{Counts}
-use Rattle.cells.specs.Table.{table_counts}
+use Rattle.rule_core.specs.Table.{table_counts}
 use Rattle.league.specs.declared.class.Constraint.{Constraint}
 use Rattle.deviation.specs.Assess.{AreAtMost, AreWeightsOf}
 use Rattle.deviation.proofs.weights.Weights.of.Goals as goal

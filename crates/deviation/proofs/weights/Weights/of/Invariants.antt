@@ -1,5 +1,5 @@
 use Rattle.std.proofs.Common.{◌*◌, ◌^◌, take}
-use Rattle.cells.specs.Table.{table_counts}
+use Rattle.rule_core.specs.Table.{table_counts}
 use Rattle.deviation.specs.Assess.{AreAtMost, AreWeightsOf}
 use Rattle.deviation.proofs.weights.Weights.of.Given as goal
 

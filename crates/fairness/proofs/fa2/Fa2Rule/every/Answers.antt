@@ -4,8 +4,8 @@ use Rattle.std.proofs.lemmas.List.FromFn.{map-range_with_len_more}
 use Rattle.std.specs.List.{All, range_with_len}
 use Rattle.league.specs.Deviation.{entry_of}
 use Rattle.rule_core.specs.Ready.{entry_count}
-use Rattle.cells.specs.Table.{table_counts}
-use Rattle.keys.proofs.PairLemmas.{pair_below, pair_each}
+use Rattle.rule_core.specs.Table.{table_counts}
+use Rattle.rule_core.proofs.PairLemmas.{pair_below, pair_each}
 use Rattle.fairness.specs.Fa2.{class_of}
 use Rattle.fairness.specs.Played.{IsPlayed}
 use Rattle.fairness.proofs.TermLemmas.{fa2_term, slots_ascending, slots_few, teams_below}

@@ -1,6 +1,6 @@
 use Rattle.std.proofs.Common.{arith}
-use Rattle.cells.specs.Table.{table_counts}
-use Rattle.keys.proofs.PairLemmas.{pair_below}
+use Rattle.rule_core.specs.Table.{table_counts}
+use Rattle.rule_core.proofs.PairLemmas.{pair_below}
 use Rattle.fairness.proofs.TermLemmas.{fa2_term, slots_ascending, slots_below, teams_below}
 use Rattle.fairness.proofs.fa2.Fa2Rule.term.Goals as goal
 

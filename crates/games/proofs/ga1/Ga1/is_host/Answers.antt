@@ -2,7 +2,7 @@ use borrow.Author.Tests.{tests}
 use Rattle.std.proofs.Common.{rules, refl, arith, ◌∙◌}
 use Rattle.std.proofs.lemmas.Iterator.{YieldsList-from_range}
 use Rattle.std.proofs.lemmas.Iterator.Search.{any_from_yields_List}
-use Rattle.cells.specs.Meetings.{is_listed}
+use Rattle.rule_core.specs.Meetings.{is_listed}
 use Rattle.games.proofs.HostLemmas.{is_host-each}
 use Rattle.games.proofs.TermLemmas.{meetings_inside}
 use Rattle.games.proofs.ga1.Ga1.is_host.Goals as goal

@@ -1,5 +1,5 @@
 use Rattle.std.proofs.Common.{rules, ◌≡◌, length, ap}
-use Rattle.cells.specs.Table.{table_counts}
+use Rattle.rule_core.specs.Table.{table_counts}
 use Rattle.kept_descent.specs.declared.walk.Walk.{Walk}
 use Rattle.kept_descent.proofs.WalkLemmas.{better-at, found-better, found-full, full-at, none-nearest}
 use Rattle.kept_descent.proofs.walk.Walk.find.Goals as goal

@@ -1,6 +1,6 @@
 use Rattle.std.specs.Prelude.{◌≡◌}
 use Rattle.std.specs.List.{AllWithin}
-use Rattle.cells.specs.Table.{table_counts}
+use Rattle.rule_core.specs.Table.{table_counts}
 use Rattle.descent.specs.Walks.{KeepsGames}
 use Rattle.kept_descent.specs.Walks.{IsBetter}
 use Rattle.kept_descent.proofs.walk.Walk.find_between.Given as goal

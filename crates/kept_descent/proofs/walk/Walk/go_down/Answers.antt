@@ -1,5 +1,5 @@
 use Rattle.std.proofs.Common.{◌≡◌, ap, sym, ◌∙◌}
-use Rattle.cells.specs.Table.{table_counts}
+use Rattle.rule_core.specs.Table.{table_counts}
 use Rattle.league.specs.Counts.{Counts}
 use Rattle.moves.specs.Moves.{moved}
 use Rattle.kept_descent.specs.declared.ground.Ground.{Ground}

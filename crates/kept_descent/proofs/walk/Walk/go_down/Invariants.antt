@@ -1,4 +1,4 @@
-use Rattle.cells.specs.Table.{table_counts}
+use Rattle.rule_core.specs.Table.{table_counts}
 use Rattle.kept_descent.specs.Walks.{IsDown}
 use Rattle.kept_descent.proofs.walk.Walk.go_down.Given as goal
 

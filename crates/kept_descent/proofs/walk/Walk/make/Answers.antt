@@ -1,7 +1,7 @@
 use Rattle.std.proofs.Common.{◌≡◌, ℕ, ◌≤◌, Bool, List, ap, subst, sym, ◌∙◌}
 use Rattle.league.specs.Counts.{Counts, counts_of}
 use Rattle.league.specs.Structure.{IsRoundRobin}
-use Rattle.cells.specs.Table.{table_counts}
+use Rattle.rule_core.specs.Table.{table_counts}
 use Rattle.descent.proofs.EditLemmas.{edit-leads, edited-is}
 use Rattle.moves.specs.Moves.{moved}
 use Rattle.moves.specs.Round.{edited, round_counts}

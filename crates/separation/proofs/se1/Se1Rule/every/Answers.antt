@@ -2,7 +2,7 @@ use Rattle.std.proofs.Common.{ℕ, ◌++◌, List, ap, ◌∙◌, subst, sym}
 use Rattle.std.specs.Ordering.{nat_cmp}
 use Rattle.league.specs.Sets.{IsAscending}
 use Rattle.league.proofs.FitLemmas.{are_teams-ascending}
-use Rattle.cells.specs.Table.{table_counts}
+use Rattle.rule_core.specs.Table.{table_counts}
 use Rattle.separation.proofs.TermLemmas.{se1_vector}
 use Rattle.separation.proofs.se1.Se1Rule.every.Goals as goal
 

@@ -1,7 +1,7 @@
 use Rattle.std.proofs.Common.{arith}
 use Rattle.league.proofs.FitLemmas.{are_teams-below}
-use Rattle.cells.specs.Table.{table_counts}
-use Rattle.keys.proofs.PairLemmas.{pair_below}
+use Rattle.rule_core.specs.Table.{table_counts}
+use Rattle.rule_core.proofs.PairLemmas.{pair_below}
 use Rattle.separation.proofs.TermLemmas.{se1_term}
 use Rattle.separation.proofs.se1.Se1Rule.term.Goals as goal
 

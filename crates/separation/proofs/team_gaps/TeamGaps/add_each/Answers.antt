@@ -1,5 +1,5 @@
 use Rattle.std.proofs.Common.{ℕ, ◌+◌, ◌<◌, length, get_or, refl, arith, sym, subst}
-use Rattle.cells.specs.Table.{table_counts}
+use Rattle.rule_core.specs.Table.{table_counts}
 use Rattle.separation.specs.TeamGaps.{IsSummed}
 use Rattle.separation.specs.declared.team_gaps.TeamGaps.{TeamGaps}
 use Rattle.separation.proofs.TeamLemmas.{AreDone, AreDone-next, AreDone-none, summed-free, summed-kept}

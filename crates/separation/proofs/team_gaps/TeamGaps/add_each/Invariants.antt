@@ -1,4 +1,4 @@
-use Rattle.cells.specs.Table.{table_counts}
+use Rattle.rule_core.specs.Table.{table_counts}
 use Rattle.separation.proofs.TeamLemmas.{AreDone}
 use Rattle.separation.proofs.team_gaps.TeamGaps.add_each.Given as goal
 

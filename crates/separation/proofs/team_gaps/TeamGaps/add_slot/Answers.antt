@@ -1,5 +1,5 @@
 use Rattle.std.proofs.Common.{arith}
-use Rattle.cells.specs.Table.{table_counts}
+use Rattle.rule_core.specs.Table.{table_counts}
 use Rattle.separation.proofs.team_gaps.TeamGaps.add_slot.Goals as goal
 
 pub add_place-requires-clause-teams : goal.add_place-requires-clause-teams

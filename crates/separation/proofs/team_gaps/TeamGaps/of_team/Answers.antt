@@ -1,5 +1,5 @@
 use Rattle.std.proofs.Common.{arith, get_or}
-use Rattle.cells.specs.Table.{table_counts}
+use Rattle.rule_core.specs.Table.{table_counts}
 use Rattle.separation.proofs.TeamLemmas.{summed-all, summed-none}
 use Rattle.separation.proofs.team_gaps.TeamGaps.of_team.Goals as goal
 

@@ -1,4 +1,4 @@
-use Rattle.cells.specs.Table.{table_counts}
+use Rattle.rule_core.specs.Table.{table_counts}
 use Rattle.separation.specs.TeamGaps.{AreSummed, IsKept}
 use Rattle.separation.proofs.team_gaps.TeamGaps.of_team.Given as goal
 

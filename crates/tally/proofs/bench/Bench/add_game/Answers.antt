@@ -1,7 +1,7 @@
 use Rattle.std.proofs.Common.{◌≡◌, ◌++◌, ◌<◌, ◌≤◌, ℕ, List, ap, subst, sym, ◌∙◌, refl, arith}
 use Rattle.std.proofs.lemmas.List.Elements.{All-weaker}
 use Rattle.std.specs.List.{All}
-use Rattle.keys.specs.Keys.{KeyList}
+use Rattle.rule_core.specs.Keys.{KeyList}
 use Rattle.tally.specs.KeySet.{AreAdded}
 use Rattle.tally.proofs.bench.Bench.add_game.Goals as goal
 

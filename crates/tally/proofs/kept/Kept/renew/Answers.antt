@@ -1,6 +1,6 @@
 use Rattle.std.proofs.Common.{◌≡◌, ◌+◌, ℕ, ap, subst, sym, ◌∙◌, arith}
-use Rattle.cells.specs.Table.{Table, table_counts}
-use Rattle.keys.specs.Keys.{KeyList}
+use Rattle.rule_core.specs.Table.{Table, table_counts}
+use Rattle.rule_core.specs.Keys.{KeyList}
 use Rattle.tally.specs.Change.{games_of}
 use Rattle.tally.specs.Ready.{IsReady}
 use Rattle.tally.specs.Tallies.{vector_on}

@@ -1,5 +1,5 @@
 use Rattle.std.proofs.Common.{◌≡◌, ◌+◌, length, take}
-use Rattle.cells.specs.Table.{table_counts}
+use Rattle.rule_core.specs.Table.{table_counts}
 use Rattle.tally.specs.Ready.{IsReady}
 use Rattle.tally.specs.Weighing.{renewed}
 use Rattle.tally.proofs.kept.Kept.renew_keys.Given as goal

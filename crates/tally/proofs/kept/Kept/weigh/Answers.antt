@@ -1,6 +1,6 @@
 use Rattle.std.proofs.Common.{◌≡◌, ◌+◌, ℕ, ap, subst, sym, ◌∙◌, arith}
 use Rattle.std.specs.List.{sum}
-use Rattle.cells.specs.Table.{Table, table_counts}
+use Rattle.rule_core.specs.Table.{Table, table_counts}
 use Rattle.tally.specs.Change.{games_of}
 use Rattle.tally.specs.Weighing.{renewed}
 use Rattle.tally.proofs.FrameLemmas.{edit_exact}

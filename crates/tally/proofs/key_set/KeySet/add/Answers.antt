@@ -1,5 +1,5 @@
 use Rattle.std.proofs.Common.{◌≡◌, ◌<◌, false, ap, subst, sym}
-use Rattle.keys.specs.Keys.{KeyList}
+use Rattle.rule_core.specs.Keys.{KeyList}
 use Rattle.tally.specs.KeySet.{is_in}
 use Rattle.tally.proofs.SetLemmas.{AreMarked-add, room_left}
 use Rattle.tally.proofs.key_set.KeySet.add.Goals as goal

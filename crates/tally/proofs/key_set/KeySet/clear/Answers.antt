@@ -4,7 +4,7 @@ use Rattle.std.proofs.lemmas.Grind.{common_steps}
 use Rattle.std.proofs.lemmas.List.{length-set}
 use Rattle.std.proofs.lemmas.Map.Keys.{any_passes_from_place}
 use Rattle.std.proofs.lemmas.Option.{get_or_from_slice_get}
-use Rattle.keys.specs.Keys.{KeyList}
+use Rattle.rule_core.specs.Keys.{KeyList}
 use Rattle.tally.specs.KeySet.{is_in}
 use Rattle.tally.proofs.SetLemmas.{AreMarked-none, below_room, left_more, none_left}
 use Rattle.tally.proofs.key_set.KeySet.clear.Goals as goal

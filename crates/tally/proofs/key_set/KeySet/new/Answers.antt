@@ -1,6 +1,6 @@
 use Rattle.std.proofs.Common.{◌≡◌, length, replicate, false, ap, sym, ◌∙◌}
 use Rattle.std.proofs.lemmas.List.{length-replicate}
-use Rattle.keys.specs.Keys.{KeyList}
+use Rattle.rule_core.specs.Keys.{KeyList}
 use Rattle.tally.proofs.SetLemmas.{AreMarked-none, replicate_unmarked}
 use Rattle.tally.proofs.key_set.KeySet.new.Goals as goal
 

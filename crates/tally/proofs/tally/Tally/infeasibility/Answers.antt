@@ -1,5 +1,5 @@
 use Rattle.std.proofs.Common.{ap, ◌∙◌}
-use Rattle.cells.specs.Table.{table_counts}
+use Rattle.rule_core.specs.Table.{table_counts}
 use Rattle.tally.specs.Tallies.{infeasibility_on, Tallied}
 use Rattle.tally.proofs.CostLemmas.{hard_counted}
 use Rattle.tally.proofs.tally.Tally.infeasibility.Goals as goal

@@ -1,7 +1,7 @@
 use Rattle.std.proofs.Common.{List, ap, arith}
 use Rattle.league.specs.Counts.{counts_of}
 use Rattle.league.specs.declared.game.Game.{Game}
-use Rattle.cells.specs.Table.{table_counts}
+use Rattle.rule_core.specs.Table.{table_counts}
 use Rattle.moves.specs.Round.{edited}
 use Rattle.tally.proofs.UndoLemmas.{edited-there}
 use Rattle.tally.proofs.tally.Tally.weigh.Goals as goal

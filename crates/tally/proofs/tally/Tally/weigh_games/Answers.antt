@@ -3,8 +3,8 @@ use Rattle.std.proofs.lemmas.List.{take_at}
 use Rattle.std.specs.List.{All, sum, sum_by}
 use Rattle.league.specs.Counts.{Counts, counts_of}
 use Rattle.league.specs.Instance.{IsGame}
-use Rattle.cells.specs.Table.{table_counts}
-use Rattle.cells.proofs.ListedLemmas.{same_counts}
+use Rattle.rule_core.specs.Table.{table_counts}
+use Rattle.rule_core.proofs.ListedLemmas.{same_counts}
 use Rattle.tally.specs.ByTeam.{GameRoom}
 use Rattle.tally.specs.Change.{Changed, LeadsFrom, games_of}
 use Rattle.tally.specs.Ready.{IsExact, IsReady, IsTallied}

@@ -1,6 +1,6 @@
 use Rattle.std.proofs.Common.{◌≡◌, ℕ, Bool, List, refl, ap, arith, subst, sym, ◌∙◌}
 use Rattle.league.specs.Counts.{Counts}
-use Rattle.cells.specs.Table.{table_counts}
+use Rattle.rule_core.specs.Table.{table_counts}
 use Rattle.moves.specs.Round.{round_counts}
 use Rattle.tally.specs.declared.weighted.Weighted.{Weighted}
 use Rattle.descent.specs.Score.{IsNoWorse, score_on}

@@ -1,5 +1,5 @@
 use Rattle.std.specs.Prelude.{◌≡◌, ◌≤◌}
-use Rattle.cells.specs.Table.{table_counts}
+use Rattle.rule_core.specs.Table.{table_counts}
 use Rattle.descent.specs.Score.{IsNoWorse, score_on}
 use Rattle.walk.specs.Standing.{IsKept, IsStandingOn}
 use Rattle.walk.proofs.standing.Standing.improve.Given as goal

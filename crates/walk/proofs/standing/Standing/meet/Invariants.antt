@@ -1,5 +1,5 @@
 use Rattle.std.specs.Prelude.{◌≡◌, ◌≤◌}
-use Rattle.cells.specs.Table.{table_counts}
+use Rattle.rule_core.specs.Table.{table_counts}
 use Rattle.walk.specs.Standing.{IsStandingOn}
 use Rattle.walk.proofs.standing.Standing.meet.Given as goal
 

@@ -1,6 +1,6 @@
 use Rattle.std.proofs.Common.{◌≡◌, ℕ, ◌*◌, ◌≤◌, subst, sym}
 use Rattle.league.specs.Counts.{Counts}
-use Rattle.cells.specs.Table.{table_counts}
+use Rattle.rule_core.specs.Table.{table_counts}
 use Rattle.moves.specs.Round.{round_counts}
 use Rattle.descent.specs.Score.{IsNoWorse}
 use Rattle.descent.specs.declared.score.Score.{Score}

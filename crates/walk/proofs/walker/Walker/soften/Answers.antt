@@ -1,5 +1,5 @@
 use Rattle.std.proofs.Common.{arith, refl, sym, ◌∙◌}
-use Rattle.cells.specs.Table.{table_counts}
+use Rattle.rule_core.specs.Table.{table_counts}
 use Rattle.moves.specs.Round.{round_counts}
 use Rattle.descent.proofs.ScoreLemmas.{IsNoWorse-itself}
 use Rattle.walk.specs.Walked.{league_score}
