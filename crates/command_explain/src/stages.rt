@@ -12,7 +12,7 @@ use encoding::EncodeFault;
 use explain::{Explained, explain};
 use league::League;
 use robin_io::Shelf;
-use robin_news::Listener;
+use robin_watch::Listener;
 use robinx_read::INSTANCE_LIMIT;
 use std::alloc::{AllocError, Global};
 

@@ -3,7 +3,7 @@ use Rattle.std.proofs.Common.{◌≡◌, ℕ, true, false, List, [], ◌∷◌, 
 use Rattle.command_line.specs.Topics.{topic_of}
 use Rattle.command_line.specs.declared.topic.Topic.TheVariants as topic
 use Rattle.command_line.specs.declared.goal.Goal.TheVariants as goal
-use Rattle.budgets.specs.declared.budgets.Budgets.{Budgets}
+use Rattle.robin_watch.specs.declared.budgets.Budgets.{Budgets}
 use Rattle.command_line.specs.Words.{arguments_of, budget_in, has_options, is_file_name, is_option, is_shortest}
 use Rattle.command_line.specs.Words.{files_and_number, members_in, members_of, number_above, number_in, one_file}
 use Rattle.command_line.specs.Words.{one_number, reading, rising, said, two_files}

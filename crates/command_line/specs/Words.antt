@@ -7,7 +7,7 @@ use Rattle.std.specs.Str.{byte}
 use Rattle.std.specs.Str.Parse.{digits_value}
 use Rattle.std.specs.List.{list_any, slice_split}
 use Rattle.league.specs.Instance.{IsTeamCount, is_team_count}
-use Rattle.budgets.specs.declared.budgets.Budgets.{Budgets}
+use Rattle.robin_watch.specs.declared.budgets.Budgets.{Budgets}
 use Rattle.robin_io.specs.Numbers.{is_number}
 use Rattle.command_line.specs.Topics.{topic_of}
 use Rattle.command_line.specs.declared.goal.Goal.{Goal}

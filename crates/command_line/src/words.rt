@@ -25,9 +25,9 @@ use crate::arguments::{files_and_number, near_files_and_number, two_files};
 use crate::goal::Goal;
 use crate::list::is_list;
 use crate::topic::{Topic, topic_of};
-use budgets::Budgets;
 use league::is_team_count;
 use robin_io::decimal;
+use robin_watch::Budgets;
 
 /// What the words ask for.
 #[derive(Clone, Copy)]

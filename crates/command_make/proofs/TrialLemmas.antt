@@ -1,7 +1,7 @@
 -- What is found of a made league, answered.
 use Rattle.std.proofs.Common.{◌≡◌, ℕ, ◌++◌, List, length, Some, Result, Ok, Err, ap, refl, subst, sym, ◌∙◌}
 use Rattle.std.specs.Prelude.{IfOk}
-use Rattle.budgets.specs.declared.budgets.Budgets.{Budgets}
+use Rattle.robin_watch.specs.declared.budgets.Budgets.{Budgets}
 use Rattle.league.specs.Accepted as costs
 use Rattle.league.specs.Accepted.{IsAccepted}
 use Rattle.league.specs.Counts.{counts_of}

@@ -8,7 +8,7 @@ use Rattle.answers.specs.Reply.{Answer}
 use Rattle.answers.specs.Stages.{Outcome}
 use Rattle.answers.specs.declared.status.Status.TheVariants.{Yes}
 use Rattle.robin_watch.specs.Limits.{IsKeptTo}
-use Rattle.budgets.specs.declared.budgets.Budgets.{Budgets}
+use Rattle.robin_watch.specs.declared.budgets.Budgets.{Budgets}
 use Rattle.descent.specs.Descended.{Descended}
 use Rattle.command_check.specs.Check.{encodes}
 use Rattle.instance_gen.specs.Draws.{seeded}

@@ -12,18 +12,17 @@ ghost use Rattle.answers.specs.declared.status.Status.TheVariants.{Yes};
 ghost use Rattle.command_check.specs.Check.{encodes};
 ghost use Rattle.solve.specs.Solutions.{HasSchedule, IsSolution};
 ghost use Rattle.command_solve.specs.Solve.{descent_text};
-ghost use Rattle.budgets.specs.declared.budgets.Budgets.{Budgets};
+ghost use Rattle.robin_watch.specs.declared.budgets.Budgets.{Budgets};
 ghost use Rattle.command_make.specs.Trial.{IsTrial, IsTrialBy, found_lines, league_lines, tried};
 
 use crate::summary::{found_lines, league_lines};
 use answers::{NoValue, Reply, Status, rows_refused};
-use budgets::Budgets;
 use command_solve::{first_objective, schedule_text};
 use descent::Descent;
 use encoding::EncodeFault;
 use instance_gen::make;
 use league::{League, Schedule};
-use robin_news::Listener;
+use robin_watch::{Budgets, Listener};
 use solve::{Solved, solve};
 use std::alloc::{AllocError, Global};
 

@@ -14,12 +14,11 @@ ghost use Rattle.encoding.specs.Limit.{most_terms};
 use crate::near_replies::near_reply;
 use crate::season::season_in;
 use answers::{NoValue, Reply};
-use budgets::Budgets;
 use encoding::EncodeFault;
 use league::{League, Schedule};
 use resume::resume_near;
 use robin_io::Shelf;
-use robin_watch::Watch;
+use robin_watch::{Budgets, Watch};
 use std::alloc::{AllocError, Global};
 
 /// How a season is resumed near its old plan.

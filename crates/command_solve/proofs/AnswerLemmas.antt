@@ -3,7 +3,7 @@ use Rattle.std.proofs.Common.{◌∷◌, [], ◌≡◌, ℕ, List, Some, Option,
 use Rattle.robin_io.specs.Outside.{Store}
 use Rattle.rows.specs.Rows.{Row}
 use Rattle.robin_watch.proofs.LimitLemmas.{kept-unstopped}
-use Rattle.budgets.specs.declared.budgets.Budgets.{Budgets}
+use Rattle.robin_watch.specs.declared.budgets.Budgets.{Budgets}
 use Rattle.league.specs.Instance.{Instance}
 use Rattle.robinx_tags.specs.Pieces.{pieces}
 use Rattle.robinx_form.specs.InstanceFile.{instance_of}

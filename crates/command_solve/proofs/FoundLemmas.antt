@@ -1,7 +1,7 @@
 -- What is found of a league, answered.
 use Rattle.std.proofs.Common.{◌≡◌, ℕ, ◌≤◌, ◌++◌, true, List, Some, Result, Ok, Err, arith, ap, inl, inr, ◌∙◌}
 use Rattle.std.specs.Prelude.{IfOk}
-use Rattle.budgets.specs.declared.budgets.Budgets.{Budgets}
+use Rattle.robin_watch.specs.declared.budgets.Budgets.{Budgets}
 use Rattle.league.specs.Accepted as costs
 use Rattle.league.specs.Accepted.{IsAccepted}
 use Rattle.league.specs.Counts.{counts_of}

@@ -18,7 +18,7 @@ use Rattle.answers.specs.Stages.{IsFile, IsUnread, NoneFails, Outcome, says, tak
 use Rattle.answers.specs.declared.status.Status.{Status}
 use Rattle.answers.specs.declared.status.Status.TheVariants.{Yes, No, File, ReadFault, Refuted}
 use Rattle.answers.proofs.StageLemmas.{first-works, says-known, says-value, second-works, takes-known, takes-refuted, takes-yes}
-use Rattle.budgets.specs.declared.budgets.Budgets.{Budgets}
+use Rattle.robin_watch.specs.declared.budgets.Budgets.{Budgets}
 use Rattle.encoding.specs.Limit.{most_terms}
 use Rattle.encoding_base.specs.Encoding.{encoding_size, rows_of}
 use Rattle.season_check.specs.Excluded.{NoneAccepted}

@@ -8,7 +8,7 @@ use Rattle.robin_io.specs.Outside.{Store}
 use Rattle.robinx_tags.specs.Pieces.{pieces, pieces_from}
 use Rattle.robinx_tags.specs.Tags.{attributes_at}
 use Rattle.robin_watch.proofs.LimitLemmas.{kept-unstopped}
-use Rattle.budgets.specs.declared.budgets.Budgets.{Budgets}
+use Rattle.robin_watch.specs.declared.budgets.Budgets.{Budgets}
 use Rattle.league.specs.Accepted.{IsAccepted}
 use Rattle.league.specs.Counts.{counts_of}
 use Rattle.league.specs.Instance.{Instance, IsInstance, IsTeamCount, class_fits}

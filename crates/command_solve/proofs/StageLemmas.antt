@@ -1,7 +1,7 @@
 -- How the stages of `solve` make an answer.
 use Rattle.std.proofs.Common.{◌≡◌, ℕ, List, Ok, codes, inl}
 use Rattle.robin_io.specs.Outside.{Store}
-use Rattle.budgets.specs.declared.budgets.Budgets.{Budgets}
+use Rattle.robin_watch.specs.declared.budgets.Budgets.{Budgets}
 use Rattle.league.specs.Instance.{Instance}
 use Rattle.robinx_tags.specs.Pieces.{pieces}
 use Rattle.robinx_form.specs.InstanceFile.{instance_of}

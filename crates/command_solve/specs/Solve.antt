@@ -26,7 +26,7 @@ use Rattle.refutation.specs.Texts.{log_text}
 use Rattle.refutation.specs.Verdict.{verdict_of}
 use Rattle.refutation.specs.declared.verdict.Verdict.TheVariants.{Accepted}
 use Rattle.clause_search.specs.News.{IsSpent}
-use Rattle.budgets.specs.declared.budgets.Budgets.{Budgets}
+use Rattle.robin_watch.specs.declared.budgets.Budgets.{Budgets}
 use Rattle.moves.specs.declared.swap.Swap.{Swap}
 use Rattle.moves.specs.declared.swap.Swap.TheVariants.{HomeSwap, RoundSwap, TeamSwap, PartRoundSwap, PartTeamSwap}
 use Rattle.descent.specs.Descended.{Descended}

@@ -14,12 +14,11 @@ ghost use Rattle.command_solve.specs.From.{IsBegun, IsFoundFrom, begun};
 
 use crate::replies::found_reply;
 use answers::{NoValue, Reply, file, league_in, rows_refused, schedule_in};
-use budgets::Budgets;
 use command_validate::judge;
 use encoding::EncodeFault;
 use league::{League, Schedule, structure};
 use robin_io::Shelf;
-use robin_news::Listener;
+use robin_watch::{Budgets, Listener};
 use robinx_read::{INSTANCE_LIMIT, SOLUTION_LIMIT};
 use solve::solve_from;
 use std::alloc::{AllocError, Global};

@@ -1,6 +1,6 @@
 //! The answers of `solve`.
 ghost use Rattle.std.specs.Prelude.{true, ◌≡◌, ℕ, ◌≤◌, ◌++◌, length, IfOk, Ok, Some};
-ghost use Rattle.budgets.specs.declared.budgets.Budgets.{Budgets};
+ghost use Rattle.robin_watch.specs.declared.budgets.Budgets.{Budgets};
 ghost use Rattle.std.specs.List.{All};
 ghost use Rattle.league.specs.Accepted as costs;
 ghost use Rattle.league.specs.Accepted.{IsAccepted};

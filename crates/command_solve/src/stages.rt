@@ -7,11 +7,10 @@ ghost use Rattle.command_solve.specs.Solve.{IsFoundBy, solved};
 
 use crate::replies::found_reply;
 use answers::{NoValue, Reply, file, league_in, rows_refused};
-use budgets::Budgets;
 use encoding::EncodeFault;
 use league::League;
 use robin_io::Shelf;
-use robin_news::Listener;
+use robin_watch::{Budgets, Listener};
 use robinx_read::INSTANCE_LIMIT;
 use solve::solve;
 use std::alloc::{AllocError, Global};

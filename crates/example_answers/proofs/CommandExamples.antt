@@ -53,7 +53,7 @@ use Rattle.pattern_search.specs.PatternRows.{is_pattern_row, pattern_rows}
 use Rattle.pattern_search.specs.PatternSets.{IsPatternSet, is_home, letter_at}
 use Rattle.pattern_search.specs.declared.found.PatternFound.TheVariants as pattern_answers
 use Rattle.pattern_search.specs.declared.found.PatternFound.TheVariants.{Patterns}
-use Rattle.budgets.specs.declared.budgets.Budgets.{Budgets}
+use Rattle.robin_watch.specs.declared.budgets.Budgets.{Budgets}
 use Rattle.descent.specs.Descended.{Descended}
 use Rattle.descent.specs.Settled.{IsSettled}
 use Rattle.descent.specs.Trail.{IsClimb, IsTrail}

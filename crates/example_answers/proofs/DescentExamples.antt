@@ -24,7 +24,7 @@ use Rattle.pattern_search.specs.PatternSets.{SayPatterns, is_home, letter_at}
 use Rattle.pattern_search.specs.declared.found.PatternFound.TheVariants as patterns
 use Rattle.descent.specs.Descended.{Descended}
 use Rattle.descent.specs.Settled.{IsLowering, IsSettled}
-use Rattle.budgets.specs.declared.budgets.Budgets.{Budgets}
+use Rattle.robin_watch.specs.declared.budgets.Budgets.{Budgets}
 use Rattle.solve.specs.Solutions.{IsDescent, IsSchedule, IsSolution, LeavesOpen}
 use Rattle.solve.specs.Solutions.{league_score}
 use Rattle.solve.specs.Earliest.{IsBestOf, IsBestOfTries, IsEarliestLeast}

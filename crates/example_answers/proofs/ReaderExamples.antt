@@ -8,7 +8,7 @@ use Rattle.league.specs.declared.class.Class.TheVariants.{Ca1}
 use Rattle.league.specs.declared.class.Constraint.{Constraint}
 use Rattle.league.specs.declared.class.Side.TheVariants.{A}
 use Rattle.league.proofs.DoubleFour.{game}
-use Rattle.budgets.specs.declared.budgets.Budgets.{Budgets}
+use Rattle.robin_watch.specs.declared.budgets.Budgets.{Budgets}
 use Rattle.command_line.specs.Words.{HasTeams}
 use Rattle.command_line.specs.Words.Command.{Check, Circle, Make, Trial}
 use Rattle.robinx_tags.specs.Next.{GivesNext}

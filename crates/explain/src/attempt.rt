@@ -14,11 +14,10 @@ ghost use Rattle.explain.specs.Attempts.{IsAttempt, IsMet, IsRefuted};
 ghost use Rattle.encoding.specs.Limit.{KeepsLimit, most_terms};
 
 use crate::{PartFault, part};
-use budgets::Budgets;
 use encoding::EncodeFault;
 use league::{League, Schedule};
 use refutation::Log;
-use robin_news::Listener;
+use robin_watch::{Budgets, Listener};
 use solve::{Solved, solve};
 use std::alloc::{AllocError, Global};
 

@@ -10,7 +10,7 @@ use crate::member::{Contradiction, listed_members, listed_numbers, numbers_of};
 use crate::names::named;
 use league::League;
 use refutation::Log;
-use robin_news::Listener;
+use robin_watch::Listener;
 use std::alloc::{AllocError, Global};
 
 /// Which of the members of a contradiction a log names, and a log of their own that refutes these.

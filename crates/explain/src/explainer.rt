@@ -23,8 +23,7 @@ use crate::smaller::minimise;
 use encoding::EncodeFault;
 use league::League;
 use refutation::Log;
-use robin_news::Listener;
-use robin_watch::News;
+use robin_watch::{Listener, News};
 use std::alloc::{AllocError, Global};
 
 /// Finds hard constraints that contradict each other, or a schedule that the league accepts.

@@ -11,8 +11,7 @@ use crate::cores::narrow;
 use crate::member::{Contradiction, first_open, open_count, others, settle, shrunk};
 use league::League;
 use refutation::Log;
-use robin_news::Listener;
-use robin_watch::News;
+use robin_watch::{Listener, News};
 use std::alloc::{AllocError, Global};
 
 /// A contradiction of which each member was tried: without it there is a schedule, or a search was spent, or the watch

@@ -11,7 +11,7 @@ ghost use Rattle.resume_rows.specs.Kept as kept;
 ghost use Rattle.resume.specs.Answers.{IsPlan, IsResumed, IsResumedBy, IsResumedSeason};
 ghost use Rattle.resume.specs.Near.{IsAtMost, IsNoFarther, IsSettledNear, changed};
 ghost use Rattle.robin_watch.specs.Limits.{IsKeptTo};
-ghost use Rattle.budgets.specs.declared.budgets.Budgets.{Budgets};
+ghost use Rattle.robin_watch.specs.declared.budgets.Budgets.{Budgets};
 ghost use Rattle.solve.specs.Solutions.{IsSolution};
 
 use crate::changed::changed_games;
@@ -20,12 +20,11 @@ use crate::judged::{MOST_GAMES, Season, judged};
 use crate::merge::merged;
 use crate::unheard::Unheard;
 use crate::{Resumed, resume_lowered};
-use budgets::Budgets;
 use deviation::assess;
 use encoding::EncodeFault;
 use kept_descent::{Nearest, OldPlan, descend_near, is_settled};
 use league::{League, Schedule, structure};
-use robin_watch::Watch;
+use robin_watch::{Budgets, Watch};
 use solve::{Solved, solve_from};
 use std::alloc::{AllocError, Global};
 

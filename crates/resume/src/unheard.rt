@@ -1,7 +1,6 @@
 //! A watch that hears of no season.
 use league::{Game, League};
-use robin_news::Listener;
-use robin_watch::{News, Watch};
+use robin_watch::{Listener, News, Watch};
 
 /// Asks and tells another watch, which hears of no season, but that no hard constraint is missed: the seasons of a league
 /// with further constraints cost more than they do in the league itself.

@@ -1,6 +1,6 @@
 -- What `circle`, `make`, `trial`, `--help` and `--version` promise is kept.
 use Rattle.std.proofs.Common.{◌≡◌, ◌≢◌, ℕ, [], inl, inr, ap, sym, ◌∙◌}
-use Rattle.budgets.specs.declared.budgets.Budgets.{Budgets}
+use Rattle.robin_watch.specs.declared.budgets.Budgets.{Budgets}
 use Rattle.command_line.specs.Words.Command.{Circle, Help, Make, Trial, Version}
 use Rattle.answers.specs.Reply.{Answer}
 use Rattle.answers.specs.declared.status.Status.TheVariants.{Yes, File, Refuted, Spent}

@@ -1,7 +1,7 @@
 -- What `solve` promises: a season that the league accepts, a log that refutes the league, or a budget that is spent.
 use Rattle.std.specs.Prelude.{◌≡◌, ◌≢◌, ℕ, List, [], ◌∷◌, None, Some}
 use Rattle.league.specs.Instance.{Instance}
-use Rattle.budgets.specs.declared.budgets.Budgets.{Budgets}
+use Rattle.robin_watch.specs.declared.budgets.Budgets.{Budgets}
 use Rattle.command_line.specs.Words.{Command}
 use Rattle.answers.specs.declared.status.Status.TheVariants.{Refuted, Spent}
 use Rattle.encoding.specs.Encoding.{rows_of}

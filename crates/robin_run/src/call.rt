@@ -36,8 +36,7 @@ use command_solve::{solve_file, solve_from_file};
 use command_validate::validate;
 use command_values::values_file;
 use robin_io::{Shelf, Sink, put_all};
-use robin_news::Listener;
-use robin_watch::News;
+use robin_watch::{Listener, News};
 use std::alloc::Global;
 
 /// Writes the part of the league of a file for the numbers of a list.

@@ -1,6 +1,6 @@
 -- Worked budgets, so that a wrong definition of those to which a run kept does not check.
 use Rattle.std.proofs.Common.{◌≡◌, None, Some, inl, inr, refl, arith}
-use Rattle.budgets.specs.declared.budgets.Budgets.{Budgets}
+use Rattle.robin_watch.specs.declared.budgets.Budgets.{Budgets}
 use Rattle.solve.specs.Kept.{AreKeptTo}
 
 abbrev set : Budgets

@@ -2,7 +2,7 @@
 use Rattle.std.proofs.Common.{◌≡◌, ℕ, ◌≤◌, ◌⊎◌, Bool, true, false, Option, None, Some, Result, Ok, Err, inl, inr, refl}
 use Rattle.std.proofs.Common.{arith, ap, subst, ◌∙◌}
 use Rattle.std.specs.Prelude.{IfOk, IfSome}
-use Rattle.budgets.specs.declared.budgets.Budgets.{Budgets}
+use Rattle.robin_watch.specs.declared.budgets.Budgets.{Budgets}
 use Rattle.robin_watch.specs.Limits.{IsKeptTo}
 use Rattle.robin_watch.proofs.LimitLemmas.{kept-unstopped}
 use Rattle.league.specs.Instance.{Instance}

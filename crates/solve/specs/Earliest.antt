@@ -1,7 +1,7 @@
 -- Which of the schedules that tries find is the answer.
 use Rattle.std.specs.Prelude.{◌≡◌, ℕ, ◌+◌, ◌<◌, ◌≤◌, ◌∷◌, ◌++◌, List, get_or, length, map}
 use Rattle.std.specs.Prelude.{Option, None, Some, IfSome, IsNone}
-use Rattle.budgets.specs.declared.budgets.Budgets.{Budgets}
+use Rattle.robin_watch.specs.declared.budgets.Budgets.{Budgets}
 use Rattle.league.specs.Instance.{Instance}
 use Rattle.std.specs.List.{All}
 use Rattle.solve.specs.Solutions.{IsRefuted, IsSolutionBy}

@@ -1,6 +1,6 @@
 -- The budgets to which a run kept.
 use Rattle.std.specs.Prelude.{◌≡◌, Some}
-use Rattle.budgets.specs.declared.budgets.Budgets.{Budgets}
+use Rattle.robin_watch.specs.declared.budgets.Budgets.{Budgets}
 use Rattle.robin_watch.specs.Limits.{IsKeptTo}
 
 -- those that were set, or, where the run may be stopped, lower ones of clauses and moves

@@ -1,6 +1,6 @@
 -- What one try says of a league.
 use Rattle.std.specs.Prelude.{ℕ, ◌+◌, ◌≤◌, List, length, Option, None, Some, IfSome}
-use Rattle.budgets.specs.declared.budgets.Budgets.{Budgets}
+use Rattle.robin_watch.specs.declared.budgets.Budgets.{Budgets}
 use Rattle.robin_watch.specs.Limits.{IsKeptTo}
 use Rattle.league.specs.Instance.{Instance}
 use Rattle.refutation.specs.Steps.{Step}

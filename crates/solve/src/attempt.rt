@@ -13,12 +13,10 @@ use crate::lower::Season;
 use crate::share::Share;
 use crate::told::{lowered_told, tell_found};
 use crate::tries::{Tried, with_walked};
-use budgets::Budgets;
 use clause_search::{Found, note_numbers, search_watched};
 use decoding::decode;
 use encoding::Encoding;
-use robin_news::Listener;
-use robin_watch::{News, Phase};
+use robin_watch::{Budgets, Listener, News, Phase};
 use rows::{Assignment, Lit};
 use std::alloc::{AllocError, Global};
 

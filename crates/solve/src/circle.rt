@@ -10,7 +10,7 @@ use crate::told::lowered_told;
 use circle_method::double;
 use deviation::assess;
 use league::League;
-use robin_news::Listener;
+use robin_watch::Listener;
 use std::alloc::{AllocError, Global};
 
 /// What a descent of at most so many moves makes of the schedule of the circle method, where the league accepts that,

@@ -21,13 +21,11 @@ use crate::prefer::true_in;
 use crate::share::{Share, walk_times};
 use crate::solved::Solved;
 use crate::tries::{is_refuted, schedule_found, solved_by, with_later};
-use budgets::Budgets;
 use clause_search::note_numbers;
 use encoding::{EncodeFault, Encoding, check_size, encode_small};
 use league::{League, Schedule};
 use pattern_search::{PatternFound, pattern_set_watched};
-use robin_news::Listener;
-use robin_watch::{News, Phase};
+use robin_watch::{Budgets, Listener, News, Phase};
 use std::alloc::{AllocError, Global};
 
 /// Finds a schedule that the league accepts, or a proof that there is none, from a double round robin of the league.

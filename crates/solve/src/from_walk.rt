@@ -13,8 +13,7 @@ use crate::share::Share;
 use crate::told::lowered_told;
 use circle_method::double;
 use league::{League, Schedule};
-use robin_news::Listener;
-use robin_watch::{News, Phase};
+use robin_watch::{Listener, News, Phase};
 use std::alloc::{AllocError, Global};
 use walk::walk;
 

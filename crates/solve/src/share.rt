@@ -1,7 +1,7 @@
 //! What one try may do.
 ghost use Rattle.std.specs.Prelude.{◌≡◌, ◌^◌, ◌-◌, ◌<◌};
 
-use budgets::Budgets;
+use robin_watch::Budgets;
 
 /// So many tries are as many as the time allows.
 const ENDLESS: u64 = u64::MAX;

@@ -24,15 +24,13 @@ use crate::prefer::{preferred, shuffled, venues};
 use crate::share::{Share, walk_times};
 use crate::solved::Solved;
 use crate::tries::{Tried, better, is_refuted, schedule_found, solved_by};
-use budgets::Budgets;
 use clause_search::note_numbers;
 use encoding::{EncodeFault, Encoding, check_size, encode_small};
 use league::League;
 use pattern_search::{PatternFound, pattern_set_watched};
 use patterns::PatternSet;
 use refutation::Log;
-use robin_news::Listener;
-use robin_watch::{News, Phase};
+use robin_watch::{Budgets, Listener, News, Phase};
 use std::alloc::{AllocError, Global};
 
 /// Finds a schedule that the league accepts, or a proof that there is none.

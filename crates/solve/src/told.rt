@@ -9,8 +9,7 @@ ghost use Rattle.solve.specs.Tried.{IsSeasonBy};
 use crate::lower::{Season, lowered_watched};
 use deviation::assess;
 use league::{League, Schedule};
-use robin_news::Listener;
-use robin_watch::{News, Phase};
+use robin_watch::{Listener, News, Phase};
 use std::alloc::{AllocError, Global};
 
 /// The schedule to which a descent of at most so many moves leads from an accepted one, until the watch ends it. The

@@ -1,6 +1,6 @@
 //! Several tries, of which the best answer is kept.
 ghost use Rattle.std.specs.Prelude.{◌≡◌, ◌↔◌, ◌⊎◌, ◌∷◌, ◌++◌, [], ℕ, ◌≤◌, nat_lt, if◌then◌else◌, List, Option, Some, IfSome, IsTrue};
-ghost use Rattle.budgets.specs.declared.budgets.Budgets.{Budgets};
+ghost use Rattle.robin_watch.specs.declared.budgets.Budgets.{Budgets};
 ghost use Rattle.league.specs.Instance.{Instance};
 ghost use Rattle.solve.specs.Earliest.{IsBestOf, season_of, season_tried};
 ghost use Rattle.solve.specs.Solutions.{CostsAtMost, HasSchedule, IsRefuted, IsSolution, LeavesOpen};

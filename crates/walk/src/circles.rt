@@ -17,7 +17,7 @@ use crate::weights::Weighing;
 use circle_method::double;
 use descent::Score;
 use league::{League, Schedule};
-use robin_news::Listener;
+use robin_watch::Listener;
 use rule_core::{Plain, Steps};
 use std::alloc::{AllocError, Global};
 use tally::league_tally;

@@ -11,7 +11,7 @@ ghost use Rattle.walk.specs.Walked.{IsSeasonOf, league_score};
 use crate::best::Best;
 use crate::walker::Walker;
 use league::{League, Schedule};
-use robin_news::Listener;
+use robin_watch::Listener;
 use std::alloc::{AllocError, Global};
 
 /// What a walk gives: the best double round robin that it kept, and how many legal moves it says it tried.

@@ -4,8 +4,9 @@ ghost use Rattle.league.specs.Accepted as costs;
 ghost use Rattle.league.specs.Accepted.{IsAccepted};
 ghost use Rattle.league.specs.Counts.{counts_of};
 
+use crate::doubles::{StopsAt, Unwatched};
+use crate::watch::Watch;
 use league::{Game, League};
-use robin_watch::{StopsAt, Unwatched, Watch};
 
 /// A watch that hears of seasons too.
 pub trait Listener: Watch {
