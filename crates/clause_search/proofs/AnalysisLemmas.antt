@@ -15,7 +15,7 @@ use Rattle.rows.specs.Rows.{Row}
 use Rattle.rows.specs.Partials.{opposite_of, reach, value_of}
 use Rattle.rows.specs.declared.partial.Value.{Value}
 use Rattle.rows.specs.declared.partial.Value.TheVariants.{True, False, Free}
-use Rattle.row_sums.proofs.LiteralLemmas.{negate-twice}
+use Rattle.rows.proofs.LiteralLemmas.{negate-twice}
 use Rattle.refutation.specs.Steps.Step.{Clause}
 use Rattle.refutation.specs.Following.{after_row, all_free, clause_row, denied, has_opposites, is_in_conflict, judged}
 use Rattle.refutation.specs.Following.{replay, row_numbered, row_unless}

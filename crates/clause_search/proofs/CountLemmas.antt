@@ -21,8 +21,8 @@ use Rattle.rows.specs.Partials.{IsEmpowering, IsQuietRow, is_false, reach, value
 use Rattle.rows.specs.declared.lit.Term.{Term}
 use Rattle.rows.specs.declared.partial.Value.{Value}
 use Rattle.rows.specs.declared.partial.Value.TheVariants.{True, False, Free}
-use Rattle.row_sums.specs.Sums.{is_same}
-use Rattle.row_sums.proofs.LiteralLemmas.{same_literal}
+use Rattle.rows.specs.Sums.{is_same}
+use Rattle.rows.proofs.LiteralLemmas.{same_literal}
 use Rattle.refutation.specs.Following.{clause_row, distinct, has, has_opposites}
 use Rattle.refutation.specs.Steps.{Step, clause_of}
 use Rattle.clause_search.specs.News.{AreNews, IsNews, IsTidy, row_of}

@@ -10,7 +10,7 @@ use Rattle.rows.specs.Partials.{opposite_of, value_of}
 use Rattle.rows.specs.declared.lit.Term.{Term}
 use Rattle.rows.specs.declared.partial.Value.{Value}
 use Rattle.rows.specs.declared.partial.Value.TheVariants.{False, Free}
-use Rattle.row_sums.proofs.LiteralLemmas.{negate-twice}
+use Rattle.rows.proofs.LiteralLemmas.{negate-twice}
 use Rattle.propagate.specs.Trails.{EachEntry, IsNew, values_of}
 use Rattle.propagate.specs.declared.entry.Entry.{Entry}
 use Rattle.propagate.proofs.ValueLemmas.{value_of-other, value_of-same}

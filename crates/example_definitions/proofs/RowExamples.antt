@@ -14,7 +14,7 @@ use Rattle.rows.specs.Values.{assigned, valued}
 use Rattle.rows.specs.declared.lit.Term.{Term}
 use Rattle.rows.specs.declared.partial.Value.{Value}
 use Rattle.rows.specs.declared.partial.Value.TheVariants.{True, False, Free}
-use Rattle.row_sums.specs.Sums.{IsWide, Totals, cancelled, divided, no_totals, plus, widest}
+use Rattle.rows.specs.Sums.{IsWide, Totals, cancelled, divided, no_totals, plus, widest}
 
 abbrev term : ℕ → Literal → Term
 term coef lit = record { coef = coef; lit = lit }

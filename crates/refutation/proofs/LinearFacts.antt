@@ -5,7 +5,7 @@ use Rattle.rows.specs.Literals.{Literal, yes, no}
 use Rattle.rows.specs.Rows.{Row}
 use Rattle.rows.specs.Cardinality.{at_least}
 use Rattle.rows.specs.declared.lit.Term.{Term}
-use Rattle.row_sums.specs.Sums.{widest}
+use Rattle.rows.specs.Sums.{widest}
 use Rattle.refutation.specs.Steps.{Step}
 use Rattle.refutation.specs.Steps.Step.{Clause, Linear}
 use Rattle.refutation.specs.Following.{judged, no_demand}

@@ -11,7 +11,7 @@ use Rattle.rows.specs.Partials.{reach}
 use Rattle.rows.specs.Forcing.{all_set, with_forced}
 use Rattle.rows.specs.declared.partial.Value.{Value}
 use Rattle.rows.specs.declared.partial.Value.TheVariants.{Free}
-use Rattle.row_sums.specs.Sums.{Totals, cancelled, divided, is_same, is_too_wide, no_totals, plus}
+use Rattle.rows.specs.Sums.{Totals, cancelled, divided, is_same, is_too_wide, no_totals, plus}
 use Rattle.refutation.specs.Steps.{Step}
 use Rattle.refutation.specs.Steps.Step.{Clause, Linear}
 use Rattle.refutation.specs.declared.step.Part.{Part}

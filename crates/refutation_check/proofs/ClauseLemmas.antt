@@ -16,8 +16,8 @@ use Rattle.rows.specs.Partials.{as_value, is_free, opposite_of, value_of}
 use Rattle.rows.specs.Forcing.{all_set, set_true}
 use Rattle.rows.specs.declared.partial.Value.{Value}
 use Rattle.rows.specs.declared.partial.Value.TheVariants.{True, False, Free}
-use Rattle.row_sums.specs.Sums.{is_same}
-use Rattle.row_sums.proofs.LiteralLemmas.{negate-twice, same_literal}
+use Rattle.rows.specs.Sums.{is_same}
+use Rattle.rows.proofs.LiteralLemmas.{negate-twice, same_literal}
 use Rattle.refutation.specs.Following.{all_free, denied, distinct, has, has_opposites}
 
 -- ---- the same literal

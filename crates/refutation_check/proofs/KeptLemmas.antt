@@ -14,9 +14,9 @@ use Rattle.rows.specs.Literals.{Literal, yes, no}
 use Rattle.rows.specs.Rows.{Row}
 use Rattle.rows.specs.Cardinality.{at_least, unit}
 use Rattle.rows.specs.declared.lit.Term.{Term}
-use Rattle.row_sums.specs.Sums.{Totals, cancelled, divided, divided_term, is_same, is_too_wide}
-use Rattle.row_sums.specs.Sums.{left_over, no_totals, plus, top_of}
-use Rattle.row_sums.specs.Sums.{variables_to}
+use Rattle.rows.specs.Sums.{Totals, cancelled, divided, divided_term, is_same, is_too_wide}
+use Rattle.rows.specs.Sums.{left_over, no_totals, plus, top_of}
+use Rattle.rows.specs.Sums.{variables_to}
 use Rattle.refutation.specs.Steps.{Step}
 use Rattle.refutation.specs.Steps.Step.{Clause, Linear}
 use Rattle.refutation.specs.Following.{add_parts, add_row, clause_row, distinct, has_opposites, judged, no_demand}

@@ -15,7 +15,7 @@ use Rattle.rows.specs.Cardinality.{at_least, unit}
 use Rattle.rows.specs.Forcing.{with_forced}
 use Rattle.rows.specs.declared.lit.Term.{Term}
 use Rattle.rows.specs.declared.partial.Value.{Value}
-use Rattle.row_sums.specs.Sums.{is_same}
+use Rattle.rows.specs.Sums.{is_same}
 use Rattle.refutation.specs.Steps.{Step}
 use Rattle.refutation.specs.Steps.Step.{Clause, Linear}
 use Rattle.refutation.specs.Following.{after_row, clause_row, denied, distinct, fault_of, has_opposites}

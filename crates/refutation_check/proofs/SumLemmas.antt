@@ -12,9 +12,9 @@ use Rattle.std.proofs.lemmas.List.Elements.{All-head, All-tail}
 use Rattle.std.proofs.lemmas.List.Sums.{sum_by-cons}
 use Rattle.rows.specs.Rows.{Row, Satisfies, SatisfiesAll, is_true, weight}
 use Rattle.rows.specs.declared.lit.Term.{Term}
-use Rattle.row_sums.specs.Sums.{Totals, cancelled, divided, divided_term, is_too_wide}
-use Rattle.row_sums.specs.Sums.{no_totals, plus}
-use Rattle.row_sums.proofs.SumLaws.{IsMet, cancelled_holds, no_totals_met, plus_met}
+use Rattle.rows.specs.Sums.{Totals, cancelled, divided, divided_term, is_too_wide}
+use Rattle.rows.specs.Sums.{no_totals, plus}
+use Rattle.rows.proofs.SumLaws.{IsMet, cancelled_holds, no_totals_met, plus_met}
 use Rattle.refutation.specs.Following.{add_parts, add_row, row_numbered, row_of}
 use Rattle.refutation.specs.declared.step.Part.{Part}
 use Rattle.refutation.specs.declared.verdict.Cause.{Cause}

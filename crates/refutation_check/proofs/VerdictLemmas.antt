@@ -14,7 +14,7 @@ use Rattle.refutation.specs.Following.{row_of, row_unless}
 use Rattle.refutation.specs.Verdict.{ends_empty, fault_or, first_fault, is_empty_clause, verdict_by}
 use Rattle.refutation.specs.declared.verdict.Cause.{Cause}
 use Rattle.refutation.specs.declared.verdict.Verdict.{Verdict}
-use Rattle.row_sums.specs.Sums.{Totals, no_totals}
+use Rattle.rows.specs.Sums.{Totals, no_totals}
 use Rattle.refutation_check.specs.Judged.{Judged, JudgedStep, StepsGiveVerdict, after_step, are_none, ends_false}
 use Rattle.refutation_check.specs.Judged.{is_falsum, verdict_so_far, with_step}
 

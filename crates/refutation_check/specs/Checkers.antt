@@ -1,8 +1,8 @@
 -- How a checker is kept: between two steps nothing is set or added up, and all its rows are within its variables.
 use Rattle.std.specs.Prelude.{◌≡◌, [], length}
 use Rattle.rows.specs.Values.{valued}
-use Rattle.row_sums.specs.Sums.{no_totals}
-use Rattle.row_sums.specs.Tables.{totals_of}
+use Rattle.rows.specs.Sums.{no_totals}
+use Rattle.rows.specs.Tables.{totals_of}
 use Rattle.refutation.specs.Following.{all_free}
 use Rattle.refutation_check.specs.Judged.{Judged}
 use Rattle.refutation_check.specs.Kept.{all_rows, state_of}

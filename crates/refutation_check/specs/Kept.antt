@@ -3,7 +3,7 @@ use Rattle.std.specs.Prelude.{◌≡◌, ℕ, List, ◌++◌, map, Option, Some,
 use Rattle.rows.specs.Rows.{Row}
 use Rattle.rows.specs.Forcing.{with_forced}
 use Rattle.rows.specs.declared.partial.Value.{Value}
-use Rattle.row_sums.specs.Sums.{Totals}
+use Rattle.rows.specs.Sums.{Totals}
 use Rattle.refutation.specs.Following.{is_in_conflict}
 use Rattle.refutation.specs.declared.step.StepKind.{StepKind}
 use Rattle.refutation.specs.declared.step.StepKind.TheVariants as kinds

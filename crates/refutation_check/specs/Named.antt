@@ -1,7 +1,7 @@
 -- The row that a number names, as it is kept.
 use Rattle.std.specs.Prelude.{◌≤◌, Option, Some, None}
 use Rattle.rows.specs.Rows.{Row}
-use Rattle.row_sums.specs.Sums.{weight_of, widest}
+use Rattle.rows.specs.Sums.{weight_of, widest}
 use Rattle.refutation_check.specs.declared.named.NamedRow.{NamedRow}
 use Rattle.refutation_check.specs.declared.named.NamedRow.TheVariants.{Unknown, Narrow, Wide}
 

@@ -1,8 +1,8 @@
 //! The rows of a linear step, added up.
 ghost use Rattle.std.specs.Prelude.{◌≡◌, ◌≤◌, IfOk, Result};
 ghost use Rattle.std.specs.List.{All};
-ghost use Rattle.row_sums.specs.Sums.{Totals};
-ghost use Rattle.row_sums.specs.Tables.{totals_of};
+ghost use Rattle.rows.specs.Sums.{Totals};
+ghost use Rattle.rows.specs.Tables.{totals_of};
 ghost use Rattle.refutation.specs.Following.{add_parts, add_row, row_numbered};
 ghost use Rattle.refutation.specs.declared.verdict.Cause.{Cause as Fault};
 ghost use Rattle.refutation_check.specs.Kept.{all_rows, unless_fault};
@@ -10,8 +10,7 @@ ghost use Rattle.refutation_check.specs.Kept.{all_rows, unless_fault};
 use crate::kept::KeptStep;
 use crate::named::{NamedRow, named_row};
 use refutation::{Cause, Part};
-use row_sums::{Sum, SumFault};
-use rows::RowStore;
+use rows::{RowStore, Sum, SumFault};
 use std::alloc::AllocError;
 
 /// Adds the rows of these parts to a sum, up to the first that can't be added, and says what is wrong with that.

@@ -10,8 +10,7 @@ use crate::keep::keep;
 use crate::kept::{KeptStep, Rejection, verdict_on};
 use crate::trail::undo;
 use refutation::{Part, Verdict};
-use row_sums::Sum;
-use rows::{Lit, Partial, RowStore};
+use rows::{Lit, Partial, RowStore, Sum};
 use std::alloc::{AllocError, Global};
 use std::marker::Model;
 

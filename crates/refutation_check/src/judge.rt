@@ -3,8 +3,8 @@ ghost use Rattle.std.specs.Prelude.{◌≡◌, ◌≤◌, ℕ, length, IfOk};
 ghost use Rattle.std.specs.List.{All};
 ghost use Rattle.rows.specs.Trails.{IsListed};
 ghost use Rattle.rows.specs.Values.{valued};
-ghost use Rattle.row_sums.specs.Sums.{no_totals};
-ghost use Rattle.row_sums.specs.Tables.{totals_of};
+ghost use Rattle.rows.specs.Sums.{no_totals};
+ghost use Rattle.rows.specs.Tables.{totals_of};
 ghost use Rattle.refutation.specs.Following.{all_free, judged};
 ghost use Rattle.refutation.specs.Steps.Step.{Clause, Linear};
 ghost use Rattle.refutation.specs.declared.step.StepKind.TheVariants as kinds;
@@ -16,8 +16,7 @@ use crate::clause::{deny, has_unknown};
 use crate::kept::{KeptStep, kept_sum};
 use crate::replay::replay;
 use refutation::{Cause, Part, StepKind};
-use row_sums::Sum;
-use rows::{Lit, Partial, RowStore};
+use rows::{Lit, Partial, RowStore, Sum};
 use std::alloc::{AllocError, Global};
 
 /// Judges a clause step over as many variables as the assignment has. What it sets stays set, and listed.

@@ -8,8 +8,7 @@ ghost use Rattle.refutation_check.specs.Judged.{ends_false};
 ghost use Rattle.refutation_check.specs.Kept.{judged_step};
 
 use refutation::{Cause, StepKind, Verdict};
-use row_sums::{WideRow, WideTerm};
-use rows::Term;
+use rows::{Term, WideRow, WideTerm};
 use std::alloc::{AllocError, Global};
 
 /// The row of a step that followed.

@@ -6,8 +6,7 @@ ghost use Rattle.refutation_check.specs.Named as named;
 ghost use Rattle.refutation_check.specs.Named.{IsNotTooWide};
 
 use crate::kept::KeptStep;
-use row_sums::WideTerm;
-use rows::{RowStore, Term};
+use rows::{RowStore, Term, WideTerm};
 
 /// The row that a number names.
 #[derive(Clone, Copy)]

@@ -3,7 +3,7 @@ ghost use Rattle.std.specs.Prelude.{◌≡◌, ◌≤◌, length, IfOk, Ok, Some
 ghost use Rattle.std.specs.List.{All};
 ghost use Rattle.rows.specs.Trails.{IsListed};
 ghost use Rattle.rows.specs.Values.{valued};
-ghost use Rattle.row_sums.specs.Sums.{weight_of, widest};
+ghost use Rattle.rows.specs.Sums.{weight_of, widest};
 ghost use Rattle.refutation.specs.Following as following;
 ghost use Rattle.refutation.specs.Following.{row_numbered};
 ghost use Rattle.refutation_check.specs.Kept.{all_rows, forced_at, turn_at};
@@ -12,8 +12,7 @@ ghost use Rattle.refutation_check.specs.Within.{AreWithin};
 use crate::kept::KeptStep;
 use crate::named::{NamedRow, named_row};
 use refutation::Cause;
-use row_sums::{WideTerm, wide_force, wide_reach};
-use rows::{Partial, RowStore, Term, force, reach};
+use rows::{Partial, RowStore, Term, WideTerm, force, reach, wide_force, wide_reach};
 use std::alloc::AllocError;
 
 /// What the row comes to that a hint names.

@@ -11,6 +11,8 @@ pub mod Values
 -- What a row makes of a partial assignment, and where its variables are listed:
 pub mod Forcing
 pub mod Trails
+-- How rows are added up, and what row a sum stands for:
+pub mod Sums
 -- Kept inside (laws, and how fields are seen):
 --
 -- The number that stands for a literal:
@@ -20,3 +22,5 @@ pub mod LitLaws
 pub mod Flat
 -- Rows as tests:
 pub mod Tests
+-- How a sum keeps what its literals count:
+pub mod Tables

@@ -11,7 +11,7 @@ use Rattle.std.proofs.lemmas.List.Sums.{sum_by-append, sum_by-cons}
 use Rattle.rows.specs.Literals.{Literal}
 use Rattle.rows.specs.Rows.{Row}
 use Rattle.rows.specs.declared.lit.Term.{Term}
-use Rattle.row_sums.specs.Sums.{Totals, count_in, divided, divided_term, is_same, is_too_wide, plus, weight_of, widest}
+use Rattle.rows.specs.Sums.{Totals, count_in, divided, divided_term, is_same, is_too_wide, plus, weight_of, widest}
 use Rattle.refutation.specs.Following.{add_parts, add_row, row_numbered}
 use Rattle.refutation.specs.declared.step.Part.{Part}
 use Rattle.refutation.specs.declared.verdict.Cause.{Cause}

@@ -9,9 +9,9 @@ use Rattle.rows.specs.Literals.{Literal, negate, no, yes}
 use Rattle.rows.specs.Partials.{is_false, opposite_of, reach, value_of}
 use Rattle.rows.specs.declared.lit.Term.{Term}
 use Rattle.rows.specs.declared.partial.Value.TheVariants.{Free}
-use Rattle.row_sums.specs.Sums.{Totals, cancelled, count_in, left_over, variables_to, weight_of}
-use Rattle.row_sums.specs.Tables.{common_at, left_at}
-use Rattle.row_sums.proofs.CountLemmas.{count_both, counted-covered}
+use Rattle.rows.specs.Sums.{Totals, cancelled, count_in, left_over, variables_to, weight_of}
+use Rattle.rows.specs.Tables.{common_at, left_at}
+use Rattle.rows.proofs.CountLemmas.{count_both, counted-covered}
 use Rattle.refutation.specs.Following.{all_free, is_in_conflict}
 
 -- with nothing set all coefficients are within reach

@@ -15,7 +15,7 @@ use Rattle.rows.specs.Cardinality.{at_least, unit}
 use Rattle.rows.specs.Literals.{Literal, negate}
 use Rattle.rows.specs.Rows.{Row}
 use Rattle.rows.specs.declared.lit.Term.{Term}
-use Rattle.row_sums.specs.Sums.{Totals, cancelled, count_in, is_same, no_totals, weight_of}
+use Rattle.rows.specs.Sums.{Totals, cancelled, count_in, is_same, no_totals, weight_of}
 use Rattle.encoding_sizes.proofs.SizeLemmas.{sum_by-constant}
 use Rattle.refutation.specs.Following.{all_free, is_in_conflict}
 use Rattle.venue_counts.proofs.AddedLemmas.{added-count, added-degree, all_added, terms_of}

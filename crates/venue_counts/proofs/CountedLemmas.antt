@@ -21,7 +21,7 @@ use Rattle.league.specs.declared.class.Class.TheVariants.{Ca1, Ca2, Ca3, Ca4, Ga
 use Rattle.league.specs.declared.class.Constraint.{Constraint}
 use Rattle.league.specs.declared.class.Side.{Side}
 use Rattle.rows.specs.Literals.{Literal}
-use Rattle.row_sums.specs.Sums.{literal}
+use Rattle.rows.specs.Sums.{literal}
 use Rattle.encoding_base.specs.Encoding.{rows_of}
 use Rattle.encoding_base.specs.Variables.{h_var, var_count}
 use Rattle.encoding_base.proofs.FewLemmas.{slots_few}

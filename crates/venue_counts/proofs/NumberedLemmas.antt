@@ -11,7 +11,7 @@ use Rattle.rows.specs.Cardinality.{at_least, unit}
 use Rattle.rows.specs.Literals.{Literal}
 use Rattle.rows.specs.Rows.{Row}
 use Rattle.rows.specs.declared.lit.Term.{Term}
-use Rattle.row_sums.specs.Sums.{literal}
+use Rattle.rows.specs.Sums.{literal}
 use Rattle.encoding_base.specs.Encoding.{rows_of}
 use Rattle.encoding_base.specs.Variables.{h_var}
 use Rattle.refutation.specs.Following.{row_numbered}

@@ -21,7 +21,7 @@ use Rattle.league.proofs.ListLemmas.{Contains-flat_map, Contains-map}
 use Rattle.rows.specs.Cardinality.{at_least, at_most, exactly, unit}
 use Rattle.rows.specs.Literals.{Literal, negate, no, yes}
 use Rattle.rows.specs.Rows.{Row}
-use Rattle.row_sums.specs.Sums.{literal}
+use Rattle.rows.specs.Sums.{literal}
 use Rattle.encoding_base.specs.Demands.{ca1_rows}
 use Rattle.encoding_base.specs.Encoding.{class_rows, constraint_rows, demands, rows_of, season_rows}
 use Rattle.encoding_base.specs.Lists.{venues_in}

@@ -5,7 +5,7 @@ use Rattle.std.specs.Prelude.{Result, Ok}
 use Rattle.std.specs.List.{slice_get, sum_by}
 use Rattle.rows.specs.Rows.{Row}
 use Rattle.rows.specs.Forcing.{with_forced}
-use Rattle.row_sums.specs.Sums.{Totals, cancelled, no_totals, weight_of, widest}
+use Rattle.rows.specs.Sums.{Totals, cancelled, no_totals, weight_of, widest}
 use Rattle.refutation.specs.Following.{add_parts, after_row, all_free, is_in_conflict, judged, replay, row_numbered}
 use Rattle.refutation.specs.Following.{row_of}
 use Rattle.refutation.specs.Following.{row_unless}

@@ -1,5 +1,5 @@
 use Rattle.std.proofs.Common.{◌≡◌, drop}
-use Rattle.row_sums.specs.Tables.{totals_of}
+use Rattle.rows.specs.Tables.{totals_of}
 use Rattle.refutation.specs.Following.{add_parts}
 use Rattle.refutation_check.specs.Kept.{all_rows}
 use Rattle.refutation_check.proofs.adding.add_all.Given as goal

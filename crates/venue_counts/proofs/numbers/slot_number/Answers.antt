@@ -1,5 +1,5 @@
 use Rattle.std.proofs.Common.{ap, arith, ◌∙◌}
-use Rattle.row_sums.specs.Sums.{literal}
+use Rattle.rows.specs.Sums.{literal}
 use Rattle.encoding_base.specs.Variables.{h_var}
 use Rattle.rows.specs.Cardinality.{at_least}
 use Rattle.venue_counts.proofs.NumberedLemmas.{literals-more, slot_row-as, slot_row-shown}

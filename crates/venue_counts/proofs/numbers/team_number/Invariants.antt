@@ -1,5 +1,5 @@
 use Rattle.std.proofs.Common.{◌≡◌, map, take}
-use Rattle.row_sums.specs.Sums.{literal}
+use Rattle.rows.specs.Sums.{literal}
 use Rattle.encoding_base.specs.Variables.{h_var}
 use Rattle.venue_counts.proofs.numbers.team_number.Given as goal
 

@@ -1,6 +1,0 @@
-use Rattle.row_sums.specs.Tables.{count_at}
-use Rattle.row_sums.proofs.CancelLemmas.{IsUnderWay}
-use Rattle.row_sums.proofs.sum.cancel_all.Given as goal
-
-abbrev pub invariant-loop-var : goal.invariant-loop-var
-invariant-loop-var l = IsUnderWay (count_at l.counts) l.order l.degree l.divisor l.terms.items l.left l.next l.var-index

@@ -1,6 +1,0 @@
-use Rattle.std.proofs.Common.{drop}
-use Rattle.row_sums.specs.Tables.{AreTouched, count_at}
-use Rattle.row_sums.proofs.sum.clear_touched.Given as goal
-
-abbrev pub invariant-loop-var : goal.invariant-loop-var
-invariant-loop-var l = AreTouched (count_at l.counts) (drop l.var-index l.touched)

@@ -1,0 +1,10 @@
+use Rattle.std.proofs.Common.{◌≡◌, ◌-◌, ◌^◌, ◌≤◌, drop, max, min, take}
+use Rattle.rows.specs.Sums.{top_of, weight_of}
+use Rattle.rows.proofs.sum.measure_wide.Given as goal
+
+abbrev pub invariant-loop-term : goal.invariant-loop-term
+invariant-loop-term l = record {
+  so_far : l.total ≡ min (weight_of (take l.term-index l.terms)) (2 ^ 128 - 1);
+  top : max l.top (top_of (drop l.term-index l.terms)) ≡ top_of l.terms;
+  few : l.top ≤ 2147483647;
+}
