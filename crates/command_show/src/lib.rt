@@ -1,8 +1,8 @@
 //! What `show` answers: a season as a grid, with what it lacks and misses in words, or as comma-separated values; or what
 //! a league demands.
 //!
-//! A contract sees the answer by the stages of `specs/Show.antt`, and the text by the definitions of `season_grid`,
-//! `season_misses` and `season_csv`.
+//! A contract sees the answer by the stages of `specs/Show.antt`, and the text by the definitions of `season_tables`
+//! and `season_misses`.
 #![tactic(auto)]
 
 mod asked;

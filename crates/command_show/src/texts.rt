@@ -15,9 +15,8 @@ use deviation::{Assessment, counted};
 use league::{League, Schedule, TeamId};
 use reasons::TeamGames;
 use robinx_names::Names;
-use season_csv::season_csv;
-use season_grid::{Season, season_grid};
 use season_misses::{Told, lacks, misses};
+use season_tables::{Season, season_csv, season_grid};
 use std::alloc::{AllocError, Global};
 
 /// What the teams of a league of n teams are called.

@@ -1,0 +1,11 @@
+-- Lemmas on ranges, and on runs in them:
+pub mod RangeLemmas
+pub mod RunLemmas
+-- Texts that are joined:
+pub mod TextLemmas
+-- Laws of cells and of blocks:
+pub mod CellLemmas
+pub mod BlockLemmas
+-- Worked examples, so that a wrong definition does not check:
+pub mod CsvFacts
+pub mod GridFacts
