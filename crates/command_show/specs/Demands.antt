@@ -12,7 +12,7 @@ use Rattle.robinx_form.specs.InstanceFile.{instance_of}
 use Rattle.robinx_read.specs.declared.instance.TheConstants.{INSTANCE_LIMIT}
 use Rattle.robinx_names.specs.Names.{Names}
 use Rattle.robinx_names.specs.NamesFile.{names_of}
-use Rattle.demand_words.specs.Demands.{constraint_text}
+use Rattle.season_misses.specs.Demands.{constraint_text}
 use Rattle.answers.specs.Reply.{Answer}
 use Rattle.answers.specs.Stages.{◌>>=◌, Outcome, reads, says}
 use Rattle.answers.specs.declared.status.Status.TheVariants.{Yes, File}

@@ -14,11 +14,11 @@ ghost use Rattle.command_show.specs.Show as show;
 use crate::stages::names_in;
 use crate::texts::labels_of;
 use answers::{Advice, NoValue, Refusal, Reply, Status, file, league_in};
-use demand_words::{Label, constraint_words};
 use league::{Constraint, League};
 use robin_io::Shelf;
 use robinx_names::Names;
 use robinx_read::INSTANCE_LIMIT;
+use season_misses::{Label, constraint_words};
 use std::alloc::{AllocError, Global};
 
 /// Adds the line of a constraint with a number, where it is hard, or where it is soft.

@@ -10,12 +10,11 @@ ghost use Rattle.command_show.specs.Show as show;
 
 use crate::form::Form;
 use command_validate::{structure_line, verdict};
-use demand_words::Label;
 use deviation::{Assessment, counted};
 use league::{League, Schedule, TeamId};
 use reasons::TeamGames;
 use robinx_names::Names;
-use season_misses::{Told, lacks, misses};
+use season_misses::{Label, Told, lacks, misses};
 use season_tables::{Season, season_csv, season_grid};
 use std::alloc::{AllocError, Global};
 

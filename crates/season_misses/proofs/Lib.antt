@@ -1,3 +1,5 @@
+-- Sentences of demands:
+pub mod DemandLemmas
 -- Texts by their parts, the rows of reasons, lists that are gone through, and the constraints that are missed:
 mod PartLemmas
 mod RowLemmas
@@ -5,5 +7,6 @@ mod WalkLemmas
 mod MissLemmas
 mod OrderLemmas
 -- Worked examples, so that a wrong definition does not check:
+pub mod DemandFacts
 pub mod LineFacts
 pub mod MissFacts

@@ -2,7 +2,7 @@
 use Rattle.std.specs.Prelude.{ℕ, ◌+◌, ◌-◌, ◌==◌, nat_le, nat_lt, if◌then◌else◌, List, [], ◌++◌, codes, decimal}
 use Rattle.league.specs.Bounds.{excess}
 use Rattle.league.specs.Counts.{slot_count}
-use Rattle.demand_words.specs.Phrases.{many}
+use Rattle.season_misses.specs.Phrases.{many}
 
 -- `none`, or the number
 abbrev pub count_text : ℕ → List ℕ

@@ -2,7 +2,7 @@
 use Rattle.std.specs.Prelude.{ℕ, List, [], ◌∷◌, ◌++◌, codes, decimal}
 use Rattle.std.specs.List.{flat_map}
 use Rattle.league.specs.declared.game.Game.{Game}
-use Rattle.demand_words.specs.Phrases.{name_of}
+use Rattle.season_misses.specs.Phrases.{name_of}
 
 -- a game with its slot: `Ajax - Brug (0)`
 abbrev pub game_text : List (List ℕ) → Game → List ℕ

@@ -5,7 +5,7 @@ use Rattle.std.specs.List.{filter, flat_map}
 use Rattle.league.specs.Counts.{slots_of, teams_of}
 use Rattle.league.specs.declared.game.Game.{Game}
 use Rattle.league.specs.declared.wrongs.Wrongs.{Wrongs}
-use Rattle.demand_words.specs.Phrases.{name_of}
+use Rattle.season_misses.specs.Phrases.{name_of}
 use Rattle.season_misses.specs.Games.{games_text}
 use Rattle.season_misses.specs.Misses.{cut_lines}
 use Rattle.season_misses.specs.declared.structure.Lack.{Lack}

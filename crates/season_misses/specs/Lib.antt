@@ -1,6 +1,9 @@
 -- What a reader of a claim must believe:
 --
--- Read in this order. Games and numbers in words:
+-- Read in this order. The parts of a sentence, and what a constraint demands:
+pub mod Phrases
+pub mod Demands
+-- Games and numbers in words:
 pub mod Games
 pub mod Amounts
 -- Which reasons are one line, and the line of each class:
@@ -12,8 +15,10 @@ pub mod Misses
 pub mod Order
 -- What a season lacks of a double round robin:
 pub mod Lacks
--- Kept inside (how fields are seen):
+-- Kept inside (laws, and how fields are seen):
 --
+-- What a class bounds:
+pub mod Groups
 -- A row without where its reason lies in memory, and what is kept of a season:
 pub mod SeenRow
 pub mod SeenTold

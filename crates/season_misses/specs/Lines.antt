@@ -12,7 +12,7 @@ use Rattle.league.specs.declared.class.Side.TheVariants.{H, A, Both}
 use Rattle.league.specs.declared.class.Span.{Span}
 use Rattle.league.specs.declared.class.Span.TheVariants.{Global, Every}
 use Rattle.league.specs.declared.game.Game.{Game}
-use Rattle.demand_words.specs.Phrases.{listed, many, name_of}
+use Rattle.season_misses.specs.Phrases.{listed, many, name_of}
 use Rattle.reasons.specs.declared.reason.Break.{Break}
 use Rattle.reasons.specs.declared.reason.Cause.{Cause}
 use Rattle.reasons.specs.declared.reason.Cause.TheVariants.{Games, Window, Breaks, Lead, Gap}

@@ -9,8 +9,8 @@ use Rattle.league.specs.declared.class.Class.{Class}
 use Rattle.league.specs.declared.class.Class.TheVariants.{Br2}
 use Rattle.league.specs.declared.class.Constraint.{Constraint}
 use Rattle.league.specs.declared.game.Game.{Game}
-use Rattle.demand_words.specs.Demands.{constraint_text}
-use Rattle.demand_words.specs.Phrases.{many}
+use Rattle.season_misses.specs.Demands.{constraint_text}
+use Rattle.season_misses.specs.Phrases.{many}
 use Rattle.reasons.specs.Reasons.{reasons_of}
 use Rattle.reasons.specs.declared.reason.Reason.{Reason}
 use Rattle.season_misses.specs.Lines.{all_breaks_line, breaks_by_team, breaks_told, line_of}

@@ -2,7 +2,7 @@
 ghost use Rattle.std.specs.Prelude.{◌≡◌, ◌≤◌, ◌<◌, ◌^◌, IfOk, string_bytes};
 ghost use Rattle.season_misses.specs.Amounts as amounts;
 
-use demand_words::many;
+use crate::numbers::many;
 use league::{Bounds, slot_count};
 use std::alloc::{AllocError, Global};
 

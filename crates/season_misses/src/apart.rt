@@ -5,7 +5,9 @@ ghost use Rattle.season_misses.specs.Lines as lines;
 
 use crate::amounts::count_text;
 use crate::game_words::games_text;
-use demand_words::{Label, listed, many};
+use crate::label::Label;
+use crate::lists::listed;
+use crate::numbers::many;
 use league::Game;
 use reasons::Cause;
 use std::alloc::{AllocError, Global};

@@ -5,7 +5,7 @@ ghost use Rattle.season_misses.specs.Lines as lines;
 
 use crate::amounts::there_text;
 use crate::game_words::{games_text, name_at};
-use demand_words::Label;
+use crate::label::Label;
 use league::Side;
 use reasons::{Break, Cause};
 use std::alloc::{AllocError, Global};

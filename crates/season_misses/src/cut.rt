@@ -3,7 +3,7 @@ ghost use Rattle.std.specs.Prelude.{◌≡◌, ◌++◌, take, OnOk, string_byte
 ghost use Rattle.std.specs.List.{flat_map};
 ghost use Rattle.season_misses.specs.Misses as misses;
 
-use demand_words::Label;
+use crate::label::Label;
 use std::alloc::AllocError;
 
 /// At most so many of a list, from its front.

@@ -1,10 +1,10 @@
 //! Games in words.
 ghost use Rattle.std.specs.Prelude.{◌≡◌, ◌++◌, IfOk, OnOk, string_bytes};
 ghost use Rattle.std.specs.List.{flat_map};
-ghost use Rattle.demand_words.specs.Phrases as phrases;
+ghost use Rattle.season_misses.specs.Phrases as phrases;
 ghost use Rattle.season_misses.specs.Games as games;
 
-use demand_words::Label;
+use crate::label::Label;
 use league::Game;
 use std::alloc::{AllocError, Global};
 

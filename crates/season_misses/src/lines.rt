@@ -9,8 +9,8 @@ use crate::amounts::{beyond_text, count_text, stretch_text, there_text, windows_
 use crate::apart::{gap_text, lead_text};
 use crate::break_lines::{all_breaks_line, breaks_line, breaks_told};
 use crate::game_words::{games_after, name_at};
+use crate::label::Label;
 use crate::row::Row;
-use demand_words::Label;
 use league::{Bounds, Class, Game, Span};
 use reasons::{Cause, pair_at};
 use std::alloc::{AllocError, Global};

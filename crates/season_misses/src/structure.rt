@@ -5,7 +5,7 @@ ghost use Rattle.season_misses.specs.Lacks as lacks;
 
 use crate::cut::push_cut;
 use crate::game_words::{games_text, name_at};
-use demand_words::Label;
+use crate::label::Label;
 use league::{Game, League, Wrongs, slot_count};
 use std::alloc::{AllocError, Global};
 

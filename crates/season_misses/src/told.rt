@@ -11,11 +11,13 @@ ghost use Rattle.season_misses.specs.SeenTold.{IsTold};
 
 use crate::break_lines::{all_breaks_line, breaks_by_team, breaks_told};
 use crate::cut::{front_of, push_cut, push_line, push_more};
+use crate::demands::constraint_words;
 use crate::gravest::gravest_first;
+use crate::label::Label;
 use crate::lines::line_of;
 use crate::miss::{Miss, misses_of};
+use crate::numbers::many;
 use crate::row::{Row, rows_of};
-use demand_words::{Label, constraint_words, many};
 use deviation::Vectors;
 use league::{Class, Constraint, Game, League, TeamSet};
 use reasons::{Reason, Season, TeamGames, reasons};

@@ -1,5 +1,5 @@
 use Rattle.std.proofs.Common.{◌≡◌, ◌-◌, ◌++◌, ℕ, List, [], ◌∷◌, IfOk, codes, decimal, string_bytes, subst, ap, ◌∙◌, arith}
-use Rattle.demand_words.specs.Phrases.{many}
+use Rattle.season_misses.specs.Phrases.{many}
 use Rattle.league.specs.Separation.{slots_between}
 use Rattle.season_misses.specs.Games.{games_text}
 use Rattle.season_misses.proofs.PartLemmas.{three_parts}

@@ -6,8 +6,8 @@ use Rattle.league.specs.declared.class.Class.TheVariants.{Ca1, Ca2, Ca3, Ca4, Ga
 use Rattle.league.specs.declared.class.Side.TheVariants.{H, A, Both}
 use Rattle.league.specs.declared.class.Span.TheVariants.{Global, Every}
 use Rattle.league.proofs.DoubleFour.{all_slots, all_teams}
-use Rattle.demand_words.specs.Demands.{constraint_text, demand_text}
-use Rattle.demand_words.specs.Phrases.{slots_list}
+use Rattle.season_misses.specs.Demands.{constraint_text, demand_text}
+use Rattle.season_misses.specs.Phrases.{slots_list}
 
 abbrev names : List (List ℕ)
 names = codes "Ajax" ∷ codes "Brug" ∷ codes "Club" ∷ codes "Dam" ∷ []

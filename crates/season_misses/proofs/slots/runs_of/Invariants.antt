@@ -1,6 +1,6 @@
 use Rattle.std.proofs.Common.{◌≡◌, ◌≤◌, length, drop}
-use Rattle.demand_words.specs.Phrases as phrases
-use Rattle.demand_words.proofs.slots.runs_of.Given as goal
+use Rattle.season_misses.specs.Phrases as phrases
+use Rattle.season_misses.proofs.slots.runs_of.Given as goal
 
 -- the runs of the slots that were taken, from behind
 abbrev pub invariant-loop-left : goal.invariant-loop-left

@@ -3,8 +3,8 @@ ghost use Rattle.std.specs.Prelude.{◌≡◌, ◌<◌, ◌≤◌, [], ◌∷◌
 ghost use Rattle.std.specs.List.{All};
 ghost use Rattle.league.specs.Instance.{are_meetings, class_fits};
 ghost use Rattle.league.specs.declared.class.Class.TheVariants.{Ga1};
-ghost use Rattle.demand_words.specs.Demands as demands;
-ghost use Rattle.demand_words.specs.Groups.{is_of_breaks, is_of_crowds, is_of_games, is_of_pairs};
+ghost use Rattle.season_misses.specs.Demands as demands;
+ghost use Rattle.season_misses.specs.Groups.{is_of_breaks, is_of_crowds, is_of_games, is_of_pairs};
 
 use crate::label::Label;
 use crate::lists::listed;

@@ -1,6 +1,6 @@
 //! Texts in a row.
 ghost use Rattle.std.specs.Prelude.{◌≡◌, ◌<◌, ◌++◌, length, string_bytes, IfOk, OnOk};
-ghost use Rattle.demand_words.specs.Phrases as phrases;
+ghost use Rattle.season_misses.specs.Phrases as phrases;
 
 use crate::label::Label;
 use std::alloc::{AllocError, Global};

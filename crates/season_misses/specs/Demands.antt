@@ -8,8 +8,8 @@ use Rattle.league.specs.declared.class.Side.{Side}
 use Rattle.league.specs.declared.class.Side.TheVariants.{H, A, Both}
 use Rattle.league.specs.declared.class.Span.{Span}
 use Rattle.league.specs.declared.class.Span.TheVariants.{Global, Every}
-use Rattle.demand_words.specs.Phrases.{all_slots, all_teams, against_teams, bare_bounds_text, bounds_text, each_slot}
-use Rattle.demand_words.specs.Phrases.{each_team, listed, many, name_of, two_teams, windows_text}
+use Rattle.season_misses.specs.Phrases.{all_slots, all_teams, against_teams, bare_bounds_text, bounds_text, each_slot}
+use Rattle.season_misses.specs.Phrases.{each_team, listed, many, name_of, two_teams, windows_text}
 
 -- a game, or a break, on a side
 abbrev pub game_noun : Side → List ℕ

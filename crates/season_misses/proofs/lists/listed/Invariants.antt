@@ -1,6 +1,6 @@
 use Rattle.std.proofs.Common.{◌≡◌, ◌++◌, length, string_bytes}
-use Rattle.demand_words.specs.Phrases as phrases
-use Rattle.demand_words.proofs.lists.listed.Given as goal
+use Rattle.season_misses.specs.Phrases as phrases
+use Rattle.season_misses.proofs.lists.listed.Given as goal
 
 -- the text so far, with the items that are left
 abbrev pub invariant-loop-rest : goal.invariant-loop-rest

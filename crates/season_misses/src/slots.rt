@@ -1,7 +1,7 @@
 //! Which slots.
 ghost use Rattle.std.specs.Prelude.{◌≡◌, ◌≤◌, ◌++◌, decimal, string_bytes, IfOk, OnOk};
 ghost use Rattle.std.specs.List.{flat_map};
-ghost use Rattle.demand_words.specs.Phrases as phrases;
+ghost use Rattle.season_misses.specs.Phrases as phrases;
 
 use crate::label::Label;
 use crate::lists::listed;

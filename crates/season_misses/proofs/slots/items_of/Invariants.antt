@@ -1,7 +1,7 @@
 use Rattle.std.proofs.Common.{◌≡◌, take}
 use Rattle.std.specs.List.{flat_map}
-use Rattle.demand_words.specs.Phrases as phrases
-use Rattle.demand_words.proofs.slots.items_of.Given as goal
+use Rattle.season_misses.specs.Phrases as phrases
+use Rattle.season_misses.proofs.slots.items_of.Given as goal
 
 -- the items of the runs so far
 abbrev pub invariant-loop-run : goal.invariant-loop-run

@@ -1,7 +1,7 @@
 -- The sentence of a GA1 of many meetings.
 use Rattle.std.proofs.Common.{◌≡◌, ℕ, ◌≤◌, List, [], ◌∷◌, ◌++◌, length, map, codes, refl, arith, ap, sym, ◌∙◌}
-use Rattle.demand_words.specs.Demands.{meeting_text, meetings_text}
-use Rattle.demand_words.specs.Phrases.{bare_bounds_text, listed}
+use Rattle.season_misses.specs.Demands.{meeting_text, meetings_text}
+use Rattle.season_misses.specs.Phrases.{bare_bounds_text, listed}
 
 pub meetings_text-many : (names : List (List ℕ)) (min max : ℕ) (meetings : List (ℕ × ℕ)) (place : List ℕ)
     → 2 ≤ length meetings → meetings_text names min max meetings place ≡ codes "of the games " ++ (listed (codes "and")

@@ -1,7 +1,7 @@
 use Rattle.std.proofs.Common.{◌≡◌, ◌≤◌, ℕ, List, length, codes, string_bytes, subst, ap, ◌∙◌, arith, IfOk}
-use Rattle.demand_words.specs.Phrases.{listed}
-use Rattle.demand_words.proofs.DemandLemmas.{meetings_text-written}
-use Rattle.demand_words.proofs.demands.meetings_text.Goals as goal
+use Rattle.season_misses.specs.Phrases.{listed}
+use Rattle.season_misses.proofs.DemandLemmas.{meetings_text-written}
+use Rattle.season_misses.proofs.demands.meetings_text.Goals as goal
 
 pub returns-in_ok-games-in_default : goal.returns-in_ok-games-in_default
 returns-in_ok-games-in_default c =

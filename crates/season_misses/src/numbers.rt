@@ -1,6 +1,6 @@
 //! How many.
 ghost use Rattle.std.specs.Prelude.{◌≡◌, string_bytes, IfOk};
-ghost use Rattle.demand_words.specs.Phrases as phrases;
+ghost use Rattle.season_misses.specs.Phrases as phrases;
 
 use std::alloc::{AllocError, Global};
 

@@ -1,6 +1,6 @@
 use Rattle.std.proofs.Common.{◌≡◌, map, take}
-use Rattle.demand_words.specs.Phrases as phrases
-use Rattle.demand_words.proofs.teams.names_of.Given as goal
+use Rattle.season_misses.specs.Phrases as phrases
+use Rattle.season_misses.proofs.teams.names_of.Given as goal
 
 -- the names of the teams so far
 abbrev pub invariant-loop-team : goal.invariant-loop-team

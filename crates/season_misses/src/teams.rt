@@ -2,7 +2,7 @@
 ghost use Rattle.std.specs.Prelude.{◌≡◌, ◌<◌, length, map, string_bytes, IfOk, IsTrue};
 ghost use Rattle.std.specs.List.{All};
 ghost use Rattle.league.specs.Instance.{are_teams};
-ghost use Rattle.demand_words.specs.Phrases as phrases;
+ghost use Rattle.season_misses.specs.Phrases as phrases;
 
 use crate::label::Label;
 use crate::lists::listed;

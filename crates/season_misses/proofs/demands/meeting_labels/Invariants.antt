@@ -1,6 +1,6 @@
 use Rattle.std.proofs.Common.{◌≡◌, map, take}
-use Rattle.demand_words.specs.Demands as demands
-use Rattle.demand_words.proofs.demands.meeting_labels.Given as goal
+use Rattle.season_misses.specs.Demands as demands
+use Rattle.season_misses.proofs.demands.meeting_labels.Given as goal
 
 -- the games so far
 abbrev pub invariant-loop-meeting : goal.invariant-loop-meeting
