@@ -2,7 +2,7 @@
 use Rattle.std.proofs.Common.{◌≡◌, ℕ, List, None, Some, ap, ◌∙◌}
 use Rattle.rows.specs.Rows.{Row}
 use Rattle.rows.specs.declared.lit.Term.{Term}
-use Rattle.opb_write.specs.Systems.{System}
+use Rattle.opb_forms.specs.Systems.{System}
 
 -- rows and variables that are equal make one system
 pub same-system : (vars wanted_vars : ℕ) (rows wanted : List Row) → vars ≡ wanted_vars → rows ≡ wanted

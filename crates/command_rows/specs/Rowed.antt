@@ -18,8 +18,8 @@ use Rattle.encoding_base.specs.Variables.{var_count}
 use Rattle.bound_base.specs.BoundRows.{bound_rows, bound_vars, first_unit, league_groups}
 use Rattle.bound_base.specs.Softening.{costs}
 use Rattle.command_bound.specs.Bound.{has_few_terms}
-use Rattle.opb_write.specs.Systems.{System}
-use Rattle.opb_write.specs.Texts.{opb_text}
+use Rattle.opb_forms.specs.Systems.{System}
+use Rattle.opb_forms.specs.Texts.{opb_text}
 
 -- the rows of a league's encoding
 abbrev pub league_system : Instance → System

@@ -3,7 +3,7 @@ use Rattle.std.specs.Prelude.{◌≤◌, Bool, false, List, [], ◌∷◌, Some}
 use Rattle.std.specs.List.{All}
 use Rattle.rows.specs.declared.lit.Term.{Term}
 use Rattle.bound_base.specs.BoundRows.{bound_rows, bound_vars}
-use Rattle.opb_write.specs.Systems.{System}
+use Rattle.opb_forms.specs.Systems.{System}
 use Rattle.command_rows.specs.Rowed.{bound_system, league_system}
 use Rattle.command_rows.specs.declared.written.Kept.{Kept}
 use Rattle.command_rows.specs.declared.written.Kept.TheVariants.{League, Bound, Least}

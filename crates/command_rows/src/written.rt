@@ -7,8 +7,8 @@ ghost use Rattle.robin_io.specs.Outside.{output_between};
 ghost use Rattle.robin_io.specs.Written.{AppendsPrefix};
 ghost use Rattle.answers.specs.Stages.{IsWritten};
 ghost use Rattle.answers.specs.declared.status.Status.TheVariants.{Yes};
-ghost use Rattle.opb_write.specs.Opb.{opb_of};
-ghost use Rattle.opb_write.specs.Texts.{opb_text};
+ghost use Rattle.opb_forms.specs.Opb.{opb_of};
+ghost use Rattle.opb_forms.specs.Texts.{opb_text};
 ghost use Rattle.command_rows.specs.Rowed.{bound_system, league_system, rows_answer};
 ghost use Rattle.command_rows.specs.SeenRows.{HasPrices, system_kept};
 ghost use Rattle.bound_base.specs.BoundRows.{bound_rows, bound_vars};
@@ -16,7 +16,7 @@ ghost use Rattle.bound_base.specs.BoundRows.{bound_rows, bound_vars};
 use answers::Status;
 use bound_rows::BoundSystem;
 use encoding::Encoding;
-use opb_write::{Waiting, put_system};
+use opb_forms::{Waiting, put_system};
 use robin_io::{Failed, Sink};
 use rows::Term;
 use std::alloc::{AllocError, Global};
@@ -42,7 +42,7 @@ pub struct ReadyRows {
 
 impl Model for ReadyRows {
     ghost use Rattle.std.specs.Prelude.{◌≡◌, []};
-    ghost use Rattle.opb_write.specs.Systems.{System};
+    ghost use Rattle.opb_forms.specs.Systems.{System};
     ghost use Rattle.command_rows.specs.SeenRows.{HasPrices, system_kept};
 
     ghost Value = { System };

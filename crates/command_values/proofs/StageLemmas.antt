@@ -12,7 +12,7 @@ use Rattle.command_check.specs.Check.{encodes, most_log_bytes}
 use Rattle.encoding.specs.Limit.{most_terms}
 use Rattle.rows.specs.Literals.{Literal}
 use Rattle.encoding_base.specs.Encoding.{encoding_size, rows_of}
-use Rattle.values_read.specs.Values.{values_of}
+use Rattle.opb_forms.specs.Values.{values_of}
 use Rattle.command_values.specs.Valued.{IsValued, found_of, says_values, valued}
 
 -- the stages behind the instance file, whose bytes were so many

@@ -20,7 +20,7 @@ use Rattle.rows.specs.Tests.{satisfied}
 use Rattle.rows.specs.Values.{assigned}
 use Rattle.encoding_base.specs.Shadow.{decoded}
 use Rattle.encoding_base.specs.Variables.{var_count}
-use Rattle.values_read.specs.Values.{value_in, values_of}
+use Rattle.opb_forms.specs.Values.{value_in, values_of}
 
 -- ---- what is found
 

@@ -13,10 +13,10 @@ use answers::{Advice, Refusal, Reply, Status};
 use decoding::decode;
 use deviation::assess;
 use encoding::Encoding;
+use opb_forms::assignment_of;
 use robinx_write::solution_text;
 use rows::{Assignment, Lit};
 use std::alloc::{AllocError, Global};
-use values_read::assignment_of;
 
 /// A row is missed.
 fn missed_reply(alloc: Global, row: usize) -> Result<Reply, AllocError>

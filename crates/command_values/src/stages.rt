@@ -5,7 +5,7 @@ ghost use Rattle.answers.specs.SeenReply.{Answers, MatchStage};
 ghost use Rattle.command_check.specs.Check.{encodes, most_log_bytes};
 ghost use Rattle.answers.specs.Reply.{too_large};
 ghost use Rattle.encoding_base.specs.Encoding.{encoding_size, rows_of};
-ghost use Rattle.values_read.specs.Values.{values_of};
+ghost use Rattle.opb_forms.specs.Values.{values_of};
 ghost use Rattle.command_values.specs.Faults.{IsMalformed};
 ghost use Rattle.command_values.specs.Valued.{IsValued, says_values, valued};
 ghost use Rattle.encoding.specs.Limit.{most_terms};
@@ -15,11 +15,11 @@ use answers::{NoValue, Reply, file, league_in, rows_refused};
 use command_check::LOG_LIMIT;
 use encoding::{EncodeFault, Encoding, encode};
 use league::League;
+use opb_forms::{ValuesFault, read_values};
 use robin_io::Shelf;
 use robinx_read::INSTANCE_LIMIT;
 use rows::Lit;
 use std::alloc::Global;
-use values_read::{ValuesFault, read_values};
 
 /// The rows of a league, or why there are none.
 fn encoding_of(alloc: Global, league: &League) -> Result<Encoding, NoValue>

@@ -23,9 +23,9 @@ use Rattle.encoding.specs.Limit.{most_terms}
 use Rattle.command_check.specs.Check.{encodes, most_log_bytes}
 use Rattle.command_solve.specs.Solve.{IsWellFormedInstance}
 use Rattle.encoding_base.specs.Shadow.{decoded}
-use Rattle.opb_write.specs.Texts.{opb_text}
+use Rattle.opb_forms.specs.Texts.{opb_text}
 use Rattle.command_rows.specs.Rowed.{league_rows, rows_answer, system_of}
-use Rattle.values_read.specs.Values.{values_of}
+use Rattle.opb_forms.specs.Values.{values_of}
 use Rattle.command_values.specs.Valued.{IsSeason, IsValued, found_of, missed_from, says_values, valued}
 use Rattle.robin_run.specs.Rows.{WritesRows}
 use Rattle.robin_run.specs.Run.{Answered, Run}

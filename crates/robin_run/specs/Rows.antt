@@ -6,7 +6,7 @@ use Rattle.robinx_read.specs.declared.instance.TheConstants.{INSTANCE_LIMIT}
 use Rattle.command_line.specs.Words.{Command}
 use Rattle.command_line.specs.declared.goal.Goal.{Goal}
 use Rattle.answers.specs.declared.status.Status.TheVariants.{Yes}
-use Rattle.opb_write.specs.Texts.{opb_text}
+use Rattle.opb_forms.specs.Texts.{opb_text}
 use Rattle.command_rows.specs.Rowed.{league_rows, system_of}
 use Rattle.robin_run.specs.Said.{SaysLeague}
 use Rattle.robin_run.specs.Run.{NothingFails, Run, Writes}

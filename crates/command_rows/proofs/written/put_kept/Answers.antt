@@ -5,9 +5,9 @@ use Rattle.robin_io.specs.Written.{AppendsPrefix}
 use Rattle.encoding_base.specs.Encoding.{rows_of}
 use Rattle.encoding_base.specs.Variables.{var_count}
 use Rattle.bound_base.specs.BoundRows.{bound_rows, bound_vars}
-use Rattle.opb_write.specs.Opb.{opb_of}
-use Rattle.opb_write.specs.Systems.{System}
-use Rattle.opb_write.specs.Texts.{opb_text}
+use Rattle.opb_forms.specs.Opb.{opb_of}
+use Rattle.opb_forms.specs.Systems.{System}
+use Rattle.opb_forms.specs.Texts.{opb_text}
 use Rattle.command_rows.specs.SeenRows.{system_kept}
 use Rattle.command_rows.proofs.RowsLemmas.{same-priced, same-system}
 use Rattle.command_rows.proofs.written.put_kept.Goals as goal

@@ -1,9 +1,9 @@
 use Rattle.std.proofs.Common.{◌≡◌, ◌+◌, ◌≤◌, length, Some, inl, inr, refl, subst}
 use Rattle.std.specs.Io.KnownBytes.{Appends}
 use Rattle.robin_io.specs.Written.{AppendsPrefix}
-use Rattle.opb_write.specs.Opb.{opb_of}
-use Rattle.opb_write.specs.Systems.{System}
-use Rattle.opb_write.specs.Texts.{opb_text}
+use Rattle.opb_forms.specs.Opb.{opb_of}
+use Rattle.opb_forms.specs.Systems.{System}
+use Rattle.opb_forms.specs.Texts.{opb_text}
 use Rattle.command_rows.proofs.written.write_rows.Goals as goal
 
 pub returns-in-Ok-clause-written : goal.returns-in-Ok-clause-written
