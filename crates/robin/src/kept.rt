@@ -2,8 +2,8 @@
 
 use crate::line::Line;
 use answers::{Advice, Status};
-use command_files::{Goes, goes_to};
 use command_line::{Topic, read_words, seconds_of};
+use program_words::{Goes, goes_to};
 use robin_clock::{HostWatch, SeasonKeeper, Telling};
 use robin_files::{Draft, InputShelf, hand_on};
 use robin_io::{HostShelf, HostSink, Sink, put_all};

@@ -6,7 +6,7 @@ use Rattle.answers.specs.Reply.{Answer}
 use Rattle.answers.specs.declared.status.Status.TheVariants.{Yes, File, Refuted, Spent}
 use Rattle.command_check.proofs.AnswerLemmas.{encodes-small}
 use Rattle.command_make.specs.Circle.{circle_season}
-use Rattle.command_help.specs.Help.{help_answer, version_answer}
+use Rattle.program_words.specs.Help.{help_answer, version_answer}
 use Rattle.instance_gen.specs.Draws.{seeded}
 use Rattle.instance_gen.specs.Made.{made_league}
 use Rattle.command_make.specs.MadeInstance.{IsMade}

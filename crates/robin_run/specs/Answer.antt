@@ -12,7 +12,7 @@ use Rattle.command_line.specs.Words.Command.{Validate, Show, Demands, Sheet, Che
 use Rattle.command_line.specs.Words.Command.{Bound, Resume, ResumeNear, Audit, Rows, Values, Circle, Make, Trial, Help, Version}
 use Rattle.command_explain.specs.Explained.{explained}
 use Rattle.command_explain.specs.Parted.{parted}
-use Rattle.command_help.specs.Help.{help_answer, version_answer}
+use Rattle.program_words.specs.Help.{help_answer, version_answer}
 use Rattle.command_make.specs.MadeInstance.{IsMade}
 use Rattle.command_patterns.specs.Patterns.{patterned}
 use Rattle.command_prove.specs.Prove.{proved}

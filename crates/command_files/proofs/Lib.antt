@@ -1,2 +1,0 @@
--- Worked examples, so that a wrong definition does not check:
-mod FileFacts

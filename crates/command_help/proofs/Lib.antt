@@ -1,2 +1,0 @@
--- Each page is that of its command:
-mod HelpFacts
