@@ -4,3 +4,7 @@ pub mod RowsLemmas
 pub mod PriceLemmas
 -- The least sum is the least objective:
 pub mod LeastLaws
+-- Rows that values meet or miss:
+pub mod MetLemmas
+-- How the stages of `values` make an answer:
+pub mod ValuesStages

@@ -64,7 +64,7 @@ use Rattle.instance_gen.specs.Made.{made_league}
 use Rattle.command_make.specs.Trial.{IsTrialBy, tried}
 use Rattle.command_rows.specs.Rowed.{league_rows, rowed, rows_answer, system_of}
 use Rattle.opb_forms.specs.Values.{values_of}
-use Rattle.command_values.specs.Valued.{IsValued, found_of, missed_from, says_values, valued}
+use Rattle.command_rows.specs.Valued.{IsValued, found_of, missed_from, says_values, valued}
 use Rattle.robin_run.specs.Answer.{IsAnswer}
 use Rattle.robin_run.specs.Ends.{EndsByWords, may_end}
 use Rattle.robin_run.specs.Run.{Answered, Run}

@@ -26,7 +26,7 @@ use Rattle.encoding_base.specs.Shadow.{decoded}
 use Rattle.opb_forms.specs.Texts.{opb_text}
 use Rattle.command_rows.specs.Rowed.{league_rows, rows_answer, system_of}
 use Rattle.opb_forms.specs.Values.{values_of}
-use Rattle.command_values.specs.Valued.{IsSeason, IsValued, found_of, missed_from, says_values, valued}
+use Rattle.command_rows.specs.Valued.{IsSeason, IsValued, found_of, missed_from, says_values, valued}
 use Rattle.robin_run.specs.Rows.{WritesRows}
 use Rattle.robin_run.specs.Run.{Answered, Run}
 use Rattle.robin_run.specs.Values.{IsAcceptedSeason, JudgesValues, SaysLiterals}

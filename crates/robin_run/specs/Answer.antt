@@ -27,7 +27,7 @@ use Rattle.command_solve.specs.From.{begun}
 use Rattle.command_solve.specs.Solve.{solved}
 use Rattle.command_make.specs.Trial.{tried}
 use Rattle.command_validate.specs.Validate.{validated}
-use Rattle.command_values.specs.Valued.{valued}
+use Rattle.command_rows.specs.Valued.{valued}
 
 -- the answer to the words, of a run that may be stopped where `may_stop` says so
 abbrev pub IsAnswer : Type 0 → Option Command → Store → Outcome

@@ -14,7 +14,7 @@ use Rattle.encoding.specs.Encoding.{rows_of}
 use Rattle.command_check.specs.Check.{most_log_bytes}
 use Rattle.command_solve.specs.Solve.{IsWellFormedInstance}
 use Rattle.opb_forms.specs.Values.{values_of}
-use Rattle.command_values.specs.Valued.{IsValued}
+use Rattle.command_rows.specs.Valued.{IsValued}
 use Rattle.robin_run.specs.Said.{SaysLeague}
 use Rattle.robin_run.specs.Run.{NothingFails, Run, Writes}
 

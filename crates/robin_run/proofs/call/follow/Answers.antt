@@ -19,7 +19,7 @@ use Rattle.command_solve.specs.From.{begun}
 use Rattle.command_solve.specs.Solve.{solved}
 use Rattle.command_make.specs.Trial.{tried}
 use Rattle.command_validate.specs.Validate.{validated}
-use Rattle.command_values.specs.Valued.{valued}
+use Rattle.command_rows.specs.Valued.{valued}
 use Rattle.robin_run.proofs.RunLemmas.{given-gives}
 use Rattle.robin_run.proofs.call.follow.Goals as goal
 
