@@ -1,5 +1,10 @@
--- Lemmas on what is shown, and on the stages:
+-- The stages of `bound`, what follows from an answer, and what an accepted certificate shows:
+pub mod BoundStages
+pub mod BoundAnswers
+pub mod CheckLemmas
+-- What is shown by `prove`, its stages, and what follows from an answer:
 mod ShownLemmas
-mod StageLemmas
--- What follows from an answer:
-pub mod AnswerLemmas
+mod ProveStages
+pub mod ProveAnswers
+-- Worked examples, so that a wrong definition does not check:
+pub mod BoundAnswerFacts

@@ -31,7 +31,7 @@ use Rattle.bounds.specs.Proofs as proofs
 use Rattle.bounds.specs.declared.proved.Proved.{Proved}
 use Rattle.bounds.specs.declared.proved.Proved.TheVariants.{Least, Better, Spent}
 use Rattle.command_validate.specs.Validate.{IsJudgement}
-use Rattle.command_bound.specs.Bound.{bound_verdict}
+use Rattle.command_prove.specs.Bound.{bound_verdict}
 use Rattle.command_prove.specs.Prove.{IsShown, IsShownBy}
 use Rattle.command_prove.specs.Told.{CanBeWritten, Tells}
 

@@ -27,7 +27,7 @@ use Rattle.bound_base.specs.BoundRows.{bound_rows, bound_size, bound_vars}
 use Rattle.bound_laws.specs.Faithful.{IsLowerBound}
 use Rattle.certificates.specs.Certificates.{certificate_of, certificate_text}
 use Rattle.command_validate.specs.Validate.{IsJudgement, IsWellFormedPair}
-use Rattle.command_bound.specs.Bound.{bound_verdict, has_few_terms}
+use Rattle.command_prove.specs.Bound.{bound_verdict, has_few_terms}
 use Rattle.encoding.specs.Limit.{most_terms}
 
 -- ---- what is shown of a schedule

@@ -17,7 +17,7 @@ use Rattle.refutation.specs.declared.verdict.Cause.TheVariants.{NoConflict}
 use Rattle.refutation.specs.declared.verdict.Verdict.TheVariants.{Accepted, Rejected}
 use Rattle.certificates.specs.Certificates.{certificate_of, certificate_text}
 use Rattle.certificates.specs.declared.certificate.Certificate.{Certificate}
-use Rattle.command_bound.specs.Bound.{IsBoundVerdict, IsWellFormedCertificate, bound_answer, bound_verdict}
+use Rattle.command_prove.specs.Bound.{IsBoundVerdict, IsWellFormedCertificate, bound_answer, bound_verdict}
 use Rattle.robin_run.specs.Bound.{IsCertified}
 use Rattle.robin_run.specs.Prove.{IsBettered, IsUnbettered}
 use Rattle.example_answers.proofs.LeastExamples.{away-one, away-zero, away_first, even-accepted, even_soon, log}

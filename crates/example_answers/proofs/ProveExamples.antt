@@ -29,10 +29,10 @@ use Rattle.refutation.specs.declared.verdict.Verdict.TheVariants.{Accepted}
 use Rattle.bound_base.specs.BoundRows.{bound_size}
 use Rattle.certificates.specs.Certificates.{certificate_of, certificate_text}
 use Rattle.certificates.specs.declared.certificate.Certificate.{Certificate}
-use Rattle.command_bound.specs.Bound.{bound_verdict}
+use Rattle.command_prove.specs.Bound.{bound_verdict}
 use Rattle.bounds.specs.Proofs as bounds
 use Rattle.bounds.specs.declared.proved.Proved.TheVariants as proofs
-use Rattle.command_prove.proofs.AnswerLemmas.{shown-refused}
+use Rattle.command_prove.proofs.ProveAnswers.{shown-refused}
 use Rattle.command_prove.specs.Prove.{IsShown, IsBettered, IsLeast, IsRejected, IsSpentBelow, IsWellFormedCase}
 use Rattle.example_answers.proofs.LeastExamples.{away-one, away-zero, away_first, even-accepted, even_soon, least-four}
 use Rattle.example_answers.proofs.LeastExamples.{log, lower_bound, one-fit, one-in_order, one_first}

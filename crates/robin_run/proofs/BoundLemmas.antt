@@ -21,12 +21,12 @@ use Rattle.refutation.specs.declared.verdict.Verdict.TheVariants.{Accepted, Reje
 use Rattle.command_check.specs.Check.{most_log_bytes}
 use Rattle.certificates.specs.Certificates.{certificate_of}
 use Rattle.certificates.specs.declared.certificate.Certificate.{Certificate}
-use Rattle.command_bound.specs.Bound.{IsBoundVerdict, bound_answer, bound_verdict}
-use Rattle.command_bound.specs.Bound.{bounded, has_few_terms, says_certificate}
-use Rattle.command_bound.proofs.AnswerLemmas.{bounded-well_formed}
+use Rattle.command_prove.specs.Bound.{IsBoundVerdict, bound_answer, bound_verdict}
+use Rattle.command_prove.specs.Bound.{bounded, has_few_terms, says_certificate}
+use Rattle.command_prove.proofs.BoundAnswers.{bounded-well_formed}
 use Rattle.command_prove.specs.Prove as proving
 use Rattle.command_prove.specs.Prove.{IsLeast, IsShownBy, proved}
-use Rattle.command_prove.proofs.AnswerLemmas.{ShowsAs, proved-known, proved-well_formed}
+use Rattle.command_prove.proofs.ProveAnswers.{ShowsAs, proved-known, proved-well_formed}
 use Rattle.command_resume.specs.Seasons.{SaySeason}
 use Rattle.robin_run.specs.Bound.{Bounds, IsCertified}
 use Rattle.robin_run.specs.Prove.{IsBettered, IsUnbettered, Proves}

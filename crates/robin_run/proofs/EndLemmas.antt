@@ -49,8 +49,8 @@ use Rattle.command_explain.specs.Explained as explaining
 use Rattle.command_explain.specs.Explained.{explained}
 use Rattle.command_explain.specs.Parted.{IsPart, part_answer, parted}
 use Rattle.explain.specs.Parts.{first_unknown}
-use Rattle.command_bound.specs.Bound.{IsBoundVerdict, bound_answer, bound_verdict, bounded, has_few_terms}
-use Rattle.command_bound.specs.Bound.{says_certificate}
+use Rattle.command_prove.specs.Bound.{IsBoundVerdict, bound_answer, bound_verdict, bounded, has_few_terms}
+use Rattle.command_prove.specs.Bound.{says_certificate}
 use Rattle.command_prove.specs.Prove.{IsShown, IsShownBy, proved}
 use Rattle.command_resume.specs.Audited as auditing
 use Rattle.command_resume.specs.Audited.{audited}

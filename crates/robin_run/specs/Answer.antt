@@ -4,7 +4,7 @@ use Rattle.robin_io.specs.Outside.{Store}
 use Rattle.robin_watch.specs.Limits.{IsKeptTo}
 use Rattle.answers.specs.Reply.{refused_words}
 use Rattle.answers.specs.Stages.{Outcome}
-use Rattle.command_bound.specs.Bound.{bounded}
+use Rattle.command_prove.specs.Bound.{bounded}
 use Rattle.command_check.specs.Check.{checked}
 use Rattle.command_make.specs.Circle.{circle_season}
 use Rattle.command_line.specs.Words.{Command}

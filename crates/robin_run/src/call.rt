@@ -21,13 +21,12 @@ ghost use Rattle.robin_run.specs.Taken.{most_taken};
 
 use crate::given::{Given, give};
 use answers::{NoValue, Reply, Status, write_answer};
-use command_bound::bound_file;
 use command_check::check;
 use command_explain::{explain_file, part_file};
 use command_line::{Goal, Words, members, read_words};
 use command_make::{circle, make_league, trial};
 use command_patterns::patterns_file;
-use command_prove::prove_file;
+use command_prove::{bound_file, prove_file};
 use command_resume::{NearResumption, Resumption, audit_file, resume_file, resume_near_file};
 use command_rows::{ReadyRows, rows_file, values_file, write_rows};
 use command_show::{Form, demands, show};

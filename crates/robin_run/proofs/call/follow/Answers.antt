@@ -3,7 +3,7 @@ use Rattle.std.specs.Option.{option_copied}
 use Rattle.robin_io.specs.Outside.{store_between}
 use Rattle.robin_watch.specs.Limits.{IsKeptTo}
 use Rattle.command_line.specs.Words.{members_of}
-use Rattle.command_bound.specs.Bound.{bounded}
+use Rattle.command_prove.specs.Bound.{bounded}
 use Rattle.command_check.specs.Check.{checked}
 use Rattle.command_explain.specs.Explained.{explained}
 use Rattle.command_explain.specs.Parted.{parted}

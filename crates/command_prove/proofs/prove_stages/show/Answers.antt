@@ -1,7 +1,7 @@
 use Rattle.std.proofs.Common.{inl, refl}
 use Rattle.league.specs.Counts.{counts_of}
 use Rattle.command_prove.proofs.ShownLemmas.{failed, proved-written, replied-by, replied-rejected, replied-told}
-use Rattle.command_prove.proofs.stages.show.Goals as goal
+use Rattle.command_prove.proofs.prove_stages.show.Goals as goal
 
 pub returns-then-not-assessed : goal.returns-then-not-assessed
 returns-then-not-assessed g c =

@@ -9,7 +9,7 @@ use Rattle.refutation.specs.Steps.{Step}
 use Rattle.refutation.specs.Steps.Step.{Clause}
 use Rattle.refutation.specs.declared.verdict.Cause.TheVariants.{NoConflict}
 use Rattle.refutation.specs.declared.verdict.Verdict.TheVariants.{Accepted, Rejected}
-use Rattle.command_bound.specs.Bound.{bound_answer, bound_verdict}
+use Rattle.command_prove.specs.Bound.{bound_answer, bound_verdict}
 
 -- ---- texts
 

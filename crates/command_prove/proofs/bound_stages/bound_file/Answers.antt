@@ -11,8 +11,8 @@ use Rattle.answers.specs.Stages.{IsFile, IsUnread}
 use Rattle.answers.proofs.StageLemmas.{Answers-wider, unread-end}
 use Rattle.command_check.specs.Check.{most_log_bytes}
 use Rattle.bound_base.specs.BoundRows.{bound_size}
-use Rattle.command_bound.proofs.StageLemmas.{bounded-large, bounded-last, bounded-unread}
-use Rattle.command_bound.proofs.stages.bound_file.Goals as goal
+use Rattle.command_prove.proofs.BoundStages.{bounded-large, bounded-last, bounded-unread}
+use Rattle.command_prove.proofs.bound_stages.bound_file.Goals as goal
 use Rattle.encoding.specs.Limit.{most_terms}
 
 -- the certificate has the contents that it had before the instance was read

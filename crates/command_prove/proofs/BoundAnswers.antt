@@ -17,9 +17,9 @@ use Rattle.bound_base.specs.BoundRows.{bound_size}
 use Rattle.bound_laws.specs.Faithful.{IsLowerBound}
 use Rattle.certificates.specs.Certificates.{certificate_of}
 use Rattle.certificates.specs.declared.certificate.Certificate.{Certificate}
-use Rattle.command_bound.specs.Bound.{IsBoundVerdict, IsWellFormedCertificate, bounded, has_few_terms}
-use Rattle.command_bound.specs.Bound.{says_certificate}
-use Rattle.command_bound.proofs.StageLemmas.{log_stages}
+use Rattle.command_prove.specs.Bound.{IsBoundVerdict, IsWellFormedCertificate, bounded, has_few_terms}
+use Rattle.command_prove.specs.Bound.{says_certificate}
+use Rattle.command_prove.proofs.BoundStages.{log_stages}
 use Rattle.encoding.specs.Limit.{most_terms}
 
 -- where the bound rows are few enough the run goes on

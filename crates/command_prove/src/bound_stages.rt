@@ -6,11 +6,11 @@ ghost use Rattle.answers.specs.SeenReply.{Answers, MatchStage};
 ghost use Rattle.bound_base.specs.BoundRows.{bound_size};
 ghost use Rattle.bound_rows.specs.Bounded.{IsCounted};
 ghost use Rattle.certificates.specs.Certificates.{certificate_of};
-ghost use Rattle.command_bound.specs.Bound.{IsBoundVerdict, bounded, says_certificate};
-ghost use Rattle.command_bound.specs.Faults.{IsMalformed};
+ghost use Rattle.command_prove.specs.Bound.{IsBoundVerdict, bounded, says_certificate};
+ghost use Rattle.command_prove.specs.Faults.{IsMalformed};
 ghost use Rattle.encoding.specs.Limit.{most_terms};
 
-use crate::replies::judge;
+use crate::bound_replies::judge;
 use answers::{NoValue, Reply, file, league_in, log_refused, rows_refused};
 use bound_rows::bound_terms;
 use certificates::{Certificate, read_certificate};

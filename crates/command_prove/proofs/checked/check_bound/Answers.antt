@@ -4,8 +4,8 @@ use Rattle.refutation.specs.declared.verdict.Verdict.TheVariants.{Accepted}
 use Rattle.refutation_check.specs.Within.{AreWithin}
 use Rattle.bound_base.specs.BoundRows.{bound_rows, bound_vars}
 use Rattle.bound_rows.specs.Bounded.{Bounded}
-use Rattle.command_bound.proofs.CheckLemmas.{shown, within-from_known}
-use Rattle.command_bound.proofs.checked.check_bound.Goals as goal
+use Rattle.command_prove.proofs.CheckLemmas.{shown, within-from_known}
+use Rattle.command_prove.proofs.checked.check_bound.Goals as goal
 
 pub check-requires : goal.check-requires
 check-requires c =

@@ -16,9 +16,9 @@ use Rattle.answers.specs.Stages.{NoneFails, Outcome, says, takes}
 use Rattle.answers.specs.declared.status.Status.{Status}
 use Rattle.answers.specs.declared.status.Status.TheVariants.{Yes, No, File, Spent, ReadFault, Better}
 use Rattle.answers.proofs.StageLemmas.{first-works, says-known, second-works, takes-known}
-use Rattle.command_bound.proofs.AnswerLemmas.{few-small, few-yes}
+use Rattle.command_prove.proofs.BoundAnswers.{few-small, few-yes}
 use Rattle.command_prove.specs.Prove.{IsBettered, IsLeast, IsShown, IsShownBy, IsWellFormedCase, proved}
-use Rattle.command_prove.proofs.StageLemmas.{solution_stages}
+use Rattle.command_prove.proofs.ProveStages.{solution_stages}
 
 -- ---- what is shown
 

@@ -18,8 +18,8 @@ use Rattle.bound_base.specs.BoundRows.{bound_size}
 use Rattle.bound_laws.specs.Faithful.{IsLowerBound}
 use Rattle.certificates.specs.Certificates.{certificate_of}
 use Rattle.certificates.specs.declared.certificate.Certificate.{Certificate}
-use Rattle.command_bound.specs.Bound.{IsBoundVerdict, bound_answer, bound_verdict, bounded, has_few_terms}
-use Rattle.command_bound.specs.Bound.{says_certificate}
+use Rattle.command_prove.specs.Bound.{IsBoundVerdict, bound_answer, bound_verdict, bounded, has_few_terms}
+use Rattle.command_prove.specs.Bound.{says_certificate}
 use Rattle.encoding.specs.Limit.{most_terms}
 
 -- ---- stages

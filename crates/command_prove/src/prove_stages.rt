@@ -8,10 +8,10 @@ ghost use Rattle.bound_rows.specs.Bounded.{IsCounted};
 ghost use Rattle.robin_watch.specs.Limits.{IsKeptTo};
 ghost use Rattle.command_prove.specs.Prove.{IsShownBy, proved};
 
-use crate::replies::proof_reply;
+use crate::bound_stages::few_terms;
+use crate::prove_replies::proof_reply;
 use answers::{NoValue, Reply, file, league_in, schedule_in};
 use bounds::{Counted, prove};
-use command_bound::few_terms;
 use command_validate::judgement;
 use deviation::assess;
 use league::{League, Schedule};
