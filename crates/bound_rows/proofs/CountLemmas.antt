@@ -19,8 +19,8 @@ use Rattle.encoding_base.specs.Lists.{games_in}
 use Rattle.encoding_base.specs.Variables.{has_breaks}
 use Rattle.encoding_sizes.proofs.SeasonSizes.{size_of-breaks}
 use Rattle.encoding_base.specs.Season.{break_rows}
-use Rattle.bound_base.specs.BoundRows.{base_rows, needs_breaks}
-use Rattle.bound_base.specs.Parts.{se1_parts}
+use Rattle.bound_rows.specs.BoundRows.{base_rows, needs_breaks}
+use Rattle.bound_rows.specs.Parts.{se1_parts}
 use Rattle.bound_rows.specs.Sizes.{group_size, part_size, parts_size}
 
 pub times-comm : (a b : ℕ) → a * b ≡ b * a

@@ -12,9 +12,9 @@ use Rattle.league.specs.Accepted.{soft_of}
 use Rattle.league.specs.declared.class.Class.{Class}
 use Rattle.league.specs.declared.class.Constraint.{Constraint}
 use Rattle.rows.specs.Rows.{Row}
-use Rattle.bound_base.specs.BoundRows.{group_of, groups_of, paid_of}
-use Rattle.bound_base.specs.Parts.{parts_of}
-use Rattle.bound_base.specs.Softening.{Group, soften, softened_rows, units_from}
+use Rattle.bound_rows.specs.BoundRows.{group_of, groups_of, paid_of}
+use Rattle.bound_rows.specs.Parts.{parts_of}
+use Rattle.bound_rows.specs.Softening.{Group, soften, softened_rows, units_from}
 use Rattle.bound_rows.specs.Bare.{bare_groups}
 use Rattle.bound_rows.specs.Drafts.{AreBefore, Extends, HasRoom, stripped, units_in}
 use Rattle.bound_rows.specs.declared.draft.Draft.{Draft}

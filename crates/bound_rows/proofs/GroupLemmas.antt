@@ -12,7 +12,7 @@ use Rattle.rows.specs.Cardinality.{unit}
 use Rattle.rows.specs.Literals.{Literal, no, yes}
 use Rattle.rows.specs.Rows.{Row}
 use Rattle.rows.specs.declared.lit.Term.{Term}
-use Rattle.bound_base.specs.Softening.{costs, costs_from, one_before, order_rows, units_from}
+use Rattle.bound_rows.specs.Softening.{costs, costs_from, one_before, order_rows, units_from}
 use Rattle.bound_rows.specs.Bare.{bare_groups, unit_total}
 use Rattle.bound_rows.specs.declared.units.Units.{Units}
 

@@ -19,10 +19,10 @@ use Rattle.encoding_base.specs.Season.{break_rows}
 use Rattle.encoding_base.specs.Variables.{h_count, has_breaks, hb_count, x_count}
 use Rattle.encoding_base.proofs.AscendLemmas.{AscendsBy-above, AscendsBy-below}
 use Rattle.encoding.proofs.KnownLemmas.{constraint_rows-known, rows_of-known, season_rows-known}
-use Rattle.bound_base.specs.BoundRows.{base_rows, base_vars, bound_rows, bound_vars, first_unit, has_paid_breaks}
-use Rattle.bound_base.specs.BoundRows.{league_groups, needs_breaks}
-use Rattle.bound_base.specs.Softening.{Group, costs, objective_row, one_before, order_rows, soften, softened_rows}
-use Rattle.bound_base.specs.Softening.{units_from}
+use Rattle.bound_rows.specs.BoundRows.{base_rows, base_vars, bound_rows, bound_vars, first_unit, has_paid_breaks}
+use Rattle.bound_rows.specs.BoundRows.{league_groups, needs_breaks}
+use Rattle.bound_rows.specs.Softening.{Group, costs, objective_row, one_before, order_rows, soften, softened_rows}
+use Rattle.bound_rows.specs.Softening.{units_from}
 use Rattle.bound_rows.proofs.RowLemmas.{costs_ascend, var_of}
 use Rattle.bound_rows.specs.Drafts.{units_in}
 use Rattle.bound_rows.proofs.DraftLemmas.{All-back, All-front}

@@ -8,7 +8,7 @@ use Rattle.league.specs.Counts.{slot_count}
 use Rattle.league.specs.declared.class.Class.{Class}
 use Rattle.league.specs.declared.class.Class.TheVariants.{Ca3}
 use Rattle.league.specs.declared.class.Side.{Side}
-use Rattle.bound_base.specs.Parts.{ca3_parts, parts_of}
+use Rattle.bound_rows.specs.Parts.{ca3_parts, parts_of}
 use Rattle.bound_rows.specs.OneOf.{of_window}
 
 -- a list with what a range gives so far, and the next

@@ -22,7 +22,7 @@ use Rattle.encoding_sizes.specs.Batches.{lengths_of}
 use Rattle.encoding_sizes.specs.Terms.{side_count}
 use Rattle.encoding_sizes.proofs.SizeLemmas.{length-all_breaks, length-breaks, length-games_in, length-meetings}
 use Rattle.encoding_sizes.proofs.SizeLemmas.{length-venues, sum_by-constant}
-use Rattle.bound_base.specs.Parts.{ca3_parts, parts_of}
+use Rattle.bound_rows.specs.Parts.{ca3_parts, parts_of}
 use Rattle.bound_rows.specs.Sizes.{between_size, lead_size, part_size, parts_size}
 use Rattle.bound_rows.proofs.CountLemmas.{times-comm}
 use Rattle.bound_rows.proofs.GroupSizes.{listed_size, listed_size-between, listed_size-leads, listed_size-most}

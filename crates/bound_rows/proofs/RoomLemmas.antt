@@ -20,10 +20,10 @@ use Rattle.league.proofs.OneTermLemmas.{All-flat_map}
 use Rattle.encoding_base.specs.Known.{AreKnown}
 use Rattle.encoding_base.specs.Variables.{bounds_breaks, h_count, has_breaks, hb_count, x_count}
 use Rattle.encoding.proofs.KnownLemmas.{class_rows-known}
-use Rattle.bound_base.specs.BoundRows.{base_vars, bound_size, first_unit, group_of, groups_of, has_paid_breaks}
-use Rattle.bound_base.specs.BoundRows.{league_groups, needs_breaks, paid_of}
-use Rattle.bound_base.specs.Parts.{ca3_parts, parts_of, se1_parts}
-use Rattle.bound_base.specs.Softening.{Group}
+use Rattle.bound_rows.specs.BoundRows.{base_vars, bound_size, first_unit, group_of, groups_of, has_paid_breaks}
+use Rattle.bound_rows.specs.BoundRows.{league_groups, needs_breaks, paid_of}
+use Rattle.bound_rows.specs.Parts.{ca3_parts, parts_of, se1_parts}
+use Rattle.bound_rows.specs.Softening.{Group}
 use Rattle.bound_rows.specs.Bare.{bare, bare_groups, unit_total}
 use Rattle.bound_rows.specs.declared.units.Units.{Units}
 use Rattle.bound_rows.proofs.FitParts.{fits-parts}

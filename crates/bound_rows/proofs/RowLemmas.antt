@@ -12,7 +12,7 @@ use Rattle.rows.specs.declared.lit.Term.{Term}
 use Rattle.encoding_base.specs.Ascending.{AscendsBy}
 use Rattle.encoding_base.proofs.AscendLemmas.{AllPairs-ascending, AscendsBy-above, AscendsBy-append, AscendsBy-high}
 use Rattle.encoding_base.proofs.AscendLemmas.{AscendsBy-map, AscendsBy-range}
-use Rattle.bound_base.specs.Softening.{Group, costs, costs_from, soften, units_from}
+use Rattle.bound_rows.specs.Softening.{Group, costs, costs_from, soften, units_from}
 use Rattle.bound_rows.specs.Bare.{bare, bare_groups}
 use Rattle.bound_rows.specs.declared.units.Units.{Units}
 

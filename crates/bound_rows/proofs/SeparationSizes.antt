@@ -20,7 +20,7 @@ use Rattle.encoding_base.specs.Encoding.{demands}
 use Rattle.encoding_base.specs.Lists.{games_in}
 use Rattle.encoding_sizes.proofs.ClassSizeLemmas.{two_meetings}
 use Rattle.encoding_sizes.proofs.SizeLemmas.{length-games_in, sum_by-constant, sum_by-same_at}
-use Rattle.bound_base.specs.Parts.{se1_parts}
+use Rattle.bound_rows.specs.Parts.{se1_parts}
 use Rattle.bound_rows.specs.Sizes.{part_size, parts_size}
 
 -- rows that all demand something and have as many terms

@@ -19,11 +19,11 @@ use Rattle.rows.specs.Rows.{Row, size_of}
 use Rattle.encoding_base.specs.Demands.{rows_by_key}
 use Rattle.encoding_base.specs.Encoding.{class_rows, demands}
 use Rattle.std.proofs.lemmas.List.Elements.{All-map}
-use Rattle.bound_base.specs.BoundRows.{base_rows, bound_size, first_unit, group_of, groups_of, league_groups, paid_of}
-use Rattle.bound_base.specs.BoundRows.{units_of}
-use Rattle.bound_base.specs.Parts.{parts_of}
-use Rattle.bound_base.specs.Softening.{Group, costs, costs_from, objective_row, one_before, order_rows, soften}
-use Rattle.bound_base.specs.Softening.{softened_rows, units_from}
+use Rattle.bound_rows.specs.BoundRows.{base_rows, bound_size, first_unit, group_of, groups_of, league_groups, paid_of}
+use Rattle.bound_rows.specs.BoundRows.{units_of}
+use Rattle.bound_rows.specs.Parts.{parts_of}
+use Rattle.bound_rows.specs.Softening.{Group, costs, costs_from, objective_row, one_before, order_rows, soften}
+use Rattle.bound_rows.specs.Softening.{softened_rows, units_from}
 use Rattle.bound_rows.specs.Drafts.{rows_in, units_in}
 use Rattle.bound_rows.specs.Sizes.{group_size, paid_size, parts_size}
 

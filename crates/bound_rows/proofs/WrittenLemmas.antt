@@ -5,9 +5,9 @@ use Rattle.league.specs.Instance.{Instance}
 use Rattle.league.proofs.SumLemmas.{sum_by-map}
 use Rattle.rows.specs.Rows.{Row}
 use Rattle.rows.specs.declared.lit.Term.{Term}
-use Rattle.bound_base.specs.BoundRows.{base_rows, bound_rows, first_unit, league_groups}
-use Rattle.bound_base.specs.Softening.{Group, costs, costs_from, objective_row, one_before, order_rows, softened_rows}
-use Rattle.bound_base.specs.Softening.{total_cost}
+use Rattle.bound_rows.specs.BoundRows.{base_rows, bound_rows, first_unit, league_groups}
+use Rattle.bound_rows.specs.Softening.{Group, costs, costs_from, objective_row, one_before, order_rows, softened_rows}
+use Rattle.bound_rows.specs.Softening.{total_cost}
 use Rattle.bound_rows.specs.Bare.{bare_groups}
 use Rattle.bound_rows.specs.declared.units.Units.{Units}
 use Rattle.bound_rows.specs.Drafts.{stripped}

@@ -1,7 +1,7 @@
 -- Groups without their rows: the objective row and the rows that order units say nothing of these.
 use Rattle.std.specs.Prelude.{ℕ, List, [], map}
 use Rattle.std.specs.List.{sum_by}
-use Rattle.bound_base.specs.Softening.{Group}
+use Rattle.bound_rows.specs.Softening.{Group}
 use Rattle.bound_rows.specs.declared.units.Units.{Units}
 
 -- what is kept of a group

@@ -2,7 +2,7 @@
 use Rattle.std.specs.Prelude.{◌≡◌, ℕ, ◌≤◌, List}
 use Rattle.league.specs.Instance.{Instance, IsInstance}
 use Rattle.rows.specs.Rows.{Row}
-use Rattle.bound_base.specs.BoundRows.{bound_rows, bound_size, bound_vars}
+use Rattle.bound_rows.specs.BoundRows.{bound_rows, bound_size, bound_vars}
 use Rattle.encoding.specs.Limit.{most_terms}
 
 -- The bound rows of a league have this number of terms, and these are few enough to be written. The number is the same

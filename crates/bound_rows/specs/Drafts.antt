@@ -2,7 +2,7 @@
 use Rattle.std.specs.Prelude.{◌≡◌, ℕ, ◌+◌, ◌^◌, ◌<◌, ◌≤◌, List, [], ◌++◌, length, map}
 use Rattle.std.specs.List.{All, sum_by}
 use Rattle.rows.specs.Rows.{Row}
-use Rattle.bound_base.specs.Softening.{Group, softened_rows}
+use Rattle.bound_rows.specs.Softening.{Group, softened_rows}
 use Rattle.bound_rows.specs.Bare.{bare_groups}
 use Rattle.bound_rows.specs.declared.draft.Draft.{Draft}
 

@@ -6,8 +6,8 @@ use Rattle.league.specs.declared.class.Class.{Class}
 use Rattle.league.specs.declared.class.Constraint.{Constraint}
 use Rattle.rows.specs.Rows.{Row}
 use Rattle.encoding_base.specs.Encoding.{class_rows}
-use Rattle.bound_base.specs.BoundRows.{paid_of, units_of}
-use Rattle.bound_base.specs.Parts.{parts_of}
+use Rattle.bound_rows.specs.BoundRows.{paid_of, units_of}
+use Rattle.bound_rows.specs.Parts.{parts_of}
 
 -- the rows of a group with so many units, the units in the objective row, and the rows that order them
 abbrev pub group_size : ℕ → List Row → ℕ

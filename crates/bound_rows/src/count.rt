@@ -4,13 +4,13 @@ ghost use Rattle.std.specs.List.{All};
 ghost use Rattle.league.specs.Instance.{IsTeamCount, class_fits};
 ghost use Rattle.rows.specs.Rows.{size_of};
 ghost use Rattle.encoding_base.specs.Encoding as encoding;
-ghost use Rattle.bound_base.specs.BoundRows as bounds;
+ghost use Rattle.bound_rows.specs.BoundRows as bounds;
 ghost use Rattle.bound_rows.specs.Bounded.{IsCounted};
 ghost use Rattle.bound_rows.specs.Sizes as sizes;
 ghost use Rattle.encoding.specs.Limit.{most_terms};
 
+use crate::base::{is_paid, needs_breaks};
 use crate::sizes::class_terms;
-use bound_base::{is_paid, needs_breaks};
 use encoding_base::has_breaks;
 use encoding_sizes::encoding_size;
 use league::{Constraint, League};

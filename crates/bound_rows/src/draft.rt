@@ -2,12 +2,12 @@
 ghost use Rattle.std.specs.Prelude.{◌≡◌, ◌≤◌, [], ◌∷◌, map, length, IsTrue, OnOk};
 ghost use Rattle.std.specs.List.{All};
 ghost use Rattle.league.specs.Instance.{IsTeamCount, class_fits};
-ghost use Rattle.bound_base.specs.BoundRows.{group_of, groups_of};
-ghost use Rattle.bound_base.specs.Parts as parts;
+ghost use Rattle.bound_rows.specs.BoundRows.{group_of, groups_of};
+ghost use Rattle.bound_rows.specs.Parts as parts;
 ghost use Rattle.bound_rows.specs.Drafts.{Extends, HasRoom};
 
+use crate::base::is_paid;
 use crate::{Units, add_softened, parts_of, unit_count};
-use bound_base::is_paid;
 use encoding_rows::{Season, write_class};
 use league::{Class, Constraint};
 use rows::RowStore;

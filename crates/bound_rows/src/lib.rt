@@ -1,9 +1,16 @@
-//! The bound rows of a league: how many terms they have, and the rows themselves. `bound_base` has their definitions.
+//! The rows that say: a schedule that a league accepts, with an objective of at most a bound. They are faithful both
+//! ways: such a schedule gives values that satisfy them, and what satisfies them decodes to one.
+//!
+//! `specs/BoundRows.antt` has the rows: those of the league, those of each soft constraint with unit variables that
+//! soften them, one that bounds what the units cost, and those that order the units of a group. Their terms are counted
+//! before they are made.
 #![tactic(auto)]
 
+mod base;
 mod count;
 mod draft;
 mod groups;
+pub mod laws;
 mod makers;
 mod objective;
 mod order;
@@ -16,6 +23,7 @@ mod system;
 mod units;
 mod written;
 
+pub use base::{base_vars, is_paid, needs_breaks};
 pub use count::bound_terms;
 pub use makers::se1_part;
 pub use objective::push_objective;

@@ -1,7 +1,7 @@
 //! The row that bounds what the units cost.
 ghost use Rattle.std.specs.Prelude.{◌≡◌, ◌+◌, ◌*◌, ◌^◌, ◌<◌, ◌≤◌, ◌++◌, [], ◌∷◌, length, IfOk, OnOk};
 ghost use Rattle.std.specs.List.{All};
-ghost use Rattle.bound_base.specs.Softening as softening;
+ghost use Rattle.bound_rows.specs.Softening as softening;
 ghost use Rattle.bound_rows.specs.Bare.{bare_groups, unit_total};
 
 use crate::units::{Units, add_costs};

@@ -1,8 +1,8 @@
 //! The rows that order the units of a group. They break a symmetry: only how many units are true matters.
 ghost use Rattle.std.specs.Prelude.{◌≡◌, ◌+◌, ◌-◌, ◌^◌, ◌<◌, ◌≤◌, ◌++◌, [], ◌∷◌, length, map, OnOk};
 ghost use Rattle.std.specs.List.{range_with_len};
-ghost use Rattle.bound_base.specs.Softening as softening;
-ghost use Rattle.bound_base.specs.Softening.{one_before};
+ghost use Rattle.bound_rows.specs.Softening as softening;
+ghost use Rattle.bound_rows.specs.Softening.{one_before};
 ghost use Rattle.bound_rows.specs.Bare.{bare_groups, unit_total};
 
 use crate::units::Units;

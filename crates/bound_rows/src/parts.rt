@@ -6,7 +6,7 @@ ghost use Rattle.league.specs.Counts as counts;
 ghost use Rattle.league.specs.Instance.{class_fits};
 ghost use Rattle.league.specs.Names.{name_of};
 ghost use Rattle.encoding_base.specs.Pairs.{IsPair};
-ghost use Rattle.bound_base.specs.Parts as parts;
+ghost use Rattle.bound_rows.specs.Parts as parts;
 ghost use Rattle.bound_rows.specs.OneOf.{is_by_team, of_pair, of_slots, of_team, of_window};
 
 use crate::makers::{pair_part, se1_part, slots_part, team_part, window_part};

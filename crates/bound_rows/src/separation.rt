@@ -3,7 +3,7 @@ ghost use Rattle.std.specs.Prelude.{◌≡◌, ◌≤◌, [], ◌∷◌, IsTrue}
 ghost use Rattle.league.specs.Counts as counts;
 ghost use Rattle.league.specs.Instance.{IsTeamCount, class_fits};
 ghost use Rattle.league.specs.Names.{name_of};
-ghost use Rattle.bound_base.specs.Parts as parts;
+ghost use Rattle.bound_rows.specs.Parts as parts;
 ghost use Rattle.bound_rows.specs.Sizes as sizes;
 
 use encoding_sizes::pair_total;

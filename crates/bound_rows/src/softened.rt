@@ -2,7 +2,7 @@
 ghost use Rattle.std.specs.Prelude.{◌≡◌, ◌+◌, ◌^◌, ◌<◌, ◌≤◌, ◌++◌, [], ◌∷◌, length, map, OnOk};
 ghost use Rattle.std.specs.List.{All};
 ghost use Rattle.rows.specs.Rows.{IsRow};
-ghost use Rattle.bound_base.specs.Softening.{soften, units_from};
+ghost use Rattle.bound_rows.specs.Softening.{soften, units_from};
 
 use crate::units::add_units;
 use rows::{RowStore, Term};

@@ -2,7 +2,7 @@
 ghost use Rattle.std.specs.Prelude.{◌≡◌, ◌≤◌, IfOk};
 ghost use Rattle.league.specs.Instance.{IsInstance};
 ghost use Rattle.encoding_base.specs.Known.{AreKnown};
-ghost use Rattle.bound_base.specs.BoundRows.{bound_rows, bound_vars};
+ghost use Rattle.bound_rows.specs.BoundRows.{bound_rows, bound_vars};
 ghost use Rattle.bound_rows.specs.Bounded.{IsCounted};
 
 use crate::written::{Written, write_bound};

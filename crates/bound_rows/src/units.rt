@@ -2,8 +2,8 @@
 ghost use Rattle.std.specs.Prelude.{◌≡◌, ◌+◌, ◌≤◌, ◌++◌, map, OnOk};
 ghost use Rattle.league.specs.Bounds.{largest};
 ghost use Rattle.rows.specs.Cardinality.{unit};
-ghost use Rattle.bound_base.specs.BoundRows.{units_of};
-ghost use Rattle.bound_base.specs.Softening.{costs_from, units_from};
+ghost use Rattle.bound_rows.specs.BoundRows.{units_of};
+ghost use Rattle.bound_rows.specs.Softening.{costs_from, units_from};
 
 use league::Class;
 use rows::{Lit, RowStore, Term};

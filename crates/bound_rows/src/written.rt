@@ -1,15 +1,15 @@
 //! All bound rows of a league.
 ghost use Rattle.std.specs.Prelude.{◌≡◌, ◌+◌, ◌^◌, ◌<◌, ◌≤◌, ◌++◌, [], ◌∷◌, map, length, IfOk};
 ghost use Rattle.std.specs.List.{All};
-ghost use Rattle.bound_base.specs.BoundRows as bounds;
-ghost use Rattle.bound_base.specs.Softening.{objective_row, order_rows, softened_rows};
+ghost use Rattle.bound_rows.specs.BoundRows as bounds;
+ghost use Rattle.bound_rows.specs.Softening.{objective_row, order_rows, softened_rows};
 ghost use Rattle.bound_rows.specs.Bare.{bare_groups, unit_total};
 ghost use Rattle.bound_rows.specs.Drafts.{rows_in, stripped, units_in};
 ghost use Rattle.encoding.specs.Limit.{most_terms};
 
+use crate::base::{base_vars, needs_breaks};
 use crate::draft::{Draft, add_paid};
 use crate::{push_objective, push_orders};
-use bound_base::{base_vars, needs_breaks};
 use encoding_rows::{Season, write_rows_with};
 use league::League;
 use rows::RowStore;

@@ -30,9 +30,9 @@ use Rattle.descent.proofs.TrailLemmas.{trails-stay_feasible}
 use Rattle.solve.specs.Solutions.{IsSchedule, league_score}
 use Rattle.decoding.proofs.GameLemmas.{accepted_few, decoded_fit}
 use Rattle.walk.proofs.WalkLemmas.{met}
-use Rattle.bound_base.specs.BoundRows.{bound_rows, bound_size, bound_vars}
-use Rattle.bound_laws.proofs.CostLaws.{costs-bounded}
-use Rattle.bound_laws.proofs.Faithful.{bounded-from_rows, bounds-from_refuted}
+use Rattle.bound_rows.specs.BoundRows.{bound_rows, bound_size, bound_vars}
+use Rattle.bound_rows.proofs.CostLaws.{costs-bounded}
+use Rattle.bound_rows.proofs.Faithful.{bounded-from_rows, bounds-from_refuted}
 use Rattle.bounds.specs.Lower.{IsLower}
 use Rattle.bounds.specs.Proofs.{IsBetter, IsLeast, IsSpentBelow}
 

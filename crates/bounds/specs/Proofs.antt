@@ -12,8 +12,8 @@ use Rattle.refutation.specs.Steps.{NamesRows, Step}
 use Rattle.clause_search.specs.Answers.{IsSpentAt, Refutes}
 use Rattle.descent.specs.Settled.{IsSettled}
 use Rattle.solve.specs.Solutions.{league_score}
-use Rattle.bound_base.specs.BoundRows.{bound_rows, bound_vars}
-use Rattle.bound_laws.specs.Faithful.{IsLowerBound}
+use Rattle.bound_rows.specs.BoundRows.{bound_rows, bound_vars}
+use Rattle.bound_rows.specs.Faithful.{IsLowerBound}
 use Rattle.bounds.specs.declared.proved.Proved.{Proved}
 use Rattle.bounds.specs.declared.proved.Proved.TheVariants.{Least, Better, Spent}
 

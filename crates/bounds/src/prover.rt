@@ -11,7 +11,7 @@ ghost use Rattle.rows.specs.Rows.{SatisfiesAll};
 ghost use Rattle.rows.specs.Values.{assigned};
 ghost use Rattle.descent.specs.Settled.{IsSettled};
 ghost use Rattle.solve.specs.Solutions.{league_score};
-ghost use Rattle.bound_base.specs.BoundRows.{bound_rows, bound_vars};
+ghost use Rattle.bound_rows.specs.BoundRows.{bound_rows, bound_vars};
 ghost use Rattle.bound_rows.specs.Bounded.{IsCounted};
 ghost use Rattle.bounds.specs.Lower.{IsLower};
 ghost use Rattle.robin_watch.specs.Limits.{IsKeptTo};

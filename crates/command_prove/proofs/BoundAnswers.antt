@@ -13,8 +13,8 @@ use Rattle.answers.specs.declared.status.Status.TheVariants.{Yes, File}
 use Rattle.answers.proofs.StageLemmas.{first-works, says-known, second-works, takes-known, takes-yes}
 use Rattle.refutation.specs.Logs.{Fault}
 use Rattle.command_check.specs.Check.{most_log_bytes}
-use Rattle.bound_base.specs.BoundRows.{bound_size}
-use Rattle.bound_laws.specs.Faithful.{IsLowerBound}
+use Rattle.bound_rows.specs.BoundRows.{bound_size}
+use Rattle.bound_rows.specs.Faithful.{IsLowerBound}
 use Rattle.certificates.specs.Certificates.{certificate_of}
 use Rattle.certificates.specs.declared.certificate.Certificate.{Certificate}
 use Rattle.command_prove.specs.Bound.{IsBoundVerdict, IsWellFormedCertificate, bounded, has_few_terms}

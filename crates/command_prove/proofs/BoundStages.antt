@@ -14,8 +14,8 @@ use Rattle.refutation.specs.Logs.{Fault}
 use Rattle.refutation.specs.declared.verdict.Verdict.{Verdict}
 use Rattle.refutation.specs.declared.verdict.Verdict.TheVariants.{Accepted, Rejected}
 use Rattle.command_check.specs.Check.{most_log_bytes}
-use Rattle.bound_base.specs.BoundRows.{bound_size}
-use Rattle.bound_laws.specs.Faithful.{IsLowerBound}
+use Rattle.bound_rows.specs.BoundRows.{bound_size}
+use Rattle.bound_rows.specs.Faithful.{IsLowerBound}
 use Rattle.certificates.specs.Certificates.{certificate_of}
 use Rattle.certificates.specs.declared.certificate.Certificate.{Certificate}
 use Rattle.command_prove.specs.Bound.{IsBoundVerdict, bound_answer, bound_verdict, bounded, has_few_terms}

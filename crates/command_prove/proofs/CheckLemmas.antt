@@ -6,9 +6,9 @@ use Rattle.rows.specs.Rows.{Row}
 use Rattle.encoding_base.specs.Known.{AreKnown, IsKnown}
 use Rattle.refutation_check.specs.Soundness.{HaveNoSolution}
 use Rattle.refutation_check.specs.Within.{AreWithin, IsWithin}
-use Rattle.bound_base.specs.BoundRows.{bound_rows}
-use Rattle.bound_laws.specs.Faithful.{IsLowerBound}
-use Rattle.bound_laws.proofs.Faithful.{bounds-from_refuted}
+use Rattle.bound_rows.specs.BoundRows.{bound_rows}
+use Rattle.bound_rows.specs.Faithful.{IsLowerBound}
+use Rattle.bound_rows.proofs.Faithful.{bounds-from_refuted}
 
 pub within-from_known : (vars : ℕ) (rows : List Row) → AreKnown vars rows → AreWithin vars rows
 within-from_known vars rows known =

@@ -10,7 +10,7 @@ use Rattle.answers.specs.Reply.{Answer, too_large}
 use Rattle.answers.specs.SeenReply.{IsMalformed}
 use Rattle.answers.specs.Stages.{IsFile, IsUnread, says, takes}
 use Rattle.answers.proofs.StageLemmas.{says-value}
-use Rattle.bound_base.specs.BoundRows.{bound_size}
+use Rattle.bound_rows.specs.BoundRows.{bound_size}
 use Rattle.command_prove.specs.Bound.{has_few_terms}
 use Rattle.command_prove.specs.Prove.{IsShownBy, proved}
 use Rattle.encoding.specs.Limit.{most_terms}

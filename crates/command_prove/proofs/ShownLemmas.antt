@@ -23,8 +23,8 @@ use Rattle.refutation.specs.Steps.{Step}
 use Rattle.refutation.specs.Verdict.{verdict_of}
 use Rattle.refutation.specs.declared.verdict.Verdict.TheVariants.{Accepted}
 use Rattle.clause_search.specs.Answers.{Refutes}
-use Rattle.bound_base.specs.BoundRows.{bound_rows, bound_vars}
-use Rattle.bound_laws.specs.Faithful.{IsLowerBound}
+use Rattle.bound_rows.specs.BoundRows.{bound_rows, bound_vars}
+use Rattle.bound_rows.specs.Faithful.{IsLowerBound}
 use Rattle.certificates.specs.Certificates.{certificate_text}
 use Rattle.certificates.specs.declared.certificate.Certificate.{Certificate}
 use Rattle.bounds.specs.Proofs as proofs

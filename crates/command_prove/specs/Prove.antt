@@ -23,8 +23,8 @@ use Rattle.refutation.specs.declared.verdict.Verdict.TheVariants.{Accepted}
 use Rattle.clause_search.specs.News.{IsSpent}
 use Rattle.descent.specs.Settled.{IsSettled}
 use Rattle.solve.specs.Solutions.{league_score}
-use Rattle.bound_base.specs.BoundRows.{bound_rows, bound_size, bound_vars}
-use Rattle.bound_laws.specs.Faithful.{IsLowerBound}
+use Rattle.bound_rows.specs.BoundRows.{bound_rows, bound_size, bound_vars}
+use Rattle.bound_rows.specs.Faithful.{IsLowerBound}
 use Rattle.certificates.specs.Certificates.{certificate_of, certificate_text}
 use Rattle.command_validate.specs.Validate.{IsJudgement, IsWellFormedPair}
 use Rattle.command_prove.specs.Bound.{bound_verdict, has_few_terms}

@@ -1,7 +1,7 @@
 //! The answers of `bound`.
 ghost use Rattle.std.specs.Prelude.{◌≡◌, IfOk, Ok};
 ghost use Rattle.answers.specs.SeenReply.{answer_of};
-ghost use Rattle.bound_laws.specs.Faithful.{IsLowerBound};
+ghost use Rattle.bound_rows.specs.Faithful.{IsLowerBound};
 ghost use Rattle.bound_rows.specs.Bounded.{IsCounted};
 ghost use Rattle.command_prove.specs.Bound as texts;
 ghost use Rattle.command_prove.specs.Bound.{IsBoundVerdict, bound_verdict};

@@ -3,7 +3,7 @@ ghost use Rattle.std.specs.Prelude.{◌≡◌, ◌≤◌, ◌+◌, ◌<◌, ℕ,
 ghost use Rattle.robin_io.specs.Outside.{store_between};
 ghost use Rattle.answers.specs.Reply.{too_large};
 ghost use Rattle.answers.specs.SeenReply.{Answers, MatchStage};
-ghost use Rattle.bound_base.specs.BoundRows.{bound_size};
+ghost use Rattle.bound_rows.specs.BoundRows.{bound_size};
 ghost use Rattle.bound_rows.specs.Bounded.{IsCounted};
 ghost use Rattle.certificates.specs.Certificates.{certificate_of};
 ghost use Rattle.command_prove.specs.Bound.{IsBoundVerdict, bounded, says_certificate};

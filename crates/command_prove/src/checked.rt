@@ -1,7 +1,7 @@
 //! Logs over bound rows.
 ghost use Rattle.std.specs.Prelude.{◌≡◌, ◌-◌, ◌≤◌, IfOk, Ok};
-ghost use Rattle.bound_base.specs.BoundRows.{bound_rows, bound_vars};
-ghost use Rattle.bound_laws.specs.Faithful.{IsLowerBound};
+ghost use Rattle.bound_rows.specs.BoundRows.{bound_rows, bound_vars};
+ghost use Rattle.bound_rows.specs.Faithful.{IsLowerBound};
 ghost use Rattle.bound_rows.specs.Bounded.{IsCounted};
 ghost use Rattle.refutation.specs.Verdict.{verdict_of};
 

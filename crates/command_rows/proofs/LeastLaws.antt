@@ -10,12 +10,12 @@ use Rattle.rows.specs.Literals.{Literal, yes}
 use Rattle.rows.specs.Rows.{Row, Satisfies, SatisfiesAll, is_true, weight}
 use Rattle.rows.specs.Tests.{true_count}
 use Rattle.rows.specs.declared.lit.Term.{Term}
-use Rattle.bound_base.specs.BoundRows.{base_rows, bound_rows, first_unit, league_groups}
-use Rattle.bound_base.specs.Softening.{Group, costs, costs_from, objective_row, order_rows, softened_rows, total_cost}
-use Rattle.bound_base.specs.Softening.{units_from}
-use Rattle.bound_laws.specs.Units.{paid}
-use Rattle.bound_laws.proofs.Faithful.{bounded-from_rows, values-from_bounded}
-use Rattle.bound_laws.proofs.SoftLaws.{costs-paid}
+use Rattle.bound_rows.specs.BoundRows.{base_rows, bound_rows, first_unit, league_groups}
+use Rattle.bound_rows.specs.Softening.{Group, costs, costs_from, objective_row, order_rows, softened_rows, total_cost}
+use Rattle.bound_rows.specs.Softening.{units_from}
+use Rattle.bound_rows.specs.Units.{paid}
+use Rattle.bound_rows.proofs.Faithful.{bounded-from_rows, values-from_bounded}
+use Rattle.bound_rows.proofs.SoftLaws.{costs-paid}
 use Rattle.bound_rows.proofs.DraftLemmas.{All-back, All-front}
 use Rattle.command_rows.specs.Least.{ObjectivesAreSums, SumsAreEnough}
 use Rattle.command_rows.specs.Rowed.{greatest_bound, prices, turned}

@@ -7,9 +7,9 @@ use Rattle.std.specs.Prelude.{IfSome}
 use Rattle.rows.specs.Rows.{IsRow, Row}
 use Rattle.rows.specs.declared.lit.Term.{Term}
 use Rattle.league.specs.Instance.{Instance}
-use Rattle.bound_base.specs.BoundRows.{base_rows, bound_rows, first_unit, league_groups}
-use Rattle.bound_base.specs.Softening.{Group, costs, costs_from, objective_row, one_before, order_rows}
-use Rattle.bound_base.specs.Softening.{softened_rows}
+use Rattle.bound_rows.specs.BoundRows.{base_rows, bound_rows, first_unit, league_groups}
+use Rattle.bound_rows.specs.Softening.{Group, costs, costs_from, objective_row, one_before, order_rows}
+use Rattle.bound_rows.specs.Softening.{softened_rows}
 use Rattle.command_rows.specs.SeenRows.{begins_positive}
 
 -- the rows before the objective row

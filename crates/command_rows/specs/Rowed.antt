@@ -15,8 +15,8 @@ use Rattle.rows.specs.Literals.{negate}
 use Rattle.rows.specs.declared.lit.Term.{Term}
 use Rattle.encoding_base.specs.Encoding.{rows_of}
 use Rattle.encoding_base.specs.Variables.{var_count}
-use Rattle.bound_base.specs.BoundRows.{bound_rows, bound_vars, first_unit, league_groups}
-use Rattle.bound_base.specs.Softening.{costs}
+use Rattle.bound_rows.specs.BoundRows.{bound_rows, bound_vars, first_unit, league_groups}
+use Rattle.bound_rows.specs.Softening.{costs}
 use Rattle.command_prove.specs.Bound.{has_few_terms}
 use Rattle.opb_forms.specs.Systems.{System}
 use Rattle.opb_forms.specs.Texts.{opb_text}

@@ -2,7 +2,7 @@
 use Rattle.std.specs.Prelude.{◌≤◌, Bool, false, List, [], ◌∷◌, Some}
 use Rattle.std.specs.List.{All}
 use Rattle.rows.specs.declared.lit.Term.{Term}
-use Rattle.bound_base.specs.BoundRows.{bound_rows, bound_vars}
+use Rattle.bound_rows.specs.BoundRows.{bound_rows, bound_vars}
 use Rattle.opb_forms.specs.Systems.{System}
 use Rattle.command_rows.specs.Rowed.{bound_system, league_system}
 use Rattle.command_rows.specs.declared.written.Kept.{Kept}

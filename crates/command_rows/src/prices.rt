@@ -1,8 +1,8 @@
 //! What the units cost, as a sum that is to be least: the prices are read off the objective row.
 ghost use Rattle.std.specs.Prelude.{◌≡◌, ◌≤◌, IfOk};
 ghost use Rattle.std.specs.List.{All};
-ghost use Rattle.bound_base.specs.BoundRows.{first_unit, league_groups};
-ghost use Rattle.bound_base.specs.Softening as softening;
+ghost use Rattle.bound_rows.specs.BoundRows.{first_unit, league_groups};
+ghost use Rattle.bound_rows.specs.Softening as softening;
 ghost use Rattle.command_rows.specs.Rowed as rowed;
 ghost use Rattle.command_rows.specs.SeenRows as seen;
 

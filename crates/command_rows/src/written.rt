@@ -11,7 +11,7 @@ ghost use Rattle.opb_forms.specs.Opb.{opb_of};
 ghost use Rattle.opb_forms.specs.Texts.{opb_text};
 ghost use Rattle.command_rows.specs.Rowed.{bound_system, league_system, rows_answer};
 ghost use Rattle.command_rows.specs.SeenRows.{HasPrices, system_kept};
-ghost use Rattle.bound_base.specs.BoundRows.{bound_rows, bound_vars};
+ghost use Rattle.bound_rows.specs.BoundRows.{bound_rows, bound_vars};
 
 use answers::Status;
 use bound_rows::BoundSystem;

@@ -34,8 +34,8 @@ use Rattle.moves.specs.Moves.{moved}
 use Rattle.moves.specs.Neighbours.{home_swap}
 use Rattle.descent.specs.Settled.{IsLowering, IsSettled}
 use Rattle.solve.specs.Solutions.{league_score}
-use Rattle.bound_base.specs.BoundRows.{bound_rows, bound_vars}
-use Rattle.bound_laws.proofs.Faithful.{bounds-from_refuted}
+use Rattle.bound_rows.specs.BoundRows.{bound_rows, bound_vars}
+use Rattle.bound_rows.proofs.Faithful.{bounds-from_refuted}
 use Rattle.bounds.specs.Proofs.{IsBetter, IsLeast, IsSpentBelow}
 use Rattle.example_answers.proofs.LeastExamples.{away-one, away_first, costs, even_soon, lower_bound}
 use Rattle.example_answers.proofs.LeastExamples.{one-fit, one-in_order, one_first, soft, unit_false, unit_quiet}

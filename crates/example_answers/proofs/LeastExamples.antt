@@ -41,9 +41,9 @@ use Rattle.refutation_check.proofs.SoundLemmas.{accepted_logs_refute}
 use Rattle.refutation_check.proofs.SumLemmas.{row_numbered-holds}
 use Rattle.clause_search.specs.Answers.{Refutes}
 use Rattle.clause_search.specs.News.{IsNews, IsTidy}
-use Rattle.bound_base.specs.BoundRows.{bound_rows, bound_vars}
-use Rattle.bound_laws.specs.Faithful.{IsLowerBound}
-use Rattle.bound_laws.proofs.Faithful.{bounds-from_refuted}
+use Rattle.bound_rows.specs.BoundRows.{bound_rows, bound_vars}
+use Rattle.bound_rows.specs.Faithful.{IsLowerBound}
+use Rattle.bound_rows.proofs.Faithful.{bounds-from_refuted}
 use Rattle.bounds.specs.Proofs.{IsLeast}
 
 abbrev pub soft : ℕ → Class → Constraint

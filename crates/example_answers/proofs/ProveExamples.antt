@@ -26,7 +26,7 @@ use Rattle.command_validate.specs.Validate.{IsWellFormedPair}
 use Rattle.refutation.specs.Logs.{lines_from, log_of}
 use Rattle.refutation.specs.Steps.{Step}
 use Rattle.refutation.specs.declared.verdict.Verdict.TheVariants.{Accepted}
-use Rattle.bound_base.specs.BoundRows.{bound_size}
+use Rattle.bound_rows.specs.BoundRows.{bound_size}
 use Rattle.certificates.specs.Certificates.{certificate_of, certificate_text}
 use Rattle.certificates.specs.declared.certificate.Certificate.{Certificate}
 use Rattle.command_prove.specs.Bound.{bound_verdict}

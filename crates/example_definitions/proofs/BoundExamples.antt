@@ -15,9 +15,9 @@ use Rattle.encoding_base.specs.Variables.{var_count}
 use Rattle.refutation.specs.Steps.Step.{Clause}
 use Rattle.refutation.specs.Verdict.{verdict_of}
 use Rattle.refutation.specs.declared.verdict.Verdict.TheVariants.{Accepted}
-use Rattle.bound_base.specs.BoundRows.{base_rows, base_vars, bound_rows, bound_size, bound_vars, league_groups, paid_of}
-use Rattle.bound_base.specs.Parts.{parts_of}
-use Rattle.bound_base.specs.Softening.{total_cost}
+use Rattle.bound_rows.specs.BoundRows.{base_rows, base_vars, bound_rows, bound_size, bound_vars, league_groups, paid_of}
+use Rattle.bound_rows.specs.Parts.{parts_of}
+use Rattle.bound_rows.specs.Softening.{total_cost}
 use Rattle.resume_rows.specs.Kept.{Keeps, kept_rows, resume_rows, resume_size}
 
 abbrev soft : ℕ → Class → Constraint

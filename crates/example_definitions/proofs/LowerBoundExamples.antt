@@ -17,9 +17,9 @@ use Rattle.refutation.specs.Steps.Step.{Clause}
 use Rattle.refutation.specs.Verdict.{verdict_of}
 use Rattle.refutation.specs.declared.verdict.Verdict.TheVariants.{Accepted}
 use Rattle.refutation_check.proofs.SoundLemmas.{accepted_logs_refute}
-use Rattle.bound_base.specs.BoundRows.{bound_rows, bound_vars}
-use Rattle.bound_laws.specs.Faithful.{IsLowerBound}
-use Rattle.bound_laws.proofs.Faithful.{bounds-from_refuted}
+use Rattle.bound_rows.specs.BoundRows.{bound_rows, bound_vars}
+use Rattle.bound_rows.specs.Faithful.{IsLowerBound}
+use Rattle.bound_rows.proofs.Faithful.{bounds-from_refuted}
 
 -- one game of the meeting in slot 0
 abbrev wanted : ℕ → ℕ × ℕ → Constraint

@@ -5,7 +5,7 @@ use Rattle.robin_io.specs.Outside.{Output}
 use Rattle.league.specs.Instance.{Instance}
 use Rattle.command_line.specs.Words.{Command}
 use Rattle.answers.specs.declared.status.Status.TheVariants.{Yes}
-use Rattle.bound_laws.specs.Faithful.{IsLowerBound}
+use Rattle.bound_rows.specs.Faithful.{IsLowerBound}
 use Rattle.command_prove.specs.Bound.{IsBoundVerdict, IsWellFormedCertificate}
 use Rattle.certificates.specs.declared.certificate.Certificate.{Certificate}
 use Rattle.robin_run.specs.Said.{SaysLeague}

@@ -13,7 +13,7 @@ use Rattle.answers.specs.declared.status.Status.TheVariants.{Better, Yes}
 use Rattle.refutation.specs.Steps.{Step}
 use Rattle.refutation.specs.declared.verdict.Verdict.TheVariants.{Accepted}
 use Rattle.robinx_form.specs.Texts.{solution_text}
-use Rattle.bound_laws.specs.Faithful.{IsLowerBound}
+use Rattle.bound_rows.specs.Faithful.{IsLowerBound}
 use Rattle.command_prove.specs.Bound.{bound_verdict}
 use Rattle.certificates.specs.Certificates.{certificate_text}
 use Rattle.command_prove.specs.Prove.{IsShownBy, IsWellFormedCase}

@@ -2,7 +2,7 @@ use Rattle.std.proofs.Common.{◌≡◌, ◌≤◌, ◌+◌, ◌-◌, ◌*◌, t
 use Rattle.std.proofs.lemmas.Nat.{mul-le}
 use Rattle.encoding_base.specs.Encoding.{encoding_size}
 use Rattle.encoding_base.specs.Variables.{has_breaks}
-use Rattle.bound_base.specs.BoundRows.{needs_breaks}
+use Rattle.bound_rows.specs.BoundRows.{needs_breaks}
 use Rattle.bound_rows.proofs.CountLemmas.{more_breaks}
 use Rattle.bound_rows.proofs.count.more_terms.Goals as goal
 

@@ -1,5 +1,5 @@
 use Rattle.std.proofs.Common.{◌∷◌, [], drop, ◌+◌, take}
-use Rattle.bound_base.specs.BoundRows.{groups_of}
+use Rattle.bound_rows.specs.BoundRows.{groups_of}
 use Rattle.bound_rows.proofs.DraftLemmas.{constraints-more, constraints-split, extends-as, extends-both, extends-none}
 use Rattle.bound_rows.proofs.DraftLemmas.{room-between}
 use Rattle.bound_rows.proofs.draft.add_paid.Goals as goal

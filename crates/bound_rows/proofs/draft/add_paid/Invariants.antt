@@ -1,5 +1,5 @@
 use Rattle.std.proofs.Common.{take}
-use Rattle.bound_base.specs.BoundRows.{groups_of}
+use Rattle.bound_rows.specs.BoundRows.{groups_of}
 use Rattle.bound_rows.specs.Drafts.{Extends}
 use Rattle.bound_rows.proofs.draft.add_paid.Given as goal
 

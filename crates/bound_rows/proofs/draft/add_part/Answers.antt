@@ -1,8 +1,8 @@
 use Rattle.std.proofs.Common.{List, [], subst, sym}
 use Rattle.std.proofs.lemmas.List.Elements.{All-head}
 use Rattle.rows.specs.Rows.{Row}
-use Rattle.bound_base.specs.BoundRows.{group_of}
-use Rattle.bound_base.specs.Softening.{Group}
+use Rattle.bound_rows.specs.BoundRows.{group_of}
+use Rattle.bound_rows.specs.Softening.{Group}
 use Rattle.bound_rows.specs.Drafts.{AreBefore}
 use Rattle.bound_rows.proofs.draft.add_part.Goals as goal
 

@@ -1,5 +1,5 @@
 use Rattle.std.proofs.Common.{◌∷◌, [], drop, ◌+◌, map, take}
-use Rattle.bound_base.specs.BoundRows.{group_of}
+use Rattle.bound_rows.specs.BoundRows.{group_of}
 use Rattle.bound_rows.proofs.DraftLemmas.{extends-as, extends-both, extends-none, parts-more, parts-split, room-between}
 use Rattle.bound_rows.proofs.draft.add_parts.Goals as goal
 

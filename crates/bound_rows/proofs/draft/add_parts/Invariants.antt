@@ -1,5 +1,5 @@
 use Rattle.std.proofs.Common.{map, take}
-use Rattle.bound_base.specs.BoundRows.{group_of}
+use Rattle.bound_rows.specs.BoundRows.{group_of}
 use Rattle.bound_rows.specs.Drafts.{Extends}
 use Rattle.bound_rows.proofs.draft.add_parts.Given as goal
 

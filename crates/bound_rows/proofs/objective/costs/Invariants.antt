@@ -1,5 +1,5 @@
 use Rattle.std.proofs.Common.{◌≡◌, ◌+◌, take}
-use Rattle.bound_base.specs.Softening as softening
+use Rattle.bound_rows.specs.Softening as softening
 use Rattle.bound_rows.specs.Bare.{bare_groups, unit_total}
 use Rattle.bound_rows.proofs.objective.costs.Given as goal
 

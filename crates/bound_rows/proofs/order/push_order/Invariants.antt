@@ -1,6 +1,6 @@
 use Rattle.std.proofs.Common.{◌≡◌, ◌+◌, ◌≤◌, ◌++◌, length, map}
 use Rattle.std.specs.List.{range_with_len}
-use Rattle.bound_base.specs.Softening.{one_before}
+use Rattle.bound_rows.specs.Softening.{one_before}
 use Rattle.bound_rows.proofs.order.push_order.Given as goal
 
 abbrev pub invariant-loop-k : goal.invariant-loop-k

@@ -1,7 +1,7 @@
 use Rattle.std.proofs.Common.{◌≡◌, ℕ, ◌*◌, List, ap, arith, ◌∙◌}
 use Rattle.std.proofs.lemmas.Nat.{mul-le}
 use Rattle.league.specs.declared.class.Class.{Class}
-use Rattle.bound_base.specs.Parts.{parts_of}
+use Rattle.bound_rows.specs.Parts.{parts_of}
 use Rattle.bound_rows.specs.Sizes.{lead_size, parts_size}
 use Rattle.bound_rows.proofs.PartSizes.{fa2-parts_size}
 use Rattle.bound_rows.proofs.sizes.fa2_terms.Goals as goal

@@ -1,7 +1,7 @@
 use Rattle.std.proofs.Common.{◌<◌, length, sym, subst, arith}
 use Rattle.std.specs.List.{All}
 use Rattle.rows.specs.Rows.{IsRow, Row}
-use Rattle.bound_base.specs.Softening.{soften, units_from}
+use Rattle.bound_rows.specs.Softening.{soften, units_from}
 use Rattle.bound_rows.proofs.GroupLemmas.{length-put, nothing, row_at, softened-next}
 use Rattle.bound_rows.proofs.softened.add_softened.Goals as goal
 

@@ -1,5 +1,5 @@
 use Rattle.std.proofs.Common.{◌≡◌, ◌+◌, ◌++◌, length, map, take}
-use Rattle.bound_base.specs.Softening.{soften, units_from}
+use Rattle.bound_rows.specs.Softening.{soften, units_from}
 use Rattle.bound_rows.proofs.softened.add_softened.Given as goal
 
 abbrev pub invariant-loop-k : goal.invariant-loop-k

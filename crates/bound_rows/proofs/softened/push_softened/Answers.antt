@@ -2,7 +2,7 @@ use Rattle.std.proofs.Common.{◌++◌, List, map, sym, subst, ap, ◌∙◌}
 use Rattle.rows.specs.Cardinality.{unit}
 use Rattle.rows.specs.Rows.{IsRow}
 use Rattle.rows.specs.declared.lit.Term.{Term}
-use Rattle.bound_base.specs.Softening.{units_from}
+use Rattle.bound_rows.specs.Softening.{units_from}
 use Rattle.bound_rows.proofs.RowLemmas.{IsRow-soften}
 use Rattle.bound_rows.proofs.softened.push_softened.Goals as goal
 

@@ -1,5 +1,5 @@
 use Rattle.std.proofs.Common.{◌≡◌, ◌++◌}
-use Rattle.bound_base.specs.Softening.{costs_from}
+use Rattle.bound_rows.specs.Softening.{costs_from}
 use Rattle.bound_rows.proofs.units.add_costs.Given as goal
 
 abbrev pub invariant-loop-k : goal.invariant-loop-k

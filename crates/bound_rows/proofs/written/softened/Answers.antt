@@ -1,5 +1,5 @@
 use Rattle.std.proofs.Common.{ℕ, sym, ap, ◌∙◌, arith}
-use Rattle.bound_base.specs.BoundRows.{groups_of}
+use Rattle.bound_rows.specs.BoundRows.{groups_of}
 use Rattle.bound_rows.proofs.DraftLemmas.{room-as}
 use Rattle.bound_rows.proofs.RoomLemmas.{league_room}
 use Rattle.bound_rows.proofs.written.softened.Goals as goal

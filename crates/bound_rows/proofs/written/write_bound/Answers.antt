@@ -1,5 +1,5 @@
 use Rattle.std.proofs.Common.{ℕ, ◌+◌, ap, arith}
-use Rattle.bound_base.specs.BoundRows.{league_groups}
+use Rattle.bound_rows.specs.BoundRows.{league_groups}
 use Rattle.bound_rows.proofs.RoomLemmas.{penalties_kept, units_of-kept}
 use Rattle.bound_rows.proofs.SizeLemmas.{bound_size-groups, rows_in-le, units_in-le}
 use Rattle.bound_rows.proofs.WrittenLemmas.{all_rows}

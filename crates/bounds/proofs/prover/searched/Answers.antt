@@ -2,7 +2,7 @@ use Rattle.std.proofs.Common.{ℕ, ◌-◌, List, ap, inl, refl, subst, sym, ◌
 use Rattle.std.specs.List.{All}
 use Rattle.rows.specs.Rows.{Row}
 use Rattle.propagate.specs.Trails.{KnowsVariables}
-use Rattle.bound_base.specs.BoundRows.{bound_rows, bound_vars}
+use Rattle.bound_rows.specs.BoundRows.{bound_rows, bound_vars}
 use Rattle.bound_rows.specs.Bounded.{Bounded}
 use Rattle.bounds.proofs.ProofLemmas.{answer-of, knows-from_known, least-of, spent-of}
 use Rattle.bounds.proofs.prover.searched.Goals as goal

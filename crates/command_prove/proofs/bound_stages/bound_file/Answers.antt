@@ -10,7 +10,7 @@ use Rattle.answers.specs.SeenReply.{Answers}
 use Rattle.answers.specs.Stages.{IsFile, IsUnread}
 use Rattle.answers.proofs.StageLemmas.{Answers-wider, unread-end}
 use Rattle.command_check.specs.Check.{most_log_bytes}
-use Rattle.bound_base.specs.BoundRows.{bound_size}
+use Rattle.bound_rows.specs.BoundRows.{bound_size}
 use Rattle.command_prove.proofs.BoundStages.{bounded-large, bounded-last, bounded-unread}
 use Rattle.command_prove.proofs.bound_stages.bound_file.Goals as goal
 use Rattle.encoding.specs.Limit.{most_terms}

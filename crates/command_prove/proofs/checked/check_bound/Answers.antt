@@ -2,7 +2,7 @@ use Rattle.std.proofs.Common.{◌≡◌, ℕ, List, Ok, subst, sym, ap, ◌∙�
 use Rattle.rows.specs.Rows.{Row}
 use Rattle.refutation.specs.declared.verdict.Verdict.TheVariants.{Accepted}
 use Rattle.refutation_check.specs.Within.{AreWithin}
-use Rattle.bound_base.specs.BoundRows.{bound_rows, bound_vars}
+use Rattle.bound_rows.specs.BoundRows.{bound_rows, bound_vars}
 use Rattle.bound_rows.specs.Bounded.{Bounded}
 use Rattle.command_prove.proofs.CheckLemmas.{shown, within-from_known}
 use Rattle.command_prove.proofs.checked.check_bound.Goals as goal

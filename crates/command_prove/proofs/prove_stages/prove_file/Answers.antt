@@ -11,7 +11,7 @@ use Rattle.robinx_form.specs.SolutionFile.{solution_of}
 use Rattle.answers.specs.SeenReply.{Answers, IsMalformed, answer_of}
 use Rattle.answers.specs.Stages.{IsFile, IsUnread}
 use Rattle.answers.proofs.StageLemmas.{Answers-wider, says-value, unread-end}
-use Rattle.bound_base.specs.BoundRows.{bound_size}
+use Rattle.bound_rows.specs.BoundRows.{bound_size}
 use Rattle.command_prove.proofs.ProveStages.{proved-large, proved-last, proved-malformed, proved-unread}
 use Rattle.command_prove.proofs.prove_stages.prove_file.Goals as goal
 use Rattle.encoding.specs.Limit.{most_terms}

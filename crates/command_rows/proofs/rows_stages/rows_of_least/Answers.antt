@@ -1,6 +1,6 @@
 use Rattle.std.proofs.Common.{List, Some, inl, ap, ◌∙◌}
 use Rattle.rows.specs.declared.lit.Term.{Term}
-use Rattle.bound_base.specs.BoundRows.{bound_rows, bound_vars}
+use Rattle.bound_rows.specs.BoundRows.{bound_rows, bound_vars}
 use Rattle.bound_rows.specs.Bounded.{Bounded}
 use Rattle.opb_forms.specs.Systems.{System}
 use Rattle.command_rows.specs.Rowed.{prices, rows_answer}

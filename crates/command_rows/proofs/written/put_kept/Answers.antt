@@ -4,7 +4,7 @@ use Rattle.std.specs.Io.KnownBytes.{Appends}
 use Rattle.robin_io.specs.Written.{AppendsPrefix}
 use Rattle.encoding_base.specs.Encoding.{rows_of}
 use Rattle.encoding_base.specs.Variables.{var_count}
-use Rattle.bound_base.specs.BoundRows.{bound_rows, bound_vars}
+use Rattle.bound_rows.specs.BoundRows.{bound_rows, bound_vars}
 use Rattle.opb_forms.specs.Opb.{opb_of}
 use Rattle.opb_forms.specs.Systems.{System}
 use Rattle.opb_forms.specs.Texts.{opb_text}

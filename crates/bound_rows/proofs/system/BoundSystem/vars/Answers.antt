@@ -1,6 +1,6 @@
 use Rattle.std.proofs.Common.{subst}
 use Rattle.encoding_base.specs.Known.{AreKnown}
-use Rattle.bound_base.specs.BoundRows.{bound_rows, bound_vars}
+use Rattle.bound_rows.specs.BoundRows.{bound_rows, bound_vars}
 use Rattle.bound_rows.specs.Bounded.{Bounded}
 use Rattle.bound_rows.proofs.KnownLemmas.{bound_rows-known}
 use Rattle.bound_rows.proofs.system.BoundSystem.vars.Goals as goal

@@ -9,8 +9,8 @@ use Rattle.league.specs.declared.class.Span.TheVariants.{Every}
 use Rattle.rows.specs.Cardinality.{at_least}
 use Rattle.rows.specs.Literals.{no, yes}
 use Rattle.rows.specs.Rows.{Row}
-use Rattle.bound_base.specs.BoundRows.{base_rows, base_vars, bound_rows, bound_size, bound_vars, league_groups}
-use Rattle.bound_base.specs.Parts.{parts_of}
+use Rattle.bound_rows.specs.BoundRows.{base_rows, base_vars, bound_rows, bound_size, bound_vars, league_groups}
+use Rattle.bound_rows.specs.Parts.{parts_of}
 
 -- a phased league of n teams with these constraints
 abbrev league_with : ℕ → List Constraint → Instance

@@ -25,16 +25,16 @@ use Rattle.decoding.proofs.ConstraintLaws.{MeetsHard-from_true, all_fit, constra
 use Rattle.decoding.proofs.SeasonRows.{IsMirroredSeason, both_satisfied, break_rows-met_by, mirrored-from_shadow}
 use Rattle.decoding.proofs.SeasonRows.{satisfied_both, season-from_rows, season_rows-met}
 use Rattle.decoding.proofs.SomeShadow.{shadow_values, some_shadow}
-use Rattle.bound_base.specs.BoundRows.{base_rows, bound_rows, first_unit, group_of, league_groups}
-use Rattle.bound_base.specs.BoundRows.{needs_breaks, paid_of}
-use Rattle.bound_laws.specs.Faithful.{AnswersAreBounded, BoundedHaveValues, RefutedBoundsHold}
-use Rattle.bound_base.specs.Parts.{parts_of}
-use Rattle.bound_base.specs.Softening.{Group, objective_row, order_rows, softened_rows}
-use Rattle.bound_laws.specs.Units.{cost_needed, paid, with_units}
-use Rattle.bound_laws.proofs.ObjectiveLaws.{objective_needs, paid_fit}
-use Rattle.bound_laws.proofs.PartNeeds.{needs_fit, part_law}
-use Rattle.bound_laws.proofs.SoftLaws.{needed-le-paid, objective_law, softened_law}
-use Rattle.bound_laws.proofs.UnitLemmas.{Agrees, IsServed, units_enough, units_ordered, units_paid, with_units-below}
+use Rattle.bound_rows.specs.BoundRows.{base_rows, bound_rows, first_unit, group_of, league_groups}
+use Rattle.bound_rows.specs.BoundRows.{needs_breaks, paid_of}
+use Rattle.bound_rows.specs.Faithful.{AnswersAreBounded, BoundedHaveValues, RefutedBoundsHold}
+use Rattle.bound_rows.specs.Parts.{parts_of}
+use Rattle.bound_rows.specs.Softening.{Group, objective_row, order_rows, softened_rows}
+use Rattle.bound_rows.specs.Units.{cost_needed, paid, with_units}
+use Rattle.bound_rows.proofs.ObjectiveLaws.{objective_needs, paid_fit}
+use Rattle.bound_rows.proofs.PartNeeds.{needs_fit, part_law}
+use Rattle.bound_rows.proofs.SoftLaws.{needed-le-paid, objective_law, softened_law}
+use Rattle.bound_rows.proofs.UnitLemmas.{Agrees, IsServed, units_enough, units_ordered, units_paid, with_units-below}
 
 -- ---- from values to a schedule
 

@@ -7,7 +7,7 @@ use Rattle.league.specs.Instance.{Instance, IsInstance}
 use Rattle.rows.specs.Rows.{SatisfiesAll}
 use Rattle.encoding_base.specs.Shadow.{decoded}
 use Rattle.refutation_check.specs.Soundness.{HaveNoSolution}
-use Rattle.bound_base.specs.BoundRows.{bound_rows}
+use Rattle.bound_rows.specs.BoundRows.{bound_rows}
 
 -- each accepted schedule has an objective of at least this
 abbrev pub IsLowerBound : Instance → ℕ → Type 0

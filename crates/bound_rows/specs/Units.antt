@@ -7,7 +7,7 @@ use Rattle.league.specs.declared.class.Class.{Class}
 use Rattle.league.specs.declared.class.Class.TheVariants.{Se1}
 use Rattle.rows.specs.Tests.{true_count}
 use Rattle.decoding.specs.Shortfalls.{units_needed}
-use Rattle.bound_base.specs.Softening.{Group, units_from}
+use Rattle.bound_rows.specs.Softening.{Group, units_from}
 
 -- how many units a part needs in a schedule: its deviation, but of SE1 one where it lacks anything
 abbrev pub need_of : ℕ → Counts → Class → ℕ

@@ -1,6 +1,6 @@
 //! Laws of bound rows: functions that do nothing and whose contracts are proved.
-ghost use Rattle.bound_laws.specs.Cost.{CostsAreBounded};
-ghost use Rattle.bound_laws.specs.Faithful.{AnswersAreBounded, BoundedHaveValues, RefutedBoundsHold};
+ghost use Rattle.bound_rows.specs.Cost.{CostsAreBounded};
+ghost use Rattle.bound_rows.specs.Faithful.{AnswersAreBounded, BoundedHaveValues, RefutedBoundsHold};
 
 /// The bound rows are faithful both ways, for every league and bound. An accepted schedule with an objective of at most
 /// the bound gives values that satisfy them; an assignment that satisfies them decodes to such a schedule. So where no

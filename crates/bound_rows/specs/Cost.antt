@@ -4,7 +4,7 @@ use Rattle.league.specs.Accepted.{IsAccepted, objective}
 use Rattle.league.specs.Bounds.{largest}
 use Rattle.league.specs.Counts.{Counts}
 use Rattle.league.specs.Instance.{Instance, IsInstance}
-use Rattle.bound_base.specs.BoundRows.{bound_size}
+use Rattle.bound_rows.specs.BoundRows.{bound_size}
 
 -- an accepted schedule pays the largest penalty at most once for each term of the bound rows: what it pays for is a
 -- unit, and each unit is a term

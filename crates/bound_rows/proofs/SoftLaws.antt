@@ -19,9 +19,9 @@ use Rattle.rows.proofs.TestLemmas.{weight-units}
 use Rattle.encoding_base.specs.Encoding.{demands}
 use Rattle.decoding.specs.Shortfalls.{shortfall, units_needed}
 use Rattle.decoding.proofs.ShortfallLemmas.{largest-cons}
-use Rattle.bound_base.specs.Softening.{Group, costs, costs_from, objective_row, soften, softened_rows, total_cost}
-use Rattle.bound_base.specs.Softening.{units_from}
-use Rattle.bound_laws.specs.Units.{cost_needed, paid}
+use Rattle.bound_rows.specs.Softening.{Group, costs, costs_from, objective_row, soften, softened_rows, total_cost}
+use Rattle.bound_rows.specs.Softening.{units_from}
+use Rattle.bound_rows.specs.Units.{cost_needed, paid}
 
 -- ---- rows that demand nothing lack nothing
 

@@ -2,7 +2,7 @@
 ghost use Rattle.std.specs.Prelude.{◌≡◌, ◌≤◌, ◌&&◌, not, nat_lt};
 ghost use Rattle.std.specs.List.{list_any};
 ghost use Rattle.encoding_base.specs.Variables as variables;
-ghost use Rattle.bound_base.specs.BoundRows as bound_rows;
+ghost use Rattle.bound_rows.specs.BoundRows as bound_rows;
 
 use encoding_base::{h_count, has_breaks, hb_count, x_count};
 use league::{Class, Constraint, League};

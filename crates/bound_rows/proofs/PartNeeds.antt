@@ -36,11 +36,11 @@ use Rattle.decoding.proofs.FairnessLaw.{units_needed-fa2}
 use Rattle.decoding.proofs.MeetingLists.{pairs_of-fit, windows_of-fit}
 use Rattle.decoding.proofs.ShortfallLemmas.{largest-cons}
 use Rattle.decoding.proofs.ClassLaws.{meetings_fit, slots_fit, spans-fit, teams_fit}
-use Rattle.bound_base.specs.BoundRows.{units_of}
-use Rattle.bound_base.specs.Parts.{ca3_parts, parts_of, se1_parts}
-use Rattle.bound_laws.specs.Units.{need_of}
-use Rattle.bound_laws.proofs.SeparationNeeds.{needs-se1, steps-se1}
-use Rattle.bound_laws.proofs.SoftLaws.{needs_of_key}
+use Rattle.bound_rows.specs.BoundRows.{units_of}
+use Rattle.bound_rows.specs.Parts.{ca3_parts, parts_of, se1_parts}
+use Rattle.bound_rows.specs.Units.{need_of}
+use Rattle.bound_rows.proofs.SeparationNeeds.{needs-se1, steps-se1}
+use Rattle.bound_rows.proofs.SoftLaws.{needs_of_key}
 
 -- ---- the sets of a class that fits
 

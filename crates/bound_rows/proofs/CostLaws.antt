@@ -20,15 +20,15 @@ use Rattle.decoding.proofs.ConstraintLaws.{all_fit}
 use Rattle.decoding.proofs.ShortfallLemmas.{largest-cons}
 use Rattle.decoding.proofs.SeasonRows.{mirrored-from_shadow}
 use Rattle.decoding.proofs.SomeShadow.{shadow_values, some_shadow}
-use Rattle.bound_base.specs.BoundRows.{base_rows, bound_size, first_unit, group_of, groups_of, league_groups}
-use Rattle.bound_base.specs.BoundRows.{needs_breaks, paid_of}
-use Rattle.bound_base.specs.Parts.{parts_of}
-use Rattle.bound_base.specs.Softening.{Group, costs, costs_from, objective_row, order_rows, softened_rows, total_cost}
-use Rattle.bound_laws.specs.Cost.{CostsAreBounded}
-use Rattle.bound_laws.specs.Units.{cost_needed}
-use Rattle.bound_laws.proofs.Faithful.{all_served, paid_breaks}
-use Rattle.bound_laws.proofs.ObjectiveLaws.{objective_needs}
-use Rattle.bound_laws.proofs.UnitLemmas.{IsServed}
+use Rattle.bound_rows.specs.BoundRows.{base_rows, bound_size, first_unit, group_of, groups_of, league_groups}
+use Rattle.bound_rows.specs.BoundRows.{needs_breaks, paid_of}
+use Rattle.bound_rows.specs.Parts.{parts_of}
+use Rattle.bound_rows.specs.Softening.{Group, costs, costs_from, objective_row, order_rows, softened_rows, total_cost}
+use Rattle.bound_rows.specs.Cost.{CostsAreBounded}
+use Rattle.bound_rows.specs.Units.{cost_needed}
+use Rattle.bound_rows.proofs.Faithful.{all_served, paid_breaks}
+use Rattle.bound_rows.proofs.ObjectiveLaws.{objective_needs}
+use Rattle.bound_rows.proofs.UnitLemmas.{IsServed}
 
 -- ---- no more units are needed than there are
 

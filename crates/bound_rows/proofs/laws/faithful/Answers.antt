@@ -1,6 +1,6 @@
 -- Each law is a theorem about the definitions.
-use Rattle.bound_laws.proofs.Faithful.{bounded-from_rows, bounds-from_refuted, values-from_bounded}
-use Rattle.bound_laws.proofs.laws.faithful.Goals as goal
+use Rattle.bound_rows.proofs.Faithful.{bounded-from_rows, bounds-from_refuted, values-from_bounded}
+use Rattle.bound_rows.proofs.laws.faithful.Goals as goal
 
 pub returns-clause-values : goal.returns-clause-values
 returns-clause-values c = values-from_bounded

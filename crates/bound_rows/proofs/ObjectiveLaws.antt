@@ -18,11 +18,11 @@ use Rattle.encoding_base.specs.Encoding.{class_rows}
 use Rattle.encoding_base.specs.Variables.{bounds_breaks}
 use Rattle.decoding.specs.Mirrors.{Mirrors, MirrorsBreaks}
 use Rattle.decoding.specs.Shortfalls.{units_needed}
-use Rattle.bound_base.specs.BoundRows.{group_of, groups_of, paid_of}
-use Rattle.bound_base.specs.Parts.{parts_of}
-use Rattle.bound_base.specs.Softening.{Group}
-use Rattle.bound_laws.specs.Units.{cost_needed, need_of}
-use Rattle.bound_laws.proofs.PartNeeds.{part_law, parts_sum}
+use Rattle.bound_rows.specs.BoundRows.{group_of, groups_of, paid_of}
+use Rattle.bound_rows.specs.Parts.{parts_of}
+use Rattle.bound_rows.specs.Softening.{Group}
+use Rattle.bound_rows.specs.Units.{cost_needed, need_of}
+use Rattle.bound_rows.proofs.PartNeeds.{part_law, parts_sum}
 
 -- a factor of every term
 sum_by-times : {X : Type 0} (p : ℕ) (f : X → ℕ) (xs : List X) → sum_by (λ x. p * f x) xs ≡ p * sum_by f xs

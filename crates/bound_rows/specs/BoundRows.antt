@@ -11,8 +11,8 @@ use Rattle.rows.specs.Rows.{Row, size_of}
 use Rattle.encoding_base.specs.Encoding.{class_rows, constraint_rows, season_rows}
 use Rattle.encoding_base.specs.Season.{break_rows}
 use Rattle.encoding_base.specs.Variables.{bounds_breaks, h_count, has_breaks, hb_count, x_count}
-use Rattle.bound_base.specs.Parts.{parts_of}
-use Rattle.bound_base.specs.Softening.{Group, objective_row, order_rows, softened_rows}
+use Rattle.bound_rows.specs.Parts.{parts_of}
+use Rattle.bound_rows.specs.Softening.{Group, objective_row, order_rows, softened_rows}
 
 -- the soft constraints whose deviation costs something
 abbrev pub paid_of : List Constraint → List Constraint

@@ -16,9 +16,9 @@ use Rattle.rows.specs.Tests.{all_satisfied, satisfied, true_count}
 use Rattle.rows.proofs.ListLemmas.{list_all-range}
 use Rattle.rows.proofs.TestLemmas.{satisfied-at_least}
 use Rattle.decoding.specs.Shortfalls.{units_needed}
-use Rattle.bound_base.specs.Softening.{Group, one_before, order_rows, units_from}
-use Rattle.bound_laws.specs.Units.{cost_needed, paid, with_units}
-use Rattle.bound_laws.proofs.SoftLaws.{are_enough}
+use Rattle.bound_rows.specs.Softening.{Group, one_before, order_rows, units_from}
+use Rattle.bound_rows.specs.Units.{cost_needed, paid, with_units}
+use Rattle.bound_rows.proofs.SoftLaws.{are_enough}
 
 -- ---- where the values come from
 

@@ -1,6 +1,0 @@
--- The law is a theorem about the definitions.
-use Rattle.bound_laws.proofs.CostLaws.{costs-bounded}
-use Rattle.bound_laws.proofs.laws.bounded_costs.Goals as goal
-
-pub returns : goal.returns
-returns c = costs-bounded
