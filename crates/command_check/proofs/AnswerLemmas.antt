@@ -14,7 +14,7 @@ use Rattle.answers.proofs.StageLemmas.{first-works, says-known, second-works, ta
 use Rattle.encoding.specs.Encoding.{encoding_size, rows_of}
 use Rattle.refutation.specs.Steps.{Step}
 use Rattle.refutation.specs.Logs.{Fault, log_of}
-use Rattle.season_check.specs.Excluded.{NoneAccepted}
+use Rattle.decoding.specs.Excluded.{NoneAccepted}
 use Rattle.command_check.specs.Check.{IsVerdict, IsWellFormedLog, checked, encodes, most_log_bytes, says_log}
 use Rattle.encoding.specs.Limit.{most_terms}
 

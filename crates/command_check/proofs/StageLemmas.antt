@@ -23,7 +23,7 @@ use Rattle.refutation.specs.declared.verdict.Verdict.{Verdict}
 use Rattle.refutation.specs.declared.verdict.Verdict.TheVariants.{Accepted, Rejected}
 use Rattle.refutation_check.specs.Judged.{Judged, no_step_of, verdict_so_far}
 use Rattle.refutation_check.proofs.VerdictLemmas.{steps_give_verdict}
-use Rattle.season_check.proofs.SeasonLemmas.{accepted_logs_exclude}
+use Rattle.decoding.proofs.SeasonLemmas.{accepted_logs_exclude}
 use Rattle.command_check.specs.Check.{IsVerdict, IsVerdictOver, checked, encodes, most_log_bytes}
 use Rattle.command_check.specs.Check.{says_log, verdict_answer}
 use Rattle.command_check.specs.Feeding.{ChecksOn}

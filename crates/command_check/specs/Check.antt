@@ -21,7 +21,7 @@ use Rattle.refutation.specs.declared.verdict.Cause.TheVariants.{UnknownRow, Unkn
 use Rattle.refutation.specs.declared.verdict.Cause.TheVariants.{TooWide}
 use Rattle.refutation.specs.declared.verdict.Verdict.{Verdict}
 use Rattle.refutation.specs.declared.verdict.Verdict.TheVariants.{Accepted, Rejected}
-use Rattle.season_check.specs.Excluded.{NoneAccepted}
+use Rattle.decoding.specs.Excluded.{NoneAccepted}
 
 -- the most bytes of a log (own limit)
 abbrev pub most_log_bytes : ℕ

@@ -17,13 +17,13 @@ ghost use Rattle.encoding.specs.Limit.{most_terms};
 use crate::feeding::{LOG_LIMIT, check_file};
 use crate::replies::verdict_reply;
 use answers::{NoValue, Reply, file, league_in, log_refused, past_limit, rows_refused, unreadable};
+use decoding::checker_of;
 use encoding::{EncodeFault, Encoding, encode};
 use league::League;
 use refutation::{LogFault, LogFeed};
 use refutation_check::Checker;
 use robin_io::{Shelf, TakeFault};
 use robinx_read::INSTANCE_LIMIT;
-use season_check::checker_of;
 use std::alloc::{AllocError, Global};
 
 /// The rows of a league, or why there are none.

@@ -8,7 +8,7 @@ use Rattle.robinx_read.specs.declared.instance.TheConstants.{INSTANCE_LIMIT}
 use Rattle.answers.specs.Reply.{Answer}
 use Rattle.answers.specs.Stages.{Outcome, says}
 use Rattle.answers.specs.declared.status.Status.TheVariants.{Yes, File, Refuted, Spent}
-use Rattle.season_check.specs.Excluded.{NoneAccepted}
+use Rattle.decoding.specs.Excluded.{NoneAccepted}
 use Rattle.answers.proofs.StageLemmas.{takes-known, takes-refuted, says-known}
 use Rattle.encoding_base.specs.Encoding.{encoding_size}
 use Rattle.command_check.specs.Check.{encodes}

@@ -12,7 +12,7 @@ use Rattle.robinx_read.specs.declared.instance.TheConstants.{INSTANCE_LIMIT}
 use Rattle.answers.specs.Reply.{Answer}
 use Rattle.answers.specs.Stages.{NoneFails, says}
 use Rattle.answers.specs.declared.status.Status.TheVariants.{Yes, File, Refuted, ReadFault, Spent}
-use Rattle.season_check.specs.Excluded.{NoneAccepted}
+use Rattle.decoding.specs.Excluded.{NoneAccepted}
 use Rattle.answers.proofs.StageLemmas.{first-works, says-known, takes-known, takes-refuted}
 use Rattle.encoding_base.specs.Encoding.{rows_of}
 use Rattle.command_check.specs.Check.{encodes}

@@ -21,7 +21,7 @@ use Rattle.answers.proofs.StageLemmas.{first-works, says-known, says-value, seco
 use Rattle.robin_watch.specs.declared.budgets.Budgets.{Budgets}
 use Rattle.encoding.specs.Limit.{most_terms}
 use Rattle.encoding_base.specs.Encoding.{encoding_size, rows_of}
-use Rattle.season_check.specs.Excluded.{NoneAccepted}
+use Rattle.decoding.specs.Excluded.{NoneAccepted}
 use Rattle.command_check.specs.Check.{encodes}
 use Rattle.command_check.proofs.AnswerLemmas.{encodes-small}
 use Rattle.command_validate.specs.Validate.{IsWellFormedPair}

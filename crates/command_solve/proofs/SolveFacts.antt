@@ -28,8 +28,8 @@ use Rattle.encoding_base.specs.Variables.{var_count}
 use Rattle.refutation.specs.Texts.{log_text}
 use Rattle.refutation.specs.Verdict.{verdict_of}
 use Rattle.refutation.specs.declared.verdict.Verdict.TheVariants.{Accepted}
-use Rattle.season_check.specs.Excluded.{NoneAccepted}
-use Rattle.season_check.proofs.SeasonLemmas.{accepted_logs_exclude}
+use Rattle.decoding.specs.Excluded.{NoneAccepted}
+use Rattle.decoding.proofs.SeasonLemmas.{accepted_logs_exclude}
 use Rattle.command_check.proofs.CheckFacts.{good_steps, homeless, league_file, never, nowhere}
 use Rattle.moves.specs.declared.swap.Swap.TheVariants.{HomeSwap, RoundSwap, TeamSwap, PartRoundSwap, PartTeamSwap}
 use Rattle.descent.specs.Descended.{Descended}

@@ -51,3 +51,5 @@ pub mod DecodeLemmas
 pub mod MarkLemmas
 pub mod ShadowLemmas
 pub mod ShadowLaw
+-- An accepted log excludes every schedule:
+pub mod SeasonLemmas

@@ -2,6 +2,8 @@
 --
 -- That the encoding is faithful both ways:
 pub mod Faithful
+-- What an accepted log proves of a league:
+pub mod Excluded
 -- Kept inside (laws, and how fields are seen):
 --
 -- Values that say the same as counts, and what rows lack:

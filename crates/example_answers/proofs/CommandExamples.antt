@@ -45,8 +45,8 @@ use Rattle.refutation.specs.Texts.{log_text}
 use Rattle.refutation.specs.Verdict.{verdict_of}
 use Rattle.refutation.specs.declared.verdict.Verdict.TheVariants.{Accepted}
 use Rattle.refutation_check.proofs.SoundLemmas.{accepted_logs_refute}
-use Rattle.season_check.specs.Excluded.{NoneAccepted}
-use Rattle.season_check.proofs.SeasonLemmas.{accepted_logs_exclude}
+use Rattle.decoding.specs.Excluded.{NoneAccepted}
+use Rattle.decoding.proofs.SeasonLemmas.{accepted_logs_exclude}
 use Rattle.clause_search.specs.News.{IsTidy}
 use Rattle.pattern_search.specs.PatternLogs.{IsPatternSpent, RefutesPatterns}
 use Rattle.pattern_search.specs.PatternRows.{is_pattern_row, pattern_rows}

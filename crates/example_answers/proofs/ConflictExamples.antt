@@ -26,8 +26,8 @@ use Rattle.refutation.specs.Steps.Step.{Clause}
 use Rattle.refutation.specs.Texts.{step_text, version_of}
 use Rattle.refutation.specs.declared.version.Version.TheVariants.{One}
 use Rattle.clause_search.specs.News.{IsTidy}
-use Rattle.season_check.specs.Excluded.{NoneAccepted}
-use Rattle.season_check.proofs.SeasonLemmas.{accepted_logs_exclude}
+use Rattle.decoding.specs.Excluded.{NoneAccepted}
+use Rattle.decoding.proofs.SeasonLemmas.{accepted_logs_exclude}
 use Rattle.explain.specs.Parts.{is_hard_number, part_of, without}
 use Rattle.robin_watch.proofs.LimitLemmas.{kept-unstopped}
 use Rattle.solve.specs.Solutions.{IsSpentOn, IsWritable, RefutesLeague}

@@ -43,8 +43,8 @@ use Rattle.refutation.specs.Logs.{lines_from, log_of}
 use Rattle.refutation.specs.Steps.Step.{Clause}
 use Rattle.refutation.specs.Texts.{log_text}
 use Rattle.clause_search.specs.News.{IsTidy}
-use Rattle.season_check.specs.Excluded.{NoneAccepted}
-use Rattle.season_check.proofs.SeasonLemmas.{accepted_logs_exclude}
+use Rattle.decoding.specs.Excluded.{NoneAccepted}
+use Rattle.decoding.proofs.SeasonLemmas.{accepted_logs_exclude}
 use Rattle.explain.specs.Parts.{first_unknown, is_hard_number, part_of}
 use Rattle.solve.specs.Solutions.{IsSpentOn}
 use Rattle.explain.specs.Conflicts.{IsIrreducible}

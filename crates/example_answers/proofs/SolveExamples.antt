@@ -38,7 +38,7 @@ use Rattle.refutation.specs.declared.verdict.Verdict.TheVariants.{Accepted, Reje
 use Rattle.refutation.specs.declared.version.Version.TheVariants.{One, Two}
 use Rattle.clause_search.specs.News.{IsTidy}
 use Rattle.pattern_search.specs.PatternRows.{pattern_rows}
-use Rattle.season_check.proofs.SeasonLemmas.{accepted_logs_exclude}
+use Rattle.decoding.proofs.SeasonLemmas.{accepted_logs_exclude}
 use Rattle.solve.specs.Solutions.{IsSpentOn, IsWritable, RefutesLeague}
 
 -- lines, each with its end

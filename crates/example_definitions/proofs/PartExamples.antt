@@ -18,8 +18,8 @@ use Rattle.refutation.specs.Steps.{Step}
 use Rattle.refutation.specs.Steps.Step.{Clause}
 use Rattle.refutation.specs.Verdict.{verdict_of}
 use Rattle.refutation.specs.declared.verdict.Verdict.TheVariants.{Accepted}
-use Rattle.season_check.specs.Excluded.{NoneAccepted}
-use Rattle.season_check.proofs.SeasonLemmas.{accepted_logs_exclude}
+use Rattle.decoding.specs.Excluded.{NoneAccepted}
+use Rattle.decoding.proofs.SeasonLemmas.{accepted_logs_exclude}
 use Rattle.explain.specs.Parts.{first_unknown, hard_numbers, is_hard_number, part_of, without}
 
 abbrev hard : Class → Constraint

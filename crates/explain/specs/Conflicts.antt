@@ -13,7 +13,7 @@ use Rattle.league.specs.declared.game.Game.{Game}
 use Rattle.explain.specs.Parts.{is_hard_number, part_of, without}
 use Rattle.refutation.specs.Steps.{Step}
 use Rattle.robin_watch.specs.Limits.{IsKeptTo}
-use Rattle.season_check.specs.Excluded.{NoneAccepted}
+use Rattle.decoding.specs.Excluded.{NoneAccepted}
 use Rattle.solve.specs.Solutions.{IsSpentOn, RefutesLeague}
 use Rattle.explain.specs.Cases.{is_decided}
 use Rattle.explain.specs.declared.cases.Case.{Case}

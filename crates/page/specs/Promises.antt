@@ -12,7 +12,7 @@ use Rattle.command_line.specs.Words.Command.{Check, Solve, Validate}
 use Rattle.answers.specs.Reply.{Answer}
 use Rattle.answers.specs.Stages.{Outcome}
 use Rattle.answers.specs.Status.{status_code}
-use Rattle.season_check.specs.Excluded.{NoneAccepted}
+use Rattle.decoding.specs.Excluded.{NoneAccepted}
 use Rattle.command_validate.specs.Validate.{IsJudgement}
 use Rattle.page_io.specs.Files.{file_named}
 use Rattle.page_io.specs.declared.files.Files.{Files}

@@ -24,7 +24,7 @@ use Rattle.refutation.specs.declared.verdict.Verdict.TheVariants.{Accepted}
 use Rattle.clause_search.specs.Answers.{IsSpentAt, Refutes}
 use Rattle.clause_search.specs.News.{AreNews, IsTidy, row_of}
 use Rattle.clause_search.proofs.SearchLemmas.{ends_empty-push}
-use Rattle.season_check.proofs.SeasonLemmas.{accepted_logs_exclude}
+use Rattle.decoding.proofs.SeasonLemmas.{accepted_logs_exclude}
 use Rattle.pattern_search.specs.PatternLogs.{ArePatternNews, IsPatternSpent, RefutesPatterns}
 use Rattle.pattern_search.specs.PatternLogs.{TellOfPatterns}
 use Rattle.pattern_search.specs.PatternRows.{pattern_rows, pattern_var_count}

@@ -14,7 +14,7 @@ use Rattle.refutation.specs.Steps.Step.{Clause}
 use Rattle.refutation.specs.Verdict.{verdict_of}
 use Rattle.refutation.specs.declared.verdict.Verdict.TheVariants.{Accepted}
 use Rattle.clause_search.specs.News.{IsTidy, row_of}
-use Rattle.season_check.specs.Excluded.{NoneAccepted}
+use Rattle.decoding.specs.Excluded.{NoneAccepted}
 use Rattle.pattern_search.specs.PatternRows.{is_pattern_row, pattern_rows, pattern_var_count}
 
 -- each hint of the step is the number of one of these rows that speaks of no game

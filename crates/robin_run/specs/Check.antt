@@ -5,7 +5,7 @@ use Rattle.command_line.specs.Words.{Command}
 use Rattle.answers.specs.declared.status.Status.TheVariants.{Yes}
 use Rattle.encoding.specs.Encoding.{rows_of}
 use Rattle.refutation.specs.Steps.{Step}
-use Rattle.season_check.specs.Excluded.{NoneAccepted}
+use Rattle.decoding.specs.Excluded.{NoneAccepted}
 use Rattle.command_check.specs.Check.{IsVerdict, IsWellFormedLog}
 use Rattle.robin_run.specs.Said.{SaysLeague}
 use Rattle.robin_run.specs.Run.{NothingFails, Run, Writes}

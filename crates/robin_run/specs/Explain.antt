@@ -9,7 +9,7 @@ use Rattle.league.specs.Sets.{IsAscending}
 use Rattle.explain.specs.Parts.{is_hard_number, part_of}
 use Rattle.command_line.specs.Words.{Command}
 use Rattle.answers.specs.declared.status.Status.TheVariants.{Refuted}
-use Rattle.season_check.specs.Excluded.{NoneAccepted}
+use Rattle.decoding.specs.Excluded.{NoneAccepted}
 use Rattle.command_solve.specs.Solve.{IsWellFormedInstance}
 use Rattle.explain.specs.Conflicts.{IsIrreducible}
 use Rattle.command_explain.specs.Explained.{IsFound}

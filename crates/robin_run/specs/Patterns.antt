@@ -3,7 +3,7 @@ use Rattle.std.specs.Prelude.{◌≡◌, ℕ, List, [], ◌∷◌, Option, Some}
 use Rattle.league.specs.Instance.{Instance}
 use Rattle.command_line.specs.Words.{Command}
 use Rattle.answers.specs.declared.status.Status.TheVariants.{Refuted}
-use Rattle.season_check.specs.Excluded.{NoneAccepted}
+use Rattle.decoding.specs.Excluded.{NoneAccepted}
 use Rattle.command_solve.specs.Solve.{IsWellFormedInstance}
 use Rattle.command_patterns.specs.Patterns.{AreFound}
 use Rattle.robin_run.specs.Said.{SaysLeague}

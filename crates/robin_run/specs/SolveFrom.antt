@@ -13,7 +13,7 @@ use Rattle.command_line.specs.Words.{Command}
 use Rattle.answers.specs.Reply.{Answer}
 use Rattle.answers.specs.declared.status.Status.TheVariants.{Refuted, Yes}
 use Rattle.encoding.specs.Encoding.{rows_of}
-use Rattle.season_check.specs.Excluded.{NoneAccepted}
+use Rattle.decoding.specs.Excluded.{NoneAccepted}
 use Rattle.command_resume.specs.Seasons.{SaySeason}
 use Rattle.command_validate.specs.Validate.{IsWellFormedPair}
 use Rattle.command_solve.specs.From.{IsFoundFrom, IsNoStart, IsScheduleWithin, IsWellFormedStart}

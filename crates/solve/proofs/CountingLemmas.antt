@@ -4,7 +4,7 @@ use Rattle.std.specs.Prelude.{IfSome, IsSome}
 use Rattle.std.proofs.lemmas.Bool.{false_from_ne_true}
 use Rattle.league.specs.Instance.{Instance, IsInstance}
 use Rattle.refutation.specs.Steps.{Step}
-use Rattle.season_check.proofs.SeasonLemmas.{accepted_logs_exclude}
+use Rattle.decoding.proofs.SeasonLemmas.{accepted_logs_exclude}
 use Rattle.venue_counts.specs.CountLogs.{IsRefuting}
 use Rattle.solve.specs.Solutions.{RefutesLeague}
 

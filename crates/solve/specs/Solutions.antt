@@ -25,7 +25,7 @@ use Rattle.pattern_search.specs.PatternLogs.{IsPatternSpent}
 use Rattle.pattern_search.specs.PatternSets.{IsPatternSet}
 use Rattle.pattern_search.specs.declared.found.PatternFound.{PatternFound}
 use Rattle.pattern_search.specs.declared.found.PatternFound.TheVariants as found
-use Rattle.season_check.specs.Excluded.{NoneAccepted}
+use Rattle.decoding.specs.Excluded.{NoneAccepted}
 use Rattle.solve.specs.Kept.{AreKeptTo}
 use Rattle.solve.specs.declared.solved.Solved.{Solved}
 use Rattle.solve.specs.declared.solved.Solved.TheVariants.{Schedule, Refuted, Spent}

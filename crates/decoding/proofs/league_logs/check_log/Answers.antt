@@ -2,7 +2,7 @@ use Rattle.std.proofs.Common.{List, sym, subst}
 use Rattle.league.specs.Counts.{counts_of}
 use Rattle.rows.specs.Rows.{Row, SatisfiesAll}
 use Rattle.decoding.proofs.Faithful.{shadow-from_accepted}
-use Rattle.season_check.proofs.logs.check_log.Goals as goal
+use Rattle.decoding.proofs.league_logs.check_log.Goals as goal
 
 pub returns-clause-none : goal.returns-clause-none
 returns-clause-none c =

@@ -4,7 +4,7 @@ ghost use Rattle.encoding.specs.Encoding.{rows_of};
 ghost use Rattle.encoding.specs.Variables.{var_count};
 ghost use Rattle.refutation.specs.Verdict.{verdict_of};
 ghost use Rattle.refutation_check.specs.Judged.{no_step_of};
-ghost use Rattle.season_check.specs.Excluded.{NoneAccepted};
+ghost use Rattle.decoding.specs.Excluded.{NoneAccepted};
 
 use encoding::Encoding;
 use refutation::{Log, Verdict};

@@ -1,5 +1,5 @@
 //! A law of refutation logs over leagues: a function that does nothing and whose contract is proved.
-ghost use Rattle.season_check.specs.Excluded.{AcceptedLogsExclude};
+ghost use Rattle.decoding.specs.Excluded.{AcceptedLogsExclude};
 
 /// Where a log is accepted over a league's rows, the league accepts no list of games.
 pub fn accepted_logs_exclude()

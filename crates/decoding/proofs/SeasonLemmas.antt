@@ -4,7 +4,7 @@ use Rattle.encoding.specs.Encoding.{rows_of}
 use Rattle.encoding.specs.Variables.{var_count}
 use Rattle.decoding.proofs.Faithful.{shadow-from_accepted}
 use Rattle.refutation_check.proofs.SoundLemmas.{accepted_logs_refute}
-use Rattle.season_check.specs.Excluded.{AcceptedLogsExclude}
+use Rattle.decoding.specs.Excluded.{AcceptedLogsExclude}
 
 pub accepted_logs_exclude : AcceptedLogsExclude
 accepted_logs_exclude league steps instance accepted games good =

@@ -1,2 +1,0 @@
--- An accepted log excludes every schedule:
-pub mod SeasonLemmas
