@@ -29,7 +29,7 @@ use Rattle.command_solve.specs.From.{IsBegun, IsFoundFrom, IsNoStart, IsSchedule
 use Rattle.command_solve.specs.Solve.{IsFound}
 use Rattle.solve.specs.Solutions.{CostsAtMost, IsSolution, IsSolutionBy}
 use Rattle.solve.specs.declared.solved.Solved.{Solved}
-use Rattle.command_solve.proofs.AnswerLemmas.{found-refuted}
+use Rattle.command_solve.proofs.SolveAnswers.{found-refuted}
 
 -- ---- stages
 

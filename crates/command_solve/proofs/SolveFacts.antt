@@ -34,7 +34,7 @@ use Rattle.command_check.proofs.CheckFacts.{good_steps, homeless, league_file, n
 use Rattle.moves.specs.declared.swap.Swap.TheVariants.{HomeSwap, RoundSwap, TeamSwap, PartRoundSwap, PartTeamSwap}
 use Rattle.descent.specs.Descended.{Descended}
 use Rattle.command_solve.specs.Solve.{IsFoundBy, IsWellFormedInstance, descent_text, move_line, solved}
-use Rattle.command_solve.proofs.AnswerLemmas.{solved-well_formed}
+use Rattle.command_solve.proofs.SolveAnswers.{solved-well_formed}
 use Rattle.encoding.specs.Limit.{most_terms}
 
 -- a league of two teams without constraints

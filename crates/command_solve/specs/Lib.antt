@@ -1,5 +1,11 @@
 -- What a reader of a claim must believe:
+--
+-- `solve`:
 pub mod Solve
 pub mod From
-
--- Kept inside (laws, and how fields are seen):
+-- `patterns`:
+pub mod Patterns
+-- `circle`, `make` and `trial`, which read no file:
+pub mod Circle
+pub mod MadeInstance
+pub mod Trial

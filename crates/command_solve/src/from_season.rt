@@ -12,7 +12,7 @@ ghost use Rattle.answers.specs.Stages.{says};
 ghost use Rattle.command_check.specs.Check.{encodes};
 ghost use Rattle.command_solve.specs.From.{IsBegun, IsFoundFrom, begun};
 
-use crate::replies::found_reply;
+use crate::solve_replies::found_reply;
 use answers::{NoValue, Reply, file, league_in, rows_refused, schedule_in};
 use command_validate::judge;
 use encoding::EncodeFault;

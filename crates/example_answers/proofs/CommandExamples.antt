@@ -62,8 +62,8 @@ use Rattle.moves.specs.Neighbours.{home_swap}
 use Rattle.moves.specs.declared.swap.Swap.{Swap}
 use Rattle.solve.specs.Solutions.{IsDescent, league_score}
 use Rattle.command_solve.specs.Solve.{IsBudgetSpent, IsFound, IsRefuted, IsSchedule, descent_text}
-use Rattle.command_patterns.specs.Patterns as patterned
-use Rattle.command_patterns.specs.Patterns.{AreFound, ArePatterns, patterns_text}
+use Rattle.command_solve.specs.Patterns as patterned
+use Rattle.command_solve.specs.Patterns.{AreFound, ArePatterns, patterns_text}
 use Rattle.example_answers.proofs.LeastExamples.{away-one, away-zero, away_first, even-accepted, even_soon, one-fit}
 use Rattle.example_answers.proofs.LeastExamples.{one-in_order, one_first, quiet_rows}
 use Rattle.example_answers.proofs.BetterExamples.{settled-four, swap-lowers}

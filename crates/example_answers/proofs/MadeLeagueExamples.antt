@@ -39,8 +39,8 @@ use Rattle.solve.specs.Solutions.{IsDescent, league_score}
 use Rattle.command_solve.specs.Solve.{IsSchedule, descent_text}
 use Rattle.instance_gen.specs.Draws.{next, seeded, word}
 use Rattle.instance_gen.specs.Made.{made_league}
-use Rattle.command_make.specs.MadeInstance.{IsMade}
-use Rattle.command_make.specs.Trial.{IsTrial, summary}
+use Rattle.command_solve.specs.MadeInstance.{IsMade}
+use Rattle.command_solve.specs.Trial.{IsTrial, summary}
 use Rattle.example_answers.proofs.LeastExamples.{one-fit}
 use Rattle.example_answers.proofs.LeastExamples.{one-in_order, one_first}
 use Rattle.example_answers.proofs.CommandExamples.{budgets, false_true, home_last, no_true, none}

@@ -42,7 +42,7 @@ use Rattle.command_show.specs.Show.{form_text, labels_of}
 use Rattle.command_show.specs.declared.form.Form.{Form}
 use Rattle.command_show.specs.declared.form.Form.TheVariants.{Text, Csv}
 use Rattle.command_check.specs.Check.{IsVerdict, checked, encodes, most_log_bytes, says_log, verdict_answer}
-use Rattle.command_patterns.specs.Patterns.{AreFound, patterned}
+use Rattle.command_solve.specs.Patterns.{AreFound, patterned}
 use Rattle.command_solve.specs.From.{IsBegun, IsFoundFrom, begun}
 use Rattle.command_solve.specs.Solve.{IsFound, IsFoundBy, solved}
 use Rattle.command_explain.specs.Explained as explaining
@@ -61,7 +61,7 @@ use Rattle.command_resume.specs.Resumed.{resumed}
 use Rattle.command_resume.specs.Seasons.{has_size, has_slots}
 use Rattle.instance_gen.specs.Draws.{seeded}
 use Rattle.instance_gen.specs.Made.{made_league}
-use Rattle.command_make.specs.Trial.{IsTrialBy, tried}
+use Rattle.command_solve.specs.Trial.{IsTrialBy, tried}
 use Rattle.command_rows.specs.Rowed.{league_rows, rowed, rows_answer, system_of}
 use Rattle.opb_forms.specs.Values.{values_of}
 use Rattle.command_rows.specs.Valued.{IsValued, found_of, missed_from, says_values, valued}

@@ -5,12 +5,12 @@ use Rattle.command_line.specs.Words.Command.{Circle, Help, Make, Trial, Version}
 use Rattle.answers.specs.Reply.{Answer}
 use Rattle.answers.specs.declared.status.Status.TheVariants.{Yes, File, Refuted, Spent}
 use Rattle.command_check.proofs.AnswerLemmas.{encodes-small}
-use Rattle.command_make.specs.Circle.{circle_season}
+use Rattle.command_solve.specs.Circle.{circle_season}
 use Rattle.program_words.specs.Help.{help_answer, version_answer}
 use Rattle.instance_gen.specs.Draws.{seeded}
 use Rattle.instance_gen.specs.Made.{made_league}
-use Rattle.command_make.specs.MadeInstance.{IsMade}
-use Rattle.command_make.specs.Trial.{IsTrialBy, tried}
+use Rattle.command_solve.specs.MadeInstance.{IsMade}
+use Rattle.command_solve.specs.Trial.{IsTrialBy, tried}
 use Rattle.robin_run.specs.Circle.{WritesCircle}
 use Rattle.robin_run.specs.Help.{Helps, TellsVersion}
 use Rattle.robin_run.specs.Make.{Makes}

@@ -3,8 +3,8 @@ use Rattle.std.proofs.Common.{[], ◌∷◌}
 use Rattle.command_line.specs.Words.Command.{Patterns}
 use Rattle.answers.specs.declared.status.Status.TheVariants.{Refuted}
 use Rattle.answers.proofs.StageLemmas.{first-works}
-use Rattle.command_patterns.specs.Patterns.{AreFound}
-use Rattle.command_patterns.proofs.AnswerLemmas.{patterned-refuted, patterned-well_formed}
+use Rattle.command_solve.specs.Patterns.{AreFound}
+use Rattle.command_solve.proofs.PatternsAnswers.{patterned-refuted, patterned-well_formed}
 use Rattle.robin_run.specs.Patterns.{FindsPatterns}
 use Rattle.robin_run.specs.Run.{Answered, Run}
 use Rattle.robin_run.proofs.RunLemmas.{writes, writes-as}

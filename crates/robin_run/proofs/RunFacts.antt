@@ -6,10 +6,10 @@ use Rattle.answers.specs.declared.status.Status.TheVariants.{Yes, No, Words, Fil
 use Rattle.answers.specs.declared.status.Status.TheVariants.{Memory, Better}
 use Rattle.command_check.proofs.CheckFacts as checks
 use Rattle.command_check.proofs.CheckFacts.{checked-bad, checked-good}
-use Rattle.command_make.specs.Circle.{circle_season}
+use Rattle.command_solve.specs.Circle.{circle_season}
 use Rattle.command_line.specs.declared.goal.Goal.TheVariants as goal
 use Rattle.command_line.specs.Words.Command.{Audit, Bound, Check, Circle, Make, Prove, Resume, Rows, Validate, Values}
-use Rattle.command_make.specs.MadeInstance.{made_instance}
+use Rattle.command_solve.specs.MadeInstance.{made_instance}
 use Rattle.refutation.specs.declared.fault.LogKind.TheVariants.{BadLine}
 use Rattle.robin_run.specs.Answer.{IsAnswer}
 use Rattle.robin_run.specs.Ends.{may_end}

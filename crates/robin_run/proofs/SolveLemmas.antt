@@ -5,7 +5,7 @@ use Rattle.answers.specs.declared.status.Status.TheVariants.{Refuted, Spent, Yes
 use Rattle.encoding.specs.Encoding.{rows_of}
 use Rattle.command_solve.specs.From.{IsFoundFrom, IsNoStart}
 use Rattle.command_solve.specs.Solve.{IsFoundBy}
-use Rattle.command_solve.proofs.AnswerLemmas.{solved-refuted, solved-unlimited, solved-well_formed}
+use Rattle.command_solve.proofs.SolveAnswers.{solved-refuted, solved-unlimited, solved-well_formed}
 use Rattle.command_solve.proofs.FromLemmas.{begun-judged, begun-refuted, begun-well_formed, begun-yes}
 use Rattle.robin_run.specs.SolveFrom.{SolvesFrom}
 use Rattle.robin_run.specs.Run.{Answered, Run}

@@ -6,15 +6,15 @@ use Rattle.answers.specs.Reply.{refused_words}
 use Rattle.answers.specs.Stages.{Outcome}
 use Rattle.command_prove.specs.Bound.{bounded}
 use Rattle.command_check.specs.Check.{checked}
-use Rattle.command_make.specs.Circle.{circle_season}
+use Rattle.command_solve.specs.Circle.{circle_season}
 use Rattle.command_line.specs.Words.{Command}
 use Rattle.command_line.specs.Words.Command.{Validate, Show, Demands, Sheet, Check, Solve, SolveFrom, Patterns, Explain, Part, Prove}
 use Rattle.command_line.specs.Words.Command.{Bound, Resume, ResumeNear, Audit, Rows, Values, Circle, Make, Trial, Help, Version}
 use Rattle.command_explain.specs.Explained.{explained}
 use Rattle.command_explain.specs.Parted.{parted}
 use Rattle.program_words.specs.Help.{help_answer, version_answer}
-use Rattle.command_make.specs.MadeInstance.{IsMade}
-use Rattle.command_patterns.specs.Patterns.{patterned}
+use Rattle.command_solve.specs.MadeInstance.{IsMade}
+use Rattle.command_solve.specs.Patterns.{patterned}
 use Rattle.command_prove.specs.Prove.{proved}
 use Rattle.command_resume.specs.Audited.{audited}
 use Rattle.command_resume.specs.Near.{neared}
@@ -25,7 +25,7 @@ use Rattle.command_show.specs.Show.{shown}
 use Rattle.command_show.specs.declared.form.Form.TheVariants.{Text, Csv}
 use Rattle.command_solve.specs.From.{begun}
 use Rattle.command_solve.specs.Solve.{solved}
-use Rattle.command_make.specs.Trial.{tried}
+use Rattle.command_solve.specs.Trial.{tried}
 use Rattle.command_validate.specs.Validate.{validated}
 use Rattle.command_rows.specs.Valued.{valued}
 

@@ -1,7 +1,7 @@
 -- What `circle` promises: the season of the circle method.
 use Rattle.std.specs.Prelude.{◌≡◌, ℕ, [], Some}
 use Rattle.command_line.specs.Words.{Command}
-use Rattle.command_make.specs.Circle.{circle_season}
+use Rattle.command_solve.specs.Circle.{circle_season}
 use Rattle.robin_run.specs.Run.{NothingFails, Run, Writes}
 
 pub record Promise (run : Run) (n : ℕ) : Type 0 where

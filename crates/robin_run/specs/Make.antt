@@ -1,7 +1,7 @@
 -- What `make` promises: the league that a seed makes.
 use Rattle.std.specs.Prelude.{◌≡◌, ℕ, [], Some}
 use Rattle.command_line.specs.Words.{Command}
-use Rattle.command_make.specs.MadeInstance.{IsMade}
+use Rattle.command_solve.specs.MadeInstance.{IsMade}
 use Rattle.robin_run.specs.Run.{NothingFails, Run, Writes}
 
 pub record Promise (run : Run) (n seed : ℕ) : Type 0 where

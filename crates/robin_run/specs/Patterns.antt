@@ -5,7 +5,7 @@ use Rattle.command_line.specs.Words.{Command}
 use Rattle.answers.specs.declared.status.Status.TheVariants.{Refuted}
 use Rattle.decoding.specs.Excluded.{NoneAccepted}
 use Rattle.command_solve.specs.Solve.{IsWellFormedInstance}
-use Rattle.command_patterns.specs.Patterns.{AreFound}
+use Rattle.command_solve.specs.Patterns.{AreFound}
 use Rattle.robin_run.specs.Said.{SaysLeague}
 use Rattle.robin_run.specs.Run.{NothingFails, Run, Writes}
 

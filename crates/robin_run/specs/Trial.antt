@@ -6,7 +6,7 @@ use Rattle.answers.specs.declared.status.Status.TheVariants.{Refuted, Spent}
 use Rattle.encoding_base.specs.Encoding.{encoding_size}
 use Rattle.instance_gen.specs.Draws.{seeded}
 use Rattle.instance_gen.specs.Made.{made_league}
-use Rattle.command_make.specs.Trial.{IsTrialBy}
+use Rattle.command_solve.specs.Trial.{IsTrialBy}
 use Rattle.robin_run.specs.Run.{NothingFails, Run, Writes}
 use Rattle.encoding.specs.Limit.{most_terms}
 

@@ -7,7 +7,7 @@ use Rattle.command_prove.specs.Bound.{bounded}
 use Rattle.command_check.specs.Check.{checked}
 use Rattle.command_explain.specs.Explained.{explained}
 use Rattle.command_explain.specs.Parted.{parted}
-use Rattle.command_patterns.specs.Patterns.{patterned}
+use Rattle.command_solve.specs.Patterns.{patterned}
 use Rattle.command_prove.specs.Prove.{proved}
 use Rattle.command_resume.specs.Audited.{audited}
 use Rattle.command_resume.specs.Near.{neared}
@@ -17,7 +17,7 @@ use Rattle.command_show.specs.Show.{shown}
 use Rattle.command_show.specs.declared.form.Form.TheVariants.{Text, Csv}
 use Rattle.command_solve.specs.From.{begun}
 use Rattle.command_solve.specs.Solve.{solved}
-use Rattle.command_make.specs.Trial.{tried}
+use Rattle.command_solve.specs.Trial.{tried}
 use Rattle.command_validate.specs.Validate.{validated}
 use Rattle.command_rows.specs.Valued.{valued}
 use Rattle.robin_run.proofs.RunLemmas.{given-gives}
