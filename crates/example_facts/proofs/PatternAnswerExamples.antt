@@ -41,8 +41,8 @@ use Rattle.pattern_search.specs.PatternLogs.{ArePatternNews, IsPatternNews, Tell
 use Rattle.pattern_search.specs.PatternRows.{is_pattern_row, pattern_rows}
 use Rattle.pattern_search.specs.PatternSets.{IsPatternSet, is_home, letter_at}
 use Rattle.pattern_search.specs.declared.found.PatternFound.TheVariants.{Patterns, Refuted, Spent}
-use Rattle.example_definitions.proofs.PatternSearchExamples.{spent-two}
-use Rattle.example_definitions.proofs.StateExamples.{false_true, quiet_two, rows}
+use Rattle.example_facts.proofs.PatternSearchExamples.{spent-two}
+use Rattle.example_facts.proofs.StateExamples.{false_true, quiet_two, rows}
 
 -- ---- bounds of what is lower than a score
 

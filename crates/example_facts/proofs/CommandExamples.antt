@@ -9,7 +9,7 @@ use Rattle.std.proofs.Math.Path.{fun_ext}
 use Rattle.std.proofs.lemmas.Bool.{ltb-true, ne_eqb}
 use Rattle.std.proofs.lemmas.Bool.Decides.{nat_tests}
 use Rattle.std.proofs.lemmas.List.Elements.{All-nil, All-from_recursion}
-use Rattle.example_answers.proofs.Runs.{ended_with}
+use Rattle.example_facts.proofs.Runs.{ended_with}
 use Rattle.robin_run.specs.Run.{Writes}
 use Rattle.robinx_tags.specs.Pieces.{pieces, pieces_from}
 use Rattle.robinx_tags.specs.Tags.{attributes_at}
@@ -64,10 +64,10 @@ use Rattle.solve.specs.Solutions.{IsDescent, league_score}
 use Rattle.command_solve.specs.Solve.{IsBudgetSpent, IsFound, IsRefuted, IsSchedule, descent_text}
 use Rattle.command_solve.specs.Patterns as patterned
 use Rattle.command_solve.specs.Patterns.{AreFound, ArePatterns, patterns_text}
-use Rattle.example_answers.proofs.LeastExamples.{away-one, away-zero, away_first, even-accepted, even_soon, one-fit}
-use Rattle.example_answers.proofs.LeastExamples.{one-in_order, one_first, quiet_rows}
-use Rattle.example_answers.proofs.BetterExamples.{settled-four, swap-lowers}
-use Rattle.example_answers.proofs.LeastExamples.{zero-fit, zero-in_order, zero_first}
+use Rattle.example_facts.proofs.LeastExamples.{away-one, away-zero, away_first, even-accepted, even_soon, one-fit}
+use Rattle.example_facts.proofs.LeastExamples.{one-in_order, one_first, quiet_rows}
+use Rattle.example_facts.proofs.BetterExamples.{settled-four, swap-lowers}
+use Rattle.example_facts.proofs.LeastExamples.{zero-fit, zero-in_order, zero_first}
 
 pub false_true : false ≡ true → ⊥
 false_true is = cc

@@ -1,6 +1,0 @@
-//! Worked examples of the definitions of answers: values that were computed by hand, each checked against the definition. A
-//! definition that says something else doesn't pass.
-//!
-//! Nothing stands on this crate, and it has no code: the examples are the facts of `proofs/`, a file a topic, with the
-//! reasoning by hand beside each.
-#![tactic(auto)]
