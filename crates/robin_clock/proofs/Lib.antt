@@ -1,2 +1,0 @@
--- The text of an accepted season:
-pub mod SeasonLemmas
