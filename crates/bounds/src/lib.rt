@@ -1,10 +1,18 @@
-//! Least objectives: whether a schedule can be bettered.
+//! Least objectives: whether a schedule can be bettered; and the text of a certificate that no objective is below a
+//! number: the number, and the log that proves it.
 //!
-//! `specs/Proofs.antt` says what each answer promises.
+//! `specs/Proofs.antt` says what each answer promises, and `specs/Certificates.antt` what the text of a certificate
+//! says and which is written.
 #![tactic(auto)]
 
+mod certificate;
 mod proved;
 mod prover;
+mod reading;
+mod text;
 
+pub use certificate::Certificate;
 pub use proved::Proved;
 pub use prover::{Counted, prove};
+pub use reading::read_certificate;
+pub use text::certificate_text;

@@ -15,8 +15,8 @@ use Rattle.refutation.specs.Logs.{Fault}
 use Rattle.command_check.specs.Check.{most_log_bytes}
 use Rattle.bound_rows.specs.BoundRows.{bound_size}
 use Rattle.bound_rows.specs.Faithful.{IsLowerBound}
-use Rattle.certificates.specs.Certificates.{certificate_of}
-use Rattle.certificates.specs.declared.certificate.Certificate.{Certificate}
+use Rattle.bounds.specs.Certificates.{certificate_of}
+use Rattle.bounds.specs.declared.certificate.Certificate.{Certificate}
 use Rattle.command_prove.specs.Bound.{IsBoundVerdict, IsWellFormedCertificate, bounded, has_few_terms}
 use Rattle.command_prove.specs.Bound.{says_certificate}
 use Rattle.command_prove.proofs.BoundStages.{log_stages}

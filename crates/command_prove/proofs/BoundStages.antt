@@ -16,8 +16,8 @@ use Rattle.refutation.specs.declared.verdict.Verdict.TheVariants.{Accepted, Reje
 use Rattle.command_check.specs.Check.{most_log_bytes}
 use Rattle.bound_rows.specs.BoundRows.{bound_size}
 use Rattle.bound_rows.specs.Faithful.{IsLowerBound}
-use Rattle.certificates.specs.Certificates.{certificate_of}
-use Rattle.certificates.specs.declared.certificate.Certificate.{Certificate}
+use Rattle.bounds.specs.Certificates.{certificate_of}
+use Rattle.bounds.specs.declared.certificate.Certificate.{Certificate}
 use Rattle.command_prove.specs.Bound.{IsBoundVerdict, bound_answer, bound_verdict, bounded, has_few_terms}
 use Rattle.command_prove.specs.Bound.{says_certificate}
 use Rattle.encoding.specs.Limit.{most_terms}

@@ -25,8 +25,8 @@ use Rattle.refutation.specs.declared.verdict.Verdict.TheVariants.{Accepted}
 use Rattle.clause_search.specs.Answers.{Refutes}
 use Rattle.bound_rows.specs.BoundRows.{bound_rows, bound_vars}
 use Rattle.bound_rows.specs.Faithful.{IsLowerBound}
-use Rattle.certificates.specs.Certificates.{certificate_text}
-use Rattle.certificates.specs.declared.certificate.Certificate.{Certificate}
+use Rattle.bounds.specs.Certificates.{certificate_text}
+use Rattle.bounds.specs.declared.certificate.Certificate.{Certificate}
 use Rattle.bounds.specs.Proofs as proofs
 use Rattle.bounds.specs.declared.proved.Proved.{Proved}
 use Rattle.bounds.specs.declared.proved.Proved.TheVariants.{Least, Better, Spent}

@@ -17,8 +17,8 @@ use Rattle.refutation.specs.declared.verdict.Verdict.TheVariants.{Accepted, Reje
 use Rattle.command_check.specs.Check.{most_log_bytes, verdict_answer}
 use Rattle.bound_rows.specs.BoundRows.{bound_rows, bound_size, bound_vars}
 use Rattle.bound_rows.specs.Faithful.{IsLowerBound}
-use Rattle.certificates.specs.Certificates.{certificate_of}
-use Rattle.certificates.specs.declared.certificate.Certificate.{Certificate}
+use Rattle.bounds.specs.Certificates.{certificate_of}
+use Rattle.bounds.specs.declared.certificate.Certificate.{Certificate}
 use Rattle.encoding.specs.Limit.{most_terms}
 
 -- ---- verdicts

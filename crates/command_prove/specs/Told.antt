@@ -8,7 +8,7 @@ use Rattle.refutation.specs.Logs.{log_of}
 use Rattle.refutation.specs.Steps.{NamesRows, Step}
 use Rattle.refutation.specs.Texts.{log_text}
 use Rattle.refutation.specs.Writable.{HasShortLines}
-use Rattle.certificates.specs.Certificates.{certificate_of, certificate_text}
+use Rattle.bounds.specs.Certificates.{certificate_of, certificate_text}
 use Rattle.bounds.specs.declared.proved.Proved.{Proved}
 use Rattle.bounds.specs.declared.proved.Proved.TheVariants.{Least, Better, Spent}
 

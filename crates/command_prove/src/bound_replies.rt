@@ -8,7 +8,7 @@ ghost use Rattle.command_prove.specs.Bound.{IsBoundVerdict, bound_verdict};
 
 use crate::check_bound;
 use answers::{Reply, Status};
-use certificates::Certificate;
+use bounds::Certificate;
 use command_check::verdict_reply;
 use league::League;
 use refutation::Verdict;

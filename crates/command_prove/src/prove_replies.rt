@@ -8,8 +8,7 @@ ghost use Rattle.refutation.specs.Steps.{NamesRows};
 ghost use Rattle.command_prove.specs.Told.{CanBeWritten, Tells, TellsLeast, TellsSpent};
 
 use answers::{Reply, Status};
-use bounds::Proved;
-use certificates::certificate_text;
+use bounds::{Proved, certificate_text};
 use league::Schedule;
 use refutation::{Log, log_text};
 use robinx_write::solution_text;

@@ -15,8 +15,8 @@ use Rattle.answers.specs.declared.status.Status.TheVariants.{Yes, No}
 use Rattle.refutation.specs.Logs.{Fault}
 use Rattle.refutation.specs.declared.verdict.Cause.TheVariants.{NoConflict}
 use Rattle.refutation.specs.declared.verdict.Verdict.TheVariants.{Accepted, Rejected}
-use Rattle.certificates.specs.Certificates.{certificate_of, certificate_text}
-use Rattle.certificates.specs.declared.certificate.Certificate.{Certificate}
+use Rattle.bounds.specs.Certificates.{certificate_of, certificate_text}
+use Rattle.bounds.specs.declared.certificate.Certificate.{Certificate}
 use Rattle.command_prove.specs.Bound.{IsBoundVerdict, IsWellFormedCertificate, bound_answer, bound_verdict}
 use Rattle.robin_run.specs.Bound.{IsCertified}
 use Rattle.robin_run.specs.Prove.{IsBettered, IsUnbettered}

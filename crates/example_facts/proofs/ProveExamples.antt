@@ -27,8 +27,8 @@ use Rattle.refutation.specs.Logs.{lines_from, log_of}
 use Rattle.refutation.specs.Steps.{Step}
 use Rattle.refutation.specs.declared.verdict.Verdict.TheVariants.{Accepted}
 use Rattle.bound_rows.specs.BoundRows.{bound_size}
-use Rattle.certificates.specs.Certificates.{certificate_of, certificate_text}
-use Rattle.certificates.specs.declared.certificate.Certificate.{Certificate}
+use Rattle.bounds.specs.Certificates.{certificate_of, certificate_text}
+use Rattle.bounds.specs.declared.certificate.Certificate.{Certificate}
 use Rattle.command_prove.specs.Bound.{bound_verdict}
 use Rattle.bounds.specs.Proofs as bounds
 use Rattle.bounds.specs.declared.proved.Proved.TheVariants as proofs

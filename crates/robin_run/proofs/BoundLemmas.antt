@@ -19,8 +19,8 @@ use Rattle.refutation.specs.Logs.{Fault}
 use Rattle.refutation.specs.declared.verdict.Verdict.{Verdict}
 use Rattle.refutation.specs.declared.verdict.Verdict.TheVariants.{Accepted, Rejected}
 use Rattle.command_check.specs.Check.{most_log_bytes}
-use Rattle.certificates.specs.Certificates.{certificate_of}
-use Rattle.certificates.specs.declared.certificate.Certificate.{Certificate}
+use Rattle.bounds.specs.Certificates.{certificate_of}
+use Rattle.bounds.specs.declared.certificate.Certificate.{Certificate}
 use Rattle.command_prove.specs.Bound.{IsBoundVerdict, bound_answer, bound_verdict}
 use Rattle.command_prove.specs.Bound.{bounded, has_few_terms, says_certificate}
 use Rattle.command_prove.proofs.BoundAnswers.{bounded-well_formed}

@@ -31,8 +31,8 @@ use Rattle.refutation.specs.Logs as logs
 use Rattle.refutation.specs.Logs.{log_of}
 use Rattle.refutation.specs.declared.verdict.Verdict.{Verdict}
 use Rattle.refutation.specs.declared.verdict.Verdict.TheVariants.{Accepted, Rejected}
-use Rattle.certificates.specs.Certificates.{certificate_of}
-use Rattle.certificates.specs.declared.certificate.Certificate.{Certificate}
+use Rattle.bounds.specs.Certificates.{certificate_of}
+use Rattle.bounds.specs.declared.certificate.Certificate.{Certificate}
 use Rattle.command_validate.specs.Validate.{IsJudgement, validated}
 use Rattle.robinx_names.specs.Names.{Names}
 use Rattle.robinx_names.specs.NamesFile.{names_of}

@@ -7,7 +7,7 @@ use Rattle.command_line.specs.Words.{Command}
 use Rattle.answers.specs.declared.status.Status.TheVariants.{Yes}
 use Rattle.bound_rows.specs.Faithful.{IsLowerBound}
 use Rattle.command_prove.specs.Bound.{IsBoundVerdict, IsWellFormedCertificate}
-use Rattle.certificates.specs.declared.certificate.Certificate.{Certificate}
+use Rattle.bounds.specs.declared.certificate.Certificate.{Certificate}
 use Rattle.robin_run.specs.Said.{SaysLeague}
 use Rattle.robin_run.specs.Run.{NothingFails, Run, Writes}
 

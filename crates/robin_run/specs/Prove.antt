@@ -15,7 +15,7 @@ use Rattle.refutation.specs.declared.verdict.Verdict.TheVariants.{Accepted}
 use Rattle.robinx_form.specs.Texts.{solution_text}
 use Rattle.bound_rows.specs.Faithful.{IsLowerBound}
 use Rattle.command_prove.specs.Bound.{bound_verdict}
-use Rattle.certificates.specs.Certificates.{certificate_text}
+use Rattle.bounds.specs.Certificates.{certificate_text}
 use Rattle.command_prove.specs.Prove.{IsShownBy, IsWellFormedCase}
 use Rattle.command_resume.specs.Seasons.{SaySeason}
 use Rattle.robin_run.specs.Run.{NothingFails, Run, Writes}

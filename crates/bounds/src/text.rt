@@ -3,7 +3,7 @@ ghost use Rattle.std.specs.Prelude.{◌≡◌, ◌++◌, [], Ok, IfOk, OnOk};
 ghost use Rattle.std.specs.List.{All};
 ghost use Rattle.refutation.specs.Steps.{NamesRows};
 ghost use Rattle.refutation.specs.Writable.{HasShortLines};
-ghost use Rattle.certificates.specs.Certificates as texts;
+ghost use Rattle.bounds.specs.Certificates as texts;
 
 use refutation::{Log, log_text};
 use robin_io::put_decimal;

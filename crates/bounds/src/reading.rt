@@ -2,8 +2,8 @@
 ghost use Rattle.std.specs.Prelude.{◌≡◌};
 ghost use Rattle.refutation.specs.Answers.{SaysLog};
 ghost use Rattle.refutation.specs.Logs.{lines_of};
-ghost use Rattle.certificates.specs.Answers.{SaysCertificate};
-ghost use Rattle.certificates.specs.Certificates as texts;
+ghost use Rattle.bounds.specs.Answers.{SaysCertificate};
+ghost use Rattle.bounds.specs.Certificates as texts;
 
 use crate::certificate::Certificate;
 use memchr::memchr;

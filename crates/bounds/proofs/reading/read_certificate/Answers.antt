@@ -3,10 +3,10 @@ use Rattle.std.proofs.lemmas.List.{take_rest}
 use Rattle.std.proofs.lemmas.Result.{err_from_is_err_and}
 use Rattle.refutation.specs.Answers.{SaysLog}
 use Rattle.refutation.specs.Logs.{lines_of}
-use Rattle.certificates.specs.Certificates.{log_behind}
-use Rattle.certificates.proofs.ReadLemmas.{certificate-cut, certificate-uncut, stated-none, stated-some, with_log-says}
-use Rattle.certificates.proofs.ReadLemmas.{with_log-steps}
-use Rattle.certificates.proofs.reading.read_certificate.Goals as goal
+use Rattle.bounds.specs.Certificates.{log_behind}
+use Rattle.bounds.proofs.ReadLemmas.{certificate-cut, certificate-uncut, stated-none, stated-some, with_log-says}
+use Rattle.bounds.proofs.ReadLemmas.{with_log-steps}
+use Rattle.bounds.proofs.reading.read_certificate.Goals as goal
 
 pub returns-in_default : goal.returns-in_default
 returns-in_default c = certificate-uncut c.args.bytes.now c.in_default.ensures

@@ -23,10 +23,10 @@ use Rattle.refutation.proofs.LogTexts.{line_feed-apart}
 use Rattle.refutation.proofs.NumberTexts.{decimal-token, number-decimal}
 use Rattle.refutation.proofs.SplitLemmas.{split-part, split-parts}
 use Rattle.refutation.proofs.StepLemmas.{both}
-use Rattle.certificates.specs.Certificates.{bound_line, bound_of, certificate_in, certificate_of}
-use Rattle.certificates.specs.Certificates.{is_shortest, later_log, log_behind, number_in, stated_by, with_log}
-use Rattle.certificates.specs.declared.certificate.Certificate.{Certificate}
-use Rattle.certificates.proofs.ReadLemmas.{log_behind-some, stated-first}
+use Rattle.bounds.specs.Certificates.{bound_line, bound_of, certificate_in, certificate_of}
+use Rattle.bounds.specs.Certificates.{is_shortest, later_log, log_behind, number_in, stated_by, with_log}
+use Rattle.bounds.specs.declared.certificate.Certificate.{Certificate}
+use Rattle.bounds.proofs.ReadLemmas.{log_behind-some, stated-first}
 
 -- ---- the number
 

@@ -3,7 +3,7 @@ use Rattle.std.specs.Prelude.{◌≡◌, Result, Ok, Err}
 use Rattle.refutation.specs.Logs.{Fault}
 use Rattle.refutation.specs.declared.fault.LogFault.{LogFault}
 use Rattle.refutation.specs.declared.fault.LogFault.TheVariants.{Form, Mem}
-use Rattle.certificates.specs.declared.certificate.Certificate.{Certificate}
+use Rattle.bounds.specs.declared.certificate.Certificate.{Certificate}
 
 -- the answer to a whole text
 abbrev pub SaysCertificate : Result Certificate Fault → Result Certificate LogFault → Type 0

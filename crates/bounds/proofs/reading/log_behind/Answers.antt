@@ -1,7 +1,7 @@
 use Rattle.std.proofs.Common.{arith}
 use Rattle.std.proofs.lemmas.Bool.Decides.{nat_tests}
-use Rattle.certificates.proofs.ReadLemmas.{log_behind-empty}
-use Rattle.certificates.proofs.reading.log_behind.Goals as goal
+use Rattle.bounds.proofs.ReadLemmas.{log_behind-empty}
+use Rattle.bounds.proofs.reading.log_behind.Goals as goal
 
 pub returns-then-not-is_empty : goal.returns-then-not-is_empty
 returns-then-not-is_empty c =

@@ -5,8 +5,8 @@ use Rattle.refutation.specs.Logs.{lines_from}
 use Rattle.refutation.specs.Steps.{Step}
 use Rattle.refutation.specs.Steps.Step.{Clause}
 use Rattle.refutation.specs.declared.fault.LogKind.TheVariants.{BadLine, BadNumber, NoEnd}
-use Rattle.certificates.specs.Certificates.{certificate_of, certificate_text}
-use Rattle.certificates.specs.declared.certificate.Certificate.{Certificate}
+use Rattle.bounds.specs.Certificates.{certificate_of, certificate_text}
+use Rattle.bounds.specs.declared.certificate.Certificate.{Certificate}
 
 -- three rows that contradict each other
 abbrev pub one_step : List Step

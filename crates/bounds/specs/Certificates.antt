@@ -9,7 +9,7 @@ use Rattle.refutation.specs.Logs.{Fault, end_from, lines_from, lines_of, whole}
 use Rattle.refutation.specs.Steps.{Step}
 use Rattle.refutation.specs.Texts.{log_text}
 use Rattle.refutation.specs.declared.fault.LogKind.TheVariants.{BadLine, NoEnd}
-use Rattle.certificates.specs.declared.certificate.Certificate.{Certificate}
+use Rattle.bounds.specs.declared.certificate.Certificate.{Certificate}
 
 -- ---- what is read
 

@@ -1,9 +1,9 @@
 use Rattle.std.proofs.Common.{◌≡◌, ◌^◌, ◌<◌, arith, ap, ◌∙◌}
 use Rattle.std.specs.Prelude.{vec_items}
-use Rattle.certificates.proofs.TextLemmas.{reads_back-none, reads_back-some, text-line, text-pieces}
-use Rattle.certificates.proofs.text.certificate_text.Goals as goal
-use Rattle.certificates.proofs.text.certificate_text.Goals.{then-bound-gt0+in_ok-log_text+in_ok-extend_from_slice}
-use Rattle.certificates.proofs.text.certificate_text.Goals.{else-bound-gt0}
+use Rattle.bounds.proofs.TextLemmas.{reads_back-none, reads_back-some, text-line, text-pieces}
+use Rattle.bounds.proofs.text.certificate_text.Goals as goal
+use Rattle.bounds.proofs.text.certificate_text.Goals.{then-bound-gt0+in_ok-log_text+in_ok-extend_from_slice}
+use Rattle.bounds.proofs.text.certificate_text.Goals.{else-bound-gt0}
 
 pub returns-clause-reads_back : goal.returns-clause-reads_back
 returns-clause-reads_back c = λ short nothing.

@@ -13,9 +13,9 @@ use Rattle.refutation.specs.declared.fault.LogFault.TheVariants.{Form, Mem}
 use Rattle.refutation.specs.declared.fault.LogKind.TheVariants.{BadLine, NoEnd}
 use Rattle.refutation.proofs.FoundLemmas.{found-none, found-some}
 use Rattle.refutation.proofs.SplitLemmas.{AreParts, split-last, split-part, split-parts}
-use Rattle.certificates.specs.Answers.{SaysCertificate}
-use Rattle.certificates.specs.Certificates.{bound_of, certificate_in, certificate_of, later_log, log_behind}
-use Rattle.certificates.specs.Certificates.{nothing_behind, stated_by, with_log}
+use Rattle.bounds.specs.Answers.{SaysCertificate}
+use Rattle.bounds.specs.Certificates.{bound_of, certificate_in, certificate_of, later_log, log_behind}
+use Rattle.bounds.specs.Certificates.{nothing_behind, stated_by, with_log}
 
 -- ---- lines
 
