@@ -12,7 +12,7 @@ use Rattle.robinx_names.specs.Names.{Names}
 use Rattle.deviation.specs.Assess.{IsStructureOf}
 use Rattle.deviation.specs.declared.assessment.Assessment.{Assessment}
 use Rattle.command_validate.specs.Assessed.{IsAssessmentOf}
-use Rattle.season_tables.specs.Grid.{Season, grid_text}
+use Rattle.command_show.specs.Grid.{Season, grid_text}
 use Rattle.command_show.specs.Show.{grid_of, labels_of, words_text, wrongs_of}
 
 -- a grid by counts that are those of games

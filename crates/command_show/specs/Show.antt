@@ -16,8 +16,8 @@ use Rattle.robinx_form.specs.SolutionFile.{solution_of}
 use Rattle.robinx_read.specs.declared.instance.TheConstants.{INSTANCE_LIMIT, SOLUTION_LIMIT}
 use Rattle.robinx_names.specs.Names.{Names, label}
 use Rattle.robinx_names.specs.NamesFile.{names_of}
-use Rattle.season_tables.specs.Csv.{csv_text}
-use Rattle.season_tables.specs.Grid.{grid_text}
+use Rattle.command_show.specs.Csv.{csv_text}
+use Rattle.command_show.specs.Grid.{grid_text}
 use Rattle.season_misses.specs.Lacks.{lacks_text}
 use Rattle.season_misses.specs.Misses.{misses_text}
 use Rattle.command_validate.specs.Report.{structure_text, verdict_text}

@@ -8,14 +8,16 @@ ghost use Rattle.command_validate.specs.Assessed.{IsAssessmentOf};
 ghost use Rattle.season_misses.specs.SeenTold.{IsTold};
 ghost use Rattle.command_show.specs.Show as show;
 
+use crate::csv::season_csv;
 use crate::form::Form;
+use crate::grid::season_grid;
+use crate::season::Season;
 use command_validate::{structure_line, verdict};
 use deviation::{Assessment, counted};
 use league::{League, Schedule, TeamId};
 use reasons::TeamGames;
 use robinx_names::Names;
 use season_misses::{Label, Told, lacks, misses};
-use season_tables::{Season, season_csv, season_grid};
 use std::alloc::{AllocError, Global};
 
 /// What the teams of a league of n teams are called.

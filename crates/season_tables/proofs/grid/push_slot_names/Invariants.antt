@@ -1,7 +1,0 @@
-use Rattle.std.proofs.Common.{◌≡◌, ◌++◌}
-use Rattle.std.specs.List.{flat_map, range_with_len}
-use Rattle.season_tables.specs.Grid.{slot_line}
-use Rattle.season_tables.proofs.grid.push_slot_names.Given as goal
-
-abbrev pub invariant-loop-number : goal.invariant-loop-number
-invariant-loop-number l = l.text.items ≡ l.fn.text.items ++ flat_map (slot_line l.season.names.now) (range_with_len 0 l.number)

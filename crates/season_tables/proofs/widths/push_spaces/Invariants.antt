@@ -1,6 +1,0 @@
-use Rattle.std.proofs.Common.{◌≡◌, ◌++◌}
-use Rattle.season_tables.specs.Widths.{spaces}
-use Rattle.season_tables.proofs.widths.push_spaces.Given as goal
-
-abbrev pub invariant-loop-space : goal.invariant-loop-space
-invariant-loop-space l = l.text.items ≡ l.fn.text.items ++ spaces l._space
