@@ -4,15 +4,15 @@ ghost use Rattle.std.specs.Prelude.{◌≡◌, ℕ, Bool, true, Option, None, If
 /// What a run does for a while.
 #[derive(Clone, Copy, Debug, PartialEq, Eq)]
 pub enum Phase {
-    /// It counts venues and breaks.
+    /// Venues and breaks are counted.
     Counts,
-    /// It searches home-away patterns.
+    /// Home-away patterns are searched.
     Patterns,
-    /// It searches a schedule by clauses.
+    /// A schedule is searched by clauses.
     Search,
-    /// It walks from games to games, and may try so many moves.
+    /// A walk goes from games to games, and may try so many moves.
     Walk { moves: u64 },
-    /// It goes down from a season by single moves, of which it may make so many.
+    /// A descent goes down from a season by single moves, of which it may make so many.
     Descent { moves: u64 },
 }
 
