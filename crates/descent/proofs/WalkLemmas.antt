@@ -1,9 +1,10 @@
 -- What a walk knows, one move further.
 use Rattle.std.proofs.Common.{◌≡◌, ◌↔◌, ℕ, ◌+◌, ◌<◌, ◌≤◌, Bool, true, false, not, Option, Some, None, List, [], ◌∷◌, ◌++◌, length, take, drop, get_or, inl, inr, refl, arith, ap, sym, subst, ◌∙◌}
-use Rattle.std.specs.Prelude.{IsTrue, MatchOption, is_some}
+use Rattle.std.specs.Prelude.{IsTrue}
 use Rattle.std.specs.List.{All, AllWithin}
 use Rattle.std.proofs.lemmas.Bool.{cases_lt}
 use Rattle.std.proofs.lemmas.List.{get_or_default, length-append}
+use Rattle.std.proofs.lemmas.List.Elements.{All-get_or}
 use Rattle.league.specs.Counts.{Counts}
 use Rattle.rule_core.specs.Table.{table_counts}
 use Rattle.moves.specs.MoveList.{Moves}
@@ -14,14 +15,15 @@ use Rattle.moves.specs.declared.swap.Swap.{Swap}
 use Rattle.rule_core.specs.declared.rule.Entries.{Ghosts}
 use Rattle.tally.specs.Tallies.{Tallied}
 use Rattle.tally.specs.declared.weighted.Weighted.{Weighted}
-use Rattle.descent.specs.Score.{score_on}
+use Rattle.descent.specs.Score.{IsCostly, score_on}
 use Rattle.descent.specs.Settled.{IsLowering, IsSettled}
 use Rattle.descent.specs.Trail.{IsTrail}
-use Rattle.descent.specs.Walks.{IsDown, IsFoundAt, IsFullEdit, IsWalkOn, KeepsGames}
+use Rattle.descent.specs.Walks.{IsDown, IsFoundAt, IsFullEdit, IsWalkOn, KeepsGames, Knows}
 use Rattle.descent.specs.declared.score.Score.{Score}
 use Rattle.descent.specs.declared.walk.Walk.{Walk}
 use Rattle.descent.proofs.MoveLemmas.{all_moves-of_league}
-use Rattle.descent.proofs.SettledLemmas.{All-of_parts, IsFoundAt-before, IsSettled-of_all}
+use Rattle.descent.proofs.ScoreLemmas.{lower-objective}
+use Rattle.descent.proofs.SettledLemmas.{IsSettled-of_all}
 use Rattle.descent.proofs.TrailLemmas.{IsTrail-more}
 
 -- ---- the same by equal numbers, scores and counts
@@ -43,35 +45,76 @@ settled-at n k phased said score other m l same_n same_phased same_score same_co
 
 -- ---- a round
 
--- the move at a place that lowers the score
-pub found-at : {R : Type 0} (E : Ghosts R) (n : ℕ) (phased : Bool) (rules now : List (Weighted R)) (m : Counts)
-    (moves : List Swap) (edit : Edits) (place : ℕ) (e : Swap) → place < length moves → now ≡ rules
-    → IsLowering n phased (score_on E now) m (get_or moves place e) → IsFullEdit n m (get_or moves place e) edit
-    → IsFoundAt n phased (score_on E rules) m moves edit place
-found-at {R} E n phased rules now m moves edit place e within same lowers full = record {
-  within = within;
-  lowering = λ d.
-      subst (λ (step : Swap). IsLowering n phased (score_on E rules) m step) (get_or_default moves place e d within)
-      (subst (λ (w : List (Weighted R)). IsLowering n phased (score_on E w) m (get_or moves place e)) same lowers);
-  full = λ d. subst (λ (step : Swap). IsFullEdit n m step edit) (get_or_default moves place e d within) full;
-}
+-- what is said of a move on the board of a walk, by the numbers of a tally
+pub lowers-on : {R : Type 0} (E : Ghosts R) (walk at : Walk) (tally now : Tallied R) (said : Bool) (step : Swap)
+    → IsWalkOn tally.table.n (table_counts tally.table) walk → at ≡ record walk { edit = at.edit }
+    → KeepsGames tally now
+    → IsTrue said ↔ IsLowering at.board.n at.board.phased (score_on E now.weights) (round_counts at.board) step
+    → IsTrue said
+    ↔ IsLowering tally.table.n walk.board.phased (score_on E tally.weights) (table_counts tally.table) step
+lowers-on {R} E walk at tally now said step is same keeps read =
+    let teams : at.board.n ≡ tally.table.n = ap (λ (w : Walk). w.board.n) same ∙ is.teams in
+    let phased : at.board.phased ≡ walk.board.phased = ap (λ (w : Walk). w.board.phased) same in
+    let score : score_on E now.weights ≡ score_on E tally.weights =
+    ap (λ (w : List (Weighted R)). score_on E w) keeps.weights in
+    let counts : round_counts at.board ≡ table_counts tally.table =
+    ap (λ (w : Walk). round_counts w.board) same ∙ is.counts in (
+      λ yes. lowering-at tally.table.n at.board.n walk.board.phased at.board.phased (score_on E tally.weights)
+          (score_on E now.weights) (table_counts tally.table) (round_counts at.board) step teams phased score counts
+          (read.0 yes),
+      λ lowers. read.1
+          (lowering-at at.board.n tally.table.n at.board.phased walk.board.phased (score_on E now.weights)
+          (score_on E tally.weights) (round_counts at.board) (table_counts tally.table) step (sym teams) (sym phased)
+          (sym score) (sym counts) lowers),
+    )
 
--- one more of the moves doesn't lower the score
-pub none-more : {R : Type 0} (E : Ghosts R) (n : ℕ) (phased : Bool) (rules now : List (Weighted R)) (m : Counts)
-    (moves : List Swap) (place : ℕ) (e : Swap) → place < length moves → now ≡ rules
-    → AllWithin (λ step. IsLowering n phased (score_on E rules) m step → ⊥) moves 0 place
-    → (IsLowering n phased (score_on E now) m (get_or moves place e) → ⊥)
-    → AllWithin (λ step. IsLowering n phased (score_on E rules) m step → ⊥) moves 0 (place + 1)
-none-more {R} E n phased rules now m moves place e within same before here k d from below lowers =
-    elim (cases_lt k place) as (λ _. ⊥) [
-      | inl earlier ↦ before k d from earlier lowers
+pub full-on : {R : Type 0} (walk at : Walk) (tally : Tallied R) (step : Swap) (edit : Edits)
+    → IsWalkOn tally.table.n (table_counts tally.table) walk → at ≡ record walk { edit = at.edit }
+    → IsFullEdit at.board.n (round_counts at.board) step edit
+    → IsFullEdit tally.table.n (table_counts tally.table) step edit
+full-on {R} walk at tally step edit is same full =
+    subst (λ (m : Counts). IsFullEdit tally.table.n m step edit)
+    (ap (λ (w : Walk). round_counts w.board) same ∙ is.counts)
+    (subst (λ (k : ℕ). IsFullEdit k (round_counts at.board) step edit)
+    (ap (λ (w : Walk). w.board.n) same ∙ is.teams) full)
+
+-- the moves of a walk are moves of its league
+pub move-of_league : (n : ℕ) (m : Counts) (walk : Walk) (place : ℕ) (d : Swap) → IsWalkOn n m walk
+    → place < length walk.moves.items → IsOfLeague n (get_or walk.moves.items place d)
+move-of_league n m walk place d is within =
+    All-get_or (IsOfLeague n) walk.moves.items place d within
+    (subst (λ (moves : List Swap). All (IsOfLeague n) moves) (sym is.listed) (all_moves-of_league n))
+
+-- the move at a place that lowers the score
+pub found-at : (n : ℕ) (phased : Bool) (score : Counts → Score) (m : Counts) (moves : List Swap) (edit : Edits)
+    (place : ℕ) (step : Swap) → place < length moves → step ≡ get_or moves place step
+    → IsLowering n phased score m step → IsFullEdit n m step edit → IsFoundAt n phased score m moves edit place
+found-at n phased score m moves edit place step within at lowers full =
+    let here : (d : Swap) → step ≡ get_or moves place d = λ d. at ∙ get_or_default moves place step d within in
+    record {
+      within = within;
+      lowering = λ d. subst (λ (s : Swap). IsLowering n phased score m s) (here d) lowers;
+      full = λ d. subst (λ (s : Swap). IsFullEdit n m s edit) (here d) full;
+    }
+
+-- one more of the moves isn't such a one
+pub none-more : (P : Swap → Type 0) (moves : List Swap) (start place : ℕ) (e : Swap) → place < length moves
+    → AllWithin P moves start place → P (get_or moves place e) → AllWithin P moves start (place + 1)
+none-more P moves start place e within before here k d from below =
+    elim (cases_lt k place) as (λ _. P (get_or moves k d)) [
+      | inl earlier ↦ before k d from earlier
       | inr later ↦
-          let at : k ≡ place = omega arith in
-          let step : get_or moves k d ≡ get_or moves place e =
-          ap (λ (j : ℕ). get_or moves j d) at ∙ get_or_default moves place d e within in
-          here
-          (subst (λ (w : List (Weighted R)). IsLowering n phased (score_on E w) m (get_or moves place e)) (sym same)
-          (subst (λ (s : Swap). IsLowering n phased (score_on E rules) m s) step lowers))
+          let at : k ≡ place = omega (arith, later, below) in
+          subst P (sym (ap (λ (j : ℕ). get_or moves j d) at ∙ get_or_default moves place d e within)) here
+    ]
+
+-- two parts of a round that meet
+pub round-none : (P : Swap → Type 0) (moves : List Swap) (next : ℕ) → AllWithin P moves 0 next
+    → AllWithin P moves next (length moves) → All P moves
+round-none P moves next first second k d below =
+    elim (cases_lt k next) as (λ _. P (get_or moves k d)) [
+      | inl earlier ↦ first k d (omega arith) earlier
+      | inr later ↦ second k d later below
     ]
 
 -- the games stay twice
@@ -83,61 +126,76 @@ keeps-both {R} first mid last before after = record {
   counts = after.counts ∙ before.counts;
 }
 
--- the two parts of a round
-pub round-found : {R : Type 0} (E : Ghosts R) (n : ℕ) (phased : Bool) (rules now : List (Weighted R)) (m : Counts)
-    (moves before after : List Swap) (edit : Edits) (start : ℕ) (found : Option ℕ) → now ≡ rules
-    → before ≡ take start moves → after ≡ drop start moves → start ≤ length moves
-    → All (λ step. IsLowering n phased (score_on E rules) m step → ⊥) after
-    → MatchOption found (All (λ step. IsLowering n phased (score_on E now) m step → ⊥) before)
-    (IsFoundAt n phased (score_on E now) m before edit)
-    → MatchOption found (All (λ step. IsLowering n phased (score_on E rules) m step → ⊥) moves)
-    (IsFoundAt n phased (score_on E rules) m moves edit)
-round-found {R} E n phased rules now m moves before after edit start None same is_before is_after within none rest =
-    All-of_parts (λ step. IsLowering n phased (score_on E rules) m step → ⊥) moves before after start is_before is_after
-    (subst (λ (w : List (Weighted R)). All (λ step. IsLowering n phased (score_on E w) m step → ⊥) before) same rest) none
-round-found {R} E n phased rules now m moves before after edit start (Some place) same is_before is_after within none rest =
-    IsFoundAt-before n phased (score_on E rules) m moves before edit start place is_before within
-    (subst (λ (w : List (Weighted R)). IsFoundAt n phased (score_on E w) m before edit place) same rest)
-
--- the moves of a walk are moves of its league
-pub moves-of_league : (n : ℕ) (m : Counts) (walk : Walk) (moves : List Swap) → IsWalkOn n m walk
-    → moves ≡ walk.moves.items → All (IsOfLeague walk.board.n) moves
-moves-of_league n m walk moves is are =
-    subst (λ (list : List Swap). All (IsOfLeague walk.board.n) list) (sym (are ∙ is.listed))
-    (subst (λ (k : ℕ). All (IsOfLeague k) (all_moves n)) (sym is.teams) (all_moves-of_league n))
-
 -- the move that a round found
-pub found-lowers : (n : ℕ) (m : Counts) (walk : Walk) (score : Counts → Score) (moves : List Swap) (edit : Edits)
-    (place : ℕ) (step : Swap) → IsWalkOn n m walk → moves ≡ walk.moves.items
-    → IsFoundAt walk.board.n walk.board.phased score (round_counts walk.board) moves edit place
-    → step ≡ get_or walk.moves.items place step → IsLowering n walk.board.phased score m step
-found-lowers n m walk score moves edit place step is are found at =
-    let here : get_or moves place step ≡ step = ap (λ (list : List Swap). get_or list place step) are ∙ sym at in
-    lowering-at n walk.board.n walk.board.phased walk.board.phased score score m (round_counts walk.board) step is.teams
-    refl refl is.counts
-    (subst (λ (s : Swap). IsLowering walk.board.n walk.board.phased score (round_counts walk.board) s) here
-    (found.lowering step))
+pub found-lowers : (n : ℕ) (phased : Bool) (score : Counts → Score) (m : Counts) (walk tried : Walk) (place : ℕ)
+    (step : Swap) → tried ≡ record walk { edit = tried.edit }
+    → IsFoundAt n phased score m walk.moves.items tried.edit place
+    → ((d : Swap) → step ≡ get_or tried.moves.items place d) → IsLowering n phased score m step
+found-lowers n phased score m walk tried place step same found at =
+    subst (λ (s : Swap). IsLowering n phased score m s)
+    (sym (at step ∙ ap (λ (w : Walk). get_or w.moves.items place step) same)) (found.lowering step)
 
-pub found-edit : (n : ℕ) (m : Counts) (walk : Walk) (score : Counts → Score) (moves : List Swap) (edit : Edits)
-    (place : ℕ) (step : Swap) → IsWalkOn n m walk → moves ≡ walk.moves.items
-    → IsFoundAt walk.board.n walk.board.phased score (round_counts walk.board) moves edit place
-    → step ≡ get_or walk.moves.items place step → IsFullEdit n m step edit
-found-edit n m walk score moves edit place step is are found at =
-    let here : get_or moves place step ≡ step = ap (λ (list : List Swap). get_or list place step) are ∙ sym at in
-    subst (λ (c : Counts). IsFullEdit n c step edit) is.counts
-    (subst (λ (k : ℕ). IsFullEdit k (round_counts walk.board) step edit) is.teams
-    (subst (λ (s : Swap). IsFullEdit walk.board.n (round_counts walk.board) s edit) here (found.full step)))
+pub found-edit : (n : ℕ) (phased : Bool) (score : Counts → Score) (m : Counts) (walk tried taken : Walk) (place : ℕ)
+    (step : Swap) → tried ≡ record walk { edit = tried.edit }
+    → IsFoundAt n phased score m walk.moves.items tried.edit place
+    → ((d : Swap) → step ≡ get_or tried.moves.items place d) → taken ≡ record tried { next = place + 1 }
+    → IsFullEdit n m step taken.edit
+found-edit n phased score m walk tried taken place step same found at is_taken =
+    subst (λ (e : Edits). IsFullEdit n m step e) (sym (ap (λ (w : Walk). w.edit) is_taken))
+    (subst (λ (s : Swap). IsFullEdit n m s tried.edit)
+    (sym (at step ∙ ap (λ (w : Walk). get_or w.moves.items place step) same)) (found.full step))
+
+-- what is found is of equal rules and counts
+pub lowers-at : {R : Type 0} (E : Ghosts R) (tally kept : Tallied R) (phased said : Bool) (step : Swap)
+    → KeepsGames tally kept → said ≡ phased
+    → IsLowering kept.table.n said (score_on E kept.weights) (table_counts kept.table) step
+    → IsLowering tally.table.n phased (score_on E tally.weights) (table_counts tally.table) step
+lowers-at {R} E tally kept phased said step keeps same lowers =
+    lowering-at tally.table.n kept.table.n phased said (score_on E tally.weights) (score_on E kept.weights)
+    (table_counts tally.table) (table_counts kept.table) step keeps.teams same
+    (ap (λ (w : List (Weighted R)). score_on E w) keeps.weights) keeps.counts lowers
+
+pub full-at : {R : Type 0} (tally kept : Tallied R) (step : Swap) (edit : Edits) → KeepsGames tally kept
+    → IsFullEdit kept.table.n (table_counts kept.table) step edit
+    → IsFullEdit tally.table.n (table_counts tally.table) step edit
+full-at {R} tally kept step edit keeps full =
+    subst (λ (m : Counts). IsFullEdit tally.table.n m step edit) keeps.counts
+    (subst (λ (k : ℕ). IsFullEdit k (table_counts kept.table) step edit) keeps.teams full)
 
 -- where a whole round found none
-pub none-settled : (n : ℕ) (m : Counts) (walk : Walk) (score : Counts → Score) (moves : List Swap) → IsWalkOn n m walk
-    → moves ≡ walk.moves.items
-    → All (λ step. IsLowering walk.board.n walk.board.phased score (round_counts walk.board) step → ⊥) moves
-    → IsSettled n walk.board.phased score m
-none-settled n m walk score moves is are none =
-    settled-at n walk.board.n walk.board.phased walk.board.phased score score m (round_counts walk.board) is.teams refl
-    refl is.counts
-    (IsSettled-of_all walk.board.n walk.board.phased score (round_counts walk.board) moves
-    (are ∙ is.listed ∙ ap (λ (k : ℕ). all_moves k) (sym is.teams)) none)
+pub none-settled : {R : Type 0} (E : Ghosts R) (walk tried : Walk) (tally kept : Tallied R) (end : ℕ)
+    → IsWalkOn tally.table.n (table_counts tally.table) walk → KeepsGames tally kept
+    → tried ≡ record walk { edit = tried.edit } → end ≡ length walk.moves.items
+    → AllWithin
+    (λ step. IsLowering tally.table.n walk.board.phased (score_on E tally.weights) (table_counts tally.table) step → ⊥)
+    walk.moves.items walk.next end
+    → AllWithin
+    (λ step. IsLowering kept.table.n tried.board.phased (score_on E kept.weights) (table_counts kept.table) step → ⊥)
+    tried.moves.items 0 walk.next
+    → IsSettled tally.table.n walk.board.phased (score_on E tally.weights) (table_counts tally.table)
+none-settled {R} E walk tried tally kept end is keeps same is_end first second =
+    let n : ℕ = tally.table.n in
+    let phased : Bool = walk.board.phased in
+    let score : Counts → Score = score_on E tally.weights in
+    let m : Counts = table_counts tally.table in
+    let None_of : Swap → Type 0 = λ step. IsLowering n phased score m step → ⊥ in
+    IsSettled-of_all n phased score m walk.moves.items is.listed
+    (round-none None_of walk.moves.items walk.next
+    (λ k d from below.
+    let there : get_or tried.moves.items k d ≡ get_or walk.moves.items k d =
+    ap (λ (w : Walk). get_or w.moves.items k d) same in
+    λ lowers. second k d from below
+    (lowering-at kept.table.n n tried.board.phased phased (score_on E kept.weights) score (table_counts kept.table) m
+    (get_or tried.moves.items k d) (sym keeps.teams) (sym (ap (λ (w : Walk). w.board.phased) same))
+    (sym (ap (λ (w : List (Weighted R)). score_on E w) keeps.weights)) (sym keeps.counts)
+    (subst (λ (s : Swap). IsLowering n phased score m s) (sym there) lowers)))
+    (subst (λ (last : ℕ). AllWithin None_of walk.moves.items walk.next last) is_end first))
+
+-- no move lowers the least score of all
+pub least-settled : (n : ℕ) (phased : Bool) (score : Counts → Score) (m : Counts) → (score m).infeasibility ≡ 0
+    → (score m).objective ≡ 0 → IsSettled n phased score m
+least-settled n phased score m feasible free step lowers =
+    omega (arith, lower-objective (score (moved n m step)) (score m) feasible lowers.lower, free)
 
 -- ---- the walk after a round
 
@@ -245,34 +303,27 @@ settled-down {R} E n phased rules first walk tally kept made is keeps settled =
     (table_counts kept.table) (table_counts tally.table) is.teams is.phased
     (ap (λ (w : List (Weighted R)). score_on E w) is.weights) (sym keeps.counts) settled
 
-pub found_none : (b : Bool) → b ≡ false → b ≡ true → ⊥
-found_none b first second = cc
+-- what is known where the last round found a move, and where the watch ended it
+pub Knows-found : (n : ℕ) (phased : Bool) (score : Counts → Score) (m : Counts) (may_stop : Type 0) (step : Swap)
+    → IsLowering n phased score m step → Knows n phased score m may_stop false
+Knows-found n phased score m may_stop step lowers = record {
+  settled = λ said. absurd (let no : false ≡ true = said in cc);
+  costly = λ said feasible. omega (arith, lower-objective (score (moved n m step)) (score m) feasible lowers.lower);
+  lowers = λ said. inr (λ settled. settled step lowers);
+}
 
-not-false : (b : Bool) → false ≡ not b → b ≡ true
-not-false true is = refl
-not-false false is = absurd (cc)
+pub Knows-ended : (n : ℕ) (phased : Bool) (score : Counts → Score) (m : Counts) (may_stop : Type 0) → may_stop
+    → IsCostly (score m) → Knows n phased score m may_stop false
+Knows-ended n phased score m may_stop stops costs = record {
+  settled = λ said. absurd (let no : false ≡ true = said in cc);
+  costly = λ said. costs;
+  lowers = λ said. inl stops;
+}
 
-not-true : (b : Bool) → true ≡ not b → b ≡ false
-not-true false is = refl
-not-true true is = absurd (cc)
-
--- whether a round found nothing
-pub settled-read : (n : ℕ) (phased : Bool) (score : Counts → Score) (m : Counts) (found : Option Swap) (none : Bool)
-    → is_some found ≡ not none → MatchOption found (IsSettled n phased score m) (IsLowering n phased score m)
-    → IsTrue none ↔ IsSettled n phased score m
-settled-read n phased score m None none is settled = (λ said. settled, λ given. not-false none is)
-settled-read n phased score m (Some step) none is lowers =
-    (λ said. absurd (found_none none (not-true none is) said), λ settled. absurd (settled step lowers))
-
-pub found-down : {R : Type 0} (E : Ghosts R) (n : ℕ) (phased : Bool) (rules : List (Weighted R)) (first : Counts)
-    (walk : Walk) (tally kept : Tallied R) (made : ℕ) (found : Option Swap)
-    → IsDown E n phased rules first walk tally made → KeepsGames tally kept
-    → MatchOption found
-    (IsSettled tally.table.n walk.board.phased (score_on E tally.weights) (table_counts tally.table))
-    (IsLowering tally.table.n walk.board.phased (score_on E tally.weights) (table_counts tally.table))
-    → MatchOption found (IsSettled n phased (score_on E rules) (table_counts kept.table))
-    (IsLowering n phased (score_on E rules) (table_counts kept.table))
-found-down {R} E n phased rules first walk tally kept made None is keeps settled =
-    settled-down E n phased rules first walk tally kept made is keeps settled
-found-down {R} E n phased rules first walk tally kept made (Some step) is keeps lowers =
-    lowering-down E n phased rules first walk tally kept made step is keeps lowers
+pub Knows-settled : (n : ℕ) (phased : Bool) (score : Counts → Score) (m : Counts) (may_stop : Type 0)
+    → IsSettled n phased score m → Knows n phased score m may_stop true
+Knows-settled n phased score m may_stop settled = record {
+  settled = λ said. settled;
+  costly = λ said. absurd (let no : true ≡ false = said in cc);
+  lowers = λ said. absurd (let no : true ≡ false = said in cc);
+}

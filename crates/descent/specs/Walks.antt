@@ -1,5 +1,5 @@
 -- What a descent walks on.
-use Rattle.std.specs.Prelude.{◌≡◌, ℕ, ◌<◌, ◌≤◌, Bool, List, length, slice_index_or}
+use Rattle.std.specs.Prelude.{◌≡◌, ◌⊎◌, ℕ, ◌<◌, ◌≤◌, Bool, true, false, List, length, slice_index_or}
 use Rattle.std.specs.List.{All}
 use Rattle.league.specs.Counts.{Counts}
 use Rattle.league.specs.Instance.{IsGame}
@@ -11,8 +11,8 @@ use Rattle.moves.specs.declared.swap.Swap.{Swap}
 use Rattle.rule_core.specs.declared.rule.Entries.{Ghosts}
 use Rattle.tally.specs.Tallies.{Tallied}
 use Rattle.tally.specs.declared.weighted.Weighted.{Weighted}
-use Rattle.descent.specs.Score.{score_on}
-use Rattle.descent.specs.Settled.{IsLowering}
+use Rattle.descent.specs.Score.{IsCostly, score_on}
+use Rattle.descent.specs.Settled.{IsLowering, IsSettled}
 use Rattle.descent.specs.Trail.{IsTrail}
 use Rattle.descent.specs.declared.score.Score.{Score}
 use Rattle.descent.specs.declared.walk.Walk.{Walk}
@@ -42,6 +42,14 @@ pub record IsWalkOn (n : ℕ) (m : Counts) (walk : Walk) : Type 0 where
   pub edit_for : walk.edit.n ≡ n
   pub listed : walk.moves.items ≡ all_moves n
   pub next_within : walk.next ≤ length walk.moves.items
+
+-- What is known of some counts: where it is said that they are settled, they are. Else they cost something, and a move
+-- lowers the score, unless the run may be stopped.
+pub record Knows (n : ℕ) (phased : Bool) (score : Counts → Score) (m : Counts) (may_stop : Type 0) (settled : Bool)
+    : Type 0 where
+  pub settled : settled ≡ true → IsSettled n phased score m
+  pub costly : settled ≡ false → IsCostly (score m)
+  pub lowers : settled ≡ false → may_stop ⊎ (IsSettled n phased score m → ⊥)
 
 -- the rules stay, and so do the games
 pub record KeepsGames {R : Type 0} (old new : Tallied R) : Type 0 where

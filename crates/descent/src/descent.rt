@@ -1,12 +1,12 @@
 //! A descent from the games of a tally.
-ghost use Rattle.std.specs.Prelude.{◌≡◌, ◌≤◌, ◌↔◌, false, length, IfOk, IsTrue, Some};
+ghost use Rattle.std.specs.Prelude.{◌≡◌, ◌≤◌, ◌↔◌, ◌⊎◌, true, false, length, IfOk, IsTrue, Some};
 ghost use Rattle.std.specs.List.{All};
 ghost use Rattle.league.specs.Counts.{counts_of};
 ghost use Rattle.league.specs.Instance.{IsGame};
 ghost use Rattle.league.specs.Order.{IsInOrder};
 ghost use Rattle.league.specs.Structure.{IsRoundRobin};
 ghost use Rattle.rule_core.specs.Table.{table_counts};
-ghost use Rattle.descent.specs.Score.{IsNoWorse, score_on};
+ghost use Rattle.descent.specs.Score.{IsCostly, IsNoWorse, score_on};
 ghost use Rattle.descent.specs.Settled.{IsSettled};
 ghost use Rattle.descent.specs.Trail.{IsTrail};
 ghost use Rattle.robin_watch.specs.Limits.{IsKeptTo};
@@ -63,7 +63,7 @@ impl Descent {
 
 /// Makes moves on a tally's games, a double round robin, each of which is legal and lowers the score by the tally's
 /// rules, at most `limit` of them. After a move it goes on with the move behind it, and it ends after one whole round
-/// of all moves of which none lowers the score, or at the limit.
+/// of all moves of which none lowers the score, or at the limit. Games that cost nothing are settled without a round.
 ///
 /// # Errors
 /// Only where memory runs out. Then the moves made so far stay made: the tally has a double round robin that isn't
@@ -103,8 +103,7 @@ pub fn descend<R: Rule<L>, L>(
     descend_watched(alloc, phased, tally, limit, steps, &Unwatched)
 }
 
-/// Makes moves as `descend` does, until the watch ends it. It is asked behind each move. Then one round more says whether
-/// the descent is settled.
+/// Makes moves as `descend` does, until the watch ends it. The watch is asked before every 256th of all moves is tried.
 ///
 /// # Errors
 /// Only where memory runs out. Then the moves made so far stay made: the tally has a double round robin that isn't
@@ -136,15 +135,23 @@ pub fn descend_watched<R: Rule<L>, L, W: Watch>(
         (table_counts tally.old.table) descent.trail (table_counts tally.new.table)) }
     ensures few { IfOk result (λ descent. length descent.trail ≤ limit) }
 
-    // The descent is settled exactly where no legal move of any kind lowers the score, and not settled only at the
-    // limit, or, where the watch may end it, at a lower one.
-    ensures settled { IfOk result (λ descent. IsTrue descent.settled ↔ IsSettled tally.old.table.n phased
+    // Where the descent is said to be settled, no legal move of any kind lowers the score. Else the games cost
+    // something, and a move lowers the score, unless the watch may end the descent.
+    ensures settled { IfOk result (λ descent. descent.settled ≡ true → IsSettled tally.old.table.n phased
         (score_on R.Entries tally.old.weights) (table_counts tally.new.table)) }
+    ensures costly { IfOk result (λ descent. descent.settled ≡ false
+        → IsCostly (score_on R.Entries tally.old.weights (table_counts tally.new.table))) }
+    ensures lowers { IfOk result (λ descent. descent.settled ≡ false → W.may_stop watch.now
+        ⊎ (IsSettled tally.old.table.n phased (score_on R.Entries tally.old.weights) (table_counts tally.new.table)
+        → ⊥)) }
+
+    // It isn't settled only at the limit, or, where the watch may end it, at a lower one.
     ensures spent { IfOk result (λ descent. descent.settled ≡ false
         → IsKeptTo (Some limit) (W.may_stop watch.now) (Some (length descent.trail))) }
 
-    // Where it may make a move and a move lowers the score, it makes one.
-    ensures begun { 1 ≤ limit → IfOk result (λ descent. descent.settled ≡ false → 1 ≤ length descent.trail) }
+    // Where it may make a move and a move lowers the score, it makes one, unless the watch may end it.
+    ensures begun { 1 ≤ limit → IfOk result (λ descent. descent.settled ≡ false
+        → W.may_stop watch.now ⊎ (1 ≤ length descent.trail)) }
 {
     let first = season_of(alloc, phased, tally.cells())?;
     let mut walk = Walk::new(alloc, tally.cells().n(), phased, &first)?;

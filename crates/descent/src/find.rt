@@ -1,6 +1,5 @@
-//! The search for a move that lowers the score.
-ghost use Rattle.std.specs.Prelude.{◌≡◌, ◌≤◌, ◌↔◌, true, length, MatchOption, IfOk, IsTrue};
-ghost use Rattle.std.specs.List.{All};
+//! All moves, and whether one lowers the score.
+ghost use Rattle.std.specs.Prelude.{◌≡◌, ◌↔◌, true, IfOk, IsTrue};
 ghost use Rattle.league.specs.Instance.{IsTeamCount};
 ghost use Rattle.rule_core.specs.Table.{table_counts};
 ghost use Rattle.moves.specs.Moves.{IsOfLeague};
@@ -8,7 +7,7 @@ ghost use Rattle.moves.specs.Neighbours as listed;
 ghost use Rattle.moves.specs.Round.{round_counts};
 ghost use Rattle.descent.specs.Score.{score_on};
 ghost use Rattle.descent.specs.Settled.{IsLowering};
-ghost use Rattle.descent.specs.Walks.{IsFoundAt, IsFullEdit, KeepsGames};
+ghost use Rattle.descent.specs.Walks.{IsFullEdit, KeepsGames};
 
 use crate::score::lowers;
 use moves::{Board, Edit, Neighbours, Swap, edit_of};
@@ -20,7 +19,7 @@ use tally::Tally;
 ///
 /// # Errors
 /// Only where memory runs out.
-pub(crate) fn all_moves(alloc: Global, n: u16) -> Result<Vec<Swap>, AllocError>
+pub fn all_moves(alloc: Global, n: u16) -> Result<Vec<Swap>, AllocError>
     requires { IsTeamCount n }
     ensures { IfOk result (λ moves. moves.items ≡ listed.all_moves n) }
 {
@@ -55,64 +54,4 @@ pub(crate) fn is_lowering<R: Rule<L>, L>(
         return false;
     }
     lowers(tally, edit, steps)
-}
-
-/// The place of the first of these moves that is legal and lowers the score of a tally's games, which stand on a board.
-/// Then the edit is that of the move. The tally has the same games as before.
-pub(crate) fn first_lowering<R: Rule<L>, L>(
-    moves: &[Swap],
-    board: &Board,
-    edit: &mut Edit,
-    tally: &mut Tally<R>,
-    steps: &mut Steps<L>,
-) -> Option<usize>
-    requires league { All (IsOfLeague board.now.n) moves.now }
-    requires n { edit.old.n ≡ board.now.n }
-    requires teams { tally.old.table.n ≡ board.now.n }
-    requires counts { table_counts tally.old.table ≡ round_counts board.now }
-    ensures n { edit.new.n ≡ edit.old.n }
-    ensures keeps { KeepsGames tally.old tally.new }
-    ensures found { MatchOption result
-        (All (λ step. IsLowering board.now.n board.now.phased (score_on R.Entries tally.old.weights)
-        (round_counts board.now) step → ⊥) moves.now)
-        (IsFoundAt board.now.n board.now.phased (score_on R.Entries tally.old.weights) (round_counts board.now)
-        moves.now edit.new) }
-{
-    for place in 0..moves.len() {
-        if is_lowering(moves[place], board, edit, tally, steps) {
-            return Some(place);
-        }
-    }
-    None
-}
-
-/// The place of the first of these moves, in one round of them that begins at a place, that is legal and lowers the
-/// score of a tally's games, which stand on a board. Then the edit is that of the move. The tally has the same games as
-/// before.
-pub(crate) fn next_lowering<R: Rule<L>, L>(
-    moves: &[Swap],
-    start: usize,
-    board: &Board,
-    edit: &mut Edit,
-    tally: &mut Tally<R>,
-    steps: &mut Steps<L>,
-) -> Option<usize>
-    requires start { start ≤ length moves.now }
-    requires league { All (IsOfLeague board.now.n) moves.now }
-    requires n { edit.old.n ≡ board.now.n }
-    requires teams { tally.old.table.n ≡ board.now.n }
-    requires counts { table_counts tally.old.table ≡ round_counts board.now }
-    ensures n { edit.new.n ≡ edit.old.n }
-    ensures keeps { KeepsGames tally.old tally.new }
-    ensures found { MatchOption result
-        (All (λ step. IsLowering board.now.n board.now.phased (score_on R.Entries tally.old.weights)
-        (round_counts board.now) step → ⊥) moves.now)
-        (IsFoundAt board.now.n board.now.phased (score_on R.Entries tally.old.weights) (round_counts board.now)
-        moves.now edit.new) }
-{
-    let (before, after) = moves.split_at(start);
-    match first_lowering(after, board, edit, tally, steps) {
-        Some(place) => Some(start + place),
-        None => first_lowering(before, board, edit, tally, steps),
-    }
 }

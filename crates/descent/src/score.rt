@@ -1,5 +1,5 @@
 //! What a descent compares.
-ghost use Rattle.std.specs.Prelude.{◌≡◌, ℕ, ◌≤◌};
+ghost use Rattle.std.specs.Prelude.{◌≡◌, ℕ, ◌≤◌, true, false};
 ghost use Rattle.std.specs.List.{All};
 ghost use Rattle.league.specs.Counts.{counts_of};
 ghost use Rattle.league.specs.Instance.{IsGame};
@@ -45,6 +45,14 @@ impl Score {
             infeasibility: 0,
             objective: self.objective.saturating_sub(1),
         }
+    }
+
+    /// Whether it is the least of all: no hard rule and no soft one costs anything.
+    pub(crate) fn is_least(self) -> bool
+        ensures least { result ≡ true → (self.infeasibility ≡ 0) × (self.objective ≡ 0) }
+        ensures costly { result ≡ false → scores.IsCostly self }
+    {
+        self.infeasibility == 0 && self.objective == 0
     }
 
     /// Whether this score is the lower one of two.

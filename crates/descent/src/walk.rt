@@ -1,18 +1,21 @@
 //! A walk over all moves, which goes on from where it stands. It is hill climbing by first improvement.
-ghost use Rattle.std.specs.Prelude.{◌≡◌, ◌<◌, ◌≤◌, ◌↔◌, ◌++◌, [], ◌∷◌, false, length, MatchOption, IfOk, IfSome, IsTrue, Some};
-ghost use Rattle.std.specs.List.{All};
+ghost use Rattle.std.specs.Prelude.{◌≡◌, ◌<◌, ◌≤◌, ◌⊎◌, ◌+◌, ◌++◌, [], ◌∷◌, false, length, MatchOption, IfOk, IfSome, OnErr, Some, slice_index_or};
+ghost use Rattle.std.specs.List.{All, AllWithin};
 ghost use Rattle.league.specs.Counts.{counts_of};
 ghost use Rattle.league.specs.Instance.{IsGame, IsTeamCount};
 ghost use Rattle.league.specs.Structure.{IsRoundRobin};
 ghost use Rattle.rule_core.specs.Table.{table_counts};
 ghost use Rattle.moves.specs.Moves.{IsLegal, moved};
-ghost use Rattle.descent.specs.Score.{score_on};
+ghost use Rattle.descent.specs.Score.{IsCostly, score_on};
 ghost use Rattle.descent.specs.Settled.{IsLowering, IsSettled};
 ghost use Rattle.descent.specs.Trail.{IsTrail};
-ghost use Rattle.descent.specs.Walks.{IsFullEdit, IsWalkOn, KeepsGames};
+ghost use Rattle.descent.specs.Walks.{IsFoundAt, IsFullEdit, IsWalkOn, KeepsGames, Knows};
+ghost use Rattle.moves.specs.declared.swap.Swap.{Swap};
 ghost use Rattle.robin_watch.specs.Limits.{IsKeptTo};
 
-use crate::find::{all_moves, next_lowering};
+use crate::find::{all_moves, is_lowering};
+use crate::look::{Ended, is_asked_at};
+use crate::score::Score;
 use league::Schedule;
 use moves::{Board, Edit, MoveList, Swap};
 use robin_watch::{News, Watch};
@@ -58,7 +61,7 @@ impl Walk {
     }
 
     /// Makes moves that lower the score of a tally's games, at most so many, until the watch ends it, and says whether
-    /// no further one does. The watch hears of each.
+    /// it is known that no further one does. The watch hears of each.
     ///
     /// # Errors
     /// Only where memory runs out: the moves made so far stay made.
@@ -76,58 +79,118 @@ impl Walk {
         ensures trail { IsTrail tally.old.table.n self.old.board.phased (score_on R.Entries tally.old.weights)
             (table_counts tally.old.table) self.new.trail.list (table_counts tally.new.table) }
         ensures few { length self.new.trail.list ≤ limit }
-        ensures settled { IfOk result (λ settled. IsTrue settled ↔ IsSettled tally.old.table.n self.old.board.phased
-            (score_on R.Entries tally.old.weights) (table_counts tally.new.table)) }
+        ensures known { IfOk result (Knows tally.old.table.n self.old.board.phased
+            (score_on R.Entries tally.old.weights) (table_counts tally.new.table) (W.may_stop watch.now)) }
         ensures spent { IfOk result (λ settled. settled ≡ false
             → IsKeptTo (Some limit) (W.may_stop watch.now) (Some (length self.new.trail.list))) }
-        ensures begun { 1 ≤ limit
-            → IfOk result (λ settled. settled ≡ false → 1 ≤ length self.new.trail.list) }
+        ensures begun { 1 ≤ limit → IfOk result (λ settled. settled ≡ false
+            → W.may_stop watch.now ⊎ (1 ≤ length self.new.trail.list)) }
     {
         'down: for made in 0..limit {
             watch.tell(News::Down { made });
-            if made > 0 && watch.is_over_now(made) {
-                return Ok(self.find(tally, steps).is_none());
-            }
-            match self.find(tally, steps) {
-                None => return Ok(true),
-                Some(step) => {
+            match self.find(tally, steps, watch) {
+                Err(Ended) => return Ok(false),
+                Ok(None) => return Ok(true),
+                Ok(Some(step)) => {
                     self.trail.reserve(1)?;
                     self.make(step, tally, steps);
                 }
             }
         }
-        Ok(self.find(tally, steps).is_none())
+        match self.find(tally, steps, watch) {
+            Ok(None) => Ok(true),
+            Ok(Some(_step)) => Ok(false),
+            Err(Ended) => Ok(false),
+        }
     }
 
-    /// The next move of one round of all moves, from where the walk stands, that is legal and lowers the score.
-    fn find<R: Rule<L>, L>(&mut self, tally: &mut Tally<R>, steps: &mut Steps<L>) -> Option<Swap>
+    /// The next move of one round of all moves, from where the walk stands, that is legal and lowers the score. Then the
+    /// edit is that of the move. Where the score is the least of all, no move is tried.
+    fn find<R: Rule<L>, L, W: Watch>(
+        &mut self,
+        tally: &mut Tally<R>,
+        steps: &mut Steps<L>,
+        watch: &W,
+    ) -> Result<Option<Swap>, Ended>
         requires walk { IsWalkOn tally.old.table.n (table_counts tally.old.table) self.old }
         ensures keeps { KeepsGames tally.old tally.new }
         ensures walk { IsWalkOn tally.old.table.n (table_counts tally.old.table) self.new }
         ensures phased { self.new.board.phased ≡ self.old.board.phased }
         ensures trail { self.new.trail ≡ self.old.trail }
-        ensures found { MatchOption result
+        ensures found { IfOk result (λ found. MatchOption found
             (IsSettled tally.old.table.n self.old.board.phased (score_on R.Entries tally.old.weights)
             (table_counts tally.old.table))
             (IsLowering tally.old.table.n self.old.board.phased (score_on R.Entries tally.old.weights)
-            (table_counts tally.old.table)) }
-        ensures edit { IfSome result (λ step. IsFullEdit tally.old.table.n (table_counts tally.old.table) step
-            self.new.edit) }
+            (table_counts tally.old.table))) }
+        ensures edit { IfOk result (λ found. IfSome found (λ step.
+            IsFullEdit tally.old.table.n (table_counts tally.old.table) step self.new.edit)) }
+        ensures ended { OnErr result (W.may_stop watch.now) }
+        ensures costly { OnErr result (IsCostly (score_on R.Entries tally.old.weights (table_counts tally.old.table))) }
     {
-        match next_lowering(
-            &self.moves,
-            self.next,
-            &self.board,
-            &mut self.edit,
-            tally,
-            steps,
-        ) {
-            None => None,
-            Some(place) => {
-                self.next = place + 1;
-                Some(self.moves[place])
+        if Score::of(tally).is_least() {
+            return Ok(None);
+        }
+        let next = self.next;
+        let end = self.moves.len();
+        let behind = self.find_between(next, end, tally, steps, watch)?;
+        if let Some(place) = behind {
+            return Ok(Some(self.take(place)));
+        }
+        let before = self.find_between(0, next, tally, steps, watch)?;
+        match before {
+            Some(place) => Ok(Some(self.take(place))),
+            None => Ok(None),
+        }
+    }
+
+    /// The move at a place, behind which the next round begins.
+    fn take(&mut self, place: usize) -> Swap
+        requires { place < length self.old.moves.items }
+        ensures step { (d : Swap) → result ≡ slice_index_or self.old.moves.items place d }
+        ensures next { self.new ≡ record self.old { next = place + 1 } }
+    {
+        self.next = place + 1;
+        self.moves[place]
+    }
+
+    /// The place of the first of the moves from one place up to another that is legal and lowers the score. Then the
+    /// edit is that of the move. The tally has the same games as before.
+    fn find_between<R: Rule<L>, L, W: Watch>(
+        &mut self,
+        start: usize,
+        end: usize,
+        tally: &mut Tally<R>,
+        steps: &mut Steps<L>,
+        watch: &W,
+    ) -> Result<Option<usize>, Ended>
+        requires walk { IsWalkOn tally.old.table.n (table_counts tally.old.table) self.old }
+        requires end { end ≤ length self.old.moves.items }
+        ensures keeps { KeepsGames tally.old tally.new }
+        ensures same { self.new ≡ record self.old { edit = self.new.edit } }
+        ensures edit_for { self.new.edit.n ≡ self.old.edit.n }
+        ensures found { IfOk result (λ found. MatchOption found
+            (AllWithin (λ step. IsLowering tally.old.table.n self.old.board.phased
+            (score_on R.Entries tally.old.weights) (table_counts tally.old.table) step → ⊥)
+            self.old.moves.items start end)
+            (IsFoundAt tally.old.table.n self.old.board.phased (score_on R.Entries tally.old.weights)
+            (table_counts tally.old.table) self.old.moves.items self.new.edit)) }
+        ensures ended { OnErr result (W.may_stop watch.now) }
+    {
+        for place in start..end {
+            if is_asked_at(place) && watch.is_over_now(self.trail.len() as u64) {
+                return Err(Ended);
+            }
+            if is_lowering(
+                self.moves[place],
+                &self.board,
+                &mut self.edit,
+                tally,
+                steps,
+            ) {
+                return Ok(Some(place));
             }
         }
+        Ok(None)
     }
 
     /// Makes a legal move whose edit is at hand.
