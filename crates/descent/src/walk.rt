@@ -182,13 +182,7 @@ impl Walk {
             if is_asked_at(place) && watch.is_over_now(self.trail.len() as u64) {
                 return Err(Ended);
             }
-            if is_lowering(
-                self.moves[place],
-                &self.board,
-                &mut self.edit,
-                tally,
-                steps,
-            ) {
+            if is_lowering(self.moves[place], &self.board, &mut self.edit, tally, steps) {
                 return Ok(Some(place));
             }
         }
