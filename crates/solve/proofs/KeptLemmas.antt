@@ -11,7 +11,7 @@ use Rattle.descent.specs.Descended.{Descended}
 use Rattle.pattern_search.specs.declared.found.PatternFound.{PatternFound}
 use Rattle.solve.specs.Chosen as chosen
 use Rattle.solve.specs.Kept.{AreKeptTo}
-use Rattle.solve.specs.Solutions.{IsDescent, IsSchedule, IsSolution, IsSolutionBy, LeavesOpen}
+use Rattle.solve.specs.Solutions.{IsDescent, IsSchedule, IsSolution, IsSolutionBy, IsSomeSolution, LeavesOpen}
 use Rattle.solve.specs.Tried.{IsSeason, IsSeasonBy, IsTried, IsTriedBy}
 use Rattle.solve.specs.declared.lower.Season.{Season}
 use Rattle.solve.specs.declared.solved.Solved.{Solved}
@@ -118,14 +118,14 @@ budgets-unstopped budgets may_stop kept never are =
     (kept-unstopped (Some budgets.patterns) may_stop (Some kept.patterns) never are.patterns))
     are.seed
 
-lowers-unstopped : {P : Type 0} (may_stop : Type 0) → (may_stop → ⊥) → may_stop ⊎ P → ⊥ ⊎ P
-lowers-unstopped {P} may_stop never (inl may) = inl (never may)
-lowers-unstopped {P} may_stop never (inr lowers) = inr lowers
+lowers-wider : {P : Type 0} (may_stop other : Type 0) → (may_stop → other) → may_stop ⊎ P → other ⊎ P
+lowers-wider {P} may_stop other wider (inl may) = inl (wider may)
+lowers-wider {P} may_stop other wider (inr lowers) = inr lowers
 
--- a descent that nothing may stop
-pub descent-unstopped : (league : Instance) (moves : ℕ) (may_stop : Type 0) (games : List Game) (descent : Descended)
-    → (may_stop → ⊥) → IsDescent league moves may_stop games descent → IsDescent league moves ⊥ games descent
-descent-unstopped league moves may_stop games descent never is = record {
+-- what a descent says, where it may be stopped in more cases
+descent-wider : (league : Instance) (moves : ℕ) (may_stop other : Type 0) (games : List Game) (descent : Descended)
+    → (may_stop → other) → IsDescent league moves may_stop games descent → IsDescent league moves other games descent
+descent-wider league moves may_stop other games descent wider is = record {
   first = is.first;
   fit = is.fit;
   in_order = is.in_order;
@@ -134,26 +134,32 @@ descent-unstopped league moves may_stop games descent never is = record {
   settled = is.settled;
   spent = is.spent;
   costly = is.costly;
-  lowers = λ open_yet. lowers-unstopped may_stop never (is.lowers open_yet);
+  lowers = λ open_yet. lowers-wider may_stop other wider (is.lowers open_yet);
 }
 
-schedule-unstopped : (league : Instance) (moves : ℕ) (may_stop : Type 0) (games : List Game) (cost : ℕ)
-    (descent : Descended) → (may_stop → ⊥) → IsSchedule league moves may_stop games cost descent
-    → IsSchedule league moves ⊥ games cost descent
-schedule-unstopped league moves may_stop games cost descent never is = record {
+schedule-wider : (league : Instance) (moves : ℕ) (may_stop other : Type 0) (games : List Game) (cost : ℕ)
+    (descent : Descended) → (may_stop → other) → IsSchedule league moves may_stop games cost descent
+    → IsSchedule league moves other games cost descent
+schedule-wider league moves may_stop other games cost descent wider is = record {
   accepted = is.accepted;
   fit = is.fit;
   in_order = is.in_order;
   cost = is.cost;
-  descends = descent-unstopped league moves may_stop games descent never is.descends;
+  descends = descent-wider league moves may_stop other games descent wider is.descends;
 }
 
-answer-unstopped : (league : Instance) (budgets : Budgets) (may_stop : Type 0) (answer : Solved) → (may_stop → ⊥)
-    → IsSolution league budgets may_stop answer → IsSolution league budgets ⊥ answer
-answer-unstopped league budgets may_stop (answers.Schedule games objective descent) never is =
-    schedule-unstopped league budgets.moves may_stop games objective descent never is
-answer-unstopped league budgets may_stop (answers.Refuted log) never is = is
-answer-unstopped league budgets may_stop (answers.Spent log patterns) never is = is
+solution-wider : (league : Instance) (budgets : Budgets) (may_stop other : Type 0) (answer : Solved)
+    → (may_stop → other) → IsSolution league budgets may_stop answer → IsSolution league budgets other answer
+solution-wider league budgets may_stop other (answers.Schedule games objective descent) wider is =
+    schedule-wider league budgets.moves may_stop other games objective descent wider is
+solution-wider league budgets may_stop other (answers.Refuted log) wider is = is
+solution-wider league budgets may_stop other (answers.Spent log patterns) wider is = is
+
+-- what an answer says, whatever the budgets
+pub some-solution : (league : Instance) (budgets : Budgets) (may_stop : Type 0) (answer : Solved)
+    → IsSolutionBy league budgets may_stop answer → IsSomeSolution league answer
+some-solution league budgets may_stop answer is =
+    (is.kept, solution-wider league is.kept may_stop (Unit {0}) answer (λ may. tt) is.solution)
 
 pub solution-unstopped : {E : Type 0} (league : Instance) (budgets : Budgets) (may_stop : Type 0)
     (result : Result Solved E) → (may_stop → ⊥) → IfOk result (IsSolutionBy league budgets may_stop)
@@ -161,7 +167,7 @@ pub solution-unstopped : {E : Type 0} (league : Instance) (budgets : Budgets) (m
 solution-unstopped {E} league budgets may_stop (Ok answer) never is =
     subst (λ (b : Budgets). IsSolution league b ⊥ answer)
     (budgets-unstopped budgets may_stop is.kept never is.are_kept)
-    (answer-unstopped league is.kept may_stop answer never is.solution)
+    (solution-wider league is.kept may_stop ⊥ answer never is.solution)
 solution-unstopped {E} league budgets may_stop (Err error) never is = tt
 
 pub season-unstopped : {E : Type 0} (league : Instance) (moves : ℕ) (may_stop : Type 0) (result : Result Season E)
@@ -170,7 +176,7 @@ pub season-unstopped : {E : Type 0} (league : Instance) (moves : ℕ) (may_stop 
 season-unstopped {E} league moves may_stop (Ok season) never is =
     subst (λ (m : ℕ). IsSeason league m ⊥ season)
     (some-same is.kept moves (kept-unstopped (Some moves) may_stop (Some is.kept) never is.is_kept))
-    (schedule-unstopped league is.kept may_stop season.schedule season.objective season.descent never is.is_season)
+    (schedule-wider league is.kept may_stop ⊥ season.schedule season.objective season.descent never is.is_season)
 season-unstopped {E} league moves may_stop (Err error) never is = tt
 
 -- ---- tries

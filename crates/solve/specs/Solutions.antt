@@ -103,6 +103,10 @@ pub record IsSolutionBy (league : Instance) (budgets : Budgets) (may_stop : Type
   pub are_kept : AreKeptTo budgets may_stop kept
   pub solution : IsSolution league kept may_stop answer
 
+-- what an answer says of the league within some budgets, by a run that may have been stopped
+abbrev pub IsSomeSolution : Instance → Solved → Type 0
+IsSomeSolution league answer = (budgets : Budgets) × IsSolution league budgets (Unit {0}) answer
+
 -- the answer is a schedule
 abbrev pub HasSchedule : Solved → Type 0
 HasSchedule (Schedule games objective descent) = Unit {0}
