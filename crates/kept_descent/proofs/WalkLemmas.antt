@@ -197,7 +197,12 @@ nearest-at plan other m l same counts nearest =
     subst (λ (c : Counts). IsNearest plan.league.now plan.k plan.games.now c) counts
     (subst (λ (p : OldPlan). IsNearest p.league.now p.k p.games.now l) same nearest)
 
--- the same the other way: a move betters the season, or a run may be stopped
+-- where a move betters a season, it isn't the nearest one, by an equal plan and equal counts
+pub open-better : (plan other : OldPlan) (m l : Counts) (step : Swap) → other ≡ plan → l ≡ m → IsBetter other l step
+    → IsNearest plan.league.now plan.k plan.games.now m → ⊥
+open-better plan other m l step same counts better nearest =
+    nearest step (better-at plan other m l step same counts better)
+
 pub open-at : (plan other : OldPlan) (may_stop : Type 0) (m l : Counts) → other ≡ plan → l ≡ m
     → may_stop ⊎ (IsNearest other.league.now other.k other.games.now l → ⊥)
     → may_stop ⊎ (IsNearest plan.league.now plan.k plan.games.now m → ⊥)

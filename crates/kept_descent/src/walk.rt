@@ -128,13 +128,15 @@ impl<'a> Walk<'a> {
         let next = self.next;
         let end = self.moves.len();
         let behind = self.find_between(next, end, tally, steps, watch)?;
-        if let Some(place) = behind {
-            return Ok(Some(self.take(place)));
-        }
-        let before = self.find_between(0, next, tally, steps, watch)?;
-        match before {
+        match behind {
             Some(place) => Ok(Some(self.take(place))),
-            None => Ok(None),
+            None => {
+                let before = self.find_between(0, next, tally, steps, watch)?;
+                match before {
+                    Some(place) => Ok(Some(self.take(place))),
+                    None => Ok(None),
+                }
+            }
         }
     }
 
