@@ -1,9 +1,7 @@
 -- What a walk knows that leaves the first slots alone, one move further.
-use Rattle.std.proofs.Common.{◌≡◌, ◌↔◌, ℕ, ◌+◌, ◌<◌, ◌≤◌, Bool, true, false, not, Option, Some, None, List, length, get_or}
+use Rattle.std.proofs.Common.{◌≡◌, ℕ, ◌+◌, ◌<◌, ◌≤◌, ◌⊎◌, Bool, true, false, List, length, get_or}
 use Rattle.std.proofs.Common.{ap, inl, inr, refl, subst, sym, ◌∙◌, arith}
-use Rattle.std.specs.Prelude.{IsTrue, MatchOption, is_some}
 use Rattle.std.specs.List.{All, AllWithin}
-use Rattle.std.proofs.lemmas.Bool.{cases_lt}
 use Rattle.std.proofs.lemmas.List.{get_or_default}
 use Rattle.std.proofs.lemmas.List.Elements.{All-contains, All-get_or}
 use Rattle.rule_core.specs.Table.{table_counts}
@@ -15,6 +13,7 @@ use Rattle.league.specs.Structure.{IsRoundRobin}
 use Rattle.league.specs.declared.game.Game.{Game}
 use Rattle.descent.specs.Walks.{IsFullEdit, KeepsGames}
 use Rattle.descent.proofs.MoveLemmas.{all_moves-lists, all_moves-of_league}
+use Rattle.descent.proofs.WalkLemmas.{round-none}
 use Rattle.moves.specs.Moves.{IsOfLeague, moved}
 use Rattle.moves.specs.Neighbours.{all_moves}
 use Rattle.moves.specs.Round.{Edits, round_counts}
@@ -25,7 +24,7 @@ use Rattle.tally.specs.Tallies.{Tallied, objective_on}
 use Rattle.tally.specs.declared.weighted.Weighted.{Weighted}
 use Rattle.tally.proofs.LeagueLemmas.{objective-league}
 use Rattle.resume_rows.specs.Kept.{Keeps}
-use Rattle.kept_descent.specs.Changed.{IsAtMost, changed_on}
+use Rattle.kept_descent.specs.Changed.{IsAtMost, IsNearer, changed_on}
 use Rattle.kept_descent.specs.Nearing.{IsEnd, IsNearest}
 use Rattle.kept_descent.specs.Walks.{IsBetter, IsDown, IsFoundAt, IsGround, IsWalkFrom, IsWalkOn}
 use Rattle.kept_descent.specs.declared.ground.Ground.{Ground}
@@ -34,15 +33,6 @@ use Rattle.kept_descent.specs.declared.walk.Walk.{Walk}
 use Rattle.kept_descent.proofs.ChangedLemmas.{at_most-itself, at_most-nearer}
 
 -- ---- a ground
-
--- the games stay twice
-pub keeps-both : {R : Type 0} (first mid last : Tallied R) → KeepsGames first mid → KeepsGames mid last
-    → KeepsGames first last
-keeps-both {R} first mid last before after = record {
-  weights = after.weights ∙ before.weights;
-  teams = after.teams ∙ before.teams;
-  counts = after.counts ∙ before.counts;
-}
 
 pub IsGround-kept : {R : Type 0} (E : Ghosts R) (ground : Ground) (tally kept : Tallied R) → IsGround E ground tally
     → KeepsGames tally kept → IsGround E ground kept
@@ -99,17 +89,6 @@ move-of_league {R} E walk tally place d is within =
     All-get_or (IsOfLeague n) walk.moves.items place d within
     (subst (λ (moves : List Swap). All (IsOfLeague n) moves) (sym is.listed) (all_moves-of_league n))
 
--- one more of the moves doesn't better the season
-pub none-more : (P : Swap → Type 0) (moves : List Swap) (start place : ℕ) (e : Swap) → place < length moves
-    → AllWithin P moves start place → P (get_or moves place e) → AllWithin P moves start (place + 1)
-none-more P moves start place e within before here k d from below =
-    elim (cases_lt k place) as (λ _. P (get_or moves k d)) [
-      | inl earlier ↦ before k d from earlier
-      | inr later ↦
-          let at : k ≡ place = omega (arith, later, below) in
-          subst P (sym (ap (λ (j : ℕ). get_or moves j d) at ∙ get_or_default moves place d e within)) here
-    ]
-
 -- the move at a place
 pub found-at : (plan : OldPlan) (m : Counts) (moves : List Swap) (edit : Edits) (place : ℕ) (e : Swap)
     → place < length moves → IsBetter plan m (get_or moves place e)
@@ -120,15 +99,6 @@ found-at plan m moves edit place e within better full = record {
   full = λ d. subst (λ (step : Swap). IsFullEdit plan.league.now.n m step edit) (get_or_default moves place e d within)
       full;
 }
-
--- two parts of a round that meet
-pub round-none : (P : Swap → Type 0) (moves : List Swap) (next : ℕ) → AllWithin P moves 0 next
-    → AllWithin P moves next (length moves) → All P moves
-round-none P moves next first second k d below =
-    elim (cases_lt k next) as (λ _. P (get_or moves k d)) [
-      | inl earlier ↦ first k d (omega arith) earlier
-      | inr later ↦ second k d later below
-    ]
 
 -- where no listed move betters the season, none at all does
 pub IsNearest-of_all : {R : Type 0} (E : Ghosts R) (walk : Walk) (tally : Tallied R) (m : Counts)
@@ -149,6 +119,16 @@ IsWalkOn-tried {R} E walk tally kept edit next is keeps same within = record {
   listed = is.listed;
   edit_for = same ∙ is.edit_for;
   next_within = within;
+}
+
+-- the walk with another number of moves made
+pub IsWalkOn-made : {R : Type 0} (E : Ghosts R) (walk : Walk) (tally : Tallied R) (made : ℕ) → IsWalkOn E walk tally
+    → IsWalkOn E (record walk { made = made }) tally
+IsWalkOn-made {R} E walk tally made is = record {
+  ground = is.ground;
+  listed = is.listed;
+  edit_for = is.edit_for;
+  next_within = is.next_within;
 }
 
 -- the move that a round found
@@ -198,17 +178,17 @@ none-nearest {R} E walk tried tally kept end is keeps same is_end first second =
     (subst (λ (last : ℕ). AllWithin (λ step. IsBetter walk.ground.plan m step → ⊥) walk.moves.items walk.next last)
     is_end first))
 
--- whether a round found none
-pub nearest-read : (found : Option Swap) (says : Bool) (Nearest : Type 0) (Better : Swap → Type 0)
-    → is_some found ≡ not says → MatchOption found Nearest Better → ((step : Swap) → Better step → Nearest → ⊥)
-    → IsTrue says ↔ Nearest
-nearest-read None true Nearest Better is nearest apart = (λ said. nearest, λ settled. refl)
-nearest-read None false Nearest Better is nearest apart = absurd (let no : false ≡ true = is in cc)
-nearest-read (Some step) true Nearest Better is better apart = absurd (let no : true ≡ false = is in cc)
-nearest-read (Some step) false Nearest Better is better apart = (
-  λ said. absurd (let no : false ≡ true = said in cc),
-  λ settled. absurd (apart step better settled),
-)
+-- nothing is nearer than a season that changes no game and costs nothing
+none-below : (changes cost before first : ℕ) → before ≡ 0 → first ≡ 0 → IsNearer changes cost before first → ⊥
+none-below changes cost before first none free (inl fewer) = absurd (omega (arith, none, fewer))
+none-below changes cost before first none free (inr same) = absurd (omega (arith, free, same.1))
+
+pub least-nearest : (plan : OldPlan) (m : Counts) → changed_on plan.k plan.games.now m ≡ 0
+    → objective plan.league.now m ≡ 0 → IsNearest plan.league.now plan.k plan.games.now m
+least-nearest plan m none free step better =
+    let after : Counts = moved plan.league.now.n m step in
+    none-below (changed_on plan.k plan.games.now after) (objective plan.league.now after)
+    (changed_on plan.k plan.games.now m) (objective plan.league.now m) none free better.nearer
 
 -- no nearer season by an equal plan and equal counts
 pub nearest-at : (plan other : OldPlan) (m l : Counts) → other ≡ plan → l ≡ m
@@ -216,6 +196,19 @@ pub nearest-at : (plan other : OldPlan) (m l : Counts) → other ≡ plan → l 
 nearest-at plan other m l same counts nearest =
     subst (λ (c : Counts). IsNearest plan.league.now plan.k plan.games.now c) counts
     (subst (λ (p : OldPlan). IsNearest p.league.now p.k p.games.now l) same nearest)
+
+-- where a move betters a season, it isn't the nearest one, by an equal plan and equal counts
+pub open-better : (plan other : OldPlan) (m l : Counts) (step : Swap) → other ≡ plan → l ≡ m → IsBetter other l step
+    → IsNearest plan.league.now plan.k plan.games.now m → ⊥
+open-better plan other m l step same counts better nearest =
+    nearest step (better-at plan other m l step same counts better)
+
+pub open-at : (plan other : OldPlan) (may_stop : Type 0) (m l : Counts) → other ≡ plan → l ≡ m
+    → may_stop ⊎ (IsNearest other.league.now other.k other.games.now l → ⊥)
+    → may_stop ⊎ (IsNearest plan.league.now plan.k plan.games.now m → ⊥)
+open-at plan other may_stop m l same counts (inl stops) = inl stops
+open-at plan other may_stop m l same counts (inr lower) =
+    inr (λ nearest. lower (nearest-at other plan l m (sym same) (sym counts) nearest))
 
 -- ---- all moves made so far
 
@@ -295,14 +288,16 @@ IsDown-at {R} E plan other first start walk tally same counts is =
     subst (λ (m : Counts). IsDown E plan m walk tally) counts
     (subst (λ (p : OldPlan). IsDown E p first walk tally) same is)
 
-pub IsEnd-of : {R : Type 0} (E : Ghosts R) (plan : OldPlan) (start : Counts) (walk : Walk) (tally : Tallied R)
-    (schedule : List Game) (cost : ℕ) (settled : Bool) → IsDown E plan start walk tally
+pub IsEnd-of : {R : Type 0} (E : Ghosts R) (plan : OldPlan) (may_stop : Type 0) (start : Counts) (walk : Walk)
+    (tally : Tallied R) (schedule : List Game) (cost : ℕ) (settled : Bool) → IsDown E plan start walk tally
     → counts_of schedule ≡ table_counts tally.table → All (IsGame plan.league.now.n) schedule → IsInOrder schedule
     → cost ≡ objective plan.league.now (table_counts tally.table)
-    → IsTrue settled ↔ IsNearest plan.league.now plan.k plan.games.now (table_counts tally.table)
-    → IsEnd plan.league.now plan.k plan.games.now start
+    → (settled ≡ true → IsNearest plan.league.now plan.k plan.games.now (table_counts tally.table))
+    → (settled ≡ false
+    → may_stop ⊎ (IsNearest plan.league.now plan.k plan.games.now (table_counts tally.table) → ⊥))
+    → IsEnd plan.league.now plan.k plan.games.now may_stop start
     (record { schedule = schedule; objective = cost; settled = settled })
-IsEnd-of {R} E plan start walk tally schedule cost settled is counts fit order costs says =
+IsEnd-of {R} E plan may_stop start walk tally schedule cost settled is counts fit order costs none some =
     let back : table_counts tally.table ≡ counts_of schedule = sym counts in
     record {
       accepted = subst (λ (m : Counts). IsAccepted plan.league.now m) back is.accepted;
@@ -319,5 +314,8 @@ IsEnd-of {R} E plan start walk tally schedule cost settled is counts fit order c
           (changed_on plan.k plan.games.now start) (objective plan.league.now start))
           (sym costs) is.no_farther);
       settled = subst
-          (λ (m : Counts). IsTrue settled ↔ IsNearest plan.league.now plan.k plan.games.now m) back says;
+          (λ (m : Counts). settled ≡ true → IsNearest plan.league.now plan.k plan.games.now m) back none;
+      open_yet = subst
+          (λ (m : Counts). settled ≡ false → may_stop ⊎ (IsNearest plan.league.now plan.k plan.games.now m → ⊥))
+          back some;
     }

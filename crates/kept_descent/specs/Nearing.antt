@@ -1,5 +1,5 @@
 -- Moves that leave the first slots of a season alone and lead to one nearer an old plan, and seasons that none betters.
-use Rattle.std.specs.Prelude.{◌≡◌, ◌↔◌, ℕ, List, IsTrue}
+use Rattle.std.specs.Prelude.{◌≡◌, ◌⊎◌, ℕ, true, false, List}
 use Rattle.std.specs.List.{All}
 use Rattle.league.specs.Accepted.{IsAccepted, objective}
 use Rattle.league.specs.Counts.{Counts, counts_of}
@@ -26,14 +26,17 @@ pub record IsNearing (league : Instance) (k : ℕ) (old : List Game) (m : Counts
 abbrev pub IsNearest : Instance → ℕ → List Game → Counts → Type 0
 IsNearest league k old m = (step : Swap) → IsNearing league k old m step → ⊥
 
--- where a descent leads from some counts: to a season that is accepted, keeps the games below slot k and is no farther
--- from the old plan, and that is settled exactly where no single move betters it
-pub record IsEnd (league : Instance) (k : ℕ) (old : List Game) (m : Counts) (end : Nearest) : Type 0 where
-  pub accepted : IsAccepted league (counts_of end.schedule)
-  pub keeps : Keeps m k (counts_of end.schedule)
-  pub fit : All (IsGame league.n) end.schedule
-  pub in_order : IsInOrder end.schedule
-  pub cost : end.objective ≡ objective league (counts_of end.schedule)
-  pub no_farther : IsAtMost (changed_on k old (counts_of end.schedule)) end.objective (changed_on k old m)
-      (objective league m)
-  pub settled : IsTrue end.settled ↔ IsNearest league k old (counts_of end.schedule)
+-- Where a descent leads from some counts: to a season that is accepted, keeps the games below slot k and is no farther
+-- from the old plan. Where it is said to be settled, no single move betters it; else one does, unless the run may be
+-- stopped.
+pub record IsEnd (league : Instance) (k : ℕ) (old : List Game) (may_stop : Type 0) (m : Counts) (end : Nearest) : Type 0
+  where
+    pub accepted : IsAccepted league (counts_of end.schedule)
+    pub keeps : Keeps m k (counts_of end.schedule)
+    pub fit : All (IsGame league.n) end.schedule
+    pub in_order : IsInOrder end.schedule
+    pub cost : end.objective ≡ objective league (counts_of end.schedule)
+    pub no_farther : IsAtMost (changed_on k old (counts_of end.schedule)) end.objective (changed_on k old m)
+        (objective league m)
+    pub settled : end.settled ≡ true → IsNearest league k old (counts_of end.schedule)
+    pub open_yet : end.settled ≡ false → may_stop ⊎ (IsNearest league k old (counts_of end.schedule) → ⊥)

@@ -2,6 +2,7 @@
 ghost use Rattle.std.specs.Prelude.{◌≡◌, ◌↔◌, ℕ, ◌+◌, ◌<◌, ◌≤◌, true, IsTrue, MatchOption};
 ghost use Rattle.std.specs.List.{All, list_all};
 ghost use Rattle.rule_core.specs.Table.{table_counts};
+ghost use Rattle.league.specs.Accepted.{objective};
 ghost use Rattle.league.specs.Counts.{counts_of};
 ghost use Rattle.league.specs.Instance.{IsGame};
 ghost use Rattle.descent.specs.Walks.{IsFullEdit, KeepsGames};
@@ -16,7 +17,7 @@ ghost use Rattle.kept_descent.specs.Walks.{IsBetter, IsGround};
 use crate::ground::Ground;
 use league::Game;
 use moves::{Edit, Swap, edit_of};
-use rule_core::{Cells, Rule, Steps};
+use rule_core::{Cells, Entries, Rule, Steps};
 use tally::{Sums, Tally};
 
 /// Whether each of some games takes place from slot k on.
@@ -43,6 +44,29 @@ fn times_in(cells: &Cells, games: &[Game]) -> u128
         sum += u128::from(cells.at(game.home, game.away, game.slot));
     }
     sum
+}
+
+/// Whether no game of an old plan that is still to come is missing among those that are counted.
+fn none_changed(cells: &Cells, games: &[Game], k: u16) -> bool
+    requires fit { All (IsGame cells.now.n) games.now }
+    ensures { IsTrue result ↔ (changed.changed_on k games.now (table_counts cells.now) ≡ 0) }
+{
+    for game in games {
+        if game.slot.0 >= k && cells.at(game.home, game.away, game.slot) == 0 {
+            return false;
+        }
+    }
+    true
+}
+
+/// Whether a season changes no game of the old plan and costs nothing. None is nearer.
+pub(crate) fn is_least<R: Entries>(ground: &Ground<'_>, tally: &Tally<R>) -> bool
+    requires ground { IsGround R.Entries ground.now tally.now }
+    ensures { IsTrue result ↔ ((changed.changed_on ground.now.plan.k ground.now.plan.games.now
+        (table_counts tally.now.table) ≡ 0)
+        × (objective ground.now.plan.league.now (table_counts tally.now.table) ≡ 0)) }
+{
+    tally.objective() == 0 && none_changed(tally.cells(), ground.plan.games, ground.plan.k)
 }
 
 /// What a nearer season costs at most, where so many games of the old plan are taken out and put in; none where none is

@@ -1,5 +1,5 @@
 //! A descent from a season that is accepted.
-ghost use Rattle.std.specs.Prelude.{◌≡◌, ◌↔◌, ◌≤◌, length, IfOk, IsTrue};
+ghost use Rattle.std.specs.Prelude.{◌≡◌, ◌≤◌, ◌⊎◌, true, false, length, IfOk};
 ghost use Rattle.std.specs.List.{All};
 ghost use Rattle.league.specs.Accepted.{IsAccepted};
 ghost use Rattle.league.specs.Counts.{counts_of};
@@ -8,14 +8,14 @@ ghost use Rattle.kept_descent.specs.Nearing.{IsEnd, IsNearest};
 
 use crate::plan::OldPlan;
 use crate::walk::Walk;
-use descent::season_of;
+use descent::{Ended, season_of};
 use league::Schedule;
 use robin_watch::Watch;
 use rule_core::{Plain, Steps};
 use std::alloc::{AllocError, Global};
 use tally::league_tally;
 
-/// The season at the end of a descent, in order, with its objective, and whether it is settled.
+/// The season at the end of a descent, in order, with its objective, and whether it is known to be settled.
 #[derive(Drop)]
 pub struct Nearest {
     pub schedule: Schedule,
@@ -26,7 +26,7 @@ pub struct Nearest {
 /// The season to which a descent of at most 10,000 moves leads from an accepted one: each move leaves the slots below k
 /// alone and leads to an accepted season that changes fewer games of the old plan, or as many at a lower cost. After a
 /// move it goes on with the move behind it, and it ends after one whole round of all moves of which none does so. The
-/// watch may end it; it is asked behind each move.
+/// watch may end it: it is asked before every 256th of all moves is tried.
 ///
 /// # Errors
 /// Only where memory runs out.
@@ -41,7 +41,8 @@ pub fn descend_near<W: Watch>(
     requires few { length start.now ≤ 10000 }
     requires fit { All (IsGame plan.league.now.n) start.now }
     requires accepted { IsAccepted plan.league.now (counts_of start.now) }
-    ensures { IfOk result (IsEnd plan.entry.league.now plan.entry.k plan.entry.games.now (counts_of start.now)) }
+    ensures { IfOk result (IsEnd plan.entry.league.now plan.entry.k plan.entry.games.now (W.may_stop watch.now)
+        (counts_of start.now)) }
 {
     let mut steps = Steps::<Plain>::start();
     let mut tally = league_tally(alloc, plan.league, 1, start.games(), &mut steps)?;
@@ -55,22 +56,34 @@ pub fn descend_near<W: Watch>(
     })
 }
 
-/// Whether an accepted season is settled: whether no single move that leaves the slots below k alone leads to an
-/// accepted season that changes fewer games of the old plan, or as many at a lower cost.
+/// Whether an accepted season is known to be settled: whether no single move that leaves the slots below k alone leads
+/// to an accepted season that changes fewer games of the old plan, or as many at a lower cost. The watch may end the
+/// look at all moves, and then this isn't known.
 ///
 /// # Errors
 /// Only where memory runs out.
-pub fn is_settled(alloc: Global, plan: OldPlan<'_>, season: &Schedule) -> Result<bool, AllocError>
+pub fn is_settled<W: Watch>(
+    alloc: Global,
+    plan: OldPlan<'_>,
+    season: &Schedule,
+    watch: &W,
+) -> Result<bool, AllocError>
     requires plan_few { length plan.games.now ≤ 10000 }
     requires plan_fit { All (IsGame plan.league.now.n) plan.games.now }
     requires few { length season.now ≤ 10000 }
     requires fit { All (IsGame plan.league.now.n) season.now }
     requires accepted { IsAccepted plan.league.now (counts_of season.now) }
-    ensures { IfOk result (λ settled. IsTrue settled
-        ↔ IsNearest plan.entry.league.now plan.entry.k plan.entry.games.now (counts_of season.now)) }
+    ensures settled { IfOk result (λ settled. settled ≡ true
+        → IsNearest plan.entry.league.now plan.entry.k plan.entry.games.now (counts_of season.now)) }
+    ensures open_yet { IfOk result (λ settled. settled ≡ false → W.may_stop watch.now
+        ⊎ (IsNearest plan.entry.league.now plan.entry.k plan.entry.games.now (counts_of season.now) → ⊥)) }
 {
     let mut steps = Steps::<Plain>::start();
     let mut tally = league_tally(alloc, plan.league, 1, season.games(), &mut steps)?;
     let mut walk = Walk::new(alloc, plan, season)?;
-    Ok(walk.find(&mut tally, &mut steps).is_none())
+    match walk.find(&mut tally, &mut steps, watch) {
+        Ok(None) => Ok(true),
+        Ok(Some(_step)) => Ok(false),
+        Err(Ended) => Ok(false),
+    }
 }

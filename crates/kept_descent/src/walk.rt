@@ -1,24 +1,24 @@
 //! A walk over all moves that leaves the first slots alone, and goes on from where it stands.
-ghost use Rattle.std.specs.Prelude.{◌≡◌, ◌≢◌, ◌↔◌, ℕ, ◌+◌, ◌<◌, ◌≤◌, [], length, MatchOption, IfOk, IfSome, IsTrue, slice_index_or};
+ghost use Rattle.std.specs.Prelude.{◌≡◌, ◌+◌, ◌<◌, ◌≤◌, ◌⊎◌, true, false, length, MatchOption, IfOk, IfSome, OnErr, slice_index_or};
 ghost use Rattle.std.specs.List.{All, AllWithin};
 ghost use Rattle.rule_core.specs.Table.{table_counts};
 ghost use Rattle.league.specs.Accepted.{IsAccepted};
 ghost use Rattle.league.specs.Counts.{counts_of};
-ghost use Rattle.league.specs.Instance.{IsGame, IsTeamCount};
+ghost use Rattle.league.specs.Instance.{IsGame};
 ghost use Rattle.league.specs.Structure.{IsRoundRobin};
 ghost use Rattle.descent.specs.Walks.{IsFullEdit, KeepsGames};
-ghost use Rattle.moves.specs.Moves.{IsLegal, moved};
-ghost use Rattle.moves.specs.Neighbours as listed;
+ghost use Rattle.moves.specs.Moves.{moved};
 ghost use Rattle.moves.specs.declared.swap.Swap.{Swap};
 ghost use Rattle.kept_descent.specs.Nearing.{IsNearest};
 ghost use Rattle.kept_descent.specs.Walks.{IsBetter, IsDown, IsFoundAt, IsWalkFrom, IsWalkOn};
 
-use crate::better::is_better;
+use crate::better::{is_better, is_least};
 use crate::ground::Ground;
 use crate::plan::OldPlan;
+use descent::{Ended, all_moves, is_asked_at};
 use deviation::counted;
 use league::Schedule;
-use moves::{Board, Edit, Neighbours, Swap};
+use moves::{Board, Edit, Swap};
 use robin_watch::{News, Phase, Watch};
 use rule_core::{Rule, Steps};
 use std::alloc::{AllocError, Global};
@@ -27,29 +27,15 @@ use tally::Tally;
 /// The most moves of a descent (own limit): as many as `solve` makes where nothing is said.
 const MOST_MOVES: u64 = 10_000;
 
-/// A season on its ground, all moves with the place of the next one to try, and the edit of the one that was tried last.
+/// A season on its ground, all moves with the place of the next one to try, the edit of the one that was tried last, and
+/// how many moves are made.
 #[derive(Drop)]
 pub(crate) struct Walk<'a> {
     ground: Ground<'a>,
     moves: Vec<Swap>,
     next: usize,
     edit: Edit,
-}
-
-/// All moves of a league of n teams, in their order.
-///
-/// # Errors
-/// Only where memory runs out.
-fn all_moves(alloc: Global, n: u16) -> Result<Vec<Swap>, AllocError>
-    requires { IsTeamCount n }
-    ensures { IfOk result (λ moves. moves.items ≡ listed.all_moves n) }
-{
-    let mut moves = Vec::new(alloc);
-    let mut rest = Neighbours::new(n);
-    'rest: while let Some(step) = rest.next() {
-        moves.push(step)?;
-    }
-    Ok(moves)
+    made: u64,
 }
 
 impl<'a> Walk<'a> {
@@ -78,11 +64,12 @@ impl<'a> Walk<'a> {
             moves: all_moves(alloc, n)?,
             next: 0,
             edit: Edit::new(alloc, n)?,
+            made: 0,
         })
     }
 
     /// Makes moves that better the season of a tally's games, at most 10,000, until the watch ends it, and says whether
-    /// no further one does. The watch hears of each.
+    /// it is known that no further one does. The watch hears of each.
     pub(crate) fn go_down<R: Rule<L>, L, W: Watch>(
         &mut self,
         tally: &mut Tally<R>,
@@ -92,49 +79,64 @@ impl<'a> Walk<'a> {
         requires walk { IsWalkOn R.Entries self.old tally.old }
         requires accepted { IsAccepted self.old.ground.plan.league.now (table_counts tally.old.table) }
         ensures down { IsDown R.Entries self.old.ground.plan (table_counts tally.old.table) self.new tally.new }
-        ensures settled { IsTrue result ↔ IsNearest self.old.ground.plan.league.now self.old.ground.plan.k
+        ensures settled { result ≡ true → IsNearest self.old.ground.plan.league.now self.old.ground.plan.k
             self.old.ground.plan.games.now (table_counts tally.new.table) }
+        ensures open_yet { result ≡ false → W.may_stop watch.now ⊎ (IsNearest self.old.ground.plan.league.now
+            self.old.ground.plan.k self.old.ground.plan.games.now (table_counts tally.new.table) → ⊥) }
     {
         watch.tell(News::Phase(Phase::Descent { moves: MOST_MOVES }));
         'down: for made in 0..MOST_MOVES {
             watch.tell(News::Down { made });
-            if made > 0 && watch.is_over_now(made) {
-                return self.find(tally, steps).is_none();
-            }
-            match self.find(tally, steps) {
-                None => return true,
-                Some(step) => self.make(step, tally, steps),
+            self.made = made;
+            match self.find(tally, steps, watch) {
+                Err(Ended) => return false,
+                Ok(None) => return true,
+                Ok(Some(step)) => self.make(step, tally, steps),
             }
         }
-        self.find(tally, steps).is_none()
+        self.made = MOST_MOVES;
+        match self.find(tally, steps, watch) {
+            Ok(None) => true,
+            Ok(Some(_step)) => false,
+            Err(Ended) => false,
+        }
     }
 
     /// The next move of one round of all moves, from where the walk stands, that betters the season. Then the edit is
-    /// that of the move. The tally has the same games as before.
-    pub(crate) fn find<R: Rule<L>, L>(
+    /// that of the move. Where no game is changed at no cost, no move is tried. The tally has the same games as before.
+    pub(crate) fn find<R: Rule<L>, L, W: Watch>(
         &mut self,
         tally: &mut Tally<R>,
         steps: &mut Steps<L>,
-    ) -> Option<Swap>
+        watch: &W,
+    ) -> Result<Option<Swap>, Ended>
         requires walk { IsWalkOn R.Entries self.old tally.old }
         ensures keeps { KeepsGames tally.old tally.new }
         ensures walk { IsWalkOn R.Entries self.new tally.new }
         ensures ground { self.new.ground ≡ self.old.ground }
-        ensures found { MatchOption result
+        ensures found { IfOk result (λ found. MatchOption found
             (IsNearest self.old.ground.plan.league.now self.old.ground.plan.k self.old.ground.plan.games.now
             (table_counts tally.old.table))
-            (IsBetter self.old.ground.plan (table_counts tally.old.table)) }
-        ensures edit { IfSome result (λ step. IsFullEdit self.old.ground.plan.league.now.n
-            (table_counts tally.old.table) step self.new.edit) }
+            (IsBetter self.old.ground.plan (table_counts tally.old.table))) }
+        ensures edit { IfOk result (λ found. IfSome found (λ step.
+            IsFullEdit self.old.ground.plan.league.now.n (table_counts tally.old.table) step self.new.edit)) }
+        ensures ended { OnErr result (W.may_stop watch.now) }
     {
+        if is_least(&self.ground, tally) {
+            return Ok(None);
+        }
         let next = self.next;
         let end = self.moves.len();
-        match self.find_between(next, end, tally, steps) {
-            Some(place) => Some(self.take(place)),
-            None => match self.find_between(0, next, tally, steps) {
-                Some(place) => Some(self.take(place)),
-                None => None,
-            },
+        let behind = self.find_between(next, end, tally, steps, watch)?;
+        match behind {
+            Some(place) => Ok(Some(self.take(place))),
+            None => {
+                let before = self.find_between(0, next, tally, steps, watch)?;
+                match before {
+                    Some(place) => Ok(Some(self.take(place))),
+                    None => Ok(None),
+                }
+            }
         }
     }
 
@@ -150,24 +152,29 @@ impl<'a> Walk<'a> {
 
     /// The place of the first of the moves from one place up to another that betters the season. Then the edit is that
     /// of the move. The tally has the same games as before.
-    fn find_between<R: Rule<L>, L>(
+    fn find_between<R: Rule<L>, L, W: Watch>(
         &mut self,
         start: usize,
         end: usize,
         tally: &mut Tally<R>,
         steps: &mut Steps<L>,
-    ) -> Option<usize>
+        watch: &W,
+    ) -> Result<Option<usize>, Ended>
         requires walk { IsWalkOn R.Entries self.old tally.old }
         requires end { end ≤ length self.old.moves.items }
         ensures keeps { KeepsGames tally.old tally.new }
         ensures same { self.new ≡ record self.old { edit = self.new.edit } }
         ensures edit_for { self.new.edit.n ≡ self.old.edit.n }
-        ensures found { MatchOption result
+        ensures found { IfOk result (λ found. MatchOption found
             (AllWithin (λ step. IsBetter self.old.ground.plan (table_counts tally.old.table) step → ⊥)
             self.old.moves.items start end)
-            (IsFoundAt self.old.ground.plan (table_counts tally.old.table) self.old.moves.items self.new.edit) }
+            (IsFoundAt self.old.ground.plan (table_counts tally.old.table) self.old.moves.items self.new.edit)) }
+        ensures ended { OnErr result (W.may_stop watch.now) }
     {
         for place in start..end {
+            if is_asked_at(place) && watch.is_over_now(self.made) {
+                return Err(Ended);
+            }
             if is_better(
                 self.moves[place],
                 &self.ground,
@@ -175,10 +182,10 @@ impl<'a> Walk<'a> {
                 tally,
                 steps,
             ) {
-                return Some(place);
+                return Ok(Some(place));
             }
         }
-        None
+        Ok(None)
     }
 
     /// Makes a move that betters the season, whose edit is at hand.

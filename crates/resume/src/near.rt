@@ -51,7 +51,7 @@ impl<'a> PartSeason<'a> {
     }
 }
 
-/// An answer, and whether it is a season that no single move betters.
+/// An answer, and whether it is known to be a season that no single move betters.
 #[derive(Drop)]
 pub struct Neared {
     pub answer: Resumed,
@@ -96,7 +96,7 @@ pub fn resume_near<W: Watch>(
 /// refutes, `solve_from` goes from the old plan, where that is a double round robin, over a league that asks for the
 /// played games and, at a penalty, for those of the old plan. Of both seasons the one that changes fewer games, and of
 /// equal ones the one that costs less, is where a descent begins that leaves the played slots alone. The watch may end
-/// it.
+/// all of it, and the look that says whether an answer that stays is settled.
 ///
 /// # Errors
 /// Only where memory runs out.
@@ -125,7 +125,7 @@ pub fn nearer_answer<W: Watch>(
 {
     let (league, played) = (season.league, season.played);
     if is_accepted(alloc, league, played)? {
-        return asked(alloc, season, first);
+        return asked(alloc, season, first, watch);
     }
     if matches!(first, Resumed::Refuted { .. }) {
         return Ok(unsettled(first));
@@ -145,11 +145,17 @@ fn unsettled(answer: Resumed) -> Neared
     }
 }
 
-/// An answer as it is, and whether it is a season that no single move betters.
+/// An answer as it is, and whether it is known to be a season that no single move betters. The watch may end the look
+/// at all moves.
 ///
 /// # Errors
 /// Only where memory runs out.
-fn asked(alloc: Global, season: PartSeason<'_>, answer: Resumed) -> Result<Neared, AllocError>
+fn asked<W: Watch>(
+    alloc: Global,
+    season: PartSeason<'_>,
+    answer: Resumed,
+    watch: &W,
+) -> Result<Neared, AllocError>
     requires few { length season.played.now ≤ 10000 }
     requires fit { All (IsGame season.league.now.n) season.played.now }
     requires answer { (conflicts : Option ℕ)
@@ -163,11 +169,12 @@ fn asked(alloc: Global, season: PartSeason<'_>, answer: Resumed) -> Result<Neare
     if schedule.len() > MOST_GAMES {
         return Ok(unsettled(answer));
     }
-    let settled = is_settled(alloc, season.plan(), schedule)?;
+    let settled = is_settled(alloc, season.plan(), schedule, watch)?;
     Ok(Neared { answer, settled })
 }
 
-/// An answer, or the season to which a descent leads from it that leaves the played slots alone.
+/// An answer, or the season to which a descent leads from it that leaves the played slots alone. The watch may end the
+/// descent.
 ///
 /// # Errors
 /// Only where memory runs out.

@@ -5,7 +5,7 @@ use Rattle.league.specs.Counts.{Counts, counts_of}
 use Rattle.league.specs.Instance.{IsGame}
 use Rattle.league.specs.Structure.{IsRoundRobin}
 use Rattle.league.specs.declared.game.Game.{Game}
-use Rattle.kept_descent.proofs.WalkLemmas.{IsDown-at, IsEnd-of, down-cost, down-teams, nearest-at}
+use Rattle.kept_descent.proofs.WalkLemmas.{IsDown-at, IsEnd-of, down-cost, down-teams, nearest-at, open-at}
 use Rattle.kept_descent.proofs.nearest.descend_near.Goals as goal
 
 pub season_of-requires : goal.season_of-requires
@@ -37,12 +37,11 @@ returns g c =
     c.go_down-settled.ensures.down in
     let teams : c.cells.result.now.n ≡ plan.league.now.n =
     ap (λ (t : Table). t.n) c.cells.ensures ∙ down-teams _ plan start c.go_down-settled.new.self c.go_down-settled.new.tally down in
-    IsEnd-of _ plan start c.go_down-settled.new.self c.go_down-settled.new.tally c.in_ok-schedule.schedule c.objective.result
+    IsEnd-of _ plan _ start c.go_down-settled.new.self c.go_down-settled.new.tally c.in_ok-schedule.schedule c.objective.result
     c.go_down-settled.result down
     (c.in_ok-schedule.ensures.counts ∙ ap (λ (t : Table). table_counts t) c.cells.ensures)
     (subst (λ (n : ℕ). All (IsGame n) c.in_ok-schedule.schedule) teams c.in_ok-schedule.ensures.fit)
     c.in_ok-schedule.ensures.in_order
-    (down-cost _ plan start c.go_down-settled.new.self c.go_down-settled.new.tally c.objective.result down c.objective.ensures) (
-      λ said. nearest-at plan walked end end c.in_ok-walk.ensures.same refl (c.go_down-settled.ensures.settled.0 said),
-      λ nearest. c.go_down-settled.ensures.settled.1 (nearest-at walked plan end end (sym c.in_ok-walk.ensures.same) refl nearest),
-    )
+    (down-cost _ plan start c.go_down-settled.new.self c.go_down-settled.new.tally c.objective.result down c.objective.ensures)
+    (λ said. nearest-at plan walked end end c.in_ok-walk.ensures.same refl (c.go_down-settled.ensures.settled said))
+    (λ said. open-at plan walked _ end end c.in_ok-walk.ensures.same refl (c.go_down-settled.ensures.open_yet said))

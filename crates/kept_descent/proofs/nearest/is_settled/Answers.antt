@@ -1,23 +1,27 @@
-use Rattle.std.proofs.Common.{◌≡◌, List, ap, sym, ◌∙◌}
+use Rattle.std.proofs.Common.{◌≡◌, List, ap, inl, inr, ◌∙◌}
 use Rattle.rule_core.specs.Table.{table_counts}
 use Rattle.league.specs.Counts.{Counts, counts_of}
 use Rattle.league.specs.declared.game.Game.{Game}
-use Rattle.kept_descent.specs.Nearing.{IsNearest}
-use Rattle.kept_descent.specs.Walks.{IsBetter}
-use Rattle.kept_descent.proofs.WalkLemmas.{nearest-at, nearest-read}
+use Rattle.descent.proofs.WalkLemmas.{found-nothing, found-some}
+use Rattle.kept_descent.proofs.WalkLemmas.{nearest-at, open-better}
 use Rattle.kept_descent.proofs.nearest.is_settled.Goals as goal
 
-pub returns : goal.returns
-returns c =
-    let plan = c.args.plan in
-    let walked = c.in_ok-walk.walk.ground.plan in
-    let m : Counts = table_counts c.in_ok-tally.tally.table in
-    let start : m ≡ counts_of c.args.season.now =
+pub returns-in-Ok-None-clause-settled : goal.returns-in-Ok-None-clause-settled
+returns-in-Ok-None-clause-settled g c said =
+    let start : table_counts c.in_ok-tally.tally.table ≡ counts_of c.args.season.now =
     c.in_ok-tally.ensures.counts ∙ ap (λ (games : List Game). counts_of games) c.games.ensures in
-    let read = nearest-read c.find.result c.is_none.result
-    (IsNearest walked.league.now walked.k walked.games.now m) (IsBetter walked m) c.is_none.ensures
-    c.find.ensures.found (λ step better nearest. nearest step better) in (
-      λ said. nearest-at plan walked (counts_of c.args.season.now) m c.in_ok-walk.ensures.same start (read.0 said),
-      λ nearest. read.1 (nearest-at walked plan m (counts_of c.args.season.now) (sym c.in_ok-walk.ensures.same)
-          (sym start) nearest),
-    )
+    nearest-at c.args.plan c.in_ok-walk.walk.ground.plan (counts_of c.args.season.now)
+    (table_counts c.in_ok-tally.tally.table) c.in_ok-walk.ensures.same start
+    (found-nothing _ _ c.in-Ok-None.field-0 c.in-Ok-None.field-0-is c.in-Ok-None.ensures.found)
+
+pub returns-in-Ok-Some-clause-open_yet : goal.returns-in-Ok-Some-clause-open_yet
+returns-in-Ok-Some-clause-open_yet g c said =
+    let start : table_counts c.in_ok-tally.tally.table ≡ counts_of c.args.season.now =
+    c.in_ok-tally.ensures.counts ∙ ap (λ (games : List Game). counts_of games) c.games.ensures in
+    inr
+    (open-better c.args.plan c.in_ok-walk.walk.ground.plan (counts_of c.args.season.now)
+    (table_counts c.in_ok-tally.tally.table) c.in-Ok-Some._step c.in_ok-walk.ensures.same start
+    (found-some _ _ c.in-Ok-Some.field-0 c.in-Ok-Some._step c.in-Ok-Some.field-0-is c.in-Ok-Some.ensures.found))
+
+pub returns-in-Err-clause-open_yet : goal.returns-in-Err-clause-open_yet
+returns-in-Err-clause-open_yet g c said = inl c.in-Err.ensures.ended

@@ -4,7 +4,7 @@ use Rattle.resume.specs.declared.resumed.Resumed.{Resumed}
 use Rattle.resume.proofs.near.asked.Goals as goal
 
 pub is_settled-requires-clause-accepted : goal.is_settled-requires-clause-accepted
-is_settled-requires-clause-accepted c =
+is_settled-requires-clause-accepted g c =
     let season : IsResumedSeason c.args.season.league.now c.args.season.played.now c.args.season.k c.in-Schedule.schedule
     c.in-Schedule.objective =
     subst

@@ -26,7 +26,7 @@ returns-in_ok-end-in-Schedule-clause-answer g c = λ conflicts first.
     let end = c.in_ok-end-in-Schedule.end in
     let season : IsResumedSeason league played k c.in-Schedule.schedule c.in-Schedule.objective =
     subst (λ (answer : Resumed). IsResumed league played k conflicts answer) c.in-Schedule.is first in
-    let ends : IsEnd league k played (counts_of c.in-Schedule.schedule) end =
+    let ends : IsEnd league k played (g.W.Watch.may_stop c.args.watch.now) (counts_of c.in-Schedule.schedule) end =
     rw c.plan.ensures.league at (rw c.plan.ensures.k at (rw c.plan.ensures.games at c.in_ok-end-in-Schedule.ensures)) in
     let last : IsResumedSeason league played k end.schedule end.objective = record {
       resumes = record {
@@ -48,7 +48,7 @@ returns-in_ok-end-in-Schedule-clause-no_farther g c =
     let season : IsResumedSeason league played k c.in-Schedule.schedule c.in-Schedule.objective =
     subst (λ (answer : Resumed). IsResumed league played k c.requires.answer.0 answer) c.in-Schedule.is
     c.requires.answer.1 in
-    let ends : IsEnd league k played (counts_of c.in-Schedule.schedule) end =
+    let ends : IsEnd league k played (g.W.Watch.may_stop c.args.watch.now) (counts_of c.in-Schedule.schedule) end =
     rw c.plan.ensures.league at (rw c.plan.ensures.k at (rw c.plan.ensures.games at c.in_ok-end-in-Schedule.ensures)) in
     let most : IsAtMost (changed k played end.schedule) end.objective (changed k played c.in-Schedule.schedule)
     c.in-Schedule.objective =

@@ -1,42 +1,94 @@
-use Rattle.std.proofs.Common.{◌≡◌, ap, sym, ◌∙◌}
+use Rattle.std.proofs.Common.{◌≡◌, ap, inl, inr, sym, ◌∙◌}
 use Rattle.rule_core.specs.Table.{table_counts}
 use Rattle.league.specs.Counts.{Counts}
 use Rattle.moves.specs.Moves.{moved}
+use Rattle.descent.proofs.WalkLemmas.{found-nothing, found-some}
 use Rattle.kept_descent.specs.declared.ground.Ground.{Ground}
 use Rattle.kept_descent.specs.declared.plan.OldPlan.{OldPlan}
-use Rattle.kept_descent.proofs.WalkLemmas.{IsDown-kept, IsDown-more, better-at}
+use Rattle.kept_descent.proofs.WalkLemmas.{IsDown-kept, IsDown-more, IsWalkOn-made, better-at, nearest-at, open-better}
 use Rattle.kept_descent.proofs.walk.Walk.go_down.Goals as goal
 
-pub returns-then-is_over_now-clause-down : goal.returns-then-is_over_now-clause-down
-returns-then-is_over_now-clause-down g c =
+pub find-requires : goal.find-requires
+find-requires g c = record {
+  walk = IsWalkOn-made g.R.Entries c.down.self c.down.tally c.down.made c.down.invariant.walks;
+}
+
+pub returns-in-Err-clause-down : goal.returns-in-Err-clause-down
+returns-in-Err-clause-down g c =
     IsDown-kept g.R.Entries c.args.self.now.ground.plan (table_counts c.args.tally.now.table) c.down.self
     c.find.new.self c.down.tally c.find.new.tally c.down.invariant c.find.ensures.keeps c.find.ensures.walk
     c.find.ensures.ground
 
-pub returns-in-None-clause-down : goal.returns-in-None-clause-down
-returns-in-None-clause-down g c =
+pub returns-in-Err-clause-open_yet : goal.returns-in-Err-clause-open_yet
+returns-in-Err-clause-open_yet g c said = inl c.in-Err.ensures.ended
+
+pub returns-in-Ok-None-clause-down : goal.returns-in-Ok-None-clause-down
+returns-in-Ok-None-clause-down g c =
     IsDown-kept g.R.Entries c.args.self.now.ground.plan (table_counts c.args.tally.now.table) c.down.self
-    c.find-in-down.new.self c.down.tally c.find-in-down.new.tally c.down.invariant c.find-in-down.ensures.keeps
-    c.find-in-down.ensures.walk c.find-in-down.ensures.ground
+    c.find.new.self c.down.tally c.find.new.tally c.down.invariant c.find.ensures.keeps c.find.ensures.walk
+    c.find.ensures.ground
+
+pub returns-in-Ok-None-clause-settled : goal.returns-in-Ok-None-clause-settled
+returns-in-Ok-None-clause-settled g c said =
+    nearest-at c.args.self.now.ground.plan c.down.self.ground.plan (table_counts c.find.new.tally.table)
+    (table_counts c.down.tally.table) c.down.invariant.same (sym c.find.ensures.keeps.counts)
+    (found-nothing _ _ c.in-Ok-None.field-0 c.in-Ok-None.field-0-is c.in-Ok-None.ensures.found)
 
 pub down-preserved : goal.down-preserved
 down-preserved g c =
     let plan = c.args.self.now.ground.plan in
     let first : Counts = table_counts c.args.tally.now.table in
-    let before : Counts = table_counts c.find-in-down.new.tally.table in
-    let same : c.find-in-down.new.self.ground.plan ≡ plan =
-    ap (λ (ground : Ground). ground.plan) c.find-in-down.ensures.ground ∙ c.down.invariant.same in
-    IsDown-more g.R.Entries plan first c.find-in-down.new.self c.make.new.self c.find-in-down.new.tally
-    c.make.new.tally c.in-Some.step
-    (IsDown-kept g.R.Entries plan first c.down.self c.find-in-down.new.self c.down.tally c.find-in-down.new.tally
-    c.down.invariant c.find-in-down.ensures.keeps c.find-in-down.ensures.walk c.find-in-down.ensures.ground)
-    (better-at plan c.down.self.ground.plan before (table_counts c.down.tally.table) c.in-Some.step
-    c.down.invariant.same (sym c.find-in-down.ensures.keeps.counts) c.in-Some.ensures.found)
-    (c.make.ensures.counts ∙ ap (λ (p : OldPlan). moved p.league.now.n before c.in-Some.step) same)
+    let before : Counts = table_counts c.find.new.tally.table in
+    let same : c.find.new.self.ground.plan ≡ plan =
+    ap (λ (ground : Ground). ground.plan) c.find.ensures.ground ∙ c.down.invariant.same in
+    IsDown-more g.R.Entries plan first c.find.new.self c.make.new.self c.find.new.tally c.make.new.tally
+    c.in-Ok-Some.step
+    (IsDown-kept g.R.Entries plan first c.down.self c.find.new.self c.down.tally c.find.new.tally c.down.invariant
+    c.find.ensures.keeps c.find.ensures.walk c.find.ensures.ground)
+    (better-at plan c.down.self.ground.plan before (table_counts c.down.tally.table) c.in-Ok-Some.step
+    c.down.invariant.same (sym c.find.ensures.keeps.counts)
+    (found-some _ _ c.in-Ok-Some.field-0 c.in-Ok-Some.step c.in-Ok-Some.field-0-is c.in-Ok-Some.ensures.found))
+    (c.make.ensures.counts ∙ ap (λ (p : OldPlan). moved p.league.now.n before c.in-Ok-Some.step) same)
     c.make.ensures.walk c.make.ensures.plan
 
-pub returns-clause-down : goal.returns-clause-down
-returns-clause-down g c =
+-- at the limit it is looked for once more
+pub find-requires-2 : goal.find-requires-2
+find-requires-2 g c = record {
+  walk = IsWalkOn-made g.R.Entries c.down.self c.down.tally 10000 c.down.invariant.walks;
+}
+
+pub returns-in-Ok-None-find-clause-down : goal.returns-in-Ok-None-find-clause-down
+returns-in-Ok-None-find-clause-down g c =
     IsDown-kept g.R.Entries c.args.self.now.ground.plan (table_counts c.args.tally.now.table) c.down.self
     c.find-2.new.self c.down.tally c.find-2.new.tally c.down.invariant c.find-2.ensures.keeps c.find-2.ensures.walk
     c.find-2.ensures.ground
+
+pub returns-in-Ok-None-find-clause-settled : goal.returns-in-Ok-None-find-clause-settled
+returns-in-Ok-None-find-clause-settled g c said =
+    nearest-at c.args.self.now.ground.plan c.down.self.ground.plan (table_counts c.find-2.new.tally.table)
+    (table_counts c.down.tally.table) c.down.invariant.same (sym c.find-2.ensures.keeps.counts)
+    (found-nothing _ _ c.in-Ok-None-find.field-0 c.in-Ok-None-find.field-0-is c.in-Ok-None-find.ensures.found)
+
+pub returns-in-Ok-Some-find-clause-down : goal.returns-in-Ok-Some-find-clause-down
+returns-in-Ok-Some-find-clause-down g c =
+    IsDown-kept g.R.Entries c.args.self.now.ground.plan (table_counts c.args.tally.now.table) c.down.self
+    c.find-2.new.self c.down.tally c.find-2.new.tally c.down.invariant c.find-2.ensures.keeps c.find-2.ensures.walk
+    c.find-2.ensures.ground
+
+pub returns-in-Ok-Some-find-clause-open_yet : goal.returns-in-Ok-Some-find-clause-open_yet
+returns-in-Ok-Some-find-clause-open_yet g c said =
+    inr
+    (open-better c.args.self.now.ground.plan c.down.self.ground.plan (table_counts c.find-2.new.tally.table)
+    (table_counts c.down.tally.table) c.in-Ok-Some-find._step c.down.invariant.same
+    (sym c.find-2.ensures.keeps.counts)
+    (found-some _ _ c.in-Ok-Some-find.field-0 c.in-Ok-Some-find._step c.in-Ok-Some-find.field-0-is
+    c.in-Ok-Some-find.ensures.found))
+
+pub returns-in-Err-find-clause-down : goal.returns-in-Err-find-clause-down
+returns-in-Err-find-clause-down g c =
+    IsDown-kept g.R.Entries c.args.self.now.ground.plan (table_counts c.args.tally.now.table) c.down.self
+    c.find-2.new.self c.down.tally c.find-2.new.tally c.down.invariant c.find-2.ensures.keeps c.find-2.ensures.walk
+    c.find-2.ensures.ground
+
+pub returns-in-Err-find-clause-open_yet : goal.returns-in-Err-find-clause-open_yet
+returns-in-Err-find-clause-open_yet g c said = inl c.in-Err-find.ensures.ended
