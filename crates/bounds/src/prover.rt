@@ -44,9 +44,9 @@ pub struct Counted {
 ///
 /// A descent goes on from the schedule by moves. If the descent betters the schedule, the answer is the schedule at its
 /// end. If not, a search goes over the bound rows of one less than the objective; it learns at most `conflicts`
-/// clauses. From a schedule that the search finds, a descent goes on, too. The watch may end the search and each descent.
-/// If nothing may end them, the budget is spent only if no single move betters the schedule. Which better schedule is
-/// found is not promised.
+/// clauses. From a schedule that the search finds, a descent goes on, too. The watch may end the search and each
+/// descent. If nothing may end them, the budget is spent only if no single move betters the schedule. Which better
+/// schedule is found is not promised.
 ///
 /// # Errors
 /// Only where memory runs out.

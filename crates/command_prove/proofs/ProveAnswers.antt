@@ -24,7 +24,8 @@ use Rattle.command_prove.proofs.ProveStages.{solution_stages}
 
 -- a well-formed case at which nothing fails is shown something
 pub proved-well_formed : (store : Store)
-    (instance solution : List ℕ) (league : Instance) (games : List Game) (limits : Option ℕ → Type 0) (may_stop : Type 0) (answer : Answer)
+    (instance solution : List ℕ) (league : Instance) (games : List Game) (limits : Option ℕ → Type 0)
+    (may_stop : Type 0) (answer : Answer)
     → IsWellFormedCase store instance solution league games → NoneFails store (instance ∷ solution ∷ [])
     → proved store instance solution limits may_stop answer → IsShownBy league limits may_stop games answer
 proved-well_formed store instance solution league games limits may_stop answer good works given =
@@ -47,8 +48,8 @@ proved-well_formed store instance solution league games limits may_stop answer g
     let at_games : shown pair.second answer =
     takes-known (codes "solution") (store.contents solution) SOLUTION_LIMIT (store.took_more (front + SOLUTION_LIMIT))
     (store.failed solution) shown answer pair.second pair.second_known pair.second_within (second-works store instance solution [] works) at_solution in
-    says-known (codes "solution") (solution_of league.n (pieces pair.second)) games (IsShownBy league limits may_stop) answer
-    pair.says_games at_games
+    says-known (codes "solution") (solution_of league.n (pieces pair.second)) games (IsShownBy league limits may_stop)
+    answer pair.says_games at_games
 
 -- a file that wasn't refused was read
 reads-goes : (which : List ℕ) (known : Option (List ℕ)) (limit : ℕ) (long failed : Type 0) (next : List ℕ → Outcome)
@@ -64,8 +65,8 @@ reads-goes which known limit long failed next answer file is no_file no_fault (i
 
 -- files that are known, where none is refused
 proved-goes : (store : Store)
-    (instance solution first second : List ℕ) (league : Instance) (games : List Game) (limits : Option ℕ → Type 0) (may_stop : Type 0)
-    (answer : Answer) → store.contents instance ≡ Some first → store.contents solution ≡ Some second
+    (instance solution first second : List ℕ) (league : Instance) (games : List Game) (limits : Option ℕ → Type 0)
+    (may_stop : Type 0) (answer : Answer) → store.contents instance ≡ Some first → store.contents solution ≡ Some second
     → instance_of (pieces first) ≡ Ok league → solution_of league.n (pieces second) ≡ Ok games
     → (answer.status ≡ File → ⊥) → (answer.status ≡ ReadFault → ⊥)
     → proved store instance solution limits may_stop answer → IsShownBy league limits may_stop games answer
@@ -156,25 +157,26 @@ better-no_fault answer is refused = let same : Better ≡ ReadFault = other Bett
 
 -- what an answer says by its status: where it is yes, the schedule's objective is the least; where it is a better
 -- schedule, the league accepts that
-pub record ShowsAs (league : Instance) (limits : Option ℕ → Type 0) (may_stop : Type 0) (games : List Game) (answer : Answer) : Type 0 where
+pub record ShowsAs (league : Instance) (limits : Option ℕ → Type 0) (may_stop : Type 0) (games : List Game)
+    (answer : Answer) : Type 0 where
   pub least : answer.status ≡ Yes → (conflicts : Option ℕ) × IsLeast league conflicts games answer
   pub better : answer.status ≡ Better → IsBettered league games answer
 
 pub proved-known : (store : Store)
-    (instance solution first second : List ℕ) (league : Instance) (games : List Game) (limits : Option ℕ → Type 0) (may_stop : Type 0)
-    (answer : Answer) → store.contents instance ≡ Some first → store.contents solution ≡ Some second
+    (instance solution first second : List ℕ) (league : Instance) (games : List Game) (limits : Option ℕ → Type 0)
+    (may_stop : Type 0) (answer : Answer) → store.contents instance ≡ Some first → store.contents solution ≡ Some second
     → instance_of (pieces first) ≡ Ok league → solution_of league.n (pieces second) ≡ Ok games
     → proved store instance solution limits may_stop answer → ShowsAs league limits may_stop games answer
-proved-known store instance solution first second league games limits may_stop answer first_known second_known says_league
-    says_games given = record {
+proved-known store instance solution first second league games limits may_stop answer first_known second_known
+    says_league says_games given = record {
       least = λ is.
           let shown : IsShownBy league limits may_stop games answer =
-          proved-goes store instance solution first second league games limits may_stop answer first_known second_known says_league
-          says_games (yes-no_file answer is) (yes-no_fault answer is) given in
+          proved-goes store instance solution first second league games limits may_stop answer first_known second_known
+          says_league says_games (yes-no_file answer is) (yes-no_fault answer is) given in
           (shown.0, shown-yes league shown.0 games answer shown.2 is);
       better = λ is.
           let shown : IsShownBy league limits may_stop games answer =
-          proved-goes store instance solution first second league games limits may_stop answer first_known second_known says_league
-          says_games (better-no_file answer is) (better-no_fault answer is) given in
+          proved-goes store instance solution first second league games limits may_stop answer first_known second_known
+          says_league says_games (better-no_file answer is) (better-no_fault answer is) given in
           shown-better league shown.0 games answer shown.2 is;
     }

@@ -60,7 +60,8 @@ proved-unread store instance solution limits may_stop first league is_first says
 
 -- the solution is read: the rest is the answer to what it says
 pub proved-last : (store : Store)
-    (instance solution : List ℕ) (limits : Option ℕ → Type 0) (may_stop : Type 0) (first second : List ℕ) (league : Instance)
+    (instance solution : List ℕ) (limits : Option ℕ → Type 0) (may_stop : Type 0) (first second : List ℕ)
+    (league : Instance)
     → IsFile (store.contents instance) INSTANCE_LIMIT first → instance_of (pieces first) ≡ Ok league
     → bound_size league ≤ most_terms → IsFile (store.contents solution) SOLUTION_LIMIT second → (answer : Answer)
     → says (codes "solution") (solution_of league.n (pieces second)) (IsShownBy league limits may_stop) answer
@@ -72,7 +73,8 @@ proved-last store instance solution limits may_stop first second league is_first
 
 -- the solution has a fault of form
 pub proved-malformed : (store : Store)
-    (instance solution : List ℕ) (limits : Option ℕ → Type 0) (may_stop : Type 0) (first second : List ℕ) (league : Instance)
+    (instance solution : List ℕ) (limits : Option ℕ → Type 0) (may_stop : Type 0) (first second : List ℕ)
+    (league : Instance)
     → IsFile (store.contents instance) INSTANCE_LIMIT first → instance_of (pieces first) ≡ Ok league
     → bound_size league ≤ most_terms → IsFile (store.contents solution) SOLUTION_LIMIT second → (answer : Answer)
     → IsMalformed (codes "solution") (solution_of league.n (pieces second)) answer

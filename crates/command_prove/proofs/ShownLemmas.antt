@@ -47,7 +47,8 @@ rejected-status : (feasible : Bool) (status : Status) → (IsTrue feasible → �
 rejected-status true status fails is = absurd (fails refl)
 rejected-status false status fails is = is
 
-pub shown-rejected : {may_stop : Type 0} (league : Instance) (conflicts : Option ℕ) (games : List Game) (answer : Answer)
+pub shown-rejected : {may_stop : Type 0} (league : Instance) (conflicts : Option ℕ) (games : List Game)
+    (answer : Answer)
     → (IsAccepted league (counts_of games) → ⊥) → IsJudgement league games answer
     → IsShown league conflicts may_stop games answer
 shown-rejected league conflicts games answer fails judged = inl (record {

@@ -63,10 +63,10 @@ pub record IsBettered (league : Instance) (games : List Game) (answer : Answer) 
   pub text : answer.text ≡ solution_text better (Some (0, objective league (counts_of better)))
   pub reads_back : solution_of league.n (pieces answer.text) ≡ Ok better
 
--- No single legal move betters the schedule, where nothing may stop the run. A log is written that is spent at the budget
--- over the bound rows of one less than the schedule's objective. If no line of the log passes the limit of a line, the
--- text reads back as the log. The budget is below 3 to the number of variables, so a greater budget, or none, is never
--- spent.
+-- No single legal move betters the schedule, where nothing may stop the run. A log is written that is spent at the
+-- budget over the bound rows of one less than the schedule's objective. If no line of the log passes the limit of a
+-- line, the text reads back as the log. The budget is below 3 to the number of variables, so a greater budget, or none,
+-- is never spent.
 pub record IsSpentBelow (league : Instance) (conflicts : Option ℕ) (may_stop : Type 0) (games : List Game)
     (answer : Answer) : Type 0
   where

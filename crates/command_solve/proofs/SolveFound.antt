@@ -1,5 +1,6 @@
 -- What is found of a league, answered.
-use Rattle.std.proofs.Common.{◌≡◌, ℕ, ◌≤◌, ◌++◌, true, List, Some, Result, Ok, Err, arith, ap, inl, inr, subst, sym, ◌∙◌}
+use Rattle.std.proofs.Common.{◌≡◌, ℕ, ◌≤◌, ◌++◌, true, List, Some, Result, Ok, Err}
+use Rattle.std.proofs.Common.{arith, ap, inl, inr, subst, sym, ◌∙◌}
 use Rattle.std.specs.Prelude.{IfOk}
 use Rattle.robin_watch.specs.declared.budgets.Budgets.{Budgets}
 use Rattle.league.specs.Accepted as costs
@@ -72,7 +73,8 @@ found-schedule : (league : Instance) (budgets : Budgets) (may_stop : Type 0) (ga
     ≡ solution_text games (Some (0, objective))
     ++ descent_text (costs.objective league (counts_of descent.first)) descent
     → IsFound league budgets may_stop (rows_of league) answer
-found-schedule league budgets may_stop games objective descent answer teams schedule not_short not_crowded enough status text = record {
+found-schedule league budgets may_stop games objective descent answer teams schedule not_short not_crowded enough status
+    text = record {
   found = inl (schedule-told league budgets.moves may_stop games objective descent answer teams schedule status text);
   circle = λ accepted. status;
   short = λ is. absurd (not_short is);
@@ -100,11 +102,13 @@ found-refuted league budgets may_stop steps answer refutes no_circle status text
 }
 
 found-spent : (league : Instance) (budgets : Budgets) (may_stop : Type 0) (steps : List Step)
-    (patterns : PatternFound) (answer : Answer) → IsSpentOn league budgets.conflicts steps → LeavesOpen league budgets.patterns patterns
+    (patterns : PatternFound) (answer : Answer) → IsSpentOn league budgets.conflicts steps
+    → LeavesOpen league budgets.patterns patterns
     → (IsAccepted league (counts_of (double_games league.n)) → ⊥) → (are_short league ≡ true → ⊥)
     → (are_crowded league ≡ true → ⊥) → (are_few league ≡ true → ⊥) → answer.status ≡ Spent → answer.text ≡ log_text steps
     → log_of answer.text ≡ Ok steps → IsFound league budgets may_stop (rows_of league) answer
-found-spent league budgets may_stop steps patterns answer spent leaves no_circle not_short not_crowded enough status text reads_back =
+found-spent league budgets may_stop steps patterns answer spent leaves no_circle not_short not_crowded enough status text
+    reads_back =
     record {
       found = inr (inr (record {
         steps = steps;
@@ -131,19 +135,21 @@ pub written-found : (league : Instance) (budgets : Budgets) (may_stop : Type 0) 
     → (are_short league ≡ true → IsRefuted solved) → (are_crowded league ≡ true → IsRefuted solved)
     → (are_few league ≡ true → IsRefuted solved) → IsWritten league solved answer
     → IsFound league budgets may_stop (rows_of league) answer
-written-found league budgets may_stop (answers.Schedule games objective descent) answer teams schedule circle short crowded few written =
+written-found league budgets may_stop (answers.Schedule games objective descent) answer teams schedule circle short crowded
+    few written =
     found-schedule league budgets may_stop games objective descent answer teams schedule short crowded few written.0
     written.1
 written-found league budgets may_stop (answers.Refuted log) answer teams refutes circle short crowded few written =
     found-refuted league budgets may_stop log answer refutes circle written.0 written.1.0 written.1.1
 written-found league budgets may_stop (answers.Spent log patterns) answer teams spent circle short crowded few written =
-    found-spent league budgets may_stop log patterns answer spent.0 spent.1 circle short crowded few written.0 written.1.0
-    written.1.1
+    found-spent league budgets may_stop log patterns answer spent.0 spent.1 circle short crowded few written.0
+    written.1.0 written.1.1
 
 pub written-within : (league : Instance) (budgets : Budgets) (may_stop : Type 0) (most : ℕ) (solved : Solved)
     (answer : Answer) → IsTeamCount league.n → IsSolution league budgets may_stop solved → CostsAtMost most solved
     → IsWritten league solved answer → IsScheduleWithin league budgets.moves may_stop most answer
-written-within league budgets may_stop most (answers.Schedule games objective descent) answer teams schedule at_most written =
+written-within league budgets may_stop most (answers.Schedule games objective descent) answer teams schedule at_most
+    written =
     record {
       schedule = schedule-told league budgets.moves may_stop games objective descent answer teams schedule written.0
           written.1;

@@ -158,8 +158,8 @@ other_budget most some is = let same : most ≡ 0 = cc in omega (arith, some, sa
 pub spent-short : (m : Counts) (may_stop : Type 0) → IsSpentBelow even_soon m (Some 1) may_stop [] → ⊥
 spent-short m may_stop is = other_budget 1 (omega arith) is.spent.limited
 
--- nothing is spent on a season that costs nothing, nor, where nothing may stop the run, on one that a move betters: their
--- home swap costs nothing
+-- nothing is spent on a season that costs nothing, nor, where nothing may stop the run, on one that a move betters:
+-- their home swap costs nothing
 none_one : (n : ℕ) → n ≡ 0 → 1 ≤ n → ⊥
 none_one n none some = omega (arith, none, some)
 

@@ -221,7 +221,8 @@ tried-seed {E} league budgets may_stop seed (Ok tried) is = record {
 tried-seed {E} league budgets may_stop seed (Err error) is = tt
 
 -- the lesser one of two schedules is one of them
-lesser-one : (b : Bool) (best later : Season) → ((if b then later else best) ≡ best) ⊎ ((if b then later else best) ≡ later)
+lesser-one : (b : Bool) (best later : Season)
+    → ((if b then later else best) ≡ best) ⊎ ((if b then later else best) ≡ later)
 lesser-one true best later = inr refl
 lesser-one false best later = inl refl
 

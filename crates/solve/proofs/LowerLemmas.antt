@@ -1,6 +1,6 @@
 -- What a descent makes of an accepted schedule.
-use Rattle.std.proofs.Common.{◌≡◌, ◌⊎◌, ℕ, ◌≤◌, Bool, true, false, List, [], ◌∷◌, length, reverse, Some, inl, inr, arith}
-use Rattle.std.proofs.Common.{ap, refl, sym, subst, ◌∙◌}
+use Rattle.std.proofs.Common.{◌≡◌, ◌⊎◌, ℕ, ◌≤◌, Bool, true, false, List, [], ◌∷◌, length, reverse, Some}
+use Rattle.std.proofs.Common.{inl, inr, arith, ap, refl, sym, subst, ◌∙◌}
 use Rattle.std.specs.List.{All}
 use Rattle.std.proofs.lemmas.Bool.{cases_Bool}
 use Rattle.league.specs.Accepted.{IsAccepted, objective}
@@ -47,7 +47,8 @@ pub Descends-same : (n k : ℕ) (phased said : Bool) (score other : Counts → S
     (may_stop : Type 0) (descent : Descended) → n ≡ k → phased ≡ said → score ≡ other → start ≡ begin
     → Descends n phased score start end moves may_stop descent
     → Descends k said other begin end moves may_stop descent
-Descends-same n k phased said score other start begin end moves may_stop descent same_n same_phased same_score same_start is =
+Descends-same n k phased said score other start begin end moves may_stop descent same_n same_phased same_score same_start
+    is =
     subst (λ (m : Counts). Descends k said other m end moves may_stop descent) same_start
     (subst (λ (s : Counts → Score). Descends k said s start end moves may_stop descent) same_score
     (subst (λ (b : Bool). Descends k b score start end moves may_stop descent) same_phased

@@ -36,8 +36,8 @@ abbrev pub league_score : Instance → Counts → Score
 league_score league m = record { infeasibility = hard_sum 1 league m; objective = costs.objective league m }
 
 -- A descent of at most so many moves from accepted games to these. Where it is said to be settled, no legal move lowers
--- the score any more. Else it has as many moves as it may, the games cost something, and a move lowers the score, unless
--- the descent may be stopped.
+-- the score any more. Else it has as many moves as it may, the games cost something, and a move lowers the score,
+-- unless the descent may be stopped.
 pub record IsDescent (league : Instance) (moves : ℕ) (may_stop : Type 0) (games : List Game) (descent : Descended)
     : Type 0 where
   pub first : IsAccepted league (counts_of descent.first)
