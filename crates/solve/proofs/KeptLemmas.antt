@@ -161,14 +161,13 @@ pub some-solution : (league : Instance) (budgets : Budgets) (may_stop : Type 0) 
 some-solution league budgets may_stop answer is =
     (is.kept, solution-wider league is.kept may_stop (Unit {0}) answer (λ may. tt) is.solution)
 
-pub solution-unstopped : {E : Type 0} (league : Instance) (budgets : Budgets) (may_stop : Type 0)
-    (result : Result Solved E) → (may_stop → ⊥) → IfOk result (IsSolutionBy league budgets may_stop)
-    → IfOk result (IsSolution league budgets ⊥)
-solution-unstopped {E} league budgets may_stop (Ok answer) never is =
+-- where nothing may stop the run, an answer is one within the budgets that were set
+pub answer-unstopped : (league : Instance) (budgets : Budgets) (may_stop : Type 0) (answer : Solved) → (may_stop → ⊥)
+    → IsSolutionBy league budgets may_stop answer → IsSolution league budgets ⊥ answer
+answer-unstopped league budgets may_stop answer never is =
     subst (λ (b : Budgets). IsSolution league b ⊥ answer)
     (budgets-unstopped budgets may_stop is.kept never is.are_kept)
     (solution-wider league is.kept may_stop ⊥ answer never is.solution)
-solution-unstopped {E} league budgets may_stop (Err error) never is = tt
 
 pub season-unstopped : {E : Type 0} (league : Instance) (moves : ℕ) (may_stop : Type 0) (result : Result Season E)
     → (may_stop → ⊥) → IfOk result (IsSeasonBy league moves may_stop)

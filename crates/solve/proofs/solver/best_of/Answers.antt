@@ -1,4 +1,4 @@
-use Rattle.std.proofs.Common.{◌≡◌, ℕ, ◌+◌, true, List, [], ◌∷◌, ◌++◌, length, map, Ok, length-append, refl, arith, subst}
+use Rattle.std.proofs.Common.{◌≡◌, ℕ, true, List, [], ◌∷◌, ◌++◌, map, Ok, length-append, refl, arith, subst}
 use Rattle.solve.specs.Earliest.{season_of, season_tried}
 use Rattle.solve.specs.Solutions.{IsRefuted}
 use Rattle.solve.specs.declared.tries.Tried.{Tried}

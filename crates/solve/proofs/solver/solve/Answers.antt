@@ -4,7 +4,7 @@ use Rattle.circle_method.specs.Circle.{double_games}
 use Rattle.refutation.specs.Steps.{Step}
 use Rattle.solve.specs.Solutions.{RefutesLeague}
 use Rattle.solve.proofs.EarliestLemmas.{refuted_untried}
-use Rattle.solve.proofs.KeptLemmas.{as-set, solution-unstopped}
+use Rattle.solve.proofs.KeptLemmas.{answer-unstopped, as-set}
 use Rattle.solve.proofs.solver.solve.Goals as goal
 
 pub returns-in-Some-clause-circle : goal.returns-in-Some-clause-circle
@@ -30,3 +30,8 @@ returns-in-Some-clause-best g c =
       solution = subst (λ (found : Option (List Step)). IfSome found (RefutesLeague c.args.league.now)) c.in-Some.is
           c.in_ok-log.ensures.refuted;
     })
+
+pub returns-clause-unstopped : goal.returns-clause-unstopped
+returns-clause-unstopped g c never =
+    answer-unstopped c.args.league.now c.args.budgets (g.W.Watch.may_stop c.args.watch.now) _ never
+    c.in_ok-solved.ensures.solution
