@@ -1,17 +1,14 @@
 -- When no move of a whole round lowers a score.
-use Rattle.std.proofs.Common.{◌≡◌, ◌↔◌, ℕ, ◌+◌, ◌<◌, ◌≤◌, Bool, List, length, take, drop, get_or, arith, ap, sym, subst, ◌∙◌}
+use Rattle.std.proofs.Common.{◌≡◌, ◌↔◌, ℕ, Bool, List, ap, sym, subst, ◌∙◌}
 use Rattle.std.specs.Prelude.{IsTrue}
 use Rattle.std.specs.List.{All}
-use Rattle.std.proofs.lemmas.List.{get_or-drop, get_or-take, length-drop, length-take, take-append-drop}
-use Rattle.std.proofs.lemmas.List.Elements.{All-append, All-contains}
+use Rattle.std.proofs.lemmas.List.Elements.{All-contains}
 use Rattle.league.specs.Counts.{Counts}
 use Rattle.moves.specs.Moves.{IsLegal, IsOfLeague, moved}
 use Rattle.moves.specs.Neighbours.{all_moves}
-use Rattle.moves.specs.Round.{Edits}
 use Rattle.moves.specs.declared.swap.Swap.{Swap}
 use Rattle.descent.specs.Score.{is_lower}
 use Rattle.descent.specs.Settled.{IsLowering, IsSettled}
-use Rattle.descent.specs.Walks.{IsFoundAt, IsFullEdit}
 use Rattle.descent.specs.declared.score.Score.{Score}
 use Rattle.descent.proofs.MoveLemmas.{all_moves-lists}
 

@@ -1,6 +1,6 @@
 -- What a walk knows, one move further.
-use Rattle.std.proofs.Common.{◌≡◌, ◌↔◌, ℕ, ◌+◌, ◌<◌, ◌≤◌, Bool, true, false, not, Option, Some, None, List, [], ◌∷◌, ◌++◌, length, take, drop, get_or, inl, inr, refl, arith, ap, sym, subst, ◌∙◌}
-use Rattle.std.specs.Prelude.{IsTrue}
+use Rattle.std.proofs.Common.{◌≡◌, ◌↔◌, ℕ, ◌+◌, ◌<◌, ◌≤◌, Bool, true, false, Option, Some, None, List, [], ◌∷◌, ◌++◌, length, get_or, inl, inr, refl, arith, ap, sym, subst, ◌∙◌}
+use Rattle.std.specs.Prelude.{IsTrue, MatchOption}
 use Rattle.std.specs.List.{All, AllWithin}
 use Rattle.std.proofs.lemmas.Bool.{cases_lt}
 use Rattle.std.proofs.lemmas.List.{get_or_default, length-append}
@@ -303,6 +303,9 @@ settled-down {R} E n phased rules first walk tally kept made is keeps settled =
     (table_counts kept.table) (table_counts tally.table) is.teams is.phased
     (ap (λ (w : List (Weighted R)). score_on E w) is.weights) (sym keeps.counts) settled
 
+pub found_none : (b : Bool) → b ≡ false → b ≡ true → ⊥
+found_none b first second = cc
+
 -- what is known where the last round found a move, and where the watch ended it
 pub Knows-found : (n : ℕ) (phased : Bool) (score : Counts → Score) (m : Counts) (may_stop : Type 0) (step : Swap)
     → IsLowering n phased score m step → Knows n phased score m may_stop false
@@ -327,3 +330,21 @@ Knows-settled n phased score m may_stop settled = record {
   costly = λ said. absurd (let no : true ≡ false = said in cc);
   lowers = λ said. absurd (let no : true ≡ false = said in cc);
 }
+
+-- what a match says
+pub found-nothing : {T : Type 0} (A : Type 0) (B : T → Type 0) (found : Option T) → found ≡ None → MatchOption found A B → A
+found-nothing {T} A B None is a = a
+found-nothing {T} A B (Some it) is b = absurd (let no : Some it ≡ None = is in cc)
+
+pub found-some : {T : Type 0} (A : Type 0) (B : T → Type 0) (found : Option T) (it : T) → found ≡ Some it
+    → MatchOption found A B → B it
+found-some {T} A B None it is a = absurd (let no : None ≡ Some it = is in cc)
+found-some {T} A B (Some other) it is b = subst B (let same : Some other ≡ Some it = is in cc) b
+
+pub costly-down : {R : Type 0} (E : Ghosts R) (n : ℕ) (phased : Bool) (rules : List (Weighted R)) (first : Counts)
+    (walk : Walk) (tally kept : Tallied R) (made : ℕ) → IsDown E n phased rules first walk tally made
+    → KeepsGames tally kept → IsCostly (score_on E tally.weights (table_counts tally.table))
+    → IsCostly (score_on E rules (table_counts kept.table))
+costly-down {R} E n phased rules first walk tally kept made is keeps costs =
+    subst (λ (m : Counts). IsCostly (score_on E rules m)) (sym keeps.counts)
+    (subst (λ (w : List (Weighted R)). IsCostly (score_on E w (table_counts tally.table))) is.weights costs)

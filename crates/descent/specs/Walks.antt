@@ -45,11 +45,11 @@ pub record IsWalkOn (n : ℕ) (m : Counts) (walk : Walk) : Type 0 where
 
 -- What is known of some counts: where it is said that they are settled, they are. Else they cost something, and a move
 -- lowers the score, unless the run may be stopped.
-pub record Knows (n : ℕ) (phased : Bool) (score : Counts → Score) (m : Counts) (may_stop : Type 0) (settled : Bool)
+pub record Knows (n : ℕ) (phased : Bool) (score : Counts → Score) (m : Counts) (may_stop : Type 0) (said : Bool)
     : Type 0 where
-  pub settled : settled ≡ true → IsSettled n phased score m
-  pub costly : settled ≡ false → IsCostly (score m)
-  pub lowers : settled ≡ false → may_stop ⊎ (IsSettled n phased score m → ⊥)
+  pub settled : said ≡ true → IsSettled n phased score m
+  pub costly : said ≡ false → IsCostly (score m)
+  pub lowers : said ≡ false → may_stop ⊎ (IsSettled n phased score m → ⊥)
 
 -- the rules stay, and so do the games
 pub record KeepsGames {R : Type 0} (old new : Tallied R) : Type 0 where

@@ -133,13 +133,15 @@ impl Walk {
         let next = self.next;
         let end = self.moves.len();
         let behind = self.find_between(next, end, tally, steps, watch)?;
-        if let Some(place) = behind {
-            return Ok(Some(self.take(place)));
-        }
-        let before = self.find_between(0, next, tally, steps, watch)?;
-        match before {
+        match behind {
             Some(place) => Ok(Some(self.take(place))),
-            None => Ok(None),
+            None => {
+                let before = self.find_between(0, next, tally, steps, watch)?;
+                match before {
+                    Some(place) => Ok(Some(self.take(place))),
+                    None => Ok(None),
+                }
+            }
         }
     }
 
@@ -180,13 +182,7 @@ impl Walk {
             if is_asked_at(place) && watch.is_over_now(self.trail.len() as u64) {
                 return Err(Ended);
             }
-            if is_lowering(
-                self.moves[place],
-                &self.board,
-                &mut self.edit,
-                tally,
-                steps,
-            ) {
+            if is_lowering(self.moves[place], &self.board, &mut self.edit, tally, steps) {
                 return Ok(Some(place));
             }
         }

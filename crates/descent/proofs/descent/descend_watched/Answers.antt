@@ -1,8 +1,9 @@
-use Rattle.std.proofs.Common.{◌≡◌, ℕ, Bool, ap, subst, sym, ◌∙◌}
+use Rattle.std.proofs.Common.{◌≡◌, ◌⊎◌, ℕ, Bool, ap, subst, sym, ◌∙◌}
 use Rattle.league.specs.Counts.{Counts, counts_of}
 use Rattle.league.specs.Structure.{IsRoundRobin}
 use Rattle.rule_core.specs.Table.{Table, table_counts}
 use Rattle.descent.specs.Score.{score_on}
+use Rattle.descent.specs.Settled.{IsSettled}
 use Rattle.descent.specs.Trail.{IsTrail}
 use Rattle.descent.proofs.TrailLemmas.{IsTrail-no_worse, IsTrail-round_robin}
 use Rattle.descent.proofs.descent.descend_watched.Goals as goal
@@ -57,3 +58,21 @@ returns-clause-no_worse g c =
 
 pub returns-clause-spent : goal.returns-clause-spent
 returns-clause-spent g c = λ open_yet. rw c.into_trail.ensures (c.in_ok-settled.ensures.spent open_yet)
+
+pub returns-clause-settled : goal.returns-clause-settled
+returns-clause-settled g c said =
+    subst
+    (λ (b : Bool). IsSettled c.args.tally.now.table.n b (score_on g.R.Entries c.args.tally.now.weights)
+    (table_counts c.go_down.new.tally.table))
+    c.in_ok-walk.ensures.phased (c.in_ok-settled.ensures.known.settled said)
+
+pub returns-clause-lowers : goal.returns-clause-lowers
+returns-clause-lowers g c unsaid =
+    subst
+    (λ (b : Bool). g.W.Watch.may_stop c.args.watch.now
+    ⊎ (IsSettled c.args.tally.now.table.n b (score_on g.R.Entries c.args.tally.now.weights)
+    (table_counts c.go_down.new.tally.table) → ⊥))
+    c.in_ok-walk.ensures.phased (c.in_ok-settled.ensures.known.lowers unsaid)
+
+pub returns-clause-costly : goal.returns-clause-costly
+returns-clause-costly g c unsaid = c.in_ok-settled.ensures.known.costly unsaid
