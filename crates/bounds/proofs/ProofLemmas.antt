@@ -1,5 +1,5 @@
 -- What the answers say of a league and a schedule.
-use Rattle.std.proofs.Common.{◌≡◌, ℕ, ◌+◌, ◌-◌, ◌*◌, ◌^◌, ◌<◌, ◌≤◌, Bool, false, max, List, []}
+use Rattle.std.proofs.Common.{◌≡◌, ◌⊎◌, ℕ, ◌+◌, ◌-◌, ◌*◌, ◌^◌, ◌<◌, ◌≤◌, Bool, false, max, List, []}
 use Rattle.std.proofs.Common.{get_or, length, take, Option, refl, sym, ap, subst, ◌∙◌, arith}
 use Rattle.std.proofs.Math.Nat.{mul-le-mul}
 use Rattle.std.proofs.lemmas.List.Elements.{All-nil, All-weaker}
@@ -84,8 +84,9 @@ spent-named rows vars limit steps is =
 
 -- ---- answers
 
-pub better-of : (league : Instance) (m : Counts) (moves cost : ℕ) (games : List Game) (descent : Descended)
-    → IsSchedule league moves games cost descent → cost < objective league m → IsBetter league m games cost
+pub better-of : {may_stop : Type 0} (league : Instance) (m : Counts) (moves cost : ℕ) (games : List Game)
+    (descent : Descended) → IsSchedule league moves may_stop games cost descent → cost < objective league m
+    → IsBetter league m games cost
 better-of league m moves cost games descent is less = record {
   accepted = is.accepted;
   fit = is.fit;
@@ -116,10 +117,11 @@ least-of league m limit cost steps is costs some refutes = record {
   named = refuted-named (bound_rows league (cost - 1)) (bound_vars league) limit steps refutes;
 }
 
-pub spent-of : (league : Instance) (m : Counts) (limit : Option ℕ) (cost : ℕ) (steps : List Step)
-    → objective league m ≡ cost → IsSettled league.n league.phased (league_score league) m → 1 ≤ cost → IsSpentAt (bound_rows league (cost - 1)) (bound_vars league) limit steps
-    → IsSpentBelow league m limit steps
-spent-of league m limit cost steps costs settled some spent = record {
+pub spent-of : (league : Instance) (m : Counts) (limit : Option ℕ) (may_stop : Type 0) (cost : ℕ) (steps : List Step)
+    → objective league m ≡ cost → may_stop ⊎ IsSettled league.n league.phased (league_score league) m → 1 ≤ cost
+    → IsSpentAt (bound_rows league (cost - 1)) (bound_vars league) limit steps
+    → IsSpentBelow league m limit may_stop steps
+spent-of league m limit may_stop cost steps costs settled some spent = record {
   some = omega (arith, costs, some);
   settled = settled;
   spent = subst (λ (c : ℕ). IsSpentAt (bound_rows league (c - 1)) (bound_vars league) limit steps) (sym costs) spent;
@@ -160,8 +162,8 @@ lower-of league was n values games is some meets teams same order =
     }
 
 -- a descent leads to no higher an objective
-pub lowered-le : (league : Instance) (moves cost : ℕ) (games : List Game) (descent : Descended)
-    → IsSchedule league moves games cost descent → cost ≤ objective league (counts_of descent.first)
+pub lowered-le : {may_stop : Type 0} (league : Instance) (moves cost : ℕ) (games : List Game) (descent : Descended)
+    → IsSchedule league moves may_stop games cost descent → cost ≤ objective league (counts_of descent.first)
 lowered-le league moves cost games descent is =
     let first : Counts = counts_of descent.first in
     let stays = trails-stay_feasible league.n league.phased (league_score league) first (counts_of games) descent.trail
@@ -169,8 +171,8 @@ lowered-le league moves cost games descent is =
     omega (arith, stays.1, is.cost)
 
 -- the end of a descent that begins with games which cost less than a number costs less, too
-pub below-start : (league : Instance) (was moves cost : ℕ) (start games : List Game) (descent : Descended)
-    → IsLower league was start → IsSchedule league moves games cost descent
+pub below-start : {may_stop : Type 0} (league : Instance) (was moves cost : ℕ) (start games : List Game)
+    (descent : Descended) → IsLower league was start → IsSchedule league moves may_stop games cost descent
     → counts_of descent.first ≡ counts_of start → cost < was
 below-start league was moves cost start games descent lower is first =
     omega (
@@ -181,8 +183,8 @@ below-start league was moves cost start games descent lower is first =
     )
 
 -- the end of such a descent betters a schedule that costs as much as that number
-pub better-below : (league : Instance) (m : Counts) (was moves cost : ℕ) (start games : List Game)
-    (descent : Descended) → IsLower league was start → IsSchedule league moves games cost descent
+pub better-below : {may_stop : Type 0} (league : Instance) (m : Counts) (was moves cost : ℕ) (start games : List Game)
+    (descent : Descended) → IsLower league was start → IsSchedule league moves may_stop games cost descent
     → counts_of descent.first ≡ counts_of start → objective league m ≡ was → IsBetter league m games cost
 better-below league m was moves cost start games descent lower is first costs =
     better-of league m moves cost games descent is

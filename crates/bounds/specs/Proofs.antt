@@ -1,6 +1,6 @@
 -- What is shown of a schedule that a league accepts, given by the counts m of its games: that none costs less, a
 -- schedule that does, or a log that is spent.
-use Rattle.std.specs.Prelude.{◌≡◌, ℕ, ◌-◌, ◌<◌, ◌≤◌, List, [], Option}
+use Rattle.std.specs.Prelude.{◌≡◌, ◌⊎◌, ℕ, ◌-◌, ◌<◌, ◌≤◌, List, [], Option}
 use Rattle.std.specs.List.{All}
 use Rattle.league.specs.Accepted.{IsAccepted}
 use Rattle.league.specs.Accepted as costs
@@ -35,20 +35,22 @@ pub record IsBetter (league : Instance) (m : Counts) (games : List Game) (object
   pub cost : objective ≡ costs.objective league (counts_of games)
   pub lower : objective < costs.objective league m
 
--- The budget ran out. The schedule's objective is at least 1. No single legal move betters the schedule. The log is
--- spent at the limit over the bound rows of one less than this objective. The log can be written.
-pub record IsSpentBelow (league : Instance) (m : Counts) (limit : Option ℕ) (steps : List Step) : Type 0 where
+-- The budget ran out. The schedule's objective is at least 1. No single legal move betters the schedule, where nothing
+-- may stop the run. The log is spent at the limit over the bound rows of one less than this objective. The log can be
+-- written.
+pub record IsSpentBelow (league : Instance) (m : Counts) (limit : Option ℕ) (may_stop : Type 0) (steps : List Step)
+    : Type 0 where
   pub some : 1 ≤ costs.objective league m
-  pub settled : IsSettled league.n league.phased (league_score league) m
+  pub settled : may_stop ⊎ IsSettled league.n league.phased (league_score league) m
   pub spent : IsSpentAt (bound_rows league (costs.objective league m - 1)) (bound_vars league) limit steps
   pub named : All NamesRows steps
 
--- what each answer says, if the search learns at most `limit` clauses
-abbrev pub IsProved : Instance → Counts → Option ℕ → Proved → Type 0
-IsProved league m limit (Least objective log) = IsLeast league m limit objective log
-IsProved league m limit (Better games objective) = IsBetter league m games objective
-IsProved league m limit (Spent log) = IsSpentBelow league m limit log
+-- what each answer says, if the search learns at most `limit` clauses, and `may_stop` says where the run may be stopped
+abbrev pub IsProved : Instance → Counts → Option ℕ → Type 0 → Proved → Type 0
+IsProved league m limit may_stop (Least objective log) = IsLeast league m limit objective log
+IsProved league m limit may_stop (Better games objective) = IsBetter league m games objective
+IsProved league m limit may_stop (Spent log) = IsSpentBelow league m limit may_stop log
 
 -- what each answer says, if the search keeps to one of these limits
-abbrev pub IsProvedBy : Instance → Counts → (Option ℕ → Type 0) → Proved → Type 0
-IsProvedBy league m limits proved = (limit : Option ℕ) × limits limit × IsProved league m limit proved
+abbrev pub IsProvedBy : Instance → Counts → (Option ℕ → Type 0) → Type 0 → Proved → Type 0
+IsProvedBy league m limits may_stop proved = (limit : Option ℕ) × limits limit × IsProved league m limit may_stop proved

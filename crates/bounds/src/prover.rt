@@ -1,6 +1,6 @@
 //! Whether a schedule can be bettered. The search is one step of that of minisat+ for a least objective: the rows ask
 //! for one less.
-ghost use Rattle.std.specs.Prelude.{◌≡◌, ℕ, ◌-◌, ◌^◌, ◌<◌, ◌≤◌, [], length, IfOk, Option};
+ghost use Rattle.std.specs.Prelude.{◌≡◌, ◌⊎◌, ℕ, ◌-◌, ◌^◌, ◌<◌, ◌≤◌, [], length, IfOk, Option};
 ghost use Rattle.std.specs.List.{All};
 ghost use Rattle.league.specs.Accepted.{IsAccepted};
 ghost use Rattle.league.specs.Accepted as costs;
@@ -44,8 +44,8 @@ pub struct Counted {
 ///
 /// A descent goes on from the schedule by moves. If the descent betters the schedule, the answer is the schedule at its
 /// end. If not, a search goes over the bound rows of one less than the objective; it learns at most `conflicts`
-/// clauses. From a schedule that the search finds, a descent goes on, too. So the budget is spent only if no single
-/// move betters the schedule. The watch may end the search, and each descent behind its first move. Which better
+/// clauses. From a schedule that the search finds, a descent goes on, too. The watch may end the search and each
+/// descent. If nothing may end them, the budget is spent only if no single move betters the schedule. Which better
 /// schedule is found is not promised.
 ///
 /// # Errors
@@ -63,7 +63,7 @@ pub fn prove<W: Watch>(
     requires assessed { counted.cost ≡ costs.objective league.now (counts_of schedule.now) }
     requires terms { IsCounted league.now counted.terms }
     ensures { IfOk result (IsProvedBy league.now (counts_of schedule.now)
-        (IsKeptTo conflicts (W.may_stop watch.now))) }
+        (IsKeptTo conflicts (W.may_stop watch.now)) (W.may_stop watch.now)) }
 {
     // An accepted schedule pays the greatest penalty at most once for each term, so that 64 bits hold its objective.
     let _greatest = greatest_penalty(league.constraints());
@@ -125,7 +125,7 @@ fn bettered(lower: Season) -> Proved
 }
 
 /// The answer of a search over the bound rows of one less than an objective, of which the watch hears. It holds for each
-/// schedule of this objective that no single move betters.
+/// schedule of this objective that no single move betters, and for each one where the watch may end the run.
 fn searched<W: Watch>(
     alloc: Global,
     league: &League,
@@ -137,8 +137,8 @@ fn searched<W: Watch>(
     requires some { 1 ≤ objective }
     requires counted { IsCounted league.now terms }
     ensures { IfOk result (λ proved. (m : Counts) → costs.objective league.now m ≡ objective
-        → IsSettled league.now.n league.now.phased (league_score league.now) m
-        → IsProvedBy league.now m (IsKeptTo conflicts (W.may_stop watch.now)) proved) }
+        → W.may_stop watch.now ⊎ IsSettled league.now.n league.now.phased (league_score league.now) m
+        → IsProvedBy league.now m (IsKeptTo conflicts (W.may_stop watch.now)) (W.may_stop watch.now) proved) }
 {
     watch.tell(News::Bound { objective });
     let system = bound_system(alloc, league, objective - 1, terms)?;
@@ -165,7 +165,7 @@ fn decoded<W: Watch>(
     requires count { length values.now ≡ bound_vars league.now }
     requires satisfied { SatisfiesAll (assigned values.now) (bound_rows league.now (objective - 1)) }
     ensures { IfOk result (λ proved. (m : Counts) (limit : Option ℕ)
-        → costs.objective league.now m ≡ objective → IsProved league.now m limit proved) }
+        → costs.objective league.now m ≡ objective → IsProved league.now m limit (W.may_stop watch.now) proved) }
 {
     let schedule = schedule_of(alloc, league, values, objective)?;
     let lower = lowered_watched(alloc, league, &schedule, MOVES, watch)?;

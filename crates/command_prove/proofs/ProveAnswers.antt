@@ -24,22 +24,23 @@ use Rattle.command_prove.proofs.ProveStages.{solution_stages}
 
 -- a well-formed case at which nothing fails is shown something
 pub proved-well_formed : (store : Store)
-    (instance solution : List ℕ) (league : Instance) (games : List Game) (limits : Option ℕ → Type 0) (answer : Answer)
+    (instance solution : List ℕ) (league : Instance) (games : List Game) (limits : Option ℕ → Type 0)
+    (may_stop : Type 0) (answer : Answer)
     → IsWellFormedCase store instance solution league games → NoneFails store (instance ∷ solution ∷ [])
-    → proved store instance solution limits answer → IsShownBy league limits games answer
-proved-well_formed store instance solution league games limits answer good works given =
+    → proved store instance solution limits may_stop answer → IsShownBy league limits may_stop games answer
+proved-well_formed store instance solution league games limits may_stop answer good works given =
     let pair = good.pair in
     let front : ℕ = length pair.first in
     let next : List ℕ → Outcome = λ first. says (codes "instance") (instance_of (pieces first))
-    (solution_stages store solution limits (length first)) in
+    (solution_stages store solution limits may_stop (length first)) in
     let at_instance : next pair.first answer =
     takes-known (codes "instance") (store.contents instance) INSTANCE_LIMIT (store.took_more INSTANCE_LIMIT) (store.failed instance) next
     answer pair.first pair.first_known pair.first_within (first-works store instance (solution ∷ []) works) given in
-    let at_league : solution_stages store solution limits front league answer =
+    let at_league : solution_stages store solution limits may_stop front league answer =
     says-known (codes "instance") (instance_of (pieces pair.first)) league
-    (solution_stages store solution limits front) answer pair.says_league at_instance in
+    (solution_stages store solution limits may_stop front) answer pair.says_league at_instance in
     let shown : List ℕ → Outcome = λ bytes. says (codes "solution") (solution_of league.n (pieces bytes))
-    (IsShownBy league limits) in
+    (IsShownBy league limits may_stop) in
     let at_solution : takes (codes "solution") (store.contents solution) SOLUTION_LIMIT (store.took_more (front + SOLUTION_LIMIT))
     (store.failed solution) shown answer =
     few-small league (λ few. takes (codes "solution") (store.contents solution) SOLUTION_LIMIT
@@ -47,8 +48,8 @@ proved-well_formed store instance solution league games limits answer good works
     let at_games : shown pair.second answer =
     takes-known (codes "solution") (store.contents solution) SOLUTION_LIMIT (store.took_more (front + SOLUTION_LIMIT))
     (store.failed solution) shown answer pair.second pair.second_known pair.second_within (second-works store instance solution [] works) at_solution in
-    says-known (codes "solution") (solution_of league.n (pieces pair.second)) games (IsShownBy league limits) answer
-    pair.says_games at_games
+    says-known (codes "solution") (solution_of league.n (pieces pair.second)) games (IsShownBy league limits may_stop)
+    answer pair.says_games at_games
 
 -- a file that wasn't refused was read
 reads-goes : (which : List ℕ) (known : Option (List ℕ)) (limit : ℕ) (long failed : Type 0) (next : List ℕ → Outcome)
@@ -65,23 +66,23 @@ reads-goes which known limit long failed next answer file is no_file no_fault (i
 -- files that are known, where none is refused
 proved-goes : (store : Store)
     (instance solution first second : List ℕ) (league : Instance) (games : List Game) (limits : Option ℕ → Type 0)
-    (answer : Answer) → store.contents instance ≡ Some first → store.contents solution ≡ Some second
+    (may_stop : Type 0) (answer : Answer) → store.contents instance ≡ Some first → store.contents solution ≡ Some second
     → instance_of (pieces first) ≡ Ok league → solution_of league.n (pieces second) ≡ Ok games
     → (answer.status ≡ File → ⊥) → (answer.status ≡ ReadFault → ⊥)
-    → proved store instance solution limits answer → IsShownBy league limits games answer
-proved-goes store instance solution first second league games limits answer first_known
+    → proved store instance solution limits may_stop answer → IsShownBy league limits may_stop games answer
+proved-goes store instance solution first second league games limits may_stop answer first_known
     second_known says_league says_games no_file no_fault given =
     let front : ℕ = length first in
     let next : List ℕ → Outcome = λ bytes. says (codes "instance") (instance_of (pieces bytes))
-    (solution_stages store solution limits (length bytes)) in
+    (solution_stages store solution limits may_stop (length bytes)) in
     let at_instance : next first answer =
     reads-goes (codes "instance") (store.contents instance) INSTANCE_LIMIT (store.took_more INSTANCE_LIMIT) (store.failed instance) next
     answer first first_known no_file no_fault given in
-    let at_league : solution_stages store solution limits front league answer =
+    let at_league : solution_stages store solution limits may_stop front league answer =
     says-known (codes "instance") (instance_of (pieces first)) league
-    (solution_stages store solution limits front) answer says_league at_instance in
+    (solution_stages store solution limits may_stop front) answer says_league at_instance in
     let shown : List ℕ → Outcome = λ bytes. says (codes "solution") (solution_of league.n (pieces bytes))
-    (IsShownBy league limits) in
+    (IsShownBy league limits may_stop) in
     let at_solution : takes (codes "solution") (store.contents solution) SOLUTION_LIMIT (store.took_more (front + SOLUTION_LIMIT))
     (store.failed solution) shown answer =
     few-yes league (λ few. takes (codes "solution") (store.contents solution) SOLUTION_LIMIT
@@ -89,7 +90,7 @@ proved-goes store instance solution first second league games limits answer firs
     let at_games : shown second answer =
     reads-goes (codes "solution") (store.contents solution) SOLUTION_LIMIT (store.took_more (front + SOLUTION_LIMIT))
     (store.failed solution) shown answer second second_known no_file no_fault at_solution in
-    says-known (codes "solution") (solution_of league.n (pieces second)) games (IsShownBy league limits) answer
+    says-known (codes "solution") (solution_of league.n (pieces second)) games (IsShownBy league limits may_stop) answer
     says_games at_games
 
 -- ---- statuses
@@ -97,8 +98,8 @@ proved-goes store instance solution first second league games limits answer firs
 other : (a b : Status) (answer : Answer) → answer.status ≡ a → answer.status ≡ b → a ≡ b
 other a b answer first second = sym first ∙ second
 
-pub shown-yes : (league : Instance) (conflicts : Option ℕ) (games : List Game) (answer : Answer)
-    → IsShown league conflicts games answer → answer.status ≡ Yes → IsLeast league conflicts games answer
+pub shown-yes : {may_stop : Type 0} (league : Instance) (conflicts : Option ℕ) (games : List Game) (answer : Answer)
+    → IsShown league conflicts may_stop games answer → answer.status ≡ Yes → IsLeast league conflicts games answer
 shown-yes league conflicts games answer (inl h) is = let same : No ≡ Yes = other No Yes answer h.status is in cc
 shown-yes league conflicts games answer (inr (inl h)) is = h
 shown-yes league conflicts games answer (inr (inr (inl h))) is =
@@ -106,8 +107,8 @@ shown-yes league conflicts games answer (inr (inr (inl h))) is =
 shown-yes league conflicts games answer (inr (inr (inr h))) is =
     let same : Spent ≡ Yes = other Spent Yes answer h.status is in cc
 
-pub shown-better : (league : Instance) (conflicts : Option ℕ) (games : List Game) (answer : Answer)
-    → IsShown league conflicts games answer → answer.status ≡ Better → IsBettered league games answer
+pub shown-better : {may_stop : Type 0} (league : Instance) (conflicts : Option ℕ) (games : List Game) (answer : Answer)
+    → IsShown league conflicts may_stop games answer → answer.status ≡ Better → IsBettered league games answer
 shown-better league conflicts games answer (inl h) is =
     let same : No ≡ Better = other No Better answer h.status is in cc
 shown-better league conflicts games answer (inr (inl h)) is =
@@ -122,8 +123,8 @@ no-feasible true status ended is passes = let same : No ≡ Yes = sym ended ∙ 
 no-feasible false status ended is passes = cc
 
 -- the answer is no exactly where the league doesn't accept the schedule
-pub shown-no : (league : Instance) (conflicts : Option ℕ) (games : List Game) (answer : Answer)
-    → IsShown league conflicts games answer → answer.status ≡ No → IsAccepted league (counts_of games) → ⊥
+pub shown-no : {may_stop : Type 0} (league : Instance) (conflicts : Option ℕ) (games : List Game) (answer : Answer)
+    → IsShown league conflicts may_stop games answer → answer.status ≡ No → IsAccepted league (counts_of games) → ⊥
 shown-no league conflicts games answer (inl h) is accepted =
     no-feasible h.judgement.feasible answer.status is h.judgement.status (h.judgement.accepted.1 accepted)
 shown-no league conflicts games answer (inr (inl h)) is accepted =
@@ -133,8 +134,8 @@ shown-no league conflicts games answer (inr (inr (inl h))) is accepted =
 shown-no league conflicts games answer (inr (inr (inr h))) is accepted =
     let same : Spent ≡ No = other Spent No answer h.status is in cc
 
-pub shown-refused : (league : Instance) (conflicts : Option ℕ) (games : List Game) (answer : Answer)
-    → (IsAccepted league (counts_of games) → ⊥) → IsShown league conflicts games answer → answer.status ≡ No
+pub shown-refused : {may_stop : Type 0} (league : Instance) (conflicts : Option ℕ) (games : List Game) (answer : Answer)
+    → (IsAccepted league (counts_of games) → ⊥) → IsShown league conflicts may_stop games answer → answer.status ≡ No
 shown-refused league conflicts games answer fails (inl h) = h.status
 shown-refused league conflicts games answer fails (inr (inl h)) = absurd (fails h.accepted)
 shown-refused league conflicts games answer fails (inr (inr (inl h))) = absurd (fails h.accepted)
@@ -156,25 +157,26 @@ better-no_fault answer is refused = let same : Better ≡ ReadFault = other Bett
 
 -- what an answer says by its status: where it is yes, the schedule's objective is the least; where it is a better
 -- schedule, the league accepts that
-pub record ShowsAs (league : Instance) (limits : Option ℕ → Type 0) (games : List Game) (answer : Answer) : Type 0 where
+pub record ShowsAs (league : Instance) (limits : Option ℕ → Type 0) (may_stop : Type 0) (games : List Game)
+    (answer : Answer) : Type 0 where
   pub least : answer.status ≡ Yes → (conflicts : Option ℕ) × IsLeast league conflicts games answer
   pub better : answer.status ≡ Better → IsBettered league games answer
 
 pub proved-known : (store : Store)
     (instance solution first second : List ℕ) (league : Instance) (games : List Game) (limits : Option ℕ → Type 0)
-    (answer : Answer) → store.contents instance ≡ Some first → store.contents solution ≡ Some second
+    (may_stop : Type 0) (answer : Answer) → store.contents instance ≡ Some first → store.contents solution ≡ Some second
     → instance_of (pieces first) ≡ Ok league → solution_of league.n (pieces second) ≡ Ok games
-    → proved store instance solution limits answer → ShowsAs league limits games answer
-proved-known store instance solution first second league games limits answer first_known second_known says_league
-    says_games given = record {
+    → proved store instance solution limits may_stop answer → ShowsAs league limits may_stop games answer
+proved-known store instance solution first second league games limits may_stop answer first_known second_known
+    says_league says_games given = record {
       least = λ is.
-          let shown : IsShownBy league limits games answer =
-          proved-goes store instance solution first second league games limits answer first_known second_known says_league
-          says_games (yes-no_file answer is) (yes-no_fault answer is) given in
+          let shown : IsShownBy league limits may_stop games answer =
+          proved-goes store instance solution first second league games limits may_stop answer first_known second_known
+          says_league says_games (yes-no_file answer is) (yes-no_fault answer is) given in
           (shown.0, shown-yes league shown.0 games answer shown.2 is);
       better = λ is.
-          let shown : IsShownBy league limits games answer =
-          proved-goes store instance solution first second league games limits answer first_known second_known says_league
-          says_games (better-no_file answer is) (better-no_fault answer is) given in
+          let shown : IsShownBy league limits may_stop games answer =
+          proved-goes store instance solution first second league games limits may_stop answer first_known second_known
+          says_league says_games (better-no_file answer is) (better-no_fault answer is) given in
           shown-better league shown.0 games answer shown.2 is;
     }

@@ -47,9 +47,10 @@ rejected-status : (feasible : Bool) (status : Status) → (IsTrue feasible → �
 rejected-status true status fails is = absurd (fails refl)
 rejected-status false status fails is = is
 
-pub shown-rejected : (league : Instance) (conflicts : Option ℕ) (games : List Game) (answer : Answer)
+pub shown-rejected : {may_stop : Type 0} (league : Instance) (conflicts : Option ℕ) (games : List Game)
+    (answer : Answer)
     → (IsAccepted league (counts_of games) → ⊥) → IsJudgement league games answer
-    → IsShown league conflicts games answer
+    → IsShown league conflicts may_stop games answer
 shown-rejected league conflicts games answer fails judged = inl (record {
   judgement = judged;
   status = rejected-status judged.feasible answer.status (λ is. fails (judged.accepted.0 is)) judged.status;
@@ -73,9 +74,10 @@ least-verdict league limit cost steps refutes = least-by league limit cost steps
 abbrev certificate_said : List Step → ℕ → Result Certificate Fault
 certificate_said log cost = Ok (record { bound = cost; log = log })
 
-pub shown-told : (league : Instance) (limit : Option ℕ) (games : List Game) (proved : Proved) (answer : Answer)
-    → IsTeamCount league.n → IsAccepted league (counts_of games)
-    → proofs.IsProved league (counts_of games) limit proved → Tells proved answer → IsShown league limit games answer
+pub shown-told : {may_stop : Type 0} (league : Instance) (limit : Option ℕ) (games : List Game) (proved : Proved)
+    (answer : Answer) → IsTeamCount league.n → IsAccepted league (counts_of games)
+    → proofs.IsProved league (counts_of games) limit may_stop proved → Tells proved answer
+    → IsShown league limit may_stop games answer
 shown-told league limit games (Least cost log) answer teams accepted is told = inr (inl (record {
   steps = log;
   accepted = accepted;
@@ -114,35 +116,35 @@ shown-told league limit games (Spent log) answer teams accepted is told = inr (i
   reads_back = told.reads_back;
 })))
 
-pub proved-written : (league : Instance) (m : Counts) (limit : Option ℕ) (proved : Proved)
-    → proofs.IsProved league m limit proved → CanBeWritten proved
+pub proved-written : {may_stop : Type 0} (league : Instance) (m : Counts) (limit : Option ℕ) (proved : Proved)
+    → proofs.IsProved league m limit may_stop proved → CanBeWritten proved
 proved-written league m limit (Least cost log) is = is.named
 proved-written league m limit (Better better cost) is = tt
 proved-written league m limit (Spent log) is = is.named
 
 -- ---- the same of a reply, unless memory ran out
 
-pub replied-rejected : {E : Type 0} (league : Instance) (conflicts : Option ℕ) (games : List Game)
+pub replied-rejected : {E may_stop : Type 0} (league : Instance) (conflicts : Option ℕ) (games : List Game)
     (result : Result Reply E) → (IsAccepted league (counts_of games) → ⊥)
     → IfOk result (λ reply. IsJudgement league games (answer_of reply))
-    → IfOk result (λ reply. IsShown league conflicts games (answer_of reply))
+    → IfOk result (λ reply. IsShown league conflicts may_stop games (answer_of reply))
 replied-rejected league conflicts games (Ok reply) fails judged =
     shown-rejected league conflicts games (answer_of reply) fails judged
 replied-rejected league conflicts games (Err error) fails judged = tt
 
-pub replied-told : {E : Type 0} (league : Instance) (limit : Option ℕ) (games : List Game) (proved : Proved)
+pub replied-told : {E may_stop : Type 0} (league : Instance) (limit : Option ℕ) (games : List Game) (proved : Proved)
     (result : Result Reply E) → IsTeamCount league.n → IsAccepted league (counts_of games)
-    → proofs.IsProved league (counts_of games) limit proved
+    → proofs.IsProved league (counts_of games) limit may_stop proved
     → IfOk result (λ reply. Tells proved (answer_of reply))
-    → IfOk result (λ reply. IsShown league limit games (answer_of reply))
+    → IfOk result (λ reply. IsShown league limit may_stop games (answer_of reply))
 replied-told league limit games proved (Ok reply) teams accepted is told =
     shown-told league limit games proved (answer_of reply) teams accepted is told
 replied-told league limit games proved (Err error) teams accepted is told = tt
 
 -- a reply within the limit to which the search kept
-pub replied-by : {E : Type 0} (league : Instance) (limits : Option ℕ → Type 0) (games : List Game)
+pub replied-by : {E may_stop : Type 0} (league : Instance) (limits : Option ℕ → Type 0) (games : List Game)
     (result : Result Reply E) (conflicts : Option ℕ) → limits conflicts
-    → IfOk result (λ reply. IsShown league conflicts games (answer_of reply))
-    → IfOk result (λ reply. IsShownBy league limits games (answer_of reply))
+    → IfOk result (λ reply. IsShown league conflicts may_stop games (answer_of reply))
+    → IfOk result (λ reply. IsShownBy league limits may_stop games (answer_of reply))
 replied-by league limits games (Ok reply) conflicts is shown = (conflicts, is, shown)
 replied-by league limits games (Err error) conflicts is shown = tt

@@ -63,15 +63,17 @@ pub record IsBettered (league : Instance) (games : List Game) (answer : Answer) 
   pub text : answer.text ≡ solution_text better (Some (0, objective league (counts_of better)))
   pub reads_back : solution_of league.n (pieces answer.text) ≡ Ok better
 
--- No single legal move betters the schedule. A log is written that is spent at the budget over the bound rows of one less
--- than the schedule's objective. If no line of the log passes the limit of a line, the text reads back as the log. The
--- budget is below 3 to the number of variables, so a greater budget, or none, is never spent.
-pub record IsSpentBelow (league : Instance) (conflicts : Option ℕ) (games : List Game) (answer : Answer) : Type 0
+-- No single legal move betters the schedule, where nothing may stop the run. A log is written that is spent at the
+-- budget over the bound rows of one less than the schedule's objective. If no line of the log passes the limit of a
+-- line, the text reads back as the log. The budget is below 3 to the number of variables, so a greater budget, or none,
+-- is never spent.
+pub record IsSpentBelow (league : Instance) (conflicts : Option ℕ) (may_stop : Type 0) (games : List Game)
+    (answer : Answer) : Type 0
   where
     pub steps : List Step
     pub accepted : IsAccepted league (counts_of games)
     pub some : 1 ≤ objective league (counts_of games)
-    pub settled : IsSettled league.n league.phased (league_score league) (counts_of games)
+    pub settled : may_stop ⊎ IsSettled league.n league.phased (league_score league) (counts_of games)
     pub budget : conflicts ≡ Some (length steps)
     pub spent : IsSpent (length steps) (bound_rows league (objective league (counts_of games) - 1)) (bound_vars league)
         steps
@@ -80,29 +82,30 @@ pub record IsSpentBelow (league : Instance) (conflicts : Option ℕ) (games : Li
     pub text : answer.text ≡ log_text steps
     pub reads_back : HasShortLines steps → log_of answer.text ≡ Ok steps
 
--- what is shown of a schedule, by a search that learns at most so many clauses
-abbrev pub IsShown : Instance → Option ℕ → List Game → Outcome
-IsShown league conflicts games answer =
+-- what is shown of a schedule, by a search that learns at most so many clauses, in a run that may be stopped where
+-- `may_stop` says so
+abbrev pub IsShown : Instance → Option ℕ → Type 0 → List Game → Outcome
+IsShown league conflicts may_stop games answer =
     IsRejected league games answer
     ⊎ (IsLeast league conflicts games answer
-    ⊎ (IsBettered league games answer ⊎ IsSpentBelow league conflicts games answer))
+    ⊎ (IsBettered league games answer ⊎ IsSpentBelow league conflicts may_stop games answer))
 
--- what is shown of a schedule, by a search that keeps to one of these limits
-abbrev pub IsShownBy : Instance → (Option ℕ → Type 0) → List Game → Outcome
-IsShownBy league limits games answer =
-    (conflicts : Option ℕ) × limits conflicts × IsShown league conflicts games answer
+-- that, by a search that keeps to one of these limits
+abbrev pub IsShownBy : Instance → (Option ℕ → Type 0) → Type 0 → List Game → Outcome
+IsShownBy league limits may_stop games answer =
+    (conflicts : Option ℕ) × limits conflicts × IsShown league conflicts may_stop games answer
 
 -- ---- stages
 
--- `prove`, over what a store shows
-abbrev pub proved : Store → List ℕ → List ℕ → (Option ℕ → Type 0) → Outcome
-proved store instance solution limits = do
+-- `prove`, over what a store shows, by a run that may be stopped where `may_stop` says so
+abbrev pub proved : Store → List ℕ → List ℕ → (Option ℕ → Type 0) → Type 0 → Outcome
+proved store instance solution limits may_stop = do
   first ← reads store (codes "instance") instance INSTANCE_LIMIT 0
   league ← says (codes "instance") (instance_of (pieces first))
   few ← has_few_terms league
   second ← reads store (codes "solution") solution SOLUTION_LIMIT (length first)
   games ← says (codes "solution") (solution_of league.n (pieces second))
-  IsShownBy league limits games
+  IsShownBy league limits may_stop games
 
 -- ---- a run
 

@@ -32,8 +32,8 @@ fn show<W: Watch>(
     requires few { length schedule.now ≤ 10000 }
     requires fit { All (IsGame league.now.n) schedule.now }
     requires counted { IsCounted league.now terms }
-    ensures { IfOk result (λ reply. IsShownBy league.now (IsKeptTo conflicts (W.may_stop watch.now)) schedule.now
-        (answer_of reply)) }
+    ensures { IfOk result (λ reply. IsShownBy league.now (IsKeptTo conflicts (W.may_stop watch.now))
+        (W.may_stop watch.now) schedule.now (answer_of reply)) }
 {
     let assessed = assess(alloc, league, schedule)?;
     if !assessed.feasible {
@@ -60,7 +60,7 @@ pub fn prove_file<S: Shelf, W: Watch>(
     watch: &W,
 ) -> Result<Reply, NoValue>
     ensures answer { Answers (proved (store_between S.Shelf shelf.old shelf.new)
-        instance.now solution.now (IsKeptTo conflicts (W.may_stop watch.now))) result }
+        instance.now solution.now (IsKeptTo conflicts (W.may_stop watch.now)) (W.may_stop watch.now)) result }
     ensures taken { S.taken shelf.new ≤ S.taken shelf.old + (INSTANCE_LIMIT + 1 + (SOLUTION_LIMIT + 1)) }
     ensures contents { (n : List ℕ) → S.contents shelf.new n ≡ S.contents shelf.old n }
 {

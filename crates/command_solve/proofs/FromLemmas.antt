@@ -1,19 +1,22 @@
 -- What `solve` answers from a season that is given: how its stages make it, and what follows of it.
-use Rattle.std.proofs.Common.{◌∷◌, [], ◌≡◌, ℕ, ◌+◌, ◌≤◌, List, length, Option, Some, Result, Ok, Err}
+use Rattle.std.proofs.Common.{◌∷◌, [], ◌≡◌, ℕ, ◌+◌, ◌≤◌, true, List, length, Option, Some, Result, Ok, Err}
 use Rattle.std.proofs.Common.{codes, ap, inl, inr, sym, subst, ◌∙◌}
 use Rattle.std.specs.Prelude.{IfSome}
 use Rattle.robin_io.specs.Outside.{Store}
 use Rattle.league.specs.Accepted.{IsAccepted, objective}
 use Rattle.league.specs.Counts.{counts_of}
-use Rattle.league.specs.Instance.{Instance}
+use Rattle.league.specs.Instance.{Instance, IsTeamCount}
 use Rattle.league.specs.Structure.{IsRoundRobin}
 use Rattle.league.specs.declared.game.Game.{Game}
+use Rattle.circle_method.specs.Circle.{double_games}
 use Rattle.robinx_tags.specs.Pieces.{pieces}
 use Rattle.robinx_form.specs.InstanceFile.{instance_of}
 use Rattle.robinx_form.specs.SolutionFile.{solution_of}
 use Rattle.robinx_form.specs.Walk.{Fault}
 use Rattle.robinx_read.specs.declared.instance.TheConstants.{INSTANCE_LIMIT, SOLUTION_LIMIT}
 use Rattle.answers.specs.Reply.{Answer}
+use Rattle.answers.specs.SeenReply.{answer_of}
+use Rattle.answers.specs.declared.reply.Reply.{Reply}
 use Rattle.answers.specs.Stages.{IsFile, IsUnread, NoneFails, Outcome, says, takes}
 use Rattle.answers.specs.declared.status.Status.{Status}
 use Rattle.answers.specs.declared.status.Status.TheVariants.{Yes, No, File, ReadFault, Refuted}
@@ -25,11 +28,14 @@ use Rattle.decoding.specs.Excluded.{NoneAccepted}
 use Rattle.command_check.specs.Check.{encodes}
 use Rattle.command_check.proofs.AnswerLemmas.{encodes-small}
 use Rattle.command_validate.specs.Validate.{IsWellFormedPair}
-use Rattle.command_solve.specs.From.{IsBegun, IsFoundFrom, IsNoStart, IsScheduleWithin, IsWellFormedStart, begun}
-use Rattle.command_solve.specs.Solve.{IsFound}
-use Rattle.solve.specs.Solutions.{CostsAtMost, IsSolution, IsSolutionBy}
+use Rattle.command_solve.specs.From.{IsBegun, IsFoundFrom, IsNoStart, IsWellFormedStart, begun}
+use Rattle.command_solve.specs.Written.{IsWritten}
+use Rattle.venue_counts.specs.VenueCounts.{are_crowded, are_short}
+use Rattle.break_counts.specs.BreakCounts.{are_few}
+use Rattle.solve.specs.Solutions.{CostsAtMost, HasSchedule, IsRefuted, IsSolutionBy}
 use Rattle.solve.specs.declared.solved.Solved.{Solved}
 use Rattle.command_solve.proofs.SolveAnswers.{found-refuted}
+use Rattle.command_solve.proofs.SolveFound.{found-by, written-within}
 
 -- ---- stages
 
@@ -74,17 +80,20 @@ begun-last store instance solution budgets may_stop first second league is_first
 
 -- what is found from a start is what is found of its league, and costs no more than the start
 pub found-answered : (league : Instance) (budgets : Budgets) (may_stop : Type 0) (start : List Game) (solved : Solved)
-    (answer : Answer) → encoding_size league ≤ most_terms → IsSolutionBy league budgets may_stop solved
+    (reply : Reply) → encoding_size league ≤ most_terms → IsTeamCount league.n
+    → IsSolutionBy league budgets may_stop solved
     → (IsAccepted league (counts_of start) → CostsAtMost (objective league (counts_of start)) solved)
-    → ((kept : Budgets) → IsSolution league kept solved → IsFound league kept (rows_of league) answer)
-    → ((kept : Budgets) (most : ℕ) → IsSolution league kept solved → CostsAtMost most solved
-    → IsScheduleWithin league kept.moves most answer)
-    → encodes league (IsFoundFrom league start budgets may_stop) answer
-found-answered league budgets may_stop start solved answer small by costs found within = inl (
+    → (IsAccepted league (counts_of (double_games league.n)) → HasSchedule solved)
+    → (are_short league ≡ true → IsRefuted solved) → (are_crowded league ≡ true → IsRefuted solved)
+    → (are_few league ≡ true → IsRefuted solved) → IsWritten league solved (answer_of reply)
+    → encodes league (IsFoundFrom league start budgets may_stop) (answer_of reply)
+found-answered league budgets may_stop start solved reply small teams by costs circle short crowded few written = inl (
   small,
   record {
-    found = record { kept = by.kept; are_kept = by.are_kept; is_found = found by.kept by.solution };
-    no_worse = λ accepted. within by.kept (objective league (counts_of start)) by.solution (costs accepted);
+    found = found-by league budgets may_stop solved reply teams by circle short crowded few written;
+    no_worse = λ accepted.
+        written-within league by.kept may_stop (objective league (counts_of start)) solved (answer_of reply) teams
+        by.solution (costs accepted) written;
   },
 )
 
@@ -192,7 +201,7 @@ begun-yes store instance solution first second budgets may_stop league start ans
 encoded-refuted : (league : Instance) (budgets : Budgets) (may_stop : Type 0) (start : List Game) (answer : Answer)
     → answer.status ≡ Refuted → encodes league (IsFoundFrom league start budgets may_stop) answer → NoneAccepted league
 encoded-refuted league budgets may_stop start answer ended (inl h) =
-    found-refuted league h.1.found.kept (rows_of league) answer ended h.1.found.is_found
+    found-refuted league h.1.found.kept may_stop (rows_of league) answer ended h.1.found.is_found
 encoded-refuted league budgets may_stop start answer ended (inr h) =
     let same : File ≡ Refuted = other File Refuted answer (ap (λ (a : Answer). a.status) h.1) ended in absurd (cc)
 

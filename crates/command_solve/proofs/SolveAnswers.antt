@@ -31,8 +31,9 @@ solved-well_formed store instance budgets may_stop league answer good works give
     (λ bytes. says (codes "instance") (instance_of (pieces bytes)) (λ l. encodes l (IsFoundBy l budgets may_stop))) answer
     good.bytes good.known good.within (first-works store instance [] works) given))
 
-pub found-refuted : (league : Instance) (budgets : Budgets) (rows : List Row) (answer : Answer) → answer.status ≡ Refuted → IsFound league budgets rows answer → NoneAccepted league
-found-refuted league budgets rows answer ended found =
+pub found-refuted : (league : Instance) (budgets : Budgets) (may_stop : Type 0) (rows : List Row) (answer : Answer)
+    → answer.status ≡ Refuted → IsFound league budgets may_stop rows answer → NoneAccepted league
+found-refuted league budgets may_stop rows answer ended found =
     elim found.found [
       | inl schedule ↦ let same : Yes ≡ Refuted = sym schedule.status ∙ ended in absurd (cc)
       | inr (inl refuted) ↦ refuted.none
@@ -42,7 +43,7 @@ found-refuted league budgets rows answer ended found =
 encoded-refuted : (league : Instance) (budgets : Budgets) (may_stop : Type 0) (answer : Answer)
     → answer.status ≡ Refuted → encodes league (IsFoundBy league budgets may_stop) answer → NoneAccepted league
 encoded-refuted league budgets may_stop answer ended (inl h) =
-    found-refuted league h.1.kept (rows_of league) answer ended h.1.is_found
+    found-refuted league h.1.kept may_stop (rows_of league) answer ended h.1.is_found
 encoded-refuted league budgets may_stop answer ended (inr h) = let same : File ≡ Refuted = sym (ap (λ (a : Answer). a.status) h.1) ∙ ended in absurd (cc)
 
 -- where the answer is a refutation, the league of the instance file accepts no list of games
@@ -55,9 +56,9 @@ solved-refuted store instance bytes budgets may_stop league answer known says_le
 
 -- ---- where nothing may stop the run
 
-found-unlimited : (league : Instance) (budgets : Budgets) (rows : List Row) (answer : Answer)
-    → budgets.conflicts ≡ None → IsFound league budgets rows answer → answer.status ≡ Spent → ⊥
-found-unlimited league budgets rows answer none found ended =
+found-unlimited : (league : Instance) (budgets : Budgets) (may_stop : Type 0) (rows : List Row) (answer : Answer)
+    → budgets.conflicts ≡ None → IsFound league budgets may_stop rows answer → answer.status ≡ Spent → ⊥
+found-unlimited league budgets may_stop rows answer none found ended =
     elim found.found [
       | inl schedule ↦ let same : Yes ≡ Spent = sym schedule.status ∙ ended in cc
       | inr (inl refuted) ↦ let same : Refuted ≡ Spent = sym refuted.status ∙ ended in cc
@@ -68,7 +69,7 @@ encoded-unlimited : (league : Instance) (budgets : Budgets) (may_stop : Type 0) 
     → budgets.conflicts ≡ None → (may_stop → ⊥) → encodes league (IsFoundBy league budgets may_stop) answer
     → answer.status ≡ Spent → ⊥
 encoded-unlimited league budgets may_stop answer none never (inl h) ended =
-    found-unlimited league h.1.kept (rows_of league) answer
+    found-unlimited league h.1.kept may_stop (rows_of league) answer
     (kept-unstopped budgets.conflicts may_stop h.1.kept.conflicts never h.1.are_kept.conflicts ∙ none) h.1.is_found
     ended
 encoded-unlimited league budgets may_stop answer none never (inr h) ended =

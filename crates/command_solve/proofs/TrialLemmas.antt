@@ -20,9 +20,11 @@ use Rattle.instance_gen.specs.Draws.{seeded}
 use Rattle.instance_gen.specs.Made.{made_league}
 use Rattle.solve.specs.Solutions as solutions
 use Rattle.solve.specs.declared.solved.Solved.{Solved}
+use Rattle.solve.specs.declared.solved.Solved.TheVariants as answers
 use Rattle.command_solve.specs.Solve.{descent_text}
 use Rattle.command_solve.proofs.SolveFound.{schedule-told}
 use Rattle.command_solve.specs.Trial.{IsTrial, IsTrialBy, found_lines, league_lines, tried}
+use Rattle.command_solve.specs.Written.{IsTrialWritten}
 
 -- what the first schedule of a descent costs
 abbrev first_cost : Instance → Descended → ℕ
@@ -39,33 +41,41 @@ lines_with seed league objective descent =
     league_lines league.n seed (length league.constraints)
     ++ found_lines objective (first_cost league descent) (length descent.trail) descent.settled
 
-trial-told : (seed : ℕ) (league : Instance) (moves : ℕ) (games : List Game) (objective : ℕ) (descent : Descended)
-    (answer : Answer) → IsTeamCount league.n → solutions.IsSchedule league moves games objective descent
-    → answer.status ≡ Yes
+trial-told : (seed : ℕ) (league : Instance) (moves : ℕ) (may_stop : Type 0) (games : List Game) (objective : ℕ)
+    (descent : Descended) (answer : Answer) → IsTeamCount league.n
+    → solutions.IsSchedule league moves may_stop games objective descent → answer.status ≡ Yes
     → answer.text ≡ lines_with seed league objective descent ++ solved_text league games objective descent
-    → IsTrial league.n seed league moves answer
-trial-told seed league moves games objective descent answer teams schedule status text =
+    → IsTrial league.n seed league moves may_stop answer
+trial-told seed league moves may_stop games objective descent answer teams schedule status text =
     let solved : Answer = record { status = Yes; text = solved_text league games objective descent } in
     record {
       solved = solved;
-      schedule = schedule-told league moves games objective descent solved teams schedule refl refl;
+      schedule = schedule-told league moves may_stop games objective descent solved teams schedule refl refl;
       status = status;
       text = text
           ∙ ap (λ (cost : ℕ). lines_with seed league cost descent ++ solved_text league games objective descent)
           schedule.cost;
     }
 
--- the lines before a reply, unless memory ran out
-pub replied-trial : {E : Type 0} (seed : ℕ) (league : Instance) (moves : ℕ) (games : List Game) (objective : ℕ)
-    (descent : Descended) (result : Result Reply E) → IsTeamCount league.n
-    → solutions.IsSchedule league moves games objective descent
+-- what is written is a trial
+written-trial : (seed : ℕ) (league : Instance) (budgets : Budgets) (may_stop : Type 0) (solved : Solved)
+    (answer : Answer) → IsTeamCount league.n → solutions.IsSolution league budgets may_stop solved
+    → IsTrialWritten seed league solved answer → IsTrial league.n seed league budgets.moves may_stop answer
+written-trial seed league budgets may_stop (answers.Schedule games objective descent) answer teams schedule written =
+    trial-told seed league budgets.moves may_stop games objective descent answer teams schedule written.0 written.1
+written-trial seed league budgets may_stop (answers.Refuted log) answer teams refutes written = absurd written
+written-trial seed league budgets may_stop (answers.Spent log patterns) answer teams spent written = absurd written
+
+-- what is written of a reply, unless memory ran out
+pub replied-trial : {E : Type 0} (seed : ℕ) (league : Instance) (solved : Solved) (games : List Game) (objective : ℕ)
+    (descent : Descended) (result : Result Reply E) → solved ≡ answers.Schedule games objective descent
     → IfOk result (λ reply. (answer_of reply).status ≡ Yes)
     → IfOk result (λ reply. (answer_of reply).text
     ≡ lines_with seed league objective descent ++ solved_text league games objective descent)
-    → IfOk result (λ reply. IsTrial league.n seed league moves (answer_of reply))
-replied-trial {E} seed league moves games objective descent (Ok reply) teams schedule status text =
-    trial-told seed league moves games objective descent (answer_of reply) teams schedule status text
-replied-trial {E} seed league moves games objective descent (Err error) teams schedule status text = tt
+    → IfOk result (λ reply. IsTrialWritten seed league solved (answer_of reply))
+replied-trial {E} seed league solved games objective descent (Ok reply) is status text =
+    subst (λ (s : Solved). IsTrialWritten seed league s (answer_of reply)) (sym is) (status, text)
+replied-trial {E} seed league solved games objective descent (Err error) is status text = tt
 
 -- ---- the made league
 
@@ -86,9 +96,11 @@ replied-tried n seed budgets may_stop league result is found =
 -- ---- within the budgets to which the run kept
 
 pub trial-by : (seed : ℕ) (league : Instance) (budgets : Budgets) (may_stop : Type 0) (solved : Solved) (reply : Reply)
-    → solutions.IsSolutionBy league budgets may_stop solved
-    → ((kept : Budgets) → solutions.IsSolution league kept solved
-    → IsTrial league.n seed league kept.moves (answer_of reply))
+    → IsTeamCount league.n → solutions.IsSolutionBy league budgets may_stop solved
+    → IsTrialWritten seed league solved (answer_of reply)
     → IsTrialBy league.n seed league budgets.moves may_stop (answer_of reply)
-trial-by seed league budgets may_stop solved reply by each =
-    record { kept = by.kept.moves; is_kept = by.are_kept.moves; is_trial = each by.kept by.solution }
+trial-by seed league budgets may_stop solved reply teams by written = record {
+  kept = by.kept.moves;
+  is_kept = by.are_kept.moves;
+  is_trial = written-trial seed league by.kept may_stop solved (answer_of reply) teams by.solution written;
+}

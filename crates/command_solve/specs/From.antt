@@ -29,8 +29,9 @@ pub record IsNoStart (league : Instance) (start : List Game) (answer : Answer) :
   pub status : answer.status ≡ No
 
 -- a season that the league accepts, and that costs at most so much, is written
-pub record IsScheduleWithin (league : Instance) (moves most : ℕ) (answer : Answer) : Type 0 where
-  pub schedule : IsSchedule league moves answer
+pub record IsScheduleWithin (league : Instance) (moves : ℕ) (may_stop : Type 0) (most : ℕ) (answer : Answer)
+    : Type 0 where
+  pub schedule : IsSchedule league moves may_stop answer
   pub within : objective league (counts_of schedule.games) ≤ most
 
 -- What is found from a start: what `solve` finds, and where the league accepts the start, a season that costs no more.
@@ -38,7 +39,7 @@ pub record IsFoundFrom (league : Instance) (start : List Game) (budgets : Budget
     (answer : Answer) : Type 0 where
   pub found : IsFoundBy league budgets may_stop rows answer
   pub no_worse : IsAccepted league (counts_of start)
-      → IsScheduleWithin league found.kept.moves (objective league (counts_of start)) answer
+      → IsScheduleWithin league found.kept.moves may_stop (objective league (counts_of start)) answer
 
 -- what is found from a season that is given, if it is a start and the league's rows aren't too many
 abbrev pub IsBegun : Instance → Budgets → Type 0 → List Game → Outcome

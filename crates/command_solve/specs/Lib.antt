@@ -9,3 +9,5 @@ pub mod Patterns
 pub mod Circle
 pub mod MadeInstance
 pub mod Trial
+-- Kept inside (what an answer is written as):
+pub mod Written

@@ -77,13 +77,13 @@ descent_text cost descent = descent_line cost descent ++ flat_map move_line desc
 -- behind it the descent that led to it; the whole reads back as these games. Taken backwards from the schedule, the
 -- moves are legal, each raises the score, and they end in an accepted schedule, whose objective is written too. As many
 -- moves as that objective says are enough to settle.
-pub record IsSchedule (league : Instance) (moves : ℕ) (answer : Answer) : Type 0 where
+pub record IsSchedule (league : Instance) (moves : ℕ) (may_stop : Type 0) (answer : Answer) : Type 0 where
   pub games : List Game
   pub descent : Descended
   pub accepted : IsAccepted league (counts_of games)
   pub fit : All (IsGame league.n) games
   pub in_order : IsInOrder games
-  pub descends : IsDescent league moves games descent
+  pub descends : IsDescent league moves may_stop games descent
   pub climbs : IsClimb league.n league.phased (league_score league) (counts_of games) (reverse descent.trail)
       (counts_of descent.first)
   pub settles : objective league (counts_of descent.first) ≤ moves → descent.settled ≡ true
@@ -119,9 +119,10 @@ pub record IsBudgetSpent (league : Instance) (rows : List Row) (budgets : Budget
 -- What is found of a league, over its rows and within budgets. Where the league accepts the schedule of the circle
 -- method, a schedule is; where its venue counts are short, or crowded, or it allows its teams too few breaks, a refutation
 -- is, whatever the budgets.
-pub record IsFound (league : Instance) (budgets : Budgets) (rows : List Row) (answer : Answer) : Type 0 where
+pub record IsFound (league : Instance) (budgets : Budgets) (may_stop : Type 0) (rows : List Row) (answer : Answer)
+    : Type 0 where
   pub found :
-      IsSchedule league budgets.moves answer
+      IsSchedule league budgets.moves may_stop answer
       ⊎ (IsRefuted league rows answer ⊎ IsBudgetSpent league rows budgets answer)
   pub circle : IsAccepted league (counts_of (double_games league.n)) → answer.status ≡ Yes
   pub short : are_short league ≡ true → answer.status ≡ Refuted
@@ -133,7 +134,7 @@ pub record IsFoundBy (league : Instance) (budgets : Budgets) (may_stop : Type 0)
     : Type 0 where
   pub kept : Budgets
   pub are_kept : AreKeptTo budgets may_stop kept
-  pub is_found : IsFound league kept rows answer
+  pub is_found : IsFound league kept may_stop rows answer
 
 -- ---- stages
 

@@ -41,9 +41,9 @@ summary n seed league games descent =
 
 -- A schedule of the league is found, which its summary calls that of n teams and a seed: the summary is written, and
 -- behind it what `solve` writes, which reads back as the schedule's games.
-pub record IsTrial (n seed : ℕ) (league : Instance) (moves : ℕ) (answer : Answer) : Type 0 where
+pub record IsTrial (n seed : ℕ) (league : Instance) (moves : ℕ) (may_stop : Type 0) (answer : Answer) : Type 0 where
   pub solved : Answer
-  pub schedule : IsSchedule league moves solved
+  pub schedule : IsSchedule league moves may_stop solved
   pub status : answer.status ≡ Yes
   pub text : answer.text ≡ summary n seed league schedule.games schedule.descent ++ solved.text
 
@@ -52,7 +52,7 @@ pub record IsTrialBy (n seed : ℕ) (league : Instance) (moves : ℕ) (may_stop 
     : Type 0 where
   pub kept : ℕ
   pub is_kept : IsKeptTo (Some moves) may_stop (Some kept)
-  pub is_trial : IsTrial n seed league kept answer
+  pub is_trial : IsTrial n seed league kept may_stop answer
 
 -- ---- stages
 

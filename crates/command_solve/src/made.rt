@@ -10,10 +10,10 @@ ghost use Rattle.robinx_form.specs.Texts as solutions;
 ghost use Rattle.answers.specs.SeenReply.{answer_of, Answers};
 ghost use Rattle.answers.specs.declared.status.Status.TheVariants.{Yes};
 ghost use Rattle.command_check.specs.Check.{encodes};
-ghost use Rattle.solve.specs.Solutions.{HasSchedule, IsSolution};
+ghost use Rattle.solve.specs.Solutions.{HasSchedule, IsSomeSolution};
 ghost use Rattle.command_solve.specs.Solve.{descent_text};
-ghost use Rattle.robin_watch.specs.declared.budgets.Budgets.{Budgets};
-ghost use Rattle.command_solve.specs.Trial.{IsTrial, IsTrialBy, found_lines, league_lines, tried};
+ghost use Rattle.command_solve.specs.Trial.{IsTrialBy, found_lines, league_lines, tried};
+ghost use Rattle.command_solve.specs.Written.{IsTrialWritten};
 
 use crate::schedules::{first_objective, schedule_text};
 use crate::summary::{found_lines, league_lines};
@@ -57,6 +57,7 @@ fn solve_made<W: Listener>(
     ensures { Answers (encodes league.now (λ rows. IsTrialBy league.now.n seed league.now budgets.moves
         (W.may_stop watch.now))) result }
 {
+    let _n = league.n();
     match solve(alloc, league, budgets, watch) {
         Ok(solved) => Ok(found_reply(alloc, league, seed, &solved)?),
         Err(EncodeFault::TooLarge { terms }) => Err(NoValue::Refused(rows_refused(alloc, terms)?)),
@@ -71,10 +72,9 @@ fn found_reply(
     seed: u64,
     solved: &Solved,
 ) -> Result<Reply, AllocError>
-    requires solution { (budgets : Budgets) × IsSolution league.now budgets solved.now }
+    requires solution { IsSomeSolution league.now solved.now }
     requires schedule { HasSchedule solved.now }
-    ensures { (budgets : Budgets) → IsSolution league.now budgets solved.now
-        → IfOk result (λ reply. IsTrial league.now.n seed league.now budgets.moves (answer_of reply)) }
+    ensures { IfOk result (λ reply. IsTrialWritten seed league.now solved.now (answer_of reply)) }
 {
     let _n = league.n();
     match solved {

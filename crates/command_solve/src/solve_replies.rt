@@ -1,13 +1,9 @@
 //! The answers of `solve`.
-ghost use Rattle.std.specs.Prelude.{true, ◌≡◌, ℕ, ◌≤◌, ◌++◌, length, IfOk, Ok, Some};
-ghost use Rattle.robin_watch.specs.declared.budgets.Budgets.{Budgets};
+ghost use Rattle.std.specs.Prelude.{◌≡◌, ◌≤◌, ◌++◌, length, IfOk, Ok, Some};
 ghost use Rattle.std.specs.List.{All};
 ghost use Rattle.league.specs.Accepted as costs;
-ghost use Rattle.league.specs.Accepted.{IsAccepted};
 ghost use Rattle.league.specs.Counts.{counts_of};
 ghost use Rattle.league.specs.Instance.{IsGame};
-ghost use Rattle.circle_method.specs.Circle.{double_games};
-ghost use Rattle.encoding_base.specs.Encoding.{rows_of};
 ghost use Rattle.robinx_form.specs.Texts as solutions;
 ghost use Rattle.answers.specs.SeenReply.{answer_of};
 ghost use Rattle.answers.specs.declared.status.Status.TheVariants.{Yes};
@@ -15,11 +11,9 @@ ghost use Rattle.refutation.specs.Logs.{log_of};
 ghost use Rattle.refutation.specs.Steps.{NamesRows};
 ghost use Rattle.refutation.specs.Texts as logs;
 ghost use Rattle.refutation.specs.Writable.{HasShortLines};
-ghost use Rattle.solve.specs.Solutions.{CostsAtMost, HasSchedule, IsRefuted, IsSolution};
-ghost use Rattle.venue_counts.specs.VenueCounts.{are_crowded, are_short};
-ghost use Rattle.break_counts.specs.BreakCounts.{are_few};
-ghost use Rattle.command_solve.specs.From.{IsScheduleWithin};
-ghost use Rattle.command_solve.specs.Solve.{IsFound, descent_text};
+ghost use Rattle.solve.specs.Solutions.{IsSomeSolution};
+ghost use Rattle.command_solve.specs.Solve.{descent_text};
+ghost use Rattle.command_solve.specs.Written.{IsWritten};
 
 use crate::schedules::{first_objective, schedule_text};
 use answers::{Reply, Status};
@@ -64,21 +58,14 @@ fn log_reply(alloc: Global, status: Status, log: &Log) -> Result<Reply, AllocErr
     Ok(Reply { status, text })
 }
 
-/// What is found of a league, whatever the budgets within which it was found.
+/// What is found of a league, written.
 pub(crate) fn found_reply(
     alloc: Global,
     league: &League,
     solved: &Solved,
 ) -> Result<Reply, AllocError>
-    requires solution { (budgets : Budgets) × IsSolution league.now budgets solved.now }
-    requires circle { IsAccepted league.now (counts_of (double_games league.now.n)) → HasSchedule solved.now }
-    requires short { are_short league.now ≡ true → IsRefuted solved.now }
-    requires crowded { are_crowded league.now ≡ true → IsRefuted solved.now }
-    requires few { are_few league.now ≡ true → IsRefuted solved.now }
-    ensures found { (budgets : Budgets) → IsSolution league.now budgets solved.now
-        → IfOk result (λ reply. IsFound league.now budgets (rows_of league.now) (answer_of reply)) }
-    ensures within { (budgets : Budgets) (most : ℕ) → IsSolution league.now budgets solved.now → CostsAtMost most solved.now
-        → IfOk result (λ reply. IsScheduleWithin league.now budgets.moves most (answer_of reply)) }
+    requires solution { IsSomeSolution league.now solved.now }
+    ensures { IfOk result (λ reply. IsWritten league.now solved.now (answer_of reply)) }
 {
     let _n = league.n();
     match solved {

@@ -1,5 +1,5 @@
 -- An objective of nothing, one that is bettered, and logs that are spent, over the leagues of LeastExamples.
-use Rattle.std.proofs.Common.{lit<, ◌≡◌, ℕ, zero, suc, ◌<◌, ◌≤◌, true, false}
+use Rattle.std.proofs.Common.{lit<, ◌≡◌, ◌⊎◌, inl, inr, ℕ, zero, suc, ◌<◌, ◌≤◌, true, false}
 use Rattle.std.proofs.Common.{nat_lt, List, [], ◌∷◌, drop, length, All, Option, Some}
 use Rattle.std.proofs.Common.{None, IsTrue, ◌-◌, ◌++◌, if◌then◌else◌, map, ap, arith, refl}
 use Rattle.std.proofs.Common.{subst}
@@ -141,29 +141,31 @@ spent-at_zero = record {
   tidy = All-nil (IsTidy 9);
 }
 
-pub spent-four : IsSpentBelow even_soon (counts_of zero_first) (Some 0) []
-spent-four = record { some = omega arith; settled = settled-four; spent = spent-at_zero; named = All-nil NamesRows }
+pub spent-four : IsSpentBelow even_soon (counts_of zero_first) (Some 0) ⊥ []
+spent-four = record { some = omega arith; settled = inr settled-four; spent = spent-at_zero; named = All-nil NamesRows }
 
 -- the budget is as many steps as there are, and without one nothing is spent
 no_budget : (steps : List Step) → ◌≡◌ {A = Option ℕ} None (Some (length steps)) → ⊥
 no_budget steps is = cc
 
-pub spent-never : (league : Instance) (m : Counts) (steps : List Step) → IsSpentBelow league m None steps → ⊥
-spent-never league m steps is = no_budget steps is.spent.limited
+pub spent-never : (league : Instance) (m : Counts) (may_stop : Type 0) (steps : List Step)
+    → IsSpentBelow league m None may_stop steps → ⊥
+spent-never league m may_stop steps is = no_budget steps is.spent.limited
 
 other_budget : (most : ℕ) → 1 ≤ most → ◌≡◌ {A = Option ℕ} (Some most) (Some 0) → ⊥
 other_budget most some is = let same : most ≡ 0 = cc in omega (arith, some, same)
 
-pub spent-short : (m : Counts) → IsSpentBelow even_soon m (Some 1) [] → ⊥
-spent-short m is = other_budget 1 (omega arith) is.spent.limited
+pub spent-short : (m : Counts) (may_stop : Type 0) → IsSpentBelow even_soon m (Some 1) may_stop [] → ⊥
+spent-short m may_stop is = other_budget 1 (omega arith) is.spent.limited
 
--- nothing is spent on a season that costs nothing, nor on one that a move betters: their home swap costs nothing
+-- nothing is spent on a season that costs nothing, nor, where nothing may stop the run, on one that a move betters:
+-- their home swap costs nothing
 none_one : (n : ℕ) → n ≡ 0 → 1 ≤ n → ⊥
 none_one n none some = omega (arith, none, some)
 
-pub spent-nothing : (limit : Option ℕ) (steps : List Step)
-    → IsSpentBelow away_first (counts_of one_first) limit steps → ⊥
-spent-nothing limit steps is = none_one 0 refl is.some
+pub spent-nothing : (limit : Option ℕ) (may_stop : Type 0) (steps : List Step)
+    → IsSpentBelow away_first (counts_of one_first) limit may_stop steps → ⊥
+spent-nothing limit may_stop steps is = none_one 0 refl is.some
 
 pub swap-lowers : IsLowering 2 false (league_score away_first) (counts_of zero_first) (home_swap (0, 1))
 swap-lowers = record {
@@ -172,9 +174,13 @@ swap-lowers = record {
   lower = refl;
 }
 
+settled-not : ⊥ ⊎ IsSettled 2 false (league_score away_first) (counts_of zero_first) → ⊥
+settled-not (inl may) = may
+settled-not (inr settled) = settled (home_swap (0, 1)) swap-lowers
+
 pub spent-unsettled : (limit : Option ℕ) (steps : List Step)
-    → IsSpentBelow away_first (counts_of zero_first) limit steps → ⊥
-spent-unsettled limit steps is = is.settled (home_swap (0, 1)) swap-lowers
+    → IsSpentBelow away_first (counts_of zero_first) limit ⊥ steps → ⊥
+spent-unsettled limit steps is = settled-not is.settled
 
 -- ---- what propagation alone refutes is least at any limit, and spent at none: team 1 is to be away nowhere, at 7
 
@@ -309,9 +315,9 @@ never_quiet values paid home one =
     let second : values 8 ≡ True = eight values none_nine none_ten home (values 8) refl in
     omega (arith, one.no_conflict, ap not_at_home first, ap not_at_home second)
 
-pub spent-nowhere : (m : Counts) (limit : Option ℕ) (steps : List Step)
-    → objective never_away m ≡ 7 → IsSpentBelow never_away m limit steps → ⊥
-spent-nowhere m limit steps costs is =
+pub spent-nowhere : (m : Counts) (limit : Option ℕ) (may_stop : Type 0) (steps : List Step)
+    → objective never_away m ≡ 7 → IsSpentBelow never_away m limit may_stop steps → ⊥
+spent-nowhere m limit may_stop steps costs is =
     let quiet : IsQuiet is.spent.spent.quiet.0 (bound_rows never_away 6 ++ map row_of steps) =
     subst (λ (n : ℕ). IsQuiet is.spent.spent.quiet.0 (bound_rows never_away (n - 1) ++ map row_of steps)) costs
     is.spent.spent.quiet.1 in

@@ -1,6 +1,6 @@
 -- What `validate`, `solve` and `patterns` answer of leagues of two teams. x(0,1,s) is 1 + s, x(1,0,s) 3 + s, h(0,s) 5 + s,
 -- and h(1,s) 7 + s.
-use Rattle.std.proofs.Common.{lit<, ◌≡◌, ℕ, zero, suc, ◌<◌, ◌≤◌, Bool, true, false, if◌then◌else◌, List, []}
+use Rattle.std.proofs.Common.{lit<, ◌≡◌, ◌⊎◌, ℕ, zero, suc, ◌<◌, ◌≤◌, Bool, true, false, if◌then◌else◌, List, []}
 use Rattle.std.proofs.Common.{◌∷◌, ◌++◌, ◌==◌, length, Option, Some, None, Ok, IsSomeAnd, IsTrue, codes}
 use Rattle.std.proofs.Common.{nat_lt, All, arith, inl, inr, refl}
 use Rattle.std.proofs.Common.{sym, ◌∙◌}
@@ -111,16 +111,43 @@ still = record { first = zero_first; trail = []; settled = true }
 pub no_true : true ≡ false → ⊥
 no_true is = cc
 
-descent-still : IsDescent even_soon 0 zero_first still
+descent-still : IsDescent even_soon 0 ⊥ zero_first still
 descent-still = record {
   first = even-accepted;
   fit = zero-fit;
   in_order = zero-in_order;
   trail = refl;
   few = omega arith;
-  settled = (λ yes. settled-four, λ settled. refl);
+  settled = λ yes. settled-four;
   spent = λ no. absurd (no_true no);
+  costly = λ no. absurd (no_true no);
+  lowers = λ no. absurd (no_true no);
 }
+
+-- a descent that may be stopped may say that it isn't settled though it is, and one that nothing may stop may not
+abbrev looking : Descended
+looking = record { first = zero_first; trail = []; settled = false }
+
+pub descent-looking : IsDescent even_soon 0 (Unit {0}) zero_first looking
+descent-looking = record {
+  first = even-accepted;
+  fit = zero-fit;
+  in_order = zero-in_order;
+  trail = refl;
+  few = omega arith;
+  settled = λ yes. absurd (false_true yes);
+  spent = λ no. refl;
+  costly = λ no. omega arith;
+  lowers = λ no. inl tt;
+}
+
+lowers_none : (P : Type 0) → P → ⊥ ⊎ (P → ⊥) → ⊥
+lowers_none P holds (inl may) = may
+lowers_none P holds (inr fails) = fails holds
+
+pub descent-looked : IsDescent even_soon 0 ⊥ zero_first looking → ⊥
+descent-looked is =
+    lowers_none (IsSettled 2 false (league_score even_soon) (counts_of zero_first)) settled-four (is.lowers refl)
 
 abbrev found : Answer
 found = record {
@@ -140,7 +167,7 @@ found-read : solution_of 2 (pieces found.text) ≡ Ok zero_first
 unfolding attributes_at pieces_from walk
 found-read = refl
 
-pub schedule-zero : IsSchedule even_soon 0 found
+pub schedule-zero : IsSchedule even_soon 0 ⊥ found
 schedule-zero = record {
   games = zero_first;
   descent = still;
@@ -158,7 +185,7 @@ schedule-zero = record {
 abbrev pub budgets : Budgets
 budgets = record { conflicts = Some 0; moves = 0; tries = 1; patterns = 0; seed = 5 }
 
-pub found-zero : IsFound even_soon budgets (rows_of even_soon) found
+pub found-zero : IsFound even_soon budgets ⊥ (rows_of even_soon) found
 found-zero = record {
   found = inl schedule-zero;
   circle = λ accepted. refl;
@@ -167,7 +194,7 @@ found-zero = record {
   few = λ few. absurd (false_true few);
 }
 
-pub solved-zero : Writes (ended_with Yes (Some []) (Some found.text)) (IsFound even_soon budgets (rows_of even_soon))
+pub solved-zero : Writes (ended_with Yes (Some []) (Some found.text)) (IsFound even_soon budgets ⊥ (rows_of even_soon))
 solved-zero = record { answer = found; of_kind = found-zero; ended = refl; written = refl }
 
 -- ---- one move: team 0 is to be away in slot 0, and to exchange the venues of the two games saves 3
@@ -229,30 +256,38 @@ nothing_lower cost lower = omega (arith, ltb-true cost 0 lower)
 away-settled : IsSettled 2 false (league_score away_first) (counts_of one_first)
 away-settled step lowers = nothing_lower (objective away_first (moved 2 (counts_of one_first) step)) lowers.lower
 
-pub descent-one : IsDescent away_first 1 one_first one_move
+pub descent-one : IsDescent away_first 1 ⊥ one_first one_move
 descent-one = record {
   first = away-zero;
   fit = zero-fit;
   in_order = zero-in_order;
   trail = swap-trail;
   few = omega arith;
-  settled = (λ yes. away-settled, λ settled. refl);
+  settled = λ yes. away-settled;
   spent = λ no. absurd (no_true no);
+  costly = λ no. absurd (no_true no);
+  lowers = λ no. absurd (no_true no);
 }
 
 -- no move may be made
 one_none : (n : ℕ) → n ≡ 1 → n ≤ 0 → ⊥
 one_none n one none = omega (arith, one, none)
 
-pub descent-none : IsDescent away_first 0 one_first one_move → ⊥
-descent-none is = one_none 1 refl is.few
+pub descent-none : (may_stop : Type 0) → IsDescent away_first 0 may_stop one_first one_move → ⊥
+descent-none may_stop is = one_none 1 refl is.few
 
 -- a settled end isn't called unsettled, nor the season before the move settled
-pub descent-unsettled : IsDescent away_first 1 one_first (record one_move { settled = false }) → ⊥
-descent-unsettled is = false_true (is.settled.1 away-settled)
+pub descent-unsettled : IsDescent away_first 1 ⊥ one_first (record one_move { settled = false }) → ⊥
+descent-unsettled is =
+    lowers_none (IsSettled 2 false (league_score away_first) (counts_of one_first)) away-settled (is.lowers refl)
 
-pub descent-unmoved : (moves : ℕ) → IsDescent away_first moves zero_first still → ⊥
-descent-unmoved moves is = is.settled.0 refl swap swap-lowers
+pub descent-unmoved : (moves : ℕ) (may_stop : Type 0) → IsDescent away_first moves may_stop zero_first still → ⊥
+descent-unmoved moves may_stop is = is.settled refl swap swap-lowers
+
+-- nor is an end that costs nothing, stopped or not
+pub descent-free : (may_stop : Type 0)
+    → IsDescent away_first 1 may_stop one_first (record one_move { settled = false }) → ⊥
+descent-free may_stop is = one_none 1 refl (is.costly refl)
 
 abbrev moved_file : Answer
 moved_file = record {
@@ -272,7 +307,7 @@ moved-read : solution_of 2 (pieces moved_file.text) ≡ Ok one_first
 unfolding attributes_at pieces_from walk
 moved-read = refl
 
-pub schedule-one : IsSchedule away_first 1 moved_file
+pub schedule-one : IsSchedule away_first 1 ⊥ moved_file
 schedule-one = record {
   games = one_first;
   descent = one_move;
@@ -338,13 +373,13 @@ refuted-home = record {
 }
 
 -- no season is its answer, and what accepts a season isn't refuted
-pub schedule-home : (moves : ℕ) (answer : Answer) → IsSchedule home_last moves answer → ⊥
-schedule-home moves answer is = none is.games is.accepted
+pub schedule-home : (moves : ℕ) (may_stop : Type 0) (answer : Answer) → IsSchedule home_last moves may_stop answer → ⊥
+schedule-home moves may_stop answer is = none is.games is.accepted
 
 pub refuted-even : (answer : Answer) → IsRefuted even_soon (rows_of even_soon) answer → ⊥
 refuted-even answer is = is.none zero_first even-accepted
 
-pub found-home : IsFound home_last budgets (rows_of home_last) refutation
+pub found-home : IsFound home_last budgets ⊥ (rows_of home_last) refutation
 found-home = record {
   found = inr (inl refuted-home);
   circle = λ accepted. absurd (none (double_games 2) accepted);
@@ -353,11 +388,12 @@ found-home = record {
   few = λ few. refl;
 }
 
-pub solved-home : Writes (ended_with Refuted (Some (codes "> ")) (Some (codes "> " ++ refutation.text))) (IsFound home_last budgets (rows_of home_last))
+pub solved-home : Writes (ended_with Refuted (Some (codes "> ")) (Some (codes "> " ++ refutation.text))) (IsFound home_last budgets ⊥ (rows_of home_last))
 solved-home = record { answer = refutation; of_kind = found-home; ended = refl; written = refl }
 
-pub solved-no_schedule : (old new : Option (List ℕ)) → Writes (ended_with Yes old new) (IsFound home_last budgets (rows_of home_last)) → ⊥
-solved-no_schedule old new is = other_status (sym (is.of_kind.short refl) ∙ sym is.ended)
+pub solved-no_schedule : (may_stop : Type 0) (old new : Option (List ℕ))
+    → Writes (ended_with Yes old new) (IsFound home_last budgets may_stop (rows_of home_last)) → ⊥
+solved-no_schedule may_stop old new is = other_status (sym (is.of_kind.short refl) ∙ sym is.ended)
   where
     other_status : Refuted ≡ Yes → ⊥
     other_status same = cc
@@ -506,8 +542,8 @@ circle-accepted = record {
   hard = MeetsHard-from_sum even_soon (counts_of (double_games 2)) refl;
 }
 
-pub found-spent : IsFound even_soon budgets (rows_of even_soon) spent → ⊥
-found-spent is = spent_yes (is.circle circle-accepted)
+pub found-spent : (may_stop : Type 0) → IsFound even_soon budgets may_stop (rows_of even_soon) spent → ⊥
+found-spent may_stop is = spent_yes (is.circle circle-accepted)
 
 -- where the game of team 0 at home is to be in slot 0, the circle's season isn't accepted, and the budget may be spent:
 -- where 1, 4, 5 and 8 are true, which is the other season, no row is in conflict, and none has a literal to force
@@ -549,7 +585,7 @@ one_above n one none = omega (arith, one, none)
 circle-unwanted : IsAccepted wanted (counts_of (double_games 2)) → ⊥
 circle-unwanted accepted = one_above 1 refl (sum-from_MeetsHard wanted (counts_of (double_games 2)) accepted.hard)
 
-pub found-wanted : IsFound wanted budgets (rows_of wanted) spent
+pub found-wanted : IsFound wanted budgets ⊥ (rows_of wanted) spent
 found-wanted = record {
   found = inr (inr solve-wanted);
   circle = λ accepted. absurd (circle-unwanted accepted);
@@ -558,14 +594,14 @@ found-wanted = record {
   few = λ few. absurd (false_true few);
 }
 
-pub solved-wanted : Writes (ended_with Spent (Some []) (Some (codes "refutation 1\nend\n"))) (IsFound wanted budgets (rows_of wanted))
+pub solved-wanted : Writes (ended_with Spent (Some []) (Some (codes "refutation 1\nend\n"))) (IsFound wanted budgets ⊥ (rows_of wanted))
 solved-wanted = record { answer = spent; of_kind = found-wanted; ended = refl; written = refl }
 
 refuted_spent : Spent ≡ Refuted → ⊥
 refuted_spent is = cc
 
-pub found-short : IsFound home_last budgets (rows_of home_last) spent → ⊥
-found-short is = refuted_spent (is.short refl)
+pub found-short : (may_stop : Type 0) → IsFound home_last budgets may_stop (rows_of home_last) spent → ⊥
+found-short may_stop is = refuted_spent (is.short refl)
 
 -- both are to be at home in slot 0, which is more than one can be
 abbrev crowd : Instance
@@ -575,8 +611,8 @@ crowd = record {
   constraints = record { hard = true; penalty = 1; class = Ca1 (0 ∷ 1 ∷ []) 1 2 H (0 ∷ []) } ∷ [];
 }
 
-pub found-crowded : IsFound crowd budgets (rows_of crowd) spent → ⊥
-found-crowded is = refuted_spent (is.crowded refl)
+pub found-crowded : (may_stop : Type 0) → IsFound crowd budgets may_stop (rows_of crowd) spent → ⊥
+found-crowded may_stop is = refuted_spent (is.crowded refl)
 
 -- four teams need two breaks in the season of a league without phases, and may have one
 abbrev one_break : Instance
@@ -590,8 +626,8 @@ one_break = record {
   } ∷ [];
 }
 
-pub found-few : IsFound one_break budgets (rows_of one_break) spent → ⊥
-found-few is = refuted_spent (is.few refl)
+pub found-few : (may_stop : Type 0) → IsFound one_break budgets may_stop (rows_of one_break) spent → ⊥
+found-few may_stop is = refuted_spent (is.few refl)
 
 -- what accepts a season has no refuted patterns
 pub patterns-even : (conflicts : Option ℕ) (answer : Answer) → patterned.IsRefuted even_soon conflicts answer → ⊥

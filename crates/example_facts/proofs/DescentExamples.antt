@@ -1,7 +1,7 @@
 -- Descents of the league of SolveExamples, what a search leaves open, whole answers, and the best of two tries.
 use Rattle.std.proofs.Common.{lit<, lit≤, ◌≡◌, ℕ, zero, suc, ◌+◌, ◌<◌, ◌≤◌, ◌==◌, Bool, true, false, ◌&&◌, ◌||◌, nat_lt, cond}
 use Rattle.std.proofs.Common.{if◌then◌else◌, List, [], ◌∷◌, get_or, length, Option, Some, None, IfSome}
-use Rattle.std.proofs.Common.{inl, refl, sym, arith, ap, ap₂, IsTrue}
+use Rattle.std.proofs.Common.{inl, inr, refl, sym, arith, ap, ap₂, IsTrue}
 use Rattle.std.proofs.Math.Path.{fun_ext}
 use Rattle.std.proofs.lemmas.Bool.Decides.{nat_tests}
 use Rattle.std.proofs.lemmas.List.Elements.{All-from_recursion, All-nil}
@@ -51,40 +51,40 @@ lowers-home = record {
 abbrev stopped : Descended
 stopped = record { first = home; trail = []; settled = false }
 
-pub descent-stopped : IsDescent wishful 0 home stopped
+pub descent-stopped : IsDescent wishful 0 ⊥ home stopped
 descent-stopped = record {
   first = accepted_home;
   fit = fits_home;
   in_order = ordered_home;
   trail = refl;
   few = omega arith;
-  settled = (
-    λ yes. absurd (false_true yes),
-    λ settled. absurd (settled (home_swap (0, 1)) lowers-home),
-  );
+  settled = λ yes. absurd (false_true yes);
   spent = λ no. refl;
+  costly = λ no. lit≤ tt;
+  lowers = λ no. inr (λ settled. settled (home_swap (0, 1)) lowers-home);
 }
 
--- a descent that may make no move may not say that it is settled
-pub descent-unsettled : IsDescent wishful 0 home (record { first = home; trail = []; settled = true }) → ⊥
-descent-unsettled is = is.settled.0 refl (home_swap (0, 1)) lowers-home
+-- a descent that may make no move may not say that it is settled, stopped or not
+pub descent-unsettled : (may_stop : Type 0)
+    → IsDescent wishful 0 may_stop home (record { first = home; trail = []; settled = true }) → ⊥
+descent-unsettled may_stop is = is.settled refl (home_swap (0, 1)) lowers-home
 
 -- where no move was made, the games are the first ones, which the league accepts
 none_one : ◌≡◌ {A = ℕ} 0 1 → ⊥
 none_one is = omega (arith, is)
 
-pub descent-elsewhere : (moves : ℕ) (settled : Bool)
-    → IsDescent wishful moves out (record { first = home; trail = []; settled = settled }) → ⊥
-descent-elsewhere moves settled is = none_one (ap (λ (m : Counts). m 1 0 0) is.trail)
+pub descent-elsewhere : (moves : ℕ) (may_stop : Type 0) (settled : Bool)
+    → IsDescent wishful moves may_stop out (record { first = home; trail = []; settled = settled }) → ⊥
+descent-elsewhere moves may_stop settled is = none_one (ap (λ (m : Counts). m 1 0 0) is.trail)
 
 two_wrong : ◌≡◌ {A = ℕ} 2 0 → ⊥
 two_wrong is = omega (arith, is)
 
-pub descent-from_nothing : (moves : ℕ) (trail : List Swap) (settled : Bool)
-    → IsDescent wishful moves out (record { first = []; trail = trail; settled = settled }) → ⊥
-descent-from_nothing moves trail settled is = two_wrong is.first.round_robin.pairs
+pub descent-from_nothing : (moves : ℕ) (may_stop : Type 0) (trail : List Swap) (settled : Bool)
+    → IsDescent wishful moves may_stop out (record { first = []; trail = trail; settled = settled }) → ⊥
+descent-from_nothing moves may_stop trail settled is = two_wrong is.first.round_robin.pairs
 
-pub schedule-stopped : IsSchedule wishful 0 home 5 stopped
+pub schedule-stopped : IsSchedule wishful 0 ⊥ home 5 stopped
 schedule-stopped = record {
   accepted = accepted_home;
   fit = fits_home;
@@ -143,18 +143,20 @@ lowered = record { first = home; trail = home_swap (0, 1) ∷ []; settled = true
 true_false : true ≡ false → ⊥
 true_false is = cc
 
-pub descent-lowered : IsDescent wishful 1 out lowered
+pub descent-lowered : IsDescent wishful 1 ⊥ out lowered
 descent-lowered = record {
   first = accepted_home;
   fit = fits_home;
   in_order = ordered_home;
   trail = (lowers-home, swapped_home);
   few = omega arith;
-  settled = (λ yes. settled_out, λ settled. refl);
+  settled = λ yes. settled_out;
   spent = λ no. absurd (true_false no);
+  costly = λ no. absurd (true_false no);
+  lowers = λ no. absurd (true_false no);
 }
 
-pub schedule-lowered : IsSchedule wishful 1 out 0 lowered
+pub schedule-lowered : IsSchedule wishful 1 ⊥ out 0 lowered
 schedule-lowered = record {
   accepted = accepted_out;
   fit = fits_out;
@@ -167,8 +169,8 @@ no_move : 1 ≤ 0 → ⊥
 no_move few = omega (arith, few)
 
 -- what a move led to is no descent where no move may be made
-pub descent-no_move : IsDescent wishful 0 out lowered → ⊥
-descent-no_move is = no_move is.few
+pub descent-no_move : (may_stop : Type 0) → IsDescent wishful 0 may_stop out lowered → ⊥
+descent-no_move may_stop is = no_move is.few
 
 -- ---- what is left open: team 0 is away and then at home, team 1 the other way round
 
@@ -238,29 +240,29 @@ leaves-spent = record {
 abbrev budgets : Budgets
 budgets = record { conflicts = Some 0; moves = 1; tries = 1; patterns = 0; seed = 3 }
 
-pub solution-schedule : IsSolution wishful budgets (solved.Schedule out 0 lowered)
+pub solution-schedule : IsSolution wishful budgets ⊥ (solved.Schedule out 0 lowered)
 solution-schedule = schedule-lowered
 
-pub solution-refuted : IsSolution homes budgets (solved.Refuted log)
+pub solution-refuted : IsSolution homes budgets ⊥ (solved.Refuted log)
 solution-refuted = refutes-homes
 
-pub solution-spent : IsSolution one_there budgets (solved.Spent [] (patterns.Patterns turns))
-    × IsSolution one_there budgets (solved.Spent [] (patterns.Spent []))
+pub solution-spent : IsSolution one_there budgets ⊥ (solved.Spent [] (patterns.Patterns turns))
+    × IsSolution one_there budgets ⊥ (solved.Spent [] (patterns.Spent []))
 solution-spent = ((spent-one_there, leaves-patterns), (spent-one_there, leaves-spent))
 
 -- `home` is no answer for what `out` costs
 dear_home : ◌≡◌ {A = ℕ} 0 5 → ⊥
 dear_home is = omega (arith, is)
 
-pub solution-cheap : IsSolution wishful budgets (solved.Schedule home 0 stopped) → ⊥
-solution-cheap is = dear_home is.cost
+pub solution-cheap : (may_stop : Type 0) → IsSolution wishful budgets may_stop (solved.Schedule home 0 stopped) → ⊥
+solution-cheap may_stop is = dear_home is.cost
 
 -- ---- the best of two tries, neither of which may move: the first stops at `home`, the second finds `out`
 
 abbrev resting : Descended
 resting = record { first = out; trail = []; settled = true }
 
-season_out : IsSchedule wishful 0 out 0 resting
+season_out : IsSchedule wishful 0 ⊥ out 0 resting
 season_out = record {
   accepted = accepted_out;
   fit = fits_out;
@@ -272,8 +274,10 @@ season_out = record {
     in_order = ordered_out;
     trail = refl;
     few = omega arith;
-    settled = (λ yes. settled_out, λ settled. refl);
+    settled = λ yes. settled_out;
     spent = λ no. absurd (true_false no);
+    costly = λ no. absurd (true_false no);
+    lowers = λ no. absurd (true_false no);
   };
 }
 

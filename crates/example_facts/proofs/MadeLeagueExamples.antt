@@ -142,15 +142,17 @@ made-settled =
     let step : Swap = get_or (all_moves 2) k d in
     false_true (sym (not-true (is_lowered step) (none_lowers k d within)) ∙ lowers.lower))
 
-made-descent : IsDescent made 0 one_first first_still
+made-descent : IsDescent made 0 ⊥ one_first first_still
 made-descent = record {
   first = made-accepts;
   fit = one-fit;
   in_order = one-in_order;
   trail = refl;
   few = omega arith;
-  settled = (λ yes. made-settled, λ settled. refl);
+  settled = λ yes. made-settled;
   spent = λ no. absurd (no_true no);
+  costly = λ no. absurd (no_true no);
+  lowers = λ no. absurd (no_true no);
 }
 
 abbrev made_found : Answer
@@ -174,7 +176,7 @@ made_found-read = refl
 made-costs : objective made (counts_of one_first) ≡ 2
 made-costs = refl
 
-pub made-schedule : IsSchedule made 0 made_found
+pub made-schedule : IsSchedule made 0 ⊥ made_found
 made-schedule = record {
   games = one_first;
   descent = first_still;
@@ -199,7 +201,7 @@ trial-lines = refl
 abbrev trial_answer : Answer
 trial_answer = record { status = Yes; text = trial_lines ++ made_found.text }
 
-pub trial-three : IsTrial 2 3 made 0 trial_answer
+pub trial-three : IsTrial 2 3 made 0 ⊥ trial_answer
 unfolding made-schedule
 trial-three = record {
   solved = made_found;
@@ -208,29 +210,31 @@ trial-three = record {
   text = ap (λ (front : List ℕ). front ++ made_found.text) trial-lines;
 }
 
-pub tried-three : Writes (ended_with Yes (Some []) (Some trial_answer.text)) (IsTrial 2 3 (made_league 2 (seeded 3)) budgets.moves)
+pub tried-three : Writes (ended_with Yes (Some []) (Some trial_answer.text)) (IsTrial 2 3 (made_league 2 (seeded 3)) budgets.moves ⊥)
 tried-three = record {
   answer = trial_answer;
-  of_kind = subst (λ (league : Instance). IsTrial 2 3 league 0 trial_answer) (sym made-is) trial-three;
+  of_kind = subst (λ (league : Instance). IsTrial 2 3 league 0 ⊥ trial_answer) (sym made-is) trial-three;
   ended = refl;
   written = refl;
 }
 
 -- a league without a season has none
-pub trial-home : (n seed moves : ℕ) (answer : Answer) → IsTrial n seed home_last moves answer → ⊥
-trial-home n seed moves answer is = none is.schedule.games is.schedule.accepted
+pub trial-home : (n seed moves : ℕ) (may_stop : Type 0) (answer : Answer)
+    → IsTrial n seed home_last moves may_stop answer → ⊥
+trial-home n seed moves may_stop answer is = none is.schedule.games is.schedule.accepted
 
 -- the lines stand in front: the first byte is that of `trial`
 first_byte : (b : ℕ) (rest : List ℕ) → [] ≡ b ∷ rest → ⊥
 first_byte b rest is = cc
 
-pub trial-nothing : (n seed moves : ℕ) (league : Instance)
-    → IsTrial n seed league moves (record { status = Yes; text = [] }) → ⊥
-trial-nothing n seed moves league is =
+pub trial-nothing : (n seed moves : ℕ) (may_stop : Type 0) (league : Instance)
+    → IsTrial n seed league moves may_stop (record { status = Yes; text = [] }) → ⊥
+trial-nothing n seed moves may_stop league is =
     first_byte 116 (drop 1 (summary n seed league is.schedule.games is.schedule.descent ++ is.solved.text)) is.text
 
-pub tried-refuted : (n seed : ℕ) (old new : Option (List ℕ)) → Writes (ended_with Refuted old new) (IsTrial n seed (made_league n (seeded seed)) budgets.moves) → ⊥
-tried-refuted n seed old new is = other_status (is.ended ∙ is.of_kind.status)
+pub tried-refuted : (n seed : ℕ) (may_stop : Type 0) (old new : Option (List ℕ))
+    → Writes (ended_with Refuted old new) (IsTrial n seed (made_league n (seeded seed)) budgets.moves may_stop) → ⊥
+tried-refuted n seed may_stop old new is = other_status (is.ended ∙ is.of_kind.status)
   where
     other_status : Refuted ≡ Yes → ⊥
     other_status same = cc

@@ -44,9 +44,9 @@ use Rattle.encoding.specs.Limit.{most_terms}
 
 -- ---- the three answers of the search that is behind `prove`
 
-pub proofs-three : bounds.IsProved even_soon (counts_of zero_first) (Some 1) (proofs.Least 4 log)
-    × bounds.IsProved away_first (counts_of zero_first) None (proofs.Better one_first 0)
-    × bounds.IsProved even_soon (counts_of zero_first) (Some 0) (proofs.Spent [])
+pub proofs-three : bounds.IsProved even_soon (counts_of zero_first) (Some 1) ⊥ (proofs.Least 4 log)
+    × bounds.IsProved away_first (counts_of zero_first) None ⊥ (proofs.Better one_first 0)
+    × bounds.IsProved even_soon (counts_of zero_first) (Some 0) ⊥ (proofs.Spent [])
 proofs-three = (least-four, better-one, spent-four)
 
 -- ---- team 0 is at home twice: they meet there twice and elsewhere never
@@ -222,12 +222,12 @@ spent-read : log_of (codes "refutation 1\nend\n") ≡ Ok []
 unfolding lines_from
 spent-read = refl
 
-pub spent-none : IsSpentBelow even_soon (Some 0) zero_first spent
+pub spent-none : IsSpentBelow even_soon (Some 0) ⊥ zero_first spent
 spent-none = record {
   steps = [];
   accepted = even-accepted;
   some = omega arith;
-  settled = settled-four;
+  settled = inr settled-four;
   budget = refl;
   spent = spent-at_zero.spent;
   few = spent-at_zero.few;
@@ -239,8 +239,9 @@ spent-none = record {
 no_budget : (steps : List Step) → ◌≡◌ {A = Option ℕ} None (Some (length steps)) → ⊥
 no_budget steps is = cc
 
-pub spent-never : (league : Instance) (games : List Game) (answer : Answer) → IsSpentBelow league None games answer → ⊥
-spent-never league games answer is = no_budget is.steps is.budget
+pub spent-never : (league : Instance) (may_stop : Type 0) (games : List Game) (answer : Answer)
+    → IsSpentBelow league None may_stop games answer → ⊥
+spent-never league may_stop games answer is = no_budget is.steps is.budget
 
 -- ---- a run over two files, which writes the certificate behind what was there
 
@@ -311,28 +312,28 @@ works-even (suc (suc k)) d within = absurd (omega arith)
 pub case-gone : NoneFails (store_of contents fails) (codes "gone" ∷ []) → ⊥
 case-gone works = works 0 [] (lit< tt) refl
 
-pub proved-even : Writes (ended_with Yes (Some (codes "> ")) (Some (codes "> " ++ certificate_file))) (IsShown even_soon (Some 1) zero_first)
+pub proved-even : Writes (ended_with Yes (Some (codes "> ")) (Some (codes "> " ++ certificate_file))) (IsShown even_soon (Some 1) ⊥ zero_first)
 proved-even = record { answer = certified; of_kind = inr (inl least-one); ended = refl; written = refl }
 
-pub proved-rejected : Writes (ended_with No (Some []) (Some report.text)) (IsShown even_soon None twice)
+pub proved-rejected : Writes (ended_with No (Some []) (Some report.text)) (IsShown even_soon None ⊥ twice)
 proved-rejected = record { answer = report; of_kind = inl rejected-twice; ended = refl; written = refl }
 
-pub proved-better : Writes (ended_with Better (Some []) (Some better_file)) (IsShown away_first None zero_first)
+pub proved-better : Writes (ended_with Better (Some []) (Some better_file)) (IsShown away_first None ⊥ zero_first)
 proved-better = record { answer = bettered; of_kind = inr (inr (inl bettered-zero)); ended = refl; written = refl }
 
-pub proved-spent : Writes (ended_with Spent (Some []) (Some (codes "refutation 1\nend\n"))) (IsShown even_soon (Some 0) zero_first)
+pub proved-spent : Writes (ended_with Spent (Some []) (Some (codes "refutation 1\nend\n"))) (IsShown even_soon (Some 0) ⊥ zero_first)
 proved-spent = record { answer = spent; of_kind = inr (inr (inr spent-none)); ended = refl; written = refl }
 
 -- a schedule that isn't accepted is told so
-pub proved-twice : (conflicts : Option ℕ) (old new : Option (List ℕ))
-    → Writes (ended_with Yes old new) (IsShown even_soon conflicts twice) → ⊥
-proved-twice conflicts old new is =
+pub proved-twice : (conflicts : Option ℕ) (may_stop : Type 0) (old new : Option (List ℕ))
+    → Writes (ended_with Yes old new) (IsShown even_soon conflicts may_stop twice) → ⊥
+proved-twice conflicts may_stop old new is =
     no_yes (sym (is.ended ∙ shown-refused even_soon conflicts twice is.answer refused is.of_kind))
   where
     no_yes : No ≡ Yes → ⊥
     no_yes same = cc
 
 -- known bytes stay known
-pub proved-unknown : (league : Instance) (conflicts : Option ℕ) (games : List Game) (ended : Status) (old : List ℕ)
-    → Writes (ended_with ended (Some old) None) (IsShown league conflicts games) → ⊥
-proved-unknown league conflicts games ended old is = is.written
+pub proved-unknown : (league : Instance) (conflicts : Option ℕ) (may_stop : Type 0) (games : List Game) (ended : Status)
+    (old : List ℕ) → Writes (ended_with ended (Some old) None) (IsShown league conflicts may_stop games) → ⊥
+proved-unknown league conflicts may_stop games ended old is = is.written

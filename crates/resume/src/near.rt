@@ -11,8 +11,7 @@ ghost use Rattle.resume_rows.specs.Kept as kept;
 ghost use Rattle.resume.specs.Answers.{IsPlan, IsResumed, IsResumedBy, IsResumedSeason};
 ghost use Rattle.resume.specs.Near.{IsAtMost, IsNoFarther, IsSettledNear, changed};
 ghost use Rattle.robin_watch.specs.Limits.{IsKeptTo};
-ghost use Rattle.robin_watch.specs.declared.budgets.Budgets.{Budgets};
-ghost use Rattle.solve.specs.Solutions.{IsSolution};
+ghost use Rattle.solve.specs.Solutions.{IsSomeSolution};
 
 use crate::changed::changed_games;
 use crate::fixed::near_league;
@@ -313,8 +312,7 @@ fn solved_near<W: Watch>(
 
 /// The schedule of an answer, if it has one.
 fn schedule_of(solved: Solved) -> Option<Schedule>
-    ensures { (league : Instance) (budgets : Budgets) → IsSolution league budgets solved
-        → IfSome result (All (IsGame league.n)) }
+    ensures { (league : Instance) → IsSomeSolution league solved → IfSome result (All (IsGame league.n)) }
 {
     match solved {
         Solved::Schedule {

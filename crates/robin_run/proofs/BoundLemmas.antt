@@ -60,19 +60,19 @@ bettered league games answer output shown written = record {
 -- what an answer shows of the games of two files, by its status
 shown-by : (run : Run) (instance solution : List ℕ) (conflicts : Option ℕ) (league : Instance) (games : List Game)
     (answer : Answer) → SaySeason run.store instance solution league games
-    → proved run.store instance solution (IsKeptTo conflicts run.may_stop) answer
-    → ShowsAs league (IsKeptTo conflicts run.may_stop) games answer
+    → proved run.store instance solution (IsKeptTo conflicts run.may_stop) run.may_stop answer
+    → ShowsAs league (IsKeptTo conflicts run.may_stop) run.may_stop games answer
 shown-by run instance solution conflicts league games answer say given =
-    proved-known run.store instance solution say.first say.second league games (IsKeptTo conflicts run.may_stop) answer
-    say.first_known say.second_known say.says_league say.says_played given
+    proved-known run.store instance solution say.first say.second league games (IsKeptTo conflicts run.may_stop)
+    run.may_stop answer say.first_known say.second_known say.says_league say.says_played given
 
 pub proves : (run : Run) → Answered run → Proves run
 proves run answered instance solution conflicts is = record {
   proved = λ league games good works.
       writes run (instance ∷ solution ∷ []) (Prove instance solution conflicts)
-      (IsShownBy league (IsKeptTo conflicts run.may_stop) games) answered is works
+      (IsShownBy league (IsKeptTo conflicts run.may_stop) run.may_stop games) answered is works
       (λ answer given. proved-well_formed run.store instance solution league games (IsKeptTo conflicts run.may_stop)
-      answer good works.store given);
+      run.may_stop answer good works.store given);
   unbettered = λ league games say ended.
       let whole = writes-as run (Prove instance solution conflicts) Yes answered is ended (λ same. cc) (λ same. cc) in
       let shown = (shown-by run instance solution conflicts league games whole.answer say whole.given).least

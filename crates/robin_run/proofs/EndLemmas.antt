@@ -234,8 +234,9 @@ checked-ends Ends file fault ends_yes ends_no store instance log answer given =
 
 -- the ends of a search
 searched-ends : (Ends : Status → Type 0) → Ends Yes → Ends Refuted → Ends Spent → (league : Instance)
-    (budgets : Budgets) (rows : List Row) (answer : Answer) → IsFound league budgets rows answer → Ends answer.status
-searched-ends Ends ends_yes refuted spent league budgets rows answer found =
+    (budgets : Budgets) (may_stop : Type 0) (rows : List Row) (answer : Answer)
+    → IsFound league budgets may_stop rows answer → Ends answer.status
+searched-ends Ends ends_yes refuted spent league budgets may_stop rows answer found =
     elim found.found [
       | inl schedule ↦ ends-with Ends answer Yes schedule.status ends_yes
       | inr (inl log) ↦ ends-with Ends answer Refuted log.status refuted
@@ -250,7 +251,8 @@ solved-ends Ends file fault ends_yes refuted spent store instance budgets may_st
     league-ends Ends file fault (store.contents instance) (store.took_more INSTANCE_LIMIT) (store.failed instance)
     (λ bytes league. encodes league (IsFoundBy league budgets may_stop)) answer
     (λ bytes league at_league. encodes-ends Ends file league (IsFoundBy league budgets may_stop) answer
-    (λ rows found. searched-ends Ends ends_yes refuted spent league found.kept rows answer found.is_found) at_league)
+    (λ rows found. searched-ends Ends ends_yes refuted spent league found.kept may_stop rows answer found.is_found)
+    at_league)
     given
 
 started-ends : (Ends : Status → Type 0) → Ends File → Ends Yes → Ends No → Ends Refuted → Ends Spent → (league : Instance)
@@ -260,7 +262,8 @@ started-ends Ends file ends_yes ends_no refuted spent league budgets may_stop st
     ends-with Ends answer No none.status ends_no
 started-ends Ends file ends_yes ends_no refuted spent league budgets may_stop start answer (inr begun) =
     encodes-ends Ends file league (IsFoundFrom league start budgets may_stop) answer
-    (λ rows found. searched-ends Ends ends_yes refuted spent league found.found.kept rows answer found.found.is_found)
+    (λ rows found. searched-ends Ends ends_yes refuted spent league found.found.kept may_stop rows answer
+    found.found.is_found)
     begun.1
 
 begun-ends : (Ends : Status → Type 0) → Ends File → Ends ReadFault → Ends Yes → Ends No → Ends Refuted → Ends Spent
@@ -340,35 +343,36 @@ few-ends Ends file league next answer later (inl h) = later h.1
 few-ends Ends file league next answer later (inr h) = ends-as Ends answer _ h.1 file
 
 shown-ends : (Ends : Status → Type 0) → Ends Yes → Ends No → Ends Better → Ends Spent → (league : Instance)
-    (conflicts : Option ℕ) (games : List Game) (answer : Answer) → IsShown league conflicts games answer
-    → Ends answer.status
-shown-ends Ends ends_yes ends_no better spent league conflicts games answer (inl rejected) =
+    (conflicts : Option ℕ) (may_stop : Type 0) (games : List Game) (answer : Answer)
+    → IsShown league conflicts may_stop games answer → Ends answer.status
+shown-ends Ends ends_yes ends_no better spent league conflicts may_stop games answer (inl rejected) =
     ends-with Ends answer No rejected.status ends_no
-shown-ends Ends ends_yes ends_no better spent league conflicts games answer (inr (inl least)) =
+shown-ends Ends ends_yes ends_no better spent league conflicts may_stop games answer (inr (inl least)) =
     ends-with Ends answer Yes least.status ends_yes
-shown-ends Ends ends_yes ends_no better spent league conflicts games answer (inr (inr (inl bettered))) =
+shown-ends Ends ends_yes ends_no better spent league conflicts may_stop games answer (inr (inr (inl bettered))) =
     ends-with Ends answer Better bettered.status better
-shown-ends Ends ends_yes ends_no better spent league conflicts games answer (inr (inr (inr log))) =
+shown-ends Ends ends_yes ends_no better spent league conflicts may_stop games answer (inr (inr (inr log))) =
     ends-with Ends answer Spent log.status spent
 
 proved-ends : (Ends : Status → Type 0) → Ends File → Ends ReadFault → Ends Yes → Ends No → Ends Better → Ends Spent
     → (store : Store)
-    (instance solution : List ℕ) (limits : Option ℕ → Type 0) (answer : Answer)
-    → proved store instance solution limits answer → Ends answer.status
-proved-ends Ends file fault ends_yes ends_no better spent store instance solution limits answer
+    (instance solution : List ℕ) (limits : Option ℕ → Type 0) (may_stop : Type 0) (answer : Answer)
+    → proved store instance solution limits may_stop answer → Ends answer.status
+proved-ends Ends file fault ends_yes ends_no better spent store instance solution limits may_stop answer
     given =
     league-ends Ends file fault (store.contents instance) (store.took_more INSTANCE_LIMIT) (store.failed instance)
     (λ first league. has_few_terms league
     (λ few. takes (codes "solution") (store.contents solution) SOLUTION_LIMIT (store.took_more (length first + SOLUTION_LIMIT))
     (store.failed solution)
-    (λ second. says (codes "solution") (solution_of league.n (pieces second)) (IsShownBy league limits)))) answer
+    (λ second. says (codes "solution") (solution_of league.n (pieces second)) (IsShownBy league limits may_stop)))) answer
     (λ first league at_league. few-ends Ends file league
     (λ few. takes (codes "solution") (store.contents solution) SOLUTION_LIMIT (store.took_more (length first + SOLUTION_LIMIT))
     (store.failed solution)
-    (λ second. says (codes "solution") (solution_of league.n (pieces second)) (IsShownBy league limits))) answer
+    (λ second. says (codes "solution") (solution_of league.n (pieces second)) (IsShownBy league limits may_stop))) answer
     (λ at_few. games-ends Ends file fault league.n (store.contents solution) (store.took_more (length first + SOLUTION_LIMIT))
-    (store.failed solution) (λ second. IsShownBy league limits) answer
-    (λ second games shown. shown-ends Ends ends_yes ends_no better spent league shown.0 games answer shown.2) at_few)
+    (store.failed solution) (λ second. IsShownBy league limits may_stop) answer
+    (λ second games shown. shown-ends Ends ends_yes ends_no better spent league shown.0 may_stop games answer shown.2)
+    at_few)
     at_league)
     given
 
@@ -602,7 +606,7 @@ answer-ends may_stop (Some (Part instance members)) store answer given =
     given
 answer-ends may_stop (Some (Prove instance solution conflicts)) store answer given =
     proved-ends (EndsBy (Some (Prove instance solution conflicts))) refl refl refl refl refl refl store instance solution
-    (IsKeptTo conflicts may_stop) answer given
+    (IsKeptTo conflicts may_stop) may_stop answer given
 answer-ends may_stop (Some (Bound instance log)) store answer given =
     bounded-ends (EndsBy (Some (Bound instance log))) refl refl refl refl store instance log answer
     given

@@ -45,7 +45,7 @@ IsAnswer may_stop (Some (Patterns instance conflicts)) store answer = patterned 
 IsAnswer may_stop (Some (Explain instance conflicts)) store answer = explained store instance conflicts may_stop answer
 IsAnswer may_stop (Some (Part instance members)) store answer = parted store instance members answer
 IsAnswer may_stop (Some (Prove instance solution conflicts)) store answer =
-    proved store instance solution (IsKeptTo conflicts may_stop) answer
+    proved store instance solution (IsKeptTo conflicts may_stop) may_stop answer
 IsAnswer may_stop (Some (Bound instance log)) store answer = bounded store instance log answer
 IsAnswer may_stop (Some (Resume instance solution k conflicts)) store answer =
     resumed store instance solution k (IsKeptTo conflicts may_stop) answer

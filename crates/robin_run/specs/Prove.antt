@@ -42,10 +42,11 @@ pub record IsBettered (league : Instance) (games : List Game) (output : Output) 
 pub record Promise (run : Run) (instance solution : List ℕ) (conflicts : Option ℕ) : Type 0 where
   -- What is shown of the season of a well-formed case is written, where nothing fails: the report of `validate` where
   -- the season isn't accepted, a certificate, a better season, or a log that is spent at the budget, while no single move
-  -- betters the season. The budget is the one that was set, or, where the run may be stopped, a lower one.
+  -- betters the season. Where the run may be stopped, the budget may be lower than the one that was set, and a move may
+  -- better the season.
   pub proved : (league : Instance) (games : List Game)
       → IsWellFormedCase run.store instance solution league games → NothingFails run (instance ∷ solution ∷ [])
-      → Writes run (IsShownBy league (IsKeptTo conflicts run.may_stop) games)
+      → Writes run (IsShownBy league (IsKeptTo conflicts run.may_stop) run.may_stop games)
   -- Where the season is called least, no accepted season has a lower objective.
   pub unbettered : (league : Instance) (games : List Game)
       → SaySeason run.store instance solution league games → run.ended ≡ Yes → IsUnbettered league games run.output

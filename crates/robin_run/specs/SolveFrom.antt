@@ -25,7 +25,7 @@ pub record IsNoWorse (league : Instance) (start : List Game) (moves : ℕ) (may_
   pub kept : ℕ
   pub is_kept : IsKeptTo (Some moves) may_stop (Some kept)
   pub answer : Answer
-  pub season : IsScheduleWithin league kept (objective league (counts_of start)) answer
+  pub season : IsScheduleWithin league kept may_stop (objective league (counts_of start)) answer
   pub written : Appends output.before output.after answer.text
 
 pub record Promise (run : Run) (instance solution : List ℕ) (budgets : Budgets) : Type 0 where

@@ -1,5 +1,6 @@
 -- Worked answers: what a league of two teams is solved by, and what no answer is.
-use Rattle.std.proofs.Common.{◌≡◌, ℕ, ◌<◌, ◌≤◌, ◌&&◌, ◌||◌, ◌==◌, nat_lt, List, [], ◌∷◌, length, true, false, Option, Some, None, arith, refl}
+use Rattle.std.proofs.Common.{◌≡◌, ◌⊎◌, ℕ, ◌<◌, ◌≤◌, ◌&&◌, ◌||◌, ◌==◌, nat_lt, List, [], ◌∷◌, length, true, false}
+use Rattle.std.proofs.Common.{Option, Some, None, inl, inr, arith, refl}
 use Rattle.std.specs.Prelude.{IsTrue}
 use Rattle.std.specs.List.{All, AllPairs}
 use Rattle.std.specs.Ordering.{is_le}
@@ -81,7 +82,7 @@ settled-two step lowers =
     (league_score two (moved 2 (counts_of both_games) step)).objective lowers.lower
 
 -- both games are an answer, and cost nothing
-pub solved-two : IsSchedule two 0 both_games 0 still
+pub solved-two : IsSchedule two 0 ⊥ both_games 0 still
 solved-two = record {
   accepted = accepted-two;
   fit = both_fit;
@@ -93,29 +94,50 @@ solved-two = record {
     in_order = in_order-two;
     trail = refl;
     few = omega arith;
-    settled = (λ yes. settled-two, λ settled. refl);
+    settled = λ yes. settled-two;
     spent = λ no. absurd (cc);
+    costly = λ no. absurd (cc);
+    lowers = λ no. absurd (cc);
   };
 }
 
 dear_two : (objective : ℕ) → 0 < objective → objective ≡ 0 → ⊥
 dear_two objective some none = omega (arith, some, none)
 
-pub costs_nothing : (objective : ℕ) → 0 < objective → IsSchedule two 0 both_games objective still → ⊥
+pub costs_nothing : (objective : ℕ) → 0 < objective → IsSchedule two 0 ⊥ both_games objective still → ⊥
 costs_nothing objective some is = dear_two objective some is.cost
+
+-- a descent that may make no move and doesn't say that it is settled
+abbrev open_yet : Descended
+open_yet = record { first = both_games; trail = []; settled = false }
 
 none_made : (made : ℕ) → made ≡ 0 → made ≡ 1 → ⊥
 none_made made none one = omega (arith, none, one)
 
--- a descent that isn't settled is no answer, where it may make a move
-pub settles : IsSchedule two 1 both_games 0 (record { first = both_games; trail = []; settled = false }) → ⊥
+-- it is no answer where it may make a move
+pub settles : IsSchedule two 1 (Unit {0}) both_games 0 open_yet → ⊥
 settles is = none_made 0 refl (is.descends.spent refl)
+
+nothing_left : (cost : ℕ) → cost ≡ 0 → 1 ≤ cost → ⊥
+nothing_left cost none some = omega (arith, none, some)
+
+-- nor where the games cost nothing, stopped or not
+pub free_settles : IsSchedule two 0 (Unit {0}) both_games 0 open_yet → ⊥
+free_settles is = nothing_left 0 refl (is.descends.costly refl)
+
+lowers-none : ⊥ ⊎ (IsSettled 2 true (league_score two) (counts_of both_games) → ⊥) → ⊥
+lowers-none (inl may) = may
+lowers-none (inr lowers) = lowers settled-two
+
+-- nor where no move lowers the score, and nothing may stop it
+pub open_settles : IsSchedule two 0 ⊥ both_games 0 open_yet → ⊥
+open_settles is = lowers-none (is.descends.lowers refl)
 
 -- the later game first is no answer
 not_first : IsTrue (is_le (game_cmp (game 0 1 1) (game 1 0 0))) → ⊥
 not_first is = cc
 
-pub late_first : (objective : ℕ) → IsSchedule two 0 (game 0 1 1 ∷ game 1 0 0 ∷ []) objective still → ⊥
+pub late_first : (objective : ℕ) → IsSchedule two 0 ⊥ (game 0 1 1 ∷ game 1 0 0 ∷ []) objective still → ⊥
 late_first objective is = not_first (is.in_order 0 1 (game 0 1 1) (omega arith) (omega arith))
 
 -- ---- what a free constraint counts: team 0 isn't at home in slot 0 (hard, penalty 0), and plays away there once

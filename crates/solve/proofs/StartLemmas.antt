@@ -36,22 +36,23 @@ walked-no_higher league best m is no_worse accepted =
     )
 
 -- a descent doesn't end higher than it began
-descended-no_higher : (league : Instance) (moves : ℕ) (season : Season) → IsSeason league moves season
-    → season.objective ≤ objective league (counts_of season.descent.first)
-descended-no_higher league moves season is =
+descended-no_higher : (league : Instance) (moves : ℕ) (may_stop : Type 0) (season : Season)
+    → IsSeason league moves may_stop season → season.objective ≤ objective league (counts_of season.descent.first)
+descended-no_higher league moves may_stop season is =
     let first : Counts = counts_of season.descent.first in
     let stays = trails-stay_feasible league.n league.phased (league_score league) first (counts_of season.schedule)
     season.descent.trail ((met league first).1 is.descends.first.hard) is.descends.trail in
     omega (arith, stays.1, is.cost)
 
 -- nor does the descent from what a walk found
-pub found-no_higher : (league : Instance) (moves : ℕ) (season : Season) (best : Best) (m : Counts)
-    → IsSeason league moves season → counts_of season.descent.first ≡ counts_of best.games → IsSeasonOf league best
-    → IsNoWorse best.score (walks.league_score league m) → IsAccepted league m → season.objective ≤ objective league m
-found-no_higher league moves season best m is first season_of no_worse accepted =
+pub found-no_higher : (league : Instance) (moves : ℕ) (may_stop : Type 0) (season : Season) (best : Best) (m : Counts)
+    → IsSeason league moves may_stop season → counts_of season.descent.first ≡ counts_of best.games
+    → IsSeasonOf league best → IsNoWorse best.score (walks.league_score league m) → IsAccepted league m
+    → season.objective ≤ objective league m
+found-no_higher league moves may_stop season best m is first season_of no_worse accepted =
     omega (
       arith,
-      descended-no_higher league moves season is,
+      descended-no_higher league moves may_stop season is,
       ap (λ (c : Counts). objective league c) first,
       walked-no_higher league best m season_of no_worse accepted,
     )

@@ -9,3 +9,5 @@ pub mod Solutions
 pub mod Tried
 -- Which try's schedule is the answer:
 pub mod Earliest
+-- What is kept of two tries:
+pub mod Chosen

@@ -1,6 +1,6 @@
 -- What is found of a league: a schedule, a log that refutes its rows, or one that is spent, with what is known of the
 -- league's patterns.
-use Rattle.std.specs.Prelude.{◌≡◌, ◌↔◌, ℕ, ◌<◌, ◌≤◌, ◌^◌, false, List, length, Option, Some, IsTrue}
+use Rattle.std.specs.Prelude.{◌≡◌, ◌⊎◌, ℕ, ◌<◌, ◌≤◌, ◌^◌, true, false, List, length, Option, Some}
 use Rattle.std.specs.List.{All}
 use Rattle.robin_watch.specs.declared.budgets.Budgets.{Budgets}
 use Rattle.league.specs.Accepted.{IsAccepted}
@@ -35,26 +35,31 @@ use Rattle.solve.specs.declared.solved.Solved.TheVariants.{Schedule, Refuted, Sp
 abbrev pub league_score : Instance → Counts → Score
 league_score league m = record { infeasibility = hard_sum 1 league m; objective = costs.objective league m }
 
--- a descent of at most so many moves from accepted games to these, settled exactly where no legal move lowers the score
--- any more, and not settled only where it has as many moves as it may
-pub record IsDescent (league : Instance) (moves : ℕ) (games : List Game) (descent : Descended) : Type 0 where
+-- A descent of at most so many moves from accepted games to these. Where it is said to be settled, no legal move lowers
+-- the score any more. Else it has as many moves as it may, the games cost something, and a move lowers the score,
+-- unless the descent may be stopped.
+pub record IsDescent (league : Instance) (moves : ℕ) (may_stop : Type 0) (games : List Game) (descent : Descended)
+    : Type 0 where
   pub first : IsAccepted league (counts_of descent.first)
   pub fit : All (IsGame league.n) descent.first
   pub in_order : IsInOrder descent.first
   pub trail : IsTrail league.n league.phased (league_score league) (counts_of descent.first) descent.trail
       (counts_of games)
   pub few : length descent.trail ≤ moves
-  pub settled : IsTrue descent.settled ↔ IsSettled league.n league.phased (league_score league) (counts_of games)
+  pub settled : descent.settled ≡ true → IsSettled league.n league.phased (league_score league) (counts_of games)
   pub spent : descent.settled ≡ false → length descent.trail ≡ moves
+  pub costly : descent.settled ≡ false → 1 ≤ costs.objective league (counts_of games)
+  pub lowers : descent.settled ≡ false
+      → may_stop ⊎ (IsSettled league.n league.phased (league_score league) (counts_of games) → ⊥)
 
 -- games of the league that it accepts, in order, what they cost, and the descent that led to them
-pub record IsSchedule (league : Instance) (moves : ℕ) (games : List Game) (objective : ℕ) (descent : Descended)
-    : Type 0 where
+pub record IsSchedule (league : Instance) (moves : ℕ) (may_stop : Type 0) (games : List Game) (objective : ℕ)
+    (descent : Descended) : Type 0 where
   pub accepted : IsAccepted league (counts_of games)
   pub fit : All (IsGame league.n) games
   pub in_order : IsInOrder games
   pub cost : objective ≡ costs.objective league (counts_of games)
-  pub descends : IsDescent league moves games descent
+  pub descends : IsDescent league moves may_stop games descent
 
 -- A log whose text can be written and read back: each hint names a row, and no line passes the limit of a line.
 pub record IsWritable (steps : List Step) : Type 0 where
@@ -83,18 +88,24 @@ LeavesOpen league most (found.Refuted log) = ⊥
 LeavesOpen league most (found.Spent log) = IsPatternSpent league (Some most) log
 
 -- what each answer says of the league, where the search of a try learns at most so many clauses, its descent makes at
--- most so many moves, and the search for patterns learns at most so many clauses
-abbrev pub IsSolution : Instance → Budgets → Solved → Type 0
-IsSolution league budgets (Schedule games objective descent) = IsSchedule league budgets.moves games objective descent
-IsSolution league budgets (Refuted log) = RefutesLeague league log
-IsSolution league budgets (Spent log patterns) =
+-- most so many moves and may be stopped where `may_stop` says so, and the search for patterns learns at most so many
+-- clauses
+abbrev pub IsSolution : Instance → Budgets → Type 0 → Solved → Type 0
+IsSolution league budgets may_stop (Schedule games objective descent) =
+    IsSchedule league budgets.moves may_stop games objective descent
+IsSolution league budgets may_stop (Refuted log) = RefutesLeague league log
+IsSolution league budgets may_stop (Spent log patterns) =
     IsSpentOn league budgets.conflicts log × LeavesOpen league budgets.patterns patterns
 
 -- what an answer says of the league within the budgets to which the run kept
 pub record IsSolutionBy (league : Instance) (budgets : Budgets) (may_stop : Type 0) (answer : Solved) : Type 0 where
   pub kept : Budgets
   pub are_kept : AreKeptTo budgets may_stop kept
-  pub solution : IsSolution league kept answer
+  pub solution : IsSolution league kept may_stop answer
+
+-- what an answer says of the league within some budgets, by a run that may have been stopped
+abbrev pub IsSomeSolution : Instance → Solved → Type 0
+IsSomeSolution league answer = (budgets : Budgets) × IsSolution league budgets (Unit {0}) answer
 
 -- the answer is a schedule
 abbrev pub HasSchedule : Solved → Type 0

@@ -54,7 +54,7 @@ pub fn solve_from<W: Listener>(
     ensures solution { IfOk result (IsSolutionBy league.now budgets (W.may_stop watch.now)) }
 
     // Where nothing may stop the run, it keeps to the budgets that were set.
-    ensures unstopped { (W.may_stop watch.now → ⊥) → IfOk result (IsSolution league.now budgets) }
+    ensures unstopped { (W.may_stop watch.now → ⊥) → IfOk result (IsSolution league.now budgets ⊥) }
 
     // Where the league accepts the start, the answer is a schedule that costs no more.
     ensures no_worse { IsAccepted league.now (counts_of start.now)

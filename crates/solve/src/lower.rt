@@ -1,5 +1,5 @@
 //! From a schedule that is accepted down to a better one.
-ghost use Rattle.std.specs.Prelude.{◌≡◌, ◌≤◌, length, IfOk};
+ghost use Rattle.std.specs.Prelude.{◌≡◌, ◌⊎◌, ◌≤◌, length, IfOk};
 ghost use Rattle.std.specs.List.{All};
 ghost use Rattle.league.specs.Accepted.{IsAccepted};
 ghost use Rattle.league.specs.Accepted as costs;
@@ -38,7 +38,7 @@ pub fn lowered(
     requires fit { All (IsGame league.now.n) start.now }
     requires few { length start.now ≤ 10000 }
     ensures descends { IfOk result (λ season.
-        IsSchedule league.now moves season.schedule season.objective season.descent) }
+        IsSchedule league.now moves ⊥ season.schedule season.objective season.descent) }
     ensures first { IfOk result (λ season. counts_of season.descent.first ≡ counts_of start.now) }
 {
     lowered_watched(alloc, league, start, moves, &Unwatched)
@@ -60,10 +60,11 @@ pub fn lowered_watched<W: Watch>(
     requires few { length start.now ≤ 10000 }
     ensures season { IfOk result (IsSeasonBy league.now moves (W.may_stop watch.now)) }
 
-    // A descent that may make a move and betters nothing leaves no move that does, stopped or not.
+    // A descent that may make a move and betters nothing leaves no move that does, where nothing may stop it.
     ensures settles { 1 ≤ moves → IfOk result (λ season.
         costs.objective league.now (counts_of start.now) ≤ season.objective
-        → IsSettled league.now.n league.now.phased (league_score league.now) (counts_of start.now)) }
+        → W.may_stop watch.now
+        ⊎ IsSettled league.now.n league.now.phased (league_score league.now) (counts_of start.now)) }
     ensures first { IfOk result (λ season. counts_of season.descent.first ≡ counts_of start.now) }
 {
     let mut steps = Steps::<Plain>::start();

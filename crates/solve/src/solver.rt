@@ -64,7 +64,7 @@ pub fn solve<W: Listener>(
     ensures solution { IfOk result (IsSolutionBy league.now budgets (W.may_stop watch.now)) }
 
     // Where nothing may stop the run, it keeps to the budgets that were set.
-    ensures unstopped { (W.may_stop watch.now → ⊥) → IfOk result (IsSolution league.now budgets) }
+    ensures unstopped { (W.may_stop watch.now → ⊥) → IfOk result (IsSolution league.now budgets ⊥) }
 
     // The answer is the best of what the tries find.
     ensures best { IfOk result (IsBest league.now budgets (W.may_stop watch.now)) }

@@ -1,10 +1,8 @@
 //! Several tries, of which the best answer is kept.
-ghost use Rattle.std.specs.Prelude.{◌≡◌, ◌↔◌, ◌⊎◌, ◌∷◌, ◌++◌, [], ℕ, ◌≤◌, nat_lt, if◌then◌else◌, List, Option, Some, IfSome, IsTrue};
-ghost use Rattle.robin_watch.specs.declared.budgets.Budgets.{Budgets};
-ghost use Rattle.league.specs.Instance.{Instance};
+ghost use Rattle.std.specs.Prelude.{◌≡◌, ◌↔◌, ◌∷◌, ◌++◌, [], ℕ, ◌≤◌, List, Option, Some, IsTrue};
+ghost use Rattle.solve.specs.Chosen as chosen;
 ghost use Rattle.solve.specs.Earliest.{IsBestOf, season_of, season_tried};
-ghost use Rattle.solve.specs.Solutions.{CostsAtMost, HasSchedule, IsRefuted, IsSolution, LeavesOpen};
-ghost use Rattle.solve.specs.Tried.{IsSeason, IsTried};
+ghost use Rattle.solve.specs.Solutions.{CostsAtMost, HasSchedule, IsRefuted};
 ghost use Rattle.solve.specs.declared.lower.Season.{Season};
 
 use crate::lower::Season;
@@ -25,8 +23,7 @@ pub enum Tried {
 
 /// A schedule as the answer.
 pub(crate) fn schedule_found(season: Season) -> Solved
-    ensures solution { (league : Instance) (budgets : Budgets) → IsSeason league budgets.moves season
-        → IsSolution league budgets result }
+    ensures found { result ≡ chosen.schedule_found season }
     ensures schedule { HasSchedule result }
     ensures at_most { (most : ℕ) → season.objective ≤ most → CostsAtMost most result }
     ensures season { season_of result ≡ Some season }
@@ -45,8 +42,7 @@ pub(crate) fn schedule_found(season: Season) -> Solved
 
 /// What a try comes to, as the answer, where this is known of the league's patterns.
 pub(crate) fn solved_by(tried: Tried, patterns: PatternFound) -> Solved
-    ensures solution { (league : Instance) (budgets : Budgets) → IsTried league budgets tried
-        → LeavesOpen league budgets.patterns patterns → IsSolution league budgets result }
+    ensures answer { result ≡ chosen.solved_by tried patterns }
     ensures season { season_of result ≡ season_tried tried }
 {
     match tried {
@@ -66,10 +62,7 @@ pub(crate) fn is_refuted(answer: &Solved) -> bool
 /// The better one of an answer and of a later try: a refutation stays, the schedule of the lesser objective is kept, of
 /// equal ones the earlier, and a spent search gives way to what comes later.
 pub(crate) fn better(best: Solved, later: Tried) -> Solved
-    // It is one of the earlier budgets, or of those of the later try with the earlier ones of patterns.
-    ensures solution { (league : Instance) (earlier kept : Budgets) → IsSolution league earlier best
-        → IsTried league kept later → IsSolution league earlier result
-        ⊎ IsSolution league (record kept { patterns = earlier.patterns }) result }
+    ensures kept { result ≡ chosen.better best later }
     ensures schedule { HasSchedule best → HasSchedule result }
     ensures at_most { (most : ℕ) → CostsAtMost most best → CostsAtMost most result }
 
@@ -97,10 +90,7 @@ pub(crate) fn better(best: Solved, later: Tried) -> Solved
 
 /// The better one of an answer and of the schedule of a later walk, if there is one.
 pub(crate) fn with_later(best: Solved, walked: Option<Season>) -> Solved
-    // It is one of the earlier budgets, or of these with the moves of the walk's descent.
-    ensures solution { (league : Instance) (earlier : Budgets) (moves : ℕ) → IsSolution league earlier best
-        → IfSome walked (IsSeason league moves) → IsSolution league earlier result
-        ⊎ IsSolution league (record earlier { moves = moves }) result }
+    ensures kept { result ≡ chosen.with_later best walked }
     ensures schedule { HasSchedule best → HasSchedule result }
     ensures at_most { (most : ℕ) → CostsAtMost most best → CostsAtMost most result }
 {
@@ -112,9 +102,7 @@ pub(crate) fn with_later(best: Solved, walked: Option<Season>) -> Solved
 
 /// What a search comes to, or the schedule of a walk where there is one and it isn't worse.
 pub(crate) fn with_walked(found: Tried, walked: Option<Season>) -> Tried
-    ensures tried { (league : Instance) (budgets : Budgets) (moves : ℕ) → IsTried league budgets found
-        → IfSome walked (IsSeason league moves)
-        → IsTried league budgets result ⊎ IsTried league (record budgets { moves = moves }) result }
+    ensures kept { result ≡ chosen.with_walked found walked }
 
     // Of the walk's schedule and the search's the better one stays, and the walk's where they cost the same.
     ensures best { IsBestOf (walked ∷ season_tried found ∷ []) (season_tried result) }
@@ -128,8 +116,7 @@ pub(crate) fn with_walked(found: Tried, walked: Option<Season>) -> Tried
 /// The better one of a schedule and of what a later try comes to.
 fn better_season(best: Season, later: Tried) -> Season
     ensures at_most { result.objective ≤ best.objective }
-    ensures season { (league : Instance) (moves : ℕ) (budgets : Budgets) → IsSeason league moves best
-        → IsTried league budgets later → IsSeason league moves result ⊎ IsSeason league budgets.moves result }
+    ensures kept { result ≡ chosen.better_season best later }
     ensures best { (found : List (Option Season)) → IsBestOf found (Some best)
         → IsBestOf (found ++ season_tried later ∷ []) (Some result) }
 {
@@ -142,7 +129,7 @@ fn better_season(best: Season, later: Tried) -> Season
 
 /// The schedule of the lesser objective, and of equal ones the first.
 fn lesser(best: Season, later: Season) -> Season
-    ensures { result ≡ (if nat_lt later.objective best.objective then later else best) }
+    ensures { result ≡ chosen.lesser best later }
 {
     if later.objective < best.objective {
         later

@@ -16,7 +16,8 @@ bettered-requires g c =
 
 pub returns : goal.returns
 returns g c = λ m limit cost.
-    subst (λ (p : Proved). IsProved c.args.league.now m limit p) (sym c.bettered.ensures)
+    subst (λ (p : Proved). IsProved c.args.league.now m limit (g.W.Watch.may_stop c.args.watch.now) p)
+    (sym c.bettered.ensures)
     (better-below c.args.league.now m c.args.objective _ c.in_ok-lower.lower.objective c.in_ok-schedule.schedule
     c.in_ok-lower.lower.schedule c.in_ok-lower.lower.descent c.in_ok-schedule.ensures
     c.in_ok-lower.ensures.season.is_season c.in_ok-lower.ensures.first cost)

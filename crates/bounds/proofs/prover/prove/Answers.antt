@@ -30,8 +30,9 @@ pub returns-then-objective-eq0 : goal.returns-then-objective-eq0
 returns-then-objective-eq0 g c = (
   c.args.conflicts,
   inl refl,
-  subst (λ (p : Proved). IsProved c.args.league.now (counts_of c.args.schedule.now) c.args.conflicts p)
-      (sym c.least_of_all.ensures)
+  subst
+      (λ (p : Proved). IsProved c.args.league.now (counts_of c.args.schedule.now) c.args.conflicts
+      (g.W.Watch.may_stop c.args.watch.now) p) (sym c.least_of_all.ensures)
       (least_of_none c.args.league.now (counts_of c.args.schedule.now) c.args.conflicts
       (omega (arith, c.in_64_bits-objective.ensures, c.requires.assessed))),
 )
@@ -40,8 +41,9 @@ pub returns-then-lower-from : goal.returns-then-lower-from
 returns-then-lower-from g c = (
   c.args.conflicts,
   inl refl,
-  subst (λ (p : Proved). IsProved c.args.league.now (counts_of c.args.schedule.now) c.args.conflicts p)
-      (sym c.bettered.ensures)
+  subst
+      (λ (p : Proved). IsProved c.args.league.now (counts_of c.args.schedule.now) c.args.conflicts
+      (g.W.Watch.may_stop c.args.watch.now) p) (sym c.bettered.ensures)
       (better-of c.args.league.now (counts_of c.args.schedule.now) c.in_ok-lower.ensures.season.kept
       c.in_ok-lower.lower.objective c.in_ok-lower.lower.schedule c.in_ok-lower.lower.descent
       c.in_ok-lower.ensures.season.is_season

@@ -51,8 +51,8 @@ returns g c = λ m cost settled.
     in (
       c.in_ok-found.ensures.answer.kept,
       c.in_ok-found.ensures.answer.is_kept,
-      spent-of c.args.league.now m c.in_ok-found.ensures.answer.kept c.args.objective c.in-Spent.log cost settled
-          c.requires.some (rw c.in-Spent.is at answer),
+      spent-of c.args.league.now m c.in_ok-found.ensures.answer.kept (g.W.Watch.may_stop c.args.watch.now)
+          c.args.objective c.in-Spent.log cost settled c.requires.some (rw c.in-Spent.is at answer),
     )
 
 pub returns-in-Sat : goal.returns-in-Sat

@@ -3,11 +3,10 @@ use Rattle.command_solve.proofs.TrialLemmas.{replied-trial}
 use Rattle.command_solve.proofs.made.found_reply.Goals as goal
 
 pub returns : goal.returns
-returns c = λ budgets solution.
-    replied-trial c.args.seed c.args.league.now budgets.moves c.in-Schedule.schedule c.in-Schedule.objective
-    c.in-Schedule.descent c.schedule_reply.result c.n-n.ensures.instance.teams
-    (rw c.in-Schedule.is at solution)
-    c.schedule_reply.ensures.status c.schedule_reply.ensures.text
+returns c =
+    replied-trial c.args.seed c.args.league.now c.args.solved.now c.in-Schedule.schedule c.in-Schedule.objective
+    c.in-Schedule.descent c.schedule_reply.result c.in-Schedule.is c.schedule_reply.ensures.status
+    c.schedule_reply.ensures.text
 
 pub schedule_reply-requires : goal.schedule_reply-requires
 schedule_reply-requires c =

@@ -1,6 +1,7 @@
+use Rattle.solve.proofs.KeptLemmas.{some-solution}
 use Rattle.resume.proofs.near.solved_near.Goals as goal
 
 pub returns-in-Ok : goal.returns-in-Ok
 returns-in-Ok g c =
-    let solution = c.in-Ok.ensures.solution in
-    c.schedule_of.ensures c.args.league.now solution.kept solution.solution
+    c.schedule_of.ensures c.args.league.now
+    (some-solution c.args.league.now c.args.budgets _ c.in-Ok.solved c.in-Ok.ensures.solution)

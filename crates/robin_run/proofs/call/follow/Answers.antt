@@ -100,7 +100,7 @@ returns-in-Prove-clause-answer g c =
     rw c.in-Prove.is
     (given-gives
     (proved (store_between g.S.Shelf c.args.shelf.now c.prove_file.new.shelf) c.in-Prove.instance.now c.in-Prove.solution.now
-    (IsKeptTo c.in-Prove.conflicts (g.W.Watch.may_stop c.args.watch.now)))
+    (IsKeptTo c.in-Prove.conflicts (g.W.Watch.may_stop c.args.watch.now)) (g.W.Watch.may_stop c.args.watch.now))
     _ _ c.give-in-Prove.ensures c.prove_file.ensures.answer)
 
 pub returns-in-Bound-clause-answer : goal.returns-in-Bound-clause-answer

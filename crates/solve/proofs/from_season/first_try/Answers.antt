@@ -11,7 +11,7 @@ returns-in-Some-clause-solution g c =
     c.schedule_found.result
     (subst (λ (o : Option Season). IfSome o (IsSeasonBy c.args.league.now c.args.budgets.moves (g.W.Watch.may_stop c.args.watch.now)))
     c.in-Some.is c.in_ok-season.ensures.season)
-    (λ kept. c.schedule_found.ensures.solution c.args.league.now kept)
+    c.schedule_found.ensures.found
 
 pub returns-in-Some-2-clause-solution : goal.returns-in-Some-2-clause-solution
 returns-in-Some-2-clause-solution g c =
@@ -21,7 +21,7 @@ returns-in-Some-2-clause-solution g c =
     (λ (o : Option Season). IfSome o (IsSeasonBy c.args.league.now c.args.budgets.moves
     (g.W.Watch.may_stop c.args.watch.now)))
     c.in-Some-2.is c.in_ok-season-2.ensures.schedule)
-    (λ kept. c.schedule_found-in-Some-2.ensures.solution c.args.league.now kept)
+    c.schedule_found-in-Some-2.ensures.found
 
 pub returns-clause-solution : goal.returns-clause-solution
 returns-clause-solution g c = rw c.in_ok-encoding.ensures at c.search_near.ensures

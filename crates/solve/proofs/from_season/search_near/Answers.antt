@@ -1,6 +1,6 @@
 use Rattle.std.proofs.Common.{Some, length}
 use Rattle.solve.proofs.AnswerLemmas.{few_variables, found_here, patterns_refuted, spent_here}
-use Rattle.solve.proofs.KeptLemmas.{as-set, tried-patterns, with-patterns}
+use Rattle.solve.proofs.KeptLemmas.{as-set, tried-answer, tried-patterns, with-patterns}
 use Rattle.solve.proofs.from_season.search_near.Goals as goal
 
 pub returns-in-Refuted : goal.returns-in-Refuted
@@ -19,7 +19,8 @@ returns-in_ok-tried-in-Patterns g c =
     record {
       kept = by.kept;
       are_kept = by.are_kept;
-      solution = c.solved_by.ensures.solution c.args.encoding.now by.kept by.is_tried
+      solution = tried-answer c.args.encoding.now by.kept (g.W.Watch.may_stop c.args.watch.now)
+          c.in_ok-tried-in-Patterns.tried _ c.solved_by.result c.solved_by.ensures.answer by.is_tried
           (found_here c.args.encoding.now c.in_ok-found.ensures.kept _ _ c.in-Patterns.is
           c.in_ok-found.ensures.answer);
     }
@@ -33,8 +34,9 @@ returns-in_ok-tried-in-Spent g c =
       kept = record by.kept { patterns = length c.in-Spent.log };
       are_kept = with-patterns c.args.budgets (g.W.Watch.may_stop c.args.watch.now) by.kept
           (length c.in-Spent.log) by.are_kept spent.0;
-      solution = c.solved_by-in-Spent.ensures.solution c.args.encoding.now
-          (record by.kept { patterns = length c.in-Spent.log })
-          (tried-patterns c.args.encoding.now by.kept (length c.in-Spent.log) c.in_ok-tried-in-Spent.tried by.is_tried)
-          spent.1;
+      solution = tried-answer c.args.encoding.now (record by.kept { patterns = length c.in-Spent.log })
+          (g.W.Watch.may_stop c.args.watch.now) c.in_ok-tried-in-Spent.tried _ c.solved_by-in-Spent.result
+          c.solved_by-in-Spent.ensures.answer
+          (tried-patterns c.args.encoding.now by.kept (g.W.Watch.may_stop c.args.watch.now) (length c.in-Spent.log)
+          c.in_ok-tried-in-Spent.tried by.is_tried) spent.1;
     }

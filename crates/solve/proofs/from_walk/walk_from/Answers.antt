@@ -8,7 +8,7 @@ lowered_told-requires-clause-accepted g c = c.in_ok-walked.ensures.feasible.0 (o
 
 pub returns-clause-no_worse : goal.returns-clause-no_worse
 returns-clause-no_worse g c = λ accepted.
-    found-no_higher c.args.league.now c.in_ok-season.ensures.season.kept c.in_ok-season.season
+    found-no_higher c.args.league.now c.in_ok-season.ensures.season.kept _ c.in_ok-season.season
     c.in_ok-walked.walked.best (counts_of c.args.start.now) c.in_ok-season.ensures.season.is_season
     c.in_ok-season.ensures.first
     c.in_ok-walked.ensures.season c.in_ok-walked.ensures.no_worse accepted

@@ -31,8 +31,7 @@ season_of-requires g c = record {
 pub returns-clause-season : goal.returns-clause-season
 returns-clause-season g c =
     let by = kept-moves c.args.moves (g.W.Watch.may_stop c.args.watch.now) c.in_ok-descent.descent.settled
-    (length c.in_ok-descent.descent.trail) c.in_ok-descent.ensures.few c.in_ok-descent.ensures.spent
-    (λ some. c.in_ok-descent.ensures.begun some) in
+    (length c.in_ok-descent.descent.trail) c.in_ok-descent.ensures.few c.in_ok-descent.ensures.spent in
     let end : Counts = table_counts c.descend_watched.new.tally.table in
     let counts : counts_of c.in_ok-schedule.schedule ≡ end =
     c.in_ok-schedule.ensures.counts ∙ ap (λ (t : Table). table_counts t) c.cells.ensures in
@@ -42,11 +41,12 @@ returns-clause-season g c =
       kept = by.kept;
       is_kept = by.is_kept;
       is_season =
-          IsSchedule-of c.args.league.now (counts_of c.args.start.now) end by.kept c.in_ok-descent.descent
-          c.in_ok-schedule.schedule c.objective.result
+          IsSchedule-of c.args.league.now (counts_of c.args.start.now) end by.kept
+          (g.W.Watch.may_stop c.args.watch.now) c.in_ok-descent.descent c.in_ok-schedule.schedule c.objective.result
           (Descends-same c.in_ok-tally.tally.table.n c.args.league.now.n c.phased-phased.result c.args.league.now.phased
           _ (league_score c.args.league.now) (table_counts c.in_ok-tally.tally.table) (counts_of c.args.start.now) end
-          by.kept c.in_ok-descent.descent c.in_ok-tally.ensures.n c.phased-phased.ensures
+          by.kept (g.W.Watch.may_stop c.args.watch.now) c.in_ok-descent.descent c.in_ok-tally.ensures.n
+          c.phased-phased.ensures
           (scores-are _ c.args.league.now c.in_ok-tally.tally.weights c.in_ok-tally.ensures.rules)
           (c.in_ok-tally.ensures.counts ∙ ap (λ (games : List Game). counts_of games) c.games.ensures)
           (record {
@@ -58,6 +58,8 @@ returns-clause-season g c =
             few = by.few;
             settled = c.in_ok-descent.ensures.settled;
             spent = by.spent;
+            costly = c.in_ok-descent.ensures.costly;
+            lowers = c.in_ok-descent.ensures.lowers;
           }))
           c.requires.accepted counts
           (subst (λ (n : ℕ). All (IsGame n) c.in_ok-schedule.schedule) teams c.in_ok-schedule.ensures.fit)
@@ -74,39 +76,10 @@ returns-clause-first g c =
 
 pub returns-clause-settles : goal.returns-clause-settles
 returns-clause-settles g c = λ some none_lower.
-    let by = kept-moves c.args.moves (g.W.Watch.may_stop c.args.watch.now) c.in_ok-descent.descent.settled
-    (length c.in_ok-descent.descent.trail) c.in_ok-descent.ensures.few c.in_ok-descent.ensures.spent
-    (λ some. c.in_ok-descent.ensures.begun some) in
-    let end : Counts = table_counts c.descend_watched.new.tally.table in
-    let counts : counts_of c.in_ok-schedule.schedule ≡ end =
-    c.in_ok-schedule.ensures.counts ∙ ap (λ (t : Table). table_counts t) c.cells.ensures in
-    let teams : c.cells.result.now.n ≡ c.args.league.now.n =
-    ap (λ (t : Table). t.n) c.cells.ensures ∙ c.descend_watched.ensures.teams ∙ c.in_ok-tally.ensures.n in
-    let first : counts_of c.in_ok-descent.descent.first ≡ counts_of c.args.start.now =
-    c.in_ok-descent.ensures.first
-    ∙ (c.in_ok-tally.ensures.counts ∙ ap (λ (games : List Game). counts_of games) c.games.ensures) in
-    settled-start c.args.league.now (counts_of c.args.start.now) by.kept c.objective.result
-    c.in_ok-schedule.schedule c.in_ok-descent.descent
-    (IsSchedule-of c.args.league.now (counts_of c.args.start.now) end by.kept c.in_ok-descent.descent
-    c.in_ok-schedule.schedule c.objective.result
-    (Descends-same c.in_ok-tally.tally.table.n c.args.league.now.n c.phased-phased.result c.args.league.now.phased
-    _ (league_score c.args.league.now) (table_counts c.in_ok-tally.tally.table) (counts_of c.args.start.now) end
-    by.kept c.in_ok-descent.descent c.in_ok-tally.ensures.n c.phased-phased.ensures
-    (scores-are _ c.args.league.now c.in_ok-tally.tally.weights c.in_ok-tally.ensures.rules)
-    (c.in_ok-tally.ensures.counts ∙ ap (λ (games : List Game). counts_of games) c.games.ensures)
+    settled-start c.args.league.now (counts_of c.args.start.now) c.args.moves (g.W.Watch.may_stop c.args.watch.now)
     (record {
-      round_robin = c.descend_watched.ensures.round_robin;
-      first = c.in_ok-descent.ensures.first;
-      fit = c.in_ok-descent.ensures.fit;
-      in_order = c.in_ok-descent.ensures.in_order;
-      trail = c.in_ok-descent.ensures.trail;
-      few = by.few;
-      settled = c.in_ok-descent.ensures.settled;
-      spent = by.spent;
-    }))
-    c.requires.accepted counts
-    (subst (λ (n : ℕ). All (IsGame n) c.in_ok-schedule.schedule) teams c.in_ok-schedule.ensures.fit)
-    c.in_ok-schedule.ensures.in_order
-    (c.objective.ensures
-    ∙ cost-is _ c.args.league.now c.in_ok-tally.tally.weights c.descend_watched.new.tally.weights end
-    c.in_ok-tally.ensures.rules c.descend_watched.ensures.weights)) first (by.some some) none_lower
+      schedule = c.in_ok-schedule.schedule;
+      objective = c.objective.result;
+      descent = c.in_ok-descent.descent;
+    })
+    (returns-clause-season g c) (returns-clause-first g c) some none_lower

@@ -30,7 +30,7 @@ loop-k-preserved g c =
       solution = λ league first each.
           better-by league c.args.budgets (g.W.Watch.may_stop c.args.watch.now) c.loop-k.best c.better-best.result
           tried (c.loop-k.invariant.solution league first each) (each c.loop-k.k tried (omega arith) made)
-          (λ earlier kept. c.better-best.ensures.solution league earlier kept);
+          c.better-best.ensures.kept;
       later = later ++ tried ∷ [];
       each = λ k d below.
           more-tries (λ j t. goal.F-post g c.args.attempt j (Ok t)) later tried k d c.loop-k.invariant.each

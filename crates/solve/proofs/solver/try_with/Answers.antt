@@ -1,3 +1,4 @@
+use Rattle.solve.proofs.KeptLemmas.{tried-answer}
 use Rattle.solve.proofs.solver.try_with.Goals as goal
 
 pub returns : goal.returns
@@ -6,5 +7,6 @@ returns g c =
     record {
       kept = by.kept;
       are_kept = by.are_kept;
-      solution = c.solved_by.ensures.solution c.args.encoding.now by.kept by.is_tried c.requires.set;
+      solution = tried-answer c.args.encoding.now by.kept (g.W.Watch.may_stop c.args.watch.now) c.in_ok-tried.tried _
+          c.solved_by.result c.solved_by.ensures.answer by.is_tried c.requires.set;
     }

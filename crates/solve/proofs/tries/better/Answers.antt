@@ -1,31 +1,23 @@
-use Rattle.std.proofs.Common.{◌⊎◌, [], ◌∷◌, ◌++◌, Option, None, inl, inr, subst, sym}
+use Rattle.std.proofs.Common.{[], ◌∷◌, ◌++◌, Option, None, ap, subst, sym, ◌∙◌}
+use Rattle.solve.specs.Chosen as chosen
 use Rattle.solve.specs.Earliest.{IsBestOf, season_of, season_tried}
-use Rattle.solve.specs.Solutions.{IsSolution, IsSpentOn, LeavesOpen}
 use Rattle.solve.specs.declared.lower.Season.{Season}
 use Rattle.solve.specs.declared.solved.Solved.{Solved}
 use Rattle.solve.proofs.EarliestLemmas.{after-none}
-use Rattle.solve.proofs.KeptLemmas.{tried-patterns}
 use Rattle.solve.proofs.tries.better.Goals as goal
 
-pub returns-in-Refuted-clause-solution : goal.returns-in-Refuted-clause-solution
-returns-in-Refuted-clause-solution c = λ league earlier kept best later.
-    inl (subst (λ (s : Solved). IsSolution league earlier s) c.in-Refuted.is best)
+pub returns-in-Refuted-clause-kept : goal.returns-in-Refuted-clause-kept
+returns-in-Refuted-clause-kept c = ap (λ (s : Solved). chosen.better s c.args.later) (sym c.in-Refuted.is)
 
-pub returns-in-Spent-clause-solution : goal.returns-in-Spent-clause-solution
-returns-in-Spent-clause-solution c = λ league earlier kept best later.
-    let known : IsSpentOn league earlier.conflicts c.in-Spent.log
-    × LeavesOpen league earlier.patterns c.in-Spent.patterns =
-    subst (λ (s : Solved). IsSolution league earlier s) c.in-Spent.is best in
-    inr (c.solved_by.ensures.solution league (record kept { patterns = earlier.patterns })
-    (tried-patterns league kept earlier.patterns c.args.later later) known.1)
+pub returns-in-Spent-clause-kept : goal.returns-in-Spent-clause-kept
+returns-in-Spent-clause-kept c =
+    c.solved_by.ensures.answer ∙ ap (λ (s : Solved). chosen.better s c.args.later) (sym c.in-Spent.is)
 
-pub returns-clause-solution : goal.returns-clause-solution
-returns-clause-solution c = λ league earlier kept best later.
-    elim (c.better_season.ensures.season league earlier.moves kept
-    (subst (λ (s : Solved). IsSolution league earlier s) c.in-Schedule.is best) later) [
-      | inl first ↦ inl (c.schedule_found.ensures.solution league earlier first)
-      | inr other ↦ inr (c.schedule_found.ensures.solution league (record kept { patterns = earlier.patterns }) other)
-    ]
+pub returns-clause-kept : goal.returns-clause-kept
+returns-clause-kept c =
+    c.schedule_found.ensures.found
+    ∙ (ap (λ (s : Season). chosen.schedule_found s) c.better_season.ensures.kept
+    ∙ ap (λ (s : Solved). chosen.better s c.args.later) (sym c.in-Schedule.is))
 
 pub returns-in-Spent-clause-best : goal.returns-in-Spent-clause-best
 returns-in-Spent-clause-best c = λ found open_yet so_far.

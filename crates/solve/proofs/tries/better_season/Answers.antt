@@ -1,4 +1,5 @@
-use Rattle.std.proofs.Common.{[], ◌∷◌, ◌++◌, None, Some, subst, sym}
+use Rattle.std.proofs.Common.{[], ◌∷◌, ◌++◌, None, Some, ap, subst, sym, ◌∙◌}
+use Rattle.solve.specs.Chosen as chosen
 use Rattle.solve.specs.Earliest.{IsBestOf, season_tried}
 use Rattle.solve.specs.declared.tries.Tried.{Tried}
 use Rattle.solve.proofs.EarliestLemmas.{lesser-is, stays}
@@ -18,3 +19,7 @@ pub returns-clause-best : goal.returns-clause-best
 returns-clause-best c = λ found so_far.
     subst (λ (t : Tried). IsBestOf (found ++ season_tried t ∷ []) (Some c.args.best)) (sym c.in-Spent.is)
     (stays found c.args.best None tt so_far)
+
+pub returns-in-Found-clause-kept : goal.returns-in-Found-clause-kept
+returns-in-Found-clause-kept c =
+    c.lesser.ensures ∙ ap (λ (t : Tried). chosen.better_season c.args.best t) (sym c.in-Found.is)

@@ -1,10 +1,8 @@
-use Rattle.std.proofs.Common.{Option, subst}
-use Rattle.std.specs.Prelude.{IfSome}
-use Rattle.solve.specs.Tried.{IsSeason}
+use Rattle.std.proofs.Common.{Option, ap, sym, ◌∙◌}
+use Rattle.solve.specs.Chosen as chosen
 use Rattle.solve.specs.declared.lower.Season.{Season}
 use Rattle.solve.proofs.tries.with_later.Goals as goal
 
-pub returns-in-Some-clause-solution : goal.returns-in-Some-clause-solution
-returns-in-Some-clause-solution c = λ league earlier moves best walked.
-    c.better.ensures.solution league earlier (record earlier { moves = moves }) best
-    (subst (λ (o : Option Season). IfSome o (IsSeason league moves)) c.in-Some.is walked)
+pub returns-in-Some-clause-kept : goal.returns-in-Some-clause-kept
+returns-in-Some-clause-kept c =
+    c.better.ensures.kept ∙ ap (λ (o : Option Season). chosen.with_later c.args.best o) (sym c.in-Some.is)
