@@ -1,10 +1,10 @@
 -- Changed games, before and after an edit.
 use Rattle.std.proofs.Common.{◌≡◌, ◌↔◌, ℕ, ◌+◌, ◌≤◌, Bool, true, false, not, ◌&&◌, ◌==◌, nat_lt, if◌then◌else◌}
-use Rattle.std.proofs.Common.{◌<◌, List, [], ◌∷◌, length, get_or, take, inl, inr, refl, arith, ◌∙◌}
+use Rattle.std.proofs.Common.{List, [], ◌∷◌, inl, inr, refl, arith}
 use Rattle.std.specs.List.{All, list_all, sum_by}
 use Rattle.std.proofs.lemmas.Bool.Decides.{nat_tests}
 use Rattle.std.proofs.lemmas.List.Elements.{All-head, All-tail}
-use Rattle.std.proofs.lemmas.List.Sums.{count_by_more_no, count_by_more_yes, sum_by-cons, sum_by-take-le}
+use Rattle.std.proofs.lemmas.List.Sums.{sum_by-cons}
 use Rattle.league.specs.Counts.{Counts, counts_of, is_game}
 use Rattle.league.specs.Instance.{IsGame}
 use Rattle.league.specs.Structure.{IsRoundRobin}
@@ -94,22 +94,6 @@ changed-rest n k phased m (g ∷ old) is fit =
       one_changed (is_open k g) (times m g) (single n phased m g is (All-head (IsGame n) g old fit)),
       changed-rest n k phased m old is (All-tail (IsGame n) g old fit),
     )
-
--- where one of the games is changed, their number isn't 0
-pub changed-some : (k : ℕ) (m : Counts) (old : List Game) (place : ℕ) (d : Game) → place < length old
-    → is_changed k m (get_or old place d) ≡ true → changed_on k old m ≡ 0 → ⊥
-changed-some k m old place d within is none =
-    let more : changed_on k (take (place + 1) old) m ≡ changed_on k (take place old) m + 1 =
-    count_by_more_yes (is_changed k m) old place d within is in
-    let most : changed_on k (take (place + 1) old) m ≤ changed_on k old m =
-    sum_by-take-le (λ g. one_if (is_changed k m g)) old (place + 1) in
-    absurd (omega (arith, more, most, none))
-
--- where one game more isn't changed, as many are
-pub changed-none : (k : ℕ) (m : Counts) (old : List Game) (place : ℕ) (d : Game) → place < length old
-    → is_changed k m (get_or old place d) ≡ false → changed_on k (take place old) m ≡ 0
-    → changed_on k (take (place + 1) old) m ≡ 0
-changed-none k m old place d within is none = count_by_more_no (is_changed k m) old place d within is ∙ none
 
 -- ---- the games of an edit
 

@@ -114,8 +114,8 @@ pub(crate) fn is_better<R: Rule<L>, L>(
     is_nearer(ground, edit, tally, steps)
 }
 
-/// Whether an edit that leaves the first slots alone leads to a season that meets each hard constraint and is nearer the
-/// old plan. The tally has the same games as before.
+/// Whether an edit that leaves the first slots alone leads to a season that meets each hard constraint and is nearer
+/// the old plan. The tally has the same games as before.
 fn is_nearer<R: Rule<L>, L>(
     ground: &Ground<'_>,
     edit: &Edit,

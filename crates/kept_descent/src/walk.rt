@@ -27,8 +27,8 @@ use tally::Tally;
 /// The most moves of a descent (own limit): as many as `solve` makes where nothing is said.
 const MOST_MOVES: u64 = 10_000;
 
-/// A season on its ground, all moves with the place of the next one to try, the edit of the one that was tried last, and
-/// how many moves are made.
+/// A season on its ground, all moves with the place of the next one to try, the edit of the one that was tried last,
+/// and how many moves are made.
 #[derive(Drop)]
 pub(crate) struct Walk<'a> {
     ground: Ground<'a>,

@@ -1,6 +1,6 @@
 use Rattle.std.proofs.Common.{◌≡◌, List, ap, inl, inr, ◌∙◌}
 use Rattle.rule_core.specs.Table.{table_counts}
-use Rattle.league.specs.Counts.{Counts, counts_of}
+use Rattle.league.specs.Counts.{counts_of}
 use Rattle.league.specs.declared.game.Game.{Game}
 use Rattle.descent.proofs.WalkLemmas.{found-nothing, found-some}
 use Rattle.kept_descent.proofs.WalkLemmas.{nearest-at, open-better}
@@ -23,5 +23,5 @@ returns-in-Ok-Some-clause-open_yet g c said =
     (table_counts c.in_ok-tally.tally.table) c.in-Ok-Some._step c.in_ok-walk.ensures.same start
     (found-some _ _ c.in-Ok-Some.field-0 c.in-Ok-Some._step c.in-Ok-Some.field-0-is c.in-Ok-Some.ensures.found))
 
-pub returns-in-Err-clause-open_yet : goal.returns-in-Err-clause-open_yet
-returns-in-Err-clause-open_yet g c said = inl c.in-Err.ensures.ended
+pub returns-clause-open_yet : goal.returns-clause-open_yet
+returns-clause-open_yet g c said = inl c.in-Err.ensures.ended
