@@ -47,10 +47,10 @@ ordered-keeps k start end merged same = λ i j s slot.
 -- ---- where a descent leads
 
 -- a descent that keeps the games of a season that keeps the played ones leads to a season that keeps these too
-pub season-further : (league : Instance) (played : List Game) (k : ℕ) (start : List Game) (cost : ℕ) (old : List Game)
-    (end : Nearest) → IsResumedSeason league played k start cost → IsEnd league k old (counts_of start) end
+pub season-further : {may_stop : Type 0} (league : Instance) (played : List Game) (k : ℕ) (start : List Game) (cost : ℕ) (old : List Game)
+    (end : Nearest) → IsResumedSeason league played k start cost → IsEnd league k old may_stop (counts_of start) end
     → IsResumedSeason league played k end.schedule end.objective
-season-further league played k start cost old end season is = record {
+season-further {may_stop} league played k start cost old end season is = record {
   resumes = record {
     accepted = is.accepted;
     keeps = λ i j s slot. is.keeps i j s slot ∙ season.resumes.keeps i j s slot;
@@ -61,17 +61,17 @@ season-further league played k start cost old end season is = record {
 }
 
 -- without an old plan it costs no more
-pub lower-cost : (league : Instance) (played : List Game) (k : ℕ) (start : List Game) (cost : ℕ) (end : Nearest)
-    → IsResumedSeason league played k start cost → IsEnd league k [] (counts_of start) end → end.objective ≤ cost
-lower-cost league played k start cost end season is = by is.no_farther where
+pub lower-cost : {may_stop : Type 0} (league : Instance) (played : List Game) (k : ℕ) (start : List Game) (cost : ℕ) (end : Nearest)
+    → IsResumedSeason league played k start cost → IsEnd league k [] may_stop (counts_of start) end → end.objective ≤ cost
+lower-cost {may_stop} league played k start cost end season is = by is.no_farther where
   by : IsAtMost 0 end.objective 0 (objective league (counts_of start)) → end.objective ≤ cost
   by (inl fewer) = absurd (omega (arith, fewer))
   by (inr same) = omega (arith, same.1, season.cost)
 
 -- nor is it farther from an old plan
-pub end-no_farther : (league : Instance) (played : List Game) (k : ℕ) (start : List Game) (cost : ℕ) (end : Nearest)
-    → IsResumedSeason league played k start cost → IsEnd league k played (counts_of start) end
+pub end-no_farther : {may_stop : Type 0} (league : Instance) (played : List Game) (k : ℕ) (start : List Game) (cost : ℕ) (end : Nearest)
+    → IsResumedSeason league played k start cost → IsEnd league k played may_stop (counts_of start) end
     → IsAtMost (changed k played end.schedule) end.objective (changed k played start) cost
-end-no_farther league played k start cost end season is =
+end-no_farther {may_stop} league played k start cost end season is =
     subst (λ (price : ℕ). IsAtMost (changed k played end.schedule) end.objective (changed k played start) price)
     (sym season.cost) is.no_farther
