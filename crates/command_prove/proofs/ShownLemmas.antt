@@ -116,35 +116,35 @@ shown-told league limit games (Spent log) answer teams accepted is told = inr (i
   reads_back = told.reads_back;
 })))
 
-pub proved-written : {may_stop : Type 0} (league : Instance) (m : Counts) (limit : Option ℕ) (proved : Proved)
+pub proved-written : (league : Instance) (m : Counts) (limit : Option ℕ) (may_stop : Type 0) (proved : Proved)
     → proofs.IsProved league m limit may_stop proved → CanBeWritten proved
-proved-written league m limit (Least cost log) is = is.named
-proved-written league m limit (Better better cost) is = tt
-proved-written league m limit (Spent log) is = is.named
+proved-written league m limit may_stop (Least cost log) is = is.named
+proved-written league m limit may_stop (Better better cost) is = tt
+proved-written league m limit may_stop (Spent log) is = is.named
 
 -- ---- the same of a reply, unless memory ran out
 
-pub replied-rejected : {E may_stop : Type 0} (league : Instance) (conflicts : Option ℕ) (games : List Game)
-    (result : Result Reply E) → (IsAccepted league (counts_of games) → ⊥)
+pub replied-rejected : {E : Type 0} (league : Instance) (conflicts : Option ℕ) (may_stop : Type 0)
+    (games : List Game) (result : Result Reply E) → (IsAccepted league (counts_of games) → ⊥)
     → IfOk result (λ reply. IsJudgement league games (answer_of reply))
     → IfOk result (λ reply. IsShown league conflicts may_stop games (answer_of reply))
-replied-rejected league conflicts games (Ok reply) fails judged =
+replied-rejected {E} league conflicts may_stop games (Ok reply) fails judged =
     shown-rejected league conflicts games (answer_of reply) fails judged
-replied-rejected league conflicts games (Err error) fails judged = tt
+replied-rejected {E} league conflicts may_stop games (Err error) fails judged = tt
 
-pub replied-told : {E may_stop : Type 0} (league : Instance) (limit : Option ℕ) (games : List Game) (proved : Proved)
-    (result : Result Reply E) → IsTeamCount league.n → IsAccepted league (counts_of games)
+pub replied-told : {E : Type 0} (league : Instance) (limit : Option ℕ) (may_stop : Type 0) (games : List Game)
+    (proved : Proved) (result : Result Reply E) → IsTeamCount league.n → IsAccepted league (counts_of games)
     → proofs.IsProved league (counts_of games) limit may_stop proved
     → IfOk result (λ reply. Tells proved (answer_of reply))
     → IfOk result (λ reply. IsShown league limit may_stop games (answer_of reply))
-replied-told league limit games proved (Ok reply) teams accepted is told =
+replied-told {E} league limit may_stop games proved (Ok reply) teams accepted is told =
     shown-told league limit games proved (answer_of reply) teams accepted is told
-replied-told league limit games proved (Err error) teams accepted is told = tt
+replied-told {E} league limit may_stop games proved (Err error) teams accepted is told = tt
 
 -- a reply within the limit to which the search kept
-pub replied-by : {E may_stop : Type 0} (league : Instance) (limits : Option ℕ → Type 0) (games : List Game)
-    (result : Result Reply E) (conflicts : Option ℕ) → limits conflicts
+pub replied-by : {E : Type 0} (league : Instance) (limits : Option ℕ → Type 0) (may_stop : Type 0)
+    (games : List Game) (result : Result Reply E) (conflicts : Option ℕ) → limits conflicts
     → IfOk result (λ reply. IsShown league conflicts may_stop games (answer_of reply))
     → IfOk result (λ reply. IsShownBy league limits may_stop games (answer_of reply))
-replied-by league limits games (Ok reply) conflicts is shown = (conflicts, is, shown)
-replied-by league limits games (Err error) conflicts is shown = tt
+replied-by {E} league limits may_stop games (Ok reply) conflicts is shown = (conflicts, is, shown)
+replied-by {E} league limits may_stop games (Err error) conflicts is shown = tt

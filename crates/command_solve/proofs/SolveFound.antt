@@ -75,12 +75,12 @@ found-schedule : (league : Instance) (budgets : Budgets) (may_stop : Type 0) (ga
     → IsFound league budgets may_stop (rows_of league) answer
 found-schedule league budgets may_stop games objective descent answer teams schedule not_short not_crowded enough status
     text = record {
-  found = inl (schedule-told league budgets.moves may_stop games objective descent answer teams schedule status text);
-  circle = λ accepted. status;
-  short = λ is. absurd (not_short is);
-  crowded = λ is. absurd (not_crowded is);
-  few = λ is. absurd (enough is);
-}
+      found = inl (schedule-told league budgets.moves may_stop games objective descent answer teams schedule status text);
+      circle = λ accepted. status;
+      short = λ is. absurd (not_short is);
+      crowded = λ is. absurd (not_crowded is);
+      few = λ is. absurd (enough is);
+    }
 
 found-refuted : (league : Instance) (budgets : Budgets) (may_stop : Type 0) (steps : List Step) (answer : Answer)
     → RefutesLeague league steps → (IsAccepted league (counts_of (double_games league.n)) → ⊥)
