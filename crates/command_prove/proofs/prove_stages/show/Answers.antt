@@ -5,8 +5,9 @@ use Rattle.command_prove.proofs.prove_stages.show.Goals as goal
 
 pub returns-then-not-assessed : goal.returns-then-not-assessed
 returns-then-not-assessed g c =
-    replied-by c.args.league.now _ (g.W.Watch.may_stop c.args.watch.now) c.args.schedule.now c.judgement.result c.args.conflicts (inl refl)
-    (replied-rejected c.args.league.now c.args.conflicts (g.W.Watch.may_stop c.args.watch.now) c.args.schedule.now c.judgement.result
+    let may_stop = g.W.Watch.may_stop c.args.watch.now in
+    replied-by c.args.league.now _ may_stop c.args.schedule.now c.judgement.result c.args.conflicts (inl refl)
+    (replied-rejected c.args.league.now c.args.conflicts may_stop c.args.schedule.now c.judgement.result
     (λ accepted. failed c.in_ok-assessed.assessed.feasible c.if-not-assessed.true
     (c.in_ok-assessed.ensures.feasible.1 accepted)) c.judgement.ensures)
 
@@ -21,9 +22,10 @@ proof_reply-requires g c =
 
 pub returns : goal.returns
 returns g c =
-    replied-by c.args.league.now _ (g.W.Watch.may_stop c.args.watch.now) c.args.schedule.now c.proof_reply.result c.in_ok-proved.ensures.0
+    let may_stop = g.W.Watch.may_stop c.args.watch.now in
+    replied-by c.args.league.now _ may_stop c.args.schedule.now c.proof_reply.result c.in_ok-proved.ensures.0
     c.in_ok-proved.ensures.1
-    (replied-told c.args.league.now c.in_ok-proved.ensures.0 (g.W.Watch.may_stop c.args.watch.now) c.args.schedule.now c.in_ok-proved.proved
+    (replied-told c.args.league.now c.in_ok-proved.ensures.0 may_stop c.args.schedule.now c.in_ok-proved.proved
     c.proof_reply.result c.requires.counted.instance.teams
     (c.in_ok-assessed.ensures.feasible.0 c.if-not-assessed.false)
     c.in_ok-proved.ensures.2 c.proof_reply.ensures)
