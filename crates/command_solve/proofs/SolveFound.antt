@@ -140,10 +140,10 @@ written-found league budgets may_stop (answers.Schedule games objective descent)
     found-schedule league budgets may_stop games objective descent answer teams schedule short crowded few written.0
     written.1
 written-found league budgets may_stop (answers.Refuted log) answer teams refutes circle short crowded few written =
-    found-refuted league budgets may_stop log answer refutes circle written.0 written.1.0 written.1.1
+    found-refuted league budgets may_stop log answer refutes circle written.0 written.1 written.2
 written-found league budgets may_stop (answers.Spent log patterns) answer teams spent circle short crowded few written =
     found-spent league budgets may_stop log patterns answer spent.0 spent.1 circle short crowded few written.0
-    written.1.0 written.1.1
+    written.1 written.2
 
 pub written-within : (league : Instance) (budgets : Budgets) (may_stop : Type 0) (most : ℕ) (solved : Solved)
     (answer : Answer) → IsTeamCount league.n → IsSolution league budgets may_stop solved → CostsAtMost most solved
@@ -192,7 +192,7 @@ pub replied-refuted : {E : Type 0} (league : Instance) (solved : Solved) (steps 
     → IfOk result (λ reply. log_of (answer_of reply).text ≡ Ok steps)
     → IfOk result (λ reply. IsWritten league solved (answer_of reply))
 replied-refuted {E} league solved steps (Ok reply) is status text reads_back =
-    subst (λ (s : Solved). IsWritten league s (answer_of reply)) (sym is) (status, (text, reads_back))
+    subst (λ (s : Solved). IsWritten league s (answer_of reply)) (sym is) (status, text, reads_back)
 replied-refuted {E} league solved steps (Err error) is status text reads_back = tt
 
 pub replied-spent : {E : Type 0} (league : Instance) (solved : Solved) (steps : List Step) (patterns : PatternFound)
@@ -202,5 +202,5 @@ pub replied-spent : {E : Type 0} (league : Instance) (solved : Solved) (steps : 
     → IfOk result (λ reply. log_of (answer_of reply).text ≡ Ok steps)
     → IfOk result (λ reply. IsWritten league solved (answer_of reply))
 replied-spent {E} league solved steps patterns (Ok reply) is status text reads_back =
-    subst (λ (s : Solved). IsWritten league s (answer_of reply)) (sym is) (status, (text, reads_back))
+    subst (λ (s : Solved). IsWritten league s (answer_of reply)) (sym is) (status, text, reads_back)
 replied-spent {E} league solved steps patterns (Err error) is status text reads_back = tt
