@@ -35,7 +35,7 @@ use Rattle.break_counts.specs.BreakCounts.{are_few}
 use Rattle.solve.specs.Solutions.{CostsAtMost, HasSchedule, IsRefuted, IsSolutionBy}
 use Rattle.solve.specs.declared.solved.Solved.{Solved}
 use Rattle.command_solve.proofs.SolveAnswers.{found-refuted}
-use Rattle.command_solve.proofs.SolveFound.{found-by, written-within}
+use Rattle.command_solve.proofs.SolveFound.{written-found, written-within}
 
 -- ---- stages
 
@@ -90,7 +90,12 @@ pub found-answered : (league : Instance) (budgets : Budgets) (may_stop : Type 0)
 found-answered league budgets may_stop start solved reply small teams by costs circle short crowded few written = inl (
   small,
   record {
-    found = found-by league budgets may_stop solved reply teams by circle short crowded few written;
+    found = record {
+      kept = by.kept;
+      are_kept = by.are_kept;
+      is_found = written-found league by.kept may_stop solved (answer_of reply) teams by.solution circle short crowded
+          few written;
+    };
     no_worse = λ accepted.
         written-within league by.kept may_stop (objective league (counts_of start)) solved (answer_of reply) teams
         by.solution (costs accepted) written;

@@ -1,5 +1,5 @@
 -- What follows from an answer of `solve`.
-use Rattle.std.proofs.Common.{◌∷◌, [], ◌≡◌, ℕ, List, Some, Option, None, Result, Ok, Err, codes, ap, inl, inr, sym, ◌∙◌}
+use Rattle.std.proofs.Common.{◌∷◌, [], ◌≡◌, ℕ, List, Some, None, Result, Ok, Err, codes, ap, inl, inr, sym, ◌∙◌}
 use Rattle.robin_io.specs.Outside.{Store}
 use Rattle.rows.specs.Rows.{Row}
 use Rattle.robin_watch.proofs.LimitLemmas.{kept-unstopped}

@@ -1,5 +1,5 @@
 -- What is found of a league, answered.
-use Rattle.std.proofs.Common.{◌≡◌, ℕ, ◌≤◌, ◌++◌, true, List, Some, Result, Ok, Err}
+use Rattle.std.proofs.Common.{◌≡◌, ℕ, ◌++◌, true, List, Some, Result, Ok, Err}
 use Rattle.std.proofs.Common.{arith, ap, inl, inr, subst, sym, ◌∙◌}
 use Rattle.std.specs.Prelude.{IfOk}
 use Rattle.robin_watch.specs.declared.budgets.Budgets.{Budgets}
