@@ -12,8 +12,8 @@ const MOST_CONSTRAINTS: usize = 20_000;
 /// What a game of the old plan costs that isn't played (own choice): more than games are worth in most leagues.
 const CHANGE_PENALTY: u32 = 1000;
 
-/// A league with a constraint more for each slot, which asks for just the games that a schedule has there: a hard one
-/// below slot k, and a soft one from there on; none where it would have too many constraints.
+/// A league with a constraint more for each slot, which asks for just the games that a schedule has there: a soft one in
+/// the free slots, and a hard one in the others; none where it would have too many constraints.
 ///
 /// # Errors
 /// Only where memory runs out.
@@ -21,7 +21,7 @@ pub(crate) fn near_league(
     alloc: Global,
     league: &League,
     games: &Schedule,
-    k: u16,
+    free: &SlotSet,
 ) -> Result<Option<League>, AllocError>
     ensures teams { IfOk result (λ made. IfSome made (λ near. near.n ≡ league.now.n)) }
     ensures phases { IfOk result (λ made. IfSome made (λ near. near.phased ≡ league.now.phased)) }
@@ -35,7 +35,7 @@ pub(crate) fn near_league(
         }
     }
     for slot in 0..slot_count(n) {
-        let ask = asked(alloc, games, slot, slot < k)?;
+        let ask = asked(alloc, games, slot, !free.contains(SlotId(slot)))?;
         if !add_fitting(&mut constraints, n, ask)? {
             return Ok(None);
         }

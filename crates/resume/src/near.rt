@@ -11,20 +11,17 @@ ghost use Rattle.resume_rows.specs.Kept as kept;
 ghost use Rattle.resume.specs.Answers.{IsPlan, IsResumed, IsResumedBy, IsResumedSeason};
 ghost use Rattle.resume.specs.Near.{IsAtMost, IsNoFarther, IsSettledNear, changed};
 ghost use Rattle.robin_watch.specs.Limits.{IsKeptTo};
-ghost use Rattle.solve.specs.Solutions.{IsSomeSolution};
 
 use crate::changed::changed_games;
-use crate::fixed::near_league;
-use crate::judged::{MOST_GAMES, Season, judged};
-use crate::merge::merged;
-use crate::unheard::Unheard;
+use crate::freed::freed_season;
+use crate::judged::{MOST_GAMES, Season};
+use crate::repair::repaired_season;
 use crate::{Resumed, resume_lowered};
 use deviation::assess;
 use encoding::EncodeFault;
 use kept_descent::{Nearest, OldPlan, descend_near, is_settled};
-use league::{League, Schedule, structure};
+use league::{League, Schedule, SlotId, SlotSet, structure};
 use robin_watch::{Budgets, Watch};
-use solve::{Solved, solve_from};
 use std::alloc::{AllocError, Global};
 
 /// A season of which the first k slots are played. What `played` has from slot k on is the old plan.
@@ -91,11 +88,12 @@ pub fn resume_near<W: Watch>(
     Ok(near)
 }
 
-/// A first answer, or one that is nearer the old plan. Unless the league accepts the old plan, or the first answer
-/// refutes, `solve_from` goes from the old plan, where that is a double round robin, over a league that asks for the
-/// played games and, at a penalty, for those of the old plan. Of both seasons the one that changes fewer games, and of
-/// equal ones the one that costs less, is where a descent begins that leaves the played slots alone. The watch may end
-/// all of it, and the look that says whether an answer that stays is settled.
+/// A first answer, or one that is nearer the old plan. Where the league accepts the old plan, or the first answer
+/// refutes, it stays. Else, where the old plan is a double round robin, a repair searches with few slots free, and then
+/// more of them; then `solve_from` goes from the old plan over a league that asks for the played games and, at a penalty,
+/// for the others. Of these seasons and the first answer the one that changes fewest games, and of equal ones the one
+/// that costs least, is where a descent begins that leaves the played slots alone. The watch may end all of it, and the
+/// look that says whether an answer that stays is settled.
 ///
 /// # Errors
 /// Only where memory runs out.
@@ -129,8 +127,7 @@ pub fn nearer_answer<W: Watch>(
     if matches!(first, Resumed::Refuted { .. }) {
         return Ok(unsettled(first));
     }
-    let near = near_season(alloc, league, played, season.k, budgets, watch)?;
-    let answer = nearer(played, season.k, first, near);
+    let answer = nearest_found(alloc, season, first, budgets, watch)?;
     descended(alloc, season, answer, watch)
 }
 
@@ -244,37 +241,33 @@ fn is_accepted(alloc: Global, league: &League, schedule: &Schedule) -> Result<bo
     Ok(assessment.feasible)
 }
 
-/// A season near the old plan that the league accepts and that keeps the played games, where the old plan is a double
-/// round robin and one is found from there.
+/// The nearest one of a first answer and of the seasons that are found from the old plan, where that is a double round
+/// robin: by a repair, and by a walk. Of those that change as many games it is the one that costs least.
 ///
 /// # Errors
 /// Only where memory runs out.
-fn near_season<W: Watch>(
+fn nearest_found<W: Watch>(
     alloc: Global,
-    league: &League,
-    played: &Schedule,
-    k: u16,
+    season: PartSeason<'_>,
+    first: Resumed,
     budgets: Budgets,
     watch: &W,
-) -> Result<Option<Season>, AllocError>
-    requires few { length played.now ≤ 10000 }
-    requires fit { All (IsGame league.now.n) played.now }
-    ensures { IfOk result (λ near. IfSome near (λ season.
-        IsResumedSeason league.now played.now k season.schedule season.objective)) }
+) -> Result<Resumed, AllocError>
+    requires few { length season.played.now ≤ 10000 }
+    requires fit { All (IsGame season.league.now.n) season.played.now }
+    ensures answer { (conflicts : Option ℕ)
+        → IsResumed season.entry.league.now season.entry.played.now season.entry.k conflicts first
+        → IfOk result (IsResumed season.entry.league.now season.entry.played.now season.entry.k conflicts) }
+    ensures no_farther { IfOk result (IsNoFarther season.entry.k season.entry.played.now first) }
 {
-    if !is_round_robin(league, played) {
-        return Ok(None);
+    let (played, k) = (season.played, season.k);
+    if !is_round_robin(season.league, played) {
+        return Ok(first);
     }
-    let made = near_league(alloc, league, played, k)?;
-    let Some(near) = made else {
-        return Ok(None);
-    };
-    let found = solved_near(alloc, &near, played, budgets, watch)?;
-    let Some(end) = found else {
-        return Ok(None);
-    };
-    let schedule = merged(alloc, played, &end, k)?;
-    judged(alloc, league, played, k, schedule)
+    let repaired = repaired_season(alloc, season, budgets, watch)?;
+    let near = near_season(alloc, season, budgets, watch)?;
+    let answer = nearer(played, k, first, repaired);
+    Ok(nearer(played, k, answer, near))
 }
 
 /// Whether a schedule is a double round robin of the league.
@@ -287,45 +280,28 @@ fn is_round_robin(league: &League, schedule: &Schedule) -> bool
     wrongs.pairs_wrong == 0 && wrongs.cells_wrong == 0 && wrongs.phases_wrong == 0
 }
 
-/// The schedule that `solve_from` finds, if any, over a league of which the watch hears no season.
+/// A season that the league accepts and that keeps the played games, where `solve_from` finds one from the old plan with
+/// all slots from slot k on free.
 ///
 /// # Errors
 /// Only where memory runs out.
-fn solved_near<W: Watch>(
+fn near_season<W: Watch>(
     alloc: Global,
-    league: &League,
-    start: &Schedule,
+    season: PartSeason<'_>,
     budgets: Budgets,
     watch: &W,
-) -> Result<Option<Schedule>, AllocError>
-    requires fit { All (IsGame league.now.n) start.now }
-    requires round_robin { IsRoundRobin league.now.n league.now.phased (counts_of start.now) }
-    ensures { IfOk result (λ found. IfSome found (All (IsGame league.now.n))) }
+) -> Result<Option<Season>, AllocError>
+    requires few { length season.played.now ≤ 10000 }
+    requires fit { All (IsGame season.league.now.n) season.played.now }
+    requires round_robin { IsRoundRobin season.league.now.n season.league.now.phased (counts_of season.played.now) }
+    ensures { IfOk result (λ found. IfSome found (λ near. IsResumedSeason season.entry.league.now
+        season.entry.played.now season.entry.k near.schedule near.objective)) }
 {
-    let unheard = Unheard { watch };
-    match solve_from(alloc, league, start, budgets, &unheard) {
-        Ok(solved) => Ok(schedule_of(solved)),
-        Err(EncodeFault::TooLarge { .. }) => Ok(None),
-        Err(EncodeFault::Mem) => Err(AllocError),
+    let mut free = SlotSet::new(alloc);
+    for slot in season.k..season.league.slots() {
+        let _new = free.insert(SlotId(slot))?;
     }
-}
-
-/// The schedule of an answer, if it has one.
-fn schedule_of(solved: Solved) -> Option<Schedule>
-    ensures { (league : Instance) → IsSomeSolution league solved → IfSome result (All (IsGame league.n)) }
-{
-    match solved {
-        Solved::Schedule {
-            schedule,
-            objective: _,
-            descent: _,
-        } => Some(schedule),
-        Solved::Refuted(_) => None,
-        Solved::Spent {
-            log: _,
-            patterns: _,
-        } => None,
-    }
+    freed_season(alloc, season, &free, budgets, watch)
 }
 
 /// The nearer one of an answer and a season near the old plan.

@@ -1,5 +1,5 @@
 use Rattle.solve.proofs.KeptLemmas.{some-solution}
-use Rattle.resume.proofs.near.solved_near.Goals as goal
+use Rattle.resume.proofs.freed.solved_near.Goals as goal
 
 pub returns-in-Ok : goal.returns-in-Ok
 returns-in-Ok g c =
