@@ -10,7 +10,8 @@ use crate::freed::freed_season;
 use crate::judged::Season;
 use crate::near::PartSeason;
 use deviation::{Vectors, assess, total};
-use league::{Class, Constraint, SlotId, SlotSet};
+use encoding::check_size;
+use league::{Class, Constraint, League, SlotId, SlotSet};
 use robin_watch::{Budgets, News, Phase, Watch};
 use std::alloc::{AllocError, Global};
 
@@ -20,13 +21,16 @@ const MOST_SEARCHES: u64 = 12;
 /// How many clauses each search of a repair may learn (own choice).
 const MOST_CONFLICTS: u64 = 2000;
 
+/// The most terms of the rows of a league that is repaired (own choice): each search writes these rows again.
+const MOST_TERMS: u64 = 2_000_000;
+
 /// How many more slots each search of a repair frees (own choice).
 const STEP: usize = 2;
 
 /// A season that the league accepts and that keeps the played games, where a repair finds one: a large neighbourhood
 /// search, that is a search by clauses over the rows of a league in which most slots keep the games of the old plan. It
 /// frees the slots from slot k on that are named by hard constraints which the old plan misses, then two more, and so on
-/// until a season is found, no slot is left, or the watch ends it.
+/// until a season is found, no slot is left, or the watch ends it. A large league isn't repaired.
 ///
 /// # Errors
 /// Only where memory runs out.
@@ -42,6 +46,9 @@ pub(crate) fn repaired_season<W: Watch>(
     ensures { IfOk result (λ found. IfSome found (λ repaired. IsResumedSeason season.entry.league.now
         season.entry.played.now season.entry.k repaired.schedule repaired.objective)) }
 {
+    if !is_small(season.league) {
+        return Ok(None);
+    }
     let budgets = short(budgets);
     let mut free = first_freed(alloc, season)?;
     for searches in 0..MOST_SEARCHES {
@@ -60,6 +67,14 @@ pub(crate) fn repaired_season<W: Watch>(
         add_from(&mut free, more.numbers(), season.k)?;
     }
     Ok(None)
+}
+
+/// Whether the rows of a league have few enough terms.
+fn is_small(league: &League) -> bool {
+    match check_size(league) {
+        Ok(terms) => terms <= MOST_TERMS,
+        Err(_) => false,
+    }
 }
 
 /// The budgets of one search of a repair, of those of the run: it doesn't walk, and learns few clauses.
