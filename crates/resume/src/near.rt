@@ -242,7 +242,8 @@ fn is_accepted(alloc: Global, league: &League, schedule: &Schedule) -> Result<bo
 }
 
 /// The nearest one of a first answer and of the seasons that are found from the old plan, where that is a double round
-/// robin: by a repair, and by a walk. Of those that change as many games it is the one that costs least.
+/// robin: by a repair, and by a walk. Of those that change as many games it is the one that costs least. The watch is
+/// asked before each.
 ///
 /// # Errors
 /// Only where memory runs out.
@@ -261,12 +262,15 @@ fn nearest_found<W: Watch>(
     ensures no_farther { IfOk result (IsNoFarther season.entry.k season.entry.played.now first) }
 {
     let (played, k) = (season.played, season.k);
-    if !is_round_robin(season.league, played) {
+    if watch.is_over_now(0) || !is_round_robin(season.league, played) {
         return Ok(first);
     }
     let repaired = repaired_season(alloc, season, budgets, watch)?;
-    let near = near_season(alloc, season, budgets, watch)?;
     let answer = nearer(played, k, first, repaired);
+    if watch.is_over_now(1) {
+        return Ok(answer);
+    }
+    let near = near_season(alloc, season, budgets, watch)?;
     Ok(nearer(played, k, answer, near))
 }
 
