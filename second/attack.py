@@ -102,7 +102,7 @@ ENDS = {
 
 
 # How the texts of `--help`, of a page on a command and of `--version` begin.
-HELP = ("robin makes and judges", "usage: robin ", "robin 1.")
+HELP = ("robin makes and judges", "usage: robin ", "robin 2.")
 
 
 def is_lawful(command, status, text):
