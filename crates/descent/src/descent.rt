@@ -103,7 +103,7 @@ pub fn descend<R: Rule<L>, L>(
     descend_watched(alloc, phased, tally, limit, steps, &Unwatched)
 }
 
-/// Makes moves as `descend` does, until the watch ends it. The watch is asked before every 256th of all moves is tried.
+/// Makes moves as `descend` does, until the watch ends it. The watch is asked before every 16th of all moves is tried.
 ///
 /// # Errors
 /// Only where memory runs out. Then the moves made so far stay made: the tally has a double round robin that isn't

@@ -26,7 +26,7 @@ pub struct Nearest {
 /// The season to which a descent of at most 10,000 moves leads from an accepted one: each move leaves the slots below k
 /// alone and leads to an accepted season that changes fewer games of the old plan, or as many at a lower cost. After a
 /// move it goes on with the move behind it, and it ends after one whole round of all moves of which none does so. The
-/// watch may end it: it is asked before every 256th of all moves is tried.
+/// watch may end it: it is asked before every 16th of all moves is tried.
 ///
 /// # Errors
 /// Only where memory runs out.

@@ -34,7 +34,8 @@ fn put_literal(text: &mut Vec<u8>, lit: Lit) -> Result<(), AllocError>
 {
     put_sign(text, lit.positive())?;
     put_decimal(text, u128::from(lit.var()))?;
-    text.extend_from_slice(b" ")
+    text.push(b' ')?;
+    Ok(())
 }
 
 /// Adds a number and a space.
@@ -42,7 +43,8 @@ fn put_number(text: &mut Vec<u8>, number: u64) -> Result<(), AllocError>
     ensures { OnOk result (text.new.items ≡ text.old.items ++ texts.number_text number) }
 {
     put_decimal(text, u128::from(number))?;
-    text.extend_from_slice(b" ")
+    text.push(b' ')?;
+    Ok(())
 }
 
 /// Adds literals.

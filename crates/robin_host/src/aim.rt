@@ -9,9 +9,9 @@ pub(crate) enum Aim {
     Season,
     /// A season, or a better one, by the try with this number, from 1.
     Try { number: u64 },
-    /// That no season costs less than this.
+    /// A proof that no season costs less than this.
     Bound { objective: u64 },
-    /// Whether a member of a conflict is needed; so many are still to be tried.
+    /// An answer whether a member of a conflict is needed; so many members are still to be tried.
     Member { left: u64 },
 }
 

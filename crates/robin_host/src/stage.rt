@@ -5,36 +5,36 @@ use std::fmt;
 /// What a run does for a while.
 #[derive(Clone, Copy)]
 pub(crate) enum Stage {
-    /// It counts venues and breaks.
+    /// The run counts venues and breaks.
     Counts,
-    /// It searches home-away patterns.
+    /// The run searches home-away patterns.
     Patterns,
-    /// It searches a season by clauses.
+    /// The run searches a season by clauses.
     Search,
-    /// It walks, and whether the hard constraints are met wasn't heard yet.
+    /// The run walks, and whether the hard constraints are met wasn't heard yet.
     Walk,
-    /// It walks to games that meet the hard constraints, which cost so much so far.
+    /// The run walks to games that meet the hard constraints, which cost so much so far.
     HardWalk { cost: u128 },
-    /// It walks, from games that meet the hard constraints, to cheaper ones.
+    /// The run walks, from games that meet the hard constraints, to cheaper ones.
     SoftWalk,
-    /// It goes down from a season by single moves.
+    /// The run goes down from a season by single moves.
     Descent,
-    /// It has gone down, and nothing else was heard yet.
+    /// The run has gone down, and nothing else was heard yet.
     Descended,
 }
 
 impl Stage {
-    /// Whether it searches by clauses.
+    /// Whether the run searches by clauses.
     pub(crate) fn is_search(self) -> bool {
         matches!(self, Stage::Patterns | Stage::Search)
     }
 
-    /// Whether it walks.
+    /// Whether the run walks.
     pub(crate) fn is_walk(self) -> bool {
         matches!(self, Stage::Walk | Stage::HardWalk { .. } | Stage::SoftWalk)
     }
 
-    /// What its turns are called.
+    /// What the turns of this stage are called.
     pub(crate) fn turns(self) -> &'static str {
         if self.is_search() {
             "conflicts"

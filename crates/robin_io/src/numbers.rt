@@ -76,5 +76,10 @@ pub fn put_decimal(out: &mut Vec<u8>, value: u128) -> Result<(), AllocError>
     ensures err { OnErr result (out.new.items ≡ out.old.items) }
 {
     let mut digits = Buffer::new();
-    out.extend_from_slice(digits.format(value).as_bytes())
+    let text = match u64::try_from(value) {
+        // Most numbers are short, and 64 bits are faster.
+        Ok(short) => digits.format(short),
+        Err(_) => digits.format(value),
+    };
+    out.extend_from_slice(text.as_bytes())
 }
