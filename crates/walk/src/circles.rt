@@ -161,7 +161,7 @@ impl Walker {
             }
             parts.set_goal(self.goal());
             let stage = course.stage(self.left - end);
-            let sum = self.stretch(alloc, league, &mut parts, stage, watch)?;
+            let sum = self.stretch(&mut parts, stage, watch);
             let said = Score {
                 infeasibility: sum,
                 objective: u128::from(parts.sum()),

@@ -18,14 +18,18 @@ mod copies;
 mod course;
 mod draws;
 mod factors;
+mod lists;
+mod measure;
 mod number_set;
 mod parts;
+mod plays;
 mod scale;
 mod spots;
 mod standing;
 mod threshold;
 mod walked;
 mod walker;
+mod watches;
 mod weighed;
 mod weights;
 

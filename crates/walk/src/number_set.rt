@@ -29,6 +29,14 @@ impl NumberSet {
         &self.numbers[..count]
     }
 
+    /// Whether a number is in it.
+    pub(crate) fn has(&self, number: usize) -> bool {
+        match self.places.get(number) {
+            Some(place) => place.is_some(),
+            None => false,
+        }
+    }
+
     /// Puts in these numbers.
     pub(crate) fn add_all(&mut self, numbers: &[usize]) {
         for number in numbers {

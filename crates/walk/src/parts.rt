@@ -4,8 +4,8 @@ use crate::weights::{Weighing, Weight};
 use league::{Class, Constraint, League, SlotId, SlotSet, Span, TeamId, TeamSet};
 use std::alloc::{AllocError, Global};
 
-/// Up to so many parts, constraints are taken apart.
-const SPLIT: usize = 10_000;
+/// Behind so many parts no further constraints are weighed.
+const MOST: usize = 100_000;
 
 /// Constraints in parts, each with its weight.
 #[derive(Drop)]
@@ -38,7 +38,7 @@ pub(crate) fn weighed_demands(
     Ok(Demands { parts, weights })
 }
 
-/// Adds the parts of a constraint of n teams, or behind many parts the constraint as one.
+/// Adds the parts of a constraint of n teams, unless there are too many parts.
 ///
 /// # Errors
 /// Only where memory runs out.
@@ -48,8 +48,8 @@ fn add_parts(
     constraint: &Constraint,
     parts: &mut Vec<Constraint>,
 ) -> Result<(), AllocError> {
-    if parts.len() >= SPLIT {
-        return add_whole(constraint, parts);
+    if parts.len() >= MOST {
+        return Ok(());
     }
     match &constraint.class {
         Class::Ca1 { teams, .. } | Class::Br1 { teams, .. } => {

@@ -1,16 +1,11 @@
-//! Which parts of the hard constraints a game can change.
+//! Which parts of the hard constraints a game can change: the order in which unmet ones are listed goes by it.
 
+use crate::lists::{SLOTS, TEAMS, add_at, empty_lists, list_at, place};
 use league::{Class, Constraint, SlotId, TeamId};
 use std::alloc::{AllocError, Global};
 
-/// The most teams of a league.
-const TEAMS: u16 = 40;
-
-/// The most slots of a season.
-const SLOTS: u16 = 78;
-
-/// The numbers of parts: by team and slot those that a game of the team there can change, and by home and away team
-/// those that the slot of their game can change.
+/// The numbers of hard constraints' parts: by team and slot those that a game of the team there can change, and by home
+/// and away team those that the slot of their game can change.
 #[derive(Drop)]
 pub(crate) struct Spots {
     cells: Vec<Vec<usize>>,
@@ -18,7 +13,8 @@ pub(crate) struct Spots {
 }
 
 impl Spots {
-    /// The parts that each game can change. Parts are numbered from 0, in the order in which they are given.
+    /// The hard constraints' parts that each game can change. Parts are numbered from 0, in the order in which they are
+    /// given.
     ///
     /// # Errors
     /// Only where memory runs out.
@@ -28,25 +24,21 @@ impl Spots {
             meetings: empty_lists(alloc, usize::from(TEAMS * TEAMS))?,
         };
         for (number, part) in parts.iter().enumerate() {
-            spots.add(number, &part.class)?;
+            if part.hard {
+                spots.add(number, &part.class)?;
+            }
         }
         Ok(spots)
     }
 
     /// The parts that a game of a team in a slot can change.
     pub(crate) fn of_cell(&self, team: TeamId, slot: SlotId) -> &[usize] {
-        match self.cells.get(place(team.0, SLOTS, slot.0)) {
-            Some(numbers) => numbers,
-            None => &[],
-        }
+        list_at(&self.cells, place(team.0, SLOTS, slot.0))
     }
 
     /// The parts that the slot of a home team's game against another can change.
     pub(crate) fn of_meeting(&self, home: TeamId, away: TeamId) -> &[usize] {
-        match self.meetings.get(place(home.0, TEAMS, away.0)) {
-            Some(numbers) => numbers,
-            None => &[],
-        }
+        list_at(&self.meetings, place(home.0, TEAMS, away.0))
     }
 
     /// Adds a part.
@@ -143,38 +135,4 @@ impl Spots {
         }
         Ok(())
     }
-}
-
-/// The place of a row and a column in a table with rows of this length.
-fn place(row: u16, length: u16, column: u16) -> usize {
-    usize::from(row) * usize::from(length) + usize::from(column)
-}
-
-/// So many empty lists.
-///
-/// # Errors
-/// Only where memory runs out.
-fn empty_lists(alloc: Global, count: usize) -> Result<Vec<Vec<usize>>, AllocError> {
-    let mut lists = Vec::with_capacity(alloc, count)?;
-    for _list in 0..count {
-        lists.push(Vec::new(alloc))?;
-    }
-    Ok(lists)
-}
-
-/// Adds a number to the list at a place, unless it is the last there.
-///
-/// # Errors
-/// Only where memory runs out.
-fn add_at(lists: &mut [Vec<usize>], place: usize, number: usize) -> Result<(), AllocError> {
-    let Some(list) = lists.get_mut(place) else {
-        return Ok(());
-    };
-    if let Some(last) = list.last()
-        && *last == number
-    {
-        return Ok(());
-    }
-    list.push(number)?;
-    Ok(())
 }

@@ -122,20 +122,16 @@ impl Standing {
     }
 
     /// Tries moves of a stage until so many were legal, the parts are at their goal, or the watch ends the walk: each is
-    /// made where they weigh no more after it than a drawn threshold allows. The counts follow the games. Says how many
+    /// made where they weigh no more after it than a drawn threshold allows. The parts follow the games. Says how many
     /// were tried.
-    pub(crate) fn meet<R: Rule<L>, L, W: Watch>(
+    pub(crate) fn meet<W: Watch>(
         &mut self,
         stage: Stage,
         parts: &mut WeighedParts,
-        counts: &mut Tally<R>,
-        steps: &mut Steps<L>,
         watch: &W,
     ) -> u64
-        requires standing { IsStandingOn counts.old.table.n self.old.board.phased (table_counts counts.old.table)
-            self.old }
-        ensures standing { IsStandingOn counts.old.table.n self.old.board.phased (round_counts self.new.board)
-            self.new }
+        requires standing { IsStandingOn self.old.board.n self.old.board.phased (round_counts self.old.board) self.old }
+        ensures standing { IsStandingOn self.old.board.n self.old.board.phased (round_counts self.new.board) self.new }
         ensures tried { result ≤ stage.limit }
     {
         let limit = stage.limit;
@@ -146,7 +142,7 @@ impl Standing {
             }
             let step = stage.step(&mut self.random, &self.board, parts);
             let more = drawn_threshold(&mut self.random, stage.heat);
-            let legal = self.attempt_weighed(step, more, parts, counts, steps);
+            let legal = self.attempt_weighed(step, more, parts);
             tried = with_move(tried, limit, legal);
         }
         tried
@@ -199,31 +195,17 @@ impl Standing {
 
     /// Tries a move: makes it where it is legal and the parts weigh at most so much more after it. Says whether it is
     /// legal and not too long.
-    fn attempt_weighed<R: Rule<L>, L>(
-        &mut self,
-        step: Swap,
-        more: u64,
-        parts: &mut WeighedParts,
-        counts: &mut Tally<R>,
-        steps: &mut Steps<L>,
-    ) -> bool
+    fn attempt_weighed(&mut self, step: Swap, more: u64, parts: &mut WeighedParts) -> bool
         requires league { IsOfLeague self.old.board.n step }
-        requires standing { IsStandingOn counts.old.table.n self.old.board.phased (table_counts counts.old.table)
-            self.old }
-        ensures teams { counts.new.table.n ≡ counts.old.table.n }
-        ensures standing { IsStandingOn counts.old.table.n self.old.board.phased (table_counts counts.new.table)
-            self.new }
+        requires standing { IsStandingOn self.old.board.n self.old.board.phased (round_counts self.old.board) self.old }
+        ensures standing { IsStandingOn self.old.board.n self.old.board.phased (round_counts self.new.board) self.new }
     {
         if !edit_of(&step, &self.board, &mut self.edit) || self.is_long(&step) {
             return false;
         }
-        counts.apply(&self.edit, steps);
-        let follows = parts.follow(&self.edit, counts.cells(), more, steps);
-        if !follows {
-            counts.undo(&self.edit, steps);
-            return true;
+        if parts.follow(&self.edit, more) {
+            self.board.apply(&self.edit);
         }
-        self.board.apply(&self.edit);
         true
     }
 

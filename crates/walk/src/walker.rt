@@ -8,7 +8,7 @@ ghost use Rattle.rule_core.specs.Table.{table_counts};
 ghost use Rattle.moves.specs.Round.{round_counts};
 ghost use Rattle.tally.specs.League.{AreRulesOf};
 ghost use Rattle.descent.specs.Score.{IsNoWorse, is_lower};
-ghost use Rattle.walk.specs.Standing.{HasKeptHere, IsWalkerIn};
+ghost use Rattle.walk.specs.Standing.{HasKeptHere, IsStandingOn, IsWalkerIn};
 ghost use Rattle.walk.specs.Walked.{league_score};
 
 use crate::afresh::random_start;
@@ -16,7 +16,7 @@ use crate::best::Kept;
 use crate::copies::{copy_games, room_for_games};
 use crate::standing::{STRETCH, Stage, Standing};
 use crate::threshold::{Cooling, soft_heat};
-use crate::weighed::{WeighedParts, bare_tally};
+use crate::weighed::WeighedParts;
 use crate::weights::Weighing;
 use descent::Score;
 use deviation::AnyRule;
@@ -269,7 +269,7 @@ impl Walker {
         let mut patience = patience;
         'stretches: for _stretch in 0..self.left / STRETCH + 1 {
             let stage = Stage::meeting(self.left.min(STRETCH));
-            let sum = self.stretch(alloc, league, &mut hard, stage, watch)?;
+            let sum = self.stretch(&mut hard, stage, watch);
             self.keep_lower(alloc, league, unweighed(sum))?;
             self.tell(league, watch);
             if sum == 0 || self.left == 0 || patience.ends(sum) || watch.is_over(self.tried()) {
@@ -281,33 +281,26 @@ impl Walker {
 
     /// One stretch of so many moves, by the weights as they are, which are adapted then. Says what the hard constraints
     /// cost at its end.
-    ///
-    /// # Errors
-    /// Only where memory runs out.
     pub(crate) fn stretch<W: Listener>(
         &mut self,
-        alloc: Global,
-        league: &League,
         parts: &mut WeighedParts,
         stage: Stage,
         watch: &W,
-    ) -> Result<u128, AllocError>
-        requires walker { IsWalkerIn league.now self.old }
+    ) -> u128
+        requires standing { IsStandingOn self.old.standing.board.n self.old.standing.board.phased
+            (round_counts self.old.standing.board) self.old.standing }
         requires limit { stage.limit ≤ self.old.left }
-        ensures walker { OnOk result (IsWalkerIn league.now self.new) }
-        ensures best { OnOk result (self.new.best ≡ self.old.best) }
-        ensures left { OnOk result (self.new.left ≤ self.old.left) }
+        ensures standing { IsStandingOn self.old.standing.board.n self.old.standing.board.phased
+            (round_counts self.new.standing.board) self.new.standing }
+        ensures games { self.new.games ≡ self.old.games }
+        ensures best { self.new.best ≡ self.old.best }
+        ensures left { self.new.left ≤ self.old.left }
     {
-        copy_games(&self.standing.board, &mut self.games);
-        let mut steps = Steps::<Plain>::start();
-        let mut counts = bare_tally(alloc, league, &self.games, &mut steps)?;
-        parts.count(counts.cells(), &mut steps);
-        let tried = self
-            .standing
-            .meet(stage, parts, &mut counts, &mut steps, watch);
+        parts.count(&self.standing.board);
+        let tried = self.standing.meet(stage, parts, watch);
         self.left -= tried;
         parts.adapt();
-        Ok(parts.price())
+        parts.price()
     }
 
     /// Keeps the games where they are better than the best so far, if they are said to be.

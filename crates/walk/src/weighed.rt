@@ -1,27 +1,26 @@
 //! A league's constraints in parts: by how much each isn't met, and what that weighs.
-ghost use Rattle.std.specs.Prelude.{◌≡◌, ◌≤◌, length, IfOk};
-ghost use Rattle.std.specs.List.{All};
-ghost use Rattle.league.specs.Counts.{counts_of};
-ghost use Rattle.league.specs.Instance.{IsGame};
-ghost use Rattle.rule_core.specs.Table.{table_counts};
-
 use crate::draws::any_of;
+use crate::lists::{SLOTS, TEAMS, bit};
+use crate::measure::Measure;
 use crate::number_set::NumberSet;
 use crate::parts::{Demands, weighed_demands};
+use crate::plays::Plays;
 use crate::spots::Spots;
+use crate::watches::{Mark, Watches};
 use crate::weights::{Weighing, Weight};
-use deviation::{AnyRule, counted};
 use league::{Constraint, Game, League};
-use moves::Edit;
+use moves::{Board, Edit};
 use rand_pcg::Pcg32;
-use rule_core::{Cells, Entries, Rule, Steps};
 use std::alloc::{AllocError, Global};
-use tally::Tally;
 
-/// What a part weighs, by how much it isn't met, and by how much it wouldn't be after a move.
-#[derive(Clone, Copy)]
+/// What a part weighs, and what it measures; what it counts, and by how much a move changes that, modulo 2^32; by how
+/// much it isn't met, and by how much it wouldn't be after a move.
+#[derive(Drop)]
 struct Part {
     weight: Weight,
+    measure: Measure,
+    count: u32,
+    change: u32,
     deviation: u64,
     then: u64,
 }
@@ -31,16 +30,33 @@ impl Part {
     fn is_unmet(&self) -> bool {
         self.weight.is_hard() && self.deviation > 0
     }
+
+    /// A sum of weights that has its own, where it changes as it would after the move.
+    fn changed(&mut self, sum: u64, plays: &Plays) -> u64 {
+        let count = self.count.wrapping_add(self.change);
+        self.then = self.measure.deviation(count, plays);
+        sum.saturating_sub(self.weight.weigh(self.deviation))
+            .saturating_add(self.weight.weigh(self.then))
+    }
+
+    /// Takes over what it came to. Says whether it became unmet or met.
+    fn take(&mut self) -> bool {
+        let unmet = self.is_unmet();
+        self.count = self.count.wrapping_add(self.change);
+        self.deviation = self.then;
+        self.is_unmet() != unmet
+    }
 }
 
 /// The parts of a league's constraints with their weights, those of hard constraints that aren't met, what all weigh
 /// together on the games that they follow, and how much that may be at the goal of a walk. A move asks only those parts
-/// that its games can change.
+/// that its games, venues and breaks can change.
 #[derive(Drop)]
 pub(crate) struct WeighedParts {
     demands: Vec<Constraint>,
-    rules: Vec<Option<AnyRule>>,
     parts: Vec<Part>,
+    plays: Plays,
+    watches: Watches,
     spots: Spots,
     found: NumberSet,
     unmet: NumberSet,
@@ -59,29 +75,22 @@ impl WeighedParts {
         league: &League,
         weighing: Weighing,
     ) -> Result<WeighedParts, AllocError> {
+        let n = league.n();
         let Demands {
             parts: demands,
             weights,
         } = weighed_demands(alloc, league, weighing)?;
-        let mut rules = Vec::with_capacity(alloc, demands.len())?;
-        for demand in &demands {
-            rules.push(rule_of(alloc, league.n(), demand)?)?;
-        }
-        let mut parts = Vec::with_capacity(alloc, weights.len())?;
-        for weight in weights {
-            parts.push(Part {
-                weight,
-                deviation: 0,
-                then: 0,
-            })?;
-        }
+        let parts = parts_of(alloc, n, &demands, &weights)?;
+        let plays = Plays::new(alloc, n)?;
+        let watches = Watches::new(alloc, n, &demands)?;
         let spots = Spots::new(alloc, &demands)?;
         let found = NumberSet::new(alloc, demands.len())?;
         let unmet = NumberSet::new(alloc, demands.len())?;
         Ok(WeighedParts {
             demands,
-            rules,
             parts,
+            plays,
+            watches,
             spots,
             found,
             unmet,
@@ -90,79 +99,172 @@ impl WeighedParts {
         })
     }
 
-    /// Counts all parts on these games.
-    pub(crate) fn count<L>(&mut self, cells: &Cells, steps: &mut Steps<L>) {
+    /// Counts all parts on the games of a board.
+    pub(crate) fn count(&mut self, board: &Board) {
+        let n = board.n();
+        self.plays.take(board);
+        self.plays.recount();
+        for home in 0..n {
+            for away in 0..n {
+                let slot = self.plays.slot_of(home, away);
+                self.count_meeting(home, away, slot, true);
+            }
+            self.count_venues(home, None);
+        }
         self.sum = 0;
         self.unmet.clear();
-        for (number, rule) in self.rules.iter().enumerate() {
-            let Some(part) = self.parts.get_mut(number) else {
-                return;
-            };
-            part.deviation = deviation_of(rule, cells, steps);
+        for (number, part) in self.parts.iter_mut().enumerate() {
+            part.count = part.change;
+            part.deviation = part.measure.deviation(part.count, &self.plays);
             self.sum = self.sum.saturating_add(part.weight.weigh(part.deviation));
             if part.is_unmet() {
                 self.unmet.add(number);
             }
         }
+        self.forget();
     }
 
-    /// Follows an edit that led to these counts, where the parts then cost at most so much more. Says whether they do.
-    pub(crate) fn follow<L>(
-        &mut self,
-        edit: &Edit,
-        cells: &Cells,
-        more: u64,
-        steps: &mut Steps<L>,
-    ) -> bool {
+    /// Follows an edit, where the parts cost at most so much more after it. Says whether they do.
+    pub(crate) fn follow(&mut self, edit: &Edit, more: u64) -> bool {
         for game in edit.out() {
-            self.found.add_all(self.spots.of_cell(game.home, game.slot));
-            self.found.add_all(self.spots.of_cell(game.away, game.slot));
-            self.found
-                .add_all(self.spots.of_meeting(game.home, game.away));
+            self.count_meeting(game.home.0, game.away.0, game.slot.0, false);
         }
-        let then = self.weigh(cells, self.sum.saturating_add(more), steps);
-        if let Some(sum) = then {
-            self.keep(sum);
+        for game in edit.into_games() {
+            self.count_meeting(game.home.0, game.away.0, game.slot.0, true);
+            self.plays.put(*game);
         }
-        self.found.clear();
+        self.count_turned();
+        let then = self.weigh(self.sum.saturating_add(more));
+        match then {
+            Some(sum) => self.keep(edit.out(), sum),
+            None => self.put_back(edit.out()),
+        }
+        self.forget();
         then.is_some()
     }
 
-    /// What all parts would weigh where those that were found follow the counts, if that is at most so much.
-    fn weigh<L>(&mut self, cells: &Cells, most: u64, steps: &mut Steps<L>) -> Option<u64> {
+    /// Changes the counts of the parts that count two teams' game in a slot: by one more, or one less.
+    fn count_meeting(&mut self, home: u16, away: u16, slot: u16, more: bool) {
+        let slot = bit(slot);
+        for watch in self.watches.of_meeting(home, away) {
+            if watch.slots & slot != 0 {
+                change(&mut self.parts, &mut self.found, watch.number, more);
+            }
+        }
+    }
+
+    /// Changes the counts of the parts that count the venues and breaks of the teams whose venues changed.
+    fn count_turned(&mut self) {
+        self.plays.recount();
+        'teams: for place in 0..TEAMS {
+            let Some(team) = self.plays.turned_at(place) else {
+                return;
+            };
+            let before = self.plays.homes_before(team);
+            self.count_venues(team, Some(before));
+            self.found.add_all(self.watches.of_leads(team));
+        }
+    }
+
+    /// Changes the counts of the parts that count a team's venues and breaks: to those of its home slots, from those of
+    /// its home slots before, or from nothing.
+    fn count_venues(&mut self, team: u16, before: Option<u128>) {
+        let homes = self.plays.homes(team);
+        for mark in Mark::ALL {
+            let was = match before {
+                Some(before) => self.plays.marked(mark, before),
+                None => 0,
+            };
+            let now = self.plays.marked(mark, homes);
+            self.count_marks(mark, team, was, now);
+        }
+    }
+
+    /// Changes the counts of the parts that count a mark of a team, which it had in some slots and has in others.
+    fn count_marks(&mut self, mark: Mark, team: u16, was: u128, now: u128) {
+        let mut rest = was ^ now;
+        'slots: for _slot in 0..SLOTS {
+            if rest == 0 {
+                return;
+            }
+            let slot = u16::try_from(rest.trailing_zeros()).unwrap_or(SLOTS);
+            rest &= rest.wrapping_sub(1);
+            let more = now & bit(slot) != 0;
+            for number in self.watches.of_mark(mark, team, slot) {
+                change(&mut self.parts, &mut self.found, *number, more);
+            }
+        }
+    }
+
+    /// What all parts would weigh after the move, if that is at most so much. The unmet parts that were found come
+    /// first, since no others can come to weigh less.
+    fn weigh(&mut self, most: u64) -> Option<u64> {
         let mut sum = self.sum;
         for number in self.found.numbers() {
-            if let Some(part) = self.parts.get(*number) {
-                sum = sum.saturating_sub(part.weight.weigh(part.deviation));
+            if let Some(part) = self.parts.get_mut(*number)
+                && part.deviation > 0
+            {
+                sum = part.changed(sum, &self.plays);
             }
         }
         for number in self.found.numbers() {
-            if let Some(part) = self.parts.get_mut(*number)
-                && let Some(rule) = self.rules.get(*number)
-            {
-                part.then = deviation_of(rule, cells, steps);
-                sum = sum.saturating_add(part.weight.weigh(part.then));
-            }
             if sum > most {
                 return None;
             }
-        }
-        Some(sum)
-    }
-
-    /// Takes over what the parts that were found come to.
-    fn keep(&mut self, sum: u64) {
-        self.sum = sum;
-        for number in self.found.numbers() {
-            if let Some(part) = self.parts.get_mut(*number) {
-                part.deviation = part.then;
-                if part.is_unmet() {
-                    self.unmet.add(*number);
-                } else {
-                    self.unmet.remove(*number);
-                }
+            if let Some(part) = self.parts.get_mut(*number)
+                && part.deviation == 0
+            {
+                sum = part.changed(sum, &self.plays);
             }
         }
+        if sum > most { None } else { Some(sum) }
+    }
+
+    /// Takes over what the parts that were found come to after a move that took these games out.
+    fn keep(&mut self, out: &[Game], sum: u64) {
+        self.sum = sum;
+        let mut turned = false;
+        for number in self.found.numbers() {
+            if let Some(part) = self.parts.get_mut(*number)
+                && part.take()
+            {
+                turned = true;
+            }
+        }
+        if turned {
+            self.list_unmet(out);
+        }
+    }
+
+    /// Lists again which parts are unmet, of those that these games can change.
+    fn list_unmet(&mut self, out: &[Game]) {
+        for game in out {
+            let of_home = self.spots.of_cell(game.home, game.slot);
+            let of_away = self.spots.of_cell(game.away, game.slot);
+            let of_meeting = self.spots.of_meeting(game.home, game.away);
+            list_again(&self.parts, &mut self.unmet, of_home);
+            list_again(&self.parts, &mut self.unmet, of_away);
+            list_again(&self.parts, &mut self.unmet, of_meeting);
+        }
+    }
+
+    /// Puts the games back that a move took out.
+    fn put_back(&mut self, out: &[Game]) {
+        for game in out {
+            self.plays.put(*game);
+        }
+        self.plays.recount();
+    }
+
+    /// Forgets what a move changes.
+    fn forget(&mut self) {
+        for number in self.found.numbers() {
+            if let Some(part) = self.parts.get_mut(*number) {
+                part.change = 0;
+            }
+        }
+        self.found.clear();
+        self.plays.settle();
     }
 
     /// Whether all parts of hard constraints are met, and all parts weigh little enough.
@@ -203,50 +305,51 @@ impl WeighedParts {
     }
 }
 
-/// The rule of a part, where it fits a league of n teams.
+/// Parts that measure what these constraints demand, with their weights.
 ///
 /// # Errors
 /// Only where memory runs out.
-fn rule_of(alloc: Global, n: u16, part: &Constraint) -> Result<Option<AnyRule>, AllocError>
-    requires at_most { n ≤ 40 }
-{
-    if !part.fits(n) {
-        return Ok(None);
-    }
-    let rule = AnyRule::new(alloc, n, part)?;
-    Ok(Some(rule))
-}
-
-/// The sum of a rule's entries on these counts.
-fn deviation_of<L>(rule: &Option<AnyRule>, cells: &Cells, steps: &mut Steps<L>) -> u64 {
-    let Some(rule) = rule else {
-        return 0;
-    };
-    if rule.teams() != cells.n() {
-        return 0;
-    }
-    let mut sum = 0u64;
-    for key in 0..rule.terms() {
-        sum = sum.saturating_add(rule.term(key, cells, steps));
-    }
-    sum
-}
-
-/// The counts of these games: a tally without rules.
-///
-/// # Errors
-/// Only where memory runs out.
-pub(crate) fn bare_tally<L>(
+fn parts_of(
     alloc: Global,
-    league: &League,
-    games: &[Game],
-    steps: &mut Steps<L>,
-) -> Result<Tally<AnyRule>, AllocError>
-    requires few { length games.now ≤ 10000 }
-    requires fit { All (IsGame league.now.n) games.now }
-    ensures n { IfOk result (λ tally. tally.table.n ≡ league.now.n) }
-    ensures counts { IfOk result (λ tally. table_counts tally.table ≡ counts_of games.now) }
-{
-    let cells = counted(alloc, league.n(), games)?;
-    Tally::new(alloc, Vec::new(alloc), cells, steps)
+    n: u16,
+    demands: &[Constraint],
+    weights: &[Weight],
+) -> Result<Vec<Part>, AllocError> {
+    let mut parts = Vec::with_capacity(alloc, demands.len())?;
+    for (demand, weight) in demands.iter().zip(weights) {
+        parts.push(Part {
+            weight: *weight,
+            measure: Measure::of(alloc, n, demand)?,
+            count: 0,
+            change: 0,
+            deviation: 0,
+            then: 0,
+        })?;
+    }
+    Ok(parts)
+}
+
+/// Changes what a part counts by one more, or one less.
+fn change(parts: &mut [Part], found: &mut NumberSet, number: usize, more: bool) {
+    if let Some(part) = parts.get_mut(number) {
+        found.add(number);
+        part.change = if more {
+            part.change.wrapping_add(1)
+        } else {
+            part.change.wrapping_sub(1)
+        };
+    }
+}
+
+/// Lists these parts among the unmet ones, or takes them out.
+fn list_again(parts: &[Part], unmet: &mut NumberSet, numbers: &[usize]) {
+    for number in numbers {
+        if let Some(part) = parts.get(*number) {
+            if part.is_unmet() {
+                unmet.add(*number);
+            } else {
+                unmet.remove(*number);
+            }
+        }
+    }
 }

@@ -16,12 +16,12 @@ pub stretches-preserved : goal.stretches-preserved
 stretches-preserved g c = record {
   walker = c.in_ok-keep_lower.ensures.walker;
   no_worse = IsNoWorse-both c.keep_lower.new.self.best.score c.stretches.self.best.score c.args.self.now.best.score
-      (subst (λ (kept : Kept). IsNoWorse c.keep_lower.new.self.best.score kept.score) c.in_ok-sum.ensures.best
+      (subst (λ (kept : Kept). IsNoWorse c.keep_lower.new.self.best.score kept.score) c.stretch-sum.ensures.best
       c.in_ok-keep_lower.ensures.no_worse) c.stretches.invariant.no_worse;
   left = omega (
     arith,
     c.in_ok-keep_lower.ensures.left,
-    c.in_ok-sum.ensures.left,
+    c.stretch-sum.ensures.left,
     c.stretches.invariant.left,
   );
 }
