@@ -162,7 +162,7 @@ fn asked<W: Watch>(
     let Resumed::Schedule { schedule, .. } = &answer else {
         return Ok(unsettled(answer));
     };
-    if schedule.len() > MOST_GAMES {
+    if schedule.len() > MOST_GAMES || watch.is_over_now(0) {
         return Ok(unsettled(answer));
     }
     let settled = is_settled(alloc, season.plan(), schedule, watch)?;
@@ -196,7 +196,7 @@ fn descended<W: Watch>(
             schedule,
             objective,
         } => {
-            if schedule.len() > MOST_GAMES {
+            if schedule.len() > MOST_GAMES || watch.is_over_now(2) {
                 return Ok(unsettled(Resumed::Schedule {
                     schedule,
                     objective,
