@@ -136,7 +136,8 @@ impl Walker {
 
     /// Walks on all constraints together in stretches, after each of which the weights are adapted. Games that meet the
     /// hard constraints and are better than the best so far are kept at the end of a stretch, which ends where they are
-    /// better by a 64th. Says how little the hard constraints cost at the end of a stretch.
+    /// better by a 64th. Says how little the hard constraints cost at the end of a stretch. A league of too many parts
+    /// isn't walked in.
     ///
     /// # Errors
     /// Only where memory runs out.
@@ -156,7 +157,7 @@ impl Walker {
         let end = self.left.saturating_sub(course.moves);
         let mut lowest = u128::MAX;
         'stretches: for _stretch in 0..course.moves / STRETCH + 1000 {
-            if self.left <= end || self.is_over(watch) {
+            if self.left <= end || !parts.are_all() || self.is_over(watch) {
                 return Ok(lowest);
             }
             parts.set_goal(self.goal());

@@ -1,6 +1,6 @@
 //! What a part of a constraint measures.
 
-use crate::plays::Plays;
+use crate::plays::{Plays, ROW};
 use league::{Class, Constraint};
 use std::alloc::{AllocError, Global};
 
@@ -25,7 +25,7 @@ pub(crate) enum Measure {
         second: u16,
         least: u32,
     },
-    /// Nothing, since the part doesn't fit the league.
+    /// Nothing: the part doesn't fit the league, or isn't one that is made.
     Nothing,
 }
 
@@ -41,7 +41,6 @@ impl Measure {
         let measure = match &part.class {
             Class::Ca1 { min, max, .. }
             | Class::Ca2 { min, max, .. }
-            | Class::Ca3 { min, max, .. }
             | Class::Ca4 { min, max, .. }
             | Class::Ga1 { min, max, .. } => Measure::Count {
                 min: *min,
@@ -52,9 +51,10 @@ impl Measure {
                 max: *intp,
             },
             Class::Fa2 { teams, intp, slots } => {
-                lead_of(alloc, n, teams.numbers(), *intp, slots.numbers())?
+                lead_of(alloc, teams.numbers(), *intp, slots.numbers())?
             }
             Class::Se1 { teams, min } => gap_of(teams.numbers(), *min),
+            Class::Ca3 { .. } => Measure::Nothing,
         };
         Ok(measure)
     }
@@ -94,19 +94,15 @@ impl Measure {
 ///
 /// # Errors
 /// Only where memory runs out.
-fn lead_of(
-    alloc: Global,
-    n: u16,
-    teams: &[u16],
-    most: u32,
-    slots: &[u16],
-) -> Result<Measure, AllocError> {
+fn lead_of(alloc: Global, teams: &[u16], most: u32, slots: &[u16]) -> Result<Measure, AllocError> {
     let [first, second] = teams else {
         return Ok(Measure::Nothing);
     };
-    let mut mask = Vec::new(alloc);
-    for slot in 0..n.saturating_sub(1).saturating_mul(2) {
-        mask.push(if slots.contains(&slot) { 255 } else { 0 })?;
+    let mut mask = vec![in alloc; 0; ROW]?;
+    for slot in slots {
+        if let Some(entry) = mask.get_mut(usize::from(*slot)) {
+            *entry = 255;
+        }
     }
     Ok(Measure::Lead {
         first: *first,

@@ -2,7 +2,7 @@
 ghost use Rattle.std.specs.Prelude.{◌≡◌, ◌≤◌, length, true, IfOk, OnOk};
 ghost use Rattle.std.specs.List.{All};
 ghost use Rattle.league.specs.Counts.{counts_of};
-ghost use Rattle.league.specs.Instance.{IsGame};
+ghost use Rattle.league.specs.Instance.{Instance, IsGame};
 ghost use Rattle.league.specs.Structure.{IsRoundRobin};
 ghost use Rattle.rule_core.specs.Table.{table_counts};
 ghost use Rattle.moves.specs.Round.{round_counts};
@@ -290,9 +290,7 @@ impl Walker {
         requires standing { IsStandingOn self.old.standing.board.n self.old.standing.board.phased
             (round_counts self.old.standing.board) self.old.standing }
         requires limit { stage.limit ≤ self.old.left }
-        ensures standing { IsStandingOn self.old.standing.board.n self.old.standing.board.phased
-            (round_counts self.new.standing.board) self.new.standing }
-        ensures games { self.new.games ≡ self.old.games }
+        ensures walker { (league : Instance) → IsWalkerIn league self.old → IsWalkerIn league self.new }
         ensures best { self.new.best ≡ self.old.best }
         ensures left { self.new.left ≤ self.old.left }
     {

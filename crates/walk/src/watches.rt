@@ -25,6 +25,24 @@ pub(crate) struct Watch {
     pub(crate) slots: u128,
 }
 
+impl Watch {
+    /// The watch of a part in these slots.
+    fn of(number: usize, slots: &[u16]) -> Watch {
+        Watch {
+            number,
+            slots: bits_of(slots),
+        }
+    }
+
+    /// The watch of a part in any slot.
+    fn of_any(number: usize) -> Watch {
+        Watch {
+            number,
+            slots: u128::MAX,
+        }
+    }
+}
+
 /// The numbers of parts: by home and away team those that count their game or ask for its slot, by team and slot those
 /// that count a home game, an away game, or a break, and by team those that compare its home games with another's.
 #[derive(Drop)]
@@ -35,6 +53,7 @@ pub(crate) struct Watches {
     home_breaks: Vec<Vec<usize>>,
     away_breaks: Vec<Vec<usize>>,
     leads: Vec<Vec<usize>>,
+    have_leads: bool,
 }
 
 impl Watches {
@@ -52,6 +71,7 @@ impl Watches {
             home_breaks: empty_lists(alloc, cells)?,
             away_breaks: empty_lists(alloc, cells)?,
             leads: empty_lists(alloc, usize::from(TEAMS))?,
+            have_leads: false,
         };
         for (number, part) in parts.iter().enumerate() {
             watches.add(number, n, &part.class)?;
@@ -79,11 +99,16 @@ impl Watches {
     }
 
     /// The parts that compare a team's home games with another's.
-    pub(crate) fn of_leads(&self, team: u16) -> &[usize] {
-        list_at(&self.leads, usize::from(team))
+    pub(crate) fn of_leads(&self, team: usize) -> &[usize] {
+        list_at(&self.leads, team)
     }
 
-    /// Adds a part. A CA3 has none of its own: its windows are parts of CA2.
+    /// Whether some part compares the home games of two teams.
+    pub(crate) fn have_leads(&self) -> bool {
+        self.have_leads
+    }
+
+    /// Adds a part.
     ///
     /// # Errors
     /// Only where memory runs out.
@@ -95,35 +120,6 @@ impl Watches {
                 slots,
                 ..
             } => self.add_venues(number, teams.numbers(), *side, slots.numbers()),
-            Class::Ca2 {
-                teams1,
-                teams2,
-                side,
-                slots,
-                ..
-            } => {
-                let venues = *side != Side::Both && teams2.len() == usize::from(n);
-                if venues {
-                    return self.add_venues(number, teams1.numbers(), *side, slots.numbers());
-                }
-                let watch = watch_of(number, slots.numbers());
-                self.add_games(watch, teams1.numbers(), teams2.numbers(), *side)
-            }
-            Class::Ca4 {
-                teams1,
-                teams2,
-                side,
-                slots,
-                ..
-            } => {
-                let watch = watch_of(number, slots.numbers());
-                self.add_games(watch, teams1.numbers(), teams2.numbers(), *side)
-            }
-            Class::Ga1 {
-                meetings,
-                slots,
-                ..
-            } => self.add_meetings(watch_of(number, slots.numbers()), meetings.numbers()),
             Class::Br1 {
                 teams,
                 side,
@@ -134,14 +130,47 @@ impl Watches {
                 self.add_breaks(number, teams.numbers(), Side::Both, slots.numbers())
             }
             Class::Fa2 { teams, .. } => self.add_leads(number, teams.numbers()),
+            class => self.add_games_of(number, n, class),
+        }
+    }
+
+    /// Adds a part that counts games, or asks for the slots of two teams' games. Games against all teams on one side are
+    /// counted as venues. A CA3 has no part of its own: its windows are parts of CA2.
+    ///
+    /// # Errors
+    /// Only where memory runs out.
+    fn add_games_of(&mut self, number: usize, n: u16, class: &Class) -> Result<(), AllocError> {
+        match class {
+            Class::Ca2 {
+                teams1,
+                teams2,
+                side,
+                slots,
+                ..
+            }
+            | Class::Ca4 {
+                teams1,
+                teams2,
+                side,
+                slots,
+                ..
+            } => {
+                if *side != Side::Both && teams2.len() == usize::from(n) {
+                    return self.add_venues(number, teams1.numbers(), *side, slots.numbers());
+                }
+                let watch = Watch::of(number, slots.numbers());
+                self.add_games(watch, teams1.numbers(), teams2.numbers(), *side)
+            }
+            Class::Ga1 {
+                meetings,
+                slots,
+                ..
+            } => self.add_meetings(Watch::of(number, slots.numbers()), meetings.numbers()),
             Class::Se1 { teams, .. } => {
-                let watch = Watch {
-                    number,
-                    slots: u128::MAX,
-                };
+                let watch = Watch::of_any(number);
                 self.add_games(watch, teams.numbers(), teams.numbers(), Side::Both)
             }
-            Class::Ca3 { .. } => Ok(()),
+            _ => Ok(()),
         }
     }
 
@@ -190,6 +219,7 @@ impl Watches {
     /// # Errors
     /// Only where memory runs out.
     fn add_leads(&mut self, number: usize, teams: &[u16]) -> Result<(), AllocError> {
+        self.have_leads = true;
         for team in teams {
             add_at(&mut self.leads, usize::from(*team), number)?;
         }
@@ -246,14 +276,6 @@ impl Watches {
         }
         list.push(watch)?;
         Ok(())
-    }
-}
-
-/// A part that counts something in these slots.
-fn watch_of(number: usize, slots: &[u16]) -> Watch {
-    Watch {
-        number,
-        slots: bits_of(slots),
     }
 }
 

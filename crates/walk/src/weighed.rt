@@ -3,7 +3,7 @@ use crate::draws::any_of;
 use crate::lists::{SLOTS, TEAMS, bit};
 use crate::measure::Measure;
 use crate::number_set::NumberSet;
-use crate::parts::{Demands, weighed_demands};
+use crate::parts::{Demands, MOST, weighed_demands};
 use crate::plays::Plays;
 use crate::spots::Spots;
 use crate::watches::{Mark, Watches};
@@ -81,8 +81,8 @@ impl WeighedParts {
             weights,
         } = weighed_demands(alloc, league, weighing)?;
         let parts = parts_of(alloc, n, &demands, &weights)?;
-        let plays = Plays::new(alloc, n)?;
         let watches = Watches::new(alloc, n, &demands)?;
+        let plays = Plays::new(alloc, n)?;
         let spots = Spots::new(alloc, &demands)?;
         let found = NumberSet::new(alloc, demands.len())?;
         let unmet = NumberSet::new(alloc, demands.len())?;
@@ -103,7 +103,6 @@ impl WeighedParts {
     pub(crate) fn count(&mut self, board: &Board) {
         let n = board.n();
         self.plays.take(board);
-        self.plays.recount();
         for home in 0..n {
             for away in 0..n {
                 let slot = self.plays.slot_of(home, away);
@@ -134,10 +133,11 @@ impl WeighedParts {
             self.plays.put(*game);
         }
         self.count_turned();
+        self.find_leads();
         let then = self.weigh(self.sum.saturating_add(more));
         match then {
             Some(sum) => self.keep(edit.out(), sum),
-            None => self.put_back(edit.out()),
+            None => self.plays.put_back(edit.out()),
         }
         self.forget();
         then.is_some()
@@ -155,14 +155,24 @@ impl WeighedParts {
 
     /// Changes the counts of the parts that count the venues and breaks of the teams whose venues changed.
     fn count_turned(&mut self) {
-        self.plays.recount();
         'teams: for place in 0..TEAMS {
             let Some(team) = self.plays.turned_at(place) else {
                 return;
             };
             let before = self.plays.homes_before(team);
             self.count_venues(team, Some(before));
-            self.found.add_all(self.watches.of_leads(team));
+        }
+    }
+
+    /// Finds the parts that compare the home games of the teams whose venues changed. They take longest to ask, so they
+    /// are found last.
+    fn find_leads(&mut self) {
+        if !self.watches.have_leads() {
+            return;
+        }
+        self.plays.recount();
+        for team in self.plays.turned() {
+            self.found.add_all(self.watches.of_leads(*team));
         }
     }
 
@@ -248,15 +258,7 @@ impl WeighedParts {
         }
     }
 
-    /// Puts the games back that a move took out.
-    fn put_back(&mut self, out: &[Game]) {
-        for game in out {
-            self.plays.put(*game);
-        }
-        self.plays.recount();
-    }
-
-    /// Forgets what a move changes.
+    /// Forgets what a move changed, which was made or taken back.
     fn forget(&mut self) {
         for number in self.found.numbers() {
             if let Some(part) = self.parts.get_mut(*number) {
@@ -265,6 +267,11 @@ impl WeighedParts {
         }
         self.found.clear();
         self.plays.settle();
+    }
+
+    /// Whether no constraint was left out.
+    pub(crate) fn are_all(&self) -> bool {
+        self.parts.len() < MOST
     }
 
     /// Whether all parts of hard constraints are met, and all parts weigh little enough.
