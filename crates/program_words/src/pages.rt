@@ -44,7 +44,7 @@ Options stand before, between or behind the words, each once at most:
   --seconds N        a limit of N seconds; of solve, trial, explain, prove and
                      resume
   --from SOLUTION    a season to begin at; of solve
-  --near             few games to come change; of resume
+  --near             few games to come change; of resume, with options of trial
   --bound B          seasons that cost at most B; of rows
   --objective        a season that costs least; of rows, and not with --bound
   --form text|csv    a text, or values for a spreadsheet (text); of show
@@ -137,7 +137,8 @@ Options stand before or behind the file, each once at most:
   --conflicts N  each search learns at most N clauses (2000); all in place of
                  N: any number
   --moves N      at most N moves lead to better seasons, and a walk tries at
-                 most 100 for each of them; 0: no walk, no moves (10000)
+                 most 100 for each of them, or later more where --seconds
+                 stands without --tries; 0: no walk, no moves (10000)
   --tries N      makes N tries and keeps the best season, 1 to 100 (1)
   --patterns N   where the league doesn't accept the season of circle, a search
                  for patterns comes first, which learns at most N clauses (500)
@@ -301,8 +302,9 @@ Where ./robin started it, Ctrl-C ends it as a time limit does; Ctrl-\\ ends it
 at once.
 
 With --near it looks for a season that changes few of the games to come, by
-walks from SOLUTION, and says behind it how many: changed=20 of=28. Then
---moves, --tries, --patterns and --seed may stand too, as of solve --from.
+searches and walks from SOLUTION, and says behind it how many: changed=20
+of=28. Then --moves, --tries, --patterns and --seed may stand too, as of solve
+--from; and with --seconds but no --tries, walks go on until then.
 
 Status:  0  a season is found, and written with its objective
          3  a file is refused, or the league is too large, or the season has
@@ -340,7 +342,7 @@ usage: robin rows INSTANCE [--bound B | --objective]
 Writes the rows of the league of the file INSTANCE as a text in OPB, the format
 of the pseudo-Boolean competitions, in the order and with the numbers that logs
 use. Where a solver finds values that satisfy them, the command values writes
-the season that they say; where there are none, the league accepts no season.
+the season that they say; where there are none, the league accepts no such one.
 
 One option may stand before or behind the file:
   --bound B    the rows of a season that costs at most B, a number from 0 to
