@@ -1,5 +1,5 @@
 //! Where a walk stands, and how it goes on from there.
-ghost use Rattle.std.specs.Prelude.{◌≡◌, ◌<◌, ◌≤◌, IfOk};
+ghost use Rattle.std.specs.Prelude.{◌≡◌, ℕ, ◌<◌, ◌≤◌, IfOk};
 ghost use Rattle.std.specs.List.{All};
 ghost use Rattle.league.specs.Counts.{counts_of};
 ghost use Rattle.league.specs.Instance.{IsGame, IsTeamCount};
@@ -7,6 +7,7 @@ ghost use Rattle.league.specs.Structure.{IsRoundRobin};
 ghost use Rattle.rule_core.specs.Table.{table_counts};
 ghost use Rattle.moves.specs.Moves.{IsOfLeague};
 ghost use Rattle.moves.specs.Round.{round_counts};
+ghost use Rattle.tally.specs.Tallies.{OnlyTallied};
 ghost use Rattle.descent.specs.Score.{IsNoWorse, score_on};
 ghost use Rattle.walk.specs.Standing.{IsKept, IsStandingOn};
 
@@ -21,7 +22,7 @@ use moves::{Board, Edit, Swap, edit_of};
 use rand_core::SeedableRng;
 use rand_pcg::Pcg32;
 use robin_watch::Watch;
-use rule_core::{Rule, Steps};
+use rule_core::{Plain, Rule, Steps};
 use std::alloc::{AllocError, Global};
 use tally::{Sums, Tally};
 
@@ -150,13 +151,14 @@ impl Standing {
 
     /// Tries moves until a stretch of them was legal, the soft rules cost nothing, or the watch ends the walk: each is
     /// made where the hard rules cost no more, and the soft ones no more than a drawn threshold allows, which cools
-    /// down. The best games on the way are kept. Says how many moves were tried.
-    pub(crate) fn improve<R: Rule<L>, L, W: Watch>(
+    /// down. The tally and the parts follow the games, of which the best on the way are kept. Says how many moves were
+    /// tried.
+    pub(crate) fn improve<R: Rule<Plain>, W: Watch>(
         &mut self,
         cooling: Cooling,
         best: &mut Kept,
         tally: &mut Tally<R>,
-        steps: &mut Steps<L>,
+        parts: &mut WeighedParts,
         watch: &W,
     ) -> u64
         requires standing { IsStandingOn tally.old.table.n self.old.board.phased (table_counts tally.old.table)
@@ -178,6 +180,7 @@ impl Standing {
         let n = self.board.n();
         let phased = self.board.phased();
         let limit = cooling.left.min(STRETCH);
+        let mut steps = Steps::<Plain>::start();
         let mut tried = 0;
         'draws: for _drawn in 0..limit.saturating_mul(DRAWS) {
             if tried == limit || tally.objective() == 0 || watch.is_over(tried) {
@@ -186,7 +189,7 @@ impl Standing {
             let step = drawn_move(&mut self.random, n, phased, PARTS);
             let left = cooling.left - tried;
             let most = cooling.most(&mut self.random, left, Score::of(tally));
-            let legal = self.attempt(step, most, tally, steps);
+            let legal = self.attempt(step, most, tally, parts, &mut steps);
             tried = with_move(tried, limit, legal);
             best.keep(&self.board, Score::of(tally));
         }
@@ -209,13 +212,14 @@ impl Standing {
         true
     }
 
-    /// Tries a move on a tally's games: makes it where it is legal and the rules cost at most so much after it. Says whether it
-    /// is legal and not too long.
+    /// Tries a move on a tally's games: makes it where it is legal and the rules cost at most so much after it. Says
+    /// whether it is legal and not too long.
     fn attempt<R: Rule<L>, L>(
         &mut self,
         step: Swap,
         most: Sums,
         tally: &mut Tally<R>,
+        parts: &mut WeighedParts,
         steps: &mut Steps<L>,
     ) -> bool
         requires league { IsOfLeague self.old.board.n step }
@@ -229,8 +233,7 @@ impl Standing {
         if !edit_of(&step, &self.board, &mut self.edit) || self.is_long(&step) {
             return false;
         }
-        let within = tally.weigh_within(&self.edit, most, steps);
-        if within.is_none() {
+        if !is_within(&self.edit, most, tally, parts, steps) {
             return true;
         }
         tally.apply(&self.edit, steps);
@@ -300,6 +303,26 @@ impl Standing {
             self.board.apply(&self.edit);
         }
     }
+}
+
+/// Whether the rules cost at most so much after an edit. The parts say so and follow it then, where no constraint was left
+/// out of them, and else the tally says so.
+fn is_within<R: Rule<L>, L>(
+    edit: &Edit,
+    most: Sums,
+    tally: &mut Tally<R>,
+    parts: &mut WeighedParts,
+    steps: &mut Steps<L>,
+) -> bool
+    requires out_fit { All (IsGame tally.old.table.n) edit.now.out }
+    requires into_fit { All (IsGame tally.old.table.n) edit.now.into }
+    requires there { (i j s : ℕ) → counts_of edit.now.out i j s ≤ table_counts tally.old.table i j s }
+    ensures { OnlyTallied tally.old tally.new }
+{
+    if parts.are_all() {
+        return parts.follow_within(edit, most.objective);
+    }
+    tally.weigh_within(edit, most, steps).is_some()
 }
 
 /// The number of moves tried, with one more where it is legal.

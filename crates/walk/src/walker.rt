@@ -353,19 +353,21 @@ impl Walker {
         }
         let heat = soft_heat(alloc, league)?;
         let heat = if few_breaks { heat / 4 } else { heat };
-        self.soften(league, heat, &mut tally, &mut steps, watch);
+        let mut parts = WeighedParts::new(alloc, league, Weighing::STRICT)?;
+        parts.count(&self.standing.board);
+        self.soften(league, heat, &mut tally, &mut parts, watch);
         Ok(())
     }
 
-    /// From games that meet the hard constraints, of which the tally is, goes on to better ones, in stretches, until no
-    /// move may be tried any more, nothing is left to lower, or the watch ends the walk. Thresholds cool down from this
-    /// heat.
+    /// From games that meet the hard constraints, of which the tally is and which the parts follow, goes on to better
+    /// ones, in stretches, until no move may be tried any more, nothing is left to lower, or the watch ends the walk.
+    /// Thresholds cool down from this heat.
     fn soften<W: Listener>(
         &mut self,
         league: &League,
         heat: u64,
         tally: &mut Tally<AnyRule>,
-        steps: &mut Steps<Plain>,
+        parts: &mut WeighedParts,
         watch: &W,
     )
         requires walker { IsWalkerIn league.now self.old }
@@ -382,7 +384,7 @@ impl Walker {
         'stretches: for _stretch in 0..self.left / STRETCH + 1 {
             let tried = self
                 .standing
-                .improve(cooling.at(self.left), &mut self.best, tally, steps, watch);
+                .improve(cooling.at(self.left), &mut self.best, tally, parts, watch);
             self.left -= tried;
             self.tell(league, watch);
             if self.left == 0 || tally.objective() == 0 || watch.is_over(self.tried()) {

@@ -143,6 +143,12 @@ impl WeighedParts {
         then.is_some()
     }
 
+    /// Follows an edit, where the parts weigh at most so much after it. Says whether they do.
+    pub(crate) fn follow_within(&mut self, edit: &Edit, most: u128) -> bool {
+        let more = most.saturating_sub(u128::from(self.sum));
+        self.follow(edit, u64::try_from(more).unwrap_or(u64::MAX))
+    }
+
     /// Changes the counts of the parts that count two teams' game in a slot: by one more, or one less.
     fn count_meeting(&mut self, home: u16, away: u16, slot: u16, more: bool) {
         let slot = bit(slot);

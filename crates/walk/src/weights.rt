@@ -13,6 +13,9 @@ pub(crate) enum Weighing {
 }
 
 impl Weighing {
+    /// All constraints together, where no soft one makes up for a hard one.
+    pub(crate) const STRICT: Weighing = Weighing::Together(u32::MAX);
+
     /// The weight at the start of a constraint's parts, if they are weighed.
     pub(crate) fn weight(self, constraint: &Constraint) -> Option<Weight> {
         if let Weighing::Together(unit) = self {

@@ -7,8 +7,8 @@ use Rattle.moves.specs.Round.{round_counts}
 use Rattle.descent.proofs.EditLemmas.{AreExchanged, edit-leads, edited-is}
 use Rattle.walk.proofs.standing.Standing.attempt.Goals as goal
 
-pub weigh_within-within-requires-clause-there : goal.weigh_within-within-requires-clause-there
-weigh_within-within-requires-clause-there g c i j s =
+pub is_within-requires-clause-there : goal.is_within-requires-clause-there
+is_within-requires-clause-there g c i j s =
     let legal : c.edit_of.result ≡ true = c.if-not-edit_of.false in
     subst (λ (m : Counts). counts_of c.edit_of.new.edit.out i j s ≤ m i j s) c.requires.standing.counts
     ((c.edit_of.ensures.edit legal).there i j s)
@@ -17,7 +17,7 @@ pub apply-requires-clause-there : goal.apply-requires-clause-there
 apply-requires-clause-there g c i j s =
     let legal : c.edit_of.result ≡ true = c.if-not-edit_of.false in
     subst (λ (m : Counts). counts_of c.edit_of.new.edit.out i j s ≤ m i j s)
-    (c.requires.standing.counts ∙ sym c.weigh_within-within.ensures.keeps.counts) ((c.edit_of.ensures.edit legal).there i j s)
+    (c.requires.standing.counts ∙ sym c.is_within.ensures.counts) ((c.edit_of.ensures.edit legal).there i j s)
 
 pub apply-requires-2-clause-there : goal.apply-requires-2-clause-there
 apply-requires-2-clause-there g c i j s =
@@ -32,11 +32,11 @@ apply-requires-2-clause-round_robin g c =
     (sym (edited-is m (moved n m c.args.step) c.edit_of.new.edit (c.edit_of.ensures.edit legal)))
     (c.edit_of.ensures.legal.0 legal).round_robin
 
-pub returns-then-is_none-clause-standing : goal.returns-then-is_none-clause-standing
-returns-then-is_none-clause-standing g c = record {
+pub returns-then-not-is_within-clause-standing : goal.returns-then-not-is_within-clause-standing
+returns-then-not-is_within-clause-standing g c = record {
   teams = c.requires.standing.teams;
   phases = refl;
-  counts = c.requires.standing.counts ∙ sym c.weigh_within-within.ensures.keeps.counts;
+  counts = c.requires.standing.counts ∙ sym c.is_within.ensures.counts;
   edit_for = c.edit_of.ensures.n ∙ c.requires.standing.edit_for;
 }
 
@@ -48,7 +48,7 @@ returns-clause-standing g c =
     let after : Counts = table_counts c.apply.new.self.table in
     let leads : AreExchanged m after c.edit_of.new.edit.out c.edit_of.new.edit.into =
     subst (λ (k : Counts). AreExchanged k after c.edit_of.new.edit.out c.edit_of.new.edit.into)
-    (c.weigh_within-within.ensures.keeps.counts ∙ sym c.requires.standing.counts) c.apply.ensures.counts in
+    (c.is_within.ensures.counts ∙ sym c.requires.standing.counts) c.apply.ensures.counts in
     record {
       teams = c.apply-2.ensures.n ∙ c.requires.standing.teams;
       phases = c.apply-2.ensures.phased;
