@@ -13,6 +13,7 @@
 mod afresh;
 mod aims;
 mod best;
+mod chains;
 mod circles;
 mod copies;
 mod course;

@@ -13,6 +13,7 @@ ghost use Rattle.walk.specs.Standing.{IsKept, IsStandingOn};
 
 use crate::aims::aim_at;
 use crate::best::Kept;
+use crate::chains::is_long;
 use crate::draws::{Mix, PARTS, WHOLES, aimed_move, below, drawn_move};
 use crate::threshold::{Cooling, drawn_threshold};
 use crate::weighed::WeighedParts;
@@ -35,9 +36,6 @@ const HARD_HEAT: u64 = 512;
 /// A move that is to meet hard constraints is aimed at an unmet one if the number drawn for it, below 256, is below
 /// this one.
 const AIMED: u16 = 64;
-
-/// A move of parts of rounds or of teams' games that takes out more games isn't tried: hardly one is ever made.
-const LONGEST: usize = 12;
 
 /// A stretch of a walk has at most so many moves tried.
 pub(crate) const STRETCH: u64 = 2000;
@@ -203,7 +201,10 @@ impl Standing {
         requires standing { IsStandingOn self.old.board.n self.old.board.phased (round_counts self.old.board) self.old }
         ensures standing { IsStandingOn self.old.board.n self.old.board.phased (round_counts self.new.board) self.new }
     {
-        if !edit_of(&step, &self.board, &mut self.edit) || self.is_long(&step) {
+        if is_long(&self.board, &step) {
+            return false;
+        }
+        if !edit_of(&step, &self.board, &mut self.edit) {
             return false;
         }
         if parts.follow(&self.edit, more) {
@@ -230,7 +231,10 @@ impl Standing {
         ensures standing { IsStandingOn tally.old.table.n self.old.board.phased (table_counts tally.new.table)
             self.new }
     {
-        if !edit_of(&step, &self.board, &mut self.edit) || self.is_long(&step) {
+        if is_long(&self.board, &step) {
+            return false;
+        }
+        if !edit_of(&step, &self.board, &mut self.edit) {
             return false;
         }
         if !is_within(&self.edit, most, tally, parts, steps) {
@@ -239,16 +243,6 @@ impl Standing {
         tally.apply(&self.edit, steps);
         self.board.apply(&self.edit);
         true
-    }
-
-    /// Whether the edit of a move is too long to be tried.
-    fn is_long(&self, step: &Swap) -> bool {
-        match step {
-            Swap::PartRoundSwap { .. } | Swap::PartTeamSwap { .. } => {
-                self.edit.out().len() > LONGEST
-            }
-            Swap::HomeSwap { .. } | Swap::RoundSwap { .. } | Swap::TeamSwap { .. } => false,
-        }
     }
 
     /// Puts the teams in a random order, by moves of two teams.
