@@ -7,7 +7,6 @@ ghost use Rattle.league.specs.Structure.{IsRoundRobin};
 ghost use Rattle.descent.specs.Score.{IsNoWorse};
 ghost use Rattle.walk.specs.Standing.{IsWalkerIn};
 
-use crate::copies::copy_games;
 use crate::course::Course;
 use crate::scale::usual_change;
 use crate::standing::STRETCH;
@@ -18,9 +17,7 @@ use circle_method::double;
 use descent::Score;
 use league::{League, Schedule};
 use robin_watch::Listener;
-use rule_core::{Plain, Steps};
 use std::alloc::{AllocError, Global};
-use tally::league_tally;
 
 /// A walk from the circle method's season tries an eighth of the moves that are left, but not more than so many, or than
 /// a 64th where that is more.
@@ -191,15 +188,13 @@ impl Walker {
         ensures best { OnOk result (self.new.best ≡ self.old.best) }
         ensures left { OnOk result (self.new.left ≡ self.old.left) }
     {
-        copy_games(&self.standing.board, &mut self.games);
-        let mut steps = Steps::<Plain>::start();
-        let mut tally = league_tally(alloc, league, 1, &self.games, &mut steps)?;
+        let mut parts = WeighedParts::new(alloc, league, Weighing::SOFT)?;
+        parts.count(&self.standing.board);
         let change = usual_change(
             alloc,
             &mut self.standing.random,
             &self.standing.board,
-            &mut tally,
-            &mut steps,
+            &mut parts,
         )?;
         Ok(change)
     }

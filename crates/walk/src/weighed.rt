@@ -123,17 +123,18 @@ impl WeighedParts {
         self.forget();
     }
 
+    /// What all parts would weigh after an edit.
+    pub(crate) fn weigh_edit(&mut self, edit: &Edit) -> u64 {
+        self.count_edit(edit);
+        let then = self.weigh(u64::MAX);
+        self.plays.put_back(edit.out());
+        self.forget();
+        then.unwrap_or(u64::MAX)
+    }
+
     /// Follows an edit, where the parts cost at most so much more after it. Says whether they do.
     pub(crate) fn follow(&mut self, edit: &Edit, more: u64) -> bool {
-        for game in edit.out() {
-            self.count_meeting(game.home.0, game.away.0, game.slot.0, false);
-        }
-        for game in edit.into_games() {
-            self.count_meeting(game.home.0, game.away.0, game.slot.0, true);
-            self.plays.put(*game);
-        }
-        self.count_turned();
-        self.find_leads();
+        self.count_edit(edit);
         let then = self.weigh(self.sum.saturating_add(more));
         match then {
             Some(sum) => self.keep(edit.out(), sum),
@@ -147,6 +148,19 @@ impl WeighedParts {
     pub(crate) fn follow_within(&mut self, edit: &Edit, most: u128) -> bool {
         let more = most.saturating_sub(u128::from(self.sum));
         self.follow(edit, u64::try_from(more).unwrap_or(u64::MAX))
+    }
+
+    /// Makes an edit, and finds the parts that it changes.
+    fn count_edit(&mut self, edit: &Edit) {
+        for game in edit.out() {
+            self.count_meeting(game.home.0, game.away.0, game.slot.0, false);
+        }
+        for game in edit.into_games() {
+            self.count_meeting(game.home.0, game.away.0, game.slot.0, true);
+            self.plays.put(*game);
+        }
+        self.count_turned();
+        self.find_leads();
     }
 
     /// Changes the counts of the parts that count two teams' game in a slot: by one more, or one less.

@@ -13,6 +13,9 @@ pub(crate) enum Weighing {
 }
 
 impl Weighing {
+    /// The soft constraints alone: hard ones weigh nothing.
+    pub(crate) const SOFT: Weighing = Weighing::Together(0);
+
     /// All constraints together, where no soft one makes up for a hard one.
     pub(crate) const STRICT: Weighing = Weighing::Together(u32::MAX);
 
