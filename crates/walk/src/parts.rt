@@ -5,7 +5,7 @@ use league::{Class, Constraint, League, SlotId, SlotSet, Span, TeamId, TeamSet};
 use std::alloc::{AllocError, Global};
 
 /// Behind so many parts no further constraints are weighed.
-pub(crate) const MOST: usize = 100_000;
+pub(crate) const MOST: usize = 30_000;
 
 /// Constraints in parts, each with its weight.
 #[derive(Drop)]
