@@ -281,27 +281,27 @@ audited-excluded store instance solution k log league played answer say ended gi
 -- ---- `resume --near`
 
 pub neared-well_formed : (store : Store)
-    (instance solution : List ℕ) (k : ℕ) (limits : Option ℕ → Type 0) (league : Instance) (played : List Game)
+    (instance solution : List ℕ) (k : ℕ) (limits : Option ℕ → Type 0) (may_stop : Type 0) (league : Instance) (played : List Game)
     (answer : Answer) → IsWellFormedSeason store instance solution k league played
-    → NoneFails store (instance ∷ solution ∷ []) → neared store instance solution k limits answer
-    → IsNearBy league played k limits answer
-neared-well_formed store instance solution k limits league played answer good works given =
+    → NoneFails store (instance ∷ solution ∷ []) → neared store instance solution k limits may_stop answer
+    → IsNearBy league played k limits may_stop answer
+neared-well_formed store instance solution k limits may_stop league played answer good works given =
     plays-known store instance solution k
-    (λ season. IsNearBy season.league season.played k limits) league played answer good
+    (λ season. IsNearBy season.league season.played k limits may_stop) league played answer good
     (first-works store instance (solution ∷ []) works) (second-works store instance solution [] works) given
 
-near-season : (league : Instance) (played : List Game) (k : ℕ) (conflicts : Option ℕ) (answer : Answer)
-    → answer.status ≡ Yes → IsNear league played k conflicts answer → IsNearSeason league played k answer
-near-season league played k conflicts answer ended near =
+near-season : (league : Instance) (played : List Game) (k : ℕ) (conflicts : Option ℕ) (may_stop : Type 0) (answer : Answer)
+    → answer.status ≡ Yes → IsNear league played k conflicts may_stop answer → IsNearSeason league played k may_stop answer
+near-season league played k conflicts may_stop answer ended near =
     elim near.found [
       | inl season ↦ season
       | inr (inl excluded) ↦ let same : Refuted ≡ Yes = sym excluded.status ∙ ended in absurd (cc)
       | inr (inr spent) ↦ let same : Spent ≡ Yes = sym spent.status ∙ ended in absurd (cc)
     ]
 
-near-excluded : (league : Instance) (played : List Game) (k : ℕ) (conflicts : Option ℕ) (answer : Answer)
-    → answer.status ≡ Refuted → IsNear league played k conflicts answer → NoneResumes league (counts_of played) k
-near-excluded league played k conflicts answer ended near =
+near-excluded : (league : Instance) (played : List Game) (k : ℕ) (conflicts : Option ℕ) (may_stop : Type 0) (answer : Answer)
+    → answer.status ≡ Refuted → IsNear league played k conflicts may_stop answer → NoneResumes league (counts_of played) k
+near-excluded league played k conflicts may_stop answer ended near =
     elim near.found [
       | inl season ↦ let same : Yes ≡ Refuted = sym season.status ∙ ended in absurd (cc)
       | inr (inl excluded) ↦ excluded.refutes.none
@@ -310,27 +310,27 @@ near-excluded league played k conflicts answer ended near =
 
 -- where the answer is a schedule, it is accepted and keeps the played games
 pub neared-season : (store : Store)
-    (instance solution : List ℕ) (k : ℕ) (limits : Option ℕ → Type 0) (league : Instance) (played : List Game)
+    (instance solution : List ℕ) (k : ℕ) (limits : Option ℕ → Type 0) (may_stop : Type 0) (league : Instance) (played : List Game)
     (answer : Answer) → SaySeason store instance solution league played → answer.status ≡ Yes
-    → neared store instance solution k limits answer → IsNearSeason league played k answer
-neared-season store instance solution k limits league played answer say ended given =
-    let next : Season → Outcome = λ season. IsNearBy season.league season.played k limits in
+    → neared store instance solution k limits may_stop answer → IsNearSeason league played k may_stop answer
+neared-season store instance solution k limits may_stop league played answer say ended given =
+    let next : Season → Outcome = λ season. IsNearBy season.league season.played k limits may_stop in
     let answered : IsAnswered answer = answered-as answer Yes ended (λ same. cc) (λ same. cc) in
-    let near : IsNearBy league played k limits answer =
+    let near : IsNearBy league played k limits may_stop answer =
     (of_known store instance solution k next league played answer say
     (plays-answered store instance solution k next answer answered given)).1 in
-    near-season league played k near.0 answer ended near.2
+    near-season league played k near.0 may_stop answer ended near.2
 
 -- where it is a refutation, no accepted schedule keeps them
 pub neared-excluded : (store : Store)
-    (instance solution : List ℕ) (k : ℕ) (limits : Option ℕ → Type 0) (league : Instance) (played : List Game)
+    (instance solution : List ℕ) (k : ℕ) (limits : Option ℕ → Type 0) (may_stop : Type 0) (league : Instance) (played : List Game)
     (answer : Answer) → SaySeason store instance solution league played → answer.status ≡ Refuted
-    → neared store instance solution k limits answer
+    → neared store instance solution k limits may_stop answer
     → NoneResumes league (counts_of played) k
-neared-excluded store instance solution k limits league played answer say ended given =
-    let next : Season → Outcome = λ season. IsNearBy season.league season.played k limits in
+neared-excluded store instance solution k limits may_stop league played answer say ended given =
+    let next : Season → Outcome = λ season. IsNearBy season.league season.played k limits may_stop in
     let answered : IsAnswered answer = answered-as answer Refuted ended (λ same. cc) (λ same. cc) in
-    let near : IsNearBy league played k limits answer =
+    let near : IsNearBy league played k limits may_stop answer =
     (of_known store instance solution k next league played answer say
     (plays-answered store instance solution k next answer answered given)).1 in
-    near-excluded league played k near.0 answer ended near.2
+    near-excluded league played k near.0 may_stop answer ended near.2

@@ -1,7 +1,7 @@
 -- What is found near the old plan, answered.
 use Rattle.std.proofs.Common.{◌≡◌, ℕ, ◌≤◌, Bool, true, false, List, [], ◌∷◌, ◌++◌, length, decimal, codes}
-use Rattle.std.proofs.Common.{Option, Some, Result, Ok, Err, ap, inl, inr, refl, ◌∙◌, append_assoc}
-use Rattle.std.specs.Prelude.{IfOk}
+use Rattle.std.proofs.Common.{Option, Some, Result, Ok, Err, ap, inl, inr, refl, subst, sym, ◌∙◌, append_assoc}
+use Rattle.std.specs.Prelude.{◌⊎◌, IfOk}
 use Rattle.std.specs.List.{All, flat_map, list_all}
 use Rattle.std.proofs.lemmas.Bool.{and_from}
 use Rattle.league.specs.Accepted.{IsAccepted}
@@ -15,20 +15,22 @@ use Rattle.robinx_form.specs.Texts.{solution_text}
 use Rattle.robinx_write.proofs.CommentLemmas.{comment_line, is_plain_comment, is_plain_comment-decimal}
 use Rattle.robinx_write.proofs.SolutionLemmas.{solution-reads_back_commented}
 use Rattle.solve.proofs.FewLemmas.{round_robin-few}
-use Rattle.encoding_base.specs.Variables.{var_count}
+use Rattle.answers.specs.Reply.{Answer}
 use Rattle.answers.specs.SeenReply.{answer_of}
 use Rattle.answers.specs.declared.reply.Reply.{Reply}
 use Rattle.answers.specs.declared.status.Status.TheVariants.{Yes, Refuted, Spent}
 use Rattle.refutation.specs.Logs.{log_of}
 use Rattle.refutation.specs.Steps.{Step}
 use Rattle.refutation.specs.Texts.{log_text}
-use Rattle.clause_search.specs.Answers.{IsSpentAt}
-use Rattle.resume_rows.specs.Kept.{resume_rows}
 use Rattle.kept_descent.specs.Nearing.{IsNearest}
-use Rattle.resume.specs.Answers.{IsResumedSeason, RefutesResuming}
-use Rattle.resume.specs.Near.{changed, open_games}
+use Rattle.resume.specs.Answers.{IsPlan, IsResumed, IsResumedSeason}
+use Rattle.resume.specs.Near.{IsNearestAnswer, IsOpenNear, IsSettledNear, changed, open_games}
+use Rattle.resume.specs.declared.near.Neared.{Neared}
+use Rattle.resume.specs.declared.resumed.Resumed.{Resumed}
+use Rattle.resume.specs.declared.resumed.Resumed.TheVariants as variants
 use Rattle.resume.proofs.NearLemmas.{none-changed}
 use Rattle.command_resume.specs.Near.{IsNear, IsNearBy, near_line}
+use Rattle.command_resume.specs.NearWritten.{IsWritten}
 
 -- ---- the comment is passed over
 
@@ -68,19 +70,18 @@ near-reads_back n games cost changes all settled size few fit =
     ∙ solution-reads_back_commented n games (Some (0, cost)) (near_body changes all settled ∷ []) size few fit
     (near-plain changes all settled)
 
--- ---- replies, unless memory ran out
+-- ---- what is found, as it is written
 
-pub near-season : {E : Type 0} (league : Instance) (played : List Game) (k : ℕ) (conflicts : Option ℕ)
-    (games : List Game) (cost : ℕ) (settled : Bool) (result : Result Reply E) → IsTeamCount league.n
+near-season : (league : Instance) (played : List Game) (k : ℕ) (conflicts : Option ℕ) (may_stop : Type 0)
+    (games : List Game) (cost : ℕ) (settled : Bool) (answer : Answer) → IsTeamCount league.n
     → IsResumedSeason league played k games cost → (settled ≡ true → IsNearest league k played (counts_of games))
-    → (IsAccepted league (counts_of played) → counts_of games ≡ counts_of played)
-    → IfOk result (λ reply. (answer_of reply).status ≡ Yes)
-    → IfOk result (λ reply. (answer_of reply).text
-    ≡ solution_text games (Some (0, cost)) ++ near_line (changed k played games) (open_games k played) settled)
-    → IfOk result (λ reply. IsNear league played k conflicts (answer_of reply))
-near-season {E} league played k conflicts games cost settled (Ok reply) teams season nearest plan status text =
+    → (settled ≡ false → may_stop ⊎ (IsNearest league k played (counts_of games) → ⊥))
+    → (IsAccepted league (counts_of played) → counts_of games ≡ counts_of played) → answer.status ≡ Yes
+    → answer.text ≡ solution_text games (Some (0, cost)) ++ near_line (changed k played games) (open_games k played) settled
+    → IsNear league played k conflicts may_stop answer
+near-season league played k conflicts may_stop games cost settled answer teams season nearest open plan status text =
     let line : List ℕ = near_line (changed k played games) (open_games k played) settled in
-    let told : (answer_of reply).text ≡ solution_text games (Some (0, costs.objective league (counts_of games))) ++ line =
+    let told : answer.text ≡ solution_text games (Some (0, costs.objective league (counts_of games))) ++ line =
     text ∙ ap (λ (c : ℕ). solution_text games (Some (0, c)) ++ line) season.cost in
     record {
       found = inl (record {
@@ -93,6 +94,7 @@ near-season {E} league played k conflicts games cost settled (Ok reply) teams se
           cost = refl;
         };
         nearest = nearest;
+        open_yet = open;
         status = status;
         text = told;
         reads_back = ap (λ (written : List ℕ). solution_of league.n (pieces written)) text
@@ -112,49 +114,78 @@ near-season {E} league played k conflicts games cost settled (Ok reply) teams se
             (none-changed k played games (plan accepted));
       };
     }
-near-season {E} league played k conflicts games cost settled (Err error) teams season nearest plan status text = tt
 
-pub near-excluded : {E : Type 0} (league : Instance) (played : List Game) (k : ℕ) (conflicts : Option ℕ)
-    (steps : List Step) (result : Result Reply E) → RefutesResuming league played k conflicts steps
-    → (IsAccepted league (counts_of played) → ⊥) → IfOk result (λ reply. (answer_of reply).status ≡ Refuted)
-    → IfOk result (λ reply. (answer_of reply).text ≡ log_text steps)
-    → IfOk result (λ reply. log_of (answer_of reply).text ≡ Ok steps)
-    → IfOk result (λ reply. IsNear league played k conflicts (answer_of reply))
-near-excluded {E} league played k conflicts steps (Ok reply) refutes no_plan status text reads_back = record {
+near-is : (league : Instance) (played : List Game) (k : ℕ) (conflicts : Option ℕ) (may_stop : Type 0)
+    (resumed : Resumed) (settled : Bool) (answer : Answer) → IsTeamCount league.n
+    → IsResumed league played k conflicts resumed → (settled ≡ true → IsNearestAnswer league k played resumed)
+    → (settled ≡ false → may_stop ⊎ (IsNearestAnswer league k played resumed → ⊥))
+    → (IsAccepted league (counts_of played) → IsPlan played resumed) → IsWritten played k settled resumed answer
+    → IsNear league played k conflicts may_stop answer
+near-is league played k conflicts may_stop (variants.Schedule games cost) settled answer teams is nearest open plan written =
+    near-season league played k conflicts may_stop games cost settled answer teams is nearest open plan written.0 written.1
+near-is league played k conflicts may_stop (variants.Refuted log) settled answer teams is nearest open plan written = record {
   found = inr (inl (record {
-    steps = steps;
-    refutes = refutes;
-    status = status;
-    text = text;
-    reads_back = reads_back;
+    steps = log;
+    refutes = is;
+    status = written.0;
+    text = written.1;
+    reads_back = written.2;
   }));
-  plan = λ accepted. absurd (no_plan accepted);
+  plan = λ accepted. absurd (plan accepted);
 }
-near-excluded {E} league played k conflicts steps (Err error) refutes no_plan status text reads_back = tt
-
-pub near-spent : {E : Type 0} (league : Instance) (played : List Game) (k : ℕ) (conflicts : Option ℕ)
-    (steps : List Step) (result : Result Reply E)
-    → IsSpentAt (resume_rows league (counts_of played) k) (var_count league) conflicts steps
-    → (IsAccepted league (counts_of played) → ⊥) → IfOk result (λ reply. (answer_of reply).status ≡ Spent)
-    → IfOk result (λ reply. (answer_of reply).text ≡ log_text steps)
-    → IfOk result (λ reply. log_of (answer_of reply).text ≡ Ok steps)
-    → IfOk result (λ reply. IsNear league played k conflicts (answer_of reply))
-near-spent {E} league played k conflicts steps (Ok reply) spent no_plan status text reads_back = record {
+near-is league played k conflicts may_stop (variants.Spent log) settled answer teams is nearest open plan written = record {
   found = inr (inr (record {
-    steps = steps;
-    spent = spent;
-    status = status;
-    text = text;
-    reads_back = reads_back;
+    steps = log;
+    spent = is;
+    status = written.0;
+    text = written.1;
+    reads_back = written.2;
   }));
-  plan = λ accepted. absurd (no_plan accepted);
+  plan = λ accepted. absurd (plan accepted);
 }
-near-spent {E} league played k conflicts steps (Err error) spent no_plan status text reads_back = tt
+
+-- ---- replies, unless memory ran out
+
+pub replied-season : {E : Type 0} (played : List Game) (k : ℕ) (settled : Bool) (resumed : Resumed) (games : List Game)
+    (cost : ℕ) (result : Result Reply E) → resumed ≡ variants.Schedule games cost
+    → IfOk result (λ reply. (answer_of reply).status ≡ Yes)
+    → IfOk result (λ reply. (answer_of reply).text
+    ≡ solution_text games (Some (0, cost)) ++ near_line (changed k played games) (open_games k played) settled)
+    → IfOk result (λ reply. IsWritten played k settled resumed (answer_of reply))
+replied-season {E} played k settled resumed games cost (Ok reply) is status text =
+    subst (λ (one : Resumed). IsWritten played k settled one (answer_of reply)) (sym is) (status, text)
+replied-season {E} played k settled resumed games cost (Err error) is status text = tt
+
+pub replied-refuted : {E : Type 0} (played : List Game) (k : ℕ) (settled : Bool) (resumed : Resumed) (log : List Step)
+    (result : Result Reply E) → resumed ≡ variants.Refuted log
+    → IfOk result (λ reply. (answer_of reply).status ≡ Refuted)
+    → IfOk result (λ reply. (answer_of reply).text ≡ log_text log)
+    → IfOk result (λ reply. log_of (answer_of reply).text ≡ Ok log)
+    → IfOk result (λ reply. IsWritten played k settled resumed (answer_of reply))
+replied-refuted {E} played k settled resumed log (Ok reply) is status text reads_back =
+    subst (λ (one : Resumed). IsWritten played k settled one (answer_of reply)) (sym is) (status, text, reads_back)
+replied-refuted {E} played k settled resumed log (Err error) is status text reads_back = tt
+
+pub replied-spent : {E : Type 0} (played : List Game) (k : ℕ) (settled : Bool) (resumed : Resumed) (log : List Step)
+    (result : Result Reply E) → resumed ≡ variants.Spent log
+    → IfOk result (λ reply. (answer_of reply).status ≡ Spent)
+    → IfOk result (λ reply. (answer_of reply).text ≡ log_text log)
+    → IfOk result (λ reply. log_of (answer_of reply).text ≡ Ok log)
+    → IfOk result (λ reply. IsWritten played k settled resumed (answer_of reply))
+replied-spent {E} played k settled resumed log (Ok reply) is status text reads_back =
+    subst (λ (one : Resumed). IsWritten played k settled one (answer_of reply)) (sym is) (status, text, reads_back)
+replied-spent {E} played k settled resumed log (Err error) is status text reads_back = tt
 
 -- a reply within the limit to which the search kept
 pub near-by : {E : Type 0} (league : Instance) (played : List Game) (k : ℕ) (limits : Option ℕ → Type 0)
-    (result : Result Reply E) (conflicts : Option ℕ) → limits conflicts
-    → IfOk result (λ reply. IsNear league played k conflicts (answer_of reply))
-    → IfOk result (λ reply. IsNearBy league played k limits (answer_of reply))
-near-by league played k limits (Ok reply) conflicts is found = (conflicts, is, found)
-near-by league played k limits (Err error) conflicts is found = tt
+    (may_stop : Type 0) (near : Neared) (result : Result Reply E) (conflicts : Option ℕ) → IsTeamCount league.n
+    → limits conflicts → IsResumed league played k conflicts near.answer → IsSettledNear league k played near
+    → IsOpenNear league k played may_stop near → (IsAccepted league (counts_of played) → IsPlan played near.answer)
+    → IfOk result (λ reply. IsWritten played k near.settled near.answer (answer_of reply))
+    → IfOk result (λ reply. IsNearBy league played k limits may_stop (answer_of reply))
+near-by {E} league played k limits may_stop near (Ok reply) conflicts teams kept is settled open plan written = (
+  conflicts,
+  kept,
+  near-is league played k conflicts may_stop near.answer near.settled (answer_of reply) teams is settled open plan written,
+)
+near-by {E} league played k limits may_stop near (Err error) conflicts teams kept is settled open plan written = tt

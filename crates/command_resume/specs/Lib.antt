@@ -6,5 +6,6 @@ pub mod Seasons
 pub mod Resumed
 pub mod Near
 pub mod Audited
--- Kept inside (laws, and how fields are seen):
+-- Kept inside (what an answer is written as, and how fields are seen):
 pub mod SeenSeason
+pub mod NearWritten

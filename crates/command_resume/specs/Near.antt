@@ -1,5 +1,5 @@
 -- What `resume --near` answers: a season with the number of games that it changes, or a log as `resume` does.
-use Rattle.std.specs.Prelude.{◌≡◌, ℕ, ◌⊎◌, Bool, true, if◌then◌else◌, List, ◌++◌, Option, Some, Ok, codes, decimal}
+use Rattle.std.specs.Prelude.{◌≡◌, ℕ, ◌⊎◌, Bool, true, false, if◌then◌else◌, List, ◌++◌, Option, Some, Ok, codes, decimal}
 use Rattle.std.specs.Io.KnownBytes.{Appends}
 use Rattle.robin_io.specs.Outside.{Output, Store}
 use Rattle.league.specs.Accepted.{IsAccepted, objective}
@@ -35,13 +35,15 @@ near_text league played k games settled =
 
 -- A schedule that the league accepts and that keeps the played games is written, in order, with its objective, and how
 -- many of the games to come it changes. Where it says that it is settled, no single move that leaves the played slots
--- alone leads to a schedule that the league accepts and that changes fewer games, or as many at a lower cost. The text
--- reads back as these games.
-pub record IsNearSeason (league : Instance) (played : List Game) (k : ℕ) (answer : Answer) : Type 0 where
+-- alone leads to a schedule that the league accepts and that changes fewer games, or as many at a lower cost. Else one
+-- does, unless the run may be stopped. The text reads back as these games.
+pub record IsNearSeason (league : Instance) (played : List Game) (k : ℕ) (may_stop : Type 0) (answer : Answer)
+    : Type 0 where
   pub games : List Game
   pub settled : Bool
   pub season : IsResumedSeason league played k games (objective league (counts_of games))
   pub nearest : settled ≡ true → IsNearest league k played (counts_of games)
+  pub open_yet : settled ≡ false → may_stop ⊎ (IsNearest league k played (counts_of games) → ⊥)
   pub status : answer.status ≡ Yes
   pub text : answer.text ≡ near_text league played k games settled
   pub reads_back : solution_of league.n (pieces answer.text) ≡ Ok games
@@ -58,31 +60,34 @@ pub record IsUnchanged (league : Instance) (played : List Game) (k : ℕ) (answe
 
 -- What is found near the old plan, within a budget of conflicts. Where the league accepts all games of the played list
 -- as they are, these are the answer.
-pub record IsNear (league : Instance) (played : List Game) (k : ℕ) (conflicts : Option ℕ) (answer : Answer)
-    : Type 0 where
+pub record IsNear (league : Instance) (played : List Game) (k : ℕ) (conflicts : Option ℕ) (may_stop : Type 0)
+    (answer : Answer) : Type 0 where
   pub found :
-      IsNearSeason league played k answer
+      IsNearSeason league played k may_stop answer
       ⊎ (IsExcluded league played k conflicts answer ⊎ IsBudgetSpent league played k conflicts answer)
   pub plan : IsAccepted league (counts_of played) → IsUnchanged league played k answer
 
--- what is found near the old plan, by a search that keeps to one of these limits
-abbrev pub IsNearBy : Instance → List Game → ℕ → (Option ℕ → Type 0) → Outcome
-IsNearBy league played k limits answer =
-    (conflicts : Option ℕ) × limits conflicts × IsNear league played k conflicts answer
+-- what is found near the old plan, by a search that keeps to one of these limits, in a run that may be stopped where
+-- `may_stop` says so
+abbrev pub IsNearBy : Instance → List Game → ℕ → (Option ℕ → Type 0) → Type 0 → Outcome
+IsNearBy league played k limits may_stop answer =
+    (conflicts : Option ℕ) × limits conflicts × IsNear league played k conflicts may_stop answer
 
 -- `resume --near`, over what a store shows
-abbrev pub neared : Store → List ℕ → List ℕ → ℕ → (Option ℕ → Type 0) → Outcome
-neared store instance solution k limits = do
+abbrev pub neared : Store → List ℕ → List ℕ → ℕ → (Option ℕ → Type 0) → Type 0 → Outcome
+neared store instance solution k limits may_stop = do
   season ← plays store instance solution k
-  IsNearBy season.league season.played k limits
+  IsNearBy season.league season.played k limits may_stop
 
 -- ---- a run
 
 -- such a schedule is written whole, with how many of the games to come it changes, and reads back as these games
-pub record IsKeptNear (league : Instance) (played : List Game) (k : ℕ) (output : Output) : Type 0 where
+pub record IsKeptNear (league : Instance) (played : List Game) (k : ℕ) (may_stop : Type 0) (output : Output)
+    : Type 0 where
   pub games : List Game
   pub settled : Bool
   pub season : IsResumedSeason league played k games (objective league (counts_of games))
   pub nearest : settled ≡ true → IsNearest league k played (counts_of games)
+  pub open_yet : settled ≡ false → may_stop ⊎ (IsNearest league k played (counts_of games) → ⊥)
   pub written : Appends output.before output.after (near_text league played k games settled)
   pub reads_back : solution_of league.n (pieces (near_text league played k games settled)) ≡ Ok games

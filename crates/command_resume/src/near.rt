@@ -44,8 +44,10 @@ fn near_of<W: Watch>(
     requires slots { k ≤ counts.slot_count league.now.n }
     requires small { kept.resume_size league.now k ≤ most_terms }
     ensures { IfOk result (λ reply. IsNearBy league.now played.now k
-        (IsKeptTo budgets.conflicts (W.may_stop watch.now)) (answer_of reply)) }
+        (IsKeptTo budgets.conflicts (W.may_stop watch.now)) (W.may_stop watch.now) (answer_of reply)) }
 {
+    // For its contract: a season has few games.
+    let _n = league.n();
     match resume_near(alloc, league, played, k, budgets, watch) {
         Ok(neared) => near_reply(alloc, league, played, k, &neared),
         Err(EncodeFault::TooLarge { .. }) => unreachable!(),
@@ -69,7 +71,7 @@ pub fn resume_near_file<S: Shelf, W: Watch>(
     watch: &W,
 ) -> Result<Reply, NoValue>
     ensures answer { Answers (neared (store_between S.Shelf shelf.old shelf.new) instance.now solution.now
-        resumption.k (IsKeptTo resumption.budgets.conflicts (W.may_stop watch.now))) result }
+        resumption.k (IsKeptTo resumption.budgets.conflicts (W.may_stop watch.now)) (W.may_stop watch.now)) result }
     ensures taken { S.taken shelf.new ≤ S.taken shelf.old + (INSTANCE_LIMIT + 1 + (SOLUTION_LIMIT + 1)) }
     ensures contents { (n : List ℕ) → S.contents shelf.new n ≡ S.contents shelf.old n }
 {

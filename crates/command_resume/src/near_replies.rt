@@ -1,15 +1,12 @@
 //! The answers of `resume --near`.
 ghost use Rattle.std.specs.Prelude.{◌≡◌, ◌++◌, ℕ, IfOk, Option, Some, string_bytes};
-ghost use Rattle.league.specs.Accepted.{IsAccepted};
-ghost use Rattle.league.specs.Counts.{counts_of};
 ghost use Rattle.robinx_form.specs.Texts as solutions;
 ghost use Rattle.answers.specs.SeenReply.{answer_of};
 ghost use Rattle.answers.specs.declared.status.Status.TheVariants.{Yes};
-ghost use Rattle.resume.specs.Answers.{IsPlan, IsResumed};
+ghost use Rattle.resume.specs.Answers.{IsResumed};
 ghost use Rattle.resume.specs.Near as changes;
-ghost use Rattle.resume.specs.Near.{IsSettledNear};
 ghost use Rattle.command_resume.specs.Near as near;
-ghost use Rattle.command_resume.specs.Near.{IsNear};
+ghost use Rattle.command_resume.specs.NearWritten.{IsWritten};
 
 use crate::replies::log_reply;
 use answers::{Reply, Status};
@@ -85,10 +82,7 @@ pub(crate) fn near_reply(
     neared: &Neared,
 ) -> Result<Reply, AllocError>
     requires resumed { (conflicts : Option ℕ) × IsResumed league.now played.now k conflicts neared.now.answer }
-    requires settled { IsSettledNear league.now k played.now neared.now }
-    requires plan { IsAccepted league.now (counts_of played.now) → IsPlan played.now neared.now.answer }
-    ensures { (conflicts : Option ℕ) → IsResumed league.now played.now k conflicts neared.now.answer
-        → IfOk result (λ reply. IsNear league.now played.now k conflicts (answer_of reply)) }
+    ensures { IfOk result (λ reply. IsWritten played.now k neared.now.settled neared.now.answer (answer_of reply)) }
 {
     // For its contract: the variables of a league are few, and so are the games of a season.
     let _n = league.n();

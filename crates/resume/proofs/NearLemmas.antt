@@ -9,7 +9,9 @@ use Rattle.league.specs.Counts.{Counts, counts_of, is_game}
 use Rattle.league.specs.declared.game.Game.{Game}
 use Rattle.league.proofs.RangeLemmas.{one_if}
 use Rattle.resume_rows.specs.Kept.{is_played}
-use Rattle.resume.specs.Near.{IsAtMost, IsNoFarther, changed, is_changed, is_open}
+use Rattle.league.specs.Instance.{Instance}
+use Rattle.resume.specs.Near.{IsAtMost, IsNearestAnswer, IsNoFarther, IsOpenNear, changed, is_changed, is_open}
+use Rattle.resume.specs.declared.near.Neared.{Neared}
 use Rattle.resume.specs.declared.resumed.Resumed.{Resumed}
 use Rattle.resume.specs.declared.resumed.Resumed.TheVariants.{Schedule, Refuted, Spent}
 
@@ -100,6 +102,42 @@ at-most after before cost first some = by (nat_lt after before) refl some where
       → IsAtMost after cost before first
   by true is some = inl (grind (arith, nat_tests))
   by false is some = inr (grind (arith, nat_tests), grind (arith, nat_tests))
+
+not-less : (same less : Bool) → same ≡ true → (same && less) ≡ false → less ≡ false
+not-less true less is none = none
+not-less false less is none = absurd (cc)
+
+same-true : (a b : ℕ) → a ≡ b → (a == b) ≡ true
+same-true a b is = grind (arith, nat_tests)
+
+at-least : (a b : ℕ) → nat_lt a b ≡ false → b ≤ a
+at-least a b is = grind (arith, nat_tests)
+
+-- what doesn't change fewer, nor as many at a lower cost, is no nearer
+pub not-nearer : (after before cost first : ℕ)
+    → (nat_lt after before || ((after == before) && nat_lt cost first)) ≡ false → IsAtMost before first after cost
+not-nearer after before cost first none = by (nat_lt after before) refl none where
+  equal : before ≤ after → (more : Bool) → nat_lt before after ≡ more
+      → ((after == before) && nat_lt cost first) ≡ false → IsAtMost before first after cost
+  equal least true is none = inl (grind (arith, nat_tests))
+  equal least false is none =
+      let same : before ≡ after = omega (arith, least, at-least before after is) in
+      inr (
+        same,
+        at-least cost first
+            (not-less (after == before) (nat_lt cost first) (same-true after before (omega (arith, same))) none),
+      )
+  by : (fewer : Bool) → nat_lt after before ≡ fewer → (fewer || ((after == before) && nat_lt cost first)) ≡ false
+      → IsAtMost before first after cost
+  by true is none = absurd (cc)
+  by false is none = equal (at-least after before is) (nat_lt before after) refl none
+
+-- an answer without a season that is nearest isn't said to be settled, rightly
+pub unsettled-open : {may_stop : Type 0} (league : Instance) (k : ℕ) (old : List Game) (answer : Resumed) (near : Neared)
+    → near ≡ record { answer = answer; settled = false } → (IsNearestAnswer league k old answer → ⊥)
+    → IsOpenNear league k old may_stop near
+unsettled-open {may_stop} league k old answer near is none = λ said.
+    inr (λ nearest. none (subst (λ (n : Neared). IsNearestAnswer league k old n.answer) is nearest))
 
 at_most-further : (changes cost before first start price : ℕ) → IsAtMost before first start price
     → IsAtMost changes cost before first → IsAtMost changes cost start price

@@ -1,5 +1,5 @@
 -- How far one season is from another in the slots to come.
-use Rattle.std.specs.Prelude.{◌≡◌, ℕ, true, List}
+use Rattle.std.specs.Prelude.{◌≡◌, ◌⊎◌, ℕ, true, false, List}
 use Rattle.std.specs.List.{count_by}
 use Rattle.league.specs.Counts.{counts_of}
 use Rattle.league.specs.declared.game.Game.{Game}
@@ -30,6 +30,13 @@ IsNoFarther k old (Spent first) (Schedule games objective) = Unit {0}
 IsNoFarther k old (Spent first) (Refuted log) = ⊥
 IsNoFarther k old (Spent first) (Spent log) = log ≡ first
 
+-- an answer refutes, or is a schedule that is no farther from the old games than some games of this cost
+abbrev pub IsAsNear : ℕ → List Game → List Game → ℕ → Resumed → Type 0
+IsAsNear k old near price (Schedule games objective) =
+    IsAtMost (changed k old games) objective (changed k old near) price
+IsAsNear k old near price (Refuted log) = Unit {0}
+IsAsNear k old near price (Spent log) = ⊥
+
 -- no single move that leaves the first k slots alone leads from an answer's schedule to one that the league accepts and
 -- that changes fewer games of the old ones, or as many at a lower cost
 abbrev pub IsNearestAnswer : Instance → ℕ → List Game → Resumed → Type 0
@@ -40,3 +47,8 @@ IsNearestAnswer league k old (Spent log) = ⊥
 -- where an answer is said to be settled, it is
 abbrev pub IsSettledNear : Instance → ℕ → List Game → Neared → Type 0
 IsSettledNear league k old near = near.settled ≡ true → IsNearestAnswer league k old near.answer
+
+-- where it isn't said to be, a single move betters its schedule, or it has none; unless the run may be stopped
+abbrev pub IsOpenNear : Instance → ℕ → List Game → Type 0 → Neared → Type 0
+IsOpenNear league k old may_stop near =
+    near.settled ≡ false → may_stop ⊎ (IsNearestAnswer league k old near.answer → ⊥)

@@ -1,5 +1,5 @@
 //! A season resumed that changes little of the old plan.
-ghost use Rattle.std.specs.Prelude.{◌≡◌, ◌==◌, ◌≤◌, ◌↔◌, ◌⊎◌, ◌||◌, ◌&&◌, ℕ, false, nat_lt, length, Option, IfOk, IfSome, IsTrue};
+ghost use Rattle.std.specs.Prelude.{◌≡◌, ◌==◌, ◌≤◌, ◌↔◌, ◌⊎◌, ◌||◌, ◌&&◌, ℕ, true, false, nat_lt, length, Option, IfOk, IfSome, IsTrue};
 ghost use Rattle.std.specs.List.{All};
 ghost use Rattle.encoding.specs.Limit.{KeepsLimit};
 ghost use Rattle.league.specs.Accepted.{IsAccepted};
@@ -9,12 +9,12 @@ ghost use Rattle.league.specs.Instance.{Instance, IsGame};
 ghost use Rattle.league.specs.Structure.{IsRoundRobin};
 ghost use Rattle.resume_rows.specs.Kept as kept;
 ghost use Rattle.resume.specs.Answers.{IsPlan, IsResumed, IsResumedBy, IsResumedSeason};
-ghost use Rattle.resume.specs.Near.{IsAtMost, IsNoFarther, IsSettledNear, changed};
+ghost use Rattle.resume.specs.Near.{IsAsNear, IsAtMost, IsNoFarther, IsOpenNear, IsSettledNear, changed};
 ghost use Rattle.robin_watch.specs.Limits.{IsKeptTo};
 
 use crate::changed::changed_games;
 use crate::freed::freed_season;
-use crate::judged::{MOST_GAMES, Season};
+use crate::judged::Season;
 use crate::repair::repaired_season;
 use crate::{Resumed, resume_lowered};
 use deviation::assess;
@@ -78,6 +78,9 @@ pub fn resume_near<W: Watch>(
     // fewer games, or as many at a lower cost.
     ensures settled { IfOk result (IsSettledNear league.now k played.now) }
 
+    // Where it doesn't, one does, or the answer has no season, or the watch may stop the run.
+    ensures open_yet { IfOk result (IsOpenNear league.now k played.now (W.may_stop watch.now)) }
+
     // Where the league accepts what `played` has, the answer is a schedule of the same games.
     ensures plan { IsAccepted league.now (counts_of played.now)
         → IfOk result (λ near. IsPlan played.now near.answer) }
@@ -115,6 +118,8 @@ pub fn nearer_answer<W: Watch>(
     // It changes no more games than the first answer, and where it changes as many, it costs no more.
     ensures no_farther { IfOk result (λ near. IsNoFarther season.entry.k season.entry.played.now first near.answer) }
     ensures settled { IfOk result (IsSettledNear season.entry.league.now season.entry.k season.entry.played.now) }
+    ensures open_yet { IfOk result (IsOpenNear season.entry.league.now season.entry.k season.entry.played.now
+        (W.may_stop watch.now)) }
 
     // Where the league accepts the old plan, the first answer stays.
     ensures plan { IsAccepted season.entry.league.now (counts_of season.entry.played.now)
@@ -123,9 +128,6 @@ pub fn nearer_answer<W: Watch>(
     let (league, played) = (season.league, season.played);
     if is_accepted(alloc, league, played)? {
         return asked(alloc, season, first, watch);
-    }
-    if matches!(first, Resumed::Refuted { .. }) {
-        return Ok(unsettled(first));
     }
     let answer = nearest_found(alloc, season, first, budgets, watch)?;
     descended(alloc, season, answer, watch)
@@ -158,15 +160,34 @@ fn asked<W: Watch>(
         × IsResumed season.league.now season.played.now season.k conflicts answer }
     ensures same { IfOk result (λ near. near.answer ≡ answer) }
     ensures settled { IfOk result (IsSettledNear season.entry.league.now season.entry.k season.entry.played.now) }
+    ensures open_yet { IfOk result (IsOpenNear season.entry.league.now season.entry.k season.entry.played.now
+        (W.may_stop watch.now)) }
 {
-    let Resumed::Schedule { schedule, .. } = &answer else {
-        return Ok(unsettled(answer));
-    };
-    if schedule.len() > MOST_GAMES || watch.is_over_now(0) {
-        return Ok(unsettled(answer));
+    // For its contract: a season has few games.
+    let _n = season.league.n();
+    match answer {
+        Resumed::Schedule {
+            schedule,
+            objective,
+        } => {
+            if watch.is_over_now(0) {
+                return Ok(unsettled(Resumed::Schedule {
+                    schedule,
+                    objective,
+                }));
+            }
+            let settled = is_settled(alloc, season.plan(), &schedule, watch)?;
+            Ok(Neared {
+                answer: Resumed::Schedule {
+                    schedule,
+                    objective,
+                },
+                settled,
+            })
+        }
+        Resumed::Refuted { log } => Ok(unsettled(Resumed::Refuted { log })),
+        Resumed::Spent { log } => Ok(unsettled(Resumed::Spent { log })),
     }
-    let settled = is_settled(alloc, season.plan(), schedule, watch)?;
-    Ok(Neared { answer, settled })
 }
 
 /// An answer, or the season to which a descent leads from it that leaves the played slots alone. The watch may end the
@@ -190,13 +211,17 @@ fn descended<W: Watch>(
         IsResumed season.entry.league.now season.entry.played.now season.entry.k conflicts near.answer) }
     ensures no_farther { IfOk result (λ near. IsNoFarther season.entry.k season.entry.played.now answer near.answer) }
     ensures settled { IfOk result (IsSettledNear season.entry.league.now season.entry.k season.entry.played.now) }
+    ensures open_yet { IfOk result (IsOpenNear season.entry.league.now season.entry.k season.entry.played.now
+        (W.may_stop watch.now)) }
 {
+    // For its contract: a season has few games.
+    let _n = season.league.n();
     match answer {
         Resumed::Schedule {
             schedule,
             objective,
         } => {
-            if schedule.len() > MOST_GAMES || watch.is_over_now(2) {
+            if watch.is_over_now(2) {
                 return Ok(unsettled(Resumed::Schedule {
                     schedule,
                     objective,
@@ -262,7 +287,10 @@ fn nearest_found<W: Watch>(
     ensures no_farther { IfOk result (IsNoFarther season.entry.k season.entry.played.now first) }
 {
     let (played, k) = (season.played, season.k);
-    if watch.is_over_now(0) || !is_round_robin(season.league, played) {
+    if matches!(first, Resumed::Refuted { .. }) || watch.is_over_now(0) {
+        return Ok(first);
+    }
+    if !is_round_robin(season.league, played) {
         return Ok(first);
     }
     let repaired = repaired_season(alloc, season, budgets, watch)?;
@@ -314,6 +342,9 @@ fn nearer(played: &Schedule, k: u16, resumed: Resumed, near: Option<Season>) -> 
         → IfSome near (λ season. IsResumedSeason league played.now k season.schedule season.objective)
         → IsResumed league played.now k conflicts result }
     ensures no_farther { IsNoFarther k played.now resumed result }
+
+    // A season takes the place of a spent log.
+    ensures as_near { IfSome near (λ season. IsAsNear k played.now season.schedule season.objective result) }
 {
     let Some(season) = near else {
         return resumed;
@@ -352,8 +383,10 @@ fn schedule_resumed(season: Season) -> Resumed
 /// first.
 fn nearer_season(played: &Schedule, k: u16, first: Season, second: Season) -> Season
     ensures one { (result ≡ first) ⊎ (result ≡ second) }
-    ensures at_most { IsAtMost (changed k played.now result.schedule) result.objective
+    ensures first { IsAtMost (changed k played.now result.schedule) result.objective
         (changed k played.now first.schedule) first.objective }
+    ensures second { IsAtMost (changed k played.now result.schedule) result.objective
+        (changed k played.now second.schedule) second.objective }
 {
     if is_nearer(played, k, &first, &second) {
         second
@@ -364,8 +397,10 @@ fn nearer_season(played: &Schedule, k: u16, first: Season, second: Season) -> Se
 
 /// Whether a second season changes fewer games of the old plan than a first, or as many and costs less.
 fn is_nearer(played: &Schedule, k: u16, first: &Season, second: &Season) -> bool
-    ensures { IsTrue result → IsAtMost (changed k played.now second.now.schedule) second.now.objective
+    ensures second { result ≡ true → IsAtMost (changed k played.now second.now.schedule) second.now.objective
         (changed k played.now first.now.schedule) first.now.objective }
+    ensures first { result ≡ false → IsAtMost (changed k played.now first.now.schedule) first.now.objective
+        (changed k played.now second.now.schedule) second.now.objective }
 {
     let before = changed_games(played.games(), k, first.schedule.games());
     let after = changed_games(played.games(), k, second.schedule.games());

@@ -1,5 +1,5 @@
 //! A watch that keeps the best season so far in a file.
-ghost use Rattle.std.specs.Prelude.{◌≡◌};
+ghost use Rattle.std.specs.Prelude.{◌≡◌, true, nat_lt, MatchOption};
 ghost use Rattle.robin_host.specs.KeeperFields.{watch_of};
 
 use crate::draft::Draft;
@@ -100,13 +100,15 @@ impl<'a, W, R: Clock + Files> SeasonKeeper<'a, W, R> {
             draft.leave();
         }
     }
+}
 
-    /// Whether a season that costs so much is better than all of which was heard.
-    fn is_better(&self, objective: u128) -> bool {
-        match self.best.get() {
-            Some(best) => objective < best,
-            None => true,
-        }
+/// Whether a season that costs so much is better than the best so far, if there is one.
+fn is_better(best: Option<u128>, objective: u128) -> bool
+    ensures { MatchOption best (result ≡ true) (λ least. result ≡ nat_lt objective least) }
+{
+    match best {
+        Some(best) => objective < best,
+        None => true,
     }
 }
 
@@ -138,7 +140,7 @@ impl<W: Listener, R: Clock + Files> Listener for SeasonKeeper<'_, W, R> {
     fn tell_season(&self, league: &League, games: &[Game], objective: u128, tried: u64) {
         self.watch.tell_season(league, games, objective, tried);
         if self.file.is_some()
-            && self.is_better(objective)
+            && is_better(self.best.get(), objective)
             && let Ok(season) = Season::new(self.alloc, league, games, objective)
         {
             self.best.set(Some(objective));

@@ -472,9 +472,9 @@ resumed-ends Ends file fault ends_yes refuted spent store instance solution k li
     given
 
 nearing-ends : (Ends : Status → Type 0) → Ends Yes → Ends Refuted → Ends Spent → (league : Instance)
-    (played : List Game) (k : ℕ) (conflicts : Option ℕ) (answer : Answer)
-    → nearing.IsNear league played k conflicts answer → Ends answer.status
-nearing-ends Ends ends_yes refuted spent league played k conflicts answer found =
+    (played : List Game) (k : ℕ) (conflicts : Option ℕ) (may_stop : Type 0) (answer : Answer)
+    → nearing.IsNear league played k conflicts may_stop answer → Ends answer.status
+nearing-ends Ends ends_yes refuted spent league played k conflicts may_stop answer found =
     elim found.found [
       | inl planned ↦ ends-with Ends answer Yes planned.status ends_yes
       | inr (inl log) ↦ ends-with Ends answer Refuted log.status refuted
@@ -483,13 +483,13 @@ nearing-ends Ends ends_yes refuted spent league played k conflicts answer found 
 
 neared-ends : (Ends : Status → Type 0) → Ends File → Ends ReadFault → Ends Yes → Ends Refuted → Ends Spent
     → (store : Store)
-    (instance solution : List ℕ) (k : ℕ) (limits : Option ℕ → Type 0) (answer : Answer)
-    → neared store instance solution k limits answer → Ends answer.status
-neared-ends Ends file fault ends_yes refuted spent store instance solution k limits answer
+    (instance solution : List ℕ) (k : ℕ) (limits : Option ℕ → Type 0) (may_stop : Type 0) (answer : Answer)
+    → neared store instance solution k limits may_stop answer → Ends answer.status
+neared-ends Ends file fault ends_yes refuted spent store instance solution k limits may_stop answer
     given =
     plays-ends Ends file fault store instance solution k
-    (λ league played bytes. nearing.IsNearBy league played k limits) answer
-    (λ league played bytes found. nearing-ends Ends ends_yes refuted spent league played k found.0 answer found.2)
+    (λ league played bytes. nearing.IsNearBy league played k limits may_stop) answer
+    (λ league played bytes found. nearing-ends Ends ends_yes refuted spent league played k found.0 may_stop answer found.2)
     given
 
 audited-ends : (Ends : Status → Type 0) → Ends File → Ends ReadFault → Ends Yes → Ends No
@@ -615,7 +615,7 @@ answer-ends may_stop (Some (Resume instance solution k conflicts)) store answer 
     k (IsKeptTo conflicts may_stop) answer given
 answer-ends may_stop (Some (ResumeNear instance solution k budgets)) store answer given =
     neared-ends (EndsBy (Some (ResumeNear instance solution k budgets))) refl refl refl refl refl store instance solution
-    k (IsKeptTo budgets.conflicts may_stop) answer given
+    k (IsKeptTo budgets.conflicts may_stop) may_stop answer given
 answer-ends may_stop (Some (Audit instance solution k log)) store answer given =
     audited-ends (EndsBy (Some (Audit instance solution k log))) refl refl refl refl store instance
     solution k log answer given

@@ -52,13 +52,15 @@ resumes run answered instance solution k conflicts is = record {
       whole.status_is whole.given;
 }
 
-near_whole : (league : Instance) (played : List Game) (k : ℕ) (answer : Answer) (output : Output)
-    → IsNearSeason league played k answer → Appends output.before output.after answer.text → IsKeptNear league played k output
-near_whole league played k answer output near written = record {
+near_whole : (league : Instance) (played : List Game) (k : ℕ) (may_stop : Type 0) (answer : Answer) (output : Output)
+    → IsNearSeason league played k may_stop answer → Appends output.before output.after answer.text
+    → IsKeptNear league played k may_stop output
+near_whole league played k may_stop answer output near written = record {
   games = near.games;
   settled = near.settled;
   season = near.season;
   nearest = near.nearest;
+  open_yet = near.open_yet;
   written = subst (λ (text : List ℕ). Appends output.before output.after text) near.text written;
   reads_back = subst (λ (text : List ℕ). solution_of league.n (pieces text) ≡ Ok near.games) near.text near.reads_back;
 }
@@ -67,20 +69,20 @@ pub resumes-near : (run : Run) → Answered run → ResumesNear run
 resumes-near run answered instance solution k budgets is = record {
   neared = λ league played good works.
       writes run (instance ∷ solution ∷ []) (ResumeNear instance solution k budgets)
-      (IsNearBy league played k (IsKeptTo budgets.conflicts run.may_stop)) answered is works
-      (λ answer given. neared-well_formed run.store instance solution k (IsKeptTo budgets.conflicts run.may_stop) league
-      played answer good works.store given);
+      (IsNearBy league played k (IsKeptTo budgets.conflicts run.may_stop) run.may_stop) answered is works
+      (λ answer given. neared-well_formed run.store instance solution k (IsKeptTo budgets.conflicts run.may_stop)
+      run.may_stop league played answer good works.store given);
   changed = λ league played say ended.
       let whole = writes-as run (ResumeNear instance solution k budgets) Yes answered is ended (λ same. cc) (λ same. cc) in
-      near_whole league played k whole.answer run.output
-      (neared-season run.store instance solution k (IsKeptTo budgets.conflicts run.may_stop) league played whole.answer say
-      whole.status_is whole.given)
+      near_whole league played k run.may_stop whole.answer run.output
+      (neared-season run.store instance solution k (IsKeptTo budgets.conflicts run.may_stop) run.may_stop league played
+      whole.answer say whole.status_is whole.given)
       whole.written;
   unresumable = λ league played say ended.
       let whole = writes-as run (ResumeNear instance solution k budgets) Refuted answered is ended (λ same. cc)
       (λ same. cc) in
-      neared-excluded run.store instance solution k (IsKeptTo budgets.conflicts run.may_stop) league played whole.answer say
-      whole.status_is whole.given;
+      neared-excluded run.store instance solution k (IsKeptTo budgets.conflicts run.may_stop) run.may_stop league played
+      whole.answer say whole.status_is whole.given;
 }
 
 pub audits : (run : Run) → Answered run → Audits run

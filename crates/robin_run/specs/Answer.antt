@@ -50,7 +50,7 @@ IsAnswer may_stop (Some (Bound instance log)) store answer = bounded store insta
 IsAnswer may_stop (Some (Resume instance solution k conflicts)) store answer =
     resumed store instance solution k (IsKeptTo conflicts may_stop) answer
 IsAnswer may_stop (Some (ResumeNear instance solution k budgets)) store answer =
-    neared store instance solution k (IsKeptTo budgets.conflicts may_stop) answer
+    neared store instance solution k (IsKeptTo budgets.conflicts may_stop) may_stop answer
 IsAnswer may_stop (Some (Audit instance solution k log)) store answer =
     audited store instance solution k log answer
 IsAnswer may_stop (Some (Rows instance goal)) store answer = rowed store instance goal answer

@@ -19,13 +19,14 @@ pub record Promise (run : Run) (instance solution : List ℕ) (k : ℕ) (budgets
   pub neared : (league : Instance) (played : List Game)
       → IsWellFormedSeason run.store instance solution k league played
       → NothingFails run (instance ∷ solution ∷ [])
-      → Writes run (IsNearBy league played k (IsKeptTo budgets.conflicts run.may_stop))
+      → Writes run (IsNearBy league played k (IsKeptTo budgets.conflicts run.may_stop) run.may_stop)
   -- Where a season is written, it is accepted and keeps the played games, and the number behind it is that of the games
-  -- to come that it changes. Where it is said to be settled, no single move that leaves the played slots alone betters it.
+  -- to come that it changes. Where it is said to be settled, no single move that leaves the played slots alone betters it;
+  -- else one does, unless the run may be stopped.
   pub changed : (league : Instance) (played : List Game)
       → SaySeason run.store instance solution league played
       → run.ended ≡ Yes
-      → IsKeptNear league played k run.output
+      → IsKeptNear league played k run.may_stop run.output
   -- Where the run ends with a refutation, no accepted season keeps the played games.
   pub unresumable : (league : Instance) (played : List Game)
       → SaySeason run.store instance solution league played

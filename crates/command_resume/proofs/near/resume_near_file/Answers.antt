@@ -18,10 +18,12 @@ returns-clause-answer g c =
     plays-season (store_between g.S.Shelf c.args.shelf.now c.season_in.new.shelf)
     c.args.instance.now c.args.solution.now c.args.resumption.k
     (λ season. IsNearBy season.league season.played c.args.resumption.k
-    (IsKeptTo c.args.resumption.budgets.conflicts (g.W.Watch.may_stop c.args.watch.now))) season c.in_ok-season.ensures.season
+    (IsKeptTo c.args.resumption.budgets.conflicts (g.W.Watch.may_stop c.args.watch.now))
+    (g.W.Watch.may_stop c.args.watch.now)) season c.in_ok-season.ensures.season
     answer
     (subst (λ (j : ℕ). IsNearBy season.league season.played j
-    (IsKeptTo c.args.resumption.budgets.conflicts (g.W.Watch.may_stop c.args.watch.now)) answer)
+    (IsKeptTo c.args.resumption.budgets.conflicts (g.W.Watch.may_stop c.args.watch.now))
+    (g.W.Watch.may_stop c.args.watch.now) answer)
     c.in_ok-season.ensures.season.slots_are c.in_ok-reply.ensures)
 
 -- the files are refused
@@ -32,5 +34,6 @@ returns-in_err-season-clause-answer g c =
     Answers-wider (plays store c.args.instance.now c.args.solution.now c.args.resumption.k never) _
     (λ answer. plays-wider store c.args.instance.now c.args.solution.now c.args.resumption.k never
     (λ season. IsNearBy season.league season.played c.args.resumption.k
-    (IsKeptTo c.args.resumption.budgets.conflicts (g.W.Watch.may_stop c.args.watch.now))) answer (λ season none. absurd none))
+    (IsKeptTo c.args.resumption.budgets.conflicts (g.W.Watch.may_stop c.args.watch.now))
+    (g.W.Watch.may_stop c.args.watch.now)) answer (λ season none. absurd none))
     _ (search rules)

@@ -3,7 +3,7 @@ use Rattle.league.specs.Counts.{counts_of}
 use Rattle.pattern_search.proofs.LogLemmas.{refuted-clauses}
 use Rattle.resume_rows.specs.Kept.{resume_rows}
 use Rattle.command_resume.proofs.FoundLemmas.{all_tidy, spent-clauses}
-use Rattle.command_resume.proofs.NearLemmas.{near-excluded, near-season, near-spent}
+use Rattle.command_resume.proofs.NearLemmas.{replied-refuted, replied-season, replied-spent}
 use Rattle.command_resume.proofs.near_replies.near_reply.Goals as goal
 
 pub log_reply-requires-clause-tidy : goal.log_reply-requires-clause-tidy
@@ -27,23 +27,18 @@ log_reply-requires-in-Spent-clause-clauses c =
     c.requires.resumed.0 c.in-Spent.log (rw c.in-Spent.is at c.requires.resumed.1)
 
 pub returns-in-Schedule : goal.returns-in-Schedule
-returns-in-Schedule c = λ conflicts is.
-    near-season c.args.league.now c.args.played.now c.args.k conflicts c.in-Schedule.schedule
-    c.in-Schedule.objective c.args.neared.now.settled c.schedule_reply.result c.n-n.ensures.instance.teams
-    (rw c.in-Schedule.is at is) (λ said. rw c.in-Schedule.is at c.requires.settled said)
-    (λ accepted. rw c.in-Schedule.is at c.requires.plan accepted) c.schedule_reply.ensures.status
+returns-in-Schedule c =
+    replied-season c.args.played.now c.args.k c.args.neared.now.settled c.args.neared.now.answer c.in-Schedule.schedule
+    c.in-Schedule.objective c.schedule_reply.result c.in-Schedule.is c.schedule_reply.ensures.status
     c.schedule_reply.ensures.text
 
 pub returns-in-Refuted : goal.returns-in-Refuted
-returns-in-Refuted c = λ conflicts is.
-    near-excluded c.args.league.now c.args.played.now c.args.k conflicts c.in-Refuted.log
-    c.log_reply.result (rw c.in-Refuted.is at is)
-    (λ accepted. rw c.in-Refuted.is at c.requires.plan accepted) c.log_reply.ensures.status c.log_reply.ensures.text
-    c.log_reply.ensures.reads_back
+returns-in-Refuted c =
+    replied-refuted c.args.played.now c.args.k c.args.neared.now.settled c.args.neared.now.answer c.in-Refuted.log
+    c.log_reply.result c.in-Refuted.is c.log_reply.ensures.status c.log_reply.ensures.text c.log_reply.ensures.reads_back
 
 pub returns-in-Spent : goal.returns-in-Spent
-returns-in-Spent c = λ conflicts is.
-    near-spent c.args.league.now c.args.played.now c.args.k conflicts c.in-Spent.log
-    c.log_reply-in-Spent.result (rw c.in-Spent.is at is)
-    (λ accepted. rw c.in-Spent.is at c.requires.plan accepted) c.log_reply-in-Spent.ensures.status
-    c.log_reply-in-Spent.ensures.text c.log_reply-in-Spent.ensures.reads_back
+returns-in-Spent c =
+    replied-spent c.args.played.now c.args.k c.args.neared.now.settled c.args.neared.now.answer c.in-Spent.log
+    c.log_reply-in-Spent.result c.in-Spent.is c.log_reply-in-Spent.ensures.status c.log_reply-in-Spent.ensures.text
+    c.log_reply-in-Spent.ensures.reads_back

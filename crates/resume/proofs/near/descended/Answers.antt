@@ -2,11 +2,24 @@ use Rattle.std.proofs.Common.{ℕ, subst, sym, ◌∙◌}
 use Rattle.league.specs.Counts.{counts_of}
 use Rattle.kept_descent.specs.Nearing.{IsEnd}
 use Rattle.resume.specs.Answers.{IsResumed, IsResumedSeason}
-use Rattle.resume.specs.Near.{IsAtMost, IsNoFarther, changed}
+use Rattle.resume.specs.Near.{IsAtMost, IsNoFarther, IsOpenNear, changed}
 use Rattle.resume.specs.declared.near.Neared.{Neared}
 use Rattle.resume.specs.declared.resumed.Resumed.{Resumed}
-use Rattle.resume.specs.declared.resumed.Resumed.TheVariants.{Schedule}
+use Rattle.resume.specs.declared.resumed.Resumed.TheVariants.{Schedule, Refuted, Spent}
+use Rattle.solve.proofs.FewLemmas.{round_robin-few}
+use Rattle.resume.proofs.NearLemmas.{unsettled-open}
 use Rattle.resume.proofs.near.descended.Goals as goal
+
+pub descend_near-requires-clause-few : goal.descend_near-requires-clause-few
+descend_near-requires-clause-few g c =
+    let season : IsResumedSeason c.args.season.league.now c.args.season.played.now c.args.season.k c.in-Schedule.schedule
+    c.in-Schedule.objective =
+    subst
+    (λ (answer : Resumed). IsResumed c.args.season.league.now c.args.season.played.now c.args.season.k
+    c.requires.answer.0 answer)
+    c.in-Schedule.is c.requires.answer.1 in
+    round_robin-few c.args.season.league.now.n c.args.season.league.now.phased c.in-Schedule.schedule
+    c.n-n.ensures.instance.teams season.fit season.resumes.accepted.round_robin
 
 pub descend_near-requires-clause-accepted : goal.descend_near-requires-clause-accepted
 descend_near-requires-clause-accepted g c =
@@ -59,3 +72,24 @@ returns-in_ok-end-in-Schedule-clause-no_farther g c =
     (subst
     (λ (near : Neared). IsNoFarther k played (Schedule c.in-Schedule.schedule c.in-Schedule.objective) near.answer)
     (sym c.end_reached.ensures) most)
+
+pub returns-in_ok-end-in-Schedule-clause-open_yet : goal.returns-in_ok-end-in-Schedule-clause-open_yet
+returns-in_ok-end-in-Schedule-clause-open_yet g c =
+    let league = c.args.season.league.now in
+    let played = c.args.season.played.now in
+    let k = c.args.season.k in
+    let end = c.in_ok-end-in-Schedule.end in
+    let ends : IsEnd league k played (g.W.Watch.may_stop c.args.watch.now) (counts_of c.in-Schedule.schedule) end =
+    rw c.plan.ensures.league at (rw c.plan.ensures.k at (rw c.plan.ensures.games at c.in_ok-end-in-Schedule.ensures)) in
+    subst (λ (near : Neared). IsOpenNear league k played (g.W.Watch.may_stop c.args.watch.now) near)
+    (sym c.end_reached.ensures) ends.open_yet
+
+pub returns-in-Refuted-clause-open_yet : goal.returns-in-Refuted-clause-open_yet
+returns-in-Refuted-clause-open_yet g c =
+    unsettled-open c.args.season.league.now c.args.season.k c.args.season.played.now (Refuted c.in-Refuted.log)
+    c.unsettled.result c.unsettled.ensures (λ no. no)
+
+pub returns-in-Spent-clause-open_yet : goal.returns-in-Spent-clause-open_yet
+returns-in-Spent-clause-open_yet g c =
+    unsettled-open c.args.season.league.now c.args.season.k c.args.season.played.now (Spent c.in-Spent.log)
+    c.unsettled-in-Spent.result c.unsettled-in-Spent.ensures (λ no. no)

@@ -123,7 +123,7 @@ returns-in-ResumeNear-clause-answer g c =
     rw c.in-ResumeNear.is
     (given-gives
     (neared (store_between g.S.Shelf c.args.shelf.now c.resume_near_file.new.shelf) c.in-ResumeNear.instance.now c.in-ResumeNear.solution.now c.in-ResumeNear.k
-    (IsKeptTo c.in-ResumeNear.budgets.conflicts (g.W.Watch.may_stop c.args.watch.now)))
+    (IsKeptTo c.in-ResumeNear.budgets.conflicts (g.W.Watch.may_stop c.args.watch.now)) (g.W.Watch.may_stop c.args.watch.now))
     _ _ c.give-in-ResumeNear.ensures c.resume_near_file.ensures.answer)
 
 pub returns-in-Audit-clause-answer : goal.returns-in-Audit-clause-answer
