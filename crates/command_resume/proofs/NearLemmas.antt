@@ -79,7 +79,7 @@ near-season : (league : Instance) (played : List Game) (k : ℕ) (conflicts : Op
     → (IsAccepted league (counts_of played) → counts_of games ≡ counts_of played) → answer.status ≡ Yes
     → answer.text ≡ solution_text games (Some (0, cost)) ++ near_line (changed k played games) (open_games k played) settled
     → IsNear league played k conflicts may_stop answer
-near-season league played k conflicts may_stop games cost settled answer teams season nearest open plan status text =
+near-season league played k conflicts may_stop games cost settled answer teams season nearest unsettled plan status text =
     let line : List ℕ = near_line (changed k played games) (open_games k played) settled in
     let told : answer.text ≡ solution_text games (Some (0, costs.objective league (counts_of games))) ++ line =
     text ∙ ap (λ (c : ℕ). solution_text games (Some (0, c)) ++ line) season.cost in
@@ -94,7 +94,7 @@ near-season league played k conflicts may_stop games cost settled answer teams s
           cost = refl;
         };
         nearest = nearest;
-        open_yet = open;
+        open_yet = unsettled;
         status = status;
         text = told;
         reads_back = ap (λ (written : List ℕ). solution_of league.n (pieces written)) text
@@ -121,9 +121,9 @@ near-is : (league : Instance) (played : List Game) (k : ℕ) (conflicts : Option
     → (settled ≡ false → may_stop ⊎ (IsNearestAnswer league k played resumed → ⊥))
     → (IsAccepted league (counts_of played) → IsPlan played resumed) → IsWritten played k settled resumed answer
     → IsNear league played k conflicts may_stop answer
-near-is league played k conflicts may_stop (variants.Schedule games cost) settled answer teams is nearest open plan written =
-    near-season league played k conflicts may_stop games cost settled answer teams is nearest open plan written.0 written.1
-near-is league played k conflicts may_stop (variants.Refuted log) settled answer teams is nearest open plan written = record {
+near-is league played k conflicts may_stop (variants.Schedule games cost) settled answer teams is nearest unsettled plan written =
+    near-season league played k conflicts may_stop games cost settled answer teams is nearest unsettled plan written.0 written.1
+near-is league played k conflicts may_stop (variants.Refuted log) settled answer teams is nearest unsettled plan written = record {
   found = inr (inl (record {
     steps = log;
     refutes = is;
@@ -133,7 +133,7 @@ near-is league played k conflicts may_stop (variants.Refuted log) settled answer
   }));
   plan = λ accepted. absurd (plan accepted);
 }
-near-is league played k conflicts may_stop (variants.Spent log) settled answer teams is nearest open plan written = record {
+near-is league played k conflicts may_stop (variants.Spent log) settled answer teams is nearest unsettled plan written = record {
   found = inr (inr (record {
     steps = log;
     spent = is;
@@ -183,9 +183,9 @@ pub near-by : {E : Type 0} (league : Instance) (played : List Game) (k : ℕ) (l
     → IsOpenNear league k played may_stop near → (IsAccepted league (counts_of played) → IsPlan played near.answer)
     → IfOk result (λ reply. IsWritten played k near.settled near.answer (answer_of reply))
     → IfOk result (λ reply. IsNearBy league played k limits may_stop (answer_of reply))
-near-by {E} league played k limits may_stop near (Ok reply) conflicts teams kept is settled open plan written = (
+near-by {E} league played k limits may_stop near (Ok reply) conflicts teams kept is settled unsettled plan written = (
   conflicts,
   kept,
-  near-is league played k conflicts may_stop near.answer near.settled (answer_of reply) teams is settled open plan written,
+  near-is league played k conflicts may_stop near.answer near.settled (answer_of reply) teams is settled unsettled plan written,
 )
-near-by {E} league played k limits may_stop near (Err error) conflicts teams kept is settled open plan written = tt
+near-by {E} league played k limits may_stop near (Err error) conflicts teams kept is settled unsettled plan written = tt

@@ -87,7 +87,7 @@ returns-in_ok-end-in-Schedule-clause-open_yet g c =
 pub returns-in-Refuted-clause-open_yet : goal.returns-in-Refuted-clause-open_yet
 returns-in-Refuted-clause-open_yet g c =
     unsettled-open c.args.season.league.now c.args.season.k c.args.season.played.now (Refuted c.in-Refuted.log)
-    c.unsettled.result c.unsettled.ensures (λ no. no)
+    c.unsettled-in-Refuted.result c.unsettled-in-Refuted.ensures (λ no. no)
 
 pub returns-in-Spent-clause-open_yet : goal.returns-in-Spent-clause-open_yet
 returns-in-Spent-clause-open_yet g c =
