@@ -127,6 +127,7 @@ not-nearer after before cost first none = by (nat_lt after before) refl none whe
         at-least cost first
             (not-less (after == before) (nat_lt cost first) (same-true after before (omega (arith, same))) none),
       )
+
   by : (fewer : Bool) → nat_lt after before ≡ fewer → (fewer || ((after == before) && nat_lt cost first)) ≡ false
       → IsAtMost before first after cost
   by true is none = absurd (cc)
