@@ -161,15 +161,18 @@ def left_open(status, text):
 
 
 def searched(command, words, checks, seconds):
-    """One run with a time limit, and no other."""
-    began = time.monotonic()
-    done = subprocess.run(command + words + ["--conflicts", "all", "--seconds", str(seconds)], capture_output=True, cwd=TOP, timeout=seconds + 60)
-    passed = time.monotonic() - began
-    fault = answer_fault(command, checks, done.returncode, done.stdout)
+    """One run with a time limit, and no other, whose text goes into a file: a log of five seconds has some 40 MB."""
+    with tempfile.TemporaryFile() as file:
+        began = time.monotonic()
+        done = subprocess.run(command + words + ["--conflicts", "all", "--seconds", str(seconds)], stdout=file, stderr=subprocess.DEVNULL, cwd=TOP, timeout=seconds + 60)
+        passed = time.monotonic() - began
+        file.seek(0)
+        text = file.read()
+    fault = answer_fault(command, checks, done.returncode, text)
     if passed > seconds + SLACK:
         fault = fault or "late"
     names = " ".join(os.path.basename(word) for word in words)
-    detail = "status %d after %.2f s%s" % (done.returncode, passed, left_open(done.returncode, done.stdout))
+    detail = "status %d after %.2f s%s" % (done.returncode, passed, left_open(done.returncode, text))
     say("%s --seconds %d" % (names, seconds), fault, detail)
 
 
