@@ -11,7 +11,7 @@ use Rattle.rule_core.specs.declared.rule.Entries.{Ghosts}
 use Rattle.deviation.proofs.EntryLemmas.{sum-le}
 use Rattle.tally.specs.KeySet.{is_in}
 use Rattle.tally.specs.Ready.{HasWatched, IsReady}
-use Rattle.tally.specs.Weighing.{IsWeighed, renewed}
+use Rattle.tally.specs.Weighing.{IsWeighed, if_written, renewed}
 use Rattle.tally.specs.declared.kept.Kept.{Kept}
 use Rattle.tally.specs.declared.weighted.Weighted.{Weighted}
 use Rattle.tally.proofs.SetLemmas.{is_in-append, one_has, one_lacks, or_false}
@@ -64,6 +64,37 @@ renewed-one f key keys entries within =
           ∙ sym (renewed-at f keys entries i below)
           ∙ sym (get_or-set_other before key i (f key) 0 other)
     ])
+
+-- ---- entries as they lie, renewed or as before
+
+pub written-none : (writes : Bool) (f : ℕ → ℕ) (entries : List ℕ) → if_written writes f [] entries ≡ entries
+written-none true f entries = renewed-none f entries
+written-none false f entries = refl
+
+pub written-long : (writes : Bool) (f : ℕ → ℕ) (keys entries lie : List ℕ) → lie ≡ if_written writes f keys entries
+    → length lie ≡ length entries
+written-long true f keys entries lie is = ap (λ (l : List ℕ). length l) is ∙ renewed-long f keys entries
+written-long false f keys entries lie is = ap (λ (l : List ℕ). length l) is
+
+-- an entry that isn't evaluated afresh lies there as before
+pub written-lies : (writes : Bool) (f : ℕ → ℕ) (key : ℕ) (keys entries lie : List ℕ)
+    → lie ≡ if_written writes f keys entries → key < length entries → is_in keys key ≡ false
+    → get_or lie key 0 ≡ get_or entries key 0
+written-lies true f key keys entries lie is within new =
+    ap (λ (l : List ℕ). get_or l key 0) is
+    ∙ renewed-at f keys entries key within
+    ∙ left_out (is_in keys key) (f key) (get_or entries key 0) new
+written-lies false f key keys entries lie is within new = ap (λ (l : List ℕ). get_or l key 0) is
+
+-- with one key more, one more entry is f's where it is written
+pub written-one : (writes : Bool) (f : ℕ → ℕ) (key entry : ℕ) (keys entries lie : List ℕ)
+    → lie ≡ if_written writes f keys entries → entry ≡ f key → key < length entries
+    → (if writes then set lie key entry else lie) ≡ if_written writes f (keys ++ key ∷ []) entries
+written-one true f key entry keys entries lie is value within =
+    ap (λ (l : List ℕ). set l key entry) is
+    ∙ ap (λ (x : ℕ). set (renewed f keys entries) key x) value
+    ∙ sym (renewed-one f key keys entries within)
+written-one false f key entry keys entries lie is value within = is
 
 -- a deviation as it is kept
 pub weighed-none : (f : ℕ → ℕ) (keys entries : List ℕ) (deviation : ℕ) → keys ≡ [] → deviation ≡ sum entries

@@ -14,6 +14,11 @@ abbrev pub renewed : (ℕ → ℕ) → List ℕ → List ℕ → List ℕ
 renewed f keys entries =
     map (λ k. if is_in keys k then f k else slice_index entries k) (range_with_len 0 (length entries))
 
+-- the entries so renewed where what is evaluated is written, and else as they are
+abbrev pub if_written : Bool → (ℕ → ℕ) → List ℕ → List ℕ → List ℕ
+if_written true f keys entries = renewed f keys entries
+if_written false f keys entries = entries
+
 -- a deviation is the sum of the entries so renewed, each of which is a word
 pub record IsWeighed (f : ℕ → ℕ) (keys entries : List ℕ) (deviation : ℕ) : Type 0 where
   pub sum_is : deviation ≡ sum (renewed f keys entries)

@@ -16,6 +16,7 @@ mod kept;
 mod key_set;
 pub mod laws;
 mod league_rules;
+mod taker;
 mod tally;
 mod weigh;
 mod weighted;

@@ -1,5 +1,4 @@
-use Rattle.std.proofs.Common.{◌+◌, ◌∷◌, [], ◌<◌, ◌≤◌, length, take, subst, arith}
-use Rattle.tally.specs.KeySet.{AreAdded}
+use Rattle.std.proofs.Common.{◌+◌, ◌∷◌, [], take, arith}
 use Rattle.tally.proofs.TouchedLemmas.{added-more, added-none, key_below, keys_more}
 use Rattle.tally.proofs.bench.add_keys.Goals as goal
 

@@ -1,4 +1,4 @@
-use Rattle.std.proofs.Common.{◌+◌, length, ap, refl, subst, sym, ◌∙◌, ℕ, take, arith}
+use Rattle.std.proofs.Common.{◌+◌, length, ap, refl, subst, sym, ℕ, take, arith}
 use Rattle.std.proofs.lemmas.List.Sums.{sum_by-take-le}
 use Rattle.std.specs.List.{sum_by}
 use Rattle.rule_core.specs.Table.{table_counts}

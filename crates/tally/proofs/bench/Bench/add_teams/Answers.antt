@@ -1,4 +1,4 @@
-use Rattle.std.proofs.Common.{◌+◌, ◌≡◌, ◌<◌, List, get_or, length, take, ap, subst, sym, ◌∙◌, ℕ, arith}
+use Rattle.std.proofs.Common.{◌+◌, ◌≡◌, ◌<◌, List, get_or, length, take, ap, subst, ◌∙◌, ℕ, arith}
 use Rattle.std.proofs.lemmas.List.{get_or_read}
 use Rattle.std.specs.List.{flat_map}
 use Rattle.league.specs.declared.game.Game.{Game}

@@ -1,5 +1,3 @@
-use Rattle.std.proofs.Common.{◌++◌, ap, subst, sym}
-use Rattle.std.specs.List.{flat_map}
 use Rattle.tally.proofs.TouchedLemmas.{touched-found}
 use Rattle.tally.proofs.change.Change.find_keys.Goals as goal
 
