@@ -49,8 +49,26 @@ fn lead(first: u32, second: u32, intp: u32) -> u32
     first.abs_diff(second).saturating_sub(intp)
 }
 
-/// The home games of a team from a slot on, up to another, which isn't counted.
+/// The home games of a team from a slot on, up to another, which isn't counted. They are mostly those of one slot.
 pub(crate) fn homes_in(cells: &Cells, team: TeamId, from: u16, end: u16) -> u32
+    requires team { team.0 < cells.now.n }
+    requires few { cells.now.n ≤ 40 }
+    requires ordered { from ≤ end }
+    requires end { end ≤ slot_count cells.now.n }
+    ensures games { result
+        ≡ sum_by (λ s. home_games cells.now.n (table_counts cells.now) team.0 s) (range_with_len from (end - from)) }
+    ensures at_most { result ≤ 400000 * (end - from) }
+{
+    if from + 1 == end {
+        return cells.home(team, SlotId(from));
+    }
+    homes_in_each(cells, team, from, end)
+}
+
+/// The home games of a team from a slot on, up to another, which isn't counted, slot by slot.
+#[cold]
+#[inline(never)]
+fn homes_in_each(cells: &Cells, team: TeamId, from: u16, end: u16) -> u32
     requires team { team.0 < cells.now.n }
     requires few { cells.now.n ≤ 40 }
     requires ordered { from ≤ end }

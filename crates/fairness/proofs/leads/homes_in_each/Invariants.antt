@@ -2,7 +2,7 @@ use Rattle.std.proofs.Common.{◌≡◌, ◌-◌, ◌*◌, ◌≤◌}
 use Rattle.std.specs.List.{range_with_len, sum_by}
 use Rattle.league.specs.Venues.{home_games}
 use Rattle.rule_core.specs.Table.{table_counts}
-use Rattle.fairness.proofs.leads.homes_in.Given as goal
+use Rattle.fairness.proofs.leads.homes_in_each.Given as goal
 
 abbrev pub invariant-loop-slot : goal.invariant-loop-slot
 invariant-loop-slot l = record {
