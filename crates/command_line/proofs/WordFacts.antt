@@ -61,7 +61,7 @@ budget_in-none = (refl, refl, refl, refl, refl)
 -- ---- `solve`
 
 abbrev usual : Budgets
-usual = record { conflicts = Some 2000; moves = 10000; tries = 1; patterns = 500; seed = 0 }
+usual = record { conflicts = Some 2000; moves = 40000; tries = 1; patterns = 500; seed = 0 }
 
 -- with the usual budgets, and with options before the file, between and behind it, in any order
 pub solve-usual : reading (codes "solve" ∷ codes "a" ∷ []) ≡ Some (Solve (codes "a") usual)

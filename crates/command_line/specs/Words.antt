@@ -178,7 +178,7 @@ o >>= f = option_and_then f o
 abbrev pub budgets_in : List (List ℕ) → Option Budgets
 budgets_in words = do
   conflicts ← conflicts_in words
-  moves ← said 10000 number_in (values_of (codes "--moves") words)
+  moves ← said 40000 number_in (values_of (codes "--moves") words)
   seconds ← seconds_in words
   tries ← said (usual_tries seconds) tries_in (values_of (codes "--tries") words)
   patterns ← said 500 number_in (values_of (codes "--patterns") words)

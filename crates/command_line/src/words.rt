@@ -166,7 +166,7 @@ pub enum Words<'a> {
 const USUAL_CONFLICTS: u64 = 2000;
 
 /// How many moves a descent may make where the words don't say it.
-const USUAL_MOVES: u64 = 10_000;
+const USUAL_MOVES: u64 = 40_000;
 
 /// How many clauses the search for patterns may learn where the words don't say it.
 const USUAL_PATTERNS: u64 = 500;

@@ -1,7 +1,7 @@
 //! The text of help, a page for each command, and the version: the one table of them.
 
 /// What `--version` prints.
-pub const VERSION: &str = "robin 2.0.2\n";
+pub const VERSION: &str = "robin 2.1.0\n";
 
 /// What `--help` prints: all commands with their words, the options and the statuses.
 pub const ALL: &str = "\
@@ -37,7 +37,7 @@ are even in number, 2 to 40.
 Options stand before, between or behind the words, each once at most:
   --conflicts N|all  clauses that a search may learn, or any number (2000);
                      of solve, patterns, explain, prove, resume and trial
-  --moves N          moves to better seasons (10000); of solve and trial
+  --moves N          moves to better seasons (40000); of solve and trial
   --tries N          tries, from 1 to 100 (1); of solve and trial
   --patterns N       clauses of a search for patterns (500); of solve and trial
   --seed N           what random moves are drawn by (0); of solve and trial
@@ -138,7 +138,7 @@ Options stand before or behind the file, each once at most:
                  N: any number
   --moves N      at most N moves lead to better seasons, and a walk tries at
                  most 100 for each of them, or later more where --seconds
-                 stands without --tries; 0: no walk, no moves (10000)
+                 stands without --tries; 0: no walk, no moves (40000)
   --tries N      makes N tries and keeps the best season, 1 to 100 (1)
   --patterns N   where the league doesn't accept the season of circle, a search
                  for patterns comes first, which learns at most N clauses (500)
