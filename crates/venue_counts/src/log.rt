@@ -70,7 +70,7 @@ fn slot_parts(
 {
     let mut parts = Vec::new(alloc);
     for slot in slots {
-        let row = slot_number(alloc, encoding, *slot, home)?;
+        let row = slot_number(encoding, *slot, home);
         parts.push(Part { factor: 1, row })?;
     }
     Ok(parts)
@@ -91,11 +91,10 @@ fn add_teams(
         (counted_rows encoding.now.n (counts_home limit group.now.side) group.now.slots.now
         (need_of limit encoding.now.constraints group.now.side group.now.slots.now))) }
 {
-    let home = limit.counts_home(group.side);
     for team in 0..encoding.n() {
         let need = group.needs[usize::from(team)];
         if need > 0 {
-            let row = team_number(alloc, encoding, team, group.slots, !home, need)?;
+            let row = team_number(alloc, encoding, group, limit, team)?;
             parts.push(Part { factor: 1, row })?;
         }
     }
