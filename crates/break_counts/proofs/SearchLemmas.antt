@@ -1,5 +1,5 @@
 -- What a search without a limit answers of a league that allows its teams too few breaks: a log.
-use Rattle.std.proofs.Common.{◌≡◌, ℕ, ◌<◌, ◌≤◌, ◌^◌, Bool, true, false, List, [], ◌∷◌, get_or, Option}
+use Rattle.std.proofs.Common.{◌≡◌, ℕ, ◌≤◌, Bool, true, false, List, [], ◌∷◌, get_or, Option}
 use Rattle.std.proofs.Common.{refl, sym, subst}
 use Rattle.std.specs.List.{All}
 use Rattle.std.proofs.lemmas.List.Elements.{All-push}
@@ -10,7 +10,7 @@ use Rattle.encoding_base.specs.Encoding.{rows_of}
 use Rattle.encoding_base.specs.Shadow.{decoded}
 use Rattle.encoding_base.specs.Variables.{var_count}
 use Rattle.decoding.proofs.Faithful.{accepted-from_rows}
-use Rattle.refutation.specs.Steps.{Step, hints_of, is_linear}
+use Rattle.refutation.specs.Steps.{Step, is_linear}
 use Rattle.refutation.specs.Steps.Step.{Clause}
 use Rattle.refutation.specs.Texts.{version_of}
 use Rattle.clause_search.specs.Answers.{Refutes}
@@ -22,9 +22,8 @@ use Rattle.break_counts.proofs.FewLaws.{few-none}
 
 -- a log by which a search refutes a league's rows
 pub refuting : (league : Instance) (limit : Option ℕ) (steps : List Step) → var_count league ≤ 130960
-    → Refutes (rows_of league) (var_count league) limit steps
-    → All (λ step. All (λ hint. hint < 2 ^ 64) (hints_of step)) steps → IsRefuting league steps
-refuting league limit steps most is small =
+    → Refutes (rows_of league) (var_count league) limit steps → IsRefuting league steps
+refuting league limit steps most is =
     let clauses : All (λ step. is_linear step ≡ false) steps =
     subst (λ (ss : List Step). All (λ step. is_linear step ≡ false) ss) (sym is.last)
     (All-push (λ step. is_linear step ≡ false) is.before (Clause [] is.hints)
@@ -35,7 +34,7 @@ refuting league limit steps most is small =
           step_named (var_count league) (get_or steps k d) (is.tidy k d within) (clauses k d within);
       short_lines = λ k d within.
           step_short (version_of steps) (var_count league) (get_or steps k d) most (is.tidy k d within)
-          (clauses k d within) (small k d within);
+          (clauses k d within);
     }
 
 -- no values satisfy the rows

@@ -57,9 +57,9 @@ fn allowed_on(
     ensures { IfOk result (λ table.
         IsTableOn league.now.n league.now.constraints stretches.now side table.items) }
 {
-    let _n = league.n();
+    let teams = usize::from(league.n());
     let most = stretches.len() as u32;
-    let mut table = vec![in alloc; most; usize::from(league.n())]?;
+    let mut table = vec![in alloc; most; teams]?;
     lower_by_all(&mut table, stretches, side, league.constraints());
     Ok(table)
 }

@@ -1,5 +1,6 @@
 //! Whether a league's break counts refute it.
 ghost use Rattle.std.specs.Prelude.{◌≡◌, ◌≤◌, ◌↔◌, true, IfOk, IfSome, IsSome};
+ghost use Rattle.league.specs.Instance.{IsInstance};
 ghost use Rattle.encoding.specs.Limit.{most_terms};
 ghost use Rattle.encoding_base.specs.Encoding.{encoding_size};
 ghost use Rattle.venue_counts.specs.CountLogs.{IsRefuting};
@@ -25,6 +26,9 @@ pub fn break_count(alloc: Global, league: &League) -> Result<Option<Log>, AllocE
     requires small { encoding_size league.now ≤ most_terms }
     ensures few { IfOk result (λ found. IsSome found ↔ (are_few league.now ≡ true)) }
     ensures refuting { IfOk result (λ found. IfSome found (IsRefuting league.now)) }
+
+    // What holds of every league.
+    ensures instance { IsInstance league.now }
 {
     let Some(shortage) = find_shortage(alloc, league)? else {
         return Ok(None);

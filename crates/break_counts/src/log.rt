@@ -1,5 +1,5 @@
 //! The log of a shortage.
-ghost use Rattle.std.specs.Prelude.{◌<◌, IfOk};
+ghost use Rattle.std.specs.Prelude.{◌+◌, ◌<◌, ◌≤◌, IfOk};
 ghost use Rattle.std.specs.List.{All};
 ghost use Rattle.break_counts.specs.Tables.{AreInSeason};
 
@@ -89,7 +89,8 @@ fn counted_teams(
     requires season { AreInSeason league.now.n stretches.now }
     ensures { IfOk result (λ counted. All (λ i. i < league.now.n) counted.teams.items) }
 {
-    let together = teams_together(league, stretches, class);
+    let n = league.n();
+    let together = teams_together(stretches, class);
     let mut counted = Counted {
         teams: Vec::new(alloc),
         rows: Vec::new(alloc),
@@ -97,7 +98,7 @@ fn counted_teams(
     if !together.is_empty() {
         add_row(alloc, encoding, class, 0, &mut counted.rows)?;
     }
-    for team in 0..league.n() {
+    for team in 0..n {
         if has(together, team)
             || add_single(alloc, league, encoding, stretches, team, &mut counted.rows)?
         {
@@ -108,10 +109,9 @@ fn counted_teams(
 }
 
 /// The teams of a BR2 that counts each break of the stretches, and else none.
-fn teams_together<'a>(league: &League, stretches: &[Stretch], class: &'a Class) -> &'a [u16]
-    requires season { AreInSeason league.now.n stretches.now }
+fn teams_together<'a>(stretches: &[Stretch], class: &'a Class) -> &'a [u16]
+    requires { All (λ t. t.first + t.count ≤ 78) stretches.now }
 {
-    let _n = league.n();
     match class {
         Class::Br2 {
             teams,
@@ -137,9 +137,8 @@ fn add_single(
     team: u16,
     rows: &mut Vec<u64>,
 ) -> Result<bool, AllocError>
-    requires season { AreInSeason league.now.n stretches.now }
+    requires { All (λ t. t.first + t.count ≤ 78) stretches.now }
 {
-    let _n = league.n();
     let most = u32::try_from(stretches.len()).unwrap_or(u32::MAX);
     let both = least_bound(league, stretches, Side::Both, team, most);
     let limit = both.map_or(most, |bound| bound.intp);

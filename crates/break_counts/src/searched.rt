@@ -3,7 +3,7 @@ ghost use Rattle.std.specs.Prelude.{◌≡◌, true, IfOk};
 ghost use Rattle.venue_counts.specs.CountLogs.{IsRefuting};
 ghost use Rattle.break_counts.specs.BreakCounts.{are_few};
 
-use clause_search::{Found, note_numbers, search};
+use clause_search::{Found, search};
 use encoding::Encoding;
 use refutation::Log;
 use std::alloc::{AllocError, Global};
@@ -20,10 +20,7 @@ pub(crate) fn searched(alloc: Global, encoding: &Encoding) -> Result<Log, AllocE
     let vars = encoding.vars();
     let found = search(alloc, encoding.rows(), vars, &[], None)?;
     match found {
-        Found::Refuted(log) => {
-            note_numbers(&log);
-            Ok(log)
-        }
+        Found::Refuted(log) => Ok(log),
         Found::Sat(_values) => unreachable!(),
         Found::Spent(_log) => unreachable!(),
     }

@@ -1,6 +1,7 @@
 //! Where a league allows its teams too few breaks.
 ghost use Rattle.std.specs.Prelude.{◌≡◌, ◌+◌, ◌*◌, ◌-◌, ◌^◌, ◌<◌, ◌≤◌, not, length, is_some, sum, IfOk, IfSome, slice_index};
 ghost use Rattle.std.specs.List.{All, filter, range_with_len, sum_by};
+ghost use Rattle.league.specs.Instance.{IsInstance};
 ghost use Rattle.league.specs.Sets.{is_in};
 ghost use Rattle.break_counts.specs.BreakCounts as counts;
 ghost use Rattle.break_counts.specs.BreakCounts.{are_few, is_few_in};
@@ -30,6 +31,7 @@ pub(crate) fn find_shortage<'a>(
 ) -> Result<Option<Shortage<'a>>, AllocError>
     ensures few { IfOk result (λ found. is_some found ≡ are_few league.now) }
     ensures stretches { IfOk result (λ found. IfSome found (λ s. AreInSeason league.now.n s.stretches.items)) }
+    ensures instance { IsInstance league.now }
 {
     let n = league.n();
     if !league.phased() {

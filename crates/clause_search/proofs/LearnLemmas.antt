@@ -1,7 +1,8 @@
 -- What is learnt where a walk ends: a clause that follows, and is empowering.
-use Rattle.std.proofs.Common.{◌≡◌, ◌≢◌, ℕ, zero, suc, ◌+◌, ◌<◌, ◌≤◌, List, [], ◌∷◌, ◌++◌, length}
+use Rattle.std.proofs.Common.{◌≡◌, ◌≢◌, ℕ, zero, suc, ◌+◌, ◌^◌, ◌<◌, ◌≤◌, List, [], ◌∷◌, ◌++◌, length}
 use Rattle.std.proofs.Common.{Ok}
 use Rattle.std.proofs.Common.{refl, inl, inr, arith, ap, sym, subst, ◌∙◌}
+use Rattle.std.specs.List.{All}
 use Rattle.std.proofs.lemmas.List.{append-nil}
 use Rattle.std.proofs.lemmas.Bool.{cases_eq, cases_lt}
 use Rattle.rows.specs.Cardinality.{at_least}
@@ -54,13 +55,15 @@ resolved_follows t conflict roles lawful is =
 -- what is kept, and what was resolved with the row in conflict, is a tidy step
 resolved_tidy : (t : SeenTrail) (conflict : ℕ) (roles : List Role) → AreLawful t.rows t.vars t.entries
     → length t.entries ≤ t.vars → AreResolved t conflict roles 0
+    → All (λ hint. hint < 2 ^ 64)
+    (hints_below (reason_at t.entries) (role_at roles) (length t.entries) ++ conflict ∷ [])
     → IsTidy t.vars (Clause (clause_below (lit_at t.entries) (role_at roles) (length t.entries))
     (hints_below (reason_at t.entries) (role_at roles) (length t.entries) ++ conflict ∷ []))
-resolved_tidy t conflict roles lawful few is =
+resolved_tidy t conflict roles lawful few is small =
     tidy_of t.rows t.vars (length t.entries) (lit_at t.entries) (reason_at t.entries) (role_at roles)
     (before t.entries) conflict
     (resolved_analysis t conflict roles is) (trail_fresh t.vars t.entries (news t.rows t.vars t.entries lawful))
-    (λ j inside. (lawful j no_entry inside).new.from_one) (λ j inside. (lawful j no_entry inside).new.known) few
+    (λ j inside. (lawful j no_entry inside).new.from_one) (λ j inside. (lawful j no_entry inside).new.known) few small
 
 -- the lowest place is the only one that is kept from the last decision on
 alone_from : (t : SeenTrail) (conflict start : ℕ) (roles : List Role) (lowest : ℕ)
@@ -108,8 +111,8 @@ pub closes : (t : SeenTrail) (conflict : ℕ) (roles : List Role) (hints : List 
     → AreLawful t.rows t.vars t.entries
     → length t.entries ≤ t.vars → IsTraced t conflict roles 0
     → hints ≡ hints_below (reason_at t.entries) (role_at roles) (length t.entries) ++ conflict ∷ []
-    → more ≡ steps ++ Clause [] hints ∷ [] → Closes t steps more
-closes t conflict roles hints steps more lawful few traced hints_are more_is = record {
+    → All (λ hint. hint < 2 ^ 64) hints → more ≡ steps ++ Clause [] hints ∷ [] → Closes t steps more
+closes t conflict roles hints steps more lawful few traced hints_are small more_is = record {
   hints = hints;
   log = more_is;
   follows =
@@ -123,7 +126,8 @@ closes t conflict roles hints steps more lawful few traced hints_are more_is = r
       (subst (λ (hs : List ℕ).
       IsTidy t.vars (Clause (clause_below (lit_at t.entries) (role_at roles) (length t.entries)) hs))
       (sym hints_are)
-      (resolved_tidy t conflict roles lawful few traced.resolved));
+      (resolved_tidy t conflict roles lawful few traced.resolved
+      (subst (λ (hs : List ℕ). All (λ hint. hint < 2 ^ 64) hs) hints_are small)));
 } where
   none : clause_below (lit_at t.entries) (role_at roles) (length t.entries) ≡ []
   none =
@@ -152,12 +156,13 @@ pub walked_tidy : (t : SeenTrail) (conflict start : ℕ) (roles : List Role) (cl
     → AreLawful t.rows t.vars t.entries → length t.entries ≤ t.vars → IsAnalyzed t conflict start roles
     → clause ≡ clause_below (lit_at t.entries) (role_at roles) (length t.entries)
     → hints ≡ hints_below (reason_at t.entries) (role_at roles) (length t.entries) ++ conflict ∷ []
-    → IsTidy t.vars (Clause clause hints)
-walked_tidy t conflict start roles clause hints lawful few analyzed clause_is hints_are =
+    → All (λ hint. hint < 2 ^ 64) hints → IsTidy t.vars (Clause clause hints)
+walked_tidy t conflict start roles clause hints lawful few analyzed clause_is hints_are small =
     subst (λ (c : List Literal). IsTidy t.vars (Clause c hints)) (sym clause_is)
     (subst (λ (hs : List ℕ).
     IsTidy t.vars (Clause (clause_below (lit_at t.entries) (role_at roles) (length t.entries)) hs)) (sym hints_are)
-    (resolved_tidy t conflict roles lawful few analyzed.walked.resolved))
+    (resolved_tidy t conflict roles lawful few analyzed.walked.resolved
+    (subst (λ (hs : List ℕ). All (λ hint. hint < 2 ^ 64) hs) hints_are small)))
 
 -- the clause of a walk leaves the levels quiet to which the search goes back
 pub walked_learnable : (t : SeenTrail) (conflict start level : ℕ) (roles : List Role) (clause : List Literal)
@@ -165,12 +170,12 @@ pub walked_learnable : (t : SeenTrail) (conflict start level : ℕ) (roles : Lis
     → IsLastDecision t start → IsAnalyzed t conflict start roles → IsBackLevel t.entries roles start level
     → clause ≡ clause_below (lit_at t.entries) (role_at roles) (length t.entries)
     → hints ≡ hints_below (reason_at t.entries) (role_at roles) (length t.entries) ++ conflict ∷ []
-    → IsLearnable t clause hints level
-walked_learnable t conflict start level roles clause hints lawful few is analyzed back clause_is hints_are =
+    → All (λ hint. hint < 2 ^ 64) hints → IsLearnable t clause hints level
+walked_learnable t conflict start level roles clause hints lawful few is analyzed back clause_is hints_are small =
     let each : EachEntry (IsNew t.vars) t.entries = news t.rows t.vars t.entries lawful in
     record {
       is_news = walked_news t conflict start roles clause hints lawful is analyzed clause_is hints_are;
-      tidy = walked_tidy t conflict start roles clause hints lawful few analyzed clause_is hints_are;
+      tidy = walked_tidy t conflict start roles clause hints lawful few analyzed clause_is hints_are small;
       within = back_within t.vars t.entries roles start level each (omega (arith, is.inside)) back;
       calm =
           subst (λ (c : List Literal). IsQuietRowUpTo level (at_least 1 c) t.entries) (sym clause_is)

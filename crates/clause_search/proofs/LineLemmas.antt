@@ -14,7 +14,7 @@ use Rattle.std.proofs.lemmas.Map.Steps.{length-le_from_distinct_below}
 use Rattle.rows.specs.Literals.{Literal}
 use Rattle.rows.proofs.UnitLemmas.{AllPairs-map}
 use Rattle.refutation.specs.Logs.{most_bytes}
-use Rattle.refutation.specs.Steps.{NamesRows, Step, hints_of, is_linear}
+use Rattle.refutation.specs.Steps.{NamesRows, Step, is_linear}
 use Rattle.refutation.specs.Steps.Step.{Clause, Linear}
 use Rattle.refutation.specs.Texts.{clause_mark, clause_text, literal_text, literal_token, number_text, sign_text}
 use Rattle.refutation.specs.Texts.{step_text, version_of}
@@ -101,12 +101,11 @@ text_short version clause hints known small few_lits few_hints =
     )
 
 pub step_short : (version : Version) (vars : ℕ) (step : Step) → vars ≤ 130960 → IsTidy vars step
-    → is_linear step ≡ false → All (λ hint. hint < 2 ^ 64) (hints_of step)
-    → length (step_text version step) ≤ most_bytes
-step_short version vars (Clause clause hints) most tidy kind small =
-    text_short version clause hints (λ k d within. omega (arith, tidy.known k d within, most)) small
+    → is_linear step ≡ false → length (step_text version step) ≤ most_bytes
+step_short version vars (Clause clause hints) most tidy kind =
+    text_short version clause hints (λ k d within. omega (arith, tidy.known k d within, most)) tidy.small
     (omega (arith, clause_short vars clause tidy.variables tidy.known, most)) (omega (arith, tidy.few, most))
-step_short version vars (Linear parts divisor) most tidy kind small = cc
+step_short version vars (Linear parts divisor) most tidy kind = cc
 
 pub step_named : (vars : ℕ) (step : Step) → IsTidy vars step → is_linear step ≡ false → NamesRows step
 step_named vars (Clause clause hints) tidy kind = tidy.named
@@ -120,7 +119,6 @@ all_named steps tidy clauses = λ k d within.
     step_named 130960 (get_or steps k d) (tidy k d within) (clauses k d within)
 
 pub all_short : (steps : List Step) → All (IsTidy 130960) steps → All (λ step. is_linear step ≡ false) steps
-    → All (λ step. All (λ hint. hint < 2 ^ 64) (hints_of step)) steps → HasShortLines steps
-all_short steps tidy clauses small = λ k d within.
+    → HasShortLines steps
+all_short steps tidy clauses = λ k d within.
     step_short (version_of steps) 130960 (get_or steps k d) (omega arith) (tidy k d within) (clauses k d within)
-    (small k d within)

@@ -1,6 +1,6 @@
 -- The step of an analysis is tidy.
-use Rattle.std.proofs.Common.{◌≡◌, ◌≢◌, ℕ, zero, suc, ◌<◌, ◌≤◌, List, [], ◌∷◌, ◌++◌, length, get_or, Option, Some, None}
-use Rattle.std.proofs.Common.{refl, arith, ap, sym, subst, ◌∙◌}
+use Rattle.std.proofs.Common.{◌≡◌, ◌≢◌, ℕ, zero, suc, ◌^◌, ◌<◌, ◌≤◌, List, [], ◌∷◌, ◌++◌, length, get_or, Option}
+use Rattle.std.proofs.Common.{Some, None, refl, arith, ap, sym, subst, ◌∙◌}
 use Rattle.std.specs.Prelude.{Contains}
 use Rattle.std.specs.List.{All}
 use Rattle.std.proofs.lemmas.List.{append-nil, get_or_default, length-append, length_push}
@@ -95,8 +95,9 @@ pub tidy_of : (rows : List Row) (vars n : ℕ) (lit : ℕ → Literal) (reason :
     (before : ℕ → ℕ → Value) (number : ℕ)
     → IsAnalysis rows n lit reason role before number → AreFresh n lit → ((j : ℕ) → j < n → 1 ≤ (lit j).var)
     → ((j : ℕ) → j < n → (lit j).var ≤ vars) → n ≤ vars
+    → All (λ hint. hint < 2 ^ 64) (hints_below reason role n ++ number ∷ [])
     → IsTidy vars (Clause (clause_below lit role n) (hints_below reason role n ++ number ∷ []))
-tidy_of rows vars n lit reason role before number is fresh from_ones known few = record {
+tidy_of rows vars n lit reason role before number is fresh from_ones known few small = record {
   variables = differ_below lit role n fresh n (omega arith);
   from_one = each_below (λ v. 1 ≤ v) lit role n from_ones;
   known = each_below (λ v. v ≤ vars) lit role n known;
@@ -106,6 +107,7 @@ tidy_of rows vars n lit reason role before number is fresh from_ones known few =
       let resolved : IsResolved rows lit reason role j (before j) = is.used j below used in
       from_one rows (reason j) resolved.row resolved.resolves.named))
       (from_one rows number is.row is.resolves.named);
+  small = small;
 }
 
 -- what is tidy among some variables is so among more
@@ -116,4 +118,5 @@ IsTidy-wider vars more step most tidy = record {
   known = λ k d within. omega (arith, tidy.known k d within, most);
   few = omega (arith, tidy.few, most);
   named = tidy.named;
+  small = tidy.small;
 }

@@ -1,5 +1,5 @@
 -- When a log says more, step by step, than propagation finds.
-use Rattle.std.specs.Prelude.{◌≡◌, ◌≢◌, ℕ, ◌+◌, ◌≤◌, List, [], ◌∷◌, ◌++◌, length, map, ⊤, Ok}
+use Rattle.std.specs.Prelude.{◌≡◌, ◌≢◌, ℕ, ◌+◌, ◌^◌, ◌<◌, ◌≤◌, List, [], ◌∷◌, ◌++◌, length, map, ⊤, Ok}
 use Rattle.std.specs.List.{All, AllPairs}
 use Rattle.rows.specs.Rows.{Row}
 use Rattle.rows.specs.Partials.{IsEmpowering, IsQuiet}
@@ -13,13 +13,14 @@ pub record IsNews (rows : List Row) (vars : ℕ) (step : Step) : Type 0 where
   pub empowering : IsEmpowering rows (clause_of step)
 
 -- a step whose clause has each of these variables once at most, with at most one more hint than there are variables,
--- each from 1 on, as rows are numbered
+-- each from 1 on, as rows are numbered, and of 64 bits
 pub record IsTidy (vars : ℕ) (step : Step) : Type 0 where
   pub variables : AllPairs (λ l m. l.var ≢ m.var) (clause_of step)
   pub from_one : All (λ l. 1 ≤ l.var) (clause_of step)
   pub known : All (λ l. l.var ≤ vars) (clause_of step)
   pub few : length (hints_of step) ≤ vars + 1
   pub named : All (λ hint. 1 ≤ hint) (hints_of step)
+  pub small : All (λ hint. hint < 2 ^ 64) (hints_of step)
 
 -- the row as which a clause step stands
 abbrev pub row_of : Step → Row

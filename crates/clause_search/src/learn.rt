@@ -1,5 +1,6 @@
 //! What is learnt from a conflict.
-ghost use Rattle.std.specs.Prelude.{◌≡◌, ◌++◌, ℕ, ◌<◌, [], ◌∷◌, length, false, replicate, IfOk, OnOk};
+ghost use Rattle.std.specs.Prelude.{◌≡◌, ◌++◌, ℕ, ◌^◌, ◌<◌, [], ◌∷◌, length, false, replicate, IfOk, OnOk};
+ghost use Rattle.std.specs.List.{All};
 ghost use Rattle.propagate.specs.Trails.{IsQuietBelow, NamesConflict, is_decision, values_of};
 ghost use Rattle.clause_search.specs.Analysis.{clause_below, hint_of, hints_below, literal_of};
 ghost use Rattle.clause_search.specs.Marks.{IsAnalyzed, IsLastDecision, IsTraced, role_at};
@@ -191,6 +192,7 @@ fn collect(
     ensures hints { OnOk result (hints.new.items
         ≡ hints_below (reason_at trail.now.entries) (role_at roles.now) (length trail.now.entries)
         ++ conflict.row ∷ []) }
+    ensures small { OnOk result (All (λ hint. hint < 2 ^ 64) hints.new.items) }
 {
     clause.clear();
     hints.clear();

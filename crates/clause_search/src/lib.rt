@@ -8,7 +8,6 @@ mod found;
 mod learn;
 mod levels;
 mod mark;
-mod numbers;
 mod order;
 mod pick;
 mod restarts;
@@ -18,6 +17,5 @@ mod turn;
 mod walk;
 
 pub use found::Found;
-pub use numbers::note_numbers;
 pub use text::tidy_text;
 pub use walk::{search, search_watched};

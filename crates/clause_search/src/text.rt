@@ -6,7 +6,6 @@ ghost use Rattle.refutation.specs.Logs.{log_of};
 ghost use Rattle.refutation.specs.Steps.{is_linear};
 ghost use Rattle.refutation.specs.Texts as texts;
 
-use crate::numbers::note_numbers;
 use refutation::{Log, log_text};
 use std::alloc::{AllocError, Global};
 
@@ -21,6 +20,5 @@ pub fn tidy_text(alloc: Global, log: &Log) -> Result<Vec<u8>, AllocError>
     ensures text { IfOk result (λ text. text.items ≡ texts.log_text log.now) }
     ensures reads_back { IfOk result (λ text. log_of text.items ≡ Ok log.now) }
 {
-    note_numbers(log);
     log_text(alloc, log)
 }

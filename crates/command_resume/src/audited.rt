@@ -56,8 +56,6 @@ fn audit_log<S: Shelf>(
     ensures taken { S.taken shelf.new ≤ S.taken shelf.old + (most_log_bytes + 1) }
     ensures contents { (n : List ℕ) → S.contents shelf.new n ≡ S.contents shelf.old n }
 {
-    // For its contract: accepted logs over the rows of a league exclude every schedule that keeps the played games.
-    let _vars = system.vars();
     let mut checker = checker_of(alloc, system)?;
     judge_log(alloc, shelf, name, &mut checker)
 }

@@ -3,7 +3,7 @@ ghost use Rattle.std.specs.Prelude.{◌≡◌, ◌+◌, ◌≤◌, ◌++◌, ℕ
 ghost use Rattle.std.specs.List.{flat_map, range_with_len};
 ghost use Rattle.std.specs.Option.{option_copied};
 ghost use Rattle.robin_io.specs.Outside.{store_between};
-ghost use Rattle.league.specs.Instance.{class_fits};
+ghost use Rattle.league.specs.Instance.{IsInstance, class_fits};
 ghost use Rattle.robinx_names.specs.Names.{IsNames};
 ghost use Rattle.answers.specs.SeenRefusal.{refused_with};
 ghost use Rattle.answers.specs.SeenReply.{Answers};
@@ -45,6 +45,7 @@ fn push_line(
 fn constraint_numbered(league: &League, number: u32) -> Option<&Constraint>
     ensures constraint { option_copied result ≡ specs.constraint_numbered league.now.constraints number }
     ensures fits { IfSome result (λ constraint. IsTrue (class_fits league.now.n constraint.now.class)) }
+    ensures instance { IsInstance league.now }
 {
     let _teams = league.n();
     if number == 0 {
@@ -65,7 +66,6 @@ fn push_demand(
     ensures { OnOk result (string_bytes text.new
         ≡ string_bytes text.old ++ specs.demand_at league.now labels.now hard number) }
 {
-    let _teams = league.n();
     match constraint_numbered(league, number) {
         Some(constraint) => push_line(text, labels, hard, number, constraint),
         None => Ok(()),

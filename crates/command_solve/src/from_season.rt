@@ -35,7 +35,6 @@ fn found_from<W: Listener>(
     requires round_robin { IsRoundRobin league.now.n league.now.phased (counts_of start.now) }
     ensures { Answers (encodes league.now (IsFoundFrom league.now start.now budgets (W.may_stop watch.now))) result }
 {
-    let _n = league.n();
     match solve_from(alloc, league, start, budgets, watch) {
         Ok(solved) => Ok(found_reply(alloc, league, &solved)?),
         Err(EncodeFault::TooLarge { terms }) => Err(NoValue::Refused(rows_refused(alloc, terms)?)),

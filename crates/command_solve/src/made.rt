@@ -4,7 +4,7 @@ ghost use Rattle.std.specs.List.{All};
 ghost use Rattle.league.specs.Accepted as costs;
 ghost use Rattle.league.specs.Accepted.{IsAccepted};
 ghost use Rattle.league.specs.Counts.{counts_of};
-ghost use Rattle.league.specs.Instance.{IsGame, IsTeamCount};
+ghost use Rattle.league.specs.Instance.{IsGame, IsInstance, IsTeamCount};
 ghost use Rattle.circle_method.specs.Circle.{double_games};
 ghost use Rattle.robinx_form.specs.Texts as solutions;
 ghost use Rattle.answers.specs.SeenReply.{answer_of, Answers};
@@ -57,7 +57,6 @@ fn solve_made<W: Listener>(
     ensures { Answers (encodes league.now (λ rows. IsTrialBy league.now.n seed league.now budgets.moves
         (W.may_stop watch.now))) result }
 {
-    let _n = league.n();
     match solve(alloc, league, budgets, watch) {
         Ok(solved) => Ok(found_reply(alloc, league, seed, &solved)?),
         Err(EncodeFault::TooLarge { terms }) => Err(NoValue::Refused(rows_refused(alloc, terms)?)),
@@ -74,7 +73,8 @@ fn found_reply(
 ) -> Result<Reply, AllocError>
     requires solution { IsSomeSolution league.now solved.now }
     requires schedule { HasSchedule solved.now }
-    ensures { IfOk result (λ reply. IsTrialWritten seed league.now solved.now (answer_of reply)) }
+    ensures written { IfOk result (λ reply. IsTrialWritten seed league.now solved.now (answer_of reply)) }
+    ensures instance { IsInstance league.now }
 {
     let _n = league.n();
     match solved {

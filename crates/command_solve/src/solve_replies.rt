@@ -3,7 +3,7 @@ ghost use Rattle.std.specs.Prelude.{◌≡◌, ◌≤◌, ◌++◌, length, IfOk
 ghost use Rattle.std.specs.List.{All};
 ghost use Rattle.league.specs.Accepted as costs;
 ghost use Rattle.league.specs.Counts.{counts_of};
-ghost use Rattle.league.specs.Instance.{IsGame};
+ghost use Rattle.league.specs.Instance.{IsGame, IsInstance};
 ghost use Rattle.robinx_form.specs.Texts as solutions;
 ghost use Rattle.answers.specs.SeenReply.{answer_of};
 ghost use Rattle.answers.specs.declared.status.Status.TheVariants.{Yes};
@@ -65,7 +65,8 @@ pub(crate) fn found_reply(
     solved: &Solved,
 ) -> Result<Reply, AllocError>
     requires solution { IsSomeSolution league.now solved.now }
-    ensures { IfOk result (λ reply. IsWritten league.now solved.now (answer_of reply)) }
+    ensures written { IfOk result (λ reply. IsWritten league.now solved.now (answer_of reply)) }
+    ensures instance { IsInstance league.now }
 {
     let _n = league.n();
     match solved {

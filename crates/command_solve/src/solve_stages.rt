@@ -24,7 +24,6 @@ fn found_of<W: Listener>(
 ) -> Result<Reply, NoValue>
     ensures { Answers (encodes league.now (IsFoundBy league.now budgets (W.may_stop watch.now))) result }
 {
-    let _n = league.n();
     match solve(alloc, league, budgets, watch) {
         Ok(solved) => Ok(found_reply(alloc, league, &solved)?),
         Err(EncodeFault::TooLarge { terms }) => Err(NoValue::Refused(rows_refused(alloc, terms)?)),

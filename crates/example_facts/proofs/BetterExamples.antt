@@ -2,7 +2,7 @@
 use Rattle.std.proofs.Common.{lit<, ◌≡◌, ◌⊎◌, inl, inr, ℕ, zero, suc, ◌<◌, ◌≤◌, true, false}
 use Rattle.std.proofs.Common.{nat_lt, List, [], ◌∷◌, drop, length, All, Option, Some}
 use Rattle.std.proofs.Common.{None, IsTrue, ◌-◌, ◌++◌, if◌then◌else◌, map, ap, arith, refl}
-use Rattle.std.proofs.Common.{subst}
+use Rattle.std.proofs.Common.{subst, ◌^◌}
 use Rattle.std.specs.Ordering.{is_le}
 use Rattle.std.proofs.lemmas.Bool.{ltb-true}
 use Rattle.std.proofs.lemmas.List.Elements.{All-nil, All-from_recursion}
@@ -223,6 +223,8 @@ at_once-tidy = record {
   few = omega arith;
   named = All-from_recursion (λ (hint : ℕ). 1 ≤ hint) (30 ∷ 29 ∷ 28 ∷ [])
       (omega arith, (omega arith, (omega arith, tt)));
+  small = All-from_recursion (λ (hint : ℕ). hint < 2 ^ 64) (30 ∷ 29 ∷ 28 ∷ [])
+      (lit< tt, (lit< tt, (lit< tt, tt)));
 }
 
 pub least-at_once : IsLeast never_away (counts_of zero_first) (Some 0) 7 at_once

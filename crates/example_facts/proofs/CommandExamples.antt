@@ -3,7 +3,7 @@
 use Rattle.std.proofs.Common.{lit<, ◌≡◌, ◌⊎◌, ℕ, zero, suc, ◌<◌, ◌≤◌, Bool, true, false, if◌then◌else◌, List, []}
 use Rattle.std.proofs.Common.{◌∷◌, ◌++◌, ◌==◌, length, Option, Some, None, Ok, IsSomeAnd, IsTrue, codes}
 use Rattle.std.proofs.Common.{nat_lt, All, arith, inl, inr, refl}
-use Rattle.std.proofs.Common.{sym, ◌∙◌}
+use Rattle.std.proofs.Common.{sym, ◌∙◌, ◌^◌}
 use Rattle.std.specs.Fmt.{digits}
 use Rattle.std.proofs.Math.Path.{fun_ext}
 use Rattle.std.proofs.lemmas.Bool.{ltb-true, ne_eqb}
@@ -463,6 +463,8 @@ no_season-tidy = record {
   few = omega arith;
   named = All-from_recursion (λ (hint : ℕ). 1 ≤ hint) (29 ∷ 30 ∷ 24 ∷ [])
       (omega arith, (omega arith, (omega arith, tt)));
+  small = All-from_recursion (λ (hint : ℕ). hint < 2 ^ 64) (29 ∷ 30 ∷ 24 ∷ [])
+      (lit< tt, (lit< tt, (lit< tt, tt)));
 }
 
 pub refutes-patterns : RefutesPatterns home_last (Some 0) no_season

@@ -4,7 +4,7 @@
 use Rattle.std.proofs.Common.{lit<, ◌≡◌, ℕ, zero, suc, ◌+◌, ◌<◌, ◌≤◌, ◌&&◌, ◌⊎◌, inl, inr, Bool, true, false, not, nat_le}
 use Rattle.std.proofs.Common.{nat_lt, List, [], ◌∷◌, drop, get_or, length, length-append, All, Contains, Option, Some}
 use Rattle.std.proofs.Common.{None, IfSome, IsTrue, ◌==◌, cond, ap, arith, refl}
-use Rattle.std.proofs.Common.{subst, sym, ◌∙◌}
+use Rattle.std.proofs.Common.{subst, sym, ◌∙◌, ◌^◌}
 use Rattle.std.specs.List.{list_all}
 use Rattle.std.proofs.lemmas.Bool.{and_parts, eqb-true, leb-true, ltb-false, not-true}
 use Rattle.std.proofs.lemmas.List.Elements.{All-nil, All-from_recursion}
@@ -214,6 +214,8 @@ first-tidy = record {
   few = omega arith;
   named = All-from_recursion (λ (hint : ℕ). 1 ≤ hint) (31 ∷ 29 ∷ 22 ∷ [])
       (omega arith, (omega arith, (omega arith, tt)));
+  small = All-from_recursion (λ (hint : ℕ). hint < 2 ^ 64) (31 ∷ 29 ∷ 22 ∷ [])
+      (lit< tt, (lit< tt, (lit< tt, tt)));
 }
 
 last-tidy : IsTidy 9 last_step
@@ -224,6 +226,8 @@ last-tidy = record {
   few = omega arith;
   named = All-from_recursion (λ (hint : ℕ). 1 ≤ hint) (32 ∷ 31 ∷ 30 ∷ 21 ∷ [])
       (omega arith, (omega arith, (omega arith, (omega arith, tt))));
+  small = All-from_recursion (λ (hint : ℕ). hint < 2 ^ 64) (32 ∷ 31 ∷ 30 ∷ 21 ∷ [])
+      (lit< tt, (lit< tt, (lit< tt, (lit< tt, tt))));
 }
 
 pub log-named : All NamesRows log

@@ -2,7 +2,7 @@
 -- so that 5 and 7 would have to be equal, and one of them alone is true.
 use Rattle.std.proofs.Common.{◌≡◌, ◌≢◌, ℕ, zero, suc, ◌+◌, ◌<◌, ◌≤◌, Bool, true, false, List, [], ◌∷◌, get_or, length}
 use Rattle.std.proofs.Common.{◌-◌, ◌&&◌, ◌++◌, IsTrue, Some, drop, map, refl, ap, subst, arith, length-append, lit<}
-use Rattle.std.proofs.Common.{lit≤, sym}
+use Rattle.std.proofs.Common.{lit≤, sym, ◌^◌}
 use Rattle.std.specs.Prelude.{Contains, IsSomeAnd}
 use Rattle.std.specs.List.{All}
 use Rattle.std.proofs.lemmas.List.Elements.{All-from_recursion}
@@ -123,13 +123,14 @@ no_news news = false_true (news.named 2 0 (lit< tt))
 -- ---- the log refutes the patterns
 
 tidy_hints : (hints : List ℕ) → length hints ≤ 9 → ((k d : ℕ) → k < length hints → 1 ≤ get_or hints k d)
-    → IsTidy 8 (Clause [] hints)
-tidy_hints hints few named = record {
+    → ((k d : ℕ) → k < length hints → get_or hints k d < 2 ^ 64) → IsTidy 8 (Clause [] hints)
+tidy_hints hints few named small = record {
   variables = λ i j d before within. absurd (omega (arith, within));
   from_one = λ k d within. absurd (omega (arith, within));
   known = λ k d within. absurd (omega (arith, within));
   few = few;
   named = named;
+  small = small;
 }
 
 tidy-at_home : IsTidy 8 at_home
@@ -139,6 +140,7 @@ tidy-at_home = record {
   known = All-from_recursion (λ (l : Literal). l.var ≤ 8) (yes 5 ∷ []) (omega arith, tt);
   few = omega arith;
   named = All-from_recursion (λ (hint : ℕ). 1 ≤ hint) (21 ∷ 30 ∷ []) (omega arith, (omega arith, tt));
+  small = All-from_recursion (λ (hint : ℕ). hint < 2 ^ 64) (21 ∷ 30 ∷ []) (lit< tt, (lit< tt, tt));
 }
 
 even_fits : All (λ (c : Constraint). IsTrue (class_fits 2 c.class)) league.constraints
@@ -168,7 +170,9 @@ refutes-league = record {
     (
       tidy_hints (31 ∷ 22 ∷ 29 ∷ []) (lit≤ tt)
           (All-from_recursion (λ (hint : ℕ). 1 ≤ hint) (31 ∷ 22 ∷ 29 ∷ [])
-          (omega arith, (omega arith, (omega arith, tt)))),
+          (omega arith, (omega arith, (omega arith, tt))))
+          (All-from_recursion (λ (hint : ℕ). hint < 2 ^ 64) (31 ∷ 22 ∷ 29 ∷ [])
+          (lit< tt, (lit< tt, (lit< tt, tt)))),
       tt,
     ),
   );

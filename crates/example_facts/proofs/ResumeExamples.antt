@@ -2,7 +2,7 @@
 -- season of two slots. x(0,1,s) is 1 + s, and x(1,0,s) 3 + s. `home` begins with team 1 at home, and `out` with team 0.
 use Rattle.std.proofs.Common.{lit<, lit≤, ◌≡◌, ℕ, ◌+◌, ◌<◌, ◌≤◌, ◌==◌, ◌∙◌, Bool, true, false, ◌&&◌, nat_lt, cond, if◌then◌else◌}
 use Rattle.std.proofs.Common.{List, [], ◌∷◌, ◌++◌, length, drop, Option, Some, None, Result, Ok, codes, bytes_eq}
-use Rattle.std.proofs.Common.{length-append, ap, sym, refl, arith, IsTrue}
+use Rattle.std.proofs.Common.{length-append, ap, sym, refl, arith, IsTrue, ◌^◌}
 use Rattle.std.proofs.Math.Path.{fun_ext}
 use Rattle.std.proofs.lemmas.Bool.Decides.{nat_tests}
 use Rattle.std.proofs.lemmas.List.Elements.{All-from_recursion, All-nil}
@@ -139,6 +139,8 @@ tidy_step = record {
   few = lit≤ tt;
   named = All-from_recursion (λ (hint : ℕ). 1 ≤ hint) (29 ∷ 30 ∷ 6 ∷ [])
       (omega arith, (omega arith, (omega arith, tt)));
+  small = All-from_recursion (λ (hint : ℕ). hint < 2 ^ 64) (29 ∷ 30 ∷ 6 ∷ [])
+      (lit< tt, (lit< tt, (lit< tt, tt)));
 }
 
 -- the empty clause alone, before which no clause was learnt

@@ -2,7 +2,7 @@
 -- rows of which each forces something.
 use Rattle.std.proofs.Common.{◌≡◌, ◌≢◌, ℕ, zero, suc, ◌+◌, ◌<◌, ◌≤◌, List, [], ◌∷◌, get_or, map, Some}
 use Rattle.std.proofs.Common.{◌++◌, None, Ok, Err, true, false, length, length-append, refl, ap, arith, lit<, lit≤}
-use Rattle.std.proofs.Common.{subst, sym}
+use Rattle.std.proofs.Common.{subst, sym, ◌^◌}
 use Rattle.std.specs.Prelude.{Contains}
 use Rattle.std.proofs.lemmas.List.Elements.{All-from_recursion}
 use Rattle.rows.specs.Cardinality.{at_least}
@@ -171,13 +171,15 @@ news-none news = err_ok news.follows
 -- ---- tidy steps: each variable once, each a known one, and at most one more hint than there are variables
 
 no_variables : (vars : ℕ) (hints : List ℕ) → length hints ≤ vars + 1
-    → ((k d : ℕ) → k < length hints → 1 ≤ get_or hints k d) → IsTidy vars (Clause [] hints)
-no_variables vars hints few named = record {
+    → ((k d : ℕ) → k < length hints → 1 ≤ get_or hints k d)
+    → ((k d : ℕ) → k < length hints → get_or hints k d < 2 ^ 64) → IsTidy vars (Clause [] hints)
+no_variables vars hints few named small = record {
   variables = λ i j d before within. absurd (omega (arith, within));
   from_one = λ k d within. absurd (omega (arith, within));
   known = λ k d within. absurd (omega (arith, within));
   few = few;
   named = named;
+  small = small;
 }
 
 tidy_one : (vars : ℕ) → 1 ≤ vars → IsTidy vars one
@@ -187,6 +189,7 @@ tidy_one vars some = record {
   known = All-from_recursion (λ (l : Literal). l.var ≤ vars) (yes 1 ∷ []) (omega arith, tt);
   few = omega arith;
   named = All-from_recursion (λ (hint : ℕ). 1 ≤ hint) (1 ∷ 2 ∷ []) (omega arith, (omega arith, tt));
+  small = All-from_recursion (λ (hint : ℕ). hint < 2 ^ 64) (1 ∷ 2 ∷ []) (lit< tt, (lit< tt, tt));
 }
 
 -- one variable, and two hints, which are the most that one may have
@@ -210,18 +213,20 @@ tidy-both = record {
   known = All-from_recursion (λ (l : Literal). l.var ≤ 2) (no 2 ∷ yes 1 ∷ []) (omega arith, (omega arith, tt));
   few = omega arith;
   named = All-from_recursion (λ (hint : ℕ). 1 ≤ hint) (2 ∷ 1 ∷ 2 ∷ []) (omega arith, (omega arith, (omega arith, tt)));
+  small = All-from_recursion (λ (hint : ℕ). hint < 2 ^ 64) (2 ∷ 1 ∷ 2 ∷ []) (lit< tt, (lit< tt, (lit< tt, tt)));
 }
 
--- a variable that stands twice, though once negated; one above the last; one with the number 0; a hint of the number 0;
--- one hint too many
+-- a variable that stands twice, though once negated; one above the last; one with the number 0; a hint of the number 0,
+-- and one of 65 bits; one hint too many
 pub untidy : (IsTidy 2 (Clause (yes 1 ∷ no 1 ∷ []) []) → ⊥) × (IsTidy 2 (Clause (yes 3 ∷ []) []) → ⊥)
     × (IsTidy 2 (Clause (yes 0 ∷ []) []) → ⊥) × (IsTidy 2 (Clause [] (0 ∷ [])) → ⊥)
-    × (IsTidy 2 (Clause [] (1 ∷ 1 ∷ 1 ∷ 1 ∷ [])) → ⊥)
+    × (IsTidy 2 (Clause [] (18446744073709551616 ∷ [])) → ⊥) × (IsTidy 2 (Clause [] (1 ∷ 1 ∷ 1 ∷ 1 ∷ [])) → ⊥)
 untidy = (
   λ tidy. tidy.variables 0 1 (yes 1) (lit< tt) (lit< tt) refl,
   λ tidy. omega (arith, tidy.known 0 (yes 1) (lit< tt)),
   λ tidy. omega (arith, tidy.from_one 0 (yes 1) (lit< tt)),
   λ tidy. omega (arith, tidy.named 0 1 (lit< tt)),
+  λ tidy. omega (arith, tidy.small 0 1 (lit< tt)),
   λ tidy. omega (arith, tidy.few),
 )
 
@@ -290,7 +295,9 @@ refutes-closed = record {
     (
       no_variables 3 (5 ∷ 3 ∷ 4 ∷ []) (lit≤ tt)
           (All-from_recursion (λ (hint : ℕ). 1 ≤ hint) (5 ∷ 3 ∷ 4 ∷ [])
-          (omega arith, (omega arith, (omega arith, tt)))),
+          (omega arith, (omega arith, (omega arith, tt))))
+          (All-from_recursion (λ (hint : ℕ). hint < 2 ^ 64) (5 ∷ 3 ∷ 4 ∷ [])
+          (lit< tt, (lit< tt, (lit< tt, tt)))),
       tt,
     ),
   );

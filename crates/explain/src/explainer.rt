@@ -93,7 +93,6 @@ fn conflict<W: Listener>(
         → IfOk result IsDecided }
     ensures conflict { IfOk result HasConflict }
 {
-    let _n = league.n();
     let members = all_open(alloc, league)?;
     watch.tell(News::Members {
         left: members.len() as u64,

@@ -3,6 +3,7 @@ ghost use Rattle.std.specs.Prelude.{◌≡◌, ◌≤◌, true, length, IfOk};
 ghost use Rattle.std.specs.List.{All};
 ghost use Rattle.std.specs.Option.{option_copied};
 ghost use Rattle.std.specs.Ordering.{nat_cmp};
+ghost use Rattle.league.specs.Instance.{IsInstance};
 ghost use Rattle.league.specs.Sets.{IsAscending};
 ghost use Rattle.explain.specs.Parts as parts;
 
@@ -38,6 +39,9 @@ pub fn hard_numbers(alloc: Global, league: &League) -> Result<Vec<u32>, AllocErr
     ensures hard { IfOk result (λ numbers.
         All (λ k. parts.is_hard_number league.now.constraints k ≡ true) numbers.items) }
     ensures ascending { IfOk result (λ numbers. IsAscending nat_cmp numbers.items) }
+
+    // What holds of every league.
+    ensures instance { IsInstance league.now }
 {
     let _n = league.n();
     let constraints = league.constraints();

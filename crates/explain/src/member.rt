@@ -1,6 +1,7 @@
 //! The members of a contradiction while it is made smaller, and what is known of each.
 ghost use Rattle.std.specs.Prelude.{◌≡◌, ◌<◌, ◌==◌, not, true, None, Some, length, map, slice_set, IfOk, IfSome};
 ghost use Rattle.std.specs.List.{filter};
+ghost use Rattle.league.specs.Instance.{IsInstance};
 ghost use Rattle.league.specs.Sets.{is_in};
 ghost use Rattle.explain.specs.Parts as parts;
 ghost use Rattle.explain.specs.Standings as standings;
@@ -31,8 +32,9 @@ pub(crate) struct Contradiction {
 /// # Errors
 /// Only where memory runs out.
 pub(crate) fn all_open(alloc: Global, league: &League) -> Result<Vec<Member>, AllocError>
-    ensures { IfOk result (λ members.
+    ensures members { IfOk result (λ members.
         members.items ≡ map standings.open_member (parts.hard_numbers league.now.constraints)) }
+    ensures instance { IsInstance league.now }
 {
     let numbers = hard_numbers(alloc, league)?;
     numbers

@@ -30,8 +30,8 @@ use Rattle.pattern_search.specs.PatternLogs.{TellOfPatterns}
 use Rattle.pattern_search.specs.PatternRows.{pattern_rows, pattern_var_count}
 use Rattle.pattern_search.specs.Raised.{IsPicked, number_of, raised_row, raised_step, raised_steps}
 use Rattle.pattern_search.specs.Raised.{renumbered}
-use Rattle.pattern_search.proofs.NewsLemmas.{hints-named, length-raised, news-clauses, news-raised, numbering-steps}
-use Rattle.pattern_search.proofs.NewsLemmas.{raised_steps-push, rows-raised, step-follows, steps-tidy}
+use Rattle.pattern_search.proofs.NewsLemmas.{HasSmallHints, hints-named, length-raised, news-clauses, news-raised}
+use Rattle.pattern_search.proofs.NewsLemmas.{numbering-steps, raised_steps-push, rows-raised, step-follows, steps-tidy}
 use Rattle.pattern_search.proofs.NumberLemmas.{IsNumbering}
 use Rattle.pattern_search.proofs.PickLemmas.{picked_raised}
 use Rattle.pattern_search.proofs.RaiseLemmas.{quiet-raised, raised_values, raises_values}
@@ -167,15 +167,15 @@ module _ (league : Instance) (low : List Row) (numbers : List ℕ)
       low (rows_of league) numbered news tidy))
 
   lifted-tidy : (steps : List Step) → All (IsTidy (var_count league - x_count league.n)) steps
-      → All (IsTidy (var_count league)) (lifted steps)
-  lifted-tidy steps tidy =
+      → All HasSmallHints (lifted steps) → All (IsTidy (var_count league)) (lifted steps)
+  lifted-tidy steps tidy small =
       subst (λ (v : ℕ). All (IsTidy v) (lifted steps)) (vars-more league)
       (steps-tidy (x_count league.n) numbers (length (rows_of league)) (var_count league - x_count league.n) steps 0 low
-      (rows_of league) numbered tidy)
+      (rows_of league) numbered tidy small)
 
   pub spent : (limit : Option ℕ) (steps : List Step) → IsSpentAt low (var_count league - x_count league.n) limit steps
-      → IsPatternSpent league limit (lifted steps)
-  spent limit steps is = record {
+      → All HasSmallHints (lifted steps) → IsPatternSpent league limit (lifted steps)
+  spent limit steps is small = record {
     limited = is.limited
         ∙ ap (λ (n : ℕ). Some n)
         (sym (length-raised (x_count league.n) numbers (length (rows_of league)) steps 0));
@@ -189,7 +189,7 @@ module _ (league : Instance) (low : List Row) (numbers : List ℕ)
     few = subst (λ (v : ℕ). length (lifted steps) < 3 ^ v) (vars-are league)
         (subst (λ (n : ℕ). n < 3 ^ (var_count league - x_count league.n))
         (sym (length-raised (x_count league.n) numbers (length (rows_of league)) steps 0)) is.few);
-    tidy = lifted-tidy steps is.tidy;
+    tidy = lifted-tidy steps is.tidy small;
   } where
     rows_are : map (raised_row (x_count league.n)) (low ++ map row_of steps)
         ≡ pattern_rows league ++ map row_of (lifted steps)
@@ -202,8 +202,9 @@ module _ (league : Instance) (low : List Row) (numbers : List ℕ)
         is.tidy)
 
   pub refuted : (limit : Option ℕ) (steps : List Step) → IsInstance league
-      → Refutes low (var_count league - x_count league.n) limit steps → RefutesPatterns league limit (lifted steps)
-  refuted limit steps instance is =
+      → Refutes low (var_count league - x_count league.n) limit steps → All HasSmallHints (lifted steps)
+      → RefutesPatterns league limit (lifted steps)
+  refuted limit steps instance is small =
       subst (λ (ss : List Step). RefutesPatterns league limit ss) (sym log) (record {
         accepted = accepted;
         none = accepted_logs_exclude league (lifted is.before ++ Clause [] raised_hints ∷ []) instance accepted;
@@ -215,7 +216,7 @@ module _ (league : Instance) (low : List Row) (numbers : List ℕ)
             (low ++ map row_of is.before) (rows_of league ++ map row_of (lifted is.before)) behind is.hints;
         within = subst (λ (n : ℕ). IfSome limit (λ most. n ≤ most))
             (sym (length-raised (x_count league.n) numbers (length (rows_of league)) is.before 0)) is.within;
-        tidy = subst (λ (ss : List Step). All (IsTidy (var_count league)) ss) log (lifted-tidy steps is.tidy);
+        tidy = subst (λ (ss : List Step). All (IsTidy (var_count league)) ss) log (lifted-tidy steps is.tidy small);
       }) where
         before_tidy : All (IsTidy (var_count league - x_count league.n)) is.before
         before_tidy =
@@ -284,19 +285,21 @@ module _ (league : Instance) (games all : ℕ) (low : List Row) (numbers : List 
 
   pub refuted_by : (limit : Option ℕ) (steps raised : List Step) → IsInstance league
       → Refutes low (var_count league - games) limit steps → raised ≡ raised_steps games numbers all 0 steps
-      → RefutesPatterns league limit raised
-  refuted_by limit steps raised instance is are =
+      → All HasSmallHints raised → RefutesPatterns league limit raised
+  refuted_by limit steps raised instance is are small =
       subst (λ (ss : List Step). RefutesPatterns league limit ss) (sym (raised_here steps raised are))
       (refuted league low numbers picked_here limit steps instance
-      (subst (λ (g : ℕ). Refutes low (var_count league - g) limit steps) same is))
+      (subst (λ (g : ℕ). Refutes low (var_count league - g) limit steps) same is)
+      (subst (λ (ss : List Step). All HasSmallHints ss) (raised_here steps raised are) small))
 
   pub spent_by : (limit : Option ℕ) (steps raised : List Step)
       → IsSpentAt low (var_count league - games) limit steps → raised ≡ raised_steps games numbers all 0 steps
-      → IsPatternSpent league limit raised
-  spent_by limit steps raised is are =
+      → All HasSmallHints raised → IsPatternSpent league limit raised
+  spent_by limit steps raised is are small =
       subst (λ (ss : List Step). IsPatternSpent league limit ss) (sym (raised_here steps raised are))
       (spent league low numbers picked_here limit steps
-      (subst (λ (g : ℕ). IsSpentAt low (var_count league - g) limit steps) same is))
+      (subst (λ (g : ℕ). IsSpentAt low (var_count league - g) limit steps) same is)
+      (subst (λ (ss : List Step). All HasSmallHints ss) (raised_here steps raised are) small))
 
 -- ---- what raising a log needs
 

@@ -1,5 +1,5 @@
 -- A log over lowered rows, raised, is one over all rows.
-use Rattle.std.proofs.Common.{◌≡◌, ℕ, zero, suc, ◌+◌, ◌<◌, ◌≤◌, nat_lt, ◌&&◌, Bool, true, false, cond, zero-add}
+use Rattle.std.proofs.Common.{◌≡◌, ℕ, zero, suc, ◌+◌, ◌^◌, ◌<◌, ◌≤◌, nat_lt, ◌&&◌, Bool, true, false, cond, zero-add}
 use Rattle.std.proofs.Common.{List, [], ◌∷◌, ◌++◌, length, map, get_or, take, Option, Some, None, Ok}
 use Rattle.std.proofs.Common.{refl, arith, ap, sym, subst, ◌∙◌}
 use Rattle.std.specs.Prelude.{nat_le, IsSomeAnd}
@@ -7,7 +7,7 @@ use Rattle.std.specs.Option.{option_map_or}
 use Rattle.std.specs.List.{All, cons_option, filter_map}
 use Rattle.std.proofs.lemmas.Bool.{and_parts, leb-true, ltb-true}
 use Rattle.std.proofs.lemmas.List.{append-nil, append_assoc, length-take-le, map-append, take_more}
-use Rattle.std.proofs.lemmas.List.Elements.{All-cons, All-head, All-map, All-nil, All-tail, filter_map-append}
+use Rattle.std.proofs.lemmas.List.Elements.{All-cons, All-head, All-map, All-nil, All-push, All-tail, filter_map-append}
 use Rattle.std.proofs.lemmas.Option.{slice_get-get_or}
 use Rattle.rows.specs.Literals.{Literal}
 use Rattle.rows.specs.Partials.{IsEmpowering}
@@ -99,12 +99,17 @@ some_named : (games : ℕ) (rows : List Row) (hint : ℕ)
 some_named games rows zero named = absurd named
 some_named games rows (suc k) named = omega arith
 
+-- the hints have 64 bits
+abbrev pub HasSmallHints : Step → Type 0
+HasSmallHints step = All (λ hint. hint < 2 ^ 64) (hints_of step)
+
 -- ---- a step
 
 pub step-tidy : (x : ℕ) (numbers : List ℕ) (all before vars : ℕ) (low whole : List Row) (step : Step)
     → IsNumbering x numbers all before low whole → IsTidy vars step
+    → HasSmallHints (raised_step x numbers all before step)
     → IsTidy (vars + x) (raised_step x numbers all before step)
-step-tidy x numbers all before vars low whole step is tidy = record {
+step-tidy x numbers all before vars low whole step is tidy small = record {
   variables = differ-raised x (clause_of step) tidy.variables;
   from_one = All-map (λ (l : Literal). 1 ≤ l.var) (raised_literal x) (clause_of step)
       (λ k d within. omega (arith, tidy.from_one k d within));
@@ -114,6 +119,7 @@ step-tidy x numbers all before vars low whole step is tidy = record {
   named = λ k d within.
       some_named x whole (get_or (filter_map (number_of numbers all before) (hints_of step)) k d)
       (hints-named x numbers all before low whole is (hints_of step) k d within);
+  small = small;
 }
 
 -- the row of a raised step
@@ -198,16 +204,21 @@ numbering-steps x numbers all vars (step ∷ steps) before low whole is tidy =
 
 pub steps-tidy : (x : ℕ) (numbers : List ℕ) (all vars : ℕ) (steps : List Step) (before : ℕ) (low whole : List Row)
     → IsNumbering x numbers all before low whole → All (IsTidy vars) steps
+    → All HasSmallHints (raised_steps x numbers all before steps)
     → All (IsTidy (vars + x)) (raised_steps x numbers all before steps)
-steps-tidy x numbers all vars [] before low whole is tidy = All-nil (IsTidy (vars + x))
-steps-tidy x numbers all vars (step ∷ steps) before low whole is tidy =
+steps-tidy x numbers all vars [] before low whole is tidy small = All-nil (IsTidy (vars + x))
+steps-tidy x numbers all vars (step ∷ steps) before low whole is tidy small =
     All-cons (IsTidy (vars + x)) (raised_step x numbers all before step)
     (raised_steps x numbers all (before + 1) steps)
-    (step-tidy x numbers all before vars low whole step is (All-head (IsTidy vars) step steps tidy))
+    (step-tidy x numbers all before vars low whole step is (All-head (IsTidy vars) step steps tidy)
+    (All-head HasSmallHints (raised_step x numbers all before step) (raised_steps x numbers all (before + 1) steps)
+    small))
     (steps-tidy x numbers all vars steps (before + 1) (low ++ row_of step ∷ [])
     (whole ++ row_of (raised_step x numbers all before step) ∷ [])
     (numbering-step x numbers all before vars low whole step is (All-head (IsTidy vars) step steps tidy))
-    (All-tail (IsTidy vars) step steps tidy))
+    (All-tail (IsTidy vars) step steps tidy)
+    (All-tail HasSmallHints (raised_step x numbers all before step) (raised_steps x numbers all (before + 1) steps)
+    small))
 
 -- the rows of the steps
 pub rows-raised : (x : ℕ) (numbers : List ℕ) (all vars : ℕ) (steps : List Step) (before : ℕ) → All (IsTidy vars) steps
@@ -274,6 +285,13 @@ raised-more x numbers all steps k clause hints old new within clause_is hints_ar
     (hints_are
     ∙ ap (λ (hs : List ℕ). filter_map (number_of numbers all k) hs) (hints_at-is steps k (Clause [] []) within))
     ∙ sym (raised_steps-more x numbers all steps k (Clause [] []) within)
+
+-- and its hints have 64 bits, if those before it have
+pub small-more : (clause : List Literal) (hints : List ℕ) (old new : List Step) → All (λ hint. hint < 2 ^ 64) hints
+    → All HasSmallHints old → new ≡ old ++ Clause clause hints ∷ [] → All HasSmallHints new
+small-more clause hints old new small was more =
+    subst (λ (steps : List Step). All HasSmallHints steps) (sym more)
+    (All-push HasSmallHints old (Clause clause hints) was small)
 
 -- a hint more, as it was read
 pub hints-more : (test : ℕ → Option ℕ) (hints : List ℕ) (k hint : ℕ) (found : Option ℕ) (old new : List ℕ)

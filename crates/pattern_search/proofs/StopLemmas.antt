@@ -1,5 +1,5 @@
 -- What is found of patterns within the limit to which a search kept.
-use Rattle.std.proofs.Common.{◌≡◌, ℕ, List, Option, Result, Ok, Err, subst}
+use Rattle.std.proofs.Common.{ℕ, List, Option, Result, Ok, Err, subst}
 use Rattle.std.specs.Prelude.{IfOk}
 use Rattle.league.specs.Instance.{Instance}
 use Rattle.rows.specs.Rows.{Row}

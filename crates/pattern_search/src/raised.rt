@@ -1,7 +1,7 @@
 //! Logs over pattern rows, said of all rows.
-ghost use Rattle.std.specs.Prelude.{◌≡◌, ◌+◌, ◌≤◌, false, length, map, IfOk};
+ghost use Rattle.std.specs.Prelude.{◌≡◌, ℕ, ◌+◌, ◌^◌, ◌<◌, ◌≤◌, false, length, map, IfOk, slice_index};
 ghost use Rattle.std.specs.List.{All, filter_map};
-ghost use Rattle.refutation.specs.Steps.{clause_of, is_linear};
+ghost use Rattle.refutation.specs.Steps.{clause_of, hints_of, is_linear};
 ghost use Rattle.pattern_search.specs.Raised as numbering;
 ghost use Rattle.pattern_search.specs.Raised.{raised_literal, raised_steps};
 
@@ -24,7 +24,8 @@ pub(crate) fn raised(
 ) -> Result<Log, AllocError>
     requires known { All (λ step. All (λ l. l.var + games ≤ 2147483647) (clause_of step)) log.now }
     requires clauses { All (λ step. is_linear step ≡ false) log.now }
-    ensures { IfOk result (λ raised. raised ≡ raised_steps games numbers.now all 0 log.now) }
+    ensures steps { IfOk result (λ raised. raised ≡ raised_steps games numbers.now all 0 log.now) }
+    ensures small { IfOk result (All (λ step. All (λ hint. hint < 2 ^ 64) (hints_of step))) }
 {
     let mut raised = Log::new(alloc);
     for k in 0..log.len() {
@@ -55,8 +56,9 @@ fn raised_hints(
     all: usize,
     before: usize,
 ) -> Result<Vec<u64>, AllocError>
-    ensures { IfOk result (λ raised.
+    ensures numbers { IfOk result (λ raised.
         raised.items ≡ filter_map (numbering.number_of numbers.now all before) hints.now) }
+    ensures small { IfOk result (λ raised. All (λ hint. hint < 2 ^ 64) raised.items) }
 {
     let mut raised = Vec::with_capacity(alloc, hints.len())?;
     for hint in hints {
@@ -64,8 +66,14 @@ fn raised_hints(
             raised.push(number)?;
         }
     }
+    are_words(&raised);
     Ok(raised)
 }
+
+/// What is known of each of some words: that it is below the bound of words.
+fn are_words(words: &[u64])
+    ensures { (k : ℕ) → slice_index words.now k < 2 ^ 64 }
+{}
 
 /// The number among all rows and the steps behind them of what has this number among the pattern rows and these steps,
 /// if there is something of that number where so many steps stand.

@@ -3,7 +3,7 @@ ghost use Rattle.std.specs.Prelude.{◌≡◌, ◌≤◌, length, IfOk, Ok};
 ghost use Rattle.std.specs.List.{All};
 ghost use Rattle.league.specs.Counts as counts;
 ghost use Rattle.league.specs.Counts.{counts_of};
-ghost use Rattle.league.specs.Instance.{IsGame};
+ghost use Rattle.league.specs.Instance.{IsGame, IsInstance};
 ghost use Rattle.encoding_base.specs.Variables.{var_count};
 ghost use Rattle.refutation.specs.Verdict.{verdict_of};
 ghost use Rattle.refutation_check.specs.Judged.{no_step_of};
@@ -41,7 +41,6 @@ pub fn check_resume(
     ensures none { result ≡ Ok Verdict.Accepted → NoneResumes league.now (counts_of played.now) k }
     ensures limit { KeepsLimit (kept.resume_size league.now k) result }
 {
-    let _n = league.n();
     let system = resume_system(alloc, league, played, k)?;
     let verdict = verdict_on(alloc, &system, log)?;
     Ok(verdict)
@@ -52,9 +51,10 @@ pub fn check_resume(
 /// # Errors
 /// Only where memory runs out.
 fn verdict_on(alloc: Global, system: &ResumeSystem, log: &Log) -> Result<Verdict, AllocError>
-    ensures { IfOk result (λ verdict. verdict
+    ensures verdict { IfOk result (λ verdict. verdict
         ≡ verdict_of (rows_for system.now)
         (var_count system.now.league) log.now) }
+    ensures instance { IsInstance system.now.league }
 {
     check(alloc, system.rows(), system.vars(), log)
 }
@@ -64,9 +64,12 @@ fn verdict_on(alloc: Global, system: &ResumeSystem, log: &Log) -> Result<Verdict
 /// # Errors
 /// Only where memory runs out.
 pub fn checker_of(alloc: Global, system: &ResumeSystem) -> Result<Checker<'_>, AllocError>
-    ensures { IfOk result (λ checker. checker
+    ensures checker { IfOk result (λ checker. checker
         ≡ no_step_of (rows_for system.now)
         (var_count system.now.league)) }
+
+    // What holds of every system.
+    ensures instance { IsInstance system.now.league }
 {
     Checker::new(alloc, system.rows(), system.vars())
 }

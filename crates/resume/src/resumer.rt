@@ -5,7 +5,7 @@ ghost use Rattle.league.specs.Accepted.{IsAccepted};
 ghost use Rattle.league.specs.Accepted as costs;
 ghost use Rattle.league.specs.Counts as counts;
 ghost use Rattle.league.specs.Counts.{counts_of};
-ghost use Rattle.league.specs.Instance.{IsGame};
+ghost use Rattle.league.specs.Instance.{IsGame, IsInstance};
 ghost use Rattle.rows.specs.Rows.{SatisfiesAll};
 ghost use Rattle.rows.specs.Values.{assigned};
 ghost use Rattle.encoding_base.specs.Encoding.{rows_of};
@@ -84,7 +84,6 @@ fn searched<W: Watch>(
     ensures limit { KeepsLimit (kept.resume_size league.now k) result }
     ensures answer { IfOk result (IsResumedBy league.now played.now k (IsKeptTo conflicts (W.may_stop watch.now))) }
 {
-    let _n = league.n();
     let system = resume_system(alloc, league, played, k)?;
     let found = found_in(alloc, &system, league, played, conflicts, watch)?;
     let resumed = told(alloc, league, found)?;
@@ -105,8 +104,9 @@ fn found_in<W: Watch>(
 ) -> Result<Found, AllocError>
     requires league { system.now.league ≡ league.now }
     requires fit { All (IsGame league.now.n) played.now }
-    ensures { IfOk result (IsAnswerBy (rows_for system.now) (var_count system.now.league) conflicts
+    ensures answer { IfOk result (IsAnswerBy (rows_for system.now) (var_count system.now.league) conflicts
         (W.may_stop watch.now)) }
+    ensures instance { IsInstance league.now }
 {
     let prefer = preferred(alloc, league.n(), played.games())?;
     search_watched(

@@ -1,5 +1,5 @@
 -- What the search's answers say of a league.
-use Rattle.std.proofs.Common.{◌≡◌, ℕ, ◌+◌, ◌<◌, ◌≤◌, ◌^◌, Bool, true, false, not, List, [], ◌∷◌, get_or}
+use Rattle.std.proofs.Common.{◌≡◌, ℕ, ◌+◌, ◌≤◌, Bool, true, false, not, List, [], ◌∷◌, get_or}
 use Rattle.std.proofs.Common.{zero, suc, length, Option, None, Some, refl, arith, ap, sym, subst, ◌∙◌}
 use Rattle.std.specs.Prelude.{IfSome, IsTrue, slice_get}
 use Rattle.std.proofs.lemmas.List.{length-append}
@@ -15,7 +15,7 @@ use Rattle.circle_method.specs.Circle.{double_games}
 use Rattle.encoding_base.specs.Encoding.{rows_of}
 use Rattle.encoding_base.specs.Variables.{var_count, x_count}
 use Rattle.rows.specs.Rows.{Row}
-use Rattle.refutation.specs.Steps.{Step, hints_of, is_linear}
+use Rattle.refutation.specs.Steps.{Step, is_linear}
 use Rattle.refutation.specs.Steps.Step.{Clause}
 use Rattle.refutation.specs.Texts.{version_of}
 use Rattle.clause_search.specs.Answers.{IsSpentAt, Refutes}
@@ -38,20 +38,18 @@ use Rattle.solve.proofs.CountingLemmas.{refuted_by}
 -- ---- logs
 
 writable : (vars : ℕ) (steps : List Step) → vars ≤ 130960 → All (IsTidy vars) steps
-    → All (λ step. is_linear step ≡ false) steps → All (λ step. All (λ hint. hint < 2 ^ 64) (hints_of step)) steps
-    → IsWritable steps
-writable vars steps most tidy clauses small = record {
+    → All (λ step. is_linear step ≡ false) steps → IsWritable steps
+writable vars steps most tidy clauses = record {
   named = λ k d within. step_named vars (get_or steps k d) (tidy k d within) (clauses k d within);
   short = λ k d within.
-      step_short (version_of steps) vars (get_or steps k d) most (tidy k d within) (clauses k d within)
-      (small k d within);
+      step_short (version_of steps) vars (get_or steps k d) most (tidy k d within) (clauses k d within);
 }
 
 pub refuted : (league : Instance) (limit : Option ℕ) (steps : List Step) → IsInstance league
     → var_count league ≤ 130960 → Refutes (rows_of league) (var_count league) limit steps
-    → All (λ step. All (λ hint. hint < 2 ^ 64) (hints_of step)) steps → RefutesLeague league steps
-refuted league limit steps instance most is small =
-    refuted_by league steps instance (refuting league limit steps most is small)
+    → RefutesLeague league steps
+refuted league limit steps instance most is =
+    refuted_by league steps instance (refuting league limit steps most is)
 
 -- a log that refutes rows has at most one step more than the limit
 pub refutes-few : (rows : List Row) (vars : ℕ) (limit : Option ℕ) (steps : List Step) → Refutes rows vars limit steps
@@ -67,29 +65,27 @@ refutes-few rows vars (Some most) steps is =
 
 pub refuted-tried : (league : Instance) (limit : Option ℕ) (steps : List Step) → IsInstance league
     → var_count league ≤ 130960 → Refutes (rows_of league) (var_count league) limit steps
-    → All (λ step. All (λ hint. hint < 2 ^ 64) (hints_of step)) steps → RefutesWithin league limit steps
-refuted-tried league limit steps instance most is small = record {
-  refutes = refuted league limit steps instance most is small;
+    → RefutesWithin league limit steps
+refuted-tried league limit steps instance most is = record {
+  refutes = refuted league limit steps instance most is;
   within = refutes-few (rows_of league) (var_count league) limit steps is;
 }
 
 pub spent : (league : Instance) (limit : Option ℕ) (steps : List Step) → var_count league ≤ 130960
-    → IsSpentAt (rows_of league) (var_count league) limit steps
-    → All (λ step. All (λ hint. hint < 2 ^ 64) (hints_of step)) steps → IsSpentOn league limit steps
-spent league limit steps most is small = record {
+    → IsSpentAt (rows_of league) (var_count league) limit steps → IsSpentOn league limit steps
+spent league limit steps most is = record {
   limited = is.limited;
   spent = is.spent;
   few = is.few;
   tidy = is.tidy;
   writable = writable (var_count league) steps most is.tidy
-      (news-clauses (rows_of league) (var_count league) steps is.spent.news) small;
+      (news-clauses (rows_of league) (var_count league) steps is.spent.news);
 }
 
 -- a log that refutes the pattern rows
 pub patterns_refuted : (league : Instance) (limit : Option ℕ) (steps : List Step) → var_count league ≤ 130960
-    → RefutesPatterns league limit steps → All (λ step. All (λ hint. hint < 2 ^ 64) (hints_of step)) steps
-    → RefutesLeague league steps
-patterns_refuted league limit steps most is small =
+    → RefutesPatterns league limit steps → RefutesLeague league steps
+patterns_refuted league limit steps most is =
     let clauses : All (λ step. is_linear step ≡ false) steps =
     subst (λ (ss : List Step). All (λ step. is_linear step ≡ false) ss) (sym is.last)
     (All-push (λ step. is_linear step ≡ false) is.before (Clause [] is.hints)
@@ -98,7 +94,7 @@ patterns_refuted league limit steps most is small =
     record {
       accepted = is.accepted;
       none = is.none;
-      writable = writable (var_count league) steps most is.tidy clauses small;
+      writable = writable (var_count league) steps most is.tidy clauses;
     }
 
 -- what was found of patterns, where the variant is known

@@ -13,7 +13,7 @@ use crate::lower::Season;
 use crate::share::Share;
 use crate::told::{lowered_told, tell_found};
 use crate::tries::{Tried, with_walked};
-use clause_search::{Found, note_numbers, search_watched};
+use clause_search::{Found, search_watched};
 use decoding::decode;
 use encoding::Encoding;
 use robin_watch::{Budgets, Listener, News, Phase};
@@ -132,14 +132,8 @@ fn answer<W: Listener>(
             let season = accepted(alloc, encoding, &values, budgets.moves, watch)?;
             Ok(Tried::Found(season))
         }
-        Found::Refuted(log) => {
-            note_numbers(&log);
-            Ok(Tried::Refuted(log))
-        }
-        Found::Spent(log) => {
-            note_numbers(&log);
-            Ok(Tried::Spent(log))
-        }
+        Found::Refuted(log) => Ok(Tried::Refuted(log)),
+        Found::Spent(log) => Ok(Tried::Spent(log)),
     }
 }
 

@@ -23,7 +23,6 @@ pub(crate) fn count_out(alloc: Global, league: &League) -> Result<Option<Log>, A
     ensures crowded { result ≡ Ok None → are_crowded league.now ≡ false }
     ensures few { result ≡ Ok None → are_few league.now ≡ false }
 {
-    let _n = league.n();
     if let Some(log) = count_venues(alloc, league)? {
         return Ok(Some(log));
     }
@@ -41,7 +40,6 @@ fn count_venues(alloc: Global, league: &League) -> Result<Option<Log>, AllocErro
     ensures short { result ≡ Ok None → are_short league.now ≡ false }
     ensures crowded { result ≡ Ok None → are_crowded league.now ≡ false }
 {
-    let _n = league.n();
     if let Some(log) = venue_count(alloc, league)? {
         return Ok(Some(log));
     }

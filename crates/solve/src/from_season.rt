@@ -21,7 +21,6 @@ use crate::prefer::true_in;
 use crate::share::{Share, walk_times};
 use crate::solved::Solved;
 use crate::tries::{is_refuted, schedule_found, solved_by, with_later};
-use clause_search::note_numbers;
 use encoding::{EncodeFault, Encoding, check_size, encode_small};
 use league::{League, Schedule};
 use pattern_search::{PatternFound, pattern_set_watched};
@@ -170,10 +169,7 @@ fn search_near<W: Listener>(
             let tried = try_search(alloc, encoding, &prefer, budgets, watch)?;
             Ok(solved_by(tried, PatternFound::Patterns(patterns)))
         }
-        PatternFound::Refuted(log) => {
-            note_numbers(&log);
-            Ok(Solved::Refuted(log))
-        }
+        PatternFound::Refuted(log) => Ok(Solved::Refuted(log)),
         PatternFound::Spent(log) => {
             let prefer = true_in(alloc, encoding, start)?;
             let tried = try_search(alloc, encoding, &prefer, budgets, watch)?;

@@ -24,7 +24,6 @@ use crate::prefer::{preferred, shuffled, venues};
 use crate::share::{Share, walk_times};
 use crate::solved::Solved;
 use crate::tries::{Tried, better, is_refuted, schedule_found, solved_by};
-use clause_search::note_numbers;
 use encoding::{EncodeFault, Encoding, check_size, encode_small};
 use league::League;
 use pattern_search::{PatternFound, pattern_set_watched};
@@ -212,10 +211,7 @@ fn try_patterns<W: Listener>(
     let found = pattern_set_watched(alloc, encoding, Some(budgets.patterns), watch)?;
     match found {
         PatternFound::Patterns(patterns) => { try_with(alloc, encoding, patterns, budgets, watch) }
-        PatternFound::Refuted(log) => {
-            note_numbers(&log);
-            Ok(Solved::Refuted(log))
-        }
+        PatternFound::Refuted(log) => Ok(Solved::Refuted(log)),
         PatternFound::Spent(log) => try_without(alloc, encoding, log, budgets, watch),
     }
 }

@@ -1,14 +1,16 @@
 -- Groups, as constraints are added one after another.
-use Rattle.std.proofs.Common.{◌≡◌, ◌≢◌, ℕ, ◌<◌, Bool, true, false, ◌&&◌, max, cond}
-use Rattle.std.proofs.Common.{List, [], ◌∷◌, ◌++◌, length, get_or, set, Option, Some, None, inl, inr, refl, arith, ap}
-use Rattle.std.proofs.Common.{sym, subst, ◌∙◌}
+use Rattle.std.proofs.Common.{◌≡◌, ◌≢◌, ℕ, ◌+◌, ◌<◌, Bool, true, false, ◌&&◌, ◌||◌, ◌==◌, nat_lt, max, cond}
+use Rattle.std.proofs.Common.{List, [], ◌∷◌, ◌++◌, length, get_or, set, take, Option, Some, None, inl, inr, refl, arith}
+use Rattle.std.proofs.Common.{ap, sym, subst, ◌∙◌}
 use Rattle.std.specs.Prelude.{IsSome}
 use Rattle.std.specs.List.{All, fold, list_any}
-use Rattle.std.proofs.lemmas.Bool.{cases_Bool, cases_eq, or_cases, or_parts}
+use Rattle.std.proofs.lemmas.Bool.{cases_Bool, cases_eq, cases_lt, le-ltb, lt-ltb, or_cases, or_parts, or_right}
+use Rattle.std.proofs.lemmas.Bool.Decides.{nat_tests}
 use Rattle.std.proofs.Math.Seq.{get_or-append_seam}
 use Rattle.std.proofs.lemmas.List.{get_or-set_other, get_or-set_same, get_or_append_left, get_or_default, length-set}
-use Rattle.std.proofs.lemmas.List.{length_push}
+use Rattle.std.proofs.lemmas.List.{length_push, take_more}
 use Rattle.std.proofs.lemmas.List.Elements.{All-push, All-weaker}
+use Rattle.std.proofs.lemmas.List.Folds.{list_any-append}
 use Rattle.std.proofs.lemmas.Option.{same_Some}
 use Rattle.league.specs.Accepted.{hard_of}
 use Rattle.league.specs.Instance.{are_slots, is_one_side}
@@ -19,9 +21,10 @@ use Rattle.league.specs.declared.class.Side.{Side}
 use Rattle.venue_counts.specs.VenueCounts.{are_those}
 use Rattle.venue_counts.specs.Needs.{bounds_at, is_bounded, need_by, need_of, own_need}
 use Rattle.venue_counts.specs.Keys.{key_of}
-use Rattle.venue_counts.specs.Groups.{AreFound, AreGroups, IsFresh, IsGroup, IsRaised, key_at}
+use Rattle.venue_counts.specs.Groups.{AreFound, AreGroups, AreNoted, IsFresh, IsGroup, IsRaised, MakesNeed, key_at}
 use Rattle.venue_counts.specs.declared.group.Group.{Group}
 use Rattle.venue_counts.specs.declared.limit.Limit.{Limit}
+use Rattle.venue_counts.proofs.MemberLemmas.{got-last, got-left}
 use Rattle.venue_counts.proofs.NeedLemmas.{is_bounded-push, need_by-others, need_by-own, need_folded, need_of-folded}
 use Rattle.venue_counts.proofs.NeedLemmas.{need_of-push, those-same}
 
@@ -41,6 +44,17 @@ need-kept limit constraints c side slots i others =
     ∙ kept_need c.hard (bounds_at side slots c.class) (need_of limit constraints side slots i)
     (need_by limit side slots i c.class) others (need_by-others limit side slots i c.class)
 
+-- by what it is needed stays where it is
+makes-kept : (limit : Limit) (constraints : List Constraint) (c : Constraint) (side : Side) (slots : List ℕ)
+    (i need place : ℕ) → MakesNeed limit constraints side slots i need place
+    → MakesNeed limit (constraints ++ c ∷ []) side slots i need place
+makes-kept limit constraints c side slots i need place by = record {
+  constraint = by.constraint;
+  there = got-left constraints (c ∷ []) place by.constraint by.there;
+  hard = by.hard;
+  makes = by.makes;
+}
+
 group-kept : (limit : Limit) (n : ℕ) (constraints : List Constraint) (c : Constraint) (g : Group)
     → c.hard && bounds_at g.side g.slots.now c.class ≡ false → IsGroup limit n constraints g
     → IsGroup limit n (constraints ++ c ∷ []) g
@@ -49,6 +63,10 @@ group-kept limit n constraints c g others is = record {
   season = is.season;
   count = is.count;
   needs = λ i below. is.needs i below ∙ sym (need-kept limit constraints c g.side g.slots.now i others);
+  places = is.places;
+  causes = λ i below some.
+      makes-kept limit constraints c g.side g.slots.now i (get_or g.needs.items i 0) (get_or g.causes.items i 0)
+      (is.causes i below some);
 }
 
 pub groups-kept : (limit : Limit) (n : ℕ) (constraints : List Constraint) (c : Constraint) (groups : List Group)
@@ -127,6 +145,8 @@ fresh-group limit n constraints g side slots fresh one season none = record {
       ∙ sym (ap (λ (s : Side). need_of limit constraints s g.slots.now i) fresh.side_is
       ∙ ap (λ (ss : List ℕ). need_of limit constraints side ss i) fresh.slots_are
       ∙ need-unbounded limit constraints side slots i none);
+  places = fresh.places;
+  causes = λ i below some. absurd (omega (arith, fresh.none i below, some));
 }
 
 pub groups-put : (limit : Limit) (n : ℕ) (constraints : List Constraint) (groups : List Group) (g : Group)
@@ -231,11 +251,54 @@ pub record Holds (c : Constraint) (teams : List ℕ) (min most : ℕ) (side : Si
   pub hard : c.hard ≡ true
   pub class_is : c.class ≡ Ca1 teams min most side slots
 
+-- and the cause of what is needed then
+raised-cause : (limit : Limit) (constraints : List Constraint) (c : Constraint) (side : Side) (slots teams : List ℕ)
+    (need i old now known cause place : ℕ) → c.hard ≡ true
+    → need_by limit side slots i c.class ≡ cond (is_in i teams) need 0 → place ≡ length constraints
+    → now ≡ cond (is_in i teams) (max old need) old
+    → cause ≡ cond (is_in i teams) (cond (nat_lt old need) place known) known
+    → (0 < old → MakesNeed limit constraints side slots i old known) → 0 < now
+    → MakesNeed limit (constraints ++ c ∷ []) side slots i now cause
+raised-cause limit constraints c side slots teams need i old now known cause place hard by at after noted was some =
+    elim (cases_Bool (is_in i teams)) [
+      | inl inside ↦
+          let larger : now ≡ max old need = after ∙ ap (λ (b : Bool). cond b (max old need) old) inside in
+          let chosen : cause ≡ cond (nat_lt old need) place known =
+          noted ∙ ap (λ (b : Bool). cond b (cond (nat_lt old need) place known) known) inside in
+          elim (cases_lt old need) [
+            | inl below ↦
+                own inside (omega (arith, larger, below))
+                (chosen ∙ ap (λ (b : Bool). cond b place known) (lt-ltb old need below) ∙ at)
+            | inr above ↦
+                kept (omega (arith, larger, above))
+                (chosen ∙ ap (λ (b : Bool). cond b place known) (le-ltb old need above))
+          ]
+      | inr outside ↦
+          kept (after ∙ ap (λ (b : Bool). cond b (max old need) old) outside)
+          (noted ∙ ap (λ (b : Bool). cond b (cond (nat_lt old need) place known) known) outside)
+    ]
+  where
+    own : is_in i teams ≡ true → now ≡ need → cause ≡ length constraints
+        → MakesNeed limit (constraints ++ c ∷ []) side slots i now cause
+    own inside is here = record {
+      constraint = c;
+      there = got-last constraints c cause here;
+      hard = hard;
+      makes = by ∙ ap (λ (b : Bool). cond b need 0) inside ∙ sym is;
+    }
+
+    kept : now ≡ old → cause ≡ known → MakesNeed limit (constraints ++ c ∷ []) side slots i now cause
+    kept same same_cause =
+        subst (λ (k : ℕ). MakesNeed limit (constraints ++ c ∷ []) side slots i k cause) (sym same)
+        (subst (λ (k : ℕ). MakesNeed limit (constraints ++ c ∷ []) side slots i old k) (sym same_cause)
+        (makes-kept limit constraints c side slots i old known (was (omega (arith, same, some)))))
+
 raised-group : (limit : Limit) (n : ℕ) (constraints : List Constraint) (c : Constraint) (side : Side)
-    (slots teams : List ℕ) (min most : ℕ) (g h : Group) → Holds c teams min most side slots
-    → g.side ≡ side → g.slots.now ≡ slots → IsRaised teams (own_need limit min most (length slots)) g h
-    → IsGroup limit n constraints g → IsGroup limit n (constraints ++ c ∷ []) h
-raised-group limit n constraints c side slots teams min most g h holds side_is slots_are raised is =
+    (slots teams : List ℕ) (min most place : ℕ) (g h : Group) → Holds c teams min most side slots
+    → place ≡ length constraints → g.side ≡ side → g.slots.now ≡ slots
+    → IsRaised teams (own_need limit min most (length slots)) place g h → IsGroup limit n constraints g
+    → IsGroup limit n (constraints ++ c ∷ []) h
+raised-group limit n constraints c side slots teams min most place g h holds at side_is slots_are raised is =
     let same_side : h.side ≡ side = raised.side_is ∙ side_is in
     let same_slots : h.slots.now ≡ slots = raised.slots_are ∙ slots_are in
     record {
@@ -250,6 +313,22 @@ raised-group limit n constraints c side slots teams min most g h holds side_is s
           (raised.raised i)
           ∙ sym (ap (λ (s : Side). need_of limit (constraints ++ c ∷ []) s h.slots.now i) same_side
           ∙ ap (λ (ss : List ℕ). need_of limit (constraints ++ c ∷ []) side ss i) same_slots);
+      places = raised.places ∙ is.places;
+      causes = λ i below some.
+          let old : ℕ = get_or g.needs.items i 0 in
+          let known : ℕ = get_or g.causes.items i 0 in
+          let now : ℕ = get_or h.needs.items i 0 in
+          let cause : ℕ = get_or h.causes.items i 0 in
+          let was : 0 < old → MakesNeed limit constraints side slots i old known = λ needed.
+          subst (λ (ss : List ℕ). MakesNeed limit constraints side ss i old known) slots_are
+          (subst (λ (s : Side). MakesNeed limit constraints s g.slots.now i old known) side_is
+          (is.causes i below needed)) in
+          subst (λ (s : Side). MakesNeed limit (constraints ++ c ∷ []) s h.slots.now i now cause) (sym same_side)
+          (subst (λ (ss : List ℕ). MakesNeed limit (constraints ++ c ∷ []) side ss i now cause) (sym same_slots)
+          (raised-cause limit constraints c side slots teams (own_need limit min most (length slots)) i old now known
+          cause place holds.hard
+          (ap (need_by limit side slots i) holds.class_is ∙ need_by-own limit side slots teams i min most) at
+          (raised.raised i) (raised.noted i) was some));
     }
 
 -- another group doesn't hold it
@@ -277,14 +356,14 @@ here-found c teams min most side s slots ss holds is =
       second true b is = is
       second false b is = absurd (cc)
 
-key-raised : (teams : List ℕ) (need : ℕ) (g h : Group) → IsRaised teams need g h → key_at h ≡ key_at g
-key-raised teams need g h raised =
+key-raised : (teams : List ℕ) (need cause : ℕ) (g h : Group) → IsRaised teams need cause g h → key_at h ≡ key_at g
+key-raised teams need cause g h raised =
     ap (λ (s : Side). key_of s h.slots.now) raised.side_is ∙ ap (λ (ss : List ℕ). key_of g.side ss) raised.slots_are
 
-pub found-raised : (groups : List Group) (find : ℕ → Option ℕ) (p : ℕ) (g h : Group) (teams : List ℕ) (need : ℕ)
-    → p < length groups → g ≡ get_or groups p g → IsRaised teams need g h → AreFound groups find
-    → AreFound (set groups p h) find
-found-raised groups find p g h teams need there is raised are =
+pub found-raised : (groups : List Group) (find : ℕ → Option ℕ) (p : ℕ) (g h : Group) (teams : List ℕ)
+    (need cause : ℕ) → p < length groups → g ≡ get_or groups p g → IsRaised teams need cause g h
+    → AreFound groups find → AreFound (set groups p h) find
+found-raised groups find p g h teams need cause there is raised are =
     record { placed = placed; within = within; key = key }
   where
     key_there : (k : ℕ) (d : Group) → k < length groups
@@ -293,7 +372,7 @@ found-raised groups find p g h teams need there is raised are =
         elim (cases_eq k p) [
           | inl same ↦
               ap (λ (j : ℕ). key_at (get_or (set groups p h) j d)) same
-              ∙ ap key_at (get_or-set_same groups p h d there) ∙ key-raised teams need g h raised
+              ∙ ap key_at (get_or-set_same groups p h d there) ∙ key-raised teams need cause g h raised
               ∙ ap key_at (is ∙ get_or_default groups p g d there)
               ∙ ap (λ (j : ℕ). key_at (get_or groups j d)) (sym same)
           | inr other ↦ ap key_at (get_or-set_other groups p k h d other)
@@ -311,12 +390,13 @@ found-raised groups find p g h teams need there is raised are =
     key q k d found = key_there k d (are.within q k found) ∙ are.key q k d found
 
 pub groups-raised : (limit : Limit) (n : ℕ) (constraints : List Constraint) (c : Constraint) (side : Side)
-    (slots teams : List ℕ) (min most : ℕ) (groups : List Group) (find : ℕ → Option ℕ) (p : ℕ) (g h : Group)
-    → Holds c teams min most side slots → p < length groups → g ≡ get_or groups p g → g.side ≡ side
-    → g.slots.now ≡ slots → IsRaised teams (own_need limit min most (length slots)) g h → AreFound groups find
-    → AreGroups limit n constraints groups find → AreGroups limit n (constraints ++ c ∷ []) (set groups p h) find
-groups-raised limit n constraints c side slots teams min most groups find p g h holds there is side_is slots_are raised
-    found are =
+    (slots teams : List ℕ) (min most place : ℕ) (groups : List Group) (find : ℕ → Option ℕ) (p : ℕ) (g h : Group)
+    → Holds c teams min most side slots → place ≡ length constraints → p < length groups → g ≡ get_or groups p g
+    → g.side ≡ side → g.slots.now ≡ slots → IsRaised teams (own_need limit min most (length slots)) place g h
+    → AreFound groups find → AreGroups limit n constraints groups find
+    → AreGroups limit n (constraints ++ c ∷ []) (set groups p h) find
+groups-raised limit n constraints c side slots teams min most place groups find p g h holds at there is side_is
+    slots_are raised found are =
     record { each = each; seen = seen }
   where
     own_key : key_at g ≡ key_of side slots
@@ -345,7 +425,8 @@ groups-raised limit n constraints c side slots teams min most groups find p g h 
               let now : get_or (set groups p h) k d ≡ h =
               ap (λ (j : ℕ). get_or (set groups p h) j d) same ∙ get_or-set_same groups p h d there in
               subst (λ (e : Group). IsGroup limit n (constraints ++ c ∷ []) e) (sym now)
-              (raised-group limit n constraints c side slots teams min most g h holds side_is slots_are raised first)
+              (raised-group limit n constraints c side slots teams min most place g h holds at side_is slots_are
+              raised first)
           | inr other ↦
               let before : Group = get_or groups k d in
               subst (λ (e : Group). IsGroup limit n (constraints ++ c ∷ []) e)
@@ -368,3 +449,56 @@ groups-raised limit n constraints c side slots teams min most groups find p g h 
               ∙ found_here) in
               some_kept (Some p) (find (key_of s ss)) at refl
         ]
+
+-- ---- causes that are noted, team by team
+
+or_none : (b : Bool) → b || false ≡ b
+or_none true = refl
+or_none false = refl
+
+is_in-push : (i : ℕ) (teams : List ℕ) (j : ℕ) → is_in i (teams ++ j ∷ []) ≡ (is_in i teams || (j == i))
+is_in-push i teams j =
+    list_any-append (λ k. k == i) teams (j ∷ []) ∙ ap (λ (b : Bool). is_in i teams || b) (or_none (j == i))
+
+itself : (i j : ℕ) → i ≡ j → (j == i) ≡ true
+itself i j same = grind (arith, nat_tests)
+
+another : (i j : ℕ) → i ≢ j → (j == i) ≡ false
+another i j other = grind (arith, nat_tests)
+
+once : (inside more : Bool) (cause before : ℕ)
+    → cond more cause (cond inside (cond more cause before) before) ≡ cond more cause before
+once true true cause before = refl
+once true false cause before = refl
+once false true cause before = refl
+once false false cause before = refl
+
+-- one team more
+pub noted-more : (teams needs before after : List ℕ) (k need cause place now : ℕ) → k < length teams
+    → place ≡ get_or teams k 0 → place < length after
+    → now ≡ cond (nat_lt (get_or needs place 0) need) cause (get_or after place 0)
+    → AreNoted (take k teams) needs need cause before after
+    → AreNoted (take (k + 1) teams) needs need cause before (set after place now)
+noted-more teams needs before after k need cause place now there at within is so_far i =
+    let first : List ℕ = take k teams in
+    let chosen : ℕ → ℕ = λ from. cond (nat_lt (get_or needs i 0) need) cause from in
+    let whole : ℕ = get_or before i 0 in
+    let more : take (k + 1) teams ≡ first ++ place ∷ [] =
+    take_more teams k 0 there ∙ ap (λ (j : ℕ). first ++ j ∷ []) (sym at) in
+    let test : is_in i (take (k + 1) teams) ≡ (is_in i first || (place == i)) =
+    ap (is_in i) more ∙ is_in-push i first place in
+    elim (cases_eq i place) [
+      | inl same ↦
+          let inside : is_in i (take (k + 1) teams) ≡ true =
+          test ∙ or_right (is_in i first) (place == i) (itself i place same) in
+          ap (λ (j : ℕ). get_or (set after place now) j 0) same ∙ get_or-set_same after place now 0 within ∙ is
+          ∙ ap (λ (j : ℕ). cond (nat_lt (get_or needs j 0) need) cause (get_or after j 0)) (sym same)
+          ∙ ap chosen (so_far i)
+          ∙ once (is_in i first) (nat_lt (get_or needs i 0) need) cause whole
+          ∙ ap (λ (b : Bool). cond b (chosen whole) whole) (sym inside)
+      | inr other ↦
+          let as_before : is_in i (take (k + 1) teams) ≡ is_in i first =
+          test ∙ ap (λ (b : Bool). is_in i first || b) (another i place other) ∙ or_none (is_in i first) in
+          get_or-set_other after place i now 0 other ∙ so_far i
+          ∙ ap (λ (b : Bool). cond b (chosen whole) whole) (sym as_before)
+    ]

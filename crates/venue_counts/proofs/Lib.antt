@@ -7,8 +7,9 @@
 -- In order: `parts-added` says what a log's parts add up to. `outcounted` says when a sum is in conflict with nothing
 -- set, by what is left of each variable. `larger-covered` and `outnumber` bound that: what is false for a team counts
 -- as true in its slot. `conflict` puts both together, and `adds_up_accepted` says that the log is accepted.
--- `is_short_at-exceeds` turns the definitions into needs, and `slot_row-in` and `team_row-in` find the rows in the
--- league. Constraints over one set of slots are a group, found by a key: `same_key` says that one key is one set.
+-- `is_short_at-exceeds` turns the definitions into needs. `slot_row-numbered` says where the rows of a slot stand, and
+-- `team_row-of` that the row of a team is one of the constraint that its group notes.
+-- Constraints over one set of slots are a group, found by a key: `same_key` says that one key is one set.
 -- `groups-kept`, `groups-put` and `groups-raised` follow the constraints one by one, and `groups-done` and `all-groups`
 -- end that. `none-exceeds` and `count-accepted` answer for all groups, and `short-counted`, `crowded-counted`,
 -- `are_short-told` and `are_crowded-told` say it in the words of the claims. `names-rows` and `short-lines` say that
@@ -27,6 +28,7 @@ pub mod LogLemmas
 pub mod MemberLemmas
 pub mod NeedLemmas
 pub mod RowLemmas
+pub mod SlotLemmas
 pub mod NumberedLemmas
 -- Groups of constraints, and what they say of a league:
 pub mod KeyLemmas

@@ -13,8 +13,13 @@ use Rattle.std.proofs.lemmas.List.Sums.{sum_by-le}
 use Rattle.std.proofs.lemmas.Option.{slice_get_within}
 use Rattle.std.proofs.lemmas.Bool.{le-ltb, lt-ltb}
 use Rattle.league.specs.Instance.{Instance}
+use Rattle.rows.specs.Cardinality.{at_least}
+use Rattle.rows.specs.Literals.{Literal}
 use Rattle.rows.specs.Rows.{Row}
+use Rattle.rows.specs.Sums.{literal}
 use Rattle.encoding_base.specs.Encoding.{rows_of}
+use Rattle.encoding_base.specs.RowRanges.{rows_of_constraint}
+use Rattle.encoding_base.specs.Variables.{h_var}
 use Rattle.encoding_base.proofs.NumberLemmas.{numbers-more}
 use Rattle.refutation.specs.Following.{row_numbered}
 use Rattle.refutation.specs.Logs.{most_bytes}
@@ -24,12 +29,12 @@ use Rattle.refutation.specs.Texts.{linear_text, number_text, part_text, step_tex
 use Rattle.refutation.specs.Writable.{HasShortLines}
 use Rattle.refutation.specs.declared.step.Part.{Part}
 use Rattle.refutation.specs.declared.version.Version.TheVariants.{Two}
-use Rattle.venue_counts.specs.CountLogs.{AddsUp, AreNamed, slot_row, team_row, venue_row}
-use Rattle.venue_counts.specs.Groups.{IsGroup}
+use Rattle.venue_counts.specs.CountLogs.{AddsUp, AreNamed, slot_row, team_row}
+use Rattle.venue_counts.specs.Groups.{IsGroup, MakesNeed}
 use Rattle.venue_counts.specs.Needs.{counts_home, need_of}
 use Rattle.venue_counts.specs.declared.group.Group.{Group}
 use Rattle.venue_counts.specs.declared.limit.Limit.{Limit}
-use Rattle.venue_counts.proofs.RowLemmas.{team_row-in}
+use Rattle.venue_counts.proofs.RowLemmas.{team_row-of}
 
 -- ---- one part more
 
@@ -120,34 +125,54 @@ module _ (limit : Limit) (league : Instance) (g : Group) (is : IsGroup limit lea
       get_or_read g.needs.items place need (omega (arith, below, at, is.count)) read 0
       ∙ ap (λ (k : ℕ). get_or g.needs.items k 0) at ∙ is.needs i below
 
-  -- the row of a team as it is looked for
-  row-read : (i need : ℕ) (home : Bool) → home ≡ counts_home limit g.side → need ≡ needed i
-      → venue_row league.n (not home) i g.slots.now need
-      ≡ team_row league.n (counts_home limit g.side) g.slots.now needed i
-  row-read i need home counts read =
-      ap (λ (b : Bool). venue_row league.n (not b) i g.slots.now need) counts
-      ∙ ap (λ (k : ℕ). venue_row league.n (not (counts_home limit g.side)) i g.slots.now k) read
+  -- what it reads of a team that needs games
+  pub need-some : (i place need : ℕ) → i < league.n → place ≡ i → need ≡ get_or g.needs.items place need → 0 < need
+      → 0 < get_or g.needs.items i 0
+  need-some i place need below at read some = omega (arith, need-read i place need below at read, is.needs i below, some)
 
-  pub team-there : (i place need : ℕ) (home : Bool) → i < league.n → place ≡ i → need ≡ get_or g.needs.items place need
-      → 0 < need → home ≡ counts_home limit g.side
-      → Contains (rows_of league) (venue_row league.n (not home) i g.slots.now need)
-  team-there i place need home below at read some counts =
-      let known : need ≡ needed i = need-read i place need below at read in
-      subst (λ (r : Row). Contains (rows_of league) r) (sym (row-read i need home counts known))
-      (team_row-in limit league g.side g.slots.now i is.one (omega (arith, some, known)))
+  -- the constraint by which it needs them
+  pub need-made : (i place cause : ℕ) → i < league.n → place ≡ i → cause ≡ get_or g.causes.items place cause
+      → 0 < get_or g.needs.items i 0 → MakesNeed limit league.constraints g.side g.slots.now i (needed i) cause
+  need-made i place cause below at read some =
+      let known : cause ≡ get_or g.causes.items i 0 =
+      get_or_read g.causes.items place cause (omega (arith, below, at, is.places)) read 0
+      ∙ ap (λ (k : ℕ). get_or g.causes.items k 0) at in
+      subst (λ (k : ℕ). MakesNeed limit league.constraints g.side g.slots.now i (needed i) k) (sym known)
+      (subst (λ (k : ℕ). MakesNeed limit league.constraints g.side g.slots.now i k (get_or g.causes.items i 0))
+      (is.needs i below) (is.causes i below some))
 
-  pub team-named : (parts pushed : List Part) (i place need number : ℕ) (home : Bool) → i < league.n → place ≡ i
-      → need ≡ get_or g.needs.items place need → 0 < need → home ≡ counts_home limit g.side
-      → row_numbered (rows_of league) number ≡ Some (venue_row league.n (not home) i g.slots.now need)
+  -- the row of a team from its literals
+  pub team_row-as : (i place need degree : ℕ) (home : Bool) (items shown : List Literal) → i < league.n → place ≡ i
+      → need ≡ get_or g.needs.items place need → degree ≡ need → home ≡ counts_home limit g.side → shown ≡ items
+      → items ≡ map (λ s. literal (h_var league.n i s) (not home)) g.slots.now
+      → at_least degree shown ≡ team_row league.n (counts_home limit g.side) g.slots.now needed i
+  team_row-as i place need degree home items shown below at read count counts same are =
+      ap (at_least degree) (same ∙ are)
+      ∙ ap (λ (b : Bool). at_least degree (map (λ s. literal (h_var league.n i s) (not b)) g.slots.now)) counts
+      ∙ ap (λ (d : ℕ). at_least d (map (λ s. literal (h_var league.n i s) (not (counts_home limit g.side))) g.slots.now))
+      (count ∙ need-read i place need below at read)
+
+  -- it is among the rows of that constraint
+  pub team-there : (i place cause : ℕ) → i < league.n → place ≡ i → cause ≡ get_or g.causes.items place cause
+      → 0 < get_or g.needs.items i 0
+      → Contains (rows_of_constraint league cause)
+      (team_row league.n (counts_home limit g.side) g.slots.now needed i)
+  team-there i place cause below at read some =
+      team_row-of limit league g.side g.slots.now i (needed i) cause is.one
+      (omega (arith, some, is.needs i below)) (need-made i place cause below at read some)
+
+  pub team-named : (parts pushed : List Part) (i place need number : ℕ) → i < league.n → place ≡ i
+      → need ≡ get_or g.needs.items place need → 0 < need
+      → row_numbered (rows_of league) number
+      ≡ Some (team_row league.n (counts_home limit g.side) g.slots.now needed i)
       → pushed ≡ parts ++ part number ∷ [] → AreNamed (rows_of league) parts (named_to i)
       → AreNamed (rows_of league) pushed (named_to (i + 1))
-  team-named parts pushed i place need number home below at read some counts found more are =
+  team-named parts pushed i place need number below at read some found more are =
       let known : need ≡ needed i = need-read i place need below at read in
       subst (λ (ps : List Part). AreNamed (rows_of league) ps (named_to (i + 1))) (sym more)
       (named-team (rows_of league) (map (slot_row league.n (counts_home limit g.side)) g.slots.now)
       (team_row league.n (counts_home limit g.side) g.slots.now needed) needed parts i number are
-      (lt-ltb 0 (needed i) (omega (arith, some, known)))
-      (found ∙ ap (λ (r : Row). Some r) (row-read i need home counts known)))
+      (lt-ltb 0 (needed i) (omega (arith, some, known))) found)
 
   pub team-passed : (parts same : List Part) (i place need : ℕ) → i < league.n → place ≡ i
       → need ≡ get_or g.needs.items place need → need ≤ 0 → same ≡ parts

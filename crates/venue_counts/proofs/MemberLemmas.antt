@@ -1,7 +1,7 @@
--- What is in a list that is mapped, joined or filtered.
-use Rattle.std.proofs.Common.{◌≡◌, ℕ, zero, suc, Bool, true, ◌==◌, List, [], ◌∷◌, get_or}
-use Rattle.std.proofs.Common.{inl, inr, arith, ap, sym, subst, ◌∙◌}
-use Rattle.std.specs.Prelude.{Contains}
+-- What is in a list that is mapped, joined or filtered, and what stands at a place of a joined one.
+use Rattle.std.proofs.Common.{◌≡◌, ℕ, zero, suc, ◌+◌, Bool, true, ◌==◌, List, [], ◌∷◌, ◌++◌, length, get_or, take, drop}
+use Rattle.std.proofs.Common.{Some, inl, inr, refl, arith, ap, sym, subst, ◌∙◌}
+use Rattle.std.specs.Prelude.{Contains, slice_get}
 use Rattle.std.specs.List.{filter, list_any}
 use Rattle.std.proofs.lemmas.Bool.{cond-true, cond_both, eqb-true, or_cases, or_left, or_right}
 use Rattle.std.proofs.lemmas.List.Folds.{Any-from_list_any}
@@ -35,3 +35,27 @@ any-implied p q implied (x ∷ xs) is =
       | inl here ↦ or_left (q x) (list_any q xs) (implied x here)
       | inr later ↦ or_right (q x) (list_any q xs) (any-implied p q implied xs later)
     ]
+
+-- ---- what stands at a place
+
+pub got-left : {X : Type 0} (xs ys : List X) (k : ℕ) (x : X) → slice_get xs k ≡ Some x → slice_get (xs ++ ys) k ≡ Some x
+got-left [] ys k x is = absurd (cc)
+got-left (y ∷ xs) ys zero x is = is
+got-left (y ∷ xs) ys (suc k) x is = got-left xs ys k x is
+
+pub got-right : {X : Type 0} (xs ys : List X) (j k : ℕ) (x : X) → j ≡ length xs + k → slice_get ys k ≡ Some x
+    → slice_get (xs ++ ys) j ≡ Some x
+got-right [] ys j k x at is =
+    let same : j ≡ k = omega (arith, at) in
+    ap (slice_get ys) same ∙ is
+got-right (y ∷ xs) ys zero k x at is = absurd (omega (arith, at))
+got-right (y ∷ xs) ys (suc j) k x at is = got-right xs ys j k x (omega (arith, at)) is
+
+pub got-last : {X : Type 0} (xs : List X) (x : X) (k : ℕ) → k ≡ length xs → slice_get (xs ++ x ∷ []) k ≡ Some x
+got-last xs x k at = got-right xs (x ∷ []) k 0 x (omega (arith, at)) refl
+
+-- the part of a list that has only this item
+pub got-alone : {X : Type 0} (xs : List X) (k : ℕ) (x : X) → slice_get xs k ≡ Some x → take 1 (drop k xs) ≡ x ∷ []
+got-alone [] k x is = absurd (cc)
+got-alone {X} (y ∷ xs) zero x is = let same : y ≡ x = cc in ap (λ (z : X). z ∷ []) same
+got-alone (y ∷ xs) (suc k) x is = got-alone xs k x is

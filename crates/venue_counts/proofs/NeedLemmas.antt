@@ -1,10 +1,9 @@
 -- What teams need, constraint by constraint, and how it goes with their bounds.
-use Rattle.std.proofs.Common.{◌≡◌, ℕ, ◌+◌, ◌-◌, ◌*◌, ◌/◌, ◌%◌, ◌<◌, ◌≤◌, Bool, true, false, ◌&&◌, ◌||◌, nat_lt, min}
+use Rattle.std.proofs.Common.{◌≡◌, ℕ, ◌+◌, ◌-◌, ◌*◌, ◌/◌, ◌%◌, ◌≤◌, Bool, true, false, ◌&&◌, ◌||◌, nat_lt, min}
 use Rattle.std.proofs.Common.{max, cond}
-use Rattle.std.proofs.Common.{List, [], ◌∷◌, ◌++◌, length, suc, inl, inr, refl, arith, ap, sym, ◌∙◌}
-use Rattle.std.specs.Prelude.{Contains, bytes_eq, ◌⊎◌}
-use Rattle.std.specs.List.{fold, list_any, slice_index_or, sum_by}
-use Rattle.std.proofs.lemmas.Bool.{cases_lt}
+use Rattle.std.proofs.Common.{List, [], ◌∷◌, ◌++◌, length, refl, arith, ap, sym, ◌∙◌}
+use Rattle.std.specs.Prelude.{bytes_eq}
+use Rattle.std.specs.List.{fold, list_any, sum_by}
 use Rattle.std.proofs.lemmas.Bool.Decides.{nat_tests}
 use Rattle.std.proofs.lemmas.List.Elements.{filter-append}
 use Rattle.std.proofs.lemmas.List.Folds.{fold_along, list_any-append}
@@ -195,29 +194,6 @@ need_by-own Most side slots teams i min max =
     own_allowed (are_those side slots side slots) (is_in i teams) max (length slots) (those-itself side slots)
 need_by-own Least side slots teams i min max =
     own_asked (are_those side slots side slots) (is_in i teams) min (those-itself side slots)
-
--- ---- where something is needed, a constraint asks for it
-
--- a largest value is the first, or that of an element
-pub folded-attained : {X : Type 0} (f : X → ℕ) (from : ℕ) (xs : List X)
-    → (fold (λ most x. max most (f x)) from xs ≡ from)
-    ⊎ ((x : X) × Contains xs x × (f x ≡ fold (λ most x. max most (f x)) from xs))
-folded-attained f from [] = inl refl
-folded-attained f from (x ∷ xs) =
-    elim (folded-attained f (max from (f x)) xs) [
-      | inl first ↦ elim (cases_lt from (f x)) [
-        | inl above ↦ inr (x, (0, omega arith, refl), omega (arith, first))
-        | inr below ↦ inl (omega (arith, first))
-      ]
-      | inr some ↦
-          let k : ℕ = some.1.0 in
-          let within : k < length xs = some.1.1 in
-          inr (some.0, (k + 1, omega (arith, within), later x xs k some.0 some.1.2), some.2)
-    ]
-  where
-    later : {X : Type 0} (x : X) (xs : List X) (k : ℕ) (y : X) → slice_index_or xs k y ≡ y
-        → slice_index_or (x ∷ xs) (k + 1) y ≡ y
-    later x xs k y is = let next : k + 1 ≡ suc k = omega arith in rw next is
 
 -- ---- short, and crowded
 

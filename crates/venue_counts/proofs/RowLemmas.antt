@@ -1,15 +1,14 @@
 -- The rows that a count adds up are rows of the league.
-use Rattle.std.proofs.Common.{◌≡◌, ℕ, ◌+◌, ◌-◌, ◌/◌, ◌%◌, ◌<◌, Bool, true, false, not, cond, List, ◌++◌, length, map}
+use Rattle.std.proofs.Common.{◌≡◌, ℕ, ◌-◌, ◌/◌, ◌%◌, ◌<◌, Bool, true, false, not, cond, List, [], ◌∷◌, ◌++◌, length, map}
 use Rattle.std.proofs.Common.{inl, inr, refl, arith, ap, sym, subst, ◌∙◌}
 use Rattle.std.specs.Prelude.{Contains}
 use Rattle.std.specs.List.{flat_map}
 use Rattle.std.proofs.lemmas.Bool.{cases_Bool, lt-ltb}
 use Rattle.std.proofs.lemmas.List.{length-map}
-use Rattle.std.proofs.lemmas.List.Elements.{Contains-append_left, Contains-append_right}
-use Rattle.std.proofs.lemmas.List.FromFn.{get_or-range_with_len, length-range_with_len}
+use Rattle.std.proofs.lemmas.List.Elements.{Contains-append_left}
+use Rattle.std.proofs.lemmas.List.FromFn.{length-range_with_len}
 use Rattle.std.proofs.lemmas.Simd.{map-map}
-use Rattle.league.specs.Accepted.{hard_of}
-use Rattle.league.specs.Counts.{slot_count, slots_of, teams_of}
+use Rattle.league.specs.Counts.{teams_of}
 use Rattle.league.specs.Instance.{Instance, is_one_side}
 use Rattle.league.specs.Sets.{is_in}
 use Rattle.league.specs.declared.class.Class.{Class}
@@ -18,21 +17,22 @@ use Rattle.league.specs.declared.class.Constraint.{Constraint}
 use Rattle.league.specs.declared.class.Side.{Side}
 use Rattle.league.specs.declared.class.Side.TheVariants.{H, A, Both}
 use Rattle.league.proofs.ListLemmas.{Contains-flat_map, Contains-map}
-use Rattle.rows.specs.Cardinality.{at_least, at_most, exactly, unit}
+use Rattle.rows.specs.Cardinality.{at_least, at_most, unit}
 use Rattle.rows.specs.Literals.{Literal, negate, no, yes}
 use Rattle.rows.specs.Rows.{Row}
 use Rattle.rows.specs.Sums.{literal}
 use Rattle.encoding_base.specs.Demands.{ca1_rows}
-use Rattle.encoding_base.specs.Encoding.{class_rows, constraint_rows, demands, rows_of, season_rows}
+use Rattle.encoding_base.specs.Encoding.{class_rows, constraint_rows, demands}
 use Rattle.encoding_base.specs.Lists.{venues_in}
-use Rattle.encoding_base.specs.Season.{break_rows, cell_rows, half_rows, meeting_rows, slot_rows, team_rows, venue_rows}
-use Rattle.encoding_base.specs.Variables.{h_var, has_breaks}
-use Rattle.venue_counts.specs.CountLogs.{slot_row, team_row, venue_row}
-use Rattle.venue_counts.specs.Needs.{bounds_at, counts_home, need_by, need_of, own_need}
+use Rattle.encoding_base.specs.RowRanges.{rows_of_constraint}
+use Rattle.encoding_base.specs.Variables.{h_var}
+use Rattle.venue_counts.specs.CountLogs.{slot_row, venue_row}
+use Rattle.venue_counts.specs.Groups.{MakesNeed}
+use Rattle.venue_counts.specs.Needs.{bounds_at, counts_home, need_by, own_need}
 use Rattle.venue_counts.specs.declared.limit.Limit.{Limit}
 use Rattle.venue_counts.specs.declared.limit.Limit.TheVariants.{Most, Least}
-use Rattle.venue_counts.proofs.MemberLemmas.{Contains-filter, Contains-from_is_in}
-use Rattle.venue_counts.proofs.NeedLemmas.{folded-attained, need_by-others, need_by-own, need_of-folded, those-same}
+use Rattle.venue_counts.proofs.MemberLemmas.{Contains-filter, Contains-from_is_in, got-alone}
+use Rattle.venue_counts.proofs.NeedLemmas.{need_by-others, need_by-own, those-same}
 
 abbrev row : List Literal → ℕ → Row
 row literals degree = record { terms = map unit literals; degree = degree }
@@ -43,41 +43,14 @@ same_row xs ys d e literals degree =
 
 -- ---- the rows of slots
 
-in_season : (n s : ℕ) → s < slot_count n → Contains (slots_of n) s
-in_season n s below = (
-  s,
-  omega (arith, below, length-range_with_len 0 (slot_count n)),
-  get_or-range_with_len 0 (slot_count n) s s below ∙ (let here : 0 + s ≡ s = omega arith in here),
-)
-
-away_row : (n s : ℕ) → n % 2 ≡ 0 → at_most (n / 2) (map (λ i. yes (h_var n i s)) (teams_of n)) ≡ slot_row n false s
+-- at most half at home are at least half away
+pub away_row : (n s : ℕ) → n % 2 ≡ 0
+    → at_most (n / 2) (map (λ i. yes (h_var n i s)) (teams_of n)) ≡ slot_row n false s
 away_row n s even =
     let home : ℕ → Literal = λ i. yes (h_var n i s) in
     same_row (map negate (map home (teams_of n))) (map (λ i. literal (h_var n i s) false) (teams_of n))
     (length (map home (teams_of n)) - n / 2) (n / 2) (map-map negate home (teams_of n))
     (omega (arith, length-map (teams_of n) home, length-range_with_len 0 n, even))
-
-one_of_two : (n s : ℕ) (home : Bool) → n % 2 ≡ 0
-    → Contains (exactly (n / 2) (map (λ i. yes (h_var n i s)) (teams_of n))) (slot_row n home s)
-one_of_two n s true even = (0, omega arith, refl)
-one_of_two n s false even = (1, omega arith, away_row n s even)
-
-slot_row-there : (n s : ℕ) (home : Bool) → n % 2 ≡ 0 → s < slot_count n → Contains (slot_rows n) (slot_row n home s)
-slot_row-there n s home even below =
-    Contains-flat_map (λ t. exactly (n / 2) (map (λ i. yes (h_var n i t)) (teams_of n))) (slots_of n) s
-    (slot_row n home s) (in_season n s below) (one_of_two n s home even)
-
-pub slot_row-in : (league : Instance) (s : ℕ) (home : Bool) → league.n % 2 ≡ 0 → s < slot_count league.n
-    → Contains (rows_of league) (slot_row league.n home s)
-slot_row-in league s home even below =
-    let n : ℕ = league.n in
-    let front : List Row = meeting_rows n ++ cell_rows n ++ half_rows n league.phased ++ venue_rows n in
-    let tied : List Row = break_rows n (has_breaks league.constraints) in
-    let wanted : Row = slot_row n home s in
-    Contains-append_left (season_rows n league.phased ++ tied) (constraint_rows n league.constraints) wanted
-    (Contains-append_left (season_rows n league.phased) tied wanted
-    (Contains-append_left (front ++ slot_rows n) (team_rows n) wanted
-    (Contains-append_right front (slot_rows n) wanted (slot_row-there n s home even below))))
 
 -- ---- the rows of teams
 
@@ -175,22 +148,17 @@ class_row limit n side slots i need class one is some =
       | inr others ↦ absurd (none_needed limit side slots i need class is some others)
     ]
 
--- a team that needs games has a row that says so
-pub team_row-in : (limit : Limit) (league : Instance) (side : Side) (slots : List ℕ) (i : ℕ)
-    → is_one_side side ≡ true → 0 < need_of limit league.constraints side slots i
-    → Contains (rows_of league)
-    (team_row league.n (counts_home limit side) slots (need_of limit league.constraints side slots) i)
-team_row-in limit league side slots i one some =
+-- a hard constraint by which a team needs games has a row that says so
+pub team_row-of : (limit : Limit) (league : Instance) (side : Side) (slots : List ℕ) (i need k : ℕ)
+    → is_one_side side ≡ true → 0 < need → MakesNeed limit league.constraints side slots i need k
+    → Contains (rows_of_constraint league k) (venue_row league.n (not (counts_home limit side)) i slots need)
+team_row-of limit league side slots i need k one some by =
     let n : ℕ = league.n in
-    let need : ℕ = need_of limit league.constraints side slots i in
-    let wanted : Row = other_row limit n side slots i need in
-    let folded = need_of-folded limit league.constraints side slots i in
-    let by : Constraint → ℕ = λ c. need_by limit side slots i c.class in
-    Contains-append_right (season_rows n league.phased ++ break_rows n (has_breaks league.constraints))
-    (constraint_rows n league.constraints) wanted
-    (elim (folded-attained by 0 (hard_of league.constraints)) [
-      | inl none ↦ absurd (omega (arith, none, folded, some))
-      | inr found ↦
-          Contains-flat_map (λ (c : Constraint). class_rows n c.class) (hard_of league.constraints) found.0 wanted
-          found.1 (class_row limit n side slots i need found.0.class one (found.2 ∙ sym folded) some)
-    ])
+    let c : Constraint = by.constraint in
+    let own : Constraint → List Row = λ d. class_rows n d.class in
+    let rows : rows_of_constraint league k ≡ class_rows n c.class ++ [] =
+    ap (constraint_rows n) (got-alone league.constraints k c by.there)
+    ∙ ap (λ (hard : Bool). flat_map own (cond hard (c ∷ []) [])) by.hard in
+    subst (λ (rs : List Row). Contains rs (other_row limit n side slots i need)) (sym rows)
+    (Contains-append_left (class_rows n c.class) [] (other_row limit n side slots i need)
+    (class_row limit n side slots i need c.class one by.makes some))

@@ -9,7 +9,7 @@ use Rattle.std.specs.Ordering.{is_eq, nat_cmp}
 use Rattle.std.specs.declared.cmp.Ordering.TheVariants.{Less, Equal, Greater}
 use Rattle.std.proofs.Math.Nat.{pow-le-pow_right}
 use Rattle.std.proofs.lemmas.Bool.Decides.{nat_tests}
-use Rattle.std.proofs.lemmas.List.{take_all, take_more}
+use Rattle.std.proofs.lemmas.List.{length-take-le, take_all, take_more}
 use Rattle.std.proofs.lemmas.List.Sums.{sum_by_more}
 use Rattle.std.proofs.lemmas.Nat.{one_shl}
 use Rattle.league.specs.Instance.{class_fits}
@@ -92,6 +92,12 @@ pub teams-counted : (limit : Limit) (n : ℕ) (constraints : List Constraint) (g
 teams-counted limit n constraints groups find p g teams are within at below k d inside =
     omega (arith, below k d inside, (group-at limit n constraints groups find p g are within at).count)
 
+pub teams-placed : (limit : Limit) (n : ℕ) (constraints : List Constraint) (groups : List Group) (find : ℕ → Option ℕ)
+    (p : ℕ) (g : Group) (teams : List ℕ) → AreGroups limit n constraints groups find → p < length groups
+    → g ≡ get_or groups p g → All (λ i. i < n) teams → All (λ i. i < length g.causes.items) teams
+teams-placed limit n constraints groups find p g teams are within at below k d inside =
+    omega (arith, below k d inside, (group-at limit n constraints groups find p g are within at).places)
+
 -- ---- one constraint more
 
 more-constraints : (constraints : List Constraint) (k : ℕ) (c : Constraint) → k < length constraints
@@ -141,7 +147,7 @@ pub added : (limit : Limit) (n : ℕ) (constraints : List Constraint) (k : ℕ) 
     (slots teams : List ℕ) (min most need : ℕ) (groups : List Group) (find : ℕ → Option ℕ) (p : ℕ) (g h : Group)
     → k < length constraints → c ≡ get_or constraints k c → c.hard ≡ true → c.class ≡ Ca1 teams min most side slots
     → IsTrue (class_fits n c.class) → need ≡ own_need limit min most (length slots) → p < length groups
-    → g ≡ get_or groups p g → key_at g ≡ key_of side slots → IsRaised teams need g h → AreFound groups find
+    → g ≡ get_or groups p g → key_at g ≡ key_of side slots → IsRaised teams need k g h → AreFound groups find
     → AreGroups limit n (take k constraints) groups find
     → AreGroups limit n (take (k + 1) constraints) (set groups p h) find
 added limit n constraints k c side slots teams min most need groups find p g h there is hard class fits needed within at
@@ -154,9 +160,9 @@ added limit n constraints k c side slots teams min most need groups find p g h t
     let same = same_key n g.side side g.slots.now slots group.one parts.1 group.season parts.0 key in
     subst (λ (cs : List Constraint). AreGroups limit n cs (set groups p h) find)
     (sym (more-constraints constraints k c there is))
-    (groups-raised limit n (take k constraints) c side slots teams min most groups find p g h
-    (record { hard = hard; class_is = class }) within at same.0 same.1
-    (subst (λ (k : ℕ). IsRaised teams k g h) needed raised) found are)
+    (groups-raised limit n (take k constraints) c side slots teams min most k groups find p g h
+    (record { hard = hard; class_is = class }) (sym (length-take-le k constraints (omega (arith, there)))) within at
+    same.0 same.1 (subst (λ (m : ℕ). IsRaised teams m k g h) needed raised) found are)
 
 -- ---- all constraints
 

@@ -27,6 +27,9 @@ pub fn venue_count(alloc: Global, league: &League) -> Result<Option<Log>, AllocE
     ensures short { IfOk result (λ found. IsSome found ↔ (are_short league.now ≡ true)) }
     ensures counted { IfOk result (λ found. IfSome found (IsShortCount league.now)) }
     ensures refuting { IfOk result (λ found. IfSome found (IsRefuting league.now)) }
+
+    // What holds of every league.
+    ensures instance { IsInstance league.now }
 {
     count(alloc, league, Limit::Most)
 }
@@ -42,6 +45,9 @@ pub fn venue_count_low(alloc: Global, league: &League) -> Result<Option<Log>, Al
     ensures crowded { IfOk result (λ found. IsSome found ↔ (are_crowded league.now ≡ true)) }
     ensures counted { IfOk result (λ found. IfSome found (IsCrowdedCount league.now)) }
     ensures refuting { IfOk result (λ found. IfSome found (IsRefuting league.now)) }
+
+    // What holds of every league.
+    ensures instance { IsInstance league.now }
 {
     count(alloc, league, Limit::Least)
 }

@@ -84,7 +84,7 @@ impl<'a> Groups<'a> {
         let slots = slot_numbers(n, slots);
         let need = limit.need(*min, *max, slots.len() as u32);
         let place = self.place_of(alloc, n, *side, slots)?;
-        self.groups[place].raise(teams, need);
+        self.groups[place].raise(teams, need, k);
         Ok(())
     }
 

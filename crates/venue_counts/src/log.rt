@@ -1,7 +1,7 @@
 //! The log of a group whose teams need more games than there are.
 ghost use Rattle.std.specs.Prelude.{◌≡◌, [], ◌∷◌, ◌+◌, ◌^◌, ◌<◌, length, map, IfOk, OnOk, IsTrue};
 ghost use Rattle.std.specs.List.{All};
-ghost use Rattle.league.specs.Instance.{are_slots};
+ghost use Rattle.league.specs.Instance.{IsInstance, are_slots};
 ghost use Rattle.encoding_base.specs.Encoding.{rows_of};
 ghost use Rattle.refutation.specs.Steps.{NamesRows};
 ghost use Rattle.refutation.specs.Steps.Step.{Clause, Linear};
@@ -36,7 +36,6 @@ pub(crate) fn log_of(
     ensures named { IfOk result (All NamesRows) }
     ensures short { IfOk result HasShortLines }
 {
-    let _n = encoding.n();
     let mut parts = slot_parts(alloc, encoding, group.slots, limit.counts_home(group.side))?;
     add_teams(alloc, encoding, group, limit, &mut parts)?;
     let log = two_steps(alloc, encoding.rows(), &parts)?;
@@ -70,7 +69,7 @@ fn slot_parts(
 {
     let mut parts = Vec::new(alloc);
     for slot in slots {
-        let row = slot_number(alloc, encoding, *slot, home)?;
+        let row = slot_number(encoding, *slot, home);
         parts.push(Part { factor: 1, row })?;
     }
     Ok(parts)
@@ -87,15 +86,15 @@ fn add_teams(
     requires group { IsGroup limit encoding.now.n encoding.now.constraints group.now }
     requires slots { AreNamed (rows_of encoding.now) parts.old.items
         (map (slot_row encoding.now.n (counts_home limit group.now.side)) group.now.slots.now) }
-    ensures { OnOk result (AreNamed (rows_of encoding.now) parts.new.items
+    ensures named { OnOk result (AreNamed (rows_of encoding.now) parts.new.items
         (counted_rows encoding.now.n (counts_home limit group.now.side) group.now.slots.now
         (need_of limit encoding.now.constraints group.now.side group.now.slots.now))) }
+    ensures instance { IsInstance encoding.now }
 {
-    let home = limit.counts_home(group.side);
     for team in 0..encoding.n() {
         let need = group.needs[usize::from(team)];
         if need > 0 {
-            let row = team_number(alloc, encoding, team, group.slots, !home, need)?;
+            let row = team_number(alloc, encoding, group, limit, team)?;
             parts.push(Part { factor: 1, row })?;
         }
     }

@@ -22,4 +22,3 @@ returns c =
     (subst (λ (rows : List Row). Refutes rows c.vars-vars.result None c.in-Refuted.log) c.rows.ensures
     (subst (λ (f : Found). IsAnswer c.rows.result.now c.vars-vars.result None f) c.in-Refuted.is
     c.in_ok-found.ensures)))
-    c.note_numbers.ensures

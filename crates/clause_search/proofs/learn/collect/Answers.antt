@@ -8,3 +8,6 @@ loop-k-preserved c = record {
   hints = collected_hints c.args.trail.now.entries c.args.roles.now c.loop-k.k c.loop-k.hints.items
       c.collect_place.new.hints.items c.loop-k.invariant.hints c.in_ok-collect_place.ensures.hints;
 }
+
+pub returns-clause-small : goal.returns-clause-small
+returns-clause-small c = c.type_inv.hints

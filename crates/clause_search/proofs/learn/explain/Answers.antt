@@ -16,4 +16,4 @@ returns-clause-learnable c =
     walked_learnable c.args.trail.now c.args.conflict.row c.args.start c.back_level.result c.deref.result.now
     c.collect.new.clause.items c.collect.new.hints.items c.len-len.ensures.lawful
     (omega (arith, c.len-len.ensures.len, c.len-len.ensures.at_most)) c.requires.start analyzed back
-    c.in_ok-collect.ensures.clause c.in_ok-collect.ensures.hints
+    c.in_ok-collect.ensures.clause c.in_ok-collect.ensures.hints c.in_ok-collect.ensures.small

@@ -1,4 +1,5 @@
-use Rattle.std.proofs.Common.{List, arith, sym, subst, ◌∙◌}
+use Rattle.std.proofs.Common.{ℕ, ◌<◌, ◌^◌, List, arith, sym, subst, ◌∙◌}
+use Rattle.std.specs.List.{All}
 use Rattle.clause_search.specs.Marks.{IsTraced}
 use Rattle.clause_search.specs.declared.role.Role.{Role}
 use Rattle.clause_search.proofs.LearnLemmas.{closes}
@@ -10,4 +11,7 @@ returns-clause-closes c =
     c.len-len.ensures.lawful (omega (arith, c.len-len.ensures.len, c.len-len.ensures.at_most))
     (subst (λ (rs : List Role). IsTraced c.args.trail.now c.args.conflict.row rs 0) (sym c.deref.ensures.value)
     c.in_ok-find_root_roles.ensures)
-    (c.deref-2.ensures.value ∙ c.in_ok-collect.ensures.hints) c.in_ok-push.ensures.ok
+    (c.deref-2.ensures.value ∙ c.in_ok-collect.ensures.hints)
+    (subst (λ (hs : List ℕ). All (λ hint. hint < 2 ^ 64) hs) (sym c.deref-2.ensures.value)
+    c.in_ok-collect.ensures.small)
+    c.in_ok-push.ensures.ok

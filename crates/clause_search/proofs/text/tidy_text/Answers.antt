@@ -12,5 +12,5 @@ pub returns-clause-reads_back : goal.returns-clause-reads_back
 returns-clause-reads_back c =
     IfOk-weaker c.log_text.result (λ text. HasShortLines c.args.log.now → log_of text.items ≡ Ok c.args.log.now)
     (λ text. log_of text.items ≡ Ok c.args.log.now)
-    (λ text given. given (all_short c.args.log.now c.requires.tidy c.requires.clauses c.note_numbers.ensures))
+    (λ text given. given (all_short c.args.log.now c.requires.tidy c.requires.clauses))
     c.log_text.ensures.reads_back

@@ -12,6 +12,7 @@ found_reply-requires g c = record {
 pub returns-in_ok-found_reply-in-Ok : goal.returns-in_ok-found_reply-in-Ok
 returns-in_ok-found_reply-in-Ok g c =
     found-answered c.args.league.now c.args.budgets (g.W.Watch.may_stop c.args.watch.now) c.args.start.now c.in-Ok.solved
-    c.in_ok-found_reply-in-Ok.field-0 (c.in-Ok.ensures.limit.within refl) c.n-n.ensures.instance.teams
+    c.in_ok-found_reply-in-Ok.field-0 (c.in-Ok.ensures.limit.within refl)
+    c.in_ok-found_reply-in-Ok.ensures.instance.teams
     c.in-Ok.ensures.solution c.in-Ok.ensures.no_worse c.in-Ok.ensures.circle c.in-Ok.ensures.short
-    c.in-Ok.ensures.crowded c.in-Ok.ensures.few c.in_ok-found_reply-in-Ok.ensures
+    c.in-Ok.ensures.crowded c.in-Ok.ensures.few c.in_ok-found_reply-in-Ok.ensures.written

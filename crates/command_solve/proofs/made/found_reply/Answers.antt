@@ -2,8 +2,8 @@ use Rattle.solve.proofs.FewLemmas.{round_robin-few}
 use Rattle.command_solve.proofs.TrialLemmas.{replied-trial}
 use Rattle.command_solve.proofs.made.found_reply.Goals as goal
 
-pub returns : goal.returns
-returns c =
+pub returns-clause-written : goal.returns-clause-written
+returns-clause-written c =
     replied-trial c.args.seed c.args.league.now c.args.solved.now c.in-Schedule.schedule c.in-Schedule.objective
     c.in-Schedule.descent c.schedule_reply.result c.in-Schedule.is c.schedule_reply.ensures.status
     c.schedule_reply.ensures.text

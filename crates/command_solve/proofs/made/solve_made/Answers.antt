@@ -12,6 +12,6 @@ pub returns-in_ok-found_reply-in-Ok : goal.returns-in_ok-found_reply-in-Ok
 returns-in_ok-found_reply-in-Ok g c = inl (
   c.in-Ok.ensures.limit.within refl,
   trial-by c.args.seed c.args.league.now c.args.budgets (g.W.Watch.may_stop c.args.watch.now) c.in-Ok.solved
-      c.in_ok-found_reply-in-Ok.field-0 c.n-n.ensures.instance.teams c.in-Ok.ensures.solution
-      c.in_ok-found_reply-in-Ok.ensures,
+      c.in_ok-found_reply-in-Ok.field-0 c.in_ok-found_reply-in-Ok.ensures.instance.teams c.in-Ok.ensures.solution
+      c.in_ok-found_reply-in-Ok.ensures.written,
 )

@@ -52,9 +52,10 @@ returns-in_ok-log-in-Refuted c = λ limit is.
     (c.len-all.ensures.len ∙ ap (λ (rows : List Row). length rows) c.rows.ensures) limit c.in-Refuted.log
     c.in_ok-log-in-Refuted.log c.vars-vars.ensures.instance
     (here _ _ _ _ _ c.in-Refuted.is is)
-    (c.in_ok-log-in-Refuted.ensures
+    (c.in_ok-log-in-Refuted.ensures.steps
     ∙ ap (λ (numbers : List ℕ). raised_steps c.args.games numbers c.len-all.result 0 c.in-Refuted.log)
     c.deref.ensures.value)
+    c.in_ok-log-in-Refuted.ensures.small
 
 pub returns-in_ok-log-in-Spent : goal.returns-in_ok-log-in-Spent
 returns-in_ok-log-in-Spent c = λ limit is.
@@ -62,6 +63,7 @@ returns-in_ok-log-in-Spent c = λ limit is.
     c.args.picked.now.numbers.items c.requires.picked c.requires.games
     (c.len-all.ensures.len ∙ ap (λ (rows : List Row). length rows) c.rows.ensures) limit c.in-Spent.log
     c.in_ok-log-in-Spent.log (here _ _ _ _ _ c.in-Spent.is is)
-    (c.in_ok-log-in-Spent.ensures
+    (c.in_ok-log-in-Spent.ensures.steps
     ∙ ap (λ (numbers : List ℕ). raised_steps c.args.games numbers c.len-all.result 0 c.in-Spent.log)
     c.deref-in-Spent.ensures.value)
+    c.in_ok-log-in-Spent.ensures.small

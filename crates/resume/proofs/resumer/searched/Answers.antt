@@ -11,7 +11,7 @@ found_in-requires-clause-league g c = ap (λ (r : PartlyPlayed). r.league) c.in_
 
 pub told-requires : goal.told-requires
 told-requires g c =
-    let by = c.in_ok-found.ensures in
+    let by = c.in_ok-found.ensures.answer in
     meets_league c.args.league.now (counts_of c.args.played.now) c.args.k by.kept c.in_ok-found.found
     (subst
     (λ (r : PartlyPlayed). IsAnswer (rows_for r) (var_count r.league) by.kept c.in_ok-found.found)
@@ -19,11 +19,11 @@ told-requires g c =
 
 pub returns-clause-answer : goal.returns-clause-answer
 returns-clause-answer g c =
-    let by = c.in_ok-found.ensures in (
+    let by = c.in_ok-found.ensures.answer in (
       by.kept,
       by.is_kept,
       told_resumed c.args.league.now c.args.played.now c.args.k by.kept c.in_ok-found.found
-          c.in_ok-resumed.resumed c.n-n.ensures.instance c.requires.fit c.requires.slots
+          c.in_ok-resumed.resumed c.in_ok-found.ensures.instance c.requires.fit c.requires.slots
           (subst
           (λ (r : PartlyPlayed). IsAnswer (rows_for r) (var_count r.league) by.kept c.in_ok-found.found)
           c.in_ok-system.ensures.of by.answer)

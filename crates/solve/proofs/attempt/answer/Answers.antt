@@ -22,7 +22,7 @@ returns-in-Refuted g c = record {
       (few_variables c.args.encoding.now c.vars-vars.result c.vars-vars.ensures.vars c.vars-vars.ensures.at_most)
       (subst
       (λ (f : Found). IsAnswer (rows_of c.args.encoding.now) (var_count c.args.encoding.now) c.requires.found.kept f)
-      c.in-Refuted.is c.requires.found.answer) c.note_numbers.ensures;
+      c.in-Refuted.is c.requires.found.answer);
 }
 
 pub returns-in-Spent : goal.returns-in-Spent
@@ -34,5 +34,5 @@ returns-in-Spent g c = record {
       (few_variables c.args.encoding.now c.vars-vars.result c.vars-vars.ensures.vars c.vars-vars.ensures.at_most)
       (subst
       (λ (f : Found). IsAnswer (rows_of c.args.encoding.now) (var_count c.args.encoding.now) c.requires.found.kept f)
-      c.in-Spent.is c.requires.found.answer) c.note_numbers-in-Spent.ensures;
+      c.in-Spent.is c.requires.found.answer);
 }

@@ -3,4 +3,4 @@ use Rattle.solve.proofs.counting.count_out.Goals as goal
 
 pub returns-clause-refuted : goal.returns-clause-refuted
 returns-clause-refuted c =
-    any_refuted c.args.league.now c.in_ok-few.few c.n-n.ensures.instance c.in_ok-few.ensures.refuting
+    any_refuted c.args.league.now c.in_ok-few.few c.in_ok-few.ensures.instance c.in_ok-few.ensures.refuting

@@ -7,10 +7,10 @@ use Rattle.solve.proofs.counting.count_venues.Goals as goal
 
 pub returns-in-Some-clause-refuted : goal.returns-in-Some-clause-refuted
 returns-in-Some-clause-refuted c =
-    refuted_by c.args.league.now c.in-Some.log c.n-n.ensures.instance
+    refuted_by c.args.league.now c.in-Some.log c.in_ok-log.ensures.instance
     (subst (λ (found : Option (List Step)). IfSome found (IsRefuting c.args.league.now)) c.in-Some.is
     c.in_ok-log.ensures.refuting)
 
 pub returns-clause-refuted : goal.returns-clause-refuted
 returns-clause-refuted c =
-    any_refuted c.args.league.now c.in_ok-crowded.crowded c.n-n.ensures.instance c.in_ok-crowded.ensures.refuting
+    any_refuted c.args.league.now c.in_ok-crowded.crowded c.in_ok-crowded.ensures.instance c.in_ok-crowded.ensures.refuting

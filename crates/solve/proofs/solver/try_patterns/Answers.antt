@@ -9,8 +9,7 @@ returns-in-Refuted g c = record {
   are_kept = as-set c.args.budgets (g.W.Watch.may_stop c.args.watch.now);
   solution = patterns_refuted c.args.encoding.now c.in_ok-found.ensures.kept c.in-Refuted.log
       (few_variables c.args.encoding.now c.vars-vars.result c.vars-vars.ensures.vars c.vars-vars.ensures.at_most)
-      (found_here c.args.encoding.now c.in_ok-found.ensures.kept _ _ c.in-Refuted.is c.in_ok-found.ensures.answer)
-      c.note_numbers.ensures;
+      (found_here c.args.encoding.now c.in_ok-found.ensures.kept _ _ c.in-Refuted.is c.in_ok-found.ensures.answer);
 }
 
 pub try_with-requires : goal.try_with-requires

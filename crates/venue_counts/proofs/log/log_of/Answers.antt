@@ -10,14 +10,14 @@ returns-clause-named c =
     names-rows (rows_of c.args.encoding.now) _ c.in_ok-log.log
     (adds-up-as (rows_of c.args.encoding.now) c.rows.result.now _ _ _ c.in_ok-log.log c.rows.ensures
     c.deref.ensures.value
-    c.in_ok-add_teams.ensures c.in_ok-log.ensures.steps)
+    c.in_ok-add_teams.ensures.named c.in_ok-log.ensures.steps)
 
 pub returns-clause-short : goal.returns-clause-short
 returns-clause-short c =
     short-lines (rows_of c.args.encoding.now) _ c.in_ok-log.log
     (adds-up-as (rows_of c.args.encoding.now) c.rows.result.now _ _ _ c.in_ok-log.log c.rows.ensures
     c.deref.ensures.value
-    c.in_ok-add_teams.ensures c.in_ok-log.ensures.steps)
+    c.in_ok-add_teams.ensures.named c.in_ok-log.ensures.steps)
     (subst (λ (rs : List Row). length rs < 2 ^ 32) c.rows.ensures c.in_ok-log.ensures.few)
     (counted-few c.args.encoding.now.n _ c.args.group.now.slots.now _
-    c.n-n.ensures.instance.teams.at_most c.requires.season)
+    c.in_ok-add_teams.ensures.instance.teams.at_most c.requires.season)

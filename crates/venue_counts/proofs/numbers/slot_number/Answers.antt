@@ -1,21 +1,29 @@
-use Rattle.std.proofs.Common.{ap, arith, ◌∙◌}
-use Rattle.rows.specs.Sums.{literal}
-use Rattle.encoding_base.specs.Variables.{h_var}
-use Rattle.rows.specs.Cardinality.{at_least}
-use Rattle.venue_counts.proofs.NumberedLemmas.{literals-more, slot_row-as, slot_row-shown}
+use Rattle.std.proofs.Common.{Bool, Some, ap, subst, sym, ◌∙◌}
+use Rattle.league.specs.Counts.{slot_count}
+use Rattle.league.specs.Instance.{Instance, IsTeamCount}
+use Rattle.venue_counts.specs.CountLogs.{slot_row}
+use Rattle.venue_counts.proofs.SlotLemmas.{slot_row-numbered}
 use Rattle.venue_counts.proofs.numbers.slot_number.Goals as goal
 
-pub loop-team-preserved : goal.loop-team-preserved
-loop-team-preserved c =
-    c.in_ok-push.ensures.items
-    ∙ literals-more (λ i. literal (h_var c.args.encoding.now.n i c.args.slot) c.args.home) c.loop-team.literals.items
-    c.loop-team.team c.new.result c.loop-team.invariant
-    (c.new.ensures ∙ ap (λ v. literal v c.args.home) c.h.ensures.var)
+pub rows_before_slots-before-requires-clause-teams : goal.rows_before_slots-before-requires-clause-teams
+rows_before_slots-before-requires-clause-teams c =
+    subst IsTeamCount (sym c.n.ensures.n) c.n.ensures.instance.teams
 
-pub number_of-requires : goal.number_of-requires
-number_of-requires c =
-    slot_row-shown c.args.encoding.now c.rows.result.now c.args.slot c.args.home
-    (at_least c.from-2.result c.deref.result.now) c.n-n.ensures.instance.teams c.requires c.rows.ensures
-    (slot_row-as c.args.encoding.now.n c.loop-team.team c.args.slot c.from-2.result c.args.home
-    c.loop-team.literals.items c.deref.result.now c.deref.ensures.value c.loop-team.invariant (omega arith)
-    (omega arith))
+pub rows_before_slots-before-requires-clause-slots : goal.rows_before_slots-before-requires-clause-slots
+rows_before_slots-before-requires-clause-slots c = c.slots.ensures.slots ∙ ap slot_count (sym c.n.ensures.n)
+
+pub returns-then-home : goal.returns-then-home
+returns-then-home c =
+    (slot_row-numbered c.args.encoding.now c.n.result c.args.slot c.rows_before_slots-before.result c.from.result
+    c.phased-phased.result c.n.ensures.n
+    (c.phased-phased.ensures ∙ ap (λ (league : Instance). league.phased) c.league.ensures)
+    c.n.ensures.instance.teams.even c.requires c.rows_before_slots-before.ensures.before c.from.ensures).0
+    ∙ ap (λ (home : Bool). Some (slot_row c.args.encoding.now.n home c.args.slot)) (sym c.if-home.true)
+
+pub returns-else-home : goal.returns-else-home
+returns-else-home c =
+    (slot_row-numbered c.args.encoding.now c.n.result c.args.slot c.rows_before_slots-before.result c.from.result
+    c.phased-phased.result c.n.ensures.n
+    (c.phased-phased.ensures ∙ ap (λ (league : Instance). league.phased) c.league.ensures)
+    c.n.ensures.instance.teams.even c.requires c.rows_before_slots-before.ensures.before c.from.ensures).1
+    ∙ ap (λ (home : Bool). Some (slot_row c.args.encoding.now.n home c.args.slot)) (sym c.if-home.false)

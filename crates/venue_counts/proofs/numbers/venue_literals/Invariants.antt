@@ -1,8 +1,9 @@
 use Rattle.std.proofs.Common.{◌≡◌, map, take}
 use Rattle.rows.specs.Sums.{literal}
 use Rattle.encoding_base.specs.Variables.{h_var}
-use Rattle.venue_counts.proofs.numbers.team_number.Given as goal
+use Rattle.venue_counts.proofs.numbers.venue_literals.Given as goal
 
+-- the literals so far
 abbrev pub invariant-loop-slot : goal.invariant-loop-slot
 invariant-loop-slot l =
-    l.literals.items ≡ map (λ s. literal (h_var l.encoding.n l.team s) l.home) (take l.slot-index l.slots)
+    l.literals.items ≡ map (λ s. literal (h_var l.n l.team s) l.home) (take l.slot-index l.slots)
