@@ -136,8 +136,6 @@ fn check_log<S: Shelf>(
     ensures taken { S.taken shelf.new ≤ S.taken shelf.old + (most_log_bytes + 1) }
     ensures contents { (n : List ℕ) → S.contents shelf.new n ≡ S.contents shelf.old n }
 {
-    // For its contract: what is encoded is a league, of which accepted logs exclude every schedule.
-    let _vars = encoding.vars();
     let mut checker = checker_of(alloc, encoding)?;
     judge_log(alloc, shelf, name, &mut checker)
 }

@@ -3,6 +3,7 @@ ghost use Rattle.std.specs.Prelude.{◌≡◌, ◌≤◌, length, IfOk};
 ghost use Rattle.rows.specs.Rows.{SatisfiesAll};
 ghost use Rattle.rows.specs.Values.{assigned};
 ghost use Rattle.encoding_base.specs.Encoding.{rows_of};
+ghost use Rattle.encoding_base.specs.Known.{AreKnown};
 ghost use Rattle.encoding_base.specs.Variables.{var_count};
 ghost use Rattle.answers.specs.SeenReply.{answer_of};
 ghost use Rattle.command_rows.specs.Valued as valued;
@@ -39,7 +40,6 @@ fn season_reply(
     requires met { SatisfiesAll (assigned values.now) (rows_of encoding.now) }
     ensures { IfOk result (λ reply. IsSeason encoding.now (assigned values.now) (answer_of reply)) }
 {
-    let _n = encoding.n();
     let schedule = decode(alloc, encoding, values)?;
     let assessed = assess(alloc, encoding.league(), &schedule)?;
     let text = solution_text(alloc, &schedule, Some((0, assessed.objective)))?;
@@ -52,10 +52,10 @@ fn season_reply(
 /// What is found of values.
 fn found_reply(alloc: Global, encoding: &Encoding, values: &Assignment) -> Result<Reply, AllocError>
     requires count { length values.now ≡ var_count encoding.now }
+    requires known { AreKnown (var_count encoding.now) (rows_of encoding.now) }
     ensures { IfOk result (λ reply. valued.found_of encoding.now (assigned values.now)
         (valued.missed_from 1 (rows_of encoding.now) (assigned values.now)) (answer_of reply)) }
 {
-    let _vars = encoding.vars();
     match missed_row(encoding.rows(), values) {
         Some(row) => missed_reply(alloc, row),
         None => season_reply(alloc, encoding, values),

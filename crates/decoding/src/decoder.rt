@@ -3,6 +3,7 @@ ghost use Rattle.std.specs.Prelude.{◌≡◌, ◌<◌, ◌≤◌, ◌++◌, len
 ghost use Rattle.league.specs.Accepted.{IsAccepted};
 ghost use Rattle.league.specs.Counts as counts;
 ghost use Rattle.league.specs.Counts.{counts_of};
+ghost use Rattle.league.specs.Instance.{IsInstance};
 ghost use Rattle.league.specs.Order.{IsInOrder};
 ghost use Rattle.rows.specs.Rows.{SatisfiesAll};
 ghost use Rattle.rows.specs.Values.{assigned};
@@ -33,6 +34,9 @@ pub fn decode(
     ensures in_order { IfOk result (λ schedule. IsInOrder schedule) }
     ensures accepted { SatisfiesAll (assigned assignment.now) (rows_of encoding.now) →
         IfOk result (λ schedule. IsAccepted encoding.now (counts_of schedule)) }
+
+    // What holds of every encoding.
+    ensures instance { IsInstance encoding.now }
 {
     let schedule = decode_games(alloc, encoding.n(), assignment)?;
     Ok(schedule)

@@ -1,5 +1,6 @@
 //! Logs checked over an encoding.
 ghost use Rattle.std.specs.Prelude.{◌≡◌, IfOk, Ok};
+ghost use Rattle.league.specs.Instance.{IsInstance};
 ghost use Rattle.encoding.specs.Encoding.{rows_of};
 ghost use Rattle.encoding.specs.Variables.{var_count};
 ghost use Rattle.refutation.specs.Verdict.{verdict_of};
@@ -28,7 +29,10 @@ pub fn check_log(alloc: Global, encoding: &Encoding, log: &Log) -> Result<Verdic
 /// # Errors
 /// Only where memory runs out.
 pub fn checker_of(alloc: Global, encoding: &Encoding) -> Result<Checker<'_>, AllocError>
-    ensures { IfOk result (λ checker. checker ≡ no_step_of (rows_of encoding.now) (var_count encoding.now)) }
+    ensures checker { IfOk result (λ checker. checker ≡ no_step_of (rows_of encoding.now) (var_count encoding.now)) }
+
+    // What holds of every encoding: accepted logs exclude every schedule of its league.
+    ensures instance { IsInstance encoding.now }
 {
     Checker::new(alloc, encoding.rows(), encoding.vars())
 }

@@ -152,7 +152,6 @@ fn accepted<W: Listener>(
     requires satisfied { SatisfiesAll (assigned values.now) (rows_of encoding.now) }
     ensures { IfOk result (IsSeasonBy encoding.now moves (W.may_stop watch.now)) }
 {
-    let _n = encoding.n();
     let league = encoding.league();
     let schedule = decode(alloc, encoding, values)?;
     tell_found(alloc, league, &schedule, watch)?;

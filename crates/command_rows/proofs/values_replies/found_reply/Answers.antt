@@ -15,7 +15,7 @@ pub missed_row-requires : goal.missed_row-requires
 missed_row-requires c =
     subst (λ (rows : List Row). AreKnown (length c.args.values.now) rows) (sym c.rows.ensures)
     (subst (λ (vars : ℕ). AreKnown vars (rows_of c.args.encoding.now)) (sym c.requires.count)
-    c.vars-vars.ensures.known)
+    c.requires.known)
 
 pub season_reply-requires-clause-met : goal.season_reply-requires-clause-met
 season_reply-requires-clause-met c =

@@ -12,7 +12,7 @@ use Rattle.command_rows.proofs.values_replies.season_reply.Goals as goal
 pub assess-requires-clause-few : goal.assess-requires-clause-few
 assess-requires-clause-few c =
     accepted_few c.args.encoding.now.n (assigned c.args.values.now) c.in_ok-schedule.schedule
-    c.in_ok-schedule.ensures.games c.n-n.ensures.instance.teams.at_most
+    c.in_ok-schedule.ensures.games c.in_ok-schedule.ensures.instance.teams.at_most
     (c.in_ok-schedule.ensures.accepted c.requires.met).round_robin.pairs
 
 pub assess-requires-clause-fit : goal.assess-requires-clause-fit
@@ -28,7 +28,7 @@ returns c =
     let schedule : List Game = c.in_ok-schedule.schedule in
     let games : schedule ≡ decoded league.n values = c.in_ok-schedule.ensures.games in
     let is : IsAccepted league (counts_of schedule) = c.in_ok-schedule.ensures.accepted c.requires.met in
-    let most = c.n-n.ensures.instance.teams.at_most in
+    let most = c.in_ok-schedule.ensures.instance.teams.at_most in
     record {
       accepted = subst (λ (gs : List Game). IsAccepted league (counts_of gs)) games is;
       status = refl;

@@ -7,8 +7,11 @@ use Rattle.encoding_base.specs.Encoding.{rows_of}
 use Rattle.command_rows.specs.Valued.{IsValued, found_of, missed_from}
 use Rattle.command_rows.proofs.values_replies.values_reply.Goals as goal
 
-pub found_reply-requires : goal.found_reply-requires
-found_reply-requires c = record { count = c.in_ok-values.ensures.length ∙ c.vars.ensures.vars }
+pub found_reply-requires-clause-count : goal.found_reply-requires-clause-count
+found_reply-requires-clause-count c = c.in_ok-values.ensures.length ∙ c.vars.ensures.vars
+
+pub found_reply-requires-clause-known : goal.found_reply-requires-clause-known
+found_reply-requires-clause-known c = c.vars.ensures.known
 
 pub returns : goal.returns
 returns c =

@@ -15,7 +15,7 @@ tell_found-requires-clause-fit g c =
 pub tell_found-requires-clause-few : goal.tell_found-requires-clause-few
 tell_found-requires-clause-few g c =
     accepted_few c.args.encoding.now.n (assigned c.args.values.now) c.in_ok-schedule.schedule
-    c.in_ok-schedule.ensures.games c.n-n.ensures.instance.teams.at_most
+    c.in_ok-schedule.ensures.games c.in_ok-schedule.ensures.instance.teams.at_most
     (c.in_ok-schedule.ensures.accepted c.requires.satisfied).round_robin.pairs
 
 pub lowered_told-requires-clause-accepted : goal.lowered_told-requires-clause-accepted
@@ -31,5 +31,5 @@ lowered_told-requires-clause-fit g c =
 pub lowered_told-requires-clause-few : goal.lowered_told-requires-clause-few
 lowered_told-requires-clause-few g c =
     accepted_few c.args.encoding.now.n (assigned c.args.values.now) c.in_ok-schedule.schedule
-    c.in_ok-schedule.ensures.games c.n-n.ensures.instance.teams.at_most
+    c.in_ok-schedule.ensures.games c.in_ok-schedule.ensures.instance.teams.at_most
     (c.in_ok-schedule.ensures.accepted c.requires.satisfied).round_robin.pairs
