@@ -341,10 +341,17 @@ async function tellConflict(text) {
   $('members').replaceChildren(...members.map(number => itemOf(sentences.get(number) || {number, isHard: true, sum: 0n, reasons: []}, state.light && pickDemand)));
 }
 
+// How many of the games to come change, as `--near` says it behind a season: nothing without it.
+function changesSaid(text) {
+  const found = /<!-- changed=(\d+) of=(\d+) /.exec(text);
+  return found ? ` ${found[1]} of ${found[2]} games to come change.` : '';
+}
+
 async function resumeSeason(own) {
-  const played = state.played, answer = await own.robin(['resume', '1', '2', String(played)], filesNow());
+  const played = state.played, near = $('near').checked ? ['--near'] : [];
+  const answer = await own.robin(['resume', '1', '2', String(played), ...near], filesNow());
   if (answer.status === 0) {
-    await setSeason(answer.bytes, `Slots 0 to ${played - 1} stay as they were played.`);
+    await setSeason(answer.bytes, `Slots 0 to ${played - 1} stay as they were played.${changesSaid(answer.text)}`);
     return 'Done.';
   }
   showText(answer.text, 'resume.log');

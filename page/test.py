@@ -222,7 +222,7 @@ def try_commands(it):
         answer = it.run(["solve", "1"], read(name))
         same((answer["status"], answer["text"]), native("solve", name), f"solve of a made league of {number} teams")
     files = [example(name) for name in ("home-games-last.xml", "four-teams-season.xml", "resumed.log")]
-    for words in (["resume", 0, 1, "2"], ["resume", 0, 1, "3"], ["audit", 0, 1, "3", 2], ["patterns", 0], ["prove", 0, 1], ["rows", 0], ["validate", 1, 0], ["bound", 0, 2]):
+    for words in (["resume", 0, 1, "2"], ["resume", 0, 1, "2", "--near"], ["resume", 0, 1, "3"], ["audit", 0, 1, "3", 2], ["patterns", 0], ["prove", 0, 1], ["rows", 0], ["validate", 1, 0], ["bound", 0, 2]):
         answer = it.run([str(word + 1) if isinstance(word, int) else word for word in words], *map(read, files))
         same((answer["status"], answer["text"]), native(*[files[word] if isinstance(word, int) else word for word in words]), words)
     for name in ("no-home-game.xml", "one-home-game.xml", "northern-pinned.xml"):
@@ -439,9 +439,15 @@ def try_least(it):
 
 
 def try_resume(it):
-    """A click on a slot says which were played; the others are planned again, or a log says that they can't be."""
+    """A click on a slot says which were played; the others are planned again, near the old plan if that is asked for, or a log says that they can't be."""
     league, season = example("home-games-last.xml"), example("four-teams-season.xml")
-    for slot, word in ((2, "Slots 0 to 1 stay as they were played. Accepted."), (3, "No season keeps the games of slots 0 to 2.")):
+    cases = [
+        (2, [], "Slots 0 to 1 stay as they were played. Accepted."),
+        (2, ["--near"], "Slots 0 to 1 stay as they were played. 2 of 8 games to come change. Accepted."),
+        (3, [], "No season keeps the games of slots 0 to 2."),
+        (3, ["--near"], "No season keeps the games of slots 0 to 2."),
+    ]
+    for slot, near, word in cases:
         it.open()
         it.give(league, season)
         it.wait(lambda: it.js("return document.querySelectorAll('#grid thead button').length") == 6)
@@ -453,11 +459,14 @@ def try_resume(it):
             same(it.find("resume").is_enabled(), is_played, "whether slots can be planned again")
             same(len(it.driver.find_elements(By.CSS_SELECTOR, "#grid td.played")), 4 * slot * is_played, "cells of slots that were played")
         same(it.text("resume"), f"Plan slots {slot} to 5 again", "the button")
+        assert not it.find("near").is_selected()
+        if near:
+            it.find("near").click()
         it.find("resume").click()
         it.wait(lambda: it.text("verdict").startswith(word))
         it.done()
         if slot == 2:
-            same(it.saved("save-xml", "season.xml"), native("resume", league, season, "2")[1], "the season")
+            same(it.saved("save-xml", "season.xml"), native("resume", league, season, "2", *near)[1], "the season")
         else:
             log = it.saved_text("resume.log")
             same(judged("audit", league, log, season, "3"), 0, "the log that is saved")

@@ -201,10 +201,11 @@ def crowded(path):
     write_league(path, 20, ['<CA1 teams="0" max="0" mode="H" slots="%d" type="HARD"/>' % slot for slot in range(20)])
 
 
-def wished(path):
-    """Forty teams, each of which would rather not be at home, or away, in 30 slots: the textbook season is accepted, and a long descent begins there."""
+def wished(path, n, more=()):
+    """Teams that would each rather not be at home, or away, in 30 slots: without more demands the textbook season is accepted, and a long descent begins there."""
     wish = '<CA1 teams="%d" max="0" mode="%s" slots="%d" type="SOFT" penalty="%d"/>'
-    write_league(path, 40, [wish % (team, "HA"[(team + k) * 7 % 5 % 2], (team * 37 + k * 11) % 78, 1 + (team + k) % 10) for team in range(40) for k in range(30)])
+    wishes = [wish % (team, "HA"[(team + k) * 7 % 5 % 2], (team * 37 + k * 11) % (2 * n - 2), 1 + (team + k) % 10) for team in range(n) for k in range(30)]
+    write_league(path, n, [*wishes, *more])
 
 
 def write_league(path, n, wishes):
@@ -438,20 +439,32 @@ def more_time(command, league):
 
 
 def told_of(command, words, front):
-    """What a command tells on a terminal in four seconds; one line has this front behind the seconds."""
+    """What a command tells on a terminal in four seconds; one line has this front behind the seconds. Plain `resume` has no tries."""
     _, screen = on_terminal(command + words + ["--seconds", "4"])
     lines = progress.lines_of(screen)
     fault = progress.fault_of(lines) or (None if any(re.search("s( \\[[# ]*\\])?: " + front, line) for line in lines) else "no such line")
+    if words[0] == "resume" and "--near" not in words and any(": try " in line for line in lines):
+        fault = fault or "a try"
     say("%s on a terminal: %s" % (words[0], front), fault, "%d times" % len(lines))
     show(lines)
 
 
-def told_by_others(command, files):
+def missed_late(command, folder):
+    """A league of 30 teams, which misses a hard demand in the last slot of the textbook season, and that season: a long descent begins at what `resume` finds."""
+    league, season = (os.path.join(folder, name) for name in ("late.xml", "late-season.xml"))
+    wished(league, 30, ['<CA1 teams="0" max="0" mode="A" slots="57" type="HARD"/>'])
+    with open(season, "wb") as file:
+        file.write(run(command, ["circle", "30"]).stdout)
+    return league, season
+
+
+def told_by_others(command, files, folder):
     """The lines of `prove`, of `explain` and of `resume`."""
     league, season, circle, crowd = files
     told_of(command, ["prove", league, season, "--conflicts", "all"], "proving at least [0-9]+, search, [0-9]+ conflicts, [0-9.]+/s")
     told_of(command, ["explain", crowd, "--conflicts", "all"], "[0-9]+ members still to be tried, ")
     told_of(command, ["resume", MIDDLE, circle, "2", "--conflicts", "all"], "search, [0-9]+ conflicts")
+    told_of(command, ["resume", *missed_late(command, folder), "4"], "descent, [0-9]+ of 10000 moves")
     told_of(command, ["resume", MIDDLE, circle, "2", "--near", "--conflicts", "100"], "try [0-9]+, walk on hard constraints, infeasibility")
 
 
@@ -478,7 +491,7 @@ def killed_at(command, words, pattern):
 def killed(command, folder):
     """SIGKILL in a descent and in a walk: the file holds the season from which it began, or a later one; before any season there is none."""
     league, out = (os.path.join(folder, name) for name in ("wished.xml", "best.xml"))
-    wished(league)
+    wished(league, 40)
     cases = [
         (league, [], "descent, before it best [0-9]+ after [0-9]+ s, [1-9]", True),
         (EASY_FOR_WALKS, ["--seconds", "60"], "walk on the objective, best", True),
@@ -530,7 +543,7 @@ def main():
         same_text(command, ["solve", MIDDLE, "--moves", "2000", "--seed", "3"])
         told(command)
         by_script(command)
-        told_by_others(command, files)
+        told_by_others(command, files, folder)
         for league in (EASY, MIDDLE):
             more_time(command, league)
         killed(command, folder)

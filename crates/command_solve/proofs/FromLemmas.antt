@@ -1,5 +1,5 @@
 -- What `solve` answers from a season that is given: how its stages make it, and what follows of it.
-use Rattle.std.proofs.Common.{◌∷◌, [], ◌≡◌, ℕ, ◌+◌, ◌≤◌, true, List, length, Option, Some, Result, Ok, Err}
+use Rattle.std.proofs.Common.{◌∷◌, [], ◌≡◌, ℕ, ◌+◌, ◌≤◌, true, List, length, Option, None, Some, Result, Ok, Err}
 use Rattle.std.proofs.Common.{codes, ap, inl, inr, sym, subst, ◌∙◌}
 use Rattle.std.specs.Prelude.{IfSome}
 use Rattle.robin_io.specs.Outside.{Store}
@@ -19,7 +19,7 @@ use Rattle.answers.specs.SeenReply.{answer_of}
 use Rattle.answers.specs.declared.reply.Reply.{Reply}
 use Rattle.answers.specs.Stages.{IsFile, IsUnread, NoneFails, Outcome, says, takes}
 use Rattle.answers.specs.declared.status.Status.{Status}
-use Rattle.answers.specs.declared.status.Status.TheVariants.{Yes, No, File, ReadFault, Refuted}
+use Rattle.answers.specs.declared.status.Status.TheVariants.{Yes, No, File, ReadFault, Refuted, Spent}
 use Rattle.answers.proofs.StageLemmas.{first-works, says-known, says-value, second-works, takes-known, takes-refuted, takes-yes}
 use Rattle.robin_watch.specs.declared.budgets.Budgets.{Budgets}
 use Rattle.encoding.specs.Limit.{most_terms}
@@ -34,7 +34,7 @@ use Rattle.venue_counts.specs.VenueCounts.{are_crowded, are_short}
 use Rattle.break_counts.specs.BreakCounts.{are_few}
 use Rattle.solve.specs.Solutions.{CostsAtMost, HasSchedule, IsRefuted, IsSolutionBy}
 use Rattle.solve.specs.declared.solved.Solved.{Solved}
-use Rattle.command_solve.proofs.SolveAnswers.{found-refuted}
+use Rattle.command_solve.proofs.SolveAnswers.{found-refuted, found_by-unlimited, says-unspent, takes-unspent}
 use Rattle.command_solve.proofs.SolveFound.{written-found, written-within}
 
 -- ---- stages
@@ -240,3 +240,41 @@ begun-refuted store instance solution bytes budgets may_stop league answer known
     (store.failed instance)
     (λ first. says (codes "instance") (instance_of (pieces first)) (start_stages store solution budgets may_stop (length first)))
     answer bytes known ended given))
+
+-- ---- where nothing may stop the run
+
+encoded-unlimited : (league : Instance) (budgets : Budgets) (may_stop : Type 0) (start : List Game) (answer : Answer)
+    → budgets.conflicts ≡ None → (may_stop → ⊥) → encodes league (IsFoundFrom league start budgets may_stop) answer
+    → answer.status ≡ Spent → ⊥
+encoded-unlimited league budgets may_stop start answer none never (inl h) ended =
+    found_by-unlimited league budgets may_stop (rows_of league) answer none never h.1.found ended
+encoded-unlimited league budgets may_stop start answer none never (inr h) ended =
+    let same : File ≡ Spent = other File Spent answer (ap (λ (a : Answer). a.status) h.1) ended in cc
+
+started-unlimited : (league : Instance) (budgets : Budgets) (may_stop : Type 0) (start : List Game) (answer : Answer)
+    → budgets.conflicts ≡ None → (may_stop → ⊥) → IsBegun league budgets may_stop start answer
+    → answer.status ≡ Spent → ⊥
+started-unlimited league budgets may_stop start answer none never (inl h) ended =
+    let same : No ≡ Spent = other No Spent answer h.status ended in cc
+started-unlimited league budgets may_stop start answer none never (inr h) ended =
+    encoded-unlimited league budgets may_stop start answer none never h.1 ended
+
+-- without a budget of conflicts no answer is a budget that is spent
+pub begun-unlimited : (store : Store) (instance solution : List ℕ) (budgets : Budgets) (may_stop : Type 0)
+    (answer : Answer) → budgets.conflicts ≡ None → (may_stop → ⊥)
+    → begun store instance solution budgets may_stop answer → answer.status ≡ Spent → ⊥
+begun-unlimited store instance solution budgets may_stop answer none never =
+    takes-unspent (codes "instance") (store.contents instance) INSTANCE_LIMIT (store.took_more INSTANCE_LIMIT)
+    (store.failed instance)
+    (λ first. says (codes "instance") (instance_of (pieces first)) (start_stages store solution budgets may_stop (length first)))
+    answer
+    (λ first.
+    says-unspent (codes "instance") (instance_of (pieces first))
+    (start_stages store solution budgets may_stop (length first)) answer
+    (λ league.
+    takes-unspent (codes "solution") (store.contents solution) SOLUTION_LIMIT
+    (store.took_more (length first + SOLUTION_LIMIT)) (store.failed solution)
+    (λ second. says (codes "solution") (solution_of league.n (pieces second)) (IsBegun league budgets may_stop)) answer
+    (λ second.
+    says-unspent (codes "solution") (solution_of league.n (pieces second)) (IsBegun league budgets may_stop) answer
+    (λ start. started-unlimited league budgets may_stop start answer none never))))

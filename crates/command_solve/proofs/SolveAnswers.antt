@@ -1,5 +1,5 @@
 -- What follows from an answer of `solve`.
-use Rattle.std.proofs.Common.{◌∷◌, [], ◌≡◌, ℕ, List, Some, None, Result, Ok, Err, codes, ap, inl, inr, sym, ◌∙◌}
+use Rattle.std.proofs.Common.{◌∷◌, [], ◌≡◌, ℕ, List, Option, Some, None, Result, Ok, Err, codes, ap, inl, inr, sym, ◌∙◌}
 use Rattle.robin_io.specs.Outside.{Store}
 use Rattle.rows.specs.Rows.{Row}
 use Rattle.robin_watch.proofs.LimitLemmas.{kept-unstopped}
@@ -10,7 +10,7 @@ use Rattle.robinx_form.specs.InstanceFile.{instance_of}
 use Rattle.robinx_form.specs.Walk.{Fault}
 use Rattle.robinx_read.specs.declared.instance.TheConstants.{INSTANCE_LIMIT}
 use Rattle.answers.specs.Reply.{Answer}
-use Rattle.answers.specs.Stages.{NoneFails, says}
+use Rattle.answers.specs.Stages.{NoneFails, Outcome, says, takes}
 use Rattle.answers.specs.declared.status.Status.TheVariants.{Yes, File, Refuted, ReadFault, Spent}
 use Rattle.decoding.specs.Excluded.{NoneAccepted}
 use Rattle.answers.proofs.StageLemmas.{first-works, says-known, takes-known, takes-refuted}
@@ -56,6 +56,22 @@ solved-refuted store instance bytes budgets may_stop league answer known says_le
 
 -- ---- where nothing may stop the run
 
+-- an answer is a spent budget only where the stage behind a file, or behind what a file says, gives it
+pub takes-unspent : (which : List ℕ) (known : Option (List ℕ)) (limit : ℕ) (long failed : Type 0)
+    (next : List ℕ → Outcome) (answer : Answer) → ((bytes : List ℕ) → next bytes answer → answer.status ≡ Spent → ⊥)
+    → takes which known limit long failed next answer → answer.status ≡ Spent → ⊥
+takes-unspent which known limit long failed next answer unspent (inl read) ended = unspent read.0 read.2 ended
+takes-unspent which known limit long failed next answer unspent (inr (inl h)) ended =
+    let same : File ≡ Spent = sym (ap (λ (a : Answer). a.status) h.2) ∙ ended in cc
+takes-unspent which known limit long failed next answer unspent (inr (inr h)) ended =
+    let same : ReadFault ≡ Spent = sym (ap (λ (a : Answer). a.status) h.1) ∙ ended in cc
+
+pub says-unspent : {A : Type 0} (which : List ℕ) (said : Result A Fault) (next : A → Outcome) (answer : Answer)
+    → ((x : A) → next x answer → answer.status ≡ Spent → ⊥) → says which said next answer → answer.status ≡ Spent → ⊥
+says-unspent which (Ok x) next answer unspent given ended = unspent x given ended
+says-unspent which (Err fault) next answer unspent given ended =
+    let same : File ≡ Spent = sym (ap (λ (a : Answer). a.status) given) ∙ ended in cc
+
 found-unlimited : (league : Instance) (budgets : Budgets) (may_stop : Type 0) (rows : List Row) (answer : Answer)
     → budgets.conflicts ≡ None → IsFound league budgets may_stop rows answer → answer.status ≡ Spent → ⊥
 found-unlimited league budgets may_stop rows answer none found ended =
@@ -65,31 +81,31 @@ found-unlimited league budgets may_stop rows answer none found ended =
       | inr (inr spent) ↦ let same = sym none ∙ spent.budget in cc
     ]
 
+-- without a budget of conflicts what is found of a league is no budget that is spent
+pub found_by-unlimited : (league : Instance) (budgets : Budgets) (may_stop : Type 0) (rows : List Row)
+    (answer : Answer) → budgets.conflicts ≡ None → (may_stop → ⊥) → IsFoundBy league budgets may_stop rows answer
+    → answer.status ≡ Spent → ⊥
+found_by-unlimited league budgets may_stop rows answer none never found ended =
+    found-unlimited league found.kept may_stop rows answer
+    (kept-unstopped budgets.conflicts may_stop found.kept.conflicts never found.are_kept.conflicts ∙ none)
+    found.is_found ended
+
 encoded-unlimited : (league : Instance) (budgets : Budgets) (may_stop : Type 0) (answer : Answer)
     → budgets.conflicts ≡ None → (may_stop → ⊥) → encodes league (IsFoundBy league budgets may_stop) answer
     → answer.status ≡ Spent → ⊥
 encoded-unlimited league budgets may_stop answer none never (inl h) ended =
-    found-unlimited league h.1.kept may_stop (rows_of league) answer
-    (kept-unstopped budgets.conflicts may_stop h.1.kept.conflicts never h.1.are_kept.conflicts ∙ none) h.1.is_found
-    ended
+    found_by-unlimited league budgets may_stop (rows_of league) answer none never h.1 ended
 encoded-unlimited league budgets may_stop answer none never (inr h) ended =
     let same : File ≡ Spent = sym (ap (λ (a : Answer). a.status) h.1) ∙ ended in cc
-
-said-unlimited : (said : Result Instance Fault) (budgets : Budgets) (may_stop : Type 0) (answer : Answer)
-    → budgets.conflicts ≡ None → (may_stop → ⊥)
-    → says (codes "instance") said (λ l. encodes l (IsFoundBy l budgets may_stop)) answer → answer.status ≡ Spent → ⊥
-said-unlimited (Ok league) budgets may_stop answer none never given ended =
-    encoded-unlimited league budgets may_stop answer none never given ended
-said-unlimited (Err fault) budgets may_stop answer none never given ended =
-    let same : File ≡ Spent = sym (ap (λ (a : Answer). a.status) given) ∙ ended in cc
 
 -- without a budget of conflicts no answer is a budget that is spent
 pub solved-unlimited : (store : Store) (instance : List ℕ) (budgets : Budgets) (may_stop : Type 0) (answer : Answer)
     → budgets.conflicts ≡ None → (may_stop → ⊥) → solved store instance budgets may_stop answer
     → answer.status ≡ Spent → ⊥
-solved-unlimited store instance budgets may_stop answer none never (inl read) ended =
-    said-unlimited (instance_of (pieces read.0)) budgets may_stop answer none never read.2 ended
-solved-unlimited store instance budgets may_stop answer none never (inr (inl h)) ended =
-    let same : File ≡ Spent = sym (ap (λ (a : Answer). a.status) h.2) ∙ ended in cc
-solved-unlimited store instance budgets may_stop answer none never (inr (inr h)) ended =
-    let same : ReadFault ≡ Spent = sym (ap (λ (a : Answer). a.status) h.1) ∙ ended in cc
+solved-unlimited store instance budgets may_stop answer none never =
+    takes-unspent (codes "instance") (store.contents instance) INSTANCE_LIMIT (store.took_more INSTANCE_LIMIT)
+    (store.failed instance)
+    (λ bytes. says (codes "instance") (instance_of (pieces bytes)) (λ l. encodes l (IsFoundBy l budgets may_stop))) answer
+    (λ bytes.
+    says-unspent (codes "instance") (instance_of (pieces bytes)) (λ l. encodes l (IsFoundBy l budgets may_stop)) answer
+    (λ league. encoded-unlimited league budgets may_stop answer none never))

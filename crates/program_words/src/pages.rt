@@ -16,7 +16,7 @@ usage: robin COMMAND WORDS [OPTIONS]
   validate INSTANCE SOLUTION     judge a season by the demands of its league
   show INSTANCE SOLUTION         show a season, and what it misses by its games
   solve INSTANCE                 find a season, or prove that there is none
-  patterns INSTANCE              find home-away patterns, or refute them
+  patterns INSTANCE              find home-away patterns, or prove none exist
   explain INSTANCE               name demands that contradict each other
   part INSTANCE LIST             write the league of some of its demands
   check INSTANCE LOG             check a proof that there is no season
@@ -24,7 +24,7 @@ usage: robin COMMAND WORDS [OPTIONS]
   bound INSTANCE LOG             check such a proof
   resume INSTANCE SOLUTION K     plan the rest of a season after K slots
   audit INSTANCE SOLUTION K LOG  check a proof that it can't be resumed
-  rows INSTANCE                  write the league's rows for other solvers
+  rows INSTANCE                  write the league as sums for other solvers
   values INSTANCE VALUES         write the season that a solver's values say
   circle N                       write a season for N teams
   make N SEED                    write a league of N teams to try things on
@@ -66,7 +66,7 @@ Status:  0  accepted, found, proved or made     1  not accepted
             other are named
          5  a budget is spent                   6  a file can't be read
          7  the text can't be written           8  memory ran out
-         9  a better season is found           10  the words can't be had
+         9  a better season is found           10  the words can't be read
 ";
 
 /// The commands by name, for who misspelt one.
@@ -105,8 +105,8 @@ first, then what costs more. The last lines are those of validate.
 Options stand before, between or behind the words, each once at most:
   --most N|all     the most demands, and the most lines of each, a number from 0
                    to 4294967295 (20); all: no limit
-  --width N        the most characters of a line of the grid, where one slot has
-                   room, from 0 to 4294967295 (80)
+  --width N        the most characters of a line of the grid, or of one slot, if
+                   that is wider, from 0 to 4294967295 (80)
   --form text|csv  a text, or a line a game for a spreadsheet (text)
 
 With --demands behind INSTANCE it says in words what the league demands, a line

@@ -110,7 +110,7 @@ fn beside(command: Topic) -> &'static str {
 /// What is wrong with words that have no other fault.
 fn other(command: Topic) -> &'static str {
     match command {
-        Topic::Resume => " takes --moves, --tries, --patterns and --seed with --near alone",
+        Topic::Resume => " takes --moves, --tries, --patterns and --seed only with --near",
         _ => " doesn't take these words",
     }
 }

@@ -16,8 +16,8 @@ pub(crate) enum Aim {
 }
 
 impl Aim {
-    /// The aim where a phase begins: that of the first try, where no try was heard of.
-    pub(crate) fn in_phase(self) -> Aim {
+    /// The aim where `solve` begins to count: its first try, where no try was heard of.
+    pub(crate) fn in_counts(self) -> Aim {
         match self {
             Aim::Season => Aim::Try { number: 1 },
             Aim::Try { .. } | Aim::Bound { .. } | Aim::Member { .. } => self,

@@ -73,19 +73,22 @@ impl Heard {
         }
     }
 
-    /// A phase begins. One that may make no move isn't spoken of.
+    /// A phase begins. The first try of `solve` begins with counts, and a phase behind none is of no try. One that may
+    /// make no move isn't spoken of.
     fn in_phase(self, phase: Phase, at: u128) -> Heard {
-        let aim = self.aim.in_phase();
         match phase {
-            Phase::Counts => self.with_aim(aim, Stage::Counts),
-            Phase::Patterns => self.with_aim(aim, Stage::Patterns),
-            Phase::Search => self.with_aim(aim, Stage::Search),
+            Phase::Counts => self.with_aim(self.aim.in_counts(), Stage::Counts),
+            Phase::Patterns => self.with_aim(self.aim, Stage::Patterns),
+            Phase::Search => self.with_aim(self.aim, Stage::Search),
             Phase::Walk { moves: 0 } | Phase::Descent { moves: 0 } => self,
-            Phase::Walk { moves } => self.with_aim(aim, Stage::Walk).turned(0, Some(moves), at),
-            Phase::Descent { moves } => self
-                .with_aim(aim, Stage::Descent)
-                .turned(0, Some(moves), at),
+            Phase::Walk { moves } => self.limited(Stage::Walk, moves, at),
+            Phase::Descent { moves } => self.limited(Stage::Descent, moves, at),
         }
+    }
+
+    /// A stage begins that may make so many moves.
+    fn limited(self, stage: Stage, moves: u64, at: u128) -> Heard {
+        self.with_aim(self.aim, stage).turned(0, Some(moves), at)
     }
 
     /// A search goes on: that of patterns if they are searched.

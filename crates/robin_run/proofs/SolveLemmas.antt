@@ -6,7 +6,7 @@ use Rattle.encoding.specs.Encoding.{rows_of}
 use Rattle.command_solve.specs.From.{IsFoundFrom, IsNoStart}
 use Rattle.command_solve.specs.Solve.{IsFoundBy}
 use Rattle.command_solve.proofs.SolveAnswers.{solved-refuted, solved-unlimited, solved-well_formed}
-use Rattle.command_solve.proofs.FromLemmas.{begun-judged, begun-refuted, begun-well_formed, begun-yes}
+use Rattle.command_solve.proofs.FromLemmas.{begun-judged, begun-refuted, begun-unlimited, begun-well_formed, begun-yes}
 use Rattle.robin_run.specs.SolveFrom.{SolvesFrom}
 use Rattle.robin_run.specs.Run.{Answered, Run}
 use Rattle.robin_run.specs.Solve.{Solves}
@@ -54,4 +54,8 @@ solves-from run answered instance solution budgets is = record {
       (λ same. cc) in
       begun-refuted run.store instance solution said.bytes budgets run.may_stop league whole.answer said.known said.says_league
       whole.status_is whole.given;
+  complete = λ none never ended.
+      let whole = writes-as run (SolveFrom instance solution budgets) Spent answered is ended (λ same. cc) (λ same. cc) in
+      begun-unlimited run.store instance solution budgets run.may_stop whole.answer none never whole.given
+      whole.status_is;
 }

@@ -1,5 +1,5 @@
 -- What `solve` promises where it begins at a season that is given: a season that costs no more than an accepted start.
-use Rattle.std.specs.Prelude.{◌≡◌, ℕ, List, [], ◌∷◌, Some}
+use Rattle.std.specs.Prelude.{◌≡◌, ◌≢◌, ℕ, List, [], ◌∷◌, None, Some}
 use Rattle.std.specs.Io.KnownBytes.{Appends}
 use Rattle.robin_io.specs.Outside.{Output}
 use Rattle.robin_watch.specs.Limits.{IsKeptTo}
@@ -11,7 +11,7 @@ use Rattle.league.specs.declared.game.Game.{Game}
 use Rattle.robin_watch.specs.declared.budgets.Budgets.{Budgets}
 use Rattle.command_line.specs.Words.{Command}
 use Rattle.answers.specs.Reply.{Answer}
-use Rattle.answers.specs.declared.status.Status.TheVariants.{Refuted, Yes}
+use Rattle.answers.specs.declared.status.Status.TheVariants.{Refuted, Spent, Yes}
 use Rattle.encoding.specs.Encoding.{rows_of}
 use Rattle.decoding.specs.Excluded.{NoneAccepted}
 use Rattle.command_resume.specs.Seasons.{SaySeason}
@@ -52,6 +52,10 @@ pub record Promise (run : Run) (instance solution : List ℕ) (budgets : Budgets
       → SaysLeague run.store instance league
       → run.ended ≡ Refuted
       → NoneAccepted league
+  -- Without a budget of conflicts, and where nothing may stop the run, it never ends with a budget that is spent.
+  pub complete : budgets.conflicts ≡ None
+      → (run.may_stop → ⊥)
+      → run.ended ≢ Spent
 
 -- each run of `solve` from a season keeps it
 abbrev pub SolvesFrom : Run → Type 0
