@@ -1,8 +1,8 @@
 -- What a contract sees of how often an option stands.
 use Rattle.command_line.specs.Standing.{Standing}
 use Rattle.command_line.specs.Standing.Standing.{Never, Once, Often}
-use Rattle.command_line.specs.declared.words.Standing as code
-use Rattle.command_line.specs.declared.words.Standing.TheVariants as variants
+use Rattle.command_line.specs.declared.option_values.Standing as code
+use Rattle.command_line.specs.declared.option_values.Standing.TheVariants as variants
 
 -- without where the value lies in memory
 abbrev pub seen : code.Standing → Standing

@@ -1,10 +1,13 @@
 //! Arguments one after another, among words with options.
-ghost use Rattle.std.specs.Prelude.{◌≡◌, ◌&&◌, false, [], ◌∷◌, map, string_bytes, option_and_then, option_map, MatchOption};
+ghost use Rattle.std.specs.Prelude.{◌≡◌, ◌==◌, ◌&&◌, false, [], ◌∷◌, map, length, string_bytes};
+ghost use Rattle.std.specs.Prelude.{option_and_then, option_map, MatchOption};
+ghost use Rattle.std.specs.Option.{option_copied};
 ghost use Rattle.command_line.specs.Words as options;
 ghost use Rattle.command_line.specs.Standing.{is_near_alone};
 ghost use Rattle.command_line.specs.Words.{arguments_of};
 
-use crate::words::{has_no_argument, has_value, is_name, is_near, number, one_file, one_number};
+use crate::option_names::{has_value, is_near};
+use crate::values::{is_name, number};
 
 /// The first argument, and the words behind it, where there is one.
 fn first_argument(words: &[String]) -> Option<(&str, &[String])>
@@ -131,5 +134,59 @@ fn has_near_alone(words: &[String]) -> bool
     match first_argument(words) {
         Some((first, rest)) => is_near(first) && has_no_argument(rest),
         None => false,
+    }
+}
+
+/// The one number among the arguments.
+pub(crate) fn one_number(words: &[String]) -> Option<u64>
+    ensures { result ≡ options.one_number (arguments_of (map string_bytes words.now)) }
+{
+    match words {
+        [] => None,
+        [first, _, rest @ ..] if has_value(first.as_str()) => one_number(rest),
+        [first, rest @ ..] => number_alone(first.as_str(), rest),
+    }
+}
+
+/// A number, where no argument comes behind it.
+fn number_alone(word: &str, rest: &[String]) -> Option<u64>
+    ensures { result ≡ options.one_number (word.now ∷ arguments_of (map string_bytes rest.now)) }
+{
+    if has_no_argument(rest) {
+        number(word)
+    } else {
+        None
+    }
+}
+
+/// The one file among the arguments.
+pub(crate) fn one_file(words: &[String]) -> Option<&str>
+    ensures { option_copied result ≡ options.one_file (arguments_of (map string_bytes words.now)) }
+{
+    match words {
+        [] => None,
+        [first, _, rest @ ..] if has_value(first.as_str()) => one_file(rest),
+        [first, rest @ ..] => file_alone(first.as_str(), rest),
+    }
+}
+
+/// A file, where no argument comes behind it.
+fn file_alone<'a>(file: &'a str, rest: &[String]) -> Option<&'a str>
+    ensures { option_copied result ≡ options.one_file (file.now ∷ arguments_of (map string_bytes rest.now)) }
+{
+    if is_name(file) && has_no_argument(rest) {
+        Some(file)
+    } else {
+        None
+    }
+}
+
+/// Whether there is no argument.
+pub(crate) fn has_no_argument(words: &[String]) -> bool
+    ensures { result ≡ (length (arguments_of (map string_bytes words.now)) == 0) }
+{
+    match words {
+        [first, _, rest @ ..] => has_value(first.as_str()) && has_no_argument(rest),
+        _ => words.is_empty(),
     }
 }

@@ -5,9 +5,11 @@ ghost use Rattle.command_line.specs.Words.{reading};
 ghost use Rattle.command_line.specs.Faults as faults;
 ghost use Rattle.command_line.specs.Faults.{IsSo};
 
+use crate::option_names::is_option;
+use crate::option_values::{Standing, value_of};
 use crate::role::{Role, fits, is_flag, option_role, role_at};
 use crate::topic::{Topic, topic_of};
-use crate::words::{Standing, is_option, read_words, value_of};
+use crate::words::read_words;
 
 /// Why words are refused.
 #[derive(Clone, Copy)]

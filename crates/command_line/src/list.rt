@@ -6,7 +6,7 @@ ghost use Rattle.league.specs.Sets.{IsAscending};
 ghost use Rattle.command_line.specs.Words as options;
 ghost use Rattle.command_line.specs.Words.{members_in, members_of, words_of};
 
-use crate::words::number_of;
+use crate::values::number_of;
 use std::alloc::{AllocError, Global};
 
 /// The word before the first `;`, and what stands behind it, where there is one.

@@ -4,7 +4,7 @@ ghost use Rattle.command_line.specs.Faults as faults;
 
 use crate::list::is_list;
 use crate::topic::Topic;
-use crate::words::{budget, form, is_name, most, number, small, team_count, tries};
+use crate::values::{budget, form, is_name, most, number, small, team_count, tries};
 
 /// What a word behind a command, or behind an option, is to be.
 #[derive(Clone, Copy, Debug, PartialEq, Eq)]

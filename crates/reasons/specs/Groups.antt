@@ -10,6 +10,11 @@ counts_games_of_a_team (Ca2 teams1 teams2 min max side slots) = true
 counts_games_of_a_team (Ca3 teams1 teams2 min max intp side) = true
 counts_games_of_a_team _ = false
 
+-- whether it counts the games of a team in windows
+abbrev pub counts_in_windows : Class → Bool
+counts_in_windows (Ca3 teams1 teams2 min max intp side) = true
+counts_in_windows _ = false
+
 -- whether it counts games of some meetings
 abbrev pub counts_games_of_meetings : Class → Bool
 counts_games_of_meetings (Ca4 teams1 teams2 min max side span slots) = true

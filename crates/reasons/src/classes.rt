@@ -7,7 +7,7 @@ ghost use Rattle.league.specs.Instance.{IsGame, class_fits};
 ghost use Rattle.league.specs.Order.{IsInOrder};
 ghost use Rattle.rule_core.specs.Ready as ready;
 ghost use Rattle.reasons.specs.Groups.{compares_teams, counts_breaks, counts_games_of_a_team};
-ghost use Rattle.reasons.specs.Groups.{counts_games_of_meetings};
+ghost use Rattle.reasons.specs.Groups.{counts_games_of_meetings, counts_in_windows};
 ghost use Rattle.reasons.specs.Laws.{AddUp, ListAllTouching, ListTouching};
 ghost use Rattle.reasons.specs.Own.{IsSeason};
 ghost use Rattle.reasons.specs.Reasons.{reasons_at, reasons_of};
@@ -65,6 +65,26 @@ fn push_of_team(
             let counted = ca2_games(alloc, season.games, player, teams2, slots.numbers())?;
             push_by_games(Entry { key, min, max }, counted, reasons)
         }
+        Class::Ca3 { .. } => push_of_windows(class, season, key, reasons),
+        _ => unreachable!(),
+    }
+}
+
+/// Adds the reasons at a key of CA3.
+fn push_of_windows(
+    class: &Class,
+    season: &Season<'_>,
+    key: usize,
+    reasons: &mut Vec<Reason>,
+) -> Result<(), AllocError>
+    requires group { IsTrue (counts_in_windows class.now) }
+    requires fits { IsTrue (class_fits season.now.cells.now.n class.now) }
+    requires season { IsSeason season.now }
+    requires key { key < ready.entry_count class.now }
+    ensures { OnOk result (reasons.new.items
+        ≡ reasons.old.items ++ reasons_at season.now.cells.now.n season.now.games.now class.now key) }
+{
+    match class {
         Class::Ca3 {
             teams1,
             teams2,

@@ -142,29 +142,23 @@ impl Factors {
 
     /// Lets two teams meet in a slot.
     fn meet(&mut self, team: u16, other: u16, slot: u16) {
-        self.settle(team, other, slot, Some(team), Some(other), Some(slot));
+        set_entry(&mut self.opponents, slot, team, Some(other));
+        set_entry(&mut self.opponents, slot, other, Some(team));
+        self.set_meeting(team, other, Some(slot));
         self.met = self.met.saturating_add(1);
     }
 
     /// Lets two teams not meet in a slot any more.
     fn part(&mut self, team: u16, other: u16, slot: u16) {
-        self.settle(team, other, slot, None, None, None);
+        set_entry(&mut self.opponents, slot, team, None);
+        set_entry(&mut self.opponents, slot, other, None);
+        self.set_meeting(team, other, None);
         self.met = self.met.saturating_sub(1);
     }
 
-    /// Writes whom two teams meet in a slot, and where they meet.
-    fn settle(
-        &mut self,
-        team: u16,
-        other: u16,
-        slot: u16,
-        of_other: Option<u16>,
-        of_team: Option<u16>,
-        at: Option<u16>,
-    ) {
-        set_entry(&mut self.opponents, slot, team, of_team);
-        set_entry(&mut self.opponents, slot, other, of_other);
-        set_entry(&mut self.meetings, team, other, at);
-        set_entry(&mut self.meetings, other, team, at);
+    /// Writes in which slot two teams meet.
+    fn set_meeting(&mut self, team: u16, other: u16, slot: Option<u16>) {
+        set_entry(&mut self.meetings, team, other, slot);
+        set_entry(&mut self.meetings, other, team, slot);
     }
 }

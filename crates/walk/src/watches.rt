@@ -135,7 +135,7 @@ impl Watches {
     }
 
     /// Adds a part that counts games, or asks for the slots of two teams' games. Games against all teams on one side are
-    /// counted as venues. A CA3 has no part of its own: its windows are parts of CA2.
+    /// counted as venues. A CA3 has no part of its own: its windows are parts of CA2. `add` adds the other classes.
     ///
     /// # Errors
     /// Only where memory runs out.
@@ -170,7 +170,11 @@ impl Watches {
                 let watch = Watch::of_any(number);
                 self.add_games(watch, teams.numbers(), teams.numbers(), Side::Both)
             }
-            _ => Ok(()),
+            Class::Ca1 { .. }
+            | Class::Ca3 { .. }
+            | Class::Br1 { .. }
+            | Class::Br2 { .. }
+            | Class::Fa2 { .. } => Ok(()),
         }
     }
 

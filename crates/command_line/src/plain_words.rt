@@ -1,0 +1,131 @@
+//! The words of commands that have no options.
+ghost use Rattle.std.specs.Prelude.{◌≡◌, [], ◌∷◌, map, string_bytes, option_map, IfSome};
+ghost use Rattle.command_line.specs.Words.{auditing, making, parting, HasTeams, plain};
+ghost use Rattle.command_line.specs.SeenWords.{command_of};
+
+use crate::list::is_list;
+use crate::values::{is_name, number, team_count};
+use crate::words::Words;
+
+/// The command of this name that has no options.
+pub(crate) fn read_plain<'a>(command: &str, words: &'a [String]) -> Option<Words<'a>>
+    ensures reading { option_map command_of result ≡ plain command.now (map string_bytes words.now) }
+    ensures teams { IfSome result (λ command. HasTeams (command_of command)) }
+{
+    match words {
+        [argument] => with_one(command, argument.as_str()),
+        [first, second] => with_two(command, first.as_str(), second.as_str()),
+        _ => None,
+    }
+}
+
+/// The command of this name with two arguments.
+fn with_two<'a>(command: &str, first: &'a str, second: &'a str) -> Option<Words<'a>>
+    ensures reading { option_map command_of result ≡ plain command.now (first.now ∷ second.now ∷ []) }
+    ensures teams { IfSome result (λ command. HasTeams (command_of command)) }
+{
+    if command == "make" {
+        make_of(first, second)
+    } else if command == "part" {
+        part_of(first, second)
+    } else if !is_name(first) || !is_name(second) {
+        None
+    } else if command == "validate" {
+        Some(Words::Validate {
+            instance: first,
+            solution: second,
+        })
+    } else if command == "check" {
+        Some(Words::Check {
+            instance: first,
+            log: second,
+        })
+    } else if command == "bound" {
+        Some(Words::Bound {
+            instance: first,
+            log: second,
+        })
+    } else if command == "values" {
+        Some(Words::Values {
+            instance: first,
+            values: second,
+        })
+    } else {
+        None
+    }
+}
+
+/// `part` over a file, with a list.
+fn part_of<'a>(file: &'a str, list: &'a str) -> Option<Words<'a>>
+    ensures reading { option_map command_of result ≡ parting file.now list.now }
+    ensures teams { IfSome result (λ command. HasTeams (command_of command)) }
+{
+    if !is_name(file) || !is_list(list) {
+        return None;
+    }
+    Some(Words::Part {
+        instance: file,
+        list,
+    })
+}
+
+/// `make` with a number of teams and a seed.
+fn make_of<'a>(teams: &str, seed: &str) -> Option<Words<'a>>
+    ensures reading { option_map command_of result ≡ making teams.now seed.now }
+    ensures teams { IfSome result (λ command. HasTeams (command_of command)) }
+{
+    let n = team_count(teams)?;
+    let seed = number(seed)?;
+    Some(Words::Make { n, seed })
+}
+
+/// The command of this name with one argument.
+fn with_one<'a>(command: &str, argument: &'a str) -> Option<Words<'a>>
+    ensures reading { option_map command_of result ≡ plain command.now (argument.now ∷ []) }
+    ensures teams { IfSome result (λ command. HasTeams (command_of command)) }
+{
+    if command != "circle" {
+        return None;
+    }
+    let n = team_count(argument)?;
+    Some(Words::Circle { n })
+}
+
+/// `audit` over two files, with a number of slots and a log.
+pub(crate) fn read_audit(words: &[String]) -> Option<Words<'_>>
+    ensures reading { option_map command_of result ≡ auditing (map string_bytes words.now) }
+    ensures teams { IfSome result (λ command. HasTeams (command_of command)) }
+{
+    match words {
+        [instance, solution, slots, log] => audit_of(
+            instance.as_str(),
+            solution.as_str(),
+            slots.as_str(),
+            log.as_str(),
+        ),
+        _ => None,
+    }
+}
+
+/// `audit` with these words.
+fn audit_of<'a>(
+    instance: &'a str,
+    solution: &'a str,
+    slots: &str,
+    log: &'a str,
+) -> Option<Words<'a>>
+    ensures reading { option_map command_of result
+        ≡ auditing (instance.now ∷ solution.now ∷ slots.now ∷ log.now ∷ []) }
+    ensures teams { IfSome result (λ command. HasTeams (command_of command)) }
+{
+    if !is_name(instance) || !is_name(solution) || !is_name(log) {
+        return None;
+    }
+    let k = number(slots)?;
+    Some(Words::Audit {
+        instance,
+        solution,
+        k,
+        log,
+    })
+}
