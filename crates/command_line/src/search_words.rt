@@ -8,7 +8,9 @@ ghost use Rattle.command_line.specs.Words.Command.{Circle, Solve};
 ghost use Rattle.command_line.specs.SeenWords.{command_of};
 
 use crate::arguments::{files_and_number, near_files_and_number, one_file, one_number, two_files};
-use crate::option_names::{has_search_options, has_solve_options, has_start_options, has_timed_options, has_value};
+use crate::option_names::{
+    has_search_options, has_solve_options, has_start_options, has_timed_options, has_value,
+};
 use crate::option_values::{Standing, budgets, conflicts_said, timed_conflicts_said, value_of};
 use crate::values::{is_name, team_count};
 use crate::words::Words;

@@ -6,7 +6,9 @@ ghost use Rattle.command_line.specs.SeenWords.{command_of};
 use crate::goal::Goal;
 use crate::plain_words::{read_audit, read_plain};
 use crate::row_words::read_rows;
-use crate::search_words::{read_explain, read_patterns, read_prove, read_resume, read_solve, read_trial};
+use crate::search_words::{
+    read_explain, read_patterns, read_prove, read_resume, read_solve, read_trial,
+};
 use crate::show_words::read_show;
 use crate::topic::{Topic, topic_of};
 use robin_watch::Budgets;
