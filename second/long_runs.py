@@ -465,7 +465,7 @@ def told_by_others(command, files, folder):
     told_of(command, ["explain", crowd, "--conflicts", "all"], "[0-9]+ members still to be tried, ")
     told_of(command, ["resume", MIDDLE, circle, "2", "--conflicts", "all"], "search, [0-9]+ conflicts")
     told_of(command, ["resume", *missed_late(command, folder), "4"], "descent, [0-9]+ of 10000 moves")
-    told_of(command, ["resume", MIDDLE, circle, "2", "--near", "--conflicts", "100"], "try [0-9]+, walk on hard constraints, infeasibility")
+    told_of(command, ["resume", MIDDLE, circle, "2", "--near", "--conflicts", "100"], "try [0-9]+, walk on ")
 
 
 def killed_at(command, words, pattern):
