@@ -5,6 +5,7 @@ ghost use Rattle.refutation.specs.Steps.Step.{Clause, Linear};
 ghost use Rattle.refutation_check.specs.Judged.{after_step, no_step_of, verdict_so_far};
 ghost use Rattle.refutation_check.specs.Within.{AreWithin};
 
+use crate::clause::ClauseStep;
 use crate::judge::{judge_clause, judge_linear};
 use crate::keep::keep;
 use crate::kept::{KeptStep, Rejection, verdict_on};
@@ -79,12 +80,10 @@ impl<'a> Checker<'a> {
             return Ok(());
         }
         let found = judge_clause(
-            self.alloc,
             self.rows,
             &self.steps,
             self.vars,
-            clause,
-            hints,
+            ClauseStep { clause, hints },
             &mut self.partial,
             &mut self.trail,
         );
