@@ -873,6 +873,14 @@ def weighed(t):
     measured(t, "prove of 10000 games", ["prove", late, season], 1, None, size)
 
 
+def roomed(t, words, size, told):
+    """`--room`: so many megabytes as the steps take change nothing, and one less ends with want of memory."""
+    least = -(-size // 10**6)
+    for megabytes, wanted in ((least, (1, told.encode())), (least - 1, (8, b""))):
+        ran = t.run(*words, "--room", str(megabytes), memory=6144)
+        t.must((ran.status, ran.out) == wanted, f"--room {megabytes} of {words}", ran)
+
+
 def sums(t):
     """Logs of long sums, each a copy of the one before: peak memory beside the file's size."""
     n, slots = 40, 78
@@ -894,6 +902,7 @@ def sums(t):
             told = f"rejected step {count} cause NoEmptyClause\n"
             name = f"{command} of {count} sums of 121680 terms"
             measured(t, name, [command, *words, path], 1, told, os.path.getsize(path), memory=6144)
+            roomed(t, [command, *words, path], count * (64 + 8 * 121_680), told)
     # Each hint looks at the whole row, which isn't in conflict.
     hints = 20_000
     line = b"c 0 " + b"%d " % (own + 1) * hints + b"0\n"
