@@ -23,7 +23,7 @@ use Rattle.clause_search.specs.Answers.{IsAnswer, IsSpentAt, Refutes}
 use Rattle.clause_search.specs.declared.found.Found.{Found}
 use Rattle.clause_search.proofs.LineLemmas.{step_named}
 use Rattle.pattern_search.proofs.LogLemmas.{refuted-clauses}
-use Rattle.pattern_search.proofs.NewsLemmas.{news-clauses}
+use Rattle.clause_search.proofs.SearchLemmas.{news-clauses}
 use Rattle.descent.specs.Descended.{Descended}
 use Rattle.descent.specs.Settled.{IsSettled}
 use Rattle.descent.proofs.TrailLemmas.{trails-stay_feasible}
