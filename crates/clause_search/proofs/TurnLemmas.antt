@@ -488,16 +488,16 @@ pub answer_spent : (rows : List Row) (vars given : ℕ) (kept : List ℕ) (limit
     → (more ≡ steps) × (limit ≡ Some (length steps)) × (length steps < 2 ^ 64)
     × ((values : ℕ → Value) × IsQuiet values t.rows)
     → IsSpentAt rows vars limit more
-answer_spent rows vars given kept limit steps more t under (same, limited, small, values, quiet) =
+answer_spent rows vars given kept limit steps more t under (same, limited, small, still) =
     subst (λ (ss : List Step). IsSpentAt rows vars limit ss) (sym same) (record {
       limited = limited;
       spent = record {
         count = refl;
         news = under.news;
         quiet = (
-          values,
-          subst (λ (ks : List ℕ). IsQuiet values (rows ++ map row_of (steps_at steps ks))) (sym under.keeps)
-              (subst (λ (rs : List Row). IsQuiet values rs) under.rows_are quiet),
+          still.0,
+          subst (λ (ks : List ℕ). IsQuiet still.0 (rows ++ map row_of (steps_at steps ks))) (sym under.keeps)
+              (subst (λ (rs : List Row). IsQuiet still.0 rs) under.rows_are still.1),
         );
       };
       few = few_steps rows vars given steps kept t under small;

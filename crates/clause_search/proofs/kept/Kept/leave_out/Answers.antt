@@ -1,4 +1,4 @@
-use Rattle.std.proofs.Common.{ℕ, List, arith, subst}
+use Rattle.std.proofs.Common.{◌≡◌, ◌⊎◌, ℕ, ◌++◌, List, [], ◌∷◌, arith, subst}
 use Rattle.std.proofs.lemmas.List.{take_all}
 use Rattle.clause_search.specs.Kept.{IsPart}
 use Rattle.clause_search.proofs.KeptLemmas.{part_more}
@@ -7,7 +7,9 @@ use Rattle.clause_search.proofs.kept.Kept.leave_out.Goals as goal
 pub loop-index-preserved : goal.loop-index-preserved
 loop-index-preserved c =
     part_more c.loop-index.places.items c.push_if.new.places.items c.args.self.now.places.items c.loop-index.index
-    (omega arith) c.loop-index.invariant c.in_ok-push_if.ensures
+    (omega arith) c.loop-index.invariant
+    (subst (λ (place : ℕ). (c.push_if.new.places.items ≡ c.loop-index.places.items)
+    ⊎ (c.push_if.new.places.items ≡ c.loop-index.places.items ++ place ∷ [])) c.index.ensures c.in_ok-push_if.ensures)
 
 pub returns-clause-part : goal.returns-clause-part
 returns-clause-part c =
