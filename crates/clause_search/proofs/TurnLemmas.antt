@@ -460,7 +460,7 @@ pub answer_refuted : (rows : List Row) (vars given : ℕ) (kept : List ℕ) (lim
     → Closes given kept t steps more → Refutes rows vars limit more
 answer_refuted rows vars given kept limit steps more t under within closes =
     let follows : judged (rows ++ map row_of steps) vars (Clause [] (map (named given kept) closes.hints))
-        ≡ Ok (clause_row []) =
+    ≡ Ok (clause_row []) =
     judged-named (rows ++ map row_of (steps_at steps kept)) (rows ++ map row_of steps) (named given kept)
     (λ h row found. named-row rows steps kept given h row under.given_is
     (kept_there rows vars given steps kept t under) found) vars [] closes.hints (clause_row [])

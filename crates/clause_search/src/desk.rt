@@ -75,12 +75,7 @@ impl Desk {
             ≡ map (named self.old.given self.old.kept.places.items) self.old.hints.items) }
         ensures small { OnOk result (All (λ name. name < 2 ^ 64) self.new.names.items) }
     {
-        name_all(
-            &self.hints,
-            self.given,
-            &self.kept.places,
-            &mut self.names,
-        )?;
+        name_all(&self.hints, self.given, &self.kept.places, &mut self.names)?;
         Ok(())
     }
 }
