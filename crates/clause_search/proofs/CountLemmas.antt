@@ -332,10 +332,12 @@ AreEmpowering-push rows (x ∷ steps) s are is = (
 -- what is empowering is so over fewer rows
 pub IsEmpowering-fewer : (few rows : List Row) (c : List Literal) → All (Contains rows) few → IsEmpowering rows c
     → IsEmpowering few c
-IsEmpowering-fewer few rows c held (values, l, quiet, others) = (
+IsEmpowering-fewer few rows c held (values, l, quiet, among, free, others) = (
   values,
   l,
   λ k d within. All-contains (IsQuietRow values) rows (get_or few k d) quiet (held k d within),
+  among,
+  free,
   others,
 )
 

@@ -115,26 +115,26 @@ pub closes : (given : ℕ) (kept : List ℕ) (t : SeenTrail) (conflict : ℕ) (r
     → more ≡ steps ++ Clause [] names ∷ [] → Closes given kept t steps more
 closes given kept t conflict roles hints names steps more lawful few traced hints_are small names_are small_names
     more_is = record {
-  hints = hints;
-  log = more_is ∙ ap (λ (ns : List ℕ). steps ++ Clause [] ns ∷ []) names_are;
-  follows =
-      subst (λ (c : List Literal). judged t.rows t.vars (Clause c hints) ≡ Ok (clause_row c)) none
-      (subst (λ (hs : List ℕ).
-      judged t.rows t.vars (Clause (clause_below (lit_at t.entries) (role_at roles) (length t.entries)) hs)
-      ≡ Ok (clause_row (clause_below (lit_at t.entries) (role_at roles) (length t.entries)))) (sym hints_are)
-      (resolved_follows t conflict roles lawful traced.resolved));
-  tidy =
-      subst (λ (c : List Literal). IsTidy t.vars (Clause c hints)) none
-      (subst (λ (hs : List ℕ).
-      IsTidy t.vars (Clause (clause_below (lit_at t.entries) (role_at roles) (length t.entries)) hs))
-      (sym hints_are)
-      (resolved_tidy t conflict roles lawful few traced.resolved
-      (subst (λ (hs : List ℕ). All (λ hint. hint < 2 ^ 64) hs) hints_are small)));
-  small = subst (λ (ns : List ℕ). All (λ name. name < 2 ^ 64) ns) names_are small_names;
-} where
-  none : clause_below (lit_at t.entries) (role_at roles) (length t.entries) ≡ []
-  none =
-      none_kept (lit_at t.entries) (role_at roles) (length t.entries) (λ j inside. traced.none j (omega arith) inside)
+      hints = hints;
+      log = more_is ∙ ap (λ (ns : List ℕ). steps ++ Clause [] ns ∷ []) names_are;
+      follows =
+          subst (λ (c : List Literal). judged t.rows t.vars (Clause c hints) ≡ Ok (clause_row c)) none
+          (subst (λ (hs : List ℕ).
+          judged t.rows t.vars (Clause (clause_below (lit_at t.entries) (role_at roles) (length t.entries)) hs)
+          ≡ Ok (clause_row (clause_below (lit_at t.entries) (role_at roles) (length t.entries)))) (sym hints_are)
+          (resolved_follows t conflict roles lawful traced.resolved));
+      tidy =
+          subst (λ (c : List Literal). IsTidy t.vars (Clause c hints)) none
+          (subst (λ (hs : List ℕ).
+          IsTidy t.vars (Clause (clause_below (lit_at t.entries) (role_at roles) (length t.entries)) hs))
+          (sym hints_are)
+          (resolved_tidy t conflict roles lawful few traced.resolved
+          (subst (λ (hs : List ℕ). All (λ hint. hint < 2 ^ 64) hs) hints_are small)));
+      small = subst (λ (ns : List ℕ). All (λ name. name < 2 ^ 64) ns) names_are small_names;
+    } where
+      none : clause_below (lit_at t.entries) (role_at roles) (length t.entries) ≡ []
+      none =
+          none_kept (lit_at t.entries) (role_at roles) (length t.entries) (λ j inside. traced.none j (omega arith) inside)
 
 -- ---- above level 0
 

@@ -1,7 +1,7 @@
 -- Rows by the log's numbers: a replay over the trail's rows is one over all rows and steps.
 use Rattle.std.proofs.Common.{◌≡◌, ℕ, zero, suc, ◌+◌, ◌-◌, ◌^◌, ◌<◌, ◌≤◌, Bool, true, false, cond}
 use Rattle.std.proofs.Common.{List, [], ◌∷◌, ◌++◌, length, get_or, map, Option, Some, None, Ok}
-use Rattle.std.proofs.Common.{refl, inl, inr, arith, ap, sym, subst, ◌∙◌}
+use Rattle.std.proofs.Common.{refl, inl, inr, arith, ap, sym, ◌∙◌}
 use Rattle.std.specs.Prelude.{nat_le, nat_lt, slice_get}
 use Rattle.std.specs.List.{All, list_any}
 use Rattle.std.proofs.lemmas.Bool.{cases_lt, cond-false, cond-true, cond_both, le-leb, lt-leb}
@@ -12,7 +12,7 @@ use Rattle.rows.specs.Forcing.{with_forced}
 use Rattle.rows.specs.Literals.{Literal}
 use Rattle.rows.specs.Rows.{Row}
 use Rattle.rows.specs.declared.partial.Value.{Value}
-use Rattle.refutation.specs.Following.{after_row, denied, has_opposites, is_in_conflict, judged}
+use Rattle.refutation.specs.Following.{after_row, denied, has_opposites, is_in_conflict}
 use Rattle.refutation.specs.Following.{replay, row_numbered, row_unless}
 use Rattle.refutation.specs.Steps.{Step}
 use Rattle.refutation.specs.Steps.Step.{Clause}

@@ -86,5 +86,8 @@ spent-at_zero = record { count = refl; news = AreNews-none six 7; quiet = (all_f
 -- what propagation alone refutes is spent at no number: here a row without terms
 pub unspent : (limit : ℕ) → IsSpent limit (at_least 1 [] ∷ []) 7 [] → ⊥
 unspent limit spent =
-    omega (arith, (All-front (IsQuietRow spent.quiet.0) (at_least 1 [] ∷ []) _ spent.quiet.1 0 (at_least 1 [])
-    (lit< tt)).no_conflict)
+    omega (
+      arith,
+      (All-front (IsQuietRow spent.quiet.0) (at_least 1 [] ∷ []) _ spent.quiet.1 0 (at_least 1 [])
+          (lit< tt)).no_conflict,
+    )

@@ -58,7 +58,7 @@ news-same rows rows' kept kept' vars s s' same_rows same_kept same is =
 abbrev with_last : (ℕ → List ℕ) → ℕ → List ℕ → ℕ → List ℕ
 with_last keeps n less k = cond (nat_lt k n) (keeps k) less
 
-with_last-early : (keeps : ℕ → List ℕ) (n : ℕ) (less : List ℕ) (k : ℕ) → k < n → with_last keeps n less k ≡ keeps k
+pub with_last-early : (keeps : ℕ → List ℕ) (n : ℕ) (less : List ℕ) (k : ℕ) → k < n → with_last keeps n less k ≡ keeps k
 with_last-early keeps n less k early = cond-true (nat_lt k n) (keeps k) less (lt-ltb k n early)
 
 with_last-late : (keeps : ℕ → List ℕ) (n : ℕ) (less : List ℕ) (k : ℕ) → n ≤ k → with_last keeps n less k ≡ less
@@ -70,7 +70,7 @@ module _ (rows : List Row) (vars : ℕ) (steps : List Step) (s : Step) (less : L
   abbrev keeps_now : ℕ → List ℕ
   keeps_now = with_last news.keeps (length steps + 1) less
 
-  next_now : (k : ℕ) → k < length steps + 1 → MayKeep vars (keeps_now k ++ k ∷ []) (keeps_now (suc k))
+  pub next_now : (k : ℕ) → k < length steps + 1 → MayKeep vars (keeps_now k ++ k ∷ []) (keeps_now (suc k))
   next_now k within =
       subst (λ (old : List ℕ). MayKeep vars (old ++ k ∷ []) (keeps_now (suc k)))
       (sym (with_last-early news.keeps (length steps + 1) less k (omega (arith, within))))
@@ -85,7 +85,7 @@ module _ (rows : List Row) (vars : ℕ) (steps : List Step) (s : Step) (less : L
             (subst (λ (n : ℕ). MayKeep vars (news.keeps n ++ n ∷ []) less) last may)
       ])
 
-  news_now : (k : ℕ) → k < length steps + 1
+  pub news_now : (k : ℕ) → k < length steps + 1
       → IsNews (rows ++ map row_of (take k (steps ++ s ∷ [])))
       (rows ++ map row_of (steps_at (steps ++ s ∷ []) (keeps_now k))) vars (step_at (steps ++ s ∷ []) k)
   news_now k within =
@@ -148,7 +148,7 @@ module _ (rows : List Row) (vars : ℕ) (steps : List Step) (less : List ℕ) (n
   keeps_left = with_last news.keeps (length steps) less
 
   -- there are steps
-  some_steps : 0 < length steps
+  pub some_steps : 0 < length steps
   some_steps = elim (cases_lt 0 (length steps)) [
     | inl some ↦ some
     | inr none ↦
@@ -161,7 +161,7 @@ module _ (rows : List Row) (vars : ℕ) (steps : List Step) (less : List ℕ) (n
         ))
   ]
 
-  next_left : (k : ℕ) → k < length steps → MayKeep vars (keeps_left k ++ k ∷ []) (keeps_left (suc k))
+  pub next_left : (k : ℕ) → k < length steps → MayKeep vars (keeps_left k ++ k ∷ []) (keeps_left (suc k))
   next_left k within =
       subst (λ (old : List ℕ). MayKeep vars (old ++ k ∷ []) (keeps_left (suc k)))
       (sym (with_last-early news.keeps (length steps) less k within))
@@ -202,12 +202,12 @@ AreNews-none rows vars = record {
 }
 
 -- where there is one step
-one_kept : (vars k : ℕ) → k < 1
+pub one_kept : (vars k : ℕ) → k < 1
     → MayKeep vars (cond (nat_lt k 1) [] (0 ∷ []) ++ k ∷ []) (cond (nat_lt (suc k) 1) [] (0 ∷ []))
 one_kept vars zero within = inl refl
 one_kept vars (suc k) within = absurd (omega (arith, within))
 
-one_news : (rows : List Row) (vars : ℕ) (s : Step) → IsNews rows rows vars s → (k : ℕ) → k < 1
+pub one_news : (rows : List Row) (vars : ℕ) (s : Step) → IsNews rows rows vars s → (k : ℕ) → k < 1
     → IsNews (rows ++ map row_of (take k (s ∷ [])))
     (rows ++ map row_of (steps_at (s ∷ []) (cond (nat_lt k 1) [] (0 ∷ [])))) vars (step_at (s ∷ []) k)
 one_news rows vars s is zero within =
@@ -233,7 +233,7 @@ keeps-few rows vars steps news few k within = elim (news.next k within) [
 -- ---- steps that are news are clauses
 
 none_of_nothing : (rows : List Row) → IsEmpowering rows [] → ⊥
-none_of_nothing rows (values, l, quiet, among, others) = omega (arith, among.1)
+none_of_nothing rows (values, l, quiet, among, free, others) = omega (arith, among.1)
 
 pub not_linear : (rows : List Row) (step : Step) → IsEmpowering rows (clause_of step) → is_linear step ≡ false
 not_linear rows (Clause clause hints) empowering = refl

@@ -460,7 +460,7 @@ pub answer_refuted : (rows : List Row) (vars given : ℕ) (kept : List ℕ) (lim
     → Closes given kept t steps more → Refutes rows vars limit more
 answer_refuted rows vars given kept limit steps more t under within closes =
     let follows : judged (rows ++ map row_of steps) vars (Clause [] (map (named given kept) closes.hints))
-        ≡ Ok (clause_row []) =
+    ≡ Ok (clause_row []) =
     judged-named (rows ++ map row_of (steps_at steps kept)) (rows ++ map row_of steps) (named given kept)
     (λ h row found. named-row rows steps kept given h row under.given_is
     (kept_there rows vars given steps kept t under) found) vars [] closes.hints (clause_row [])
@@ -488,16 +488,16 @@ pub answer_spent : (rows : List Row) (vars given : ℕ) (kept : List ℕ) (limit
     → (more ≡ steps) × (limit ≡ Some (length steps)) × (length steps < 2 ^ 64)
     × ((values : ℕ → Value) × IsQuiet values t.rows)
     → IsSpentAt rows vars limit more
-answer_spent rows vars given kept limit steps more t under (same, limited, small, values, quiet) =
+answer_spent rows vars given kept limit steps more t under (same, limited, small, still) =
     subst (λ (ss : List Step). IsSpentAt rows vars limit ss) (sym same) (record {
       limited = limited;
       spent = record {
         count = refl;
         news = under.news;
         quiet = (
-          values,
-          subst (λ (ks : List ℕ). IsQuiet values (rows ++ map row_of (steps_at steps ks))) (sym under.keeps)
-              (subst (λ (rs : List Row). IsQuiet values rs) under.rows_are quiet),
+          still.0,
+          subst (λ (ks : List ℕ). IsQuiet still.0 (rows ++ map row_of (steps_at steps ks))) (sym under.keeps)
+              (subst (λ (rs : List Row). IsQuiet still.0 rs) under.rows_are still.1),
         );
       };
       few = few_steps rows vars given steps kept t under small;

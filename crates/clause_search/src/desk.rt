@@ -66,17 +66,16 @@ impl Desk {
     /// # Errors
     /// Only where memory runs out.
     pub(crate) fn name_hints(&mut self) -> Result<(), AllocError>
-        ensures same { self.new ≡ record self.old { names = self.new.names } }
+        ensures clause { self.new.clause.items ≡ self.old.clause.items }
+        ensures given { self.new.given ≡ self.old.given }
+        ensures vars { self.new.order.vars ≡ self.old.order.vars }
+        ensures kept { self.new.kept.places.items ≡ self.old.kept.places.items }
+        ensures room { self.new.kept.room ≡ self.old.kept.room }
         ensures names { OnOk result (self.new.names.items
             ≡ map (named self.old.given self.old.kept.places.items) self.old.hints.items) }
         ensures small { OnOk result (All (λ name. name < 2 ^ 64) self.new.names.items) }
     {
-        name_all(
-            &self.hints,
-            self.given,
-            &self.kept.places,
-            &mut self.names,
-        )?;
+        name_all(&self.hints, self.given, &self.kept.places, &mut self.names)?;
         Ok(())
     }
 }

@@ -81,7 +81,8 @@ fn forgotten<'a>(
     ensures vars { desk.new.order.vars ≡ desk.old.order.vars }
 {
     release_all(trail, &mut desk.order);
-    desk.kept.forget(alloc, trail, desk.given, log.len() as u64)?;
+    desk.kept
+        .forget(alloc, trail, desk.given, log.len() as u64)?;
     let lighter = with_clauses(alloc, rows, desk.order.vars, log, &desk.kept.places)?;
     Ok(lighter)
 }

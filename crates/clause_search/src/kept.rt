@@ -182,13 +182,7 @@ impl Kept {
         for index in 0..self.places.len() {
             let worth = self.worth(index);
             let stays = self.is_safe(worth) || rank(worth) < bar;
-            push_if(
-                stays,
-                self.places[index],
-                worth,
-                &mut places,
-                &mut worths,
-            )?;
+            push_if(stays, self.places[index], worth, &mut places, &mut worths)?;
         }
         self.places = places;
         self.worths = worths;

@@ -97,12 +97,7 @@ pub(crate) fn raise_all(trail: &Trail, roles: &[Role], order: &mut Order)
 }
 
 /// The desk's clause comes behind the rows, and with the log's numbers into the log, and the trail goes back to a level.
-fn keep(
-    trail: &mut Trail,
-    log: &mut Log,
-    desk: &mut Desk,
-    level: u32,
-) -> Result<(), AllocError>
+fn keep(trail: &mut Trail, log: &mut Log, desk: &mut Desk, level: u32) -> Result<(), AllocError>
     requires learnable { IsLearnable trail.old desk.old.clause.items desk.old.hints.items level }
     requires below { IsQuietBelow trail.old.rows trail.old.entries }
     ensures learns { OnOk result (Learns desk.old.given desk.old.kept.places.items trail.old trail.new log.old log.new) }

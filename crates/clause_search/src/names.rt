@@ -48,5 +48,9 @@ fn named(number: u64, given: u64, places: &[usize]) -> Result<u64, AllocError>
 fn place_at(places: &[usize], index: usize) -> usize
     ensures { result ≡ slice_index_or places.now index 0 }
 {
-    if index < places.len() { places[index] } else { 0 }
+    if index < places.len() {
+        places[index]
+    } else {
+        0
+    }
 }

@@ -45,12 +45,12 @@ ArePatternNews-none games vars rows patterns = record {
   news = λ k within. absurd (omega (arith, within));
 }
 
-one_kept : (vars k : ℕ) → k < 1
+pub one_kept : (vars k : ℕ) → k < 1
     → MayKeep vars (cond (nat_lt k 1) [] (0 ∷ []) ++ k ∷ []) (cond (nat_lt (suc k) 1) [] (0 ∷ []))
 one_kept vars zero within = inl refl
 one_kept vars (suc k) within = absurd (omega (arith, within))
 
-one_news : (games vars : ℕ) (rows patterns : List Row) (s : Step) → IsPatternNews games vars rows patterns s
+pub one_news : (games vars : ℕ) (rows patterns : List Row) (s : Step) → IsPatternNews games vars rows patterns s
     → (k : ℕ) → k < 1
     → IsPatternNews games vars (rows ++ map row_of (take k (s ∷ [])))
     (patterns ++ map row_of (steps_at (s ∷ []) (cond (nat_lt k 1) [] (0 ∷ [])))) (step_at (s ∷ []) k)

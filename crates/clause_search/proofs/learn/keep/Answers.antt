@@ -5,7 +5,6 @@ use Rattle.rows.specs.Literals.{Literal}
 use Rattle.propagate.specs.Trails.{IsQuietRowBelow}
 use Rattle.propagate.proofs.LookLemmas.{news}
 use Rattle.refutation.specs.Steps.Step.{Clause}
-use Rattle.clause_search.specs.declared.desk.Desk.{Desk}
 use Rattle.clause_search.proofs.BackLemmas.{calm_below}
 use Rattle.clause_search.proofs.TurnLemmas.{learned}
 use Rattle.clause_search.proofs.learn.keep.Goals as goal
@@ -43,4 +42,4 @@ returns-clause-learns c =
     c.deref.ensures.value c.in_ok-_number.ensures.ok)
     (c.in_ok-push.ensures.ok
     ∙ ap (λ (ls : List Literal). c.args.log.now ++ Clause ls c.deref-3.result.now ∷ [])
-    (c.deref-2.ensures.value ∙ ap (λ (d : Desk). d.clause.items) c.name_hints.ensures.same))
+    (c.deref-2.ensures.value ∙ c.name_hints.ensures.clause))

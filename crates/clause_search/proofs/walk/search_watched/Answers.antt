@@ -1,4 +1,4 @@
-use Rattle.std.proofs.Common.{◌≡◌, ◌⊎◌, ℕ, ◌<◌, Some, None, true, false, length, inl, refl, sym, subst, ◌∙◌}
+use Rattle.std.proofs.Common.{◌≡◌, ◌⊎◌, ℕ, ◌<◌, ◌≤◌, Some, None, true, false, length, inl, refl, sym, subst, ◌∙◌}
 use Rattle.std.specs.Prelude.{IfSome}
 use Rattle.std.specs.List.{All}
 use Rattle.robin_watch.specs.Limits.{lower_limit}
@@ -144,7 +144,7 @@ returns-in-Satisfied-clause-answer g c =
           answer_satisfied c.args.rows.now c.args.vars c.turns.desk.given c.turns.log c.turns.desk.kept.places.items
           c.run-found.new.self c.in-Satisfied.values under
           (subst (λ (x : Turn). IsTurn t c.run-found.new.self c.take_turn.new.trail c.limit_here-kept.result x)
-    c.in-Satisfied.is c.in_ok-turn.ensures.turn);
+          c.in-Satisfied.is c.in_ok-turn.ensures.turn);
     }
 
 pub returns-in-Refuted-clause-answer : goal.returns-in-Refuted-clause-answer
@@ -163,7 +163,7 @@ returns-in-Refuted-clause-answer g c =
           answer_refuted c.args.rows.now c.args.vars c.turns.desk.given c.turns.desk.kept.places.items c.args.limit
           c.turns.log c.take_turn.new.log c.run-found.new.self under c.turns.invariant.within
           (subst (λ (x : Turn). IsTurn t c.run-found.new.self c.take_turn.new.trail c.limit_here-kept.result x)
-    c.in-Refuted.is c.in_ok-turn.ensures.turn);
+          c.in-Refuted.is c.in_ok-turn.ensures.turn);
     }
 
 pub returns-in-Spent-clause-answer : goal.returns-in-Spent-clause-answer
@@ -182,7 +182,7 @@ returns-in-Spent-clause-answer g c =
           answer_spent c.args.rows.now c.args.vars c.turns.desk.given c.turns.desk.kept.places.items
           c.limit_here-kept.result c.turns.log c.take_turn.new.log c.run-found.new.self under
           (subst (λ (x : Turn). IsTurn t c.run-found.new.self c.take_turn.new.trail c.limit_here-kept.result x)
-    c.in-Spent.is c.in_ok-turn.ensures.turn);
+          c.in-Spent.is c.in_ok-turn.ensures.turn);
     }
 
 pub returns-in-Satisfied-clause-planned : goal.returns-in-Satisfied-clause-planned
