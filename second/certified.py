@@ -181,6 +181,22 @@ def resume_fault(instance, solution, k, limit, ran):
     return None if verdict.startswith("accepted") else verdict
 
 
+def floored_fault(instance, text, objective, limit):
+    """What is wrong with what `prove` writes where its budget is spent: the objective, a certificate of a floor, a log."""
+    line, _, rest = text.partition(b"\n")
+    if line != b"objective %d" % objective:
+        return f"not objective {objective}"
+    bound, _, log = rest.partition(b"\n")
+    floor = bound + b"\n"
+    if bound != b"bound 0":
+        proof, end, log = log.partition(b"\nend\n")
+        floor += proof + end
+    verdict = bounded(instance, floor)
+    if verdict[0] != 0 or int(bound.split()[-1]) > objective:
+        return f"{bound} {verdict}"
+    return spent_fault(log, *rows.with_bound(softened_of(instance), objective - 1), limit)
+
+
 def prove_fault(instance, solution, limit, ran):
     """What is wrong with what `prove` answered."""
     refusal = before_second(instance)
@@ -196,7 +212,7 @@ def prove_fault(instance, solution, limit, ran):
         fault, _, better = season_fault(league, ran.out)
         return fault or (None if better < objective else "not better")
     if ran.status == 5 and objective:
-        return spent_fault(ran.out, *rows.with_bound(softened_of(instance), objective - 1), limit)
+        return floored_fault(instance, ran.out, objective, limit)
     if ran.status != 0:
         return f"status {ran.status} at {objective}"
     head = b"bound %d\n" % objective
