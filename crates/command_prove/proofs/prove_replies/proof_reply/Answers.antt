@@ -1,18 +1,3 @@
-<<<<<<< HEAD
-use Rattle.command_prove.proofs.prove_replies.proof_reply.Goals as goal
-
-pub returns-in-Spent : goal.returns-in-Spent
-returns-in-Spent c = (
-  c.in_ok-floor.floor,
-  c.in_ok-floor.ensures,
-  record {
-    status = c.in_ok-reply.ensures.status;
-    text = c.in_ok-reply.ensures.text;
-    floor_reads_back = c.in_ok-reply.ensures.floor_reads_back;
-    reads_back = c.in_ok-reply.ensures.reads_back;
-  },
-)
-=======
 use Rattle.std.proofs.Common.{◌≡◌, ℕ, List, subst, sym}
 use Rattle.league.specs.Instance.{Instance}
 use Rattle.answers.specs.Reply.{Answer}
@@ -38,4 +23,3 @@ returns-in_ok-reply-in-Spent c =
       floor_reads_back = c.in_ok-reply-in-Spent.ensures.floor_reads_back;
       reads_back = c.in_ok-reply-in-Spent.ensures.reads_back;
     })
->>>>>>> h-s57
