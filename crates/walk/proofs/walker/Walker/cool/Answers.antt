@@ -25,3 +25,10 @@ stretches-preserved g c = record {
     c.stretches.invariant.left,
   );
 }
+
+-- src/cooled.rt:64:17
+pub returns-then-sum-eq0-clause-no_worse : goal.returns-then-sum-eq0-clause-no_worse
+returns-then-sum-eq0-clause-no_worse g c =
+    IsNoWorse-both c.keep_lower.new.self.best.score c.stretches.self.best.score c.args.self.now.best.score
+    (subst (λ (kept : Kept). IsNoWorse c.keep_lower.new.self.best.score kept.score) c.stretch-sum.ensures.best
+    c.in_ok-keep_lower.ensures.no_worse) c.stretches.invariant.no_worse
